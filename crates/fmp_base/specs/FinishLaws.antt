@@ -1,0 +1,152 @@
+-- What a run of one meaning finishes, said of another to which it is tied both ways.
+use Rattle.std.specs.Prelude.{ℕ, zero, suc, ◌+◌, ◌*◌, ◌≤◌, ◌≡◌, refl, List, [], ◌∷◌, Option, Some, None}
+use Rattle.std.proofs.Common.{subst, sym, ap, ◌∙◌}
+use Rattle.fmp_base.specs.declared.events.Event.{Event}
+use Rattle.fmp_base.specs.declared.events.Line.{Line}
+use Rattle.fmp_base.specs.Meanings.{Meaning, HandlerContext, Contexts, World, task_body}
+use Rattle.fmp_base.specs.Runs.{Trace, after_first, run, run_on, done_events, done_on, completed_by, completed_on, complete_run}
+use Rattle.fmp_base.specs.Setups.{setup}
+use Rattle.fmp_base.specs.Steps.{Done, step}
+use Rattle.fmp_base.specs.Systems.{SystemTables}
+use Rattle.fmp_base.specs.Ties.{OptionTied, AllTied, KeepsTie, HandlerTied, ContextsTied, WorldTied, DoneTied, TraceAgrees}
+use Rattle.fmp_base.specs.TieLaws.{step-tied, setup-tied, complete_run-tied, complete_run-done_events}
+use Rattle.fmp_base.specs.Finishes.{ended_in, Finishes, over, did, did_nothing, IsComplete, IsFinished}
+
+-- a tie seen from the other side
+abbrev pub turned : {C D : Type 0} → (ℕ → C → D → Type 0) → ℕ → D → C → Type 0
+turned R i d c = R i c d
+
+OptionTied-turned : {C D : Type 0} (R : C → D → Type 0) (c : Option C) (d : Option D) → OptionTied R c d
+    → OptionTied (λ y x. R x y) d c
+OptionTied-turned R None None h = tt
+OptionTied-turned R (Some c) (Some d) h = h
+OptionTied-turned R None (Some d) h = absurd h
+OptionTied-turned R (Some c) None h = absurd h
+
+AllTied-turned : {C D : Type 0} (R : ℕ → C → D → Type 0) (cs : List (Option C)) (ds : List (Option D)) → AllTied R cs ds
+    → AllTied (λ i y x. R i x y) ds cs
+AllTied-turned R [] [] h = tt
+AllTied-turned R (c ∷ cs) (d ∷ ds) h = (OptionTied-turned (R zero) c d h.0, AllTied-turned (λ i. R (suc i)) cs ds h.1)
+AllTied-turned R [] (d ∷ ds) h = absurd h
+AllTied-turned R (c ∷ cs) [] h = absurd h
+
+handler-turned : {C D : Type 0} (R : ℕ → C → D → Type 0) (c : Option (HandlerContext C)) (d : Option (HandlerContext D))
+    → OptionTied (HandlerTied R) c d → OptionTied (HandlerTied (turned R)) d c
+handler-turned R None None h = tt
+handler-turned R (Some c) (Some d) h =
+    record { bodies = sym h.bodies; contexts = subst (λ (b : ℕ). R b c.context d.context) h.bodies h.contexts }
+handler-turned R None (Some d) h = absurd h
+handler-turned R (Some c) None h = absurd h
+
+handlers-turned : {C D : Type 0} (R : ℕ → C → D → Type 0) (cs : List (Option (HandlerContext C))) (ds : List (Option (HandlerContext D)))
+    → AllTied (λ p. HandlerTied R) cs ds → AllTied (λ p. HandlerTied (turned R)) ds cs
+handlers-turned R [] [] h = tt
+handlers-turned R (c ∷ cs) (d ∷ ds) h = (handler-turned R c d h.0, handlers-turned R cs ds h.1)
+handlers-turned R [] (d ∷ ds) h = absurd h
+handlers-turned R (c ∷ cs) [] h = absurd h
+
+WorldTied-turned : {C D : Type 0} (sys : SystemTables) (R : ℕ → C → D → Type 0) (v : World C) (w : World D) → WorldTied sys R v w
+    → WorldTied sys (turned R) w v
+WorldTied-turned sys R v w h =
+    record {
+      states = sym h.states;
+      contexts = record {
+        tasks = AllTied-turned (λ t. R (task_body sys t)) v.contexts.tasks w.contexts.tasks h.contexts.tasks;
+        handlers = handlers-turned R v.contexts.handlers w.contexts.handlers h.contexts.handlers;
+      };
+    }
+
+none_of : {C D : Type 0} (sys : SystemTables) (R : ℕ → C → D → Type 0) (x : Option (Done C)) (y : Option (Done D)) → y ≡ None
+    → DoneTied sys R x y → x ≡ None
+none_of sys R None y e h = refl
+none_of {C} {D} sys R (Some a) y e h = absurd (subst (λ (z : Option (Done D)). DoneTied sys R (Some a) z) e h)
+
+-- what the tied run of the other meaning leaves: the same lines and the same state at the end
+pub record FinishedLike {C D : Type 0} (sys : SystemTables) (M : Meaning C) (n size : ℕ) (v : World C) (es ds : List Event) (s : Trace D) : Type 0 where
+  pub trace : Trace C
+  pub finishes : Finishes sys M n size v es ds trace
+  pub events : trace.events ≡ s.events
+  pub state : trace.world.state ≡ s.world.state
+
+module _ {C D : Type 0} (sys : SystemTables) (R : ℕ → D → C → Type 0) (M : Meaning C) (N : Meaning D) (n size : ℕ)
+    (from : KeepsTie R N n M n) (back : (t : ℕ) → (t + 1) * size ≤ n → KeepsTie (turned R) M t N n) where
+  step_like : (w : World D) (v : World C) (e : Event) (es : List Event) (x : Option (Done D)) (y : Option (Done C))
+      → step sys N n w e ≡ x → step sys M n v e ≡ y → WorldTied sys R w v → DoneTied sys R x y
+      → (ds : World D → List Event) (s : World D → Trace D)
+      → ((w' : World D) (v' : World C) → WorldTied sys R w' v' → FinishedLike sys M n size v' es (ds w') (s w'))
+      → FinishedLike sys M n size v (e ∷ es) (done_on w e x ds) (run_on w x s)
+  step_like w v e es None y p q h k ds s rest =
+      let l = rest w v h in
+      record {
+        trace = l.trace;
+        finishes = did_nothing v e es (ds w) l.trace
+            (λ t le. none_of sys (turned R) (step sys M t v e) (step sys N n w e) p
+            (step-tied sys (turned R) M t N n (back t le) v w e (WorldTied-turned sys R w v h)))
+            l.finishes;
+        events = l.events;
+        state = l.state;
+      }
+  step_like w v e es (Some d) None p q h k ds s rest = absurd k
+  step_like w v e es (Some d) (Some d') p q h k ds s rest =
+      let l = rest d.world d'.world k.1 in
+      record {
+        trace = after_first d'.lines l.trace;
+        finishes = did v e es (ds d.world) d' l.trace q l.finishes;
+        events = ap (λ (ls : List Line). ls ∷ l.trace.events) (sym k.0) ∙ ap (λ (lss : List (List Line)). d.lines ∷ lss) l.events;
+        state = l.state;
+      }
+
+  -- the events that N does are finished in the words of M
+  pub finished-like : (w : World D) (v : World C) (es : List Event) → WorldTied sys R w v
+      → FinishedLike sys M n size v es (done_events sys N n w es) (run sys N n w es)
+  finished-like w v [] h = record { trace = ended_in v; finishes = over v; events = refl; state = sym h.states }
+  finished-like w v (e ∷ es) h =
+      step_like w v e es (step sys N n w e) (step sys M n v e) refl refl h (step-tied sys R N n M n from w v e h) _ _
+      (λ w' v' h'. finished-like w' v' es h')
+
+IsComplete-rest : {C : Type 0} (ls : List Line) (r : Option (Trace C)) → IsComplete (completed_by ls r) → IsComplete r
+IsComplete-rest ls None h = absurd h
+IsComplete-rest ls (Some r) h = tt
+
+done_on-complete : {C : Type 0} (w : World C) (e : Event) (es : List Event) (x : Option (Done C))
+    (ds : World C → List Event) (r : World C → Option (Trace C))
+    → ((v : World C) → IsComplete (r v) → ds v ≡ es) → IsComplete (completed_on x r) → done_on w e x ds ≡ e ∷ es
+done_on-complete w e es None ds r rest h = absurd h
+done_on-complete w e es (Some d) ds r rest h =
+    ap (λ (es' : List Event). e ∷ es') (rest d.world (IsComplete-rest d.lines (r d.world) h))
+
+-- a run that is complete does all of its events
+pub done_events-complete : {C : Type 0} (sys : SystemTables) (M : Meaning C) (n : ℕ) (w : World C) (es : List Event)
+    → IsComplete (complete_run sys M n w es) → done_events sys M n w es ≡ es
+done_events-complete sys M n w [] h = refl
+done_events-complete sys M n w (e ∷ es) h =
+    done_on-complete w e es (step sys M n w e) _ _ (λ v k. done_events-complete sys M n v es k) h
+
+IsComplete-agrees : {C D : Type 0} (r : Option (Trace C)) (s : Option (Trace D)) → TraceAgrees r s → IsComplete r → IsComplete s
+IsComplete-agrees None s h k = absurd k
+IsComplete-agrees (Some r) None h k = absurd h
+IsComplete-agrees (Some r) (Some s) h k = tt
+
+-- what finishes is a complete run
+pub complete_run-Finishes : {C : Type 0} (sys : SystemTables) (M : Meaning C) (n size : ℕ) (w : World C) (es ds : List Event) (r : Trace C)
+    → Finishes sys M n size w es ds r → complete_run sys M n w ds ≡ Some r
+complete_run-Finishes sys M n size _ _ _ _ (over w) = refl
+complete_run-Finishes {C} sys M n size _ _ _ _ (did w e es ds d r h f) =
+    ap (λ (o : Option (Done C)). completed_on o (λ v. complete_run sys M n v ds)) h
+    ∙ ap (completed_by d.lines) (complete_run-Finishes sys M n size d.world es ds r f)
+complete_run-Finishes sys M n size _ _ _ _ (did_nothing w e es ds r h f) = complete_run-Finishes sys M n size w es ds r f
+
+module _ {C D : Type 0} (sys : SystemTables) (R : ℕ → D → C → Type 0) (M : Meaning C) (N : Meaning D) (n size : ℕ)
+    (from : KeepsTie R N n M n) (back : (t : ℕ) → (t + 1) * size ≤ n → KeepsTie (turned R) M t N n) where
+  -- the events that the run of N does, and its trace, are what is finished in the words of M
+  pub is_finished-like : (w : World D) (v : World C) (es : List Event) → WorldTied sys R w v
+      → (l : FinishedLike sys M n size v es (done_events sys N n w es) (run sys N n w es))
+      → IsFinished sys M n size v es (done_events sys N n w es) l.trace
+  is_finished-like w v es h l =
+      record {
+        each = l.finishes;
+        complete = complete_run-Finishes sys M n size v es (done_events sys N n w es) l.trace l.finishes;
+        all = λ t le k. done_events-complete sys N n w es
+            (IsComplete-agrees (complete_run sys M t v es) (complete_run sys N n w es)
+            (complete_run-tied sys (turned R) M t N n (back t le) v w es (WorldTied-turned sys R w v h)) k);
+      }

@@ -1,0 +1,125 @@
+-- What bodies mean, and the contexts that they keep between their stretches.
+use Rattle.std.specs.Prelude.{ℕ, ℤ, pos, List, [], ◌∷◌, Option, Some, None, slice_get, slice_set}
+use Rattle.fmp_base.specs.declared.calls.Reply.{Reply}
+use Rattle.fmp_base.specs.declared.bodies.Stretch.{Stretch}
+use Rattle.fmp_base.specs.declared.events.Line.{Line}
+use Rattle.fmp_base.specs.declared.events.Line.TheVariants as line
+use Rattle.fmp_base.specs.declared.states.Caller.{Caller}
+use Rattle.fmp_base.specs.declared.states.Caller.TheVariants as caller
+use Rattle.fmp_base.specs.declared.states.Handler.{Handler}
+use Rattle.fmp_base.specs.declared.states.Handler.TheVariants as handler
+use Rattle.fmp_base.specs.declared.systems.InterruptConfig.{InterruptConfig}
+use Rattle.fmp_base.specs.States.{KernelState}
+use Rattle.fmp_base.specs.Systems.{SystemTables, found, body_of, task_config, cyclic_config, interrupt_config}
+
+-- a meaning of bodies with contexts C: the context at a start, a stretch of at most so many units, and the context
+-- after a reply to the call that ended a stretch
+pub record Meaning (C : Type 0) : Type 0 where
+  pub start : (body : ℕ) (exinf : ℤ) → C
+  pub stretch : (body bound : ℕ) (context : C) → Stretch C
+  pub deliver : (body : ℕ) (context : C) (reply : Reply) → C
+
+-- the body of a handler that runs, and its context
+pub record HandlerContext (C : Type 0) : Type 0 where
+  pub body : ℕ
+  pub context : C
+
+-- the contexts of the tasks' bodies, and of the handlers that run, by processor; what a dormant task or a processor
+-- without a handler has is not looked at
+pub record Contexts (C : Type 0) : Type 0 where
+  pub tasks : List (Option C)
+  pub handlers : List (Option (HandlerContext C))
+
+-- the state of the kernel and the contexts of the bodies
+pub record World (C : Type 0) : Type 0 where
+  pub state : KernelState
+  pub contexts : Contexts C
+
+abbrev pub task_body : SystemTables → ℕ → ℕ
+task_body sys t = body_of (task_config sys t).entry
+
+abbrev pub interrupt_body : Option InterruptConfig → ℕ
+interrupt_body None = 0
+interrupt_body (Some i) = body_of i.entry
+
+abbrev pub handler_body : SystemTables → Handler → ℕ
+handler_body sys (handler.Interrupt i) = interrupt_body (interrupt_config sys i)
+handler_body sys (handler.Cyclic c) = body_of (cyclic_config sys c).entry
+
+-- an interrupt handler has exinf 0
+abbrev pub handler_exinf : SystemTables → Handler → ℤ
+handler_exinf sys (handler.Interrupt i) = pos 0
+handler_exinf sys (handler.Cyclic c) = (cyclic_config sys c).exinf
+
+-- what is at a place of a list of contexts, if anything
+abbrev pub context_at : {A : Type 0} → List (Option A) → ℕ → Option A
+context_at cs i = found None (slice_get cs i)
+
+abbrev pub context_in : {C : Type 0} → Option (HandlerContext C) → Option C
+context_in None = None
+context_in (Some h) = Some h.context
+
+abbrev pub body_in : {C : Type 0} → Option (HandlerContext C) → ℕ
+body_in None = 0
+body_in (Some h) = h.body
+
+-- the context of the caller on processor p
+abbrev pub context_of : {C : Type 0} → Contexts C → ℕ → Caller → Option C
+context_of cs p (caller.Task t) = context_at cs.tasks t
+context_of cs p (caller.Handler h) = context_in (context_at cs.handlers p)
+
+-- the body of the caller on processor p
+abbrev pub caller_body : {C : Type 0} → SystemTables → Contexts C → ℕ → Caller → ℕ
+caller_body sys cs p (caller.Task t) = task_body sys t
+caller_body sys cs p (caller.Handler h) = body_in (context_at cs.handlers p)
+
+abbrev pub with_handler_context : {C : Type 0} → Contexts C → ℕ → Option (HandlerContext C) → Contexts C
+with_handler_context cs p h = record cs { handlers = slice_set cs.handlers p h }
+
+-- a context of this body
+abbrev pub context_for : {C : Type 0} → ℕ → Option C → Option (HandlerContext C)
+context_for body None = None
+context_for body (Some c) = Some (record { body = body; context = c })
+
+-- the caller on processor p has this context now
+abbrev pub with_context : {C : Type 0} → Contexts C → ℕ → Caller → Option C → Contexts C
+with_context cs p (caller.Task t) c = record cs { tasks = slice_set cs.tasks t c }
+with_context cs p (caller.Handler h) c =
+    with_handler_context cs p (context_for (body_in (context_at cs.handlers p)) c)
+
+-- a reply to a context, where there is one
+abbrev pub told : {C : Type 0} → Meaning C → ℕ → Reply → Option C → Option C
+told M body reply None = None
+told M body reply (Some c) = Some (M.deliver body c reply)
+
+-- the caller on processor p is told a reply
+abbrev pub delivered_to : {C : Type 0} → SystemTables → Meaning C → Contexts C → ℕ → Caller → Reply → Contexts C
+delivered_to sys M cs p who reply =
+    with_context cs p who (told M (caller_body sys cs p who) reply (context_of cs p who))
+
+abbrev pub called_back : {C : Type 0} → SystemTables → Meaning C → Contexts C → ℕ → Caller → Option Reply → Contexts C
+called_back sys M cs p who None = cs
+called_back sys M cs p who (Some reply) = delivered_to sys M cs p who reply
+
+-- task t has a fresh context
+abbrev pub task_begun : {C : Type 0} → SystemTables → Meaning C → Contexts C → ℕ → Contexts C
+task_begun sys M cs t =
+    record cs { tasks = slice_set cs.tasks t (Some (M.start (task_body sys t) (task_config sys t).exinf)) }
+
+-- handler h has a fresh context on processor p
+abbrev pub handler_begun : {C : Type 0} → SystemTables → Meaning C → Contexts C → ℕ → Handler → Contexts C
+handler_begun sys M cs p h =
+    with_handler_context cs p (Some (record { body = handler_body sys h; context = M.start (handler_body sys h) (handler_exinf sys h) }))
+
+-- the contexts after what a line tells: a task or handler that starts has a fresh one, a caller and a released task
+-- are told their replies
+abbrev pub contexts_after : {C : Type 0} → SystemTables → Meaning C → Contexts C → Line → Contexts C
+contexts_after sys M cs (line.Starts p t) = task_begun sys M cs t
+contexts_after sys M cs (line.Gets p t reply) = delivered_to sys M cs p (caller.Task t) reply
+contexts_after sys M cs (line.Begins p h) = handler_begun sys M cs p h
+contexts_after sys M cs (line.Call p who c reply) = called_back sys M cs p who reply
+contexts_after sys M cs _ = cs
+
+abbrev pub contexts_after_all : {C : Type 0} → SystemTables → Meaning C → Contexts C → List Line → Contexts C
+contexts_after_all sys M cs [] = cs
+contexts_after_all sys M cs (l ∷ ls) = contexts_after_all sys M (contexts_after sys M cs l) ls

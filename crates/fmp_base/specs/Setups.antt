@@ -1,0 +1,58 @@
+-- The state in which a system starts: its static APIs have been carried out, in order, on a system without
+-- objects at clock 0 (uITRON 4.0, section 3.12). Only CRE_TSK does more than make its object, so the order of the
+-- text is that of the tasks' numbers.
+use Rattle.std.specs.Prelude.{ℕ, ◌+◌, List, [], ◌∷◌, Option, Some, None, Bool, true, false, replicate, length, map, if◌then◌else◌}
+use Rattle.fmp_base.specs.declared.states.Phase.TheVariants.{Dormant}
+use Rattle.fmp_base.specs.declared.states.TaskBlock.{TaskBlock}
+use Rattle.fmp_base.specs.declared.systems.CyclicConfig.{CyclicConfig}
+use Rattle.fmp_base.specs.declared.systems.TaskConfig.{TaskConfig}
+use Rattle.fmp_base.specs.Changes.{started}
+use Rattle.fmp_base.specs.Meanings.{Meaning, Contexts}
+use Rattle.fmp_base.specs.States.{KernelState, Progress, unchanged, task_at, idle, places_from}
+use Rattle.fmp_base.specs.Steps.{Done, finished}
+use Rattle.fmp_base.specs.Systems.{SystemTables, task_config}
+
+-- a task that has been created and not started
+abbrev pub created : TaskConfig → TaskBlock
+created c =
+    record { phase = Dormant; suspended = false; priority = c.priority; processor = c.processor; activations = 0; next_processor = None; wakeups = 0; deadline = None }
+
+-- a cyclic handler with TA_STA is due first one tick after its phase
+abbrev pub first_due : CyclicConfig → Option ℕ
+first_due c = if c.started then Some (c.phase + 1) else None
+
+-- all objects as they are made, and no task started
+abbrev pub created_state : SystemTables → KernelState
+created_state sys =
+    record {
+      tasks = map created sys.tasks;
+      order = [];
+      semaphores = map (λ c. c.initial) sys.semaphores;
+      flags = map (λ c. c.initial) sys.flags;
+      data_queues = replicate (length sys.data_queues) [];
+      mailboxes = replicate (length sys.mailboxes) [];
+      shared_words = map (λ c. c.initial) sys.shared_words;
+      processors = replicate sys.processors idle;
+      due_times = map first_due sys.cyclics;
+      pending_cyclics = replicate (length sys.cyclics) false;
+      pending_interrupts = replicate 32 false;
+      clock = 0;
+    }
+
+abbrev pub activated_by : Bool → SystemTables → Progress → ℕ → Progress
+activated_by true sys g t = started sys g t (task_at g.state.tasks t)
+activated_by false sys g t = g
+
+-- of these tasks, in order, those with TA_ACT start
+abbrev pub all_activated : SystemTables → Progress → List ℕ → Progress
+all_activated sys g [] = g
+all_activated sys g (t ∷ ts) = all_activated sys (activated_by (task_config sys t).activated sys g t) ts
+
+-- no context yet
+abbrev pub no_contexts : {C : Type 0} → SystemTables → Contexts C
+no_contexts sys = record { tasks = replicate (length sys.tasks) None; handlers = replicate sys.processors None }
+
+-- setup: the objects are made, the tasks with TA_ACT start, and all processors settle
+abbrev pub setup : {C : Type 0} → SystemTables → Meaning C → Done C
+setup sys M =
+    finished sys M (no_contexts sys) [] (all_activated sys (unchanged (created_state sys)) (places_from 0 (length sys.tasks)))

@@ -1,0 +1,78 @@
+-- The state of the kernel, without the contexts of bodies, and the ways in which its parts change.
+use Rattle.std.specs.Prelude.{ℕ, zero, suc, ◌+◌, ℤ, List, [], ◌∷◌, ◌++◌, Option, None, Bool, false, slice_get, slice_set, filter, not, nat_eq}
+use Rattle.fmp_base.specs.declared.events.Line.{Line}
+use Rattle.fmp_base.specs.declared.states.Lock.TheVariants.{Free}
+use Rattle.fmp_base.specs.declared.states.Phase.TheVariants.{Dormant}
+use Rattle.fmp_base.specs.declared.states.Processor.{Processor}
+use Rattle.fmp_base.specs.declared.states.TaskBlock.{TaskBlock}
+use Rattle.fmp_base.specs.Systems.{found}
+
+-- Tasks, processors and objects go by their places, from 0, in their tables.
+pub record KernelState : Type 0 where
+  pub tasks : List TaskBlock
+  -- the tasks that are ready or waiting, in the one order of which every queue is a part
+  pub order : List ℕ
+  -- the count of each semaphore
+  pub semaphores : List ℕ
+  -- the pattern of each eventflag
+  pub flags : List ℕ
+  -- the words that each data queue holds, the oldest first
+  pub data_queues : List (List ℤ)
+  -- the messages in each mailbox, by their places, the first one first
+  pub mailboxes : List (List ℕ)
+  pub shared_words : List ℤ
+  pub processors : List Processor
+  -- for each cyclic handler the clock at which it is due, if it is started
+  pub due_times : List (Option ℕ)
+  pub pending_cyclics : List Bool
+  -- by place: the interrupt's number is one more
+  pub pending_interrupts : List Bool
+  pub clock : ℕ
+
+-- a state, and the lines of what happened on the way to it
+pub record Progress : Type 0 where
+  pub state : KernelState
+  pub lines : List Line
+
+abbrev pub unchanged : KernelState → Progress
+unchanged s = record { state = s; lines = [] }
+
+-- task t, or a dormant one where there is none
+abbrev pub task_at : List TaskBlock → ℕ → TaskBlock
+task_at tasks t =
+    found (record { phase = Dormant; suspended = false; priority = 1; processor = 0; activations = 0; next_processor = None; wakeups = 0; deadline = None }) (slice_get tasks t)
+
+-- a processor on which nothing runs and that nothing holds
+abbrev pub idle : Processor
+idle = record { run = None; lock = Free; dispatch_disabled = false; handler = None }
+
+abbrev pub processor_at : KernelState → ℕ → Processor
+processor_at s p = found idle (slice_get s.processors p)
+
+abbrev pub with_processor : KernelState → ℕ → Processor → KernelState
+with_processor s p x = record s { processors = slice_set s.processors p x }
+
+-- an order without task t
+abbrev pub without : List ℕ → ℕ → List ℕ
+without order t = filter (λ u. not (nat_eq u t)) order
+
+-- task t goes to the end of an order, from wherever it is
+abbrev pub to_end : List ℕ → ℕ → List ℕ
+to_end order t = without order t ++ t ∷ []
+
+-- task t becomes x, in its place
+abbrev pub with_task : KernelState → ℕ → TaskBlock → KernelState
+with_task s t x = record s { tasks = slice_set s.tasks t x }
+
+-- task t becomes x, and goes to the end of the order
+abbrev pub with_last : KernelState → ℕ → TaskBlock → KernelState
+with_last s t x = record s { tasks = slice_set s.tasks t x; order = to_end s.order t }
+
+-- task t becomes x, and leaves the order
+abbrev pub with_left : KernelState → ℕ → TaskBlock → KernelState
+with_left s t x = record s { tasks = slice_set s.tasks t x; order = without s.order t }
+
+-- the numbers from k on, as many as the second says
+abbrev pub places_from : ℕ → ℕ → List ℕ
+places_from k zero = []
+places_from k (suc n) = k ∷ places_from (k + 1) n

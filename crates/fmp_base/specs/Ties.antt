@@ -1,0 +1,91 @@
+-- Two meanings of bodies whose contexts are tied give the same lines along every list of events that the first
+-- finishes.
+use Rattle.std.specs.Prelude.{ℕ, zero, suc, ◌+◌, ℤ, ◌≡◌, refl, List, [], ◌∷◌, ◌++◌, Option, Some, None, slice_get, slice_set, replicate, length}
+use Rattle.std.proofs.Common.{subst, sym, ap, ◌∙◌}
+use Rattle.fmp_base.specs.declared.bodies.Fault.{Fault}
+use Rattle.fmp_base.specs.declared.bodies.Stretch.{Stretch}
+use Rattle.fmp_base.specs.declared.bodies.Stretch.TheVariants as ends
+use Rattle.fmp_base.specs.declared.calls.Answer.{Answer}
+use Rattle.fmp_base.specs.declared.calls.Answer.TheVariants.{Replies, Waits, Ends, Spins}
+use Rattle.fmp_base.specs.declared.calls.Call.{Call}
+use Rattle.fmp_base.specs.declared.calls.Reply.{Reply}
+use Rattle.fmp_base.specs.declared.events.Event.{Event}
+use Rattle.fmp_base.specs.declared.events.Event.TheVariants.{Run, Tick, Int}
+use Rattle.fmp_base.specs.declared.events.Line.{Line}
+use Rattle.fmp_base.specs.declared.events.Line.TheVariants as line
+use Rattle.fmp_base.specs.declared.states.Caller.{Caller}
+use Rattle.fmp_base.specs.declared.states.Caller.TheVariants as caller
+use Rattle.fmp_base.specs.declared.states.Handler.{Handler}
+use Rattle.fmp_base.specs.declared.systems.InterruptConfig.{InterruptConfig}
+use Rattle.fmp_base.specs.Calls.{called}
+use Rattle.fmp_base.specs.Meanings.{Meaning, HandlerContext, Contexts, World, task_body, handler_body, handler_exinf, context_at, context_in, body_in, context_of, caller_body, with_handler_context, context_for, with_context, told, delivered_to, called_back, task_begun, handler_begun, contexts_after, contexts_after_all}
+use Rattle.fmp_base.specs.Outcomes.{Outcome}
+use Rattle.fmp_base.specs.Runs.{Trace, after_first, run, run_on, done_events, done_on, completed_by, completed_on, complete_run}
+use Rattle.fmp_base.specs.Settles.{settled}
+use Rattle.fmp_base.specs.Setups.{setup, no_contexts, all_activated, created_state}
+use Rattle.fmp_base.specs.States.{KernelState, Progress, unchanged, processor_at, places_from}
+use Rattle.fmp_base.specs.Steps.{Done, concluded, finished, actor_of, actor_ended, answered, call_made, stretched, run_in, run_by, interrupted, interrupted_by, step}
+use Rattle.fmp_base.specs.Systems.{SystemTables, task_config, interrupt_config}
+use Rattle.fmp_base.specs.Ticks.{ticked, is_pending, with_interrupt_pending}
+
+-- both have no context, or tied ones
+abbrev pub OptionTied : {C D : Type 0} → (C → D → Type 0) → Option C → Option D → Type 0
+OptionTied R None None = Unit {0}
+OptionTied R (Some c) (Some d) = R c d
+OptionTied R None (Some d) = ⊥
+OptionTied R (Some c) None = ⊥
+
+-- the contexts at each place are tied, by the tie of that place
+abbrev pub AllTied : {C D : Type 0} → (ℕ → C → D → Type 0) → List (Option C) → List (Option D) → Type 0
+AllTied R [] [] = Unit {0}
+AllTied R (c ∷ cs) (d ∷ ds) = OptionTied (R zero) c d × AllTied (λ i. R (suc i)) cs ds
+AllTied R [] (d ∷ ds) = ⊥
+AllTied R (c ∷ cs) [] = ⊥
+
+-- where the first is not over, the second ends in the same way, and the contexts of a call stay tied
+abbrev pub StretchTied : {C D : Type 0} → (C → D → Type 0) → Stretch C → Stretch D → Type 0
+StretchTied R ends.Over other = Unit {0}
+StretchTied R (ends.Call c x) (ends.Call d y) = (x ≡ y) × R c d
+StretchTied R (ends.End c) (ends.End d) = Unit {0}
+StretchTied R (ends.Fault c f) (ends.Fault d g) = f ≡ g
+StretchTied R (ends.Call c x) (ends.End d) = ⊥
+StretchTied R (ends.Call c x) (ends.Fault d y) = ⊥
+StretchTied R (ends.Call c x) ends.Over = ⊥
+StretchTied R (ends.End c) (ends.Call d y) = ⊥
+StretchTied R (ends.End c) (ends.Fault d y) = ⊥
+StretchTied R (ends.End c) ends.Over = ⊥
+StretchTied R (ends.Fault c x) (ends.Call d y) = ⊥
+StretchTied R (ends.Fault c x) (ends.End d) = ⊥
+StretchTied R (ends.Fault c x) ends.Over = ⊥
+
+-- start, stretch (at m and at n) and deliver keep the tie R, which is given for each body
+pub record KeepsTie {C D : Type 0} (R : ℕ → C → D → Type 0) (M : Meaning C) (m : ℕ) (N : Meaning D) (n : ℕ) : Type 0 where
+  pub starts : (body : ℕ) (exinf : ℤ) → R body (M.start body exinf) (N.start body exinf)
+  pub delivers : (body : ℕ) (c : C) (d : D) (reply : Reply) → R body c d → R body (M.deliver body c reply) (N.deliver body d reply)
+  pub stretches : (body : ℕ) (c : C) (d : D) → R body c d → StretchTied (R body) (M.stretch body m c) (N.stretch body n d)
+
+-- contexts of one body, tied
+pub record HandlerTied {C D : Type 0} (R : ℕ → C → D → Type 0) (c : HandlerContext C) (d : HandlerContext D) : Type 0 where
+  pub bodies : c.body ≡ d.body
+  pub contexts : R c.body c.context d.context
+
+pub record ContextsTied {C D : Type 0} (sys : SystemTables) (R : ℕ → C → D → Type 0) (a : Contexts C) (b : Contexts D) : Type 0 where
+  pub tasks : AllTied (λ t. R (task_body sys t)) a.tasks b.tasks
+  pub handlers : AllTied (λ p. HandlerTied R) a.handlers b.handlers
+
+-- one state, and tied contexts
+pub record WorldTied {C D : Type 0} (sys : SystemTables) (R : ℕ → C → D → Type 0) (v : World C) (w : World D) : Type 0 where
+  pub states : v.state ≡ w.state
+  pub contexts : ContextsTied sys R v.contexts w.contexts
+
+-- where the first did something, the second did it too, with the same lines
+abbrev pub DoneTied : {C D : Type 0} → SystemTables → (ℕ → C → D → Type 0) → Option (Done C) → Option (Done D) → Type 0
+DoneTied sys R None other = Unit {0}
+DoneTied sys R (Some a) None = ⊥
+DoneTied sys R (Some a) (Some b) = (a.lines ≡ b.lines) × WorldTied sys R a.world b.world
+
+-- the second is the same run as the first, if there is a first: the same lines and the same state at the end
+abbrev pub TraceAgrees : {C D : Type 0} → Option (Trace C) → Option (Trace D) → Type 0
+TraceAgrees None other = Unit {0}
+TraceAgrees (Some r) None = ⊥
+TraceAgrees (Some r) (Some s) = (r.events ≡ s.events) × (r.world.state ≡ s.world.state)

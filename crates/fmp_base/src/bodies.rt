@@ -1,0 +1,24 @@
+use crate::calls::Call;
+
+/// Why a body stops in the middle of a statement.
+#[derive(Clone, Copy, Debug, PartialEq, Eq)]
+pub enum Fault {
+    /// A result outside 32 bits.
+    Overflow,
+    /// A division or remainder by 0.
+    Division,
+}
+
+/// A stretch of a body: what it does up to its next service call, its end or its fault, with the context
+/// that it leaves.
+#[derive(Clone, Copy, Debug, PartialEq, Eq)]
+pub enum Stretch<C> {
+    /// It makes this service call.
+    Call(C, Call),
+    /// It ends.
+    End(C),
+    /// It stops with this fault.
+    Fault(C, Fault),
+    /// It needs more than the bound.
+    Over,
+}

@@ -1,0 +1,28 @@
+//! The words of the kernel: codes, service calls, events, lines of the trace, the tables of a system and
+//! the records of its state. The definitions of what they mean stand in `specs/`.
+#![tactic(auto)]
+
+pub mod bodies;
+pub mod calls;
+pub mod codes;
+pub mod events;
+pub mod names;
+pub mod operators;
+pub mod states;
+pub mod systems;
+pub mod ties;
+
+pub use bodies::{Fault, Stretch};
+pub use calls::{Answer, Call, Reply, Service};
+pub use codes::Er;
+pub use events::{Effect, Event, Line, StateWord, TaskState};
+pub use names::Name;
+pub use operators::{BinaryOperator, UnaryOperator};
+pub use states::{
+    Caller, FlagMode, Handler, Lock, Phase, Processor, TaskBlock, TimeLimit, WaitCause, WaitQueue,
+};
+pub use systems::{
+    CyclicConfig, DataQueueConfig, Entry, FlagConfig, InterruptConfig, MailboxConfig,
+    MessageConfig, QueueOrder, SemaphoreConfig, SharedWordConfig, SpinLockConfig, System,
+    TaskConfig,
+};

@@ -1,0 +1,31 @@
+/// A unary operator of the task language.
+#[derive(Clone, Copy, Debug, PartialEq, Eq)]
+pub enum UnaryOperator {
+    /// `-`
+    Negate,
+    /// `!`: 1 for 0, else 0.
+    Not,
+    /// `~`
+    Complement,
+}
+
+/// A binary operator of the task language, but `&&` and `||`.
+#[derive(Clone, Copy, Debug, PartialEq, Eq)]
+pub enum BinaryOperator {
+    Add,
+    Subtract,
+    Multiply,
+    /// `/`, cut toward zero.
+    Divide,
+    /// `%`, with the dividend's sign.
+    Remainder,
+    And,
+    Or,
+    ExclusiveOr,
+    Equal,
+    NotEqual,
+    Less,
+    LessOrEqual,
+    Greater,
+    GreaterOrEqual,
+}

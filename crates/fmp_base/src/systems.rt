@@ -1,0 +1,146 @@
+use crate::names::Name;
+
+/// The order of a queue of tasks or messages.
+#[derive(Clone, Copy, Debug, PartialEq, Eq)]
+pub enum QueueOrder {
+    /// TA_TFIFO, TA_MFIFO.
+    Fifo,
+    /// TA_TPRI, TA_MPRI.
+    Priority,
+}
+
+/// The body of a task or of a handler.
+#[derive(Clone, Copy, Debug, PartialEq, Eq)]
+pub enum Entry {
+    /// The name that the configuration gives.
+    Named(Name),
+    /// The place of the body among the bodies.
+    Body(u8),
+}
+
+/// A task, as CRE_TSK and its class define it.
+#[derive(Clone, Copy, Debug, PartialEq, Eq)]
+pub struct TaskConfig {
+    pub name: Name,
+    /// TA_ACT: the task starts when it is created.
+    pub activated: bool,
+    pub exinf: i32,
+    pub entry: Entry,
+    /// The initial priority, 1 to 16.
+    pub priority: u8,
+    /// The size of the stack in bytes, 1 to 65536.
+    pub stack: u32,
+    /// The place of the initial processor.
+    pub processor: u8,
+    /// Whether the initial processor is the only one allowed.
+    pub only: bool,
+}
+
+/// A semaphore, as CRE_SEM defines it.
+#[derive(Clone, Copy, Debug, PartialEq, Eq)]
+pub struct SemaphoreConfig {
+    pub name: Name,
+    pub order: QueueOrder,
+    /// The initial count, 0 to `most`.
+    pub initial: u16,
+    /// The greatest count, 1 to 65535.
+    pub most: u16,
+}
+
+/// An eventflag, as CRE_FLG defines it.
+#[derive(Clone, Copy, Debug, PartialEq, Eq)]
+pub struct FlagConfig {
+    pub name: Name,
+    pub order: QueueOrder,
+    /// TA_WMUL: several tasks may wait.
+    pub multiple: bool,
+    /// TA_CLR: a satisfied wait clears all bits.
+    pub clears: bool,
+    pub initial: u16,
+}
+
+/// A data queue, as CRE_DTQ defines it.
+#[derive(Clone, Copy, Debug, PartialEq, Eq)]
+pub struct DataQueueConfig {
+    pub name: Name,
+    /// The order of the senders; receivers queue in FIFO order.
+    pub order: QueueOrder,
+    /// How many words it holds, 0 to 255.
+    pub capacity: u8,
+}
+
+/// A mailbox, as CRE_MBX defines it.
+#[derive(Clone, Copy, Debug, PartialEq, Eq)]
+pub struct MailboxConfig {
+    pub name: Name,
+    pub order: QueueOrder,
+    pub message_order: QueueOrder,
+    /// The greatest priority number of a message, 1 to 16; it counts where messages queue by priority.
+    pub most: u8,
+}
+
+/// A message, as CRE_MSG defines it.
+#[derive(Clone, Copy, Debug, PartialEq, Eq)]
+pub struct MessageConfig {
+    pub name: Name,
+    /// 1, the most urgent, to 16.
+    pub priority: u8,
+}
+
+/// A shared word, as CRE_SHR defines it.
+#[derive(Clone, Copy, Debug, PartialEq, Eq)]
+pub struct SharedWordConfig {
+    pub name: Name,
+    pub initial: i32,
+}
+
+/// A spin lock, as CRE_SPN defines it.
+#[derive(Clone, Copy, Debug, PartialEq, Eq)]
+pub struct SpinLockConfig {
+    pub name: Name,
+}
+
+/// A cyclic handler, as CRE_CYC and its class define it.
+#[derive(Clone, Copy, Debug, PartialEq, Eq)]
+pub struct CyclicConfig {
+    pub name: Name,
+    /// TA_STA: the handler is started when it is created.
+    pub started: bool,
+    pub exinf: i32,
+    pub entry: Entry,
+    /// Ticks, 1 to 2^30.
+    pub period: u32,
+    /// Ticks, 0 to 2^30.
+    pub phase: u32,
+    /// The place of the processor that it runs on.
+    pub processor: u8,
+}
+
+/// An interrupt handler, as DEF_INH and its class define it.
+#[derive(Clone, Copy, Debug, PartialEq, Eq)]
+pub struct InterruptConfig {
+    /// The interrupt number, 1 to 32.
+    pub number: u8,
+    pub entry: Entry,
+    /// The place of the processor that it runs on.
+    pub processor: u8,
+}
+
+/// All tables of an accepted configuration. Each table is in order of number, the interrupts in order of text.
+#[derive(Debug, Drop)]
+pub struct System {
+    /// How many processors there are, 1 to 8.
+    pub processors: u8,
+    /// The greatest count of queued activations and of queued wakeups of a task.
+    pub queue_limit: u8,
+    pub tasks: Vec<TaskConfig>,
+    pub semaphores: Vec<SemaphoreConfig>,
+    pub flags: Vec<FlagConfig>,
+    pub data_queues: Vec<DataQueueConfig>,
+    pub mailboxes: Vec<MailboxConfig>,
+    pub messages: Vec<MessageConfig>,
+    pub shared_words: Vec<SharedWordConfig>,
+    pub spin_locks: Vec<SpinLockConfig>,
+    pub cyclics: Vec<CyclicConfig>,
+    pub interrupts: Vec<InterruptConfig>,
+}

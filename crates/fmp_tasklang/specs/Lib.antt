@@ -1,0 +1,9 @@
+pub mod Contexts
+pub mod Examples
+pub mod Laws
+pub mod Scopes
+pub mod Stretches
+pub mod Texts
+pub mod Trees
+pub mod Values
+pub mod Views

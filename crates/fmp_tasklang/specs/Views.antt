@@ -1,0 +1,60 @@
+-- The syntax trees without memory that the trees of the program stand for.
+use Rattle.std.specs.Prelude.{List, [], ◌∷◌, map}
+use Rattle.fmp_tasklang.specs.declared.trees.Expression.{Expression}
+use Rattle.fmp_tasklang.specs.declared.trees.Expression.TheVariants.{Number, Name, Unary', Binary', Both', Either'}
+use Rattle.fmp_tasklang.specs.declared.trees.ServiceCall.{ServiceCall}
+use Rattle.fmp_tasklang.specs.declared.trees.Statement.{Statement, Row_of-Statement, end_of-Statement, more_of-Statement}
+use Rattle.fmp_tasklang.specs.declared.trees.Statement.TheVariants.{Assign, Call, If', IfElse', While', Break, Continue, Return}
+use Rattle.fmp_tasklang.specs.declared.trees.Body.{Body}
+use Rattle.fmp_tasklang.specs.declared.trees.Program.{Program}
+use Rattle.fmp_tasklang.specs.Trees.{ExpressionTree, number, named, unary, binary, both, either, CallTree, StatementTree, assign, service_call, if_then, if_else, while, break, continue, return, Block, empty, next, BodyTree}
+
+-- the tree of an expression
+abbrev pub expression_view : Expression → ExpressionTree
+expression_view (Number k) = number k
+expression_view (Name w) = named w
+expression_view (Unary' op p e) = unary op (expression_view e)
+expression_view (Binary' op p a q b) = binary op (expression_view a) (expression_view b)
+expression_view (Both' p a q b) = both (expression_view a) (expression_view b)
+expression_view (Either' p a q b) = either (expression_view a) (expression_view b)
+
+-- the tree of a service call
+abbrev pub call_view : ServiceCall → CallTree
+call_view c =
+    record { service = c.service; arguments = map expression_view c.arguments.items; out = c.out; result = c.result }
+
+-- a statement, and the statements of a block within it
+abbrev mutual
+  pub statement_view : Statement → StatementTree
+  statement_view (Assign w e) = assign w (expression_view e)
+  statement_view (Call c) = service_call (call_view c)
+  statement_view (If' e m s) = if_then (expression_view e) (row_view s)
+  statement_view (IfElse' e m s n r) = if_else (expression_view e) (row_view s) (row_view r)
+  statement_view (While' e m s) = while (expression_view e) (row_view s)
+  statement_view Break = break
+  statement_view Continue = continue
+  statement_view Return = return
+
+  pub row_view : {m : _} → Row_of-Statement m → Block
+  row_view end_of-Statement = empty
+  row_view (more_of-Statement s rest) = next (statement_view s) (row_view rest)
+
+-- the statements of a body, or of a block
+abbrev pub block_view : List Statement → Block
+block_view [] = empty
+block_view (s ∷ ss) = next (statement_view s) (block_view ss)
+
+-- the tree of a body
+abbrev pub body_view : Body → BodyTree
+body_view b =
+    record {
+      kind = b.kind;
+      line = b.line;
+      name = b.name;
+      variables = b.variables.items;
+      statements = block_view b.statements.items;
+    }
+
+-- the trees of the bodies of a text, in order
+abbrev pub program_view : Program → List BodyTree
+program_view p = map body_view p.bodies.items

@@ -1,0 +1,24 @@
+//! Laws of the definitions in `specs/`, each the contract of a function that does nothing.
+
+ghost use Rattle.fmp_tasklang.specs.Examples.{Examples};
+ghost use Rattle.fmp_tasklang.specs.Laws.{ViewsOfParts, MoreTurnsChangeNothing, FollowsEachItem};
+
+/// The view of a tree is made of the views of what its boxes and vectors hold.
+pub fn views_are_made_of_parts()
+    ensures { ViewsOfParts }
+{}
+
+/// More turns change no stretch that is within its bound.
+pub fn more_turns_change_nothing()
+    ensures { MoreTurnsChangeNothing }
+{}
+
+/// A stretch follows one item after another until it stops or has no turn left.
+pub fn each_item_is_followed()
+    ensures { FollowsEachItem }
+{}
+
+/// The values and stretches of small bodies.
+pub fn examples_hold()
+    ensures { Examples }
+{}

@@ -1,0 +1,111 @@
+use fmp_base::{BinaryOperator, Name, Service, UnaryOperator};
+
+/// A name in a text.
+#[derive(Clone, Copy, Debug, PartialEq, Eq)]
+pub struct Word {
+    pub name: Name,
+    /// The line of its token, from 1.
+    pub line: u32,
+}
+
+/// An expression.
+#[derive(Debug, Drop)]
+pub enum Expression {
+    /// A number, or the value of a constant.
+    Number(i32),
+    /// A variable or an object.
+    Name(Word),
+    /// An operator before its operand.
+    Unary {
+        operator: UnaryOperator,
+        operand: Box<Expression>,
+    },
+    /// An operator between its operands.
+    Binary {
+        operator: BinaryOperator,
+        left: Box<Expression>,
+        right: Box<Expression>,
+    },
+    /// `&&`
+    Both {
+        left: Box<Expression>,
+        right: Box<Expression>,
+    },
+    /// `||`
+    Either {
+        left: Box<Expression>,
+        right: Box<Expression>,
+    },
+}
+
+/// A service call.
+#[derive(Debug, Drop)]
+pub struct ServiceCall {
+    pub service: Service,
+    /// The arguments, without the out place.
+    pub arguments: Vec<Expression>,
+    /// The variable at the out place.
+    pub out: Option<Word>,
+    /// The variable before `=`.
+    pub result: Option<Word>,
+}
+
+/// A statement.
+#[derive(Debug, Drop)]
+pub enum Statement {
+    /// `target = value;`
+    Assign {
+        target: Word,
+        value: Expression,
+    },
+    /// A service call, with or without a variable before `=`.
+    Call(ServiceCall),
+    /// An `if` without an `else`.
+    If {
+        condition: Expression,
+        then: Vec<Statement>,
+    },
+    /// An `if` with an `else`; an `else if` is one statement in `otherwise`.
+    IfElse {
+        condition: Expression,
+        then: Vec<Statement>,
+        otherwise: Vec<Statement>,
+    },
+    /// A `while`.
+    While {
+        condition: Expression,
+        body: Vec<Statement>,
+    },
+    /// `break;`
+    Break,
+    /// `continue;`
+    Continue,
+    /// `return;`
+    Return,
+}
+
+/// What a body is for.
+#[derive(Clone, Copy, Debug, PartialEq, Eq)]
+pub enum BodyKind {
+    Task,
+    /// A cyclic handler or an interrupt handler.
+    Handler,
+}
+
+/// The body of a task or of a handler.
+#[derive(Debug, Drop)]
+pub struct Body {
+    pub kind: BodyKind,
+    /// The line of the word `task` or `handler`, from 1.
+    pub line: u32,
+    pub name: Word,
+    /// The declared variables, in order.
+    pub variables: Vec<Word>,
+    pub statements: Vec<Statement>,
+}
+
+/// The bodies of a text, in order.
+#[derive(Debug, Drop)]
+pub struct Program {
+    pub bodies: Vec<Body>,
+}
