@@ -1,0 +1,8 @@
+pub mod Instructions
+pub mod Laws
+pub mod Longer
+pub mod Machine
+pub mod PutCode
+pub mod Stretches
+pub mod Verify
+pub mod Vms

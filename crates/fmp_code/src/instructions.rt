@@ -1,0 +1,55 @@
+use fmp_base::{BinaryOperator, Service, UnaryOperator};
+
+/// An instruction of the stack machine. Places in a body count from 0, and so do its locals.
+#[derive(Clone, Copy, Debug, PartialEq, Eq)]
+pub enum Instruction {
+    /// Pushes a number.
+    Push(i32),
+    /// Pushes a local.
+    Load(u8),
+    /// Pops into a local.
+    Store(u8),
+    /// Pops an operand and pushes what the operator gives.
+    Unary(UnaryOperator),
+    /// Pops an operand and pushes 0 for 0, else 1.
+    Truth,
+    /// Pops the second operand, then the first, and pushes what the operator gives.
+    Binary(BinaryOperator),
+    /// Goes on at this place.
+    Jump(u16),
+    /// Pops an operand, and goes on at this place where it is 0.
+    JumpIfZero(u16),
+    /// Makes a service call with all operands as its arguments.
+    Call {
+        service: Service,
+        /// The local at the out place.
+        out: Option<u8>,
+        /// The local before `=`.
+        result: Option<u8>,
+    },
+    /// Ends the body.
+    End,
+}
+
+/// The code of one body.
+#[derive(Debug, Drop)]
+pub struct BodyCode {
+    /// How many locals the body has.
+    pub locals: u8,
+    pub instructions: Vec<Instruction>,
+    /// How many operands stand before each instruction.
+    pub depths: Vec<u8>,
+}
+
+/// The code of all bodies, in order of number.
+#[derive(Debug, Drop)]
+pub struct Code {
+    pub bodies: Vec<BodyCode>,
+}
+
+/// Where a body stands between two stretches: the place of the next instruction, and its locals.
+#[derive(Clone, Copy, Debug, PartialEq, Eq)]
+pub struct MachineContext {
+    pub pc: u16,
+    pub locals: [i32; 64],
+}

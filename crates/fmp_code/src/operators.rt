@@ -1,0 +1,68 @@
+ghost use Rattle.std.specs.Prelude.{◌≡◌, false, OnOk, int_rem};
+ghost use Rattle.fmp_base.specs.Operators.{fit, unary_value, binary_value, quotient, is_zero};
+
+use fmp_base::{BinaryOperator, Fault, UnaryOperator};
+
+fn fitted(exact: i64) -> Result<i32, Fault>
+    ensures { result ≡ fit exact }
+{
+    if exact < -2147483648 || exact > 2147483647 {
+        Err(Fault::Overflow)
+    } else {
+        Ok(exact as i32)
+    }
+}
+
+/// What a unary operator gives.
+pub fn apply_unary(operator: UnaryOperator, x: i32) -> Result<i32, Fault>
+    ensures { result ≡ unary_value operator x }
+{
+    match operator {
+        UnaryOperator::Negate => fitted(-(x as i64)),
+        UnaryOperator::Not => Ok((x == 0) as i32),
+        UnaryOperator::Complement => Ok(-1 - x),
+    }
+}
+
+fn divided(x: i32, y: i32) -> Result<i32, Fault>
+    ensures quotient { result ≡ quotient x y }
+    ensures divisor { OnOk result (is_zero y ≡ false) }
+{
+    if y == 0 {
+        Err(Fault::Division)
+    } else {
+        fitted(x as i64 / y as i64)
+    }
+}
+
+fn remainder(x: i32, y: i32) -> i32
+    requires { is_zero y ≡ false }
+    ensures { result ≡ int_rem x y }
+{
+    (x as i64 % y as i64) as i32
+}
+
+/// What a binary operator gives.
+pub fn apply_binary(operator: BinaryOperator, x: i32, y: i32) -> Result<i32, Fault>
+    ensures { result ≡ binary_value operator x y }
+{
+    match operator {
+        BinaryOperator::Add => fitted(x as i64 + y as i64),
+        BinaryOperator::Subtract => fitted(x as i64 - y as i64),
+        BinaryOperator::Multiply => fitted(x as i64 * y as i64),
+        BinaryOperator::Divide => divided(x, y),
+        BinaryOperator::Remainder => {
+            divided(x, y)?;
+            Ok(remainder(x, y))
+        }
+        BinaryOperator::And => Ok(x & y),
+        BinaryOperator::Or => Ok(x | y),
+        BinaryOperator::ExclusiveOr => Ok(x ^ y),
+        BinaryOperator::Equal => Ok((x == y) as i32),
+        BinaryOperator::NotEqual => Ok((x != y) as i32),
+        BinaryOperator::Less => Ok((x < y) as i32),
+        BinaryOperator::LessOrEqual => Ok((x <= y) as i32),
+        BinaryOperator::Greater => Ok((x > y) as i32),
+        BinaryOperator::GreaterOrEqual => Ok((x >= y) as i32),
+    }
+}

@@ -1,0 +1,2 @@
+mod ManyDelays
+mod Parts

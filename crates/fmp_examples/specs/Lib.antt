@@ -1,0 +1,11 @@
+pub mod Builders
+pub mod DataQueues
+pub mod Delays
+pub mod Flags
+pub mod Handlers
+pub mod Locks
+pub mod Mailboxes
+pub mod ManyDelays
+pub mod Processors
+pub mod Semaphores
+pub mod Tasks

@@ -1,0 +1,2 @@
+mod ContextLemmas
+mod OrderLemmas

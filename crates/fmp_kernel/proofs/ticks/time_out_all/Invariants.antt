@@ -1,0 +1,17 @@
+use Rattle.std.proofs.Common.{◌≡◌, ◌≤◌, ◌-◌, length, vec_len, vec_capacity, All}
+use Rattle.fmp_base.specs.States.{places_from, unchanged}
+use Rattle.fmp_base.specs.Ticks.{all_timed_out}
+use Rattle.fmp_kernel.specs.Contexts.{IsOfTask}
+use Rattle.fmp_kernel.specs.Tables.{progress, SameShape}
+use Rattle.fmp_kernel.proofs.ticks.time_out_all.Given as goal
+
+abbrev pub invariant-loop-t : goal.invariant-loop-t
+invariant-loop-t l =
+    let count = length l.fn.tables.state.tasks in
+    record {
+      progress : all_timed_out (progress l.tables l.caused.items) (places_from l.t (count - l.t)) ≡ all_timed_out (unchanged l.fn.tables.state) (places_from 0 count);
+      shape : SameShape l.fn.tables l.tables;
+      long : vec_len l.caused ≤ l.t;
+      capacity : vec_capacity l.caused ≡ vec_capacity l.fn.caused;
+      of_tasks : All IsOfTask l.caused.items;
+    }

@@ -1,0 +1,122 @@
+//! Bodies as the kernel sees them, and the contexts that they keep between their stretches.
+ghost use Rattle.std.specs.Prelude.{◌≡◌, ℕ, ◌+◌, ◌<◌, ◌≤◌, length, slice_set, Option, OnSome, All, false};
+ghost use Rattle.fmp_base.specs.declared.bodies.Stretch.{Stretch};
+ghost use Rattle.fmp_base.specs.Meanings.{Meaning, task_body, context_at, told, contexts_after_all};
+ghost use Rattle.fmp_base.specs.Systems.{task_config};
+ghost use Rattle.fmp_kernel.specs.Contexts.{Fitting, Entered, OfCall, IsOfTask};
+ghost use Rattle.fmp_kernel.specs.KernelViews.{contexts_of_tasks};
+ghost use Rattle.fmp_base.specs.Stretches.{is_over};
+
+use crate::tables::{Tables, body_number};
+use fmp_base::{Caller, Line, Reply, Stretch};
+
+/// The bodies of tasks and handlers, by their numbers, as a meaning that computes.
+pub trait Body {
+    /// What a body keeps between its stretches.
+    type Ctx: Copy;
+
+    /// What the bodies mean.
+    ghost meaning: { Self → Meaning Self.Ctx };
+
+    /// Which bodies there are.
+    ghost has_entry: { Self → ℕ → Type 0 };
+
+    /// Which contexts the calls of a body give.
+    ghost is_context: { Self → ℕ → Self.Ctx → Type 0 };
+
+    /// The context of a body at its start.
+    fn start(&self, entry: u8, exinf: i32) -> Self::Ctx
+        requires { has_entry self.now entry }
+        ensures value { result ≡ (meaning self.now).start entry exinf }
+        ensures context { is_context self.now entry result };
+
+    /// A stretch of a body, of at most n units.
+    fn stretch(&self, entry: u8, n: u64, c: Self::Ctx) -> Stretch<Self::Ctx>
+        requires entry { has_entry self.now entry }
+        requires context { is_context self.now entry c }
+        ensures value { result ≡ (meaning self.now).stretch entry n c }
+        ensures context { OfCall (is_context self.now entry) result };
+
+    /// The context after a reply to the call that ended a stretch.
+    fn deliver(&self, entry: u8, c: Self::Ctx, r: Reply) -> Self::Ctx
+        requires entry { has_entry self.now entry }
+        requires context { is_context self.now entry c }
+        ensures value { result ≡ (meaning self.now).deliver entry c r }
+        ensures context { is_context self.now entry result };
+
+    /// A stretch that is not over its bound is the same at every greater bound.
+    ghost stays: { (body : Self) (entry low high : ℕ) (c : Self.Ctx) → low ≤ high → is_over ((meaning body).stretch entry low c) ≡ false → (meaning body).stretch entry high c ≡ (meaning body).stretch entry low c };
+}
+
+/// The context of a task, if it has one.
+pub fn context_of<C: Copy>(contexts: &[Option<C>], t: u8) -> Option<C>
+    ensures value { result ≡ context_at contexts.now t }
+    ensures inside { OnSome result (t < length contexts.now) }
+{
+    match contexts.get(t as usize) {
+        Some(context) => *context,
+        None => None,
+    }
+}
+
+/// Task t has a fresh context.
+fn begin<B: Body>(body: &B, tables: &Tables, contexts: &mut Vec<Option<B::Ctx>>, t: u8)
+    requires long { length contexts.old.items ≡ length tables.now.system.tasks }
+    requires entries { Entered B.has_entry body.now tables.now.system }
+    requires contexts { Fitting B.is_context body.now tables.now.system contexts.old.items }
+    ensures items { contexts.new.items ≡ slice_set contexts.old.items t (Some ((B.meaning body.now).start (task_body tables.now.system t) (task_config tables.now.system t).exinf)) }
+    ensures contexts { Fitting B.is_context body.now tables.now.system contexts.new.items }
+{
+    if (t as usize) < contexts.len() {
+        let config = tables.config(t);
+        contexts[t as usize] = Some(body.start(body_number(config.entry), config.exinf));
+    }
+}
+
+/// Task t is told a reply.
+fn tell<B: Body>(body: &B, tables: &Tables, contexts: &mut Vec<Option<B::Ctx>>, t: u8, reply: Reply)
+    requires long { length contexts.old.items ≡ length tables.now.system.tasks }
+    requires entries { Entered B.has_entry body.now tables.now.system }
+    requires contexts { Fitting B.is_context body.now tables.now.system contexts.old.items }
+    ensures items { contexts.new.items ≡ slice_set contexts.old.items t (told (B.meaning body.now) (task_body tables.now.system t) reply (context_at contexts.old.items t)) }
+    ensures contexts { Fitting B.is_context body.now tables.now.system contexts.new.items }
+{
+    if (t as usize) < contexts.len() {
+        let config = tables.config(t);
+        let told = match context_of(contexts.as_slice(), t) {
+            Some(context) => Some(body.deliver(body_number(config.entry), context, reply)),
+            None => None,
+        };
+        contexts[t as usize] = told;
+    }
+}
+
+/// The contexts after what the lines of an event tell: a task that starts has a fresh one, a caller and a
+/// released task are told their replies.
+pub fn carry_out<B: Body>(
+    body: &B,
+    tables: &Tables,
+    contexts: &mut Vec<Option<B::Ctx>>,
+    lines: &Vec<Line>,
+)
+    requires long { length contexts.old.items ≡ length tables.now.system.tasks }
+    requires entries { Entered B.has_entry body.now tables.now.system }
+    requires contexts { Fitting B.is_context body.now tables.now.system contexts.old.items }
+    requires of_tasks { All IsOfTask lines.now.items }
+    ensures items { contexts_of_tasks tables.now.system.processors contexts.new.items ≡ contexts_after_all tables.now.system (B.meaning body.now) (contexts_of_tasks tables.now.system.processors contexts.old.items) lines.now.items }
+    ensures long { length contexts.new.items ≡ length contexts.old.items }
+    ensures contexts { Fitting B.is_context body.now tables.now.system contexts.new.items }
+{
+    for line in lines {
+        match *line {
+            Line::Starts { task, .. } => begin(body, tables, contexts, task),
+            Line::Gets { task, reply, .. } => tell(body, tables, contexts, task, reply),
+            Line::Call {
+                caller: Caller::Task(t),
+                reply: Some(reply),
+                ..
+            } => tell(body, tables, contexts, t, reply),
+            _ => {}
+        }
+    }
+}

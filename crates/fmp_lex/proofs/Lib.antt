@@ -1,0 +1,10 @@
+pub mod Answered
+pub mod Existence
+pub mod Lines
+pub mod Lists
+pub mod Names
+pub mod Sequences
+pub mod Turns
+pub mod Unique
+pub mod Values
+pub mod Wholes

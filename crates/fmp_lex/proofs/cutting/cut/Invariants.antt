@@ -1,0 +1,15 @@
+use Rattle.std.proofs.Common.{◌≡◌, ◌+◌, ◌-◌, ◌≤◌, length, List, ◌++◌}
+use Rattle.fmp_lex.specs.declared.token.Token.{Token}
+use Rattle.fmp_lex.specs.Cutting.{Cuts, line_at}
+use Rattle.fmp_lex.proofs.cutting.cut.Given as goal
+
+abbrev pub invariant-pieces : goal.invariant-pieces
+invariant-pieces l = record {
+  within : l.i ≤ length l.text;
+  line : l.line ≡ line_at l.text l.i;
+  low : l.line ≤ l.i + 1;
+  rest : (ts : List Token) → Cuts l.text l.i ts → Cuts l.text 0 (l.tokens.items ++ ts);
+}
+
+abbrev pub decreases-pieces : goal.decreases-pieces
+decreases-pieces l = length l.initial.text - l.i

@@ -1,0 +1,5 @@
+pub mod Cutting
+pub mod Laws
+pub mod Reading
+pub mod Scanning
+pub mod Words

@@ -1,0 +1,18 @@
+//! The tokens of both texts, the configuration and the task bodies. The definition of how a text is cut
+//! stands in `specs/`.
+#![tactic(auto)]
+
+pub mod cutting;
+pub mod laws;
+pub mod reading;
+pub mod scanning;
+pub mod token;
+pub mod words;
+
+pub use cutting::tokens;
+pub use reading::{GrammarFault, ReadError};
+pub use token::{LexFault, Symbol, TextFault, Token, TokenKind, TokenList};
+pub use words::{Api, Constant, Keyword};
+
+#[cfg(test)]
+mod tests;

@@ -1,0 +1,102 @@
+ghost use Rattle.std.specs.Prelude.{◌≡◌, ◌<◌, ◌≤◌, IsTrue, Some, false, length, slice_get, IfSome};
+ghost use Rattle.fmp_lex.specs.Reading.{kinds_of, Steps, RightToken};
+ghost use Rattle.fmp_lex.specs.declared.reading.ReadError.TheVariants.{Memory};
+
+use crate::token::{Symbol, Token, TokenKind};
+use crate::words::Keyword;
+use std::alloc::{AllocError, AllocFailed};
+
+/// Why a list of tokens is no list of a grammar.
+#[derive(Clone, Copy, Debug, PartialEq, Eq)]
+pub enum GrammarFault {
+    /// No list of the grammar has this token in this place, or the end.
+    Syntax,
+    /// The token opens a level too many.
+    Depth,
+}
+
+/// What ends the reading of a list of tokens.
+#[derive(Debug, Drop)]
+pub enum ReadError {
+    Memory,
+    /// The first fault, at this place in the list.
+    Fault(usize, GrammarFault),
+}
+
+impl From<AllocError> for ReadError {
+    ghost from_gives = { λ _ e. e ≡ Memory };
+
+    fn from(_error: AllocError) -> Self {
+        ReadError::Memory
+    }
+}
+
+impl<T: Drop> From<AllocFailed<T>> for ReadError {
+    ghost from_gives = { λ _ e. e ≡ Memory };
+
+    fn from(_error: AllocFailed<T>) -> Self {
+        ReadError::Memory
+    }
+}
+
+/// What the token at a place is.
+pub fn kind_at(tokens: &[Token], at: usize) -> Option<TokenKind>
+    ensures value { result ≡ slice_get (kinds_of tokens.now) at }
+    ensures within { IfSome result (λ _. at < length tokens.now) }
+{
+    tokens.get(at).map(|token| token.kind)
+}
+
+/// Whether this symbol stands at a place.
+pub fn is_symbol_at(tokens: &[Token], at: usize, symbol: Symbol) -> bool
+    ensures yes { IsTrue result → slice_get (kinds_of tokens.now) at ≡ Some (TokenKind.Symbol symbol) }
+    ensures within { IsTrue result → at < length tokens.now }
+    ensures no { result ≡ false → slice_get (kinds_of tokens.now) at ≡ Some (TokenKind.Symbol symbol) → ⊥ }
+{
+    let Some(kind) = kind_at(tokens, at) else {
+        return false;
+    };
+    match kind {
+        TokenKind::Symbol(found) => found == symbol,
+        _ => false,
+    }
+}
+
+/// Whether this keyword stands at a place.
+pub fn is_keyword_at(tokens: &[Token], at: usize, keyword: Keyword) -> bool
+    ensures yes { IsTrue result → slice_get (kinds_of tokens.now) at ≡ Some (TokenKind.Keyword keyword) }
+    ensures within { IsTrue result → at < length tokens.now }
+    ensures no { result ≡ false → slice_get (kinds_of tokens.now) at ≡ Some (TokenKind.Keyword keyword) → ⊥ }
+{
+    let Some(kind) = kind_at(tokens, at) else {
+        return false;
+    };
+    match kind {
+        TokenKind::Keyword(found) => found == keyword,
+        _ => false,
+    }
+}
+
+/// The place behind this symbol, which has to stand at a place.
+pub fn expect_symbol(tokens: &[Token], at: usize, symbol: Symbol) -> Result<usize, ReadError>
+    requires { at ≤ length tokens.now }
+    ensures { Steps result (RightToken (kinds_of tokens.now) (TokenKind.Symbol symbol) at) }
+{
+    if is_symbol_at(tokens, at, symbol) {
+        Ok(at + 1)
+    } else {
+        Err(ReadError::Fault(at, GrammarFault::Syntax))
+    }
+}
+
+/// The place behind this keyword, which has to stand at a place.
+pub fn expect_keyword(tokens: &[Token], at: usize, keyword: Keyword) -> Result<usize, ReadError>
+    requires { at ≤ length tokens.now }
+    ensures { Steps result (RightToken (kinds_of tokens.now) (TokenKind.Keyword keyword) at) }
+{
+    if is_keyword_at(tokens, at, keyword) {
+        Ok(at + 1)
+    } else {
+        Err(ReadError::Fault(at, GrammarFault::Syntax))
+    }
+}

@@ -1,0 +1,94 @@
+ghost use Rattle.std.specs.Prelude.{◌≡◌, ℕ, ◌+◌, ◌<◌, ◌≤◌, ◌⊎◌, length, slice_index, count_by, ◌==◌, MatchOption, EachIndex};
+ghost use Rattle.fmp_lex.specs.Scanning.{in_class, IsRun, IsFirstClose, NeverCloses, digit_of, value_from, Saturated};
+
+/// A class of bytes.
+#[derive(Clone, Copy, Debug, PartialEq, Eq)]
+pub enum Class {
+    /// The letters, the digits and `_`, of which names and words are made.
+    Word,
+    /// The decimal digits.
+    Digit,
+    /// The hexadecimal digits.
+    Hex,
+    /// Every byte but the line feed.
+    SameLine,
+}
+
+/// Whether a byte is of a class.
+pub fn is_in(class: Class, b: u8) -> bool
+    ensures { result ≡ in_class class b }
+{
+    match class {
+        Class::Word => matches!(b, b'A'..=b'Z' | b'a'..=b'z' | b'_' | b'0'..=b'9'),
+        Class::Digit => b.is_ascii_digit(),
+        Class::Hex => b.is_ascii_hexdigit(),
+        Class::SameLine => b != b'\n',
+    }
+}
+
+/// Where the longest run of a class from a place on ends.
+pub fn run_end(text: &[u8], class: Class, from: usize) -> usize
+    requires { from ≤ length text.now }
+    ensures { IsRun (in_class class) text.now from result }
+{
+    for i in from..text.len() {
+        if !is_in(class, text[i]) {
+            return i;
+        }
+    }
+    text.len()
+}
+
+/// The first `*/` from a place on.
+pub fn find_close(text: &[u8], from: usize) -> Option<usize>
+    ensures { MatchOption result (NeverCloses text.now from) (λ j. IsFirstClose text.now from j) }
+{
+    if text.is_empty() {
+        return None;
+    }
+    for i in from..text.len() - 1 {
+        if text[i] == b'*' && text[i + 1] == b'/' {
+            return Some(i);
+        }
+    }
+    None
+}
+
+/// The value of a digit.
+fn digit(b: u8) -> u64
+    requires { b < 128 }
+    ensures { result ≡ digit_of b }
+{
+    let b = u64::from(b);
+    if b <= 57 {
+        b.saturating_sub(48)
+    } else if b <= 70 {
+        b - 55
+    } else {
+        b.saturating_sub(87)
+    }
+}
+
+/// The value of digits, or any number above the greatest one where theirs is.
+pub fn value_of(digits: &[u8], base: u64) -> u64
+    requires base { (base ≡ 10) ⊎ (base ≡ 16) }
+    requires ascii { EachIndex digits.now (λ k. slice_index digits.now k < 128) }
+    ensures { Saturated result (value_from base 0 digits.now) }
+{
+    let mut value: u64 = 0;
+    for b in digits {
+        if value <= 2_147_483_647 {
+            value = value * base + digit(*b);
+        }
+    }
+    value
+}
+
+/// The number of line feeds.
+pub fn line_feeds(text: &[u8]) -> u32
+    requires { length text.now ≤ 1048576 }
+    ensures count { result ≡ count_by (λ b. b == 10) text.now }
+    ensures few { result ≤ length text.now }
+{
+    text.iter().filter(|b| **b == b'\n').count() as u32
+}

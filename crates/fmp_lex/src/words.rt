@@ -1,0 +1,325 @@
+ghost use Rattle.std.specs.Prelude.{◌≡◌};
+ghost use Rattle.fmp_lex.specs.Words.{constant_name, constant_value, api_name, keyword_name, constant_named, api_named, service_named, keyword_named};
+
+use fmp_base::{Er, Service};
+
+/// A constant of the uITRON 4.0 specification that may stand in both texts.
+#[derive(Clone, Copy, Debug, PartialEq, Eq)]
+pub enum Constant {
+    /// A main error code.
+    Code(Er),
+    TaNull,
+    TaHlng,
+    TaTfifo,
+    TaTpri,
+    TaMfifo,
+    TaMpri,
+    TaAct,
+    TaWsgl,
+    TaWmul,
+    TaClr,
+    TaSta,
+    TwfAndw,
+    TwfOrw,
+    TmoPol,
+    TmoFevr,
+    TskSelf,
+    TpriIni,
+    TpriSelf,
+}
+
+/// A static API of the configuration.
+#[derive(Clone, Copy, Debug, PartialEq, Eq)]
+pub enum Api {
+    CreTsk,
+    CreSem,
+    CreFlg,
+    CreDtq,
+    CreMbx,
+    CreMsg,
+    CreShr,
+    CreSpn,
+    CreCyc,
+    DefInh,
+}
+
+/// A word of the grammars that names no constant, no API and no call.
+#[derive(Clone, Copy, Debug, PartialEq, Eq)]
+pub enum Keyword {
+    NumPrc,
+    Class,
+    Null,
+    Task,
+    Handler,
+    Var,
+    If,
+    Else,
+    While,
+    Break,
+    Continue,
+    Return,
+}
+
+pub const CONSTANTS: [Constant; 30] = [
+    Constant::Code(Er::Ok),
+    Constant::Code(Er::Sys),
+    Constant::Code(Er::Nospt),
+    Constant::Code(Er::Rsatr),
+    Constant::Code(Er::Par),
+    Constant::Code(Er::Id),
+    Constant::Code(Er::Ctx),
+    Constant::Code(Er::Iluse),
+    Constant::Code(Er::Obj),
+    Constant::Code(Er::Qovr),
+    Constant::Code(Er::Rlwai),
+    Constant::Code(Er::Tmout),
+    Constant::TaNull,
+    Constant::TaHlng,
+    Constant::TaTfifo,
+    Constant::TaTpri,
+    Constant::TaMfifo,
+    Constant::TaMpri,
+    Constant::TaAct,
+    Constant::TaWsgl,
+    Constant::TaWmul,
+    Constant::TaClr,
+    Constant::TaSta,
+    Constant::TwfAndw,
+    Constant::TwfOrw,
+    Constant::TmoPol,
+    Constant::TmoFevr,
+    Constant::TskSelf,
+    Constant::TpriIni,
+    Constant::TpriSelf,
+];
+
+pub const APIS: [Api; 10] = [
+    Api::CreTsk,
+    Api::CreSem,
+    Api::CreFlg,
+    Api::CreDtq,
+    Api::CreMbx,
+    Api::CreMsg,
+    Api::CreShr,
+    Api::CreSpn,
+    Api::CreCyc,
+    Api::DefInh,
+];
+
+pub const KEYWORDS: [Keyword; 12] = [
+    Keyword::NumPrc,
+    Keyword::Class,
+    Keyword::Null,
+    Keyword::Task,
+    Keyword::Handler,
+    Keyword::Var,
+    Keyword::If,
+    Keyword::Else,
+    Keyword::While,
+    Keyword::Break,
+    Keyword::Continue,
+    Keyword::Return,
+];
+
+/// The service calls, in order of their function codes.
+pub const SERVICES: [Service; 58] = [
+    Service::Put,
+    Service::LdShr,
+    Service::StShr,
+    Service::ActTsk,
+    Service::CanAct,
+    Service::ExtTsk,
+    Service::TerTsk,
+    Service::ChgPri,
+    Service::GetPri,
+    Service::MactTsk,
+    Service::MigTsk,
+    Service::SlpTsk,
+    Service::TslpTsk,
+    Service::WupTsk,
+    Service::CanWup,
+    Service::RelWai,
+    Service::SusTsk,
+    Service::RsmTsk,
+    Service::DlyTsk,
+    Service::SigSem,
+    Service::WaiSem,
+    Service::PolSem,
+    Service::TwaiSem,
+    Service::SetFlg,
+    Service::ClrFlg,
+    Service::WaiFlg,
+    Service::PolFlg,
+    Service::TwaiFlg,
+    Service::SndDtq,
+    Service::PsndDtq,
+    Service::TsndDtq,
+    Service::FsndDtq,
+    Service::RcvDtq,
+    Service::PrcvDtq,
+    Service::TrcvDtq,
+    Service::SndMbx,
+    Service::RcvMbx,
+    Service::PrcvMbx,
+    Service::TrcvMbx,
+    Service::StaCyc,
+    Service::StpCyc,
+    Service::RotRdq,
+    Service::GetTid,
+    Service::LocCpu,
+    Service::UnlCpu,
+    Service::DisDsp,
+    Service::EnaDsp,
+    Service::LocSpn,
+    Service::TrySpn,
+    Service::UnlSpn,
+    Service::IactTsk,
+    Service::IwupTsk,
+    Service::IrelWai,
+    Service::IsigSem,
+    Service::IsetFlg,
+    Service::IpsndDtq,
+    Service::IfsndDtq,
+    Service::IrotRdq,
+];
+
+impl Constant {
+    /// The number that the constant stands for.
+    pub fn value(self) -> i32
+        ensures { result ≡ constant_value self }
+    {
+        match self {
+            Constant::Code(code) => code.code(),
+            Constant::TaNull => 0,
+            Constant::TaHlng => 0,
+            Constant::TaTfifo => 0,
+            Constant::TaTpri => 1,
+            Constant::TaMfifo => 0,
+            Constant::TaMpri => 2,
+            Constant::TaAct => 2,
+            Constant::TaWsgl => 0,
+            Constant::TaWmul => 2,
+            Constant::TaClr => 4,
+            Constant::TaSta => 2,
+            Constant::TwfAndw => 0,
+            Constant::TwfOrw => 1,
+            Constant::TmoPol => 0,
+            Constant::TmoFevr => -1,
+            Constant::TskSelf => 0,
+            Constant::TpriIni => 0,
+            Constant::TpriSelf => 0,
+        }
+    }
+
+    /// The constant as the texts write it.
+    pub fn name(self) -> &'static str
+        ensures { result.now ≡ constant_name self }
+    {
+        match self {
+            Constant::Code(code) => code.name(),
+            Constant::TaNull => "TA_NULL",
+            Constant::TaHlng => "TA_HLNG",
+            Constant::TaTfifo => "TA_TFIFO",
+            Constant::TaTpri => "TA_TPRI",
+            Constant::TaMfifo => "TA_MFIFO",
+            Constant::TaMpri => "TA_MPRI",
+            Constant::TaAct => "TA_ACT",
+            Constant::TaWsgl => "TA_WSGL",
+            Constant::TaWmul => "TA_WMUL",
+            Constant::TaClr => "TA_CLR",
+            Constant::TaSta => "TA_STA",
+            Constant::TwfAndw => "TWF_ANDW",
+            Constant::TwfOrw => "TWF_ORW",
+            Constant::TmoPol => "TMO_POL",
+            Constant::TmoFevr => "TMO_FEVR",
+            Constant::TskSelf => "TSK_SELF",
+            Constant::TpriIni => "TPRI_INI",
+            Constant::TpriSelf => "TPRI_SELF",
+        }
+    }
+}
+
+impl Api {
+    /// The API as the configuration writes it.
+    pub fn name(self) -> &'static str
+        ensures { result.now ≡ api_name self }
+    {
+        match self {
+            Api::CreTsk => "CRE_TSK",
+            Api::CreSem => "CRE_SEM",
+            Api::CreFlg => "CRE_FLG",
+            Api::CreDtq => "CRE_DTQ",
+            Api::CreMbx => "CRE_MBX",
+            Api::CreMsg => "CRE_MSG",
+            Api::CreShr => "CRE_SHR",
+            Api::CreSpn => "CRE_SPN",
+            Api::CreCyc => "CRE_CYC",
+            Api::DefInh => "DEF_INH",
+        }
+    }
+}
+
+impl Keyword {
+    /// The keyword as the texts write it.
+    pub fn name(self) -> &'static str
+        ensures { result.now ≡ keyword_name self }
+    {
+        match self {
+            Keyword::NumPrc => "NUM_PRC",
+            Keyword::Class => "CLASS",
+            Keyword::Null => "NULL",
+            Keyword::Task => "task",
+            Keyword::Handler => "handler",
+            Keyword::Var => "var",
+            Keyword::If => "if",
+            Keyword::Else => "else",
+            Keyword::While => "while",
+            Keyword::Break => "break",
+            Keyword::Continue => "continue",
+            Keyword::Return => "return",
+        }
+    }
+}
+
+/// The constant of this name.
+#[tactic(auto, unfolding(crate::specs::Words::constant_named))]
+pub fn find_constant(word: &[u8]) -> Option<Constant>
+    ensures { result ≡ constant_named word.now }
+{
+    CONSTANTS
+        .iter()
+        .copied()
+        .find(|constant| constant.name().as_bytes() == word)
+}
+
+/// The API of this name.
+#[tactic(auto, unfolding(crate::specs::Words::api_named))]
+pub fn find_api(word: &[u8]) -> Option<Api>
+    ensures { result ≡ api_named word.now }
+{
+    APIS.iter()
+        .copied()
+        .find(|api| api.name().as_bytes() == word)
+}
+
+/// The service call of this name.
+#[tactic(auto, unfolding(crate::specs::Words::service_named))]
+pub fn find_service(word: &[u8]) -> Option<Service>
+    ensures { result ≡ service_named word.now }
+{
+    SERVICES
+        .iter()
+        .copied()
+        .find(|service| service.name().as_bytes() == word)
+}
+
+/// The keyword of this name.
+#[tactic(auto, unfolding(crate::specs::Words::keyword_named))]
+pub fn find_keyword(word: &[u8]) -> Option<Keyword>
+    ensures { result ≡ keyword_named word.now }
+{
+    KEYWORDS
+        .iter()
+        .copied()
+        .find(|keyword| keyword.name().as_bytes() == word)
+}

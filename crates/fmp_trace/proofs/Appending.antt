@@ -1,0 +1,13 @@
+-- A list grows at its end, piece by piece.
+use Rattle.std.proofs.Common.{ℕ, List, ◌++◌, append_assoc, ◌∙◌, ap, Result, Ok, Err, OnErr}
+use Rattle.fmp_trace.specs.Fronts.{Begins}
+
+-- what begins with a list that begins with another begins with that one
+pub begins_through : {front middle whole : List ℕ} → Begins front middle → Begins middle whole → Begins front whole
+begins_through {front = front} a b =
+    record { rest = a.rest ++ b.rest; whole_is = b.whole_is ∙ ap (λ xs. xs ++ b.rest) a.whole_is ∙ append_assoc front a.rest b.rest }
+
+-- a fact holds on an error, whatever the result is
+pub on_err_from : {T E P : Type 0} (r : Result T E) → P → OnErr r P
+on_err_from (Ok x) p = tt
+on_err_from (Err e) p = p

@@ -1,0 +1,7 @@
+pub mod Appending
+pub mod EventsRead
+pub mod LinesOf
+pub mod ListedStates
+pub mod Numbers
+pub mod PrintedSteps
+pub mod Words

@@ -1,0 +1,4 @@
+pub mod Fronts
+pub mod ListedStates
+pub mod Steps
+pub mod StepsLaws
