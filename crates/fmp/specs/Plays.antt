@@ -1,0 +1,22 @@
+-- What a run on a kernel still has to print, and where it ends.
+use Rattle.std.specs.Prelude.{ℕ, ◌≡◌, ◌+◌, List, [], ◌∷◌, ◌++◌}
+use Rattle.fmp_base.specs.declared.events.Event.{Event}
+use Rattle.fmp_base.specs.Meanings.{Meaning, World}
+use Rattle.fmp_base.specs.Runs.{run}
+use Rattle.fmp_base.specs.States.{KernelState}
+use Rattle.fmp_base.specs.Texts.{events_text}
+use Rattle.fmp_kernel.specs.KernelViews.{KernelView}
+
+-- the text of the lines of the events that a kernel does of a list, numbered on
+abbrev pub text_of_events : {B C : Type 0} → (B → Meaning C) → KernelView B C → List Event → List ℕ
+text_of_events meaning k es = events_text k.system (k.done + 1) (run k.system (meaning k.body) k.bound k.world es).events
+
+-- the state that it then has
+abbrev pub state_after : {B C : Type 0} → (B → Meaning C) → KernelView B C → List Event → KernelState
+state_after meaning k es = (run k.system (meaning k.body) k.bound k.world es).world.state
+
+-- A kernel has taken some events: what was to print has been printed, and it ends in the state in which it was to end.
+pub record HasTaken {B C : Type 0} (meaning : B → Meaning C) (before after : KernelView B C) (es : List Event) (out text : List ℕ) : Type 0 where
+  pub printed : text ≡ out ++ text_of_events meaning before es
+  pub state : after.world.state ≡ state_after meaning before es
+  pub system : after.system ≡ before.system
