@@ -1,5 +1,5 @@
 -- One event of a run on a kernel, between what is printed and what is still to come.
-use Rattle.std.proofs.Common.{◌≡◌, refl, ℕ, ◌+◌, ◌<◌, ◌≤◌, List, [], ◌∷◌, ◌++◌, Option, Some, None, subst, sym, arith, ap, ◌∙◌, append_assoc, map, get_or, drop, length, add-one}
+use Rattle.std.proofs.Common.{◌≡◌, refl, ℕ, ◌+◌, ◌<◌, ◌≤◌, List, ◌∷◌, ◌++◌, Option, Some, None, subst, sym, arith, ap, ◌∙◌, append_assoc, map, get_or, drop, length, add-one}
 use Rattle.std.proofs.Math.Seq.{drop-cons}
 use Rattle.fmp_base.specs.declared.events.Effect.TheVariants.{Done, Nothing}
 use Rattle.fmp_base.specs.declared.events.Event.{Event}

@@ -1,5 +1,5 @@
 -- The text of a body that puts numbers and its code are tied, both ways.
-use Rattle.std.proofs.Common.{◌≡◌, refl, ℕ, zero, suc, ◌+◌, ◌*◌, ◌≤◌, ℤ, pos, List, [], ◌∷◌, ◌++◌, Option, Some, None, length, slice_get, arith, ap, sym, ◌∙◌, subst}
+use Rattle.std.proofs.Common.{◌≡◌, refl, ℕ, zero, suc, ◌+◌, ◌*◌, ◌≤◌, ℤ, List, [], ◌∷◌, Option, Some, None, length, slice_get, arith, ap, sym, ◌∙◌, subst}
 use Rattle.std.proofs.lemmas.Nat.{mul-le}
 use Rattle.fmp_base.specs.declared.bodies.Stretch.{Stretch}
 use Rattle.fmp_base.specs.declared.bodies.Stretch.TheVariants as ends

@@ -1,5 +1,5 @@
 -- The code of a body that puts numbers.
-use Rattle.std.specs.Prelude.{ℕ, zero, suc, ℤ, List, [], ◌∷◌, None}
+use Rattle.std.specs.Prelude.{ℕ, ℤ, List, [], ◌∷◌, None}
 use Rattle.fmp_base.specs.declared.calls.Service.TheVariants.{Put}
 use Rattle.fmp_code.specs.declared.instructions.Instruction.{Instruction}
 use Rattle.fmp_code.specs.declared.instructions.Instruction.TheVariants.{Push, Call, End}

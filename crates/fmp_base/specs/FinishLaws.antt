@@ -3,13 +3,12 @@ use Rattle.std.specs.Prelude.{ℕ, zero, suc, ◌+◌, ◌*◌, ◌≤◌, ◌�
 use Rattle.std.proofs.Common.{subst, sym, ap, ◌∙◌}
 use Rattle.fmp_base.specs.declared.events.Event.{Event}
 use Rattle.fmp_base.specs.declared.events.Line.{Line}
-use Rattle.fmp_base.specs.Meanings.{Meaning, HandlerContext, Contexts, World, task_body}
+use Rattle.fmp_base.specs.Meanings.{Meaning, HandlerContext, World, task_body}
 use Rattle.fmp_base.specs.Runs.{Trace, after_first, run, run_on, done_events, done_on, completed_by, completed_on, complete_run}
-use Rattle.fmp_base.specs.Setups.{setup}
 use Rattle.fmp_base.specs.Steps.{Done, step}
 use Rattle.fmp_base.specs.Systems.{SystemTables}
-use Rattle.fmp_base.specs.Ties.{OptionTied, AllTied, KeepsTie, HandlerTied, ContextsTied, WorldTied, DoneTied, TraceAgrees}
-use Rattle.fmp_base.specs.TieLaws.{step-tied, setup-tied, complete_run-tied, complete_run-done_events}
+use Rattle.fmp_base.specs.Ties.{OptionTied, AllTied, KeepsTie, HandlerTied, WorldTied, DoneTied, TraceAgrees}
+use Rattle.fmp_base.specs.TieLaws.{step-tied, complete_run-tied}
 use Rattle.fmp_base.specs.Finishes.{ended_in, Finishes, over, did, did_nothing, IsComplete, IsFinished}
 
 -- a tie seen from the other side

@@ -1,7 +1,7 @@
 -- The laws of ties: from one stretch to whole runs. No case for any service call is needed, since no call looks
 -- into a context.
-use Rattle.std.specs.Prelude.{ℕ, zero, suc, ◌+◌, ℤ, ◌≡◌, refl, List, [], ◌∷◌, ◌++◌, Option, Some, None, Bool, true, false, slice_get, slice_set, replicate, length}
-use Rattle.std.proofs.Common.{subst, sym, ap, ◌∙◌}
+use Rattle.std.specs.Prelude.{ℕ, zero, suc, ◌+◌, ◌≡◌, refl, List, [], ◌∷◌, ◌++◌, Option, Some, None, Bool, true, false, slice_set, replicate, length}
+use Rattle.std.proofs.Common.{subst, ap, ◌∙◌}
 use Rattle.fmp_base.specs.declared.bodies.Fault.{Fault}
 use Rattle.fmp_base.specs.declared.bodies.Stretch.{Stretch}
 use Rattle.fmp_base.specs.declared.bodies.Stretch.TheVariants as ends
@@ -18,15 +18,14 @@ use Rattle.fmp_base.specs.declared.states.Caller.TheVariants as caller
 use Rattle.fmp_base.specs.declared.states.Handler.{Handler}
 use Rattle.fmp_base.specs.declared.systems.InterruptConfig.{InterruptConfig}
 use Rattle.fmp_base.specs.Calls.{called}
-use Rattle.fmp_base.specs.Meanings.{Meaning, HandlerContext, Contexts, World, task_body, handler_body, handler_exinf, context_at, context_in, body_in, context_of, caller_body, with_handler_context, context_for, with_context, told, delivered_to, called_back, task_begun, handler_begun, contexts_after, contexts_after_all}
-use Rattle.fmp_base.specs.Outcomes.{Outcome}
-use Rattle.fmp_base.specs.Runs.{Trace, after_first, run, run_on, done_events, done_on, completed_by, completed_on, complete_run}
+use Rattle.fmp_base.specs.Meanings.{Meaning, HandlerContext, Contexts, World, task_body, handler_body, handler_exinf, context_at, context_in, body_in, context_of, caller_body, context_for, with_context, told, delivered_to, called_back, task_begun, handler_begun, contexts_after, contexts_after_all}
+use Rattle.fmp_base.specs.Runs.{Trace, run, run_on, done_events, done_on, completed_by, completed_on, complete_run}
 use Rattle.fmp_base.specs.Settles.{settled}
 use Rattle.fmp_base.specs.Setups.{setup, no_contexts, all_activated, created_state}
 use Rattle.fmp_base.specs.States.{KernelState, Progress, unchanged, processor_at, places_from}
-use Rattle.fmp_base.specs.Steps.{Done, concluded, finished, actor_of, actor_ended, answered, call_made, stretched, run_in, run_by, interrupted, interrupted_by, step}
+use Rattle.fmp_base.specs.Steps.{Done, finished, actor_of, actor_ended, answered, stretched, run_in, run_by, interrupted, interrupted_by, step}
 use Rattle.fmp_base.specs.Systems.{SystemTables, task_config, interrupt_config}
-use Rattle.fmp_base.specs.Ticks.{ticked, is_pending, with_interrupt_pending}
+use Rattle.fmp_base.specs.Ticks.{ticked, with_interrupt_pending}
 use Rattle.fmp_base.specs.Ties.{OptionTied, AllTied, StretchTied, KeepsTie, HandlerTied, ContextsTied, WorldTied, DoneTied, TraceAgrees}
 
 pub AllTied-slice_set : {C D : Type 0} (R : ℕ → C → D → Type 0) (cs : List (Option C)) (ds : List (Option D)) (i : ℕ) (c : Option C) (d : Option D)

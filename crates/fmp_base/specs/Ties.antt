@@ -1,32 +1,13 @@
 -- Two meanings of bodies whose contexts are tied give the same lines along every list of events that the first
 -- finishes.
-use Rattle.std.specs.Prelude.{ℕ, zero, suc, ◌+◌, ℤ, ◌≡◌, refl, List, [], ◌∷◌, ◌++◌, Option, Some, None, slice_get, slice_set, replicate, length}
-use Rattle.std.proofs.Common.{subst, sym, ap, ◌∙◌}
-use Rattle.fmp_base.specs.declared.bodies.Fault.{Fault}
+use Rattle.std.specs.Prelude.{ℕ, zero, suc, ℤ, ◌≡◌, List, [], ◌∷◌, Option, Some, None}
 use Rattle.fmp_base.specs.declared.bodies.Stretch.{Stretch}
 use Rattle.fmp_base.specs.declared.bodies.Stretch.TheVariants as ends
-use Rattle.fmp_base.specs.declared.calls.Answer.{Answer}
-use Rattle.fmp_base.specs.declared.calls.Answer.TheVariants.{Replies, Waits, Ends, Spins}
-use Rattle.fmp_base.specs.declared.calls.Call.{Call}
 use Rattle.fmp_base.specs.declared.calls.Reply.{Reply}
-use Rattle.fmp_base.specs.declared.events.Event.{Event}
-use Rattle.fmp_base.specs.declared.events.Event.TheVariants.{Run, Tick, Int}
-use Rattle.fmp_base.specs.declared.events.Line.{Line}
-use Rattle.fmp_base.specs.declared.events.Line.TheVariants as line
-use Rattle.fmp_base.specs.declared.states.Caller.{Caller}
-use Rattle.fmp_base.specs.declared.states.Caller.TheVariants as caller
-use Rattle.fmp_base.specs.declared.states.Handler.{Handler}
-use Rattle.fmp_base.specs.declared.systems.InterruptConfig.{InterruptConfig}
-use Rattle.fmp_base.specs.Calls.{called}
-use Rattle.fmp_base.specs.Meanings.{Meaning, HandlerContext, Contexts, World, task_body, handler_body, handler_exinf, context_at, context_in, body_in, context_of, caller_body, with_handler_context, context_for, with_context, told, delivered_to, called_back, task_begun, handler_begun, contexts_after, contexts_after_all}
-use Rattle.fmp_base.specs.Outcomes.{Outcome}
-use Rattle.fmp_base.specs.Runs.{Trace, after_first, run, run_on, done_events, done_on, completed_by, completed_on, complete_run}
-use Rattle.fmp_base.specs.Settles.{settled}
-use Rattle.fmp_base.specs.Setups.{setup, no_contexts, all_activated, created_state}
-use Rattle.fmp_base.specs.States.{KernelState, Progress, unchanged, processor_at, places_from}
-use Rattle.fmp_base.specs.Steps.{Done, concluded, finished, actor_of, actor_ended, answered, call_made, stretched, run_in, run_by, interrupted, interrupted_by, step}
-use Rattle.fmp_base.specs.Systems.{SystemTables, task_config, interrupt_config}
-use Rattle.fmp_base.specs.Ticks.{ticked, is_pending, with_interrupt_pending}
+use Rattle.fmp_base.specs.Meanings.{Meaning, HandlerContext, Contexts, World, task_body}
+use Rattle.fmp_base.specs.Runs.{Trace}
+use Rattle.fmp_base.specs.Steps.{Done}
+use Rattle.fmp_base.specs.Systems.{SystemTables}
 
 -- both have no context, or tied ones
 abbrev pub OptionTied : {C D : Type 0} → (C → D → Type 0) → Option C → Option D → Type 0

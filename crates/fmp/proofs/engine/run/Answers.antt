@@ -1,5 +1,3 @@
-use Rattle.std.proofs.Common.{◌≡◌, ◌≤◌, ap, sym, ◌∙◌, ℕ, List, length, rules}
-use Rattle.fmp_base.specs.declared.events.Event.{Event}
 use Rattle.fmp.proofs.PrintLemmas.{prints}
 use Rattle.fmp.proofs.StepLemmas.{few_events}
 use Rattle.fmp.proofs.engine.run.Goals as goal

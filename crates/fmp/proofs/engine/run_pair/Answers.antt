@@ -1,5 +1,4 @@
 use Rattle.std.proofs.Common.{◌≡◌, ◌∙◌, ap, sym, subst, length, arith, List, ℤ, [], ◌∷◌}
-use Rattle.fmp_base.specs.declared.systems.TaskConfig.{TaskConfig}
 use Rattle.fmp_base.specs.Systems.{SystemTables, tables_of}
 use Rattle.fmp_code.specs.Instructions.{BodyTables, code_tables}
 use Rattle.fmp_code.specs.Machine.{code_meaning}
