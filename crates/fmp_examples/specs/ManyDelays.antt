@@ -10,7 +10,7 @@ use Rattle.fmp_base.specs.Systems.{SystemTables}
 use Rattle.fmp_tasklang.specs.Trees.{BodyTree}
 use Rattle.fmp_examples.specs.Builders.{created_task, system, whole, call, task, usual_bound, lines_of, printed_from}
 
--- the task T1, T2 and so on, by its number
+-- the task of a number: its name is T and the number
 abbrev pub task_numbered : ℕ → TaskConfig
 task_numbered k = created_task true (name_from (codes "T" ++ decimal k)) 0 1
 
