@@ -1,3 +1,4 @@
+pub mod Arguments
 pub mod Calls
 pub mod Changes
 pub mod Codes

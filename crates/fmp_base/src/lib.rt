@@ -1,7 +1,8 @@
-//! The words of the kernel: codes, service calls, events, lines of the trace, the tables of a system and
+//! The words of the kernel: codes, service calls and their arguments, events, lines of the trace, the tables of a system and
 //! the records of its state. The definitions of what they mean stand in `specs/`.
 #![tactic(auto)]
 
+pub mod arguments;
 pub mod bodies;
 pub mod calls;
 pub mod codes;

@@ -1,8 +1,10 @@
 pub mod Answered
 pub mod Existence
+pub mod Heads
 pub mod Lines
 pub mod Lists
 pub mod Names
+pub mod Repetitions
 pub mod Sequences
 pub mod Turns
 pub mod Unique

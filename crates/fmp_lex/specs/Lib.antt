@@ -1,4 +1,5 @@
 pub mod Cutting
+pub mod Faults
 pub mod Laws
 pub mod Reading
 pub mod Scanning

@@ -1,6 +1,6 @@
 -- What it is to read a list of tokens by a grammar: readings from one place up to another, what a reader
 -- answers, when that is right, and the first fault of a list.
-use Rattle.std.specs.Prelude.{◌≡◌, ℕ, ◌+◌, ◌<◌, ◌≤◌, List, ◌++◌, length, map, slice_get, take, Option, Some, option_and_then, Result, Ok, Err}
+use Rattle.std.specs.Prelude.{◌≡◌, ℕ, ◌+◌, ◌<◌, ◌≤◌, List, [], ◌∷◌, ◌++◌, length, map, slice_get, take, Option, Some, option_and_then, Result, Ok, Err}
 use Rattle.fmp_lex.specs.declared.token.Token.{Token}
 use Rattle.fmp_lex.specs.declared.token.TokenKind.{TokenKind}
 use Rattle.fmp_lex.specs.declared.reading.GrammarFault.{GrammarFault}
@@ -27,6 +27,11 @@ At X i ts limit a j = X ts limit i a j
 -- one thing, and then another
 abbrev pub Seq : {A B : Type 0} → Rel A → Rel B → Rel (A × B)
 Seq X Y ts limit i p j = (k : ℕ) × X ts limit i p.0 k × Y ts limit k p.1 j
+
+-- {x}: any number of them, one after another
+abbrev pub Star : {A : Type 0} → Rel A → Rel (List A)
+Star X ts limit i [] j = j ≡ i
+Star X ts limit i (a ∷ more) j = (k : ℕ) × X ts limit i a k × Star X ts limit k more j
 
 -- the token stands at i, and j is the next place
 abbrev pub IsToken : List TokenKind → TokenKind → ℕ → ℕ → Type 0

@@ -2,14 +2,16 @@
 //! stands in `specs/`.
 #![tactic(auto)]
 
-pub mod cutting;
+mod cutting;
+pub mod fault;
 pub mod laws;
 pub mod reading;
-pub mod scanning;
+mod scanning;
 pub mod token;
 pub mod words;
 
 pub use cutting::tokens;
+pub use fault::{BuildFault, FaultKind, TextFile, fault_at};
 pub use reading::{GrammarFault, ReadError};
 pub use token::{LexFault, Symbol, TextFault, Token, TokenKind, TokenList};
 pub use words::{Api, Constant, Keyword};

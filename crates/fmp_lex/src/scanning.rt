@@ -15,7 +15,7 @@ pub enum Class {
 }
 
 /// Whether a byte is of a class.
-pub fn is_in(class: Class, b: u8) -> bool
+pub(crate) fn is_in(class: Class, b: u8) -> bool
     ensures { result ≡ in_class class b }
 {
     match class {
@@ -27,7 +27,7 @@ pub fn is_in(class: Class, b: u8) -> bool
 }
 
 /// Where the longest run of a class from a place on ends.
-pub fn run_end(text: &[u8], class: Class, from: usize) -> usize
+pub(crate) fn run_end(text: &[u8], class: Class, from: usize) -> usize
     requires { from ≤ length text.now }
     ensures { IsRun (in_class class) text.now from result }
 {
@@ -40,7 +40,7 @@ pub fn run_end(text: &[u8], class: Class, from: usize) -> usize
 }
 
 /// The first `*/` from a place on.
-pub fn find_close(text: &[u8], from: usize) -> Option<usize>
+pub(crate) fn find_close(text: &[u8], from: usize) -> Option<usize>
     ensures { MatchOption result (NeverCloses text.now from) (λ j. IsFirstClose text.now from j) }
 {
     if text.is_empty() {
@@ -70,7 +70,7 @@ fn digit(b: u8) -> u64
 }
 
 /// The value of digits, or any number above the greatest one where theirs is.
-pub fn value_of(digits: &[u8], base: u64) -> u64
+pub(crate) fn value_of(digits: &[u8], base: u64) -> u64
     requires base { (base ≡ 10) ⊎ (base ≡ 16) }
     requires ascii { EachIndex digits.now (λ k. slice_index digits.now k < 128) }
     ensures { Saturated result (value_from base 0 digits.now) }
@@ -85,7 +85,7 @@ pub fn value_of(digits: &[u8], base: u64) -> u64
 }
 
 /// The number of line feeds.
-pub fn line_feeds(text: &[u8]) -> u32
+pub(crate) fn line_feeds(text: &[u8]) -> u32
     requires { length text.now ≤ 1048576 }
     ensures count { result ≡ count_by (λ b. b == 10) text.now }
     ensures few { result ≤ length text.now }

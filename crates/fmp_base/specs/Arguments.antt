@@ -1,0 +1,10 @@
+-- The range of a time limit.
+use Rattle.std.specs.Prelude.{◌≤◌, ◌^◌}
+use Rattle.fmp_base.specs.declared.states.TimeLimit.{TimeLimit}
+use Rattle.fmp_base.specs.declared.states.TimeLimit.TheVariants.{Forever, Poll, Ticks}
+
+-- so many ticks are 2^30 at most
+abbrev pub IsInRange : TimeLimit → Type 0
+IsInRange Forever = Unit {0}
+IsInRange Poll = Unit {0}
+IsInRange (Ticks n) = n ≤ 2 ^ 30
