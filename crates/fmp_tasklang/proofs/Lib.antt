@@ -1,3 +1,13 @@
+pub mod Arguments
+pub mod BodyPaths
+pub mod Families
+pub mod Layers
+pub mod Links
+pub mod Operands
+pub mod SimpleStatements
+pub mod Single
+pub mod StatementFrames
+pub mod StatementPaths
 pub mod Turns
 pub mod Views
 pub mod Weights

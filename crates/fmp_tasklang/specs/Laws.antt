@@ -1,16 +1,19 @@
--- Laws of views and of stretches.
-use Rattle.std.specs.Prelude.{◌≡◌, ℕ, zero, suc, ◌≤◌, ℤ, List, false}
+-- Laws of views, of the grammar and of stretches.
+use Rattle.std.specs.Prelude.{◌≡◌, ℕ, zero, suc, ◌≤◌, ℤ, List, map, false}
 use Rattle.std.specs.Box.{box_value}
 use Rattle.std.specs.declared.alloc.Global.{Global}
 use Rattle.std.specs.declared.vec.Vec.{Vec}
 use Rattle.std.specs.Global.{Box}
 use Rattle.fmp_base.specs.declared.bodies.Stretch.TheVariants as ends
 use Rattle.fmp_base.specs.declared.operators.UnaryOperator.{UnaryOperator}
-use Rattle.fmp_base.specs.declared.operators.BinaryOperator.{BinaryOperator}
-use Rattle.fmp_tasklang.specs.declared.trees.Expression.{Expression, Unary, Binary, Both, Either}
+use Rattle.fmp_lex.specs.declared.token.TokenKind.{TokenKind}
+use Rattle.fmp_lex.specs.Reading.{IsWhole}
+use Rattle.fmp_tasklang.specs.declared.trees.Expression.{Expression, Unary, Chain}
+use Rattle.fmp_tasklang.specs.declared.trees.Link.{Link}
 use Rattle.fmp_tasklang.specs.declared.trees.Statement.{Statement, If, IfElse, While}
-use Rattle.fmp_tasklang.specs.Trees.{unary, binary, both, either, if_then, if_else, while}
-use Rattle.fmp_tasklang.specs.Views.{expression_view, statement_view, block_view}
+use Rattle.fmp_tasklang.specs.Trees.{unary, if_then, if_else, while, BodyTree}
+use Rattle.fmp_tasklang.specs.Grammar.{Bodies}
+use Rattle.fmp_tasklang.specs.Views.{chain_tree, expression_view, link_view, statement_view, block_view}
 use Rattle.fmp_tasklang.specs.Scopes.{Scope}
 use Rattle.fmp_tasklang.specs.Contexts.{Item, TextContext}
 use Rattle.fmp_base.specs.Stretches.{is_over}
@@ -21,15 +24,10 @@ pub record ViewsOfParts : Type 0 where
   pub unary_operator :
       (op : UnaryOperator) (e : Box Expression) →
       expression_view (Unary op e) ≡ unary op (expression_view (box_value e))
-  pub binary_operator :
-      (op : BinaryOperator) (a b : Box Expression) →
-      expression_view (Binary op a b) ≡ binary op (expression_view (box_value a)) (expression_view (box_value b))
-  pub both_operands :
-      (a b : Box Expression) →
-      expression_view (Both a b) ≡ both (expression_view (box_value a)) (expression_view (box_value b))
-  pub either_operand :
-      (a b : Box Expression) →
-      expression_view (Either a b) ≡ either (expression_view (box_value a)) (expression_view (box_value b))
+  pub chain :
+      (first : Box Expression) (links : Vec Link Global) →
+      expression_view (Chain first links) ≡ chain_tree (expression_view (box_value first)) (map link_view links.items)
+  pub link : (l : Link) → link_view l ≡ record { operator = l.operator; operand = expression_view l.operand }
   pub if_statement :
       (e : Expression) (s : Vec Statement Global) →
       statement_view (If e s) ≡ if_then (expression_view e) (block_view s.items)
@@ -58,3 +56,8 @@ abbrev pub FollowsEachItem : Type 0
 FollowsEachItem =
     (scope : Scope) (t : ℕ) (locals : List ℤ) (todo : List Item) →
     turns scope t locals todo ≡ follow (after_turn scope t) (turns scope t) (after_item scope locals todo)
+
+-- a list of tokens spells at most one program
+abbrev pub SpellsOneProgram : Type 0
+SpellsOneProgram =
+    (line : ℕ → ℕ) (ts : List TokenKind) (a b : List BodyTree) → IsWhole (Bodies line) ts a → IsWhole (Bodies line) ts b → b ≡ a

@@ -1,7 +1,13 @@
+pub mod Blocks
+pub mod Calls
 pub mod Contexts
 pub mod Examples
+pub mod Expressions
+pub mod Grammar
 pub mod Laws
+pub mod Reading
 pub mod Scopes
+pub mod Statements
 pub mod Stretches
 pub mod Texts
 pub mod Trees

@@ -1,7 +1,10 @@
 -- The syntax trees without memory that the trees of the program stand for.
 use Rattle.std.specs.Prelude.{List, [], ◌∷◌, map}
-use Rattle.fmp_tasklang.specs.declared.trees.Expression.{Expression}
-use Rattle.fmp_tasklang.specs.declared.trees.Expression.TheVariants.{Number, Name, Unary', Binary', Both', Either'}
+use Rattle.fmp_tasklang.specs.declared.trees.Operator.{Operator}
+use Rattle.fmp_tasklang.specs.declared.trees.Operator.TheVariants as operator
+use Rattle.fmp_tasklang.specs.declared.trees.Expression.{Expression, fold-Expression}
+use Rattle.fmp_tasklang.specs.declared.trees.Expression.TheOpen.{Expression-F, Link-F}
+use Rattle.fmp_tasklang.specs.declared.trees.Link.{Link, fold-Link}
 use Rattle.fmp_tasklang.specs.declared.trees.ServiceCall.{ServiceCall}
 use Rattle.fmp_tasklang.specs.declared.trees.Statement.{Statement, Row_of-Statement, end_of-Statement, more_of-Statement}
 use Rattle.fmp_tasklang.specs.declared.trees.Statement.TheVariants.{Assign, Call, If', IfElse', While', Break, Continue, Return}
@@ -9,14 +12,39 @@ use Rattle.fmp_tasklang.specs.declared.trees.Body.{Body}
 use Rattle.fmp_tasklang.specs.declared.trees.Program.{Program}
 use Rattle.fmp_tasklang.specs.Trees.{ExpressionTree, number, named, unary, binary, both, either, CallTree, StatementTree, assign, service_call, if_then, if_else, while, break, continue, return, Block, empty, next, BodyTree}
 
+-- an operator between two trees
+abbrev pub join : Operator → ExpressionTree → ExpressionTree → ExpressionTree
+join (operator.Binary op) a b = binary op a b
+join operator.Both a b = both a b
+join operator.Either a b = either a b
+
+-- a further operand of a chain, with the operator before it
+pub record LinkTree : Type 0 where
+  pub operator : Operator
+  pub operand : ExpressionTree
+
+-- the tree of a chain whose first operand is this, grouped to the left
+abbrev pub chain_tree : ExpressionTree → List LinkTree → ExpressionTree
+chain_tree a [] = a
+chain_tree a (l ∷ more) = chain_tree (join l.operator a l.operand) more
+
+-- one level of an expression, with what it holds already seen as trees; likewise of a link
+abbrev pub expression_step : Expression-F ExpressionTree LinkTree → ExpressionTree
+expression_step (Expression-F.Number k) = number k
+expression_step (Expression-F.Name w) = named w
+expression_step (Expression-F.Unary op e) = unary op e.value
+expression_step (Expression-F.Chain a links) = chain_tree a.value links.items
+
+abbrev pub link_step : Link-F ExpressionTree LinkTree → LinkTree
+link_step l = record { operator = l.operator; operand = l.operand }
+
 -- the tree of an expression
 abbrev pub expression_view : Expression → ExpressionTree
-expression_view (Number k) = number k
-expression_view (Name w) = named w
-expression_view (Unary' op p e) = unary op (expression_view e)
-expression_view (Binary' op p a q b) = binary op (expression_view a) (expression_view b)
-expression_view (Both' p a q b) = both (expression_view a) (expression_view b)
-expression_view (Either' p a q b) = either (expression_view a) (expression_view b)
+expression_view = fold-Expression ExpressionTree LinkTree expression_step link_step
+
+-- the tree of a link
+abbrev pub link_view : Link → LinkTree
+link_view = fold-Link ExpressionTree LinkTree expression_step link_step
 
 -- the tree of a service call
 abbrev pub call_view : ServiceCall → CallTree

@@ -1,11 +1,16 @@
 //! Laws of the definitions in `specs/`, each the contract of a function that does nothing.
 
 ghost use Rattle.fmp_tasklang.specs.Examples.{Examples};
-ghost use Rattle.fmp_tasklang.specs.Laws.{ViewsOfParts, MoreTurnsChangeNothing, FollowsEachItem};
+ghost use Rattle.fmp_tasklang.specs.Laws.{ViewsOfParts, SpellsOneProgram, MoreTurnsChangeNothing, FollowsEachItem};
 
 /// The view of a tree is made of the views of what its boxes and vectors hold.
 pub fn views_are_made_of_parts()
     ensures { ViewsOfParts }
+{}
+
+/// A list of tokens spells at most one program.
+pub fn tokens_spell_one_program()
+    ensures { SpellsOneProgram }
 {}
 
 /// More turns change no stretch that is within its bound.

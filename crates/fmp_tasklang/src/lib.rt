@@ -1,8 +1,21 @@
-//! The task language: the syntax trees of the bodies of tasks and handlers. What a body means (names,
-//! values, contexts, stretches) is defined in `specs/`.
+//! The task language: the syntax trees of the bodies of tasks and handlers, and the reader of a text. The grammar and
+//! what a body means (names, values, contexts, stretches) are defined in `specs/`.
 #![tactic(auto)]
 
+mod bodies;
+mod calls;
+mod expressions;
+mod forms;
 pub mod laws;
+mod reading;
+mod statements;
 pub mod trees;
+mod words;
 
-pub use trees::{Body, BodyKind, Expression, Program, ServiceCall, Statement, Word};
+pub use reading::read_tasks;
+pub use trees::{
+    Body, BodyKind, Expression, Link, Operator, Program, ServiceCall, Statement, Word,
+};
+
+#[cfg(test)]
+mod tests;

@@ -8,8 +8,20 @@ pub struct Word {
     pub line: u32,
 }
 
-/// An expression.
+/// An operator between two operands.
+#[derive(Clone, Copy, Debug, PartialEq, Eq)]
+pub enum Operator {
+    Binary(BinaryOperator),
+    /// `&&`
+    Both,
+    /// `||`
+    Either,
+}
+
+/// An expression. However many operators it has, the tree is no deeper than its parentheses and unary operators
+/// nest, so no recursion over it is deep.
 #[derive(Debug, Drop)]
+#[cycle(expression)]
 pub enum Expression {
     /// A number, or the value of a constant.
     Number(i32),
@@ -20,22 +32,19 @@ pub enum Expression {
         operator: UnaryOperator,
         operand: Box<Expression>,
     },
-    /// An operator between its operands.
-    Binary {
-        operator: BinaryOperator,
-        left: Box<Expression>,
-        right: Box<Expression>,
+    /// Operands with operators between them, grouped to the left.
+    Chain {
+        first: Box<Expression>,
+        rest: Vec<Link>,
     },
-    /// `&&`
-    Both {
-        left: Box<Expression>,
-        right: Box<Expression>,
-    },
-    /// `||`
-    Either {
-        left: Box<Expression>,
-        right: Box<Expression>,
-    },
+}
+
+/// A further operand of a chain, with the operator before it.
+#[derive(Debug, Drop)]
+#[cycle(expression)]
+pub struct Link {
+    pub operator: Operator,
+    pub operand: Expression,
 }
 
 /// A service call.

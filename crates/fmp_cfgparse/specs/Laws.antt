@@ -1,0 +1,19 @@
+-- What holds of the configuration: a list of tokens spells at most one tree, and a text has at most one answer.
+use Rattle.std.specs.Prelude.{◌≡◌, ℕ, List}
+use Rattle.fmp_base.specs.declared.systems.System.{System}
+use Rattle.fmp_base.specs.Systems.{tables_of}
+use Rattle.fmp_lex.specs.declared.fault.BuildFault.{BuildFault}
+use Rattle.fmp_lex.specs.declared.token.TokenKind.{TokenKind}
+use Rattle.fmp_lex.specs.Reading.{IsWhole}
+use Rattle.fmp_cfgparse.specs.Configurations.{Describes, IsFault}
+use Rattle.fmp_cfgparse.specs.Grammar.{Config}
+use Rattle.fmp_cfgparse.specs.Trees.{ConfigurationTree}
+
+abbrev pub SpellsOneTree : Type 0
+SpellsOneTree = (ts : List TokenKind) (a b : ConfigurationTree) → IsWhole Config ts a → IsWhole Config ts b → b ≡ a
+
+-- a text describes one system at most, or has one first fault at most, and never both
+pub record HasOneAnswer (text : List ℕ) : Type 0 where
+  pub one_system : (a b : System) → Describes text a → Describes text b → tables_of a ≡ tables_of b
+  pub one_fault : (f g : BuildFault) → IsFault text f → IsFault text g → f ≡ g
+  pub not_both : (s : System) (f : BuildFault) → Describes text s → IsFault text f → ⊥

@@ -1,0 +1,11 @@
+pub mod Apis
+pub mod Configurations
+pub mod Configuring
+pub mod Grammar
+pub mod Laws
+pub mod Making
+pub mod Parsing
+pub mod Reading
+pub mod Trees
+pub mod UsedNames
+pub mod Values

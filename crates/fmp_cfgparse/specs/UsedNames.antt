@@ -1,0 +1,11 @@
+-- The names of all objects as the code keeps them: a set in order of text, in which a name is found by its bytes.
+use Rattle.std.specs.Prelude.{List, map}
+use Rattle.std.specs.HashSet.{HashSet}
+use Rattle.fmp_base.specs.declared.names.Name.{Name}
+use Rattle.fmp_cfgparse.specs.declared.used_names.ObjectName.{ObjectName}
+
+abbrev pub name_of : ObjectName → Name
+name_of key = key.name
+
+abbrev pub names_of : {S : Type 0} → HashSet ObjectName S → List Name
+names_of set = map name_of set.keys

@@ -1,0 +1,92 @@
+ghost use Rattle.std.specs.Prelude.{◌≡◌, ◌≤◌, map, None, IfOk, IfErr};
+ghost use Rattle.fmp_cfgparse.specs.Apis.{made, api_fault};
+ghost use Rattle.fmp_cfgparse.specs.Making.{making_of};
+ghost use Rattle.fmp_cfgparse.specs.Configuring.{IsWalk, IsConfigured, walk_apis, walk_classes, nothing_made, configured};
+ghost use Rattle.fmp_cfgparse.specs.Trees.{api_view, class_view, configuration_view};
+ghost use Rattle.fmp_cfgparse.specs.declared.objects.Stop.TheVariants.{Memory};
+
+use crate::making::{Making, find_fault, gives_name};
+use crate::objects::{Stop, create};
+use crate::places::{ClassPlace, find_class};
+use crate::tree::{Class, Configuration, StaticApi};
+use crate::used_names::add_name;
+use crate::values::{between, byte_of, name_at};
+use fmp_base::System;
+use fmp_lex::FaultKind;
+use indexmap::IndexSet;
+use std::alloc::Global;
+
+/// Makes the object of a static API that has no fault.
+fn make(making: &mut Making, class: ClassPlace, api: &StaticApi) -> Result<(), Stop>
+    requires { api_fault (api_view api.now) (making_of making.old) ≡ None }
+    ensures made { IfOk result (λ _. making_of making.new ≡ made class (api_view api.now) (making_of making.old)) }
+    ensures memory { IfErr result (λ e. e ≡ Memory) }
+{
+    if gives_name(api.kind) {
+        add_name(&mut making.names, name_at(&api.fields, 0))?;
+    }
+    create(&mut making.system, class, api.kind, &api.fields)
+}
+
+fn add_apis(making: &mut Making, class: ClassPlace, apis: &[StaticApi]) -> Result<(), Stop>
+    ensures { IsWalk (walk_apis class (map api_view apis.now) (making_of making.old)) result (making_of making.new) }
+{
+    for api in apis {
+        if let Some(why) = find_fault(api, making) {
+            return Err(Stop::Fault(api.at, why));
+        }
+        make(making, class, api)?;
+    }
+    Ok(())
+}
+
+fn add_classes(making: &mut Making, processors: u8, classes: &[Class]) -> Result<(), Stop>
+    requires { processors ≤ 8 }
+    ensures { IsWalk (walk_classes processors (map class_view classes.now) (making_of making.old)) result (making_of making.new) }
+{
+    for class in classes {
+        let Some(place) = find_class(processors, class.name.as_bytes()) else {
+            return Err(Stop::Fault(class.at, FaultKind::UnknownName));
+        };
+        add_apis(making, place, &class.apis)?;
+    }
+    Ok(())
+}
+
+fn start(alloc: Global, processors: u8) -> Making
+    ensures { making_of result ≡ nothing_made processors }
+{
+    Making {
+        system: System {
+            processors,
+            queue_limit: 1,
+            tasks: Vec::new(alloc),
+            semaphores: Vec::new(alloc),
+            flags: Vec::new(alloc),
+            data_queues: Vec::new(alloc),
+            mailboxes: Vec::new(alloc),
+            messages: Vec::new(alloc),
+            shared_words: Vec::new(alloc),
+            spin_locks: Vec::new(alloc),
+            cyclics: Vec::new(alloc),
+            interrupts: Vec::new(alloc),
+        },
+        names: IndexSet::new(alloc),
+    }
+}
+
+/// What the static APIs of a configuration make, carried out in order of text, or the first fault with the place of its
+/// token. `Memory` where an allocation is refused.
+pub fn configure(alloc: Global, tree: &Configuration) -> Result<Making, Stop>
+    ensures { IsConfigured (configured (configuration_view tree.now)) result }
+{
+    if !between(1, 8, tree.processors) {
+        return Err(Stop::Fault(tree.at, FaultKind::Limit));
+    }
+    let processors = byte_of(tree.processors);
+    let mut making = start(alloc, processors);
+    match add_classes(&mut making, processors, &tree.classes) {
+        Ok(()) => Ok(making),
+        Err(stop) => Err(stop),
+    }
+}

@@ -1,0 +1,13 @@
+ghost use Rattle.std.specs.Prelude.{List, ℕ};
+ghost use Rattle.fmp_cfgparse.specs.Laws.{SpellsOneTree, HasOneAnswer};
+
+/// A list of tokens spells at most one configuration.
+pub fn tokens_spell_one_tree()
+    ensures { SpellsOneTree }
+{}
+
+/// A text describes at most one system or has at most one first fault, and never both: so what is read of it
+/// is read exactly where it is so.
+pub fn a_text_has_one_answer()
+    ensures { (text : List ℕ) → HasOneAnswer text }
+{}

@@ -1,0 +1,27 @@
+//! Reads a configuration: its syntax tree, and the tables of the system that it describes. The grammar and
+//! the meaning of the static APIs stand in `specs/`.
+#![tactic(auto)]
+
+mod configuring;
+mod forms;
+pub mod laws;
+mod making;
+mod objects;
+mod parsing;
+mod places;
+mod reading;
+mod syntax;
+mod tree;
+mod used_names;
+mod values;
+
+pub use configuring::configure;
+pub use making::Making;
+pub use objects::Stop;
+pub use parsing::{Parsed, parse};
+pub use reading::read_cfg;
+pub use tree::{Class, Configuration, Field, Item, StaticApi};
+pub use used_names::ObjectName;
+
+#[cfg(test)]
+mod tests;

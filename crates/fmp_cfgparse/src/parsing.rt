@@ -1,0 +1,35 @@
+ghost use Rattle.fmp_cfgparse.specs.Parsing.{IsParse};
+
+use crate::syntax::read_tree;
+use crate::tree::Configuration;
+use fmp_lex::{BuildFault, FaultKind, ReadError, TextFault, TextFile, TokenList, fault_at, tokens};
+use std::alloc::Global;
+
+/// The tokens of a text and the tree that they spell.
+#[derive(Debug, Drop)]
+pub struct Parsed {
+    pub list: TokenList,
+    pub tree: Configuration,
+}
+
+/// The syntax tree of a configuration with its tokens, or the first fault of its syntax: B5 for a text of more than 1,048,576
+/// bytes, a name of more than 31 bytes or a number above 2147483647, else B1. `Memory` where an allocation is refused.
+pub fn parse(alloc: Global, text: &[u8]) -> Result<Parsed, BuildFault>
+    ensures { IsParse text.now result }
+{
+    match tokens(alloc, text) {
+        Ok(list) => match read_tree(alloc, &list.tokens) {
+            Ok(tree) => Ok(Parsed { list, tree }),
+            Err(ReadError::Memory) => Err(BuildFault::Memory),
+            Err(ReadError::Fault(at, why)) => {
+                Err(fault_at(&list, TextFile::Configuration, at, why))
+            }
+        },
+        Err(TextFault::TooLong) => Err(BuildFault::At(
+            TextFile::Configuration,
+            1,
+            FaultKind::Limit,
+        )),
+        Err(TextFault::Memory) => Err(BuildFault::Memory),
+    }
+}

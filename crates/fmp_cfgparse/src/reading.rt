@@ -1,0 +1,43 @@
+ghost use Rattle.std.specs.Prelude.{◌≡◌, slice_get};
+ghost use Rattle.fmp_cfgparse.specs.Configurations.{IsRead, line_of, offence_fault};
+
+use crate::configuring::configure;
+use crate::objects::Stop;
+use crate::parsing::parse;
+use fmp_base::System;
+use fmp_lex::{BuildFault, FaultKind, TextFile, Token};
+use std::alloc::Global;
+
+fn line_at(tokens: &[Token], at: usize) -> u32
+    ensures { result ≡ line_of (slice_get tokens.now at) }
+{
+    match tokens.get(at) {
+        Some(token) => token.line,
+        None => 1,
+    }
+}
+
+fn fault_at(tokens: &[Token], at: usize, why: FaultKind) -> BuildFault
+    ensures { result ≡ offence_fault (slice_get tokens.now at) why }
+{
+    BuildFault::At(TextFile::Configuration, line_at(tokens, at), why)
+}
+
+/// The system that a configuration describes (uITRON 4.0, static APIs), or its first fault.
+///
+/// The text has at most 1,048,576 bytes. Faults of syntax come first: B1 or B5 at the first token that no configuration
+/// has in its place, or B1 at the end of the text. Then, in order of text, B5 for a number of processors other than 1 to 8,
+/// B3 for an unknown class, and at each static API, with the line of its word, B5 for the 256th of its kind, B2 for a name
+/// that is used, B3 for an unknown constant, and B4 with the code that it answers. `Memory` where an allocation is refused.
+pub fn read_cfg(alloc: Global, text: &[u8]) -> Result<System, BuildFault>
+    ensures { IsRead text.now result }
+{
+    match parse(alloc, text) {
+        Ok(parsed) => match configure(alloc, &parsed.tree) {
+            Ok(making) => Ok(making.system),
+            Err(Stop::Memory) => Err(BuildFault::Memory),
+            Err(Stop::Fault(at, why)) => Err(fault_at(&parsed.list.tokens, at, why)),
+        },
+        Err(fault) => Err(fault),
+    }
+}

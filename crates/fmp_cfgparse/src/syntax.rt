@@ -1,0 +1,291 @@
+ghost use Rattle.std.specs.Prelude.{◌≡◌, ◌≤◌, ◌<◌, ◌++◌, Some, length, slice_get, option_and_then, IfSome, IfOk, IfErr, []};
+ghost use Rattle.fmp_lex.specs.Reading.{kinds_of, Answers, Steps, RightToken};
+ghost use Rattle.fmp_cfgparse.specs.Grammar as grammar;
+ghost use Rattle.fmp_cfgparse.specs.Grammar.{mark_kind};
+ghost use Rattle.fmp_cfgparse.specs.Reading.{itself, RightItem, RightNumber, RightName, RightValue, RightPart, RightParts, RightApi, RightApis, RightClass, RightClasses, RightConfig, IsVerdict};
+ghost use Rattle.fmp_cfgparse.specs.Trees.{items_view, part_view, fields_view, api_view, apis_view, class_view, classes_view, configuration_view};
+
+use crate::forms::{Mark, Part, parts_of};
+use crate::tree::{Class, Configuration, Field, Item, StaticApi};
+use fmp_base::Name;
+use fmp_lex::reading::{expect_keyword, expect_symbol, is_keyword_at, is_symbol_at, kind_at};
+use fmp_lex::{Api, GrammarFault, Keyword, ReadError, Symbol, Token, TokenKind};
+use std::alloc::Global;
+
+fn number_of(kind: TokenKind) -> Option<i32>
+    ensures { result ≡ grammar.number_of kind }
+{
+    match kind {
+        TokenKind::Number(number) => Some(number),
+        _ => None,
+    }
+}
+
+fn name_of(kind: TokenKind) -> Option<Name>
+    ensures { result ≡ grammar.name_of kind }
+{
+    match kind {
+        TokenKind::Name(name) => Some(name),
+        _ => None,
+    }
+}
+
+fn plain_item_of(kind: TokenKind) -> Option<Item>
+    ensures { result ≡ grammar.plain_item_of kind }
+{
+    match kind {
+        TokenKind::Number(number) => Some(Item::Number(number)),
+        TokenKind::Constant(constant) => Some(Item::Constant(constant)),
+        TokenKind::Name(name) => Some(Item::Name(name)),
+        _ => None,
+    }
+}
+
+fn api_of(kind: TokenKind) -> Option<Api>
+    ensures { result ≡ grammar.api_of kind }
+{
+    match kind {
+        TokenKind::Api(api) => Some(api),
+        _ => None,
+    }
+}
+
+fn number_at(tokens: &[Token], at: usize) -> Option<i32>
+    ensures value { result ≡ option_and_then grammar.number_of (slice_get (kinds_of tokens.now) at) }
+    ensures within { IfSome result (λ _. at < length tokens.now) }
+{
+    number_of(kind_at(tokens, at)?)
+}
+
+fn name_at(tokens: &[Token], at: usize) -> Option<Name>
+    ensures value { result ≡ option_and_then grammar.name_of (slice_get (kinds_of tokens.now) at) }
+    ensures within { IfSome result (λ _. at < length tokens.now) }
+{
+    name_of(kind_at(tokens, at)?)
+}
+
+fn plain_item_at(tokens: &[Token], at: usize) -> Option<Item>
+    ensures value { result ≡ option_and_then grammar.plain_item_of (slice_get (kinds_of tokens.now) at) }
+    ensures within { IfSome result (λ _. at < length tokens.now) }
+{
+    plain_item_of(kind_at(tokens, at)?)
+}
+
+fn api_at(tokens: &[Token], at: usize) -> Option<Api>
+    ensures value { result ≡ option_and_then grammar.api_of (slice_get (kinds_of tokens.now) at) }
+    ensures within { IfSome result (λ _. at < length tokens.now) }
+{
+    api_of(kind_at(tokens, at)?)
+}
+
+fn expect_number(tokens: &[Token], at: usize) -> Result<(i32, usize), ReadError>
+    requires { at ≤ length tokens.now }
+    ensures { Answers itself result (RightNumber (kinds_of tokens.now) at) }
+{
+    match number_at(tokens, at) {
+        Some(number) => Ok((number, at + 1)),
+        None => Err(ReadError::Fault(at, GrammarFault::Syntax)),
+    }
+}
+
+fn expect_name(tokens: &[Token], at: usize) -> Result<(Name, usize), ReadError>
+    requires { at ≤ length tokens.now }
+    ensures { Answers itself result (RightName (kinds_of tokens.now) at) }
+{
+    match name_at(tokens, at) {
+        Some(name) => Ok((name, at + 1)),
+        None => Err(ReadError::Fault(at, GrammarFault::Syntax)),
+    }
+}
+
+fn item(tokens: &[Token], at: usize) -> Result<(Item, usize), ReadError>
+    requires { at ≤ length tokens.now }
+    ensures { Answers itself result (RightItem (kinds_of tokens.now) at) }
+{
+    if is_symbol_at(tokens, at, Symbol::Minus) {
+        let (number, next) = expect_number(tokens, at + 1)?;
+        return Ok((Item::Minus(number), next));
+    }
+    match plain_item_at(tokens, at) {
+        Some(item) => Ok((item, at + 1)),
+        None => Err(ReadError::Fault(at, GrammarFault::Syntax)),
+    }
+}
+
+fn value(alloc: Global, tokens: &[Token], at: usize) -> Result<(Vec<Item>, usize), ReadError>
+    requires { at ≤ length tokens.now }
+    ensures { Answers items_view result (RightValue (kinds_of tokens.now) at) }
+{
+    let (first, next) = item(tokens, at)?;
+    let mut items = Vec::new(alloc);
+    items.push(first)?;
+    let mut i = next;
+    'items: while is_symbol_at(tokens, i, Symbol::Or) {
+        let (one, next) = item(tokens, i + 1)?;
+        items.push(one)?;
+        i = next;
+    }
+    Ok((items, i))
+}
+
+fn expect_mark(tokens: &[Token], at: usize, mark: Mark) -> Result<usize, ReadError>
+    requires { at ≤ length tokens.now }
+    ensures { Steps result (RightToken (kinds_of tokens.now) (mark_kind mark) at) }
+{
+    match mark {
+        Mark::LeftParen => expect_symbol(tokens, at, Symbol::LeftParen),
+        Mark::RightParen => expect_symbol(tokens, at, Symbol::RightParen),
+        Mark::LeftBrace => expect_symbol(tokens, at, Symbol::LeftBrace),
+        Mark::RightBrace => expect_symbol(tokens, at, Symbol::RightBrace),
+        Mark::Comma => expect_symbol(tokens, at, Symbol::Comma),
+        Mark::Semicolon => expect_symbol(tokens, at, Symbol::Semicolon),
+        Mark::Null => expect_keyword(tokens, at, Keyword::Null),
+    }
+}
+
+fn part(
+    alloc: Global,
+    tokens: &[Token],
+    part: Part,
+    at: usize,
+) -> Result<(Option<Field>, usize), ReadError>
+    requires { at ≤ length tokens.now }
+    ensures { Answers part_view result (RightPart part (kinds_of tokens.now) at) }
+{
+    match part {
+        Part::Mark(mark) => {
+            let next = expect_mark(tokens, at, mark)?;
+            Ok((None, next))
+        }
+        Part::Name => {
+            let (name, next) = expect_name(tokens, at)?;
+            Ok((Some(Field::Name(name)), next))
+        }
+        Part::Value => {
+            let (items, next) = value(alloc, tokens, at)?;
+            Ok((Some(Field::Value(items)), next))
+        }
+    }
+}
+
+fn put(fields: &mut Vec<Field>, field: Option<Field>) -> Result<(), ReadError>
+    ensures fields { IfOk result (λ _. fields_view fields.new ≡ fields_view fields.old ++ grammar.put (part_view field) []) }
+    ensures memory { IfErr result (λ e. e ≡ ReadError.Memory) }
+{
+    if let Some(field) = field {
+        fields.push(field)?;
+    }
+    Ok(())
+}
+
+fn parts(
+    alloc: Global,
+    tokens: &[Token],
+    parts: &[Part],
+    at: usize,
+) -> Result<(Vec<Field>, usize), ReadError>
+    requires { at ≤ length tokens.now }
+    ensures { Answers fields_view result (RightParts parts.now (kinds_of tokens.now) at) }
+{
+    let mut fields = Vec::new(alloc);
+    let mut i = at;
+    for one in parts {
+        let (field, next) = part(alloc, tokens, *one, i)?;
+        put(&mut fields, field)?;
+        i = next;
+    }
+    Ok((fields, i))
+}
+
+fn api(
+    alloc: Global,
+    tokens: &[Token],
+    kind: Api,
+    at: usize,
+) -> Result<(StaticApi, usize), ReadError>
+    requires at { at < length tokens.now }
+    requires first { option_and_then grammar.api_of (slice_get (kinds_of tokens.now) at) ≡ Some kind }
+    ensures { Answers api_view result (RightApi (kinds_of tokens.now) at) }
+{
+    let (fields, next) = parts(alloc, tokens, parts_of(kind), at + 1)?;
+    Ok((StaticApi { kind, at, fields }, next))
+}
+
+fn apis(alloc: Global, tokens: &[Token], at: usize) -> Result<(Vec<StaticApi>, usize), ReadError>
+    requires { at ≤ length tokens.now }
+    ensures { Answers apis_view result (RightApis (kinds_of tokens.now) at) }
+{
+    let mut found = Vec::new(alloc);
+    let mut i = at;
+    'apis: while let Some(kind) = api_at(tokens, i) {
+        let (one, next) = api(alloc, tokens, kind, i)?;
+        found.push(one)?;
+        i = next;
+    }
+    Ok((found, i))
+}
+
+fn class(alloc: Global, tokens: &[Token], at: usize) -> Result<(Class, usize), ReadError>
+    requires { at ≤ length tokens.now }
+    ensures { Answers class_view result (RightClass (kinds_of tokens.now) at) }
+{
+    let next = expect_keyword(tokens, at, Keyword::Class)?;
+    let place = expect_symbol(tokens, next, Symbol::LeftParen)?;
+    let (name, next) = expect_name(tokens, place)?;
+    let next = expect_symbol(tokens, next, Symbol::RightParen)?;
+    let next = expect_symbol(tokens, next, Symbol::LeftBrace)?;
+    let (apis, next) = apis(alloc, tokens, next)?;
+    let next = expect_symbol(tokens, next, Symbol::RightBrace)?;
+    Ok((
+        Class {
+            name,
+            at: place,
+            apis,
+        },
+        next,
+    ))
+}
+
+fn classes(alloc: Global, tokens: &[Token], at: usize) -> Result<(Vec<Class>, usize), ReadError>
+    requires { at ≤ length tokens.now }
+    ensures { Answers classes_view result (RightClasses (kinds_of tokens.now) at) }
+{
+    let mut found = Vec::new(alloc);
+    let mut i = at;
+    'classes: while is_keyword_at(tokens, i, Keyword::Class) {
+        let (one, next) = class(alloc, tokens, i)?;
+        found.push(one)?;
+        i = next;
+    }
+    Ok((found, i))
+}
+
+fn configuration(alloc: Global, tokens: &[Token]) -> Result<(Configuration, usize), ReadError>
+    ensures { Answers configuration_view result (RightConfig (kinds_of tokens.now) 0) }
+{
+    let next = expect_keyword(tokens, 0, Keyword::NumPrc)?;
+    let at = expect_symbol(tokens, next, Symbol::LeftParen)?;
+    let (processors, next) = expect_number(tokens, at)?;
+    let next = expect_symbol(tokens, next, Symbol::RightParen)?;
+    let next = expect_symbol(tokens, next, Symbol::Semicolon)?;
+    let (classes, next) = classes(alloc, tokens, next)?;
+    Ok((
+        Configuration {
+            processors,
+            at,
+            classes,
+        },
+        next,
+    ))
+}
+
+/// The configuration that these tokens spell, or the place of their first fault.
+pub(crate) fn read_tree(alloc: Global, tokens: &[Token]) -> Result<Configuration, ReadError>
+    ensures { IsVerdict (kinds_of tokens.now) result }
+{
+    let (tree, next) = configuration(alloc, tokens)?;
+    if next < tokens.len() {
+        return Err(ReadError::Fault(next, GrammarFault::Syntax));
+    }
+    Ok(tree)
+}

@@ -1,0 +1,202 @@
+use Rattle.std.proofs.Common.{◌≡◌, ◌+◌, ◌-◌, ◌≤◌, ◌<◌, ◌++◌, ◌∷◌, List, [], length, refl, sym, arith, rules, append-nil}
+use Rattle.std.proofs.lemmas.List.{length-map, nil_from_length}
+use Rattle.std.proofs.lemmas.Result.{err_from_is_err_and}
+use Rattle.fmp_lex.specs.Reading.{kinds_of, found, stopped, map_outcome, RightToken}
+use Rattle.fmp_lex.proofs.Answered.{answers_as, err_as, step_as}
+use Rattle.fmp_lex.proofs.Repetitions.{push_before}
+use Rattle.fmp_tasklang.specs.Expressions.{loosest, lines_of}
+use Rattle.fmp_tasklang.specs.Reading.{itself, links_view, RightWord, RightOperand, RightExpression, RightLinks}
+use Rattle.fmp_tasklang.specs.Trees.{number}
+use Rattle.fmp_tasklang.specs.Views.{LinkTree, expression_view}
+use Rattle.fmp_tasklang.proofs.Links.{expression_zero, chain_then, chain_stop, links_more, links_stop, links_none}
+use Rattle.fmp_tasklang.proofs.Operands.{right, ended_stop, ended_then, number_found, name_as, group_deep, group_then, unary_deep, unary_then}
+use Rattle.fmp_tasklang.proofs.Views.{expression_view-Name, expression_view-Unary, expression_view-Chain, links_push}
+use Rattle.fmp_tasklang.proofs.expressions.+expressions.Goals as goal
+
+pub expression-returns-then-level-eq0 : goal.expression-returns-then-level-eq0
+expression-returns-then-level-eq0 m0 c =
+    let line = lines_of c.args.tokens.now in
+    let ts = kinds_of c.args.tokens.now in
+    let d = c.args.depth in
+    let i = c.args.at in
+    answers_as expression_view c.operand.result (RightOperand line ts d i) (RightExpression line ts d c.args.level i)
+    (λ o x. expression_zero line ts d c.args.level i c.if-level-eq0.true o x) c.operand.ensures
+
+pub expression-returns-in_err-first : goal.expression-returns-in_err-first
+expression-returns-in_err-first m0 c =
+    let line = lines_of c.args.tokens.now in
+    let ts = kinds_of c.args.tokens.now in
+    let d = c.args.depth in
+    let i = c.args.at in
+    let m = c.args.level - 1 in
+    let p = err_from_is_err_and c.from_residual.result c.from_residual.ensures.1 in
+    rw (p.1, p.2) (err_as expression_view expression_view c.in_err-first.field-0.0 (RightExpression line ts d m i) (RightExpression line ts d c.args.level i)
+    (λ j why x. chain_stop line d m ts c.args.level i (omega arith) j why x) c.in_err-first.ensures)
+
+pub expression-returns-in_err-rest : goal.expression-returns-in_err-rest
+expression-returns-in_err-rest m0 c =
+    let line = lines_of c.args.tokens.now in
+    let ts = kinds_of c.args.tokens.now in
+    let d = c.args.depth in
+    let i = c.args.at in
+    let m = c.args.level - 1 in
+    let p = err_from_is_err_and c.from_residual-in_err-rest.result c.from_residual-in_err-rest.ensures.1 in
+    rw (p.1, p.2) (err_as links_view expression_view c.in_err-rest.field-0.0 (RightLinks line ts d m c.in_ok-first.next) (RightExpression line ts d c.args.level i)
+    (λ j why x. chain_then line d m ts c.args.level i (omega arith) (expression_view c.in_ok-first.first) c.in_ok-first.next c.in_ok-first.ensures (stopped j why) x) c.in_err-rest.ensures)
+
+pub expression-returns-then-is_empty : goal.expression-returns-then-is_empty
+expression-returns-then-is_empty m0 c =
+    let line = lines_of c.args.tokens.now in
+    let ts = kinds_of c.args.tokens.now in
+    let d = c.args.depth in
+    let i = c.args.at in
+    let m = c.args.level - 1 in
+    let zero : length c.in_ok-rest.rest.items ≡ 0 = search rules in
+    let none : c.in_ok-rest.rest.items ≡ [] = nil_from_length c.in_ok-rest.rest.items zero in
+    let rest : RightLinks line ts d m c.in_ok-first.next (found [] c.in_ok-rest.next) = rw none at c.in_ok-rest.ensures in
+    chain_then line d m ts c.args.level i (omega arith) (expression_view c.in_ok-first.first) c.in_ok-first.next c.in_ok-first.ensures (found [] c.in_ok-rest.next) rest
+
+pub expression-returns : goal.expression-returns
+expression-returns m0 c =
+    let line = lines_of c.args.tokens.now in
+    let ts = kinds_of c.args.tokens.now in
+    let d = c.args.depth in
+    let i = c.args.at in
+    let m = c.args.level - 1 in
+    rw (expression_view-Chain c.in_ok-first-2.first c.in_ok-rest.rest, c.in_ok-first-2.ensures.ok)
+    (chain_then line d m ts c.args.level i (omega arith) (expression_view c.in_ok-first.first) c.in_ok-first.next c.in_ok-first.ensures (found (links_view c.in_ok-rest.rest) c.in_ok-rest.next) c.in_ok-rest.ensures)
+
+pub group-returns-then-depth-eq-MAX_DEPTH : goal.group-returns-then-depth-eq-MAX_DEPTH
+group-returns-then-depth-eq-MAX_DEPTH m0 c =
+    let line = lines_of c.args.tokens.now in
+    let ts = kinds_of c.args.tokens.now in
+    let d = c.args.depth in
+    let i = c.args.at in
+    group_deep line ts d i c.requires.first (omega arith)
+
+pub group-returns-in_err-inner : goal.group-returns-in_err-inner
+group-returns-in_err-inner m0 c =
+    let line = lines_of c.args.tokens.now in
+    let ts = kinds_of c.args.tokens.now in
+    let d = c.args.depth in
+    let i = c.args.at in
+    let p = err_from_is_err_and c.from_residual.result c.from_residual.ensures.1 in
+    rw (p.1, p.2) (err_as expression_view expression_view c.in_err-inner.field-0.0 (RightExpression line ts (d + 1) loosest (i + 1)) (RightOperand line ts d i)
+    (λ j why x. group_then line ts d i c.requires.first (omega arith) (stopped j why) (ended_stop line (d + 1) right refl ts (i + 1) j why x)) c.in_err-inner.ensures)
+
+pub group-returns-in_err-next : goal.group-returns-in_err-next
+group-returns-in_err-next m0 c =
+    let line = lines_of c.args.tokens.now in
+    let ts = kinds_of c.args.tokens.now in
+    let d = c.args.depth in
+    let i = c.args.at in
+    let p = err_from_is_err_and c.from_residual-in_err-next.result c.from_residual-in_err-next.ensures.1 in
+    rw (p.1, p.2) (step_as expression_view c.in_err-next.field-0.0 (RightToken ts right c.in_ok-inner.next) (RightOperand line ts d i)
+    (λ j why x. group_then line ts d i c.requires.first (omega arith) (stopped j why) (ended_then line (d + 1) right refl ts (i + 1) (expression_view c.in_ok-inner.inner) c.in_ok-inner.next c.in_ok-inner.ensures (stopped j why) x)) c.in_err-next.ensures)
+
+pub group-returns : goal.group-returns
+group-returns m0 c =
+    let line = lines_of c.args.tokens.now in
+    let ts = kinds_of c.args.tokens.now in
+    let d = c.args.depth in
+    let i = c.args.at in
+    group_then line ts d i c.requires.first (omega arith) (found (expression_view c.in_ok-inner.inner) c.in_ok-next.next)
+    (ended_then line (d + 1) right refl ts (i + 1) (expression_view c.in_ok-inner.inner) c.in_ok-inner.next c.in_ok-inner.ensures (found tt c.in_ok-next.next) c.in_ok-next.ensures)
+
+pub links-returns-in_err-operand : goal.links-returns-in_err-operand
+links-returns-in_err-operand m0 c =
+    let line = lines_of c.args.tokens.now in
+    let ts = kinds_of c.args.tokens.now in
+    let d = c.args.depth in
+    let i = c.args.at in
+    let m = c.args.level in
+    let k = c.links.i in
+    let p = err_from_is_err_and c.from_residual.result c.from_residual.ensures.1 in
+    rw (p.1, p.2) (err_as expression_view links_view c.in_err-operand.field-0.0 (RightExpression line ts d m (k + 1)) (RightLinks line ts d m i)
+    (λ j why x. c.links.invariant.goes (stopped j why) (links_stop line d m ts k c.in-Some.operator c.in-Some.ensures.0 j why x)) c.in_err-operand.ensures)
+
+pub links-links-preserved : goal.links-links-preserved
+links-links-preserved m0 c =
+    let line = lines_of c.args.tokens.now in
+    let ts = kinds_of c.args.tokens.now in
+    let d = c.args.depth in
+    let i = c.args.at in
+    let m = c.args.level in
+    let k = c.links.i in
+    let e = expression_view c.in_ok-operand.operand in
+    let n = c.in_ok-operand.next in
+    let x : RightExpression line ts d m (k + 1) (found e n) = c.in_ok-operand.ensures in
+    let within = simp length-map at x.within in
+    let a : LinkTree = record { operator = c.in-Some.operator; operand = e } in
+    let xs = links_view c.links.found in
+    let pushed : links_view c.push.new.self ≡ xs ++ a ∷ [] = rw c.in_ok-push.ensures.items (links_push c.links.found.items _) in
+    record {
+      within = within;
+      goes = rw pushed (λ o rest. push_before xs a o (RightLinks line ts d m i) (c.links.invariant.goes (map_outcome (λ (more : List LinkTree). a ∷ more) o)
+          (links_more line d m ts k c.in-Some.operator c.in-Some.ensures.0 e n x o rest)));
+    }
+
+pub links-returns : goal.links-returns
+links-returns m0 c =
+    let line = lines_of c.args.tokens.now in
+    let ts = kinds_of c.args.tokens.now in
+    let d = c.args.depth in
+    let i = c.args.at in
+    let m = c.args.level in
+    let k = c.links.i in
+    let within : k ≤ length ts = simp length-map c.links.invariant.within in
+    rw append-nil at (c.links.invariant.goes (found [] k) (links_none line d m ts k c.in_default.ensures within))
+
+pub operand-returns-in-Some : goal.operand-returns-in-Some
+operand-returns-in-Some m0 c =
+    let line = lines_of c.args.tokens.now in
+    let ts = kinds_of c.args.tokens.now in
+    let d = c.args.depth in
+    let i = c.args.at in
+    let lt : i < length ts = simp length-map c.in-Some.ensures.within in
+    let it : RightOperand line ts d i (found (number c.in-Some.number) (i + 1)) = number_found line ts d i c.in-Some.number lt (sym c.in-Some.ensures.value) in
+    rw c.literal.ensures (search (rules, it))
+
+pub operand-returns-in_err-word : goal.operand-returns-in_err-word
+operand-returns-in_err-word m0 c =
+    let line = lines_of c.args.tokens.now in
+    let ts = kinds_of c.args.tokens.now in
+    let d = c.args.depth in
+    let i = c.args.at in
+    let p = err_from_is_err_and c.from_residual.result c.from_residual.ensures.1 in
+    rw (p.1, p.2) (err_as itself expression_view c.in_err-word.field-0.0 (RightWord line ts i) (RightOperand line ts d i)
+    (λ j why x. name_as line ts d i (sym c.in_default.ensures.value) (sym c.in_default-unary_at.ensures.value) (c.is_symbol_at.ensures.no c.if-is_symbol_at.false) (stopped j why) x) c.in_err-word.ensures)
+
+pub operand-returns : goal.operand-returns
+operand-returns m0 c =
+    let line = lines_of c.args.tokens.now in
+    let ts = kinds_of c.args.tokens.now in
+    let d = c.args.depth in
+    let i = c.args.at in
+    rw (expression_view-Name c.in_ok-word.word) (name_as line ts d i (sym c.in_default.ensures.value) (sym c.in_default-unary_at.ensures.value) (c.is_symbol_at.ensures.no c.if-is_symbol_at.false) (found c.in_ok-word.word c.in_ok-word.next) c.in_ok-word.ensures)
+
+pub unary-returns-then-depth-eq-MAX_DEPTH : goal.unary-returns-then-depth-eq-MAX_DEPTH
+unary-returns-then-depth-eq-MAX_DEPTH m0 c =
+    let line = lines_of c.args.tokens.now in
+    let ts = kinds_of c.args.tokens.now in
+    let d = c.args.depth in
+    let i = c.args.at in
+    unary_deep line ts d i c.args.operator c.requires.first (omega arith)
+
+pub unary-returns-in_err-inner : goal.unary-returns-in_err-inner
+unary-returns-in_err-inner m0 c =
+    let line = lines_of c.args.tokens.now in
+    let ts = kinds_of c.args.tokens.now in
+    let d = c.args.depth in
+    let i = c.args.at in
+    let p = err_from_is_err_and c.from_residual.result c.from_residual.ensures.1 in
+    rw (p.1, p.2) (err_as expression_view expression_view c.in_err-inner.field-0.0 (RightOperand line ts (d + 1) (i + 1)) (RightOperand line ts d i)
+    (λ j why x. unary_then line ts d i c.args.operator c.requires.first (omega arith) (stopped j why) x) c.in_err-inner.ensures)
+
+pub unary-returns : goal.unary-returns
+unary-returns m0 c =
+    let line = lines_of c.args.tokens.now in
+    let ts = kinds_of c.args.tokens.now in
+    let d = c.args.depth in
+    let i = c.args.at in
+    rw (expression_view-Unary c.args.operator c.in_ok-operand.operand, c.in_ok-operand.ensures.ok) (unary_then line ts d i c.args.operator c.requires.first (omega arith) (found (expression_view c.in_ok-inner.inner) c.in_ok-inner.next) c.in_ok-inner.ensures)

@@ -1,0 +1,32 @@
+use Rattle.std.proofs.Common.{◌+◌, ◌*◌, ◌-◌, ◌≤◌, List, length}
+use Rattle.fmp_lex.specs.Reading.{kinds_of, Outcome, map_outcome}
+use Rattle.fmp_lex.proofs.Repetitions.{put_before}
+use Rattle.fmp_tasklang.specs.Expressions.{lines_of}
+use Rattle.fmp_tasklang.specs.Reading.{links_view, RightLinks}
+use Rattle.fmp_tasklang.specs.Views.{LinkTree}
+use Rattle.fmp_tasklang.proofs.expressions.+expressions.Given as goal
+
+abbrev pub decreases-operand : goal.decreases-operand
+decreases-operand l = (65 - l.depth) * 32 + 1
+
+abbrev pub decreases-unary : goal.decreases-unary
+decreases-unary l = (65 - l.depth) * 32
+
+abbrev pub decreases-group : goal.decreases-group
+decreases-group l = (65 - l.depth) * 32
+
+abbrev pub decreases-expression : goal.decreases-expression
+decreases-expression l = (65 - l.depth) * 32 + 2 * l.level + 2
+
+abbrev pub decreases-links : goal.decreases-links
+decreases-links l = (65 - l.depth) * 32 + 2 * l.level + 3
+
+abbrev pub invariant-links-links : goal.invariant-links-links
+invariant-links-links l = record {
+  within : l.i ≤ length l.tokens;
+  goes : (o : Outcome (List LinkTree)) → RightLinks (lines_of l.tokens) (kinds_of l.tokens) l.depth l.level l.i o →
+      RightLinks (lines_of l.tokens) (kinds_of l.tokens) l.depth l.level l.at (map_outcome (put_before (links_view l.found)) o);
+}
+
+abbrev pub decreases-links-links : goal.decreases-links-links
+decreases-links-links l = length l.tokens - l.i

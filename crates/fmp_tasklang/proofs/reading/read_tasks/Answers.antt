@@ -1,0 +1,37 @@
+use Rattle.std.proofs.Common.{◌≡◌, ◌≤◌, ◌<◌, ◌↔◌, ◌∙◌, ap, ℕ, List, length, slice_get, Err, Ok, inl, inr}
+use Rattle.std.proofs.lemmas.Bool.{cases_lt}
+use Rattle.fmp_lex.specs.declared.fault.BuildFault.{BuildFault}
+use Rattle.fmp_lex.specs.declared.fault.BuildFault.TheVariants as build
+use Rattle.fmp_lex.specs.declared.fault.TextFile.TheVariants as file
+use Rattle.fmp_lex.specs.declared.reading.GrammarFault.{GrammarFault}
+use Rattle.fmp_lex.specs.declared.token.Token.{Token}
+use Rattle.fmp_lex.specs.declared.token.TokenList.{TokenList}
+use Rattle.fmp_lex.specs.declared.token.TextFault.TheVariants as text_fault
+use Rattle.fmp_lex.specs.Cutting.{Cuts, end_line_of}
+use Rattle.fmp_lex.specs.Faults.{text_max, fault_of, IsSyntaxFault}
+use Rattle.fmp_lex.specs.Reading.{kinds_of, IsFirstFault}
+use Rattle.fmp_tasklang.specs.Reading.{Tasks, IsRead}
+use Rattle.fmp_tasklang.proofs.reading.read_tasks.Goals as goal
+
+not_long : (text : List ℕ) (list : TokenList) → ((Ok list ≡ Err text_fault.TooLong) ↔ (text_max < length text)) → length text ≤ text_max
+not_long text list h = elim (cases_lt text_max (length text)) [
+  | inl lt ↦ let e = h.1 lt in absurd (cc)
+  | inr le ↦ le
+]
+
+is_read : (text : List ℕ) (f : BuildFault) → IsSyntaxFault file.Source Tasks text f → IsRead text (Err f)
+is_read text build.Memory x = tt
+is_read text (build.At f line why) x = x
+
+read_stopped : (text : List ℕ) (ts : List Token) (j end_line : ℕ) (why : GrammarFault) (f : BuildFault) → length text ≤ text_max → Cuts text 0 ts →
+    IsFirstFault (Tasks ts) (kinds_of ts) j why → end_line ≡ end_line_of text → f ≡ fault_of file.Source end_line (slice_get ts j) why → IsRead text (Err f)
+read_stopped text ts j end_line why f short cut first line is =
+    is_read text f (inr (short, (ts, cut, j, why, first, is ∙ ap (λ n. fault_of file.Source n (slice_get ts j) why) line)))
+
+pub returns-in-Ok : goal.returns-in-Ok
+returns-in-Ok c =
+    let text = c.args.text.now in
+    let list = c.in-Ok.list in
+    let short : length text ≤ text_max = not_long text list c.in-Ok.ensures.too_long in
+    let first = rw (c.in-Err-Fault.field-0-is, c.deref.ensures.value) at c.in-Err-Fault.ensures in
+    read_stopped text list.tokens.items c.in-Err-Fault.at list.end_line c.in-Err-Fault.why c.fault_at.result short c.in-Ok.ensures.cut first c.in-Ok.ensures.end_line c.fault_at.ensures

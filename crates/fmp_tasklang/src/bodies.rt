@@ -1,0 +1,90 @@
+ghost use Rattle.std.specs.Prelude.{◌≡◌, ◌≤◌, ◌<◌, Some, length, slice_get, option_and_then};
+ghost use Rattle.fmp_lex.specs.Reading.{kinds_of, Answers};
+ghost use Rattle.fmp_tasklang.specs.Expressions.{lines_of};
+ghost use Rattle.fmp_tasklang.specs.Grammar.{body_kind_of};
+ghost use Rattle.fmp_tasklang.specs.Reading.{itself, words_view, bodies_view, RightVariable, RightVariables, RightBody, RightBodies, IsVerdict};
+ghost use Rattle.fmp_tasklang.specs.Views.{body_view};
+
+use crate::statements::statements;
+use crate::trees::{Body, BodyKind, Program, Word};
+use crate::words::{body_kind_at, expect_word, line_at};
+use fmp_lex::reading::{expect_keyword, expect_symbol, is_keyword_at};
+use fmp_lex::{GrammarFault, Keyword, ReadError, Symbol, Token};
+use std::alloc::Global;
+
+fn variable(tokens: &[Token], at: usize) -> Result<(Word, usize), ReadError>
+    requires { at ≤ length tokens.now }
+    ensures { Answers itself result (RightVariable (lines_of tokens.now) (kinds_of tokens.now) at) }
+{
+    let next = expect_keyword(tokens, at, Keyword::Var)?;
+    let (name, next) = expect_word(tokens, next)?;
+    let next = expect_symbol(tokens, next, Symbol::Semicolon)?;
+    Ok((name, next))
+}
+
+fn variables(alloc: Global, tokens: &[Token], at: usize) -> Result<(Vec<Word>, usize), ReadError>
+    requires { at ≤ length tokens.now }
+    ensures { Answers words_view result (RightVariables (lines_of tokens.now) (kinds_of tokens.now) at) }
+{
+    let mut found = Vec::new(alloc);
+    let mut i = at;
+    'variables: while is_keyword_at(tokens, i, Keyword::Var) {
+        let (one, next) = variable(tokens, i)?;
+        found.push(one)?;
+        i = next;
+    }
+    Ok((found, i))
+}
+
+fn body(
+    alloc: Global,
+    tokens: &[Token],
+    kind: BodyKind,
+    at: usize,
+) -> Result<(Body, usize), ReadError>
+    requires at { at < length tokens.now }
+    requires first { option_and_then body_kind_of (slice_get (kinds_of tokens.now) at) ≡ Some kind }
+    ensures { Answers body_view result (RightBody (lines_of tokens.now) (kinds_of tokens.now) at) }
+{
+    let line = line_at(tokens, at);
+    let (name, next) = expect_word(tokens, at + 1)?;
+    let next = expect_symbol(tokens, next, Symbol::LeftBrace)?;
+    let (variables, next) = variables(alloc, tokens, next)?;
+    let (statements, next) = statements(alloc, tokens, 0, false, next)?;
+    let next = expect_symbol(tokens, next, Symbol::RightBrace)?;
+    Ok((
+        Body {
+            kind,
+            line,
+            name,
+            variables,
+            statements,
+        },
+        next,
+    ))
+}
+
+fn bodies(alloc: Global, tokens: &[Token], at: usize) -> Result<(Vec<Body>, usize), ReadError>
+    requires { at ≤ length tokens.now }
+    ensures { Answers bodies_view result (RightBodies (lines_of tokens.now) (kinds_of tokens.now) at) }
+{
+    let mut found = Vec::new(alloc);
+    let mut i = at;
+    'bodies: while let Some(kind) = body_kind_at(tokens, i) {
+        let (one, next) = body(alloc, tokens, kind, i)?;
+        found.push(one)?;
+        i = next;
+    }
+    Ok((found, i))
+}
+
+/// The program that these tokens spell, or the place of their first fault.
+pub fn read_program(alloc: Global, tokens: &[Token]) -> Result<Program, ReadError>
+    ensures { IsVerdict (lines_of tokens.now) (kinds_of tokens.now) result }
+{
+    let (bodies, next) = bodies(alloc, tokens, 0)?;
+    if next < tokens.len() {
+        return Err(ReadError::Fault(next, GrammarFault::Syntax));
+    }
+    Ok(Program { bodies })
+}

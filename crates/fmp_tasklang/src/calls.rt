@@ -1,0 +1,123 @@
+ghost use Rattle.std.specs.Prelude.{◌≡◌, ◌≤◌, ◌<◌, ◌++◌, Some, [], length, map, slice_get, option_and_then, IfOk, IfErr};
+ghost use Rattle.fmp_lex.specs.Reading.{kinds_of, max_depth, Answers, Steps, RightToken};
+ghost use Rattle.fmp_tasklang.specs.Calls as calls;
+ghost use Rattle.fmp_tasklang.specs.Calls.{mark_kind, service_of, values_of, out_from};
+ghost use Rattle.fmp_tasklang.specs.Expressions.{lines_of};
+ghost use Rattle.fmp_tasklang.specs.Reading.{argument_view, called_view, RightPart, RightArguments, RightCall};
+ghost use Rattle.fmp_tasklang.specs.Views.{expression_view};
+
+use crate::expressions::expression;
+use crate::forms::{Mark, Part, parts_of};
+use crate::trees::{Expression, ServiceCall, Word};
+use crate::words::{LOOSEST, expect_word};
+use fmp_base::Service;
+use fmp_lex::reading::expect_symbol;
+use fmp_lex::{ReadError, Symbol, Token};
+use std::alloc::Global;
+
+/// What a call is passed at one place.
+#[derive(Debug, Drop)]
+pub enum Argument {
+    Value(Expression),
+    /// The variable at the out place.
+    Out(Word),
+}
+
+fn expect_mark(tokens: &[Token], at: usize, mark: Mark) -> Result<usize, ReadError>
+    requires { at ≤ length tokens.now }
+    ensures { Steps result (RightToken (kinds_of tokens.now) (mark_kind mark) at) }
+{
+    match mark {
+        Mark::Open => expect_symbol(tokens, at, Symbol::LeftParen),
+        Mark::Comma => expect_symbol(tokens, at, Symbol::Comma),
+        Mark::Close => expect_symbol(tokens, at, Symbol::RightParen),
+    }
+}
+
+fn part(
+    alloc: Global,
+    tokens: &[Token],
+    depth: usize,
+    part: Part,
+    at: usize,
+) -> Result<(Option<Argument>, usize), ReadError>
+    requires depth { depth ≤ max_depth }
+    requires at { at ≤ length tokens.now }
+    ensures { Answers argument_view result (RightPart (lines_of tokens.now) (kinds_of tokens.now) depth part at) }
+{
+    match part {
+        Part::Mark(mark) => {
+            let next = expect_mark(tokens, at, mark)?;
+            Ok((None, next))
+        }
+        Part::Value(mark) => {
+            let (value, next) = expression(alloc, tokens, depth, LOOSEST, at)?;
+            let next = expect_mark(tokens, next, mark)?;
+            Ok((Some(Argument::Value(value)), next))
+        }
+        Part::Out(mark) => {
+            let next = expect_symbol(tokens, at, Symbol::And)?;
+            let (word, next) = expect_word(tokens, next)?;
+            let next = expect_mark(tokens, next, mark)?;
+            Ok((Some(Argument::Out(word)), next))
+        }
+    }
+}
+
+fn put(call: &mut ServiceCall, argument: Option<Argument>) -> Result<(), ReadError>
+    ensures arguments { IfOk result (λ _. map expression_view call.new.arguments.items
+        ≡ map expression_view call.old.arguments.items ++ values_of (calls.put (argument_view argument) [])) }
+    ensures out { IfOk result (λ _. call.new.out ≡ out_from call.old.out (calls.put (argument_view argument) [])) }
+    ensures service { IfOk result (λ _. call.new.service ≡ call.old.service) }
+    ensures memory { IfErr result (λ e. e ≡ ReadError.Memory) }
+{
+    match argument {
+        Some(Argument::Value(value)) => call.arguments.push(value)?,
+        Some(Argument::Out(word)) => call.out = Some(word),
+        None => (),
+    }
+    Ok(())
+}
+
+fn arguments(
+    alloc: Global,
+    tokens: &[Token],
+    depth: usize,
+    service: Service,
+    parts: &[Part],
+    at: usize,
+) -> Result<(ServiceCall, usize), ReadError>
+    requires depth { depth ≤ max_depth }
+    requires at { at ≤ length tokens.now }
+    ensures { Answers called_view result (RightArguments (lines_of tokens.now) (kinds_of tokens.now) depth service parts.now at) }
+{
+    let mut call = ServiceCall {
+        service,
+        arguments: Vec::new(alloc),
+        out: None,
+        result: None,
+    };
+    let mut i = at;
+    for one in parts {
+        let (argument, next) = part(alloc, tokens, depth, *one, i)?;
+        put(&mut call, argument)?;
+        i = next;
+    }
+    Ok((call, i))
+}
+
+/// The call of a service at a place, and the place behind it. The variable before `=` is left to the caller.
+pub fn call(
+    alloc: Global,
+    tokens: &[Token],
+    depth: usize,
+    service: Service,
+    at: usize,
+) -> Result<(ServiceCall, usize), ReadError>
+    requires depth { depth ≤ max_depth }
+    requires at { at < length tokens.now }
+    requires first { option_and_then service_of (slice_get (kinds_of tokens.now) at) ≡ Some service }
+    ensures { Answers called_view result (RightCall (lines_of tokens.now) (kinds_of tokens.now) depth at) }
+{
+    arguments(alloc, tokens, depth, service, parts_of(service), at + 1)
+}

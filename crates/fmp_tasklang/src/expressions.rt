@@ -1,0 +1,135 @@
+ghost use Rattle.std.specs.Prelude.{◌≡◌, ◌≤◌, ◌<◌, ◌+◌, Some, length, slice_get, option_and_then};
+ghost use Rattle.fmp_lex.specs.Reading.{kinds_of, max_depth, Answers};
+ghost use Rattle.fmp_lex.specs.declared.token.Symbol.TheVariants as symbol;
+ghost use Rattle.fmp_tasklang.specs.Expressions.{lines_of, loosest, unary_of};
+ghost use Rattle.fmp_tasklang.specs.Reading.{links_view, RightOperand, RightExpression, RightLinks};
+ghost use Rattle.fmp_tasklang.specs.Trees as trees;
+ghost use Rattle.fmp_tasklang.specs.Views.{expression_view};
+
+use crate::trees::{Expression, Link};
+use crate::words::{LOOSEST, MAX_DEPTH, expect_word, number_at, operator_at, unary_at};
+use fmp_base::UnaryOperator;
+use fmp_lex::reading::{expect_symbol, is_symbol_at};
+use fmp_lex::{GrammarFault, ReadError, Symbol, Token, TokenKind};
+use std::alloc::Global;
+
+fn literal(number: i32) -> Expression
+    ensures { expression_view result ≡ trees.number number }
+{
+    Expression::Number(number)
+}
+
+/// The operand at a place, where so many levels of nesting are open, and the place behind it.
+#[cycle(expressions)]
+fn operand(
+    alloc: Global,
+    tokens: &[Token],
+    depth: usize,
+    at: usize,
+) -> Result<(Expression, usize), ReadError>
+    requires depth { depth ≤ max_depth }
+    requires at { at ≤ length tokens.now }
+    ensures { Answers expression_view result (RightOperand (lines_of tokens.now) (kinds_of tokens.now) depth at) }
+{
+    if let Some(number) = number_at(tokens, at) {
+        return Ok((literal(number), at + 1));
+    }
+    if let Some(operator) = unary_at(tokens, at) {
+        return unary(alloc, tokens, depth, operator, at);
+    }
+    if is_symbol_at(tokens, at, Symbol::LeftParen) {
+        return group(alloc, tokens, depth, at);
+    }
+    let (word, next) = expect_word(tokens, at)?;
+    Ok((Expression::Name(word), next))
+}
+
+#[cycle(expressions)]
+fn unary(
+    alloc: Global,
+    tokens: &[Token],
+    depth: usize,
+    operator: UnaryOperator,
+    at: usize,
+) -> Result<(Expression, usize), ReadError>
+    requires depth { depth ≤ max_depth }
+    requires at { at < length tokens.now }
+    requires first { option_and_then unary_of (slice_get (kinds_of tokens.now) at) ≡ Some operator }
+    ensures { Answers expression_view result (RightOperand (lines_of tokens.now) (kinds_of tokens.now) depth at) }
+{
+    if depth == MAX_DEPTH {
+        return Err(ReadError::Fault(at, GrammarFault::Depth));
+    }
+    let (inner, next) = operand(alloc, tokens, depth + 1, at + 1)?;
+    let operand = Box::new(alloc, inner)?;
+    Ok((Expression::Unary { operator, operand }, next))
+}
+
+#[cycle(expressions)]
+fn group(
+    alloc: Global,
+    tokens: &[Token],
+    depth: usize,
+    at: usize,
+) -> Result<(Expression, usize), ReadError>
+    requires depth { depth ≤ max_depth }
+    requires at { at < length tokens.now }
+    requires first { slice_get (kinds_of tokens.now) at ≡ Some (TokenKind.Symbol symbol.LeftParen) }
+    ensures { Answers expression_view result (RightOperand (lines_of tokens.now) (kinds_of tokens.now) depth at) }
+{
+    if depth == MAX_DEPTH {
+        return Err(ReadError::Fault(at, GrammarFault::Depth));
+    }
+    let (inner, next) = expression(alloc, tokens, depth + 1, LOOSEST, at + 1)?;
+    let next = expect_symbol(tokens, next, Symbol::RightParen)?;
+    Ok((inner, next))
+}
+
+/// The expression at a place whose operators have levels below this one, and the place behind it.
+#[cycle(expressions)]
+pub fn expression(
+    alloc: Global,
+    tokens: &[Token],
+    depth: usize,
+    level: usize,
+    at: usize,
+) -> Result<(Expression, usize), ReadError>
+    requires depth { depth ≤ max_depth }
+    requires level { level ≤ loosest }
+    requires at { at ≤ length tokens.now }
+    ensures { Answers expression_view result (RightExpression (lines_of tokens.now) (kinds_of tokens.now) depth level at) }
+{
+    if level == 0 {
+        return operand(alloc, tokens, depth, at);
+    }
+    let (first, next) = expression(alloc, tokens, depth, level - 1, at)?;
+    let (rest, next) = links(alloc, tokens, depth, level - 1, next)?;
+    if rest.is_empty() {
+        return Ok((first, next));
+    }
+    let first = Box::new(alloc, first)?;
+    Ok((Expression::Chain { first, rest }, next))
+}
+
+#[cycle(expressions)]
+fn links(
+    alloc: Global,
+    tokens: &[Token],
+    depth: usize,
+    level: usize,
+    at: usize,
+) -> Result<(Vec<Link>, usize), ReadError>
+    requires depth { depth ≤ max_depth }
+    requires level { level < loosest }
+    requires at { at ≤ length tokens.now }
+    ensures { Answers links_view result (RightLinks (lines_of tokens.now) (kinds_of tokens.now) depth level at) }
+{
+    let mut found = Vec::new(alloc);
+    let mut i = at;
+    'links: while let Some(operator) = operator_at(tokens, level, i) {
+        let (operand, next) = expression(alloc, tokens, depth, level, i + 1)?;
+        found.push(Link { operator, operand })?;
+        i = next;
+    }
+    Ok((found, i))
+}

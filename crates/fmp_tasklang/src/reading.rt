@@ -1,0 +1,23 @@
+ghost use Rattle.fmp_tasklang.specs.Reading.{IsRead};
+
+use crate::bodies::read_program;
+use crate::trees::Program;
+use fmp_lex::{BuildFault, FaultKind, ReadError, TextFault, TextFile, fault_at, tokens};
+use std::alloc::Global;
+
+/// The program that a task text spells, or the first fault of the text: a token that no text of the task language
+/// has in its place (B1), one that opens a 65th level of nesting, a name or number that is too great, or a text of
+/// more than 1,048,576 bytes (B5). Names and bodies have the lines of their tokens.
+pub fn read_tasks(alloc: Global, text: &[u8]) -> Result<Program, BuildFault>
+    ensures { IsRead text.now result }
+{
+    match tokens(alloc, text) {
+        Ok(list) => match read_program(alloc, &list.tokens) {
+            Ok(program) => Ok(program),
+            Err(ReadError::Memory) => Err(BuildFault::Memory),
+            Err(ReadError::Fault(at, why)) => Err(fault_at(&list, TextFile::Source, at, why)),
+        },
+        Err(TextFault::TooLong) => Err(BuildFault::At(TextFile::Source, 1, FaultKind::Limit)),
+        Err(TextFault::Memory) => Err(BuildFault::Memory),
+    }
+}

@@ -1,0 +1,300 @@
+ghost use Rattle.std.specs.Prelude.{◌≡◌, ◌≤◌, ◌<◌, ◌+◌, Some, true, length, slice_get, option_and_then};
+ghost use Rattle.fmp_lex.specs.Reading.{kinds_of, max_depth, Answers};
+ghost use Rattle.fmp_lex.specs.declared.words.Keyword.TheVariants as keyword;
+ghost use Rattle.fmp_tasklang.specs.Blocks.{choice};
+ghost use Rattle.fmp_tasklang.specs.Calls.{service_of, call_tree};
+ghost use Rattle.fmp_tasklang.specs.Expressions.{lines_of};
+ghost use Rattle.fmp_tasklang.specs.Reading.{statements_view, block_view, else_view, source_view, called_view, assigned, RightCondition, RightSource, RightAssignment, RightPlainCall, RightJump, RightStatement, RightIf, RightElse, RightOther, RightBlock, RightStatements};
+ghost use Rattle.fmp_tasklang.specs.Statements.{jump_of};
+ghost use Rattle.fmp_tasklang.specs.Trees.{service_call};
+ghost use Rattle.fmp_tasklang.specs.Views.{expression_view, statement_view};
+
+use crate::calls::call;
+use crate::expressions::expression;
+use crate::trees::{Expression, ServiceCall, Statement, Word};
+use crate::words::{LOOSEST, MAX_DEPTH, expect_word, jump_at, service_at};
+use fmp_base::Service;
+use fmp_lex::reading::{expect_symbol, is_keyword_at, is_symbol_at};
+use fmp_lex::{GrammarFault, Keyword, ReadError, Symbol, Token, TokenKind};
+use std::alloc::Global;
+
+/// What stands behind `name =`.
+#[derive(Debug, Drop)]
+pub enum Given {
+    Value(Expression),
+    Call(ServiceCall),
+}
+
+fn condition(
+    alloc: Global,
+    tokens: &[Token],
+    depth: usize,
+    at: usize,
+) -> Result<(Expression, usize), ReadError>
+    requires depth { depth ≤ max_depth }
+    requires at { at ≤ length tokens.now }
+    ensures { Answers expression_view result (RightCondition (lines_of tokens.now) (kinds_of tokens.now) depth at) }
+{
+    let next = expect_symbol(tokens, at, Symbol::LeftParen)?;
+    let (condition, next) = expression(alloc, tokens, depth, LOOSEST, next)?;
+    let next = expect_symbol(tokens, next, Symbol::RightParen)?;
+    Ok((condition, next))
+}
+
+fn source(
+    alloc: Global,
+    tokens: &[Token],
+    depth: usize,
+    at: usize,
+) -> Result<(Given, usize), ReadError>
+    requires depth { depth ≤ max_depth }
+    requires at { at ≤ length tokens.now }
+    ensures { Answers source_view result (RightSource (lines_of tokens.now) (kinds_of tokens.now) depth at) }
+{
+    if let Some(service) = service_at(tokens, at) {
+        let (call, next) = call(alloc, tokens, depth, service, at)?;
+        return Ok((Given::Call(call), next));
+    }
+    let (value, next) = expression(alloc, tokens, depth, LOOSEST, at)?;
+    Ok((Given::Value(value), next))
+}
+
+fn calling(call: ServiceCall, receiver: Option<Word>) -> Statement
+    ensures { statement_view result ≡ service_call (call_tree receiver (called_view call)) }
+{
+    Statement::Call(ServiceCall {
+        service: call.service,
+        arguments: call.arguments,
+        out: call.out,
+        result: receiver,
+    })
+}
+
+fn assign(target: Word, source: Given) -> Statement
+    ensures { statement_view result ≡ assigned target (source_view source) }
+{
+    match source {
+        Given::Value(value) => Statement::Assign { target, value },
+        Given::Call(call) => calling(call, Some(target)),
+    }
+}
+
+fn assignment(
+    alloc: Global,
+    tokens: &[Token],
+    depth: usize,
+    at: usize,
+) -> Result<(Statement, usize), ReadError>
+    requires depth { depth ≤ max_depth }
+    requires at { at ≤ length tokens.now }
+    ensures { Answers statement_view result (RightAssignment (lines_of tokens.now) (kinds_of tokens.now) depth at) }
+{
+    let (target, next) = expect_word(tokens, at)?;
+    let next = expect_symbol(tokens, next, Symbol::Assign)?;
+    let (source, next) = source(alloc, tokens, depth, next)?;
+    let next = expect_symbol(tokens, next, Symbol::Semicolon)?;
+    Ok((assign(target, source), next))
+}
+
+fn plain_call(
+    alloc: Global,
+    tokens: &[Token],
+    depth: usize,
+    service: Service,
+    at: usize,
+) -> Result<(Statement, usize), ReadError>
+    requires depth { depth ≤ max_depth }
+    requires at { at < length tokens.now }
+    requires first { option_and_then service_of (slice_get (kinds_of tokens.now) at) ≡ Some service }
+    ensures { Answers statement_view result (RightPlainCall (lines_of tokens.now) (kinds_of tokens.now) depth at) }
+{
+    let (call, next) = call(alloc, tokens, depth, service, at)?;
+    let next = expect_symbol(tokens, next, Symbol::Semicolon)?;
+    Ok((calling(call, None), next))
+}
+
+fn jump(
+    tokens: &[Token],
+    looped: bool,
+    statement: Statement,
+    at: usize,
+) -> Result<(Statement, usize), ReadError>
+    requires at { at < length tokens.now }
+    requires first { option_and_then (jump_of looped) (slice_get (kinds_of tokens.now) at) ≡ Some (statement_view statement) }
+    ensures { Answers statement_view result (RightJump (kinds_of tokens.now) looped at) }
+{
+    let next = expect_symbol(tokens, at + 1, Symbol::Semicolon)?;
+    Ok((statement, next))
+}
+
+#[cycle(statements)]
+fn statement(
+    alloc: Global,
+    tokens: &[Token],
+    depth: usize,
+    looped: bool,
+    at: usize,
+) -> Result<(Statement, usize), ReadError>
+    requires depth { depth ≤ max_depth }
+    requires at { at ≤ length tokens.now }
+    ensures { Answers statement_view result (RightStatement (lines_of tokens.now) (kinds_of tokens.now) depth looped at) }
+{
+    if let Some(service) = service_at(tokens, at) {
+        return plain_call(alloc, tokens, depth, service, at);
+    }
+    if let Some(statement) = jump_at(tokens, looped, at) {
+        return jump(tokens, looped, statement, at);
+    }
+    if is_keyword_at(tokens, at, Keyword::If) {
+        return if_statement(alloc, tokens, depth, looped, at);
+    }
+    if is_keyword_at(tokens, at, Keyword::While) {
+        return while_statement(alloc, tokens, depth, looped, at);
+    }
+    assignment(alloc, tokens, depth, at)
+}
+
+#[cycle(statements)]
+fn while_statement(
+    alloc: Global,
+    tokens: &[Token],
+    depth: usize,
+    looped: bool,
+    at: usize,
+) -> Result<(Statement, usize), ReadError>
+    requires depth { depth ≤ max_depth }
+    requires at { at < length tokens.now }
+    requires first { slice_get (kinds_of tokens.now) at ≡ Some (TokenKind.Keyword keyword.While) }
+    ensures { Answers statement_view result (RightStatement (lines_of tokens.now) (kinds_of tokens.now) depth looped at) }
+{
+    let (condition, next) = condition(alloc, tokens, depth, at + 1)?;
+    let (body, next) = block(alloc, tokens, depth, true, next)?;
+    Ok((Statement::While { condition, body }, next))
+}
+
+#[cycle(statements)]
+fn if_statement(
+    alloc: Global,
+    tokens: &[Token],
+    depth: usize,
+    looped: bool,
+    at: usize,
+) -> Result<(Statement, usize), ReadError>
+    requires depth { depth ≤ max_depth }
+    requires at { at < length tokens.now }
+    requires first { slice_get (kinds_of tokens.now) at ≡ Some (TokenKind.Keyword keyword.If) }
+    ensures { Answers statement_view result (RightIf (lines_of tokens.now) (kinds_of tokens.now) depth looped at) }
+{
+    let (condition, next) = condition(alloc, tokens, depth, at + 1)?;
+    let (then, next) = block(alloc, tokens, depth, looped, next)?;
+    let (otherwise, next) = else_part(alloc, tokens, depth, looped, next)?;
+    Ok((choose(condition, then, otherwise), next))
+}
+
+fn choose(
+    condition: Expression,
+    then: Vec<Statement>,
+    otherwise: Option<Vec<Statement>>,
+) -> Statement
+    ensures { statement_view result ≡ choice (expression_view condition) (block_view then) (else_view otherwise) }
+{
+    match otherwise {
+        Some(otherwise) => Statement::IfElse {
+            condition,
+            then,
+            otherwise,
+        },
+        None => Statement::If { condition, then },
+    }
+}
+
+/// `else` and what belongs to it, if it stands at a place.
+#[cycle(statements)]
+fn else_part(
+    alloc: Global,
+    tokens: &[Token],
+    depth: usize,
+    looped: bool,
+    at: usize,
+) -> Result<(Option<Vec<Statement>>, usize), ReadError>
+    requires depth { depth ≤ max_depth }
+    requires at { at ≤ length tokens.now }
+    ensures { Answers else_view result (RightElse (lines_of tokens.now) (kinds_of tokens.now) depth looped at) }
+{
+    if !is_keyword_at(tokens, at, Keyword::Else) {
+        return Ok((None, at));
+    }
+    let (body, next) = other(alloc, tokens, depth, looped, at + 1)?;
+    Ok((Some(body), next))
+}
+
+/// A block, or an `if` a level deeper.
+#[cycle(statements)]
+fn other(
+    alloc: Global,
+    tokens: &[Token],
+    depth: usize,
+    looped: bool,
+    at: usize,
+) -> Result<(Vec<Statement>, usize), ReadError>
+    requires depth { depth ≤ max_depth }
+    requires at { at ≤ length tokens.now }
+    ensures { Answers block_view result (RightOther (lines_of tokens.now) (kinds_of tokens.now) depth looped at) }
+{
+    if !is_keyword_at(tokens, at, Keyword::If) {
+        return block(alloc, tokens, depth, looped, at);
+    }
+    if depth == MAX_DEPTH {
+        return Err(ReadError::Fault(at, GrammarFault::Depth));
+    }
+    let (inner, next) = if_statement(alloc, tokens, depth + 1, looped, at)?;
+    let mut body = Vec::new(alloc);
+    body.push(inner)?;
+    Ok((body, next))
+}
+
+#[cycle(statements)]
+fn block(
+    alloc: Global,
+    tokens: &[Token],
+    depth: usize,
+    looped: bool,
+    at: usize,
+) -> Result<(Vec<Statement>, usize), ReadError>
+    requires depth { depth ≤ max_depth }
+    requires at { at ≤ length tokens.now }
+    ensures { Answers block_view result (RightBlock (lines_of tokens.now) (kinds_of tokens.now) depth looped at) }
+{
+    if !is_symbol_at(tokens, at, Symbol::LeftBrace) {
+        return Err(ReadError::Fault(at, GrammarFault::Syntax));
+    }
+    if depth == MAX_DEPTH {
+        return Err(ReadError::Fault(at, GrammarFault::Depth));
+    }
+    let (body, next) = statements(alloc, tokens, depth + 1, looped, at + 1)?;
+    let next = expect_symbol(tokens, next, Symbol::RightBrace)?;
+    Ok((body, next))
+}
+
+/// The statements from a place up to a `}`, and the place of that.
+#[cycle(statements)]
+pub fn statements(
+    alloc: Global,
+    tokens: &[Token],
+    depth: usize,
+    looped: bool,
+    at: usize,
+) -> Result<(Vec<Statement>, usize), ReadError>
+    requires depth { depth ≤ max_depth }
+    requires at { at ≤ length tokens.now }
+    ensures { Answers statements_view result (RightStatements (lines_of tokens.now) (kinds_of tokens.now) depth looped at) }
+{
+    let mut found = Vec::new(alloc);
+    let mut i = at;
+    'statements: while !is_symbol_at(tokens, i, Symbol::RightBrace) {
+        let (one, next) = statement(alloc, tokens, depth, looped, i)?;
+        found.push(one)?;
+        i = next;
+    }
+    Ok((found, i))
+}

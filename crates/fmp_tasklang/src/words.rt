@@ -1,0 +1,199 @@
+ghost use Rattle.std.specs.Prelude.{◌≡◌, ◌≤◌, ◌<◌, ℕ, None, Some, length, slice_get, option_and_then, option_map, IfSome, MatchOption};
+ghost use Rattle.fmp_lex.specs.Reading.{kinds_of, Answers};
+ghost use Rattle.fmp_tasklang.specs.Calls as calls;
+ghost use Rattle.fmp_tasklang.specs.Expressions as expressions;
+ghost use Rattle.fmp_tasklang.specs.Expressions.{lines_of};
+ghost use Rattle.fmp_tasklang.specs.Grammar as grammar;
+ghost use Rattle.fmp_tasklang.specs.Reading.{itself, RightWord};
+ghost use Rattle.fmp_tasklang.specs.Statements as statements;
+ghost use Rattle.fmp_tasklang.specs.Views.{statement_view};
+
+use crate::trees::{BodyKind, Operator, Statement, Word};
+use fmp_base::{BinaryOperator, Name, Service, UnaryOperator};
+use fmp_lex::reading::kind_at;
+use fmp_lex::{GrammarFault, Keyword, ReadError, Symbol, Token, TokenKind};
+
+/// Above the levels of all operators.
+pub const LOOSEST: usize = 9;
+
+/// How many levels of nesting may be open at once.
+pub const MAX_DEPTH: usize = 64;
+
+fn number_of(kind: TokenKind) -> Option<i32>
+    ensures { result ≡ expressions.number_of kind }
+{
+    match kind {
+        TokenKind::Number(number) => Some(number),
+        TokenKind::Constant(constant) => Some(constant.value()),
+        _ => None,
+    }
+}
+
+fn name_of(kind: TokenKind) -> Option<Name>
+    ensures { result ≡ expressions.name_of kind }
+{
+    match kind {
+        TokenKind::Name(name) => Some(name),
+        _ => None,
+    }
+}
+
+fn unary_of(kind: TokenKind) -> Option<UnaryOperator>
+    ensures { result ≡ expressions.unary_of kind }
+{
+    match kind {
+        TokenKind::Symbol(Symbol::Minus) => Some(UnaryOperator::Negate),
+        TokenKind::Symbol(Symbol::Not) => Some(UnaryOperator::Not),
+        TokenKind::Symbol(Symbol::Tilde) => Some(UnaryOperator::Complement),
+        _ => None,
+    }
+}
+
+fn operator_of(kind: TokenKind) -> Option<(u8, Operator)>
+    ensures { result ≡ expressions.operator_of kind }
+{
+    match kind {
+        TokenKind::Symbol(Symbol::Star) => Some((0, Operator::Binary(BinaryOperator::Multiply))),
+        TokenKind::Symbol(Symbol::Slash) => Some((0, Operator::Binary(BinaryOperator::Divide))),
+        TokenKind::Symbol(Symbol::Percent) => {
+            Some((0, Operator::Binary(BinaryOperator::Remainder)))
+        }
+        TokenKind::Symbol(Symbol::Plus) => Some((1, Operator::Binary(BinaryOperator::Add))),
+        TokenKind::Symbol(Symbol::Minus) => Some((1, Operator::Binary(BinaryOperator::Subtract))),
+        TokenKind::Symbol(Symbol::Less) => Some((2, Operator::Binary(BinaryOperator::Less))),
+        TokenKind::Symbol(Symbol::LessEqual) => {
+            Some((2, Operator::Binary(BinaryOperator::LessOrEqual)))
+        }
+        TokenKind::Symbol(Symbol::Greater) => Some((2, Operator::Binary(BinaryOperator::Greater))),
+        TokenKind::Symbol(Symbol::GreaterEqual) => {
+            Some((2, Operator::Binary(BinaryOperator::GreaterOrEqual)))
+        }
+        TokenKind::Symbol(Symbol::Equal) => Some((3, Operator::Binary(BinaryOperator::Equal))),
+        TokenKind::Symbol(Symbol::NotEqual) => {
+            Some((3, Operator::Binary(BinaryOperator::NotEqual)))
+        }
+        TokenKind::Symbol(Symbol::And) => Some((4, Operator::Binary(BinaryOperator::And))),
+        TokenKind::Symbol(Symbol::Xor) => Some((5, Operator::Binary(BinaryOperator::ExclusiveOr))),
+        TokenKind::Symbol(Symbol::Or) => Some((6, Operator::Binary(BinaryOperator::Or))),
+        TokenKind::Symbol(Symbol::AndAnd) => Some((7, Operator::Both)),
+        TokenKind::Symbol(Symbol::OrOr) => Some((8, Operator::Either)),
+        _ => None,
+    }
+}
+
+fn service_of(kind: TokenKind) -> Option<Service>
+    ensures { result ≡ calls.service_of kind }
+{
+    match kind {
+        TokenKind::Service(service) => Some(service),
+        _ => None,
+    }
+}
+
+fn jump_of(kind: TokenKind, looped: bool) -> Option<Statement>
+    ensures { option_map statement_view result ≡ statements.jump_of looped kind }
+{
+    match (looped, kind) {
+        (true, TokenKind::Keyword(Keyword::Break)) => Some(Statement::Break),
+        (true, TokenKind::Keyword(Keyword::Continue)) => Some(Statement::Continue),
+        (_, TokenKind::Keyword(Keyword::Return)) => Some(Statement::Return),
+        _ => None,
+    }
+}
+
+fn body_kind_of(kind: TokenKind) -> Option<BodyKind>
+    ensures { result ≡ grammar.body_kind_of kind }
+{
+    match kind {
+        TokenKind::Keyword(Keyword::Task) => Some(BodyKind::Task),
+        TokenKind::Keyword(Keyword::Handler) => Some(BodyKind::Handler),
+        _ => None,
+    }
+}
+
+/// The line of the token at a place.
+pub fn line_at(tokens: &[Token], at: usize) -> u32
+    ensures { result ≡ lines_of tokens.now at }
+{
+    match tokens.get(at) {
+        Some(token) => token.line,
+        None => 1,
+    }
+}
+
+/// The number that the token at a place stands for.
+pub fn number_at(tokens: &[Token], at: usize) -> Option<i32>
+    ensures value { result ≡ option_and_then expressions.number_of (slice_get (kinds_of tokens.now) at) }
+    ensures within { IfSome result (λ _. at < length tokens.now) }
+{
+    number_of(kind_at(tokens, at)?)
+}
+
+/// The name at a place.
+pub fn name_at(tokens: &[Token], at: usize) -> Option<Name>
+    ensures value { result ≡ option_and_then expressions.name_of (slice_get (kinds_of tokens.now) at) }
+    ensures within { IfSome result (λ _. at < length tokens.now) }
+{
+    name_of(kind_at(tokens, at)?)
+}
+
+/// The unary operator at a place.
+pub fn unary_at(tokens: &[Token], at: usize) -> Option<UnaryOperator>
+    ensures value { result ≡ option_and_then expressions.unary_of (slice_get (kinds_of tokens.now) at) }
+    ensures within { IfSome result (λ _. at < length tokens.now) }
+{
+    unary_of(kind_at(tokens, at)?)
+}
+
+/// The operator at a place, if it is one of this level.
+pub fn operator_at(tokens: &[Token], level: usize, at: usize) -> Option<Operator>
+    ensures { MatchOption result
+        ((op : Operator) → option_and_then expressions.operator_of (slice_get (kinds_of tokens.now) at) ≡ Some (level, op) → ⊥)
+        (λ op. (option_and_then expressions.operator_of (slice_get (kinds_of tokens.now) at) ≡ Some (level, op)) × (at < length tokens.now)) }
+{
+    match operator_of(kind_at(tokens, at)?) {
+        Some((found, operator)) if usize::from(found) == level => Some(operator),
+        _ => None,
+    }
+}
+
+/// The service whose call begins at a place.
+pub fn service_at(tokens: &[Token], at: usize) -> Option<Service>
+    ensures value { result ≡ option_and_then calls.service_of (slice_get (kinds_of tokens.now) at) }
+    ensures within { IfSome result (λ _. at < length tokens.now) }
+{
+    service_of(kind_at(tokens, at)?)
+}
+
+/// The jump at a place, in a loop or outside.
+pub fn jump_at(tokens: &[Token], looped: bool, at: usize) -> Option<Statement>
+    ensures value { option_map statement_view result ≡ option_and_then (statements.jump_of looped) (slice_get (kinds_of tokens.now) at) }
+    ensures within { IfSome result (λ _. at < length tokens.now) }
+{
+    jump_of(kind_at(tokens, at)?, looped)
+}
+
+/// The kind of the body that begins at a place.
+pub fn body_kind_at(tokens: &[Token], at: usize) -> Option<BodyKind>
+    ensures value { result ≡ option_and_then grammar.body_kind_of (slice_get (kinds_of tokens.now) at) }
+    ensures within { IfSome result (λ _. at < length tokens.now) }
+{
+    body_kind_of(kind_at(tokens, at)?)
+}
+
+/// The name that has to stand at a place, and the place behind it.
+pub fn expect_word(tokens: &[Token], at: usize) -> Result<(Word, usize), ReadError>
+    requires { at ≤ length tokens.now }
+    ensures { Answers itself result (RightWord (lines_of tokens.now) (kinds_of tokens.now) at) }
+{
+    match name_at(tokens, at) {
+        Some(name) => Ok((
+            Word {
+                name,
+                line: line_at(tokens, at),
+            },
+            at + 1,
+        )),
+        None => Err(ReadError::Fault(at, GrammarFault::Syntax)),
+    }
+}
