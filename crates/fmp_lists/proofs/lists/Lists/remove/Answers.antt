@@ -1,0 +1,23 @@
+use Rattle.std.proofs.Common.{◌≡◌, ◌<◌, ◌≤◌, ℕ, List, length, ◌++◌, ◌∷◌, [], vec_capacity, nat_eq, false, map, sym, subst, arith}
+use Rattle.std.specs.List.{list_any, insert}
+use Rattle.fmp_base.specs.States.{without}
+use Rattle.fmp_lists.specs.Heads.{list_at, items_of}
+use Rattle.fmp_lists.specs.Orders.{IsOrder}
+use Rattle.fmp_lists.specs.OrderLaws.{IsOrder-push, IsOrder-insert, IsOrder-without}
+use Rattle.fmp_lists.proofs.RoomyLemmas.{Roomy-set, below-map, list-read, order-read, room-read, free-room, written}
+use Rattle.fmp_lists.proofs.lists.Lists.remove.Goals as goal
+
+pub invariant_of-self : goal.invariant_of-self
+invariant_of-self c =
+    let l : c.args.head < length c.self.inside.lists.items = below-map _ _ (rw (← c.self.view_is) at c.requires.head) in
+    let room : c.self.inside.tasks ≤ vec_capacity c.take_out.new.list = omega (arith, room-read _ _ _ c.self.invariant l c.index_mut.ensures.value, c.take_out.ensures.capacity) in
+    Roomy-set _ _ c.self.invariant
+    (subst (λ (ts : List ℕ). IsOrder c.self.inside.tasks ts) (sym c.take_out.ensures.items)
+    (IsOrder-without _ _ _ (order-read _ _ _ c.self.invariant l c.index_mut.ensures.value)))
+    room
+
+pub returns : goal.returns
+returns c =
+    let l : c.args.head < length c.self.inside.lists.items = below-map _ _ (rw (← c.self.view_is) at c.requires.head) in
+    rw (← c.self.view_is)
+    (written c.self.inside.tasks c.self.inside.lists.items c.args.head c.index_mut.result.now c.take_out.new.list (λ (q : List ℕ). without q c.args.t) l c.index_mut.ensures.value c.take_out.ensures.items)

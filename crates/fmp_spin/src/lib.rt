@@ -1,0 +1,10 @@
+//! The processors: what each runs, whether its CPU is locked, and by which spin lock, and whether its dispatching is
+//! disabled (uITRON 4.0, section 4.8; FMP kernel, spin locks).
+#![tactic(auto)]
+
+pub mod processors;
+
+pub use processors::Processors;
+
+#[cfg(test)]
+mod tests;

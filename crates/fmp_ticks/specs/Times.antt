@@ -1,0 +1,21 @@
+-- Tables of times, and who is due.
+use Rattle.std.specs.Prelude.{◌≡◌, ℕ, ◌+◌, ◌≤◌, ◌<◌, ◌^◌, List, [], ◌∷◌, Option, Some, None, length, slice_get, if◌then◌else◌}
+use Rattle.std.specs.List.{AllByRecursion}
+use Rattle.fmp_base.specs.declared.systems.CyclicConfig.{CyclicConfig}
+use Rattle.fmp_base.specs.Ticks.{is_due}
+
+abbrev pub first_due_from : ℕ → ℕ → List (Option ℕ) → Option ℕ
+first_due_from now i [] = None
+first_due_from now i (time ∷ times) = if is_due now time then Some i else first_due_from now (i + 1) times
+
+-- the least place whose time is now
+abbrev pub first_due : ℕ → List (Option ℕ) → Option ℕ
+first_due now times = first_due_from now 0 times
+
+-- at most 255 places
+abbrev pub IsShort : List (Option ℕ) → Type 0
+IsShort times = length times ≤ 255
+
+-- phases that a clock can reach
+abbrev pub ArePhases : List CyclicConfig → Type 0
+ArePhases cs = AllByRecursion (λ c. c.phase ≤ 2 ^ 30) cs

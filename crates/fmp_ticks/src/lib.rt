@@ -1,0 +1,13 @@
+//! What the clock waits for: the deadlines of tasks, and the times at which cyclic handlers are due. No call but `new`
+//! takes memory.
+#![tactic(auto)]
+
+pub mod cyclics;
+pub mod deadlines;
+mod times;
+
+pub use cyclics::Cyclics;
+pub use deadlines::TickQueue;
+
+#[cfg(test)]
+mod tests;

@@ -1,0 +1,10 @@
+//! The wait queues: for each semaphore, eventflag and mailbox a list of the tasks that wait there, and two for each
+//! data queue, of senders and of receivers. No call but `new` takes memory.
+#![tactic(auto)]
+
+pub mod queues;
+
+pub use queues::{ObjectCounts, WaitQueues};
+
+#[cfg(test)]
+mod tests;
