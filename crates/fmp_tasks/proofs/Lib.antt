@@ -1,0 +1,7 @@
+pub mod MessageLemmas
+pub mod NewLemmas
+pub mod OnceLemmas
+pub mod SoundLemmas
+pub mod StandLemmas
+pub mod TopLemmas
+pub mod WordLemmas

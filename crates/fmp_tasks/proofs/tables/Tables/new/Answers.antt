@@ -1,0 +1,29 @@
+use Rattle.std.proofs.Common.{◌≡◌, ℕ, ℤ, List, Option, Bool, false, length, ap, ◌∙◌, sym, subst, arith}
+use Rattle.std.proofs.lemmas.List.{length-map, length-replicate}
+use Rattle.fmp_base.specs.declared.states.Processor.{Processor}
+use Rattle.fmp_base.specs.Systems.{SystemTables, tables_of}
+use Rattle.fmp_lists.specs.Heads.{Heads}
+use Rattle.fmp_tasks.specs.Tables.{SystemFits, Sound}
+use Rattle.fmp_tasks.proofs.NewLemmas.{Sound-new}
+use Rattle.fmp_tasks.proofs.tables.Tables.new.Goals as goal
+
+pub invariant_of-result : goal.invariant_of-result
+invariant_of-result c =
+    let e : tables_of c.in_ok-system.system ≡ tables_of c.args.sys.now = c.in_ok-system.ensures in
+    record {
+      system = subst SystemFits (sym e) c.requires;
+      tasks =
+          subst (λ (s : SystemTables). Sound s c.in_ok-blocks.blocks.items c.new.result c.in_ok-ready.ready c.in_ok-ready.waits c.in_ok-ready.deadlines) (sym e)
+          (rw (c.in_ok-blocks.ensures, c.as_slice.ensures.value, c.new.ensures, c.in_ok-ready.ensures.ready, c.in_ok-ready.ensures.waits, c.in_ok-ready.ensures.deadlines) (Sound-new (tables_of c.args.sys.now) c.requires));
+      semaphores = ap (λ (l : List ℕ). length l) c.in_ok-semaphores.ensures.semaphores ∙ length-map _ _ ∙ ap (λ (s : SystemTables). length s.semaphores) (sym e);
+      flags = ap (λ (l : List ℕ). length l) c.in_ok-semaphores.ensures.flags ∙ length-map _ _ ∙ ap (λ (s : SystemTables). length s.flags) (sym e);
+      data_queues = ap (λ (l : List (List ℤ)). length l) c.in_ok-words.ensures.words ∙ length-replicate _ _ ∙ ap (λ (s : SystemTables). length s.data_queues) (sym e);
+      mailboxes = ap (λ (h : Heads). length h.lists) c.in_ok-words.ensures.mailboxes ∙ length-replicate _ _ ∙ ap (λ (s : SystemTables). length s.mailboxes) (sym e);
+      messages = ap (λ (h : Heads). h.tasks) c.in_ok-words.ensures.mailboxes ∙ ap (λ (s : SystemTables). length s.messages) (sym e);
+      shared_words = ap (λ (l : List ℤ). length l) c.in_ok-semaphores.ensures.shared_words ∙ length-map _ _ ∙ ap (λ (s : SystemTables). length s.shared_words) (sym e);
+      processors = ap (λ (l : List Processor). length l) c.in_ok-processors.ensures ∙ length-replicate _ _ ∙ ap (λ (s : SystemTables). s.processors) (sym e);
+      cyclics = ap (λ (l : List (Option ℕ)). length l) c.in_ok-cyclics.ensures.due_times ∙ length-map _ _ ∙ ap (λ (s : SystemTables). length s.cyclics) (sym e);
+      pending_cyclics = ap (λ (l : List Bool). length l) c.in_ok-cyclics.ensures.cyclics ∙ length-replicate _ _ ∙ ap (λ (s : SystemTables). length s.cyclics) (sym e);
+      pending_interrupts = ap (λ (l : List Bool). length l) c.in_ok-cyclics.ensures.interrupts ∙ length-replicate 32 false;
+      clock = omega arith;
+    }

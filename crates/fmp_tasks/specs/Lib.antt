@@ -1,0 +1,8 @@
+pub mod Empties
+pub mod Homes
+pub mod KeptLaws
+pub mod SortLaws
+pub mod Tables
+pub mod Trails
+pub mod WaitLaws
+pub mod WordQueues

@@ -1,0 +1,108 @@
+-- What the tables hold, what is true of them, and what the calls on them leave alone.
+use Rattle.std.specs.Prelude.{◌≡◌, ℕ, ◌*◌, ◌≤◌, ◌<◌, ◌^◌, List, Option, map, length}
+use Rattle.std.specs.List.{AllByRecursion}
+use Rattle.fmp_base.specs.declared.calls.Answer.{Answer}
+use Rattle.fmp_base.specs.declared.events.Line.{Line}
+use Rattle.fmp_base.specs.declared.states.TaskBlock.{TaskBlock}
+use Rattle.fmp_base.specs.declared.states.TimeLimit.{TimeLimit}
+use Rattle.fmp_base.specs.declared.states.TimeLimit.TheVariants as limit
+use Rattle.fmp_base.specs.declared.systems.TaskConfig.{TaskConfig}
+use Rattle.fmp_base.specs.Outcomes.{Outcome}
+use Rattle.fmp_base.specs.States.{KernelState, Progress}
+use Rattle.fmp_base.specs.Systems.{SystemTables, tables_of}
+use Rattle.fmp_lists.specs.Orders.{IsOrder}
+use Rattle.fmp_ready.specs.ReadyLists.{ReadyLists}
+use Rattle.fmp_ticks.specs.Times.{ArePhases}
+use Rattle.fmp_waitq.specs.WaitLists.{WaitLists, count_of_lists}
+use Rattle.fmp_tasks.specs.declared.tables.Tables.TheInside.{Inside}
+use Rattle.fmp_tasks.specs.Homes.{Kept, BlocksFit, Standing, ready_home, wait_home, always_fifo, order_with_head, counts_of}
+
+-- the tables of the system, which never change, and the state of the kernel
+pub record TablesView : Type 0 where
+  pub system : SystemTables
+  pub state : KernelState
+
+abbrev pub tables_view : Inside → TablesView
+tables_view a =
+    record {
+      system = tables_of a.system;
+      state = record {
+        tasks = a.blocks.items;
+        order = a.order;
+        semaphores = a.semaphores.items;
+        flags = a.flags.items;
+        data_queues = a.words;
+        mailboxes = a.mailboxes.lists;
+        shared_words = a.shared_words.items;
+        processors = a.processors.items;
+        due_times = a.cyclics;
+        pending_cyclics = a.pending_cyclics.items;
+        pending_interrupts = a.pending_interrupts.items;
+        clock = a.clock;
+      };
+    }
+
+-- a task that the kernel can hold: its priority and its processor are in range
+pub record ConfigFits (processors : ℕ) (c : TaskConfig) : Type 0 where
+  pub urgent : 1 ≤ c.priority
+  pub least : c.priority ≤ 16
+  pub processor : c.processor < processors
+
+-- a system that the kernel can hold: up to 8 processors, 255 tasks and 255 objects of each kind
+pub record SystemFits (sys : SystemTables) : Type 0 where
+  pub processors : sys.processors ≤ 8
+  pub few_tasks : length sys.tasks ≤ 255
+  pub tasks : AllByRecursion (ConfigFits sys.processors) sys.tasks
+  pub semaphores : length sys.semaphores ≤ 255
+  pub flags : length sys.flags ≤ 255
+  pub data_queues : length sys.data_queues ≤ 255
+  pub mailboxes : length sys.mailboxes ≤ 255
+  pub messages : length sys.messages ≤ 255
+  pub shared_words : length sys.shared_words ≤ 255
+  pub cyclics : length sys.cyclics ≤ 255
+  pub phases : ArePhases sys.cyclics
+
+-- the queues are parts of the order, and the deadlines those of the blocks
+pub record Sound (sys : SystemTables) (tasks : List TaskBlock) (order : List ℕ) (ready : ReadyLists) (waits : WaitLists) (deadlines : List (Option ℕ)) : Type 0 where
+  pub configs : length sys.tasks ≡ length tasks
+  pub blocks : BlocksFit sys tasks
+  pub distinct : IsOrder (length tasks) order
+  pub standing : Standing tasks order
+  pub ready_processors : ready.processors ≡ sys.processors
+  pub ready_tasks : ready.tasks ≡ length tasks
+  pub ready_lists : length ready.lists ≡ sys.processors * 16
+  pub wait_counts : waits.counts ≡ counts_of sys
+  pub wait_tasks : waits.tasks ≡ length tasks
+  pub wait_lists : length waits.lists ≡ count_of_lists (counts_of sys)
+  pub ready_kept : Kept ready_home always_fifo tasks order ready.lists
+  pub waits_kept : Kept (wait_home (counts_of sys)) (order_with_head sys) tasks order waits.lists
+  pub deadlines_kept : deadlines ≡ map (λ x. x.deadline) tasks
+
+-- the system is in range, the tasks and queues agree, and there is a value for each object
+pub record IsWhole (a : Inside) : Type 0 where
+  pub system : SystemFits (tables_of a.system)
+  pub tasks : Sound (tables_of a.system) a.blocks.items a.order a.ready a.waits a.deadlines
+  pub semaphores : length a.semaphores.items ≡ length a.system.semaphores.items
+  pub flags : length a.flags.items ≡ length a.system.flags.items
+  pub data_queues : length a.words ≡ length a.system.data_queues.items
+  pub mailboxes : length a.mailboxes.lists ≡ length a.system.mailboxes.items
+  pub messages : a.mailboxes.tasks ≡ length a.system.messages.items
+  pub shared_words : length a.shared_words.items ≡ length a.system.shared_words.items
+  pub processors : length a.processors.items ≡ a.system.processors
+  pub cyclics : length a.cyclics ≡ length a.system.cyclics.items
+  pub pending_cyclics : length a.pending_cyclics.items ≡ length a.system.cyclics.items
+  pub pending_interrupts : length a.pending_interrupts.items ≡ 32
+  pub clock : a.clock ≤ 2 ^ 20
+
+-- the state, and the lines of what happened on the way to it
+abbrev pub progress : TablesView → List Line → Progress
+progress h lines = record { state = h.state; lines = lines }
+
+-- what a call answered, and its progress
+abbrev pub outcome : Answer → TablesView → List Line → Outcome
+outcome answer h lines = record { answer = answer; progress = progress h lines }
+
+-- what every call leaves alone: the tables of the system, and the clock
+pub record SameShape (old new : TablesView) : Type 0 where
+  pub system : new.system ≡ old.system
+  pub clock : new.state.clock ≡ old.state.clock

@@ -1,0 +1,93 @@
+//! The tables of the system and the state of the kernel.
+ghost use Rattle.std.specs.Prelude.{◌≡◌, IfOk};
+ghost use Rattle.fmp_base.specs.Setups.{created_state};
+ghost use Rattle.fmp_base.specs.Systems.{tables_of};
+ghost use Rattle.fmp_tasks.specs.Tables.{SystemFits};
+
+use crate::config::{copied_system, filled};
+use crate::order::Order;
+use crate::setup::{
+    created_blocks, empty_contents, empty_queues, idle, idle_handlers, initial_values,
+};
+use crate::words::Words;
+use fmp_base::{Processor, System, TaskBlock};
+use fmp_lists::Lists;
+use fmp_ready::ReadyQueues;
+use fmp_ticks::{Cyclics, TickQueue};
+use fmp_waitq::WaitQueues;
+use std::alloc::{AllocError, Global};
+use std::marker::Model;
+
+mod clock;
+mod configs;
+mod queued;
+mod tasks;
+mod values;
+
+/// The tables of the system, which never change, and the state of the kernel: the task blocks with the queues and
+/// deadlines that belong to them, and the values of the objects, the processors and the handlers. Everything goes by
+/// its place, from 0. Each call that changes it says the whole state that it leaves.
+#[derive(Drop)]
+pub struct Tables {
+    system: System,
+    blocks: Vec<TaskBlock>,
+    order: Order,
+    ready: ReadyQueues,
+    waits: WaitQueues,
+    deadlines: TickQueue,
+    semaphores: Vec<u16>,
+    flags: Vec<u16>,
+    words: Words,
+    mailboxes: Lists,
+    shared_words: Vec<i32>,
+    processors: Vec<Processor>,
+    cyclics: Cyclics,
+    pending_cyclics: Vec<bool>,
+    pending_interrupts: Vec<bool>,
+    clock: u32,
+}
+
+impl Model for Tables {
+    ghost use Rattle.fmp_tasks.specs.Tables.{TablesView, tables_view, IsWhole};
+
+    ghost Value = { TablesView };
+
+    ghost view = { tables_view };
+
+    ghost invariant = { IsWhole };
+}
+
+impl Tables {
+    /// The state in which a system starts, with no task started yet (uITRON 4.0, section 3.12). `AllocError` for want of
+    /// memory.
+    pub fn new(alloc: Global, sys: &System) -> Result<Tables, AllocError>
+        requires { SystemFits (tables_of sys.now) }
+        ensures { IfOk result (λ h. h ≡ record { system = tables_of sys.now; state = created_state (tables_of sys.now) }) }
+    {
+        let system = copied_system(alloc, sys)?;
+        let blocks = created_blocks(alloc, sys.tasks.as_slice())?;
+        let (ready, waits, deadlines) = empty_queues(alloc, sys)?;
+        let (semaphores, flags, shared_words) = initial_values(alloc, sys)?;
+        let (words, mailboxes) = empty_contents(alloc, sys)?;
+        let processors = filled(alloc, idle(), sys.processors as usize)?;
+        let (cyclics, pending_cyclics, pending_interrupts) = idle_handlers(alloc, sys)?;
+        Ok(Tables {
+            system,
+            blocks,
+            order: Order::new(),
+            ready,
+            waits,
+            deadlines,
+            semaphores,
+            flags,
+            words,
+            mailboxes,
+            shared_words,
+            processors,
+            cyclics,
+            pending_cyclics,
+            pending_interrupts,
+            clock: 0,
+        })
+    }
+}

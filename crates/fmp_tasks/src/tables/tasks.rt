@@ -1,0 +1,160 @@
+//! The task blocks and the queues in which the tasks stand.
+ghost use Rattle.std.specs.Prelude.{◌≡◌, ◌<◌, ◌≤◌, length, true, false, IfSome, ◌+◌, slice_get, drop};
+ghost use Rattle.fmp_base.specs.Queues.{is_ready, top, first_ready, first_waiting, wait_queue};
+ghost use Rattle.fmp_base.specs.States.{task_at, without, with_task, with_last, with_left};
+ghost use Rattle.fmp_base.specs.TaskCalls.{goes_last, rotated};
+ghost use Rattle.fmp_tasks.specs.Homes.{Fits, Stays, is_in_order, counts_of};
+ghost use Rattle.fmp_waitq.specs.WaitLists.{IsThere};
+
+use crate::config::order_of;
+use crate::queues::{is_ready as is_able, join, leave, queue_of, set_deadline};
+use crate::tables::Tables;
+use fmp_base::{QueueOrder, TaskBlock, WaitQueue};
+
+/// What stands at a place of a list, if anything does.
+fn at(list: &[u8], i: usize) -> Option<u8>
+    ensures { result ≡ slice_get list.now i }
+{
+    list.get(i).copied()
+}
+
+impl Tables {
+    /// How many tasks there are.
+    pub fn task_count(&self) -> usize
+        ensures count { result ≡ length self.now.state.tasks }
+        ensures configs { result ≡ length self.now.system.tasks }
+        ensures few { result ≤ 255 }
+    {
+        self.blocks.len()
+    }
+
+    /// A task.
+    pub fn task(&self, t: u8) -> TaskBlock
+        requires { t < length self.now.system.tasks }
+        ensures value { result ≡ task_at self.now.state.tasks t }
+        ensures fits { Fits self.now.system result }
+    {
+        self.blocks[t as usize]
+    }
+
+    /// The task that a processor is to run: the first of its most urgent ready tasks, if any.
+    pub fn top(&self, p: u8) -> Option<u8>
+        requires { p < self.now.system.processors }
+        ensures value { result ≡ top self.now.state p }
+        ensures there { IfSome result (λ t. t < length self.now.system.tasks) }
+    {
+        self.ready.top(p)
+    }
+
+    /// The first ready task of a priority, 1 to 16, on a processor, if any.
+    pub fn first_ready(&self, p: u8, priority: u8) -> Option<u8>
+        requires processor { p < self.now.system.processors }
+        requires urgent { 1 ≤ priority }
+        requires least { priority ≤ 16 }
+        ensures value { result ≡ first_ready self.now.state p priority }
+        ensures there { IfSome result (λ t. t < length self.now.system.tasks) }
+        ensures ready { IfSome result (λ t. is_ready (task_at self.now.state.tasks t) ≡ true) }
+    {
+        self.ready.first(p, priority)
+    }
+
+    /// The first task that waits in a queue, if any.
+    pub fn first_waiting(&self, queue: WaitQueue) -> Option<u8>
+        requires { IsThere (counts_of self.now.system) queue }
+        ensures value { result ≡ first_waiting self.now.system self.now.state queue }
+        ensures there { IfSome result (λ t. t < length self.now.system.tasks) }
+    {
+        self.waits.first(queue)
+    }
+
+    /// The tasks that wait in a queue, those to be released first in front.
+    pub fn wait_queue(&self, queue: WaitQueue) -> &[u8]
+        requires { IsThere (counts_of self.now.system) queue }
+        ensures { result.now ≡ wait_queue self.now.system self.now.state queue }
+    {
+        self.waits.list(queue)
+    }
+
+    /// The task at a place in a wait queue, if there is one. It stands there once: without it the rest of the queue follows
+    /// at its place.
+    pub fn waiting_at(&self, queue: WaitQueue, i: usize) -> Option<u8>
+        requires { IsThere (counts_of self.now.system) queue }
+        ensures value { result ≡ slice_get (wait_queue self.now.system self.now.state queue) i }
+        ensures there { IfSome result (λ t. t < length self.now.system.tasks) }
+        ensures few { length (wait_queue self.now.system self.now.state queue) ≤ length self.now.system.tasks }
+        ensures once { IfSome result (λ t. drop i (without (wait_queue self.now.system self.now.state queue) t) ≡ drop (i + 1) (wait_queue self.now.system self.now.state queue)) }
+    {
+        at(self.waits.list(queue), i)
+    }
+
+    /// Whether a task goes to the end when its priority changes: a ready one, and one in a queue of priority order.
+    pub fn goes_last(&self, x: &TaskBlock) -> bool
+        ensures value { result ≡ goes_last self.now.system x.now }
+        ensures in_order { result ≡ true → is_in_order x.now ≡ true }
+    {
+        match queue_of(x.phase) {
+            Some(queue) => matches!(order_of(&self.system, queue), QueueOrder::Priority),
+            None => is_able(x),
+        }
+    }
+
+    /// Task t becomes x, in its place.
+    pub fn set_task(&mut self, t: u8, x: TaskBlock)
+        requires there { t < length self.old.system.tasks }
+        requires fits { Fits self.old.system x }
+        requires stays { Stays self.old.system (task_at self.old.state.tasks t) x }
+        ensures { self.new ≡ record self.old { state = with_task self.old.state t x } }
+    {
+        self.blocks[t as usize] = x;
+        set_deadline(&mut self.deadlines, t, x.deadline);
+    }
+
+    /// Task t becomes x, and goes to the end of the order.
+    pub fn set_last(&mut self, t: u8, x: TaskBlock)
+        requires there { t < length self.old.system.tasks }
+        requires fits { Fits self.old.system x }
+        requires in_order { is_in_order x ≡ true }
+        ensures { self.new ≡ record self.old { state = with_last self.old.state t x } }
+    {
+        let old = self.blocks[t as usize];
+        leave(&mut self.ready, &mut self.waits, &old, t);
+        self.blocks[t as usize] = x;
+        join(
+            &mut self.ready,
+            &mut self.waits,
+            &self.system,
+            self.blocks.as_slice(),
+            &x,
+            t,
+        );
+        set_deadline(&mut self.deadlines, t, x.deadline);
+        self.order.to_end(t);
+    }
+
+    /// Task t becomes x, and leaves the order.
+    pub fn set_left(&mut self, t: u8, x: TaskBlock)
+        requires there { t < length self.old.system.tasks }
+        requires fits { Fits self.old.system x }
+        requires in_order { is_in_order x ≡ false }
+        ensures { self.new ≡ record self.old { state = with_left self.old.state t x } }
+    {
+        let old = self.blocks[t as usize];
+        leave(&mut self.ready, &mut self.waits, &old, t);
+        self.blocks[t as usize] = x;
+        set_deadline(&mut self.deadlines, t, x.deadline);
+        self.order.leave(t);
+    }
+
+    /// The first ready task of a priority, 1 to 16, on a processor goes to the end of the order (`rot_rdq`).
+    pub fn rotate(&mut self, p: u8, priority: u8)
+        requires processor { p < self.old.system.processors }
+        requires urgent { 1 ≤ priority }
+        requires least { priority ≤ 16 }
+        ensures { self.new ≡ record self.old { state = rotated self.old.state (first_ready self.old.state p priority) } }
+    {
+        if let Some(t) = self.first_ready(p, priority) {
+            let x = self.task(t);
+            self.set_last(t, x);
+        }
+    }
+}
