@@ -1,0 +1,118 @@
+-- The code of a body does what the body does, within so many instructions.
+use Rattle.std.proofs.Common.{◌≡◌, ℕ, zero, suc, ◌+◌, ◌*◌, ◌≤◌, true, false, List, [], ◌∷◌, length, Option, Some, None, refl, sym, ap, ◌∙◌, subst, arith, ℤ}
+use Rattle.fmp_base.specs.declared.bodies.Stretch.{Stretch}
+use Rattle.fmp_base.specs.declared.bodies.Stretch.TheVariants as ends
+use Rattle.fmp_base.specs.Stretches.{is_over}
+use Rattle.fmp_base.specs.Ties.{StretchTied}
+use Rattle.fmp_tasklang.specs.Scopes.{Scope}
+use Rattle.fmp_tasklang.specs.Contexts.{TextContext}
+use Rattle.fmp_tasklang.specs.Stretches.{turns, stretch}
+use Rattle.fmp_code.specs.declared.instructions.Instruction.{Instruction}
+use Rattle.fmp_code.specs.declared.instructions.Instruction.TheVariants.{End}
+use Rattle.fmp_code.specs.declared.instructions.MachineContext.{MachineContext}
+use Rattle.fmp_code.specs.Longer.{exec-longer, exec-one_end}
+use Rattle.fmp_code.specs.Machine.{exec, code_stretch}
+use Rattle.fmp_codegen.specs.Tie.{ContextTied}
+use Rattle.fmp_codegen.proofs.Statements.{room, Comes, Match, Tied, turns_follow}
+
+pub room-is : (code : List Instruction) (t : ℕ) → room code t ≡ (t + 1) * length code
+room-is code zero = omega arith
+room-is code (suc t) = grind (arith, room-is code t)
+
+-- so many instructions are enough for every run that ends within the room of t turns
+abbrev pub IsEnough : List Instruction → (t n p : ℕ) → List ℤ → Type 0
+IsEnough code t n p l =
+    (s : ℕ) → p + s ≤ room code t → is_over (exec code s p [] l) ≡ false → exec code n p [] l ≡ exec code s p [] l
+
+pub enough : (code : List Instruction) (t n p : ℕ) (l : List ℤ) → (t + 1) * length code ≤ n → IsEnough code t n p l
+enough code t n p l le s within ended =
+    exec-longer code s n (omega (arith, within, room-is code t)) p [] l (exec code s p [] l) ended refl
+
+-- code that only ends needs one instruction
+same_end : (m n p : ℕ) (l : List ℤ) → exec (End ∷ []) (suc m) p [] l ≡ exec (End ∷ []) (suc n) p [] l
+same_end m n zero l = refl
+same_end m n (suc p) l = refl
+
+pub one_is_enough : (t n p : ℕ) (l : List ℤ) → 1 ≤ n → IsEnough (End ∷ []) t n p l
+one_is_enough t zero p l le s within ended = absurd (omega (arith, le))
+one_is_enough t (suc n) p l le zero within ended = absurd (cc ended)
+one_is_enough t (suc n) p l le (suc s) within ended = same_end n s p l
+
+module _ (scope : Scope) (code : List Instruction) where
+  abbrev CodeTied : MachineContext → TextContext → Type 0
+  CodeTied d c = ContextTied scope code d c
+
+  -- the same tie from the other side
+  turned : (o : Stretch TextContext) (m : Stretch MachineContext) → is_over o ≡ false → StretchTied (Tied scope code) o m
+      → StretchTied CodeTied m o
+  turned ends.Over m e h = absurd (cc e)
+  turned (ends.Call c r) (ends.Call d s) e h = (sym h.0, h.1)
+  turned (ends.End c) (ends.End d) e h = tt
+  turned (ends.Fault c f) (ends.Fault d g) e h = sym h
+  turned (ends.Call c r) (ends.End d) e h = absurd h
+  turned (ends.Call c r) (ends.Fault d g) e h = absurd h
+  turned (ends.Call c r) ends.Over e h = absurd h
+  turned (ends.End c) (ends.Call d s) e h = absurd h
+  turned (ends.End c) (ends.Fault d g) e h = absurd h
+  turned (ends.End c) ends.Over e h = absurd h
+  turned (ends.Fault c f) (ends.Call d s) e h = absurd h
+  turned (ends.Fault c f) (ends.End d) e h = absurd h
+  turned (ends.Fault c f) ends.Over e h = absurd h
+
+  comes_first :
+      (n p : ℕ) (l : List ℤ) (o : Stretch TextContext) (m : Stretch MachineContext) → is_over o ≡ false →
+      is_over m ≡ false → exec code n p [] l ≡ m → Comes scope code n p l o → StretchTied CodeTied m o
+  comes_first n p l o m going ended e h =
+      let same : h.outcome ≡ m = exec-one_end code h.steps n p [] l h.outcome m h.ended ended h.by e in
+      turned o m going (subst (λ (x : Stretch MachineContext). StretchTied (Tied scope code) o x) same h.same)
+
+  ended_first :
+      (n p : ℕ) (l : List ℤ) (o : Stretch TextContext) (m : Stretch MachineContext) → is_over m ≡ false →
+      exec code n p [] l ≡ m → Match scope code n p l o → StretchTied CodeTied m o
+  ended_first n p l ends.Over m ended e h =
+      let over : true ≡ is_over m = ap is_over (sym h.2 ∙ exec-longer code n h.0 h.1 p [] l m ended e) in
+      absurd (cc (over, ended))
+  ended_first n p l (ends.Call c r) m ended e h = comes_first n p l (ends.Call c r) m refl ended e h
+  ended_first n p l (ends.End c) m ended e h = comes_first n p l (ends.End c) m refl ended e h
+  ended_first n p l (ends.Fault c f) m ended e h = comes_first n p l (ends.Fault c f) m refl ended e h
+
+  machine_first :
+      (n p : ℕ) (l : List ℤ) (o : Stretch TextContext) (m : Stretch MachineContext) → exec code n p [] l ≡ m →
+      Match scope code n p l o → StretchTied CodeTied m o
+  machine_first n p l o ends.Over e h = tt
+  machine_first n p l o (ends.Call d s) e h = ended_first n p l o (ends.Call d s) refl e h
+  machine_first n p l o (ends.End d) e h = ended_first n p l o (ends.End d) refl e h
+  machine_first n p l o (ends.Fault d g) e h = ended_first n p l o (ends.Fault d g) refl e h
+
+  comes_then :
+      (t n p : ℕ) (l : List ℤ) (o : Stretch TextContext) → IsEnough code t n p l → Comes scope code t p l o →
+      StretchTied (Tied scope code) o (exec code n p [] l)
+  comes_then t n p l o le h =
+      let ended : is_over (exec code h.steps p [] l) ≡ false = ap is_over h.by ∙ h.ended in
+      let same : h.outcome ≡ exec code n p [] l = sym h.by ∙ sym (le h.steps h.within ended) in
+      subst (λ (x : Stretch MachineContext). StretchTied (Tied scope code) o x) same h.same
+
+  text_first_of :
+      (t n p : ℕ) (l : List ℤ) (o : Stretch TextContext) → IsEnough code t n p l → Match scope code t p l o →
+      StretchTied (Tied scope code) o (exec code n p [] l)
+  text_first_of t n p l ends.Over le h = tt
+  text_first_of t n p l (ends.Call c r) le h = comes_then t n p l (ends.Call c r) le h
+  text_first_of t n p l (ends.End c) le h = comes_then t n p l (ends.End c) le h
+  text_first_of t n p l (ends.Fault c f) le h = comes_then t n p l (ends.Fault c f) le h
+
+  matched : (t : ℕ) (d : MachineContext) (c : TextContext) → CodeTied d c → Match scope code t d.pc d.locals (stretch scope t c)
+  matched t d c h =
+      subst (λ (l : List ℤ). Match scope code t d.pc l (turns scope t c.locals c.todo)) h.locals
+      (turns_follow scope code t c.locals c.todo d.pc h.todo)
+
+  -- what the code finishes within n instructions the text finishes within n turns, in the same way
+  pub code_first :
+      (n : ℕ) (d : MachineContext) (c : TextContext) → CodeTied d c →
+      StretchTied CodeTied (code_stretch code n d) (stretch scope n c)
+  code_first n d c h = machine_first n d.pc d.locals (stretch scope n c) (code_stretch code n d) refl (matched n d c h)
+
+  -- what the text finishes within t turns the code finishes within so many instructions
+  pub text_first :
+      (t n : ℕ) (d : MachineContext) (c : TextContext) → CodeTied d c → IsEnough code t n d.pc d.locals →
+      StretchTied (Tied scope code) (stretch scope t c) (code_stretch code n d)
+  text_first t n d c h le = text_first_of t n d.pc d.locals (stretch scope t c) le (matched t d c h)

@@ -1,0 +1,174 @@
+-- The code of an accepted text does what its bodies do.
+use Rattle.std.proofs.Common.{◌≡◌, ℕ, zero, suc, ◌+◌, ◌*◌, ◌≤◌, Bool, true, false, List, [], ◌∷◌, ◌++◌, length, map, Option, Some, None, refl, sym, ap, ◌∙◌, subst, arith, ℤ}
+use Rattle.std.specs.Prelude.{slice_get, nat_le, if◌then◌else◌}
+use Rattle.std.proofs.Math.Nat.{le-max_left, le-max_right}
+use Rattle.std.proofs.lemmas.Nat.{mul-le}
+use Rattle.fmp_base.specs.declared.calls.Reply.{Reply}
+use Rattle.fmp_base.specs.declared.names.Name.{Name}
+use Rattle.fmp_base.specs.FinishLaws.{turned}
+use Rattle.fmp_base.specs.Systems.{SystemTables}
+use Rattle.fmp_base.specs.Ties.{StretchTied, KeepsTie}
+use Rattle.fmp_lex.specs.declared.fault.FaultKind.TheVariants as fault
+use Rattle.fmp_tasklang.specs.Trees.{Block, BodyTree}
+use Rattle.fmp_tasklang.specs.Scopes.{Scope, exinf_name, scope_of}
+use Rattle.fmp_tasklang.specs.Contexts.{TextContext, locals_after, start, deliver}
+use Rattle.fmp_tasklang.specs.Stretches.{stretch}
+use Rattle.fmp_tasklang.specs.Texts.{body_at, text_meaning}
+use Rattle.fmp_code.specs.declared.instructions.Instruction.{Instruction}
+use Rattle.fmp_code.specs.declared.instructions.Instruction.TheVariants.{End}
+use Rattle.fmp_code.specs.declared.instructions.MachineContext.{MachineContext}
+use Rattle.fmp_code.specs.Instructions.{BodyTables, found_instructions, instructions_at}
+use Rattle.fmp_code.specs.Machine.{code_start, code_deliver, call_before, replied, code_meaning}
+use Rattle.fmp_codegen.specs.Compiling.{is_among, body_offence, bodies_offence, compiled, IsAccepted, variables_offence, size_offence}
+use Rattle.fmp_codegen.specs.Laws.{DoesText}
+use Rattle.fmp_codegen.specs.Naming.{Offence, first_offence, uses_offence, block_uses}
+use Rattle.fmp_codegen.specs.Scheme.{block_code, body_code}
+use Rattle.fmp_codegen.specs.Sizes.{block_size}
+use Rattle.fmp_codegen.specs.Tie.{HasAt, StandsSomehow, Reaches, ContextTied, CodeTied, longest}
+use Rattle.fmp_codegen.proofs.Behaves.{IsEnough, enough, one_is_enough, code_first, text_first}
+use Rattle.fmp_codegen.proofs.Expressions.{at_place}
+use Rattle.fmp_codegen.proofs.Lengths.{has_front, has_back, has_all, length-block_code}
+use Rattle.fmp_codegen.proofs.Names.{none-first, none-second}
+use Rattle.fmp_codegen.proofs.Statements.{Then, here, block_stands}
+
+-- ---- names
+
+pub skips : (t : Bool) (o : Offence) (rest : Option Offence) → (if t then Some o else rest) ≡ None → rest ≡ None
+skips true o rest h = absurd (cc h)
+skips false o rest h = h
+
+-- what an accepted body keeps to
+pub record Accepted (tables : SystemTables) (body : BodyTree) : Type 0 where
+  pub variables : variables_offence tables (exinf_name ∷ []) body.variables ≡ None
+  pub names : uses_offence (scope_of tables body) (block_uses body.statements) ≡ None
+  pub size : size_offence body ≡ None
+
+pub body-accepted :
+    (tables : SystemTables) (names : List Name) (body : BodyTree) → body_offence tables names body ≡ None →
+    Accepted tables body
+body-accepted tables names body h =
+    let uses = uses_offence (scope_of tables body) (block_uses body.statements) in
+    let variables = variables_offence tables (exinf_name ∷ []) body.variables in
+    let after = first_offence uses (size_offence body) in
+    let twice : Offence = record { line = body.name.line; why = fault.TwiceNamed } in
+    let named = if is_among body.name.name names then Some twice else first_offence variables after in
+    let many : Offence = record { line = body.line; why = fault.Limit } in
+    let all = skips (is_among body.name.name names) twice (first_offence variables after) (skips (nat_le 255 (length names)) many named h) in
+    let rest = none-second variables after all in
+    record {
+      variables = none-first variables after all;
+      names = none-first uses (size_offence body) rest;
+      size = none-second uses (size_offence body) rest;
+    }
+
+pub names-known :
+    (tables : SystemTables) (names : List Name) (bodies : List BodyTree) (k : ℕ) →
+    bodies_offence tables names bodies ≡ None →
+    uses_offence (scope_of tables (body_at bodies k)) (block_uses (body_at bodies k).statements) ≡ None
+names-known tables names [] k h = refl
+names-known tables names (b ∷ bs) zero h = (body-accepted tables names b (none-first (body_offence tables names b) (bodies_offence tables (names ++ b.name.name ∷ []) bs) h)).names
+names-known tables names (b ∷ bs) (suc k) h = names-known tables (names ++ b.name.name ∷ []) bs k
+    (none-second (body_offence tables names b) (bodies_offence tables (names ++ b.name.name ∷ []) bs) h)
+
+-- ---- the code of each body
+
+pub instructions-compiled :
+    (tables : SystemTables) (bodies : List BodyTree) (k : ℕ) →
+    instructions_at (compiled tables bodies) k ≡ body_code tables (body_at bodies k)
+instructions-compiled tables [] k = refl
+instructions-compiled tables (b ∷ bs) zero = refl
+instructions-compiled tables (b ∷ bs) (suc k) = instructions-compiled tables bs k
+
+-- the whole body is still to do
+body_stands :
+    (tables : SystemTables) (body : BodyTree) (exinf : ℤ) →
+    uses_offence (scope_of tables body) (block_uses body.statements) ≡ None →
+    Reaches (body_code tables body) 0 (StandsSomehow (scope_of tables body) (body_code tables body) (start body exinf).todo)
+body_stands tables body exinf named =
+    let scope = scope_of tables body in
+    let code = body_code tables body in
+    let n = block_size body.statements in
+    let statements = block_code scope body.statements 0 n n in
+    let has : HasAt code 0 code = has_all code [] in
+    let front = has_front code 0 statements (End ∷ []) has in
+    let back = has_back code 0 n statements (End ∷ []) (length-block_code scope body.statements 0 n n) has in
+    let same : 0 + n ≡ n = omega arith in
+    let end = at_place code (0 + n) n End same back.0 in
+    let last = here scope code (0 + n) (Then scope code [] n n) (back.0, end, end, omega arith, omega arith) in
+    let r = block_stands scope code body.statements [] 0 n n named front last in
+    record { jumps = r.jumps; place = r.place; path = r.path; holds = (n, n, r.holds) }
+
+started_tied :
+    (tables : SystemTables) (body : BodyTree) (exinf : ℤ) →
+    uses_offence (scope_of tables body) (block_uses body.statements) ≡ None →
+    ContextTied (scope_of tables body) (body_code tables body) (code_start exinf) (start body exinf)
+started_tied tables body exinf named =
+    record { locals = refl; todo = body_stands tables body exinf named; reply = λ l r. refl }
+
+delivered_tied :
+    (scope : Scope) (code : List Instruction) (d : MachineContext) (c : TextContext) (reply : Reply) →
+    ContextTied scope code d c → ContextTied scope code (code_deliver code d reply) (deliver c reply)
+delivered_tied scope code d c reply h =
+    record {
+      locals = h.reply c.locals reply ∙ ap (λ l. replied (call_before code d.pc) l reply) h.locals;
+      todo = h.todo;
+      reply = h.reply;
+    }
+
+length-le-longest :
+    (code : List BodyTables) (k : ℕ) (b : BodyTables) → slice_get code k ≡ Some b → length b.instructions ≤ longest code
+length-le-longest [] k b h = absurd (cc h)
+length-le-longest (c ∷ cs) zero b h =
+    let same : Some c ≡ Some b = h in
+    let e : c ≡ b = cc same in
+    subst (λ (x : BodyTables). length x.instructions ≤ longest (c ∷ cs)) e
+    (le-max_left (length c.instructions) (longest cs))
+length-le-longest (c ∷ cs) (suc k) b h =
+    omega (arith, length-le-longest cs k b h, le-max_right (length c.instructions) (longest cs))
+
+enough_for :
+    (code : List BodyTables) (t n : ℕ) → 1 ≤ n → (t + 1) * longest code ≤ n → (o : Option BodyTables) →
+    ((b : BodyTables) → o ≡ Some b → length b.instructions ≤ longest code) → (p : ℕ) (l : List ℤ) →
+    IsEnough (found_instructions o) t n p l
+enough_for code t n one le None few p l = one_is_enough t n p l one
+enough_for code t n one le (Some b) few p l =
+    let fits : (t + 1) * length b.instructions ≤ (t + 1) * longest code =
+    mul-le (t + 1) (length b.instructions) (t + 1) (longest code) (omega arith) (few b refl) in
+    enough b.instructions t n p l (omega (arith, fits, le))
+
+module _ (tables : SystemTables) (bodies : List BodyTree) (accepted : IsAccepted tables bodies) where
+  abbrev code : List BodyTables
+  code = compiled tables bodies
+
+  starts_tied :
+      (body : ℕ) (exinf : ℤ) →
+      CodeTied tables bodies code body (code_start exinf) (start (body_at bodies body) exinf)
+  starts_tied body exinf =
+      let b = body_at bodies body in
+      subst (λ (is : List Instruction). ContextTied (scope_of tables b) is (code_start exinf) (start b exinf))
+      (sym (instructions-compiled tables bodies body))
+      (started_tied tables b exinf (names-known tables [] bodies body accepted))
+
+  delivers_tied :
+      (body : ℕ) (d : MachineContext) (c : TextContext) (reply : Reply) → CodeTied tables bodies code body d c →
+      CodeTied tables bodies code body (code_deliver (instructions_at code body) d reply) (deliver c reply)
+  delivers_tied body d c reply h =
+      delivered_tied (scope_of tables (body_at bodies body)) (instructions_at code body) d c reply h
+
+  pub does_text : DoesText tables bodies (compiled tables bodies)
+  does_text =
+      record {
+        code_first = λ n. record {
+          starts = starts_tied;
+          delivers = delivers_tied;
+          stretches = λ body d c h.
+              code_first (scope_of tables (body_at bodies body)) (instructions_at code body) n d c h;
+        };
+        text_first = λ t n one le. record {
+          starts = starts_tied;
+          delivers = λ body c d reply h. delivers_tied body d c reply h;
+          stretches = λ body c d h.
+              text_first (scope_of tables (body_at bodies body)) (instructions_at code body) t n d c h
+              (enough_for code t n one le (slice_get code body) (length-le-longest code body) d.pc d.locals);
+        };
+      }

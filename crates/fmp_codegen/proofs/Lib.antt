@@ -1,0 +1,12 @@
+mod Behaves
+mod Bodies
+mod DepthLengths
+mod Expressions
+mod Fits
+mod Greatest
+mod Lengths
+mod Names
+mod Places
+mod Printed
+mod Statements
+mod VerifiedBodies

@@ -1,0 +1,437 @@
+-- The machine follows the text, one thing to do after another.
+use Rattle.std.proofs.Common.{◌≡◌, ℕ, zero, suc, ◌+◌, ◌-◌, ◌<◌, ◌≤◌, Bool, true, false, cond, List, [], ◌∷◌, ◌++◌, length, Option, Some, None, Result, Ok, Err, refl, sym, ap, ◌∙◌, subst, arith, ℤ, pos}
+use Rattle.std.specs.Prelude.{slice_get, slice_set, if◌then◌else◌}
+use Rattle.std.proofs.lemmas.Option.{slice_get_within}
+use Rattle.fmp_base.specs.declared.bodies.Fault.{Fault}
+use Rattle.fmp_base.specs.declared.bodies.Stretch.{Stretch}
+use Rattle.fmp_base.specs.declared.bodies.Stretch.TheVariants as ends
+use Rattle.fmp_base.specs.Deliveries.{written}
+use Rattle.fmp_base.specs.Operators.{is_zero}
+use Rattle.fmp_base.specs.Services.{request}
+use Rattle.fmp_base.specs.Stretches.{is_over}
+use Rattle.fmp_base.specs.Ties.{StretchTied}
+use Rattle.fmp_tasklang.specs.Trees.{ExpressionTree, CallTree, StatementTree, assign, service_call, if_then, if_else, while, break, continue, return, Block, empty, next}
+use Rattle.fmp_tasklang.specs.Scopes.{Scope}
+use Rattle.fmp_tasklang.specs.Values.{value, values}
+use Rattle.fmp_tasklang.specs.Contexts.{Item, Do, Mark, TextContext, going, calling, items_before}
+use Rattle.fmp_tasklang.specs.Stretches.{Way, Next, Goes, Turns, Stops, word_place, places_of, with_value, after_mark, from_mark, after_statement, after_item, statement_weight, block_weight, weight, follow, walk, turns}
+use Rattle.fmp_code.specs.declared.instructions.Instruction.{Instruction}
+use Rattle.fmp_code.specs.declared.instructions.Instruction.TheVariants.{Store, Jump, JumpIfZero, End}
+use Rattle.fmp_code.specs.declared.instructions.MachineContext.{MachineContext}
+use Rattle.fmp_code.specs.Machine.{at, unstacked, act, exec, call_before, replied}
+use Rattle.fmp_codegen.specs.Naming.{uses_offence, expression_uses, statement_uses, block_uses, use_offence, Writes}
+use Rattle.fmp_codegen.specs.Scheme.{expression_code, arguments_code, target_place, call_instruction, statement_code, block_code}
+use Rattle.fmp_codegen.specs.Sizes.{expression_size, arguments_size, statement_size, block_size}
+use Rattle.fmp_codegen.specs.Tie.{HasAt, Path, Reaches, IsNamed, Stands, StandsSomehow, TakesReply, ContextTied}
+use Rattle.fmp_codegen.proofs.Expressions.{Leads, Faults, Runs, stacked, one_step, leads_on, goes, jumps_to, renamed, at_place, expression_runs, arguments_run}
+use Rattle.fmp_codegen.proofs.Lengths.{has_front, has_back, length-expression_code, length-arguments_code, length-statement_code, length-block_code}
+use Rattle.fmp_codegen.proofs.Names.{none-first, uses_front, uses_back, target_is}
+
+-- ---- the weight falls
+
+weight-items_before : (b : Block) (rest : List Item) → weight (items_before b rest) ≡ block_weight b + weight rest
+weight-items_before empty rest = omega arith
+weight-items_before (next s b) rest = omega (arith, weight-items_before b rest)
+
+one-le-statement_weight : (s : StatementTree) → 1 ≤ statement_weight s
+one-le-statement_weight (assign w e) = omega arith
+one-le-statement_weight (service_call c) = omega arith
+one-le-statement_weight (if_then e b) = omega arith
+one-le-statement_weight (if_else e b d) = omega arith
+one-le-statement_weight (while e b) = omega arith
+one-le-statement_weight break = omega arith
+one-le-statement_weight continue = omega arith
+one-le-statement_weight return = omega arith
+
+one-le-weight : (todo : List Item) → 1 ≤ weight todo
+one-le-weight [] = omega arith
+one-le-weight (Do s ∷ rest) = omega (arith, one-le-statement_weight s)
+one-le-weight (Mark e b ∷ rest) = omega arith
+
+weight-after_mark : (todo : List Item) → weight (after_mark todo) ≤ weight todo
+weight-after_mark [] = omega arith
+weight-after_mark (Do s ∷ rest) = omega (arith, weight-after_mark rest)
+weight-after_mark (Mark e b ∷ rest) = omega arith
+
+weight-from_mark : (todo : List Item) → weight (from_mark todo) ≤ weight todo
+weight-from_mark [] = omega arith
+weight-from_mark (Do s ∷ rest) = omega (arith, weight-from_mark rest)
+weight-from_mark (Mark e b ∷ rest) = omega arith
+
+-- ---- operands
+
+unstacked-stacked : (xs s acc : List ℤ) → unstacked (stacked xs s) acc ≡ unstacked s (xs ++ acc)
+unstacked-stacked [] s acc = refl
+unstacked-stacked (x ∷ xs) s acc = unstacked-stacked xs (x ∷ s) acc
+
+append-nil : (xs : List ℤ) → xs ++ [] ≡ xs
+append-nil [] = refl
+append-nil (x ∷ xs) = ap (λ ys. x ∷ ys) (append-nil xs)
+
+-- as many instructions as the code has, for each turn and once more
+abbrev pub room : List Instruction → ℕ → ℕ
+room code zero = length code
+room code (suc t) = length code + room code t
+
+room-least : (code : List Instruction) (t : ℕ) → length code ≤ room code t
+room-least code zero = omega arith
+room-least code (suc t) = omega arith
+
+module _ (scope : Scope) (code : List Instruction) where
+  -- jumps forward lead from p to where the code of these things to do stands
+  abbrev pub Stood : ℕ → List Item → Type 0
+  Stood p todo = Reaches code p (StandsSomehow scope code todo)
+
+  abbrev pub Tied : TextContext → MachineContext → Type 0
+  Tied c d = ContextTied scope code d c
+
+  -- the machine comes to the same end
+  pub record Comes (t p : ℕ) (l : List ℤ) (o : Stretch TextContext) : Type 0 where
+    pub steps : ℕ
+    pub within : p + steps ≤ room code t
+    pub outcome : Stretch MachineContext
+    pub by : exec code steps p [] l ≡ outcome
+    pub ended : is_over outcome ≡ false
+    pub same : StretchTied Tied o outcome
+
+  -- the same end, or none within t instructions
+  abbrev pub Match : (t p : ℕ) → List ℤ → Stretch TextContext → Type 0
+  Match t p l ends.Over = (j : ℕ) × (t ≤ j) × (exec code j p [] l ≡ ends.Over)
+  Match t p l (ends.Call c r) = Comes t p l (ends.Call c r)
+  Match t p l (ends.End c) = Comes t p l (ends.End c)
+  Match t p l (ends.Fault c f) = Comes t p l (ends.Fault c f)
+
+  -- ---- places
+
+  path_leads : (n p q : ℕ) → Path code n p q → (l : List ℤ) → Leads code p [] l q [] l
+  path_leads zero p q h l = renamed code p q [] l h
+  path_leads (suc n) p q h l =
+      leads_on code p [] l h.0 [] l q [] l (jumps_to code p h.0 h.0 [] l h.2 h.1 refl) (path_leads n h.0 q h.3 l)
+
+  path_rises : (n p q : ℕ) → Path code n p q → p ≤ q
+  path_rises n p q h = let a = path_leads n p q h [] in omega (arith, a.rises)
+
+  pub here : (p : ℕ) (P : ℕ → Type 0) → P p → Reaches code p P
+  here p P h = record { jumps = 0; place = p; path = refl; holds = h }
+
+  jump_first :
+      (p a b : ℕ) (P : ℕ → Type 0) → slice_get code p ≡ Some (Jump a) → p < a → a ≡ b → Reaches code b P → Reaches code p P
+  jump_first p a b P h lt e r =
+      record {
+        jumps = suc r.jumps;
+        place = r.place;
+        path = (a, h, lt, subst (λ n. Path code r.jumps n r.place) (sym e) r.path);
+        holds = r.holds;
+      }
+
+  pub moved : (p q : ℕ) (P : ℕ → Type 0) → p ≡ q → Reaches code p P → Reaches code q P
+  moved p q P e r = subst (λ n. Reaches code n P) e r
+
+  abbrev pub Then : List Item → (again exit : ℕ) → ℕ → Type 0
+  Then rest again exit q = Stands scope code rest q again exit
+
+  -- forget where continue and break lead
+  stood : (todo : List Item) (p again exit : ℕ) → Reaches code p (Then todo again exit) → Stood p todo
+  stood todo p again exit r = record { jumps = r.jumps; place = r.place; path = r.path; holds = (again, exit, r.holds) }
+
+  -- a block, and then the rest
+  pub block_stands :
+      (s : Block) (rest : List Item) (p again exit : ℕ) → uses_offence scope (block_uses s) ≡ None →
+      HasAt code p (block_code scope s p again exit) → Reaches code (p + block_size s) (Then rest again exit) →
+      Reaches code p (Then (items_before s rest) again exit)
+  block_stands empty rest p again exit named has r = moved (p + 0) p (Then rest again exit) (omega arith) r
+  block_stands (next s b) rest p again exit named has r =
+      let front = statement_code scope s p again exit in
+      let back = block_code scope b (p + statement_size s) again exit in
+      here p (Then (Do s ∷ items_before b rest) again exit) (
+        uses_front scope (statement_uses s) (block_uses b) named,
+        has_front code p front back has,
+        block_stands b rest (p + statement_size s) again exit (uses_back scope (statement_uses s) (block_uses b) named)
+            (has_back code p (statement_size s) front back (length-statement_code scope s p again exit) has)
+            (moved (p + (statement_size s + block_size b)) (p + statement_size s + block_size b) (Then rest again exit) (omega arith) r),
+      )
+
+  below_exit : (todo : List Item) (p again exit : ℕ) → Stands scope code todo p again exit → p ≤ exit
+  below_exit [] p again exit h = h.4
+  below_exit (Do s ∷ rest) p again exit h =
+      let a = below_exit rest h.2.place again exit h.2.holds in
+      let b = path_rises h.2.jumps (p + statement_size s) h.2.place h.2.path in
+      omega (arith, a, b)
+  below_exit (Mark e b ∷ rest) p again exit h = let a = h.1 in omega arith
+
+  -- break
+  to_exit :
+      (todo : List Item) (p again exit : ℕ) → Stands scope code todo p again exit → Stood exit (after_mark todo)
+  to_exit [] p again exit h =
+      here exit (StandsSomehow scope code []) (exit, exit, (h.2, h.2, h.2, omega arith, omega arith))
+  to_exit (Do s ∷ rest) p again exit h = to_exit rest h.2.place again exit h.2.holds
+  to_exit (Mark e b ∷ rest) p again exit h =
+      let r = h.7 in
+      record { jumps = r.jumps; place = r.place; path = r.path; holds = (h.4, h.5, r.holds) }
+
+  -- continue, at p
+  to_mark :
+      (todo : List Item) (p q again exit : ℕ) → slice_get code p ≡ Some (Jump again) → p < q →
+      Stands scope code todo q again exit → Stood p (from_mark todo)
+  to_mark [] p q again exit there lt h =
+      let le = h.3 in
+      jump_first p again again (StandsSomehow scope code []) there (omega arith) refl
+      (here again (StandsSomehow scope code []) (again, again, (h.1, h.1, h.1, omega arith, omega arith)))
+  to_mark (Do s ∷ rest) p q again exit there lt h =
+      let b = path_rises h.2.jumps (q + statement_size s) h.2.place h.2.path in
+      to_mark rest p h.2.place again exit there (omega arith) h.2.holds
+  to_mark (Mark e b ∷ rest) p q again exit there lt h =
+      let a = h.1 in
+      here p (StandsSomehow scope code (Mark e b ∷ rest))
+      (again, exit, (there, omega arith, h.2, h.3, h.4, h.5, h.6, h.7))
+
+  -- ---- matches
+
+  comes_on :
+      (t p q : ℕ) (l l' : List ℤ) (o : Stretch TextContext) → Leads code p [] l q [] l' → Comes t q l' o → Comes t p l o
+  comes_on t p q l l' o a m =
+      record {
+        steps = a.steps + m.steps;
+        within = omega (arith, a.rises, m.within);
+        outcome = m.outcome;
+        by = a.by m.steps ∙ m.by;
+        ended = m.ended;
+        same = m.same;
+      }
+
+  match_on :
+      (t p q : ℕ) (l l' : List ℤ) (o : Stretch TextContext) → Leads code p [] l q [] l' → Match t q l' o → Match t p l o
+  match_on t p q l l' ends.Over a m = (a.steps + m.0, omega (arith, m.1), a.by m.0 ∙ m.2)
+  match_on t p q l l' (ends.Call c r) a m = comes_on t p q l l' (ends.Call c r) a m
+  match_on t p q l l' (ends.End c) a m = comes_on t p q l l' (ends.End c) a m
+  match_on t p q l l' (ends.Fault c f) a m = comes_on t p q l l' (ends.Fault c f) a m
+
+  comes_turn :
+      (t p q : ℕ) (l : List ℤ) (o : Stretch TextContext) → slice_get code p ≡ Some (Jump q) → Comes t q l o →
+      Comes (suc t) p l o
+  comes_turn t p q l o h m =
+      record {
+        steps = 1 + m.steps;
+        within = omega (arith, m.within, slice_get_within code p (Jump q) h);
+        outcome = m.outcome;
+        by = one_step code p [] l (Jump q) h m.steps ∙ m.by;
+        ended = m.ended;
+        same = m.same;
+      }
+
+  -- a jump back is a turn
+  match_turn :
+      (t p q : ℕ) (l : List ℤ) (o : Stretch TextContext) → slice_get code p ≡ Some (Jump q) → Match t q l o →
+      Match (suc t) p l o
+  match_turn t p q l ends.Over h m = (1 + m.0, omega (arith, m.1), one_step code p [] l (Jump q) h m.0 ∙ m.2)
+  match_turn t p q l (ends.Call c r) h m = comes_turn t p q l (ends.Call c r) h m
+  match_turn t p q l (ends.End c) h m = comes_turn t p q l (ends.End c) h m
+  match_turn t p q l (ends.Fault c f) h m = comes_turn t p q l (ends.Fault c f) h m
+
+  fault_match :
+      (t p q : ℕ) (l : List ℤ) (rest : List Item) (f : Fault) → q ≤ length code → Faults code p [] l q f →
+      Match t p l (ends.Fault (going l rest) f)
+  fault_match t p q l rest f le a =
+      record {
+        steps = a.steps;
+        within = omega (arith, a.rises, room-least code t);
+        outcome = ends.Fault (at a.place l) f;
+        by = a.by;
+        ended = refl;
+        same = refl;
+      }
+
+  -- ---- one thing to do
+
+  module _ (t fuel : ℕ) (again : Way)
+      (turned : (e : ExpressionTree) (b : Block) (rest : List Item) (p back exit : ℕ) (l : List ℤ) →
+      Stands scope code (Mark e b ∷ rest) p back exit → Match t p l (again l (Do (while e b) ∷ rest)))
+      (rec : (l : List ℤ) (todo : List Item) (p : ℕ) → weight todo ≤ fuel → Stood p todo →
+      Match t p l (walk scope again fuel l todo)) where
+    abbrev Follows : ℕ → List ℤ → Next → Type 0
+    Follows p l n = Match t p l (follow again (walk scope again fuel) n)
+
+    with_value_follows :
+        {A : Type 0} → (p q : ℕ) (l : List ℤ) (rest : List Item) (g : A → List ℤ) (v : Result A Fault) (go : A → Next) →
+        q ≤ length code → Runs code p [] l q g v → ((x : A) → Leads code p [] l q (g x) l → Follows p l (go x)) →
+        Follows p l (with_value v l rest go)
+    with_value_follows p q l rest g (Ok x) go le a f = f x a
+    with_value_follows p q l rest g (Err e) go le a f = fault_match t p q l rest e le a
+
+    -- the test of a choice, and what it leads to
+    test_follows :
+        (p pa q : ℕ) (l : List ℤ) (x : ℤ) (a b : List Item) (c : Bool) → Leads code p [] l pa (x ∷ []) l →
+        ((k : ℕ) → exec code (1 + k) pa (x ∷ []) l ≡ cond c (exec code k q [] l) (exec code k (pa + 1) [] l)) → pa < q →
+        weight a ≤ fuel → weight b ≤ fuel → Stood q a → Stood (pa + 1) b → Follows p l (Goes l (cond c a b))
+    test_follows p pa q l x a b true h st lt wa wb sa sb =
+        match_on t p q l l (walk scope again fuel l a)
+        (leads_on code p [] l pa (x ∷ []) l q [] l h (goes code pa q (x ∷ []) [] l l lt st)) (rec l a q wa sa)
+    test_follows p pa q l x a b false h st lt wa wb sa sb =
+        match_on t p (pa + 1) l l (walk scope again fuel l b)
+        (leads_on code p [] l pa (x ∷ []) l (pa + 1) [] l h (goes code pa (pa + 1) (x ∷ []) [] l l (omega arith) st))
+        (rec l b (pa + 1) wb sb)
+
+    statement_follows :
+        (s : StatementTree) (rest : List Item) (p back exit : ℕ) (l : List ℤ) → weight (Do s ∷ rest) ≤ suc fuel →
+        Stands scope code (Do s ∷ rest) p back exit → Follows p l (after_statement scope s l rest)
+    statement_follows (assign w e) rest p back exit l le h =
+        let v = target_place scope w in
+        let pe = p + expression_size e in
+        let front = expression_code scope e p in
+        let st = (has_back code p (expression_size e) front (Store v ∷ []) (length-expression_code scope e p) h.1).0 in
+        let in_code = slice_get_within code pe (Store v) st in
+        let place = target_is scope w (none-first (use_offence scope (Writes w)) (uses_offence scope (expression_uses e)) h.0) in
+        with_value_follows p pe l rest (λ x. x ∷ []) (value scope l e)
+        (λ x. Goes (written l (word_place scope (Some w)) x) rest) (omega arith)
+        (expression_runs scope code e p [] l (has_front code p front (Store v ∷ []) h.1))
+        (λ x a. subst (λ o. Match t p l (walk scope again fuel (written l o x) rest)) (sym place)
+        (match_on t p (pe + 1) l (slice_set l v x) (walk scope again fuel (slice_set l v x) rest)
+        (leads_on code p [] l pe (x ∷ []) l (pe + 1) [] (slice_set l v x) a
+        (goes code pe (pe + 1) (x ∷ []) [] l (slice_set l v x) (omega arith) (one_step code pe (x ∷ []) l (Store v) st)))
+        (rec (slice_set l v x) rest (pe + 1) (omega arith)
+        (stood rest (pe + 1) back exit
+        (moved (p + (expression_size e + 1)) (pe + 1) (Then rest back exit) (omega arith) h.2)))))
+    statement_follows (service_call c) rest p back exit l le h =
+        let pe = p + arguments_size c.arguments in
+        let i = call_instruction scope c in
+        let front = arguments_code scope c.arguments p in
+        let st = (has_back code p (arguments_size c.arguments) front (i ∷ []) (length-arguments_code scope c.arguments p) h.1).0 in
+        let in_code = slice_get_within code pe i st in
+        let before : slice_get code pe ≡ Some i = st in
+        let after : suc pe ≡ pe + 1 = omega arith in
+        with_value_follows p pe l rest (λ xs. stacked xs []) (values scope l c.arguments)
+        (λ xs. Stops (ends.Call (calling l rest (places_of scope c)) (request c.service xs))) (omega arith)
+        (arguments_run scope code c.arguments p [] l (has_front code p front (i ∷ []) h.1))
+        (λ xs a. record {
+          steps = a.steps + 1;
+          within = omega (arith, a.rises, room-least code t);
+          outcome = ends.Call (at (pe + 1) l) (request c.service (unstacked (stacked xs []) []));
+          by = a.by 1 ∙ one_step code pe (stacked xs []) l i st 0;
+          ended = refl;
+          same = (
+            ap (request c.service) (sym (unstacked-stacked xs [] [] ∙ append-nil xs)),
+            record {
+              locals = refl;
+              todo = stood rest (pe + 1) back exit
+                  (moved (p + (arguments_size c.arguments + 1)) (pe + 1) (Then rest back exit) (omega arith) h.2);
+              reply = λ ls reply. ap (λ o. replied o ls reply) (sym before) ∙ ap (λ n. replied (call_before code n) ls reply) after;
+            },
+          );
+        })
+    statement_follows (if_then e s) rest p back exit l le h =
+        let pe = p + expression_size e in
+        let q = pe + 1 + block_size s in
+        let front = expression_code scope e p in
+        let tail = block_code scope s (pe + 1) back exit in
+        let hb = has_back code p (expression_size e) front (JumpIfZero q ∷ tail) (length-expression_code scope e p) h.1 in
+        let in_code = slice_get_within code pe (JumpIfZero q) hb.0 in
+        let named = uses_back scope (expression_uses e) (block_uses s) h.0 in
+        let r = moved (p + (expression_size e + 1 + block_size s)) q (Then rest back exit) (omega arith) h.2 in
+        with_value_follows p pe l rest (λ x. x ∷ []) (value scope l e)
+        (λ x. Goes l (if is_zero x then rest else items_before s rest)) (omega arith)
+        (expression_runs scope code e p [] l (has_front code p front (JumpIfZero q ∷ tail) h.1))
+        (λ x a. test_follows p pe q l x rest (items_before s rest) (is_zero x) a
+        (one_step code pe (x ∷ []) l (JumpIfZero q) hb.0) (omega arith) (omega arith) (omega (arith, weight-items_before s rest))
+        (stood rest q back exit r)
+        (stood (items_before s rest) (pe + 1) back exit (block_stands s rest (pe + 1) back exit named hb.1 r)))
+    statement_follows (if_else e s r) rest p back exit l le h =
+        let pe = p + expression_size e in
+        let q = pe + 1 + block_size s + 1 in
+        let y = q + block_size r in
+        let front = expression_code scope e p in
+        let first = block_code scope s (pe + 1) back exit in
+        let other = Jump y ∷ block_code scope r q back exit in
+        let hb = has_back code p (expression_size e) front (JumpIfZero q ∷ (first ++ other)) (length-expression_code scope e p) h.1 in
+        let hs = has_front code (pe + 1) first other hb.1 in
+        let hj = has_back code (pe + 1) (block_size s) first other (length-block_code scope s (pe + 1) back exit) hb.1 in
+        let in_code = slice_get_within code pe (JumpIfZero q) hb.0 in
+        let named = uses_back scope (expression_uses e) (block_uses s ++ block_uses r) h.0 in
+        let named_s = uses_front scope (block_uses s) (block_uses r) named in
+        let named_r = uses_back scope (block_uses s) (block_uses r) named in
+        let ry = moved (p + (expression_size e + 1 + block_size s + 1 + block_size r)) y (Then rest back exit) (omega arith) h.2 in
+        with_value_follows p pe l rest (λ x. x ∷ []) (value scope l e)
+        (λ x. Goes l (if is_zero x then items_before r rest else items_before s rest)) (omega arith)
+        (expression_runs scope code e p [] l (has_front code p front (JumpIfZero q ∷ (first ++ other)) h.1))
+        (λ x a. test_follows p pe q l x (items_before r rest) (items_before s rest) (is_zero x) a
+        (one_step code pe (x ∷ []) l (JumpIfZero q) hb.0) (omega arith)
+        (omega (arith, weight-items_before r rest)) (omega (arith, weight-items_before s rest))
+        (stood (items_before r rest) q back exit (block_stands r rest q back exit named_r hj.1 ry))
+        (stood (items_before s rest) (pe + 1) back exit (block_stands s rest (pe + 1) back exit named_s hs
+        (jump_first (pe + 1 + block_size s) y y (Then rest back exit) hj.0 (omega arith) refl ry))))
+    statement_follows (while e s) rest p back exit l le h =
+        let pe = p + expression_size e in
+        let q = pe + 1 + block_size s + 1 in
+        let front = expression_code scope e p in
+        let first = block_code scope s (pe + 1) p q in
+        let tail = first ++ Jump p ∷ [] in
+        let hb = has_back code p (expression_size e) front (JumpIfZero q ∷ tail) (length-expression_code scope e p) h.1 in
+        let hs = has_front code (pe + 1) first (Jump p ∷ []) hb.1 in
+        let hj = has_back code (pe + 1) (block_size s) first (Jump p ∷ []) (length-block_code scope s (pe + 1) p q) hb.1 in
+        let in_code = slice_get_within code pe (JumpIfZero q) hb.0 in
+        let named = uses_back scope (expression_uses e) (block_uses s) h.0 in
+        let after : q ≡ p + (expression_size e + 1 + block_size s + 1) = omega arith in
+        let r = moved (p + (expression_size e + 1 + block_size s + 1)) q (Then rest back exit) (omega arith) h.2 in
+        with_value_follows p pe l rest (λ x. x ∷ []) (value scope l e)
+        (λ x. Goes l (if is_zero x then rest else items_before s (Mark e s ∷ rest))) (omega arith)
+        (expression_runs scope code e p [] l (has_front code p front (JumpIfZero q ∷ tail) h.1))
+        (λ x a. test_follows p pe q l x rest (items_before s (Mark e s ∷ rest)) (is_zero x) a
+        (one_step code pe (x ∷ []) l (JumpIfZero q) hb.0) (omega arith) (omega arith)
+        (omega (arith, weight-items_before s (Mark e s ∷ rest)))
+        (stood rest q back exit r)
+        (stood (items_before s (Mark e s ∷ rest)) (pe + 1) p q (block_stands s (Mark e s ∷ rest) (pe + 1) p q named hs
+        (here (pe + 1 + block_size s) (Then (Mark e s ∷ rest) p q) (hj.0, omega arith, after, h.0, back, exit, h.1, r)))))
+    statement_follows break rest p back exit l le h =
+        let b = path_rises h.2.jumps (p + 1) h.2.place h.2.path in
+        let c = below_exit rest h.2.place back exit h.2.holds in
+        match_on t p exit l l (walk scope again fuel l (after_mark rest))
+        (jumps_to code p exit exit [] l (omega arith) h.1.0 refl)
+        (rec l (after_mark rest) exit (omega (arith, weight-after_mark rest)) (to_exit rest h.2.place back exit h.2.holds))
+    statement_follows continue rest p back exit l le h =
+        let b = path_rises h.2.jumps (p + 1) h.2.place h.2.path in
+        rec l (from_mark rest) p (omega (arith, weight-from_mark rest))
+        (to_mark rest p h.2.place back exit h.1.0 (omega arith) h.2.holds)
+    statement_follows return rest p back exit l le h =
+        rec l [] p (omega (arith, one-le-weight rest))
+        (here p (StandsSomehow scope code []) (p, p, (h.1.0, h.1.0, h.1.0, omega arith, omega arith)))
+
+    item_follows :
+        (todo : List Item) (p back exit : ℕ) (l : List ℤ) → weight todo ≤ suc fuel →
+        Stands scope code todo p back exit → Follows p l (after_item scope l todo)
+    item_follows [] p back exit l le h =
+        let in_code = slice_get_within code p End h.0 in
+        record {
+          steps = 1;
+          within = omega (arith, room-least code t);
+          outcome = ends.End (at p l);
+          by = one_step code p [] l End h.0 0;
+          ended = refl;
+          same = tt;
+        }
+    item_follows (Do s ∷ rest) p back exit l le h = statement_follows s rest p back exit l le h
+    item_follows (Mark e b ∷ rest) p back exit l le h = turned e b rest p back exit l h
+
+  -- ---- one thing after another, and one turn after another
+
+  walk_follows :
+      (t : ℕ) (again : Way) →
+      ((e : ExpressionTree) (b : Block) (rest : List Item) (p back exit : ℕ) (l : List ℤ) →
+      Stands scope code (Mark e b ∷ rest) p back exit → Match t p l (again l (Do (while e b) ∷ rest))) →
+      (fuel : ℕ) (l : List ℤ) (todo : List Item) (p : ℕ) → weight todo ≤ fuel → Stood p todo →
+      Match t p l (walk scope again fuel l todo)
+  walk_follows t again turned zero l todo p le h = absurd (omega (arith, one-le-weight todo))
+  walk_follows t again turned (suc fuel) l todo p le h =
+      match_on t p h.place l l (walk scope again (suc fuel) l todo) (path_leads h.jumps p h.place h.path l)
+      (item_follows t fuel again turned (walk_follows t again turned fuel) todo h.place h.holds.0 h.holds.1 l le h.holds.2)
+
+  pub turns_follow :
+      (t : ℕ) (l : List ℤ) (todo : List Item) (p : ℕ) → Stood p todo → Match t p l (turns scope t l todo)
+  turns_follow zero l todo p h =
+      walk_follows 0 (λ l d. ends.Over) (λ e b rest p back exit l st. (0, omega arith, refl)) (weight todo) l todo p
+      (omega arith) h
+  turns_follow (suc t) l todo p h =
+      walk_follows (suc t) (turns scope t)
+      (λ e b rest p back exit l st. match_turn t p back l (turns scope t l (Do (while e b) ∷ rest)) st.0
+      (turns_follow t l (Do (while e b) ∷ rest) back
+      (here back (StandsSomehow scope code (Do (while e b) ∷ rest))
+      (st.4, st.5, (st.3, st.6, moved exit (back + statement_size (while e b)) (Then rest st.4 st.5) st.2 st.7)))))
+      (weight todo) l todo p (omega arith) h

@@ -1,0 +1,134 @@
+-- The code of an accepted text is verified.
+use Rattle.std.proofs.Common.{◌≡◌, ℕ, zero, suc, ◌+◌, ◌<◌, ◌≤◌, Bool, true, false, ◌||◌, nat_le, nat_lt, List, [], ◌∷◌, ◌++◌, length, map, Option, Some, None, refl, sym, ap, ◌∙◌, subst, arith, length-append}
+use Rattle.std.specs.Prelude.{slice_get, if◌then◌else◌}
+use Rattle.std.proofs.lemmas.Bool.{leb-false, ltb-false}
+use Rattle.std.proofs.lemmas.List.{length-map}
+use Rattle.std.proofs.lemmas.Option.{slice_get_within}
+use Rattle.fmp_base.specs.declared.names.Name.{Name}
+use Rattle.fmp_base.specs.Systems.{SystemTables}
+use Rattle.fmp_lex.specs.declared.fault.FaultKind.TheVariants as fault
+use Rattle.fmp_tasklang.specs.declared.trees.Word.{Word}
+use Rattle.fmp_tasklang.specs.Trees.{BodyTree}
+use Rattle.fmp_tasklang.specs.Scopes.{exinf_name, scope_of}
+use Rattle.fmp_code.specs.declared.instructions.Instruction.{Instruction}
+use Rattle.fmp_code.specs.declared.instructions.Instruction.TheVariants.{End}
+use Rattle.fmp_code.specs.Instructions.{BodyTables}
+use Rattle.fmp_code.specs.Verify.{fits as fits_in, KeepsTable, VerifiedBody, Verified}
+use Rattle.fmp_codegen.specs.Calls.{BlockFits, CallsFit}
+use Rattle.fmp_codegen.specs.Compiling.{is_among, is_object, variables_offence, size_offence, body_offence, bodies_offence, compiled_body, compiled, IsAccepted}
+use Rattle.fmp_codegen.specs.Depths.{body_depth}
+use Rattle.fmp_codegen.specs.DepthTables.{block_depths, body_depths}
+use Rattle.fmp_codegen.specs.Naming.{Offence}
+use Rattle.fmp_codegen.specs.Scheme.{block_code, body_code}
+use Rattle.fmp_codegen.specs.Sizes.{block_size, body_size}
+use Rattle.fmp_codegen.specs.Tie.{HasAt}
+use Rattle.fmp_codegen.proofs.Bodies.{skips, Accepted, body-accepted}
+use Rattle.fmp_codegen.proofs.DepthLengths.{HasDepths, depths_front, depths_back, depths_all, length-block_depths, length-body_depths}
+use Rattle.fmp_codegen.proofs.Fits.{AllFit, fit_join, fit_at, block_first, block_fits}
+use Rattle.fmp_codegen.proofs.Lengths.{has_front, has_back, has_all, length-block_code, length-body_code}
+use Rattle.fmp_codegen.proofs.Names.{none-first, none-second}
+
+-- ---- limits
+
+not-taken : (t : Bool) (o : Offence) (rest : Option Offence) → (if t then Some o else rest) ≡ None → t ≡ false
+not-taken true o rest h = absurd (cc h)
+not-taken false o rest h = refl
+
+few_locals :
+    (tables : SystemTables) (names : List Name) (ws : List Word) → variables_offence tables names ws ≡ None →
+    length names ≤ 64 → length names + length ws ≤ 64
+few_locals tables names [] h le = omega (arith, le)
+few_locals tables names (w ∷ ws) h le =
+    let limit : Offence = record { line = w.line; why = fault.Limit } in
+    let twice : Offence = record { line = w.line; why = fault.TwiceNamed } in
+    let more = variables_offence tables (names ++ w.name ∷ []) ws in
+    let test = is_among w.name names || is_object tables w.name in
+    let rest = if test then Some twice else more in
+    let few = leb-false 64 (length names) (not-taken (nat_le 64 (length names)) limit rest h) in
+    let then_ = skips test twice more (skips (nat_le 64 (length names)) limit rest h) in
+    let one = length-append names (w.name ∷ []) in
+    omega (arith, one, few_locals tables (names ++ w.name ∷ []) ws then_ (omega (arith, one, few)))
+
+or-false : (a b : Bool) → (a || b) ≡ false → (a ≡ false) × (b ≡ false)
+or-false false b h = (refl, h)
+or-false true b h = absurd (cc h)
+
+record Small (body : BodyTree) : Type 0 where
+  size : body_size body ≤ 65535
+  depth : body_depth body ≤ 64
+
+is_small : (body : BodyTree) → size_offence body ≡ None → Small body
+is_small body h =
+    let limit : Offence = record { line = body.line; why = fault.Limit } in
+    let tests = or-false (nat_lt 65535 (body_size body)) (nat_lt 64 (body_depth body))
+    (not-taken (nat_lt 65535 (body_size body) || nat_lt 64 (body_depth body)) limit None h) in
+    record { size = ltb-false 65535 (body_size body) tests.0; depth = ltb-false 64 (body_depth body) tests.1 }
+
+-- ---- a body
+
+keeps_table :
+    (tables : SystemTables) (body : BodyTree) → Accepted tables body → BlockFits body.statements →
+    KeepsTable (compiled_body tables body)
+keeps_table tables body ok fits =
+    let scope = scope_of tables body in
+    let code = body_code tables body in
+    let table = body_depths body in
+    let n = block_size body.statements in
+    let statements = block_code scope body.statements 0 n n in
+    let entries = block_depths body.statements in
+    let small = is_small body ok.size in
+    let has : HasAt code 0 code = has_all code [] in
+    let hd : HasDepths table 0 table = depths_all table [] in
+    let front = has_front code 0 statements (End ∷ []) has in
+    let back = has_back code 0 n statements (End ∷ []) (length-block_code scope body.statements 0 n n) has in
+    let dfront = depths_front table 0 entries (0 ∷ []) hd in
+    let dback = depths_back table 0 n entries (0 ∷ []) (length-block_depths body.statements) hd in
+    let same : 0 + n ≡ n = omega arith in
+    let end = subst (λ m. slice_get table m ≡ Some 0) same dback.0 in
+    let last = subst (λ m. slice_get code m ≡ Some End) same back.0 in
+    let all = fit_join scope code table 0 n (n + 1)
+    (block_fits scope code table body.statements 0 n n n front dfront ok.names fits small.depth same end end end)
+    (fit_at scope code table n (n + 1) End 0 refl last end (omega arith) refl) in
+    let locals : length scope.variables ≡ length body.variables + 1 =
+    omega (arith, length-map body.variables (λ (w : Word). w.name)) in
+    let long = length-body_code tables body in
+    let entries_long = length-body_depths body in
+    record {
+      first = block_first scope code table body.statements 0 n dfront same end;
+      size = omega (arith, long, small.size);
+      long = omega (arith, long, entries_long);
+      each = λ place i d hi hx.
+          ap (λ m. fits_in m table place d i) (sym locals) ∙
+          all place i d (omega arith) (omega (arith, long, slice_get_within code place i hi)) hi hx;
+    }
+
+body_verified :
+    (tables : SystemTables) (body : BodyTree) → Accepted tables body → BlockFits body.statements →
+    VerifiedBody (compiled_body tables body)
+body_verified tables body ok fits =
+    record {
+      locals = omega (arith, few_locals tables (exinf_name ∷ []) body.variables ok.variables (omega arith));
+      table = keeps_table tables body ok fits;
+    }
+
+-- ---- all bodies
+
+each_verified :
+    (tables : SystemTables) (names : List Name) (bodies : List BodyTree) → bodies_offence tables names bodies ≡ None →
+    CallsFit bodies → (k : ℕ) (b : BodyTables) → slice_get (compiled tables bodies) k ≡ Some b → VerifiedBody b
+each_verified tables names [] h fits k b found = absurd (cc found)
+each_verified tables names (body ∷ bs) h fits zero b found =
+    let first = body_offence tables names body in
+    let rest = bodies_offence tables (names ++ body.name.name ∷ []) bs in
+    let ok = body-accepted tables names body (none-first first rest h) in
+    let same : compiled_body tables body ≡ b = cc found in
+    subst VerifiedBody same (body_verified tables body ok fits.0)
+each_verified tables names (body ∷ bs) h fits (suc k) b found =
+    let first = body_offence tables names body in
+    let rest = bodies_offence tables (names ++ body.name.name ∷ []) bs in
+    each_verified tables (names ++ body.name.name ∷ []) bs (none-second first rest h) fits.1 k b found
+
+pub is_verified :
+    (tables : SystemTables) (bodies : List BodyTree) → IsAccepted tables bodies → CallsFit bodies →
+    Verified (compiled tables bodies)
+is_verified tables bodies accepted fits = record { each = each_verified tables [] bodies accepted fits }

@@ -1,0 +1,77 @@
+-- What compiling a text answers: the code of its bodies, or the first fault in order of text.
+use Rattle.std.specs.Prelude.{◌≡◌, ℕ, ◌+◌, List, [], ◌∷◌, ◌++◌, length, map, Option, Some, None, Result, Ok, Err, Bool, true, false, ◌||◌, nat_le, nat_lt, is_some, if◌then◌else◌}
+use Rattle.fmp_base.specs.declared.names.Name.{Name}
+use Rattle.fmp_base.specs.Names.{name_text}
+use Rattle.fmp_base.specs.Systems.{SystemTables}
+use Rattle.fmp_lex.specs.declared.fault.BuildFault.{BuildFault}
+use Rattle.fmp_lex.specs.declared.fault.BuildFault.TheVariants as build
+use Rattle.fmp_lex.specs.declared.fault.FaultKind.TheVariants as fault
+use Rattle.fmp_lex.specs.declared.fault.TextFile.TheVariants as file
+use Rattle.fmp_tasklang.specs.declared.trees.Word.{Word}
+use Rattle.fmp_tasklang.specs.Trees.{BodyTree}
+use Rattle.fmp_tasklang.specs.Scopes.{place_of, object_number, object_names, exinf_name, scope_of}
+use Rattle.fmp_code.specs.declared.instructions.Code as declared
+use Rattle.fmp_code.specs.Instructions.{BodyTables, code_tables}
+use Rattle.fmp_codegen.specs.Depths.{body_depth}
+use Rattle.fmp_codegen.specs.DepthTables.{body_depths}
+use Rattle.fmp_codegen.specs.Naming.{Offence, first_offence, uses_offence, block_uses, reads}
+use Rattle.fmp_codegen.specs.Scheme.{body_code}
+use Rattle.fmp_codegen.specs.Sizes.{body_size}
+
+-- one of these names is the same
+abbrev pub is_among : Name → List Name → Bool
+is_among name names = is_some (place_of (name_text name) names)
+
+abbrev pub is_object : SystemTables → Name → Bool
+is_object tables name = reads (object_number (name_text name) (object_names tables))
+
+-- The first fault of declared variables, after locals of these names: the 65th local, or a name of another variable or
+-- of an object.
+abbrev pub variables_offence : SystemTables → List Name → List Word → Option Offence
+variables_offence tables locals [] = None
+variables_offence tables locals (w ∷ ws) =
+    if nat_le 64 (length locals) then Some (record { line = w.line; why = fault.Limit })
+    else (if is_among w.name locals || is_object tables w.name then Some (record { line = w.line; why = fault.TwiceNamed })
+    else variables_offence tables (locals ++ w.name ∷ []) ws)
+
+-- more than 65535 instructions, or more than 64 operands
+abbrev pub size_offence : BodyTree → Option Offence
+size_offence body =
+    if nat_lt 65535 (body_size body) || nat_lt 64 (body_depth body)
+    then Some (record { line = body.line; why = fault.Limit })
+    else None
+
+-- the first fault of a body, after bodies of these names: the 256th, a name of another body, then those of its
+-- variables, of the names that it uses, and of its size
+abbrev pub body_offence : SystemTables → List Name → BodyTree → Option Offence
+body_offence tables names body =
+    if nat_le 255 (length names) then Some (record { line = body.line; why = fault.Limit })
+    else (if is_among body.name.name names then Some (record { line = body.name.line; why = fault.TwiceNamed })
+    else first_offence (variables_offence tables (exinf_name ∷ []) body.variables)
+    (first_offence (uses_offence (scope_of tables body) (block_uses body.statements)) (size_offence body)))
+
+-- the first fault of the bodies of a text, after bodies of these names
+abbrev pub bodies_offence : SystemTables → List Name → List BodyTree → Option Offence
+bodies_offence tables names [] = None
+bodies_offence tables names (b ∷ bs) =
+    first_offence (body_offence tables names b) (bodies_offence tables (names ++ b.name.name ∷ []) bs)
+
+-- the code of a body
+abbrev pub compiled_body : SystemTables → BodyTree → BodyTables
+compiled_body tables body =
+    record { locals = length body.variables + 1; instructions = body_code tables body; depths = body_depths body }
+
+-- the code of the bodies of a text
+abbrev pub compiled : SystemTables → List BodyTree → List BodyTables
+compiled tables bodies = map (compiled_body tables) bodies
+
+-- no body has a fault
+abbrev pub IsAccepted : SystemTables → List BodyTree → Type 0
+IsAccepted tables bodies = bodies_offence tables [] bodies ≡ None
+
+-- what compiling answers: the code of bodies without a fault, or the first fault
+abbrev pub IsCompiled : SystemTables → List BodyTree → Result declared.Code BuildFault → Type 0
+IsCompiled tables bodies (Ok code) = IsAccepted tables bodies × (code_tables code ≡ compiled tables bodies)
+IsCompiled tables bodies (Err build.Memory) = Unit {0}
+IsCompiled tables bodies (Err (build.At f line why)) =
+    (f ≡ file.Source) × (bodies_offence tables [] bodies ≡ Some (record { line = line; why = why }))

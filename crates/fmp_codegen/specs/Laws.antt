@@ -1,0 +1,25 @@
+-- Laws of the compiled code.
+use Rattle.std.specs.Prelude.{◌≡◌, ℕ, ◌+◌, ◌*◌, ◌≤◌, max, List, [], ◌∷◌}
+use Rattle.fmp_base.specs.Ties.{KeepsTie}
+use Rattle.fmp_base.specs.FinishLaws.{turned}
+use Rattle.fmp_base.specs.Systems.{SystemTables}
+use Rattle.fmp_tasklang.specs.Trees.{BodyTree}
+use Rattle.fmp_tasklang.specs.Texts.{text_meaning}
+use Rattle.fmp_code.specs.Instructions.{BodyTables}
+use Rattle.fmp_code.specs.Machine.{code_meaning}
+use Rattle.fmp_codegen.specs.Tie.{CodeTied, longest}
+
+-- Code does what the bodies of a text do. Start, stretch and deliver keep the tie: what the code finishes within n
+-- instructions the text finishes within n turns of loops, in the same way; and what the text finishes within t turns
+-- the code finishes within (t + 1) times the instructions of the longest body.
+pub record DoesText (tables : SystemTables) (bodies : List BodyTree) (code : List BodyTables) : Type 0 where
+  pub code_first :
+      (n : ℕ) → KeepsTie (CodeTied tables bodies code) (code_meaning code) n (text_meaning tables bodies) n
+  pub text_first :
+      (t n : ℕ) → 1 ≤ n → (t + 1) * longest code ≤ n →
+      KeepsTie (turned (CodeTied tables bodies code)) (text_meaning tables bodies) t (code_meaning code) n
+
+-- the greatest entry of a depth table
+abbrev pub greatest : List ℕ → ℕ
+greatest [] = 0
+greatest (d ∷ ds) = max d (greatest ds)

@@ -1,0 +1,10 @@
+pub mod Calls
+pub mod Compiling
+pub mod Depths
+pub mod DepthTables
+pub mod Laws
+pub mod Naming
+pub mod Runs
+pub mod Scheme
+pub mod Sizes
+pub mod Tie

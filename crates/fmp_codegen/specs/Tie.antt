@@ -1,0 +1,79 @@
+-- The tie between the text of a body and its code: the same locals, and the program counter at the code of what is
+-- still to do.
+use Rattle.std.specs.Prelude.{◌≡◌, ℕ, zero, suc, ◌+◌, ◌<◌, ◌≤◌, max, ℤ, List, [], ◌∷◌, length, Option, Some, None, slice_get}
+use Rattle.fmp_base.specs.declared.calls.Reply.{Reply}
+use Rattle.fmp_base.specs.Deliveries.{Places}
+use Rattle.fmp_base.specs.Systems.{SystemTables}
+use Rattle.fmp_tasklang.specs.Trees.{StatementTree, while, BodyTree}
+use Rattle.fmp_tasklang.specs.Scopes.{Scope, scope_of}
+use Rattle.fmp_tasklang.specs.Contexts.{Item, Do, Mark, TextContext, locals_after}
+use Rattle.fmp_tasklang.specs.Texts.{body_at}
+use Rattle.fmp_code.specs.declared.instructions.Instruction.{Instruction}
+use Rattle.fmp_code.specs.declared.instructions.Instruction.TheVariants.{Jump, End}
+use Rattle.fmp_code.specs.declared.instructions.MachineContext.{MachineContext}
+use Rattle.fmp_code.specs.Instructions.{BodyTables, instructions_at}
+use Rattle.fmp_code.specs.Machine.{call_before, replied}
+use Rattle.fmp_codegen.specs.Naming.{uses_offence, statement_uses}
+use Rattle.fmp_codegen.specs.Scheme.{statement_code}
+use Rattle.fmp_codegen.specs.Sizes.{statement_size}
+
+-- the instructions stand in the code from this place on
+abbrev pub HasAt : List Instruction → ℕ → List Instruction → Type 0
+HasAt code at [] = Unit {0}
+HasAt code at (i ∷ is) = (slice_get code at ≡ Some i) × HasAt code (at + 1) is
+
+-- so many jumps forward lead from p to q
+abbrev pub Path : List Instruction → ℕ → ℕ → ℕ → Type 0
+Path code zero p q = p ≡ q
+Path code (suc n) p q = (a : ℕ) × (slice_get code p ≡ Some (Jump a)) × (p < a) × Path code n a q
+
+-- jumps forward lead from p to a place of which P holds
+pub record Reaches (code : List Instruction) (p : ℕ) (P : ℕ → Type 0) : Type 0 where
+  pub jumps : ℕ
+  pub place : ℕ
+  pub path : Path code jumps p place
+  pub holds : P place
+
+-- all names of a statement are known
+abbrev pub IsNamed : Scope → StatementTree → Type 0
+IsNamed scope s = uses_offence scope (statement_uses s) ≡ None
+
+-- From a place on stands the code of these things to do, jumps forward aside: the code of a statement, a jump back at
+-- the end of a turn, the end of the body. `continue` leads to `again` and `break` to `exit`.
+abbrev pub Stands : Scope → List Instruction → List Item → (at again exit : ℕ) → Type 0
+Stands scope code [] at again exit =
+    (slice_get code at ≡ Some End) × (slice_get code again ≡ Some End) × (slice_get code exit ≡ Some End) ×
+    (at ≤ again) × (at ≤ exit)
+Stands scope code (Do s ∷ rest) at again exit =
+    IsNamed scope s × HasAt code at (statement_code scope s at again exit) ×
+    Reaches code (at + statement_size s) (λ q. Stands scope code rest q again exit)
+Stands scope code (Mark e b ∷ rest) at again exit =
+    (slice_get code at ≡ Some (Jump again)) × (at < exit) × (exit ≡ again + statement_size (while e b)) ×
+    IsNamed scope (while e b) ×
+    (again' : ℕ) × (exit' : ℕ) × HasAt code again (statement_code scope (while e b) again again' exit') ×
+    Reaches code exit (λ q. Stands scope code rest q again' exit')
+
+-- the same, wherever `continue` and `break` lead
+abbrev pub StandsSomehow : Scope → List Instruction → List Item → ℕ → Type 0
+StandsSomehow scope code todo at = (again : ℕ) × (exit : ℕ) × Stands scope code todo at again exit
+
+-- a reply changes the locals in the same way
+abbrev pub TakesReply : List Instruction → Option Places → ℕ → Type 0
+TakesReply code places at =
+    (locals : List ℤ) (reply : Reply) → locals_after locals places reply ≡ replied (call_before code at) locals reply
+
+-- tied contexts of the code of a body and of its text
+pub record ContextTied (scope : Scope) (code : List Instruction) (d : MachineContext) (c : TextContext) : Type 0 where
+  pub locals : c.locals ≡ d.locals
+  pub todo : Reaches code d.pc (StandsSomehow scope code c.todo)
+  pub reply : TakesReply code c.places d.pc
+
+-- the same for each body of a text, by its number
+abbrev pub CodeTied : SystemTables → List BodyTree → List BodyTables → ℕ → MachineContext → TextContext → Type 0
+CodeTied tables bodies code body d c =
+    ContextTied (scope_of tables (body_at bodies body)) (instructions_at code body) d c
+
+-- the greatest number of instructions of a body
+abbrev pub longest : List BodyTables → ℕ
+longest [] = 0
+longest (b ∷ bs) = max (length b.instructions) (longest bs)

@@ -1,0 +1,4 @@
+//! From the syntax trees of task bodies to stack code.
+#![tactic(auto)]
+
+pub mod laws;

@@ -1,0 +1,13 @@
+pub mod BodyLaws
+pub mod Chains
+pub mod FieldLaws
+pub mod ImageLaws
+pub mod InstructionLaws
+pub mod Names
+pub mod PairLaws
+pub mod PairLists
+pub mod PairLoops
+pub mod RowLaws
+pub mod RowLoops
+pub mod TableLaws
+pub mod Verification

@@ -1,0 +1,217 @@
+//! The bodies of an image, read and put.
+
+ghost use Rattle.std.specs.Prelude.{◌≡◌, ◌++◌, ◌∷◌, ◌<◌, length, map, true, OnOk};
+ghost use Rattle.fmp_code.specs.Instructions.{body_tables};
+ghost use Rattle.fmp_image.specs.Fields.{Gives, byte};
+ghost use Rattle.fmp_image.specs.Pairs.{pairs_at, pairs_spelled, AllPairs};
+ghost use Rattle.fmp_image.specs.Bodies.{kind_number, kind_of, greatest, step_spelled, step_at, code_at, keeps_table, body_numbers, body_spelled, body_at, IsBody, bodies as all_bodies};
+
+use crate::fault::{ImageFault, LoadFault};
+use crate::fields::{byte_at, put_byte, put_short, put_word, short_at, word_at};
+use crate::heads::{BodyHead, BodyKind};
+use crate::instructions::{argument_of, instruction_of, opcode_of};
+use crate::rows::{TABLE, in_range};
+use fmp_code::{BodyCode, Instruction};
+use std::alloc::{AllocError, Global};
+
+const CODE: LoadFault = LoadFault::Image(ImageFault::Code);
+
+fn put_step(out: &mut Vec<u8>, instruction: Instruction, depth: u8) -> Result<(), AllocError>
+    ensures { OnOk result (out.new.items ≡ out.old.items ++ step_spelled instruction depth) }
+{
+    put_byte(out, opcode_of(instruction))?;
+    put_word(out, argument_of(instruction))?;
+    put_byte(out, depth)?;
+    Ok(())
+}
+
+fn put_steps(
+    out: &mut Vec<u8>,
+    instructions: &[Instruction],
+    depths: &[u8],
+) -> Result<(), AllocError>
+    requires { length depths.now ≡ length instructions.now }
+    ensures { OnOk result (out.new.items ≡ out.old.items ++ pairs_spelled step_spelled instructions.now depths.now) }
+{
+    for place in 0..instructions.len() {
+        put_step(out, instructions[place], depths[place])?;
+    }
+    Ok(())
+}
+
+fn put_kind(out: &mut Vec<u8>, kind: BodyKind) -> Result<(), AllocError>
+    ensures { OnOk result (out.new.items ≡ out.old.items ++ byte.spell (kind_number kind)) }
+{
+    match kind {
+        BodyKind::Task => put_byte(out, 0),
+        BodyKind::Handler => put_byte(out, 1),
+    }
+}
+
+/// Puts a body of at most 65535 instructions.
+fn put_body(out: &mut Vec<u8>, head: &BodyHead, body: &BodyCode) -> Result<(), AllocError>
+    requires size { length body.now.instructions.items < 65536 }
+    requires depths { length body.now.depths.items ≡ length body.now.instructions.items }
+    ensures { OnOk result (out.new.items ≡ out.old.items ++ body_spelled head.now (body_tables body.now)) }
+{
+    put_kind(out, head.kind)?;
+    put_byte(out, body.locals)?;
+    put_byte(out, head.depth)?;
+    put_short(out, body.instructions.len() as u16)?;
+    put_steps(out, &body.instructions, &body.depths)?;
+    Ok(())
+}
+
+#[tactic(auto, unfolding(crate::specs::Bodies::step_at))]
+fn read_step(bytes: &[u8]) -> Result<((Instruction, u8), &[u8]), LoadFault>
+    ensures { Gives (λ x. (x.0, x.1.now)) result (step_at bytes.now) }
+{
+    let (opcode, rest) = byte_at(bytes)?;
+    let (argument, rest) = word_at(rest)?;
+    let (depth, rest) = byte_at(rest)?;
+    match instruction_of(opcode, argument) {
+        None => Err(CODE),
+        Some(instruction) => Ok(((instruction, depth), rest)),
+    }
+}
+
+fn read_steps<'a>(
+    alloc: Global,
+    size: u16,
+    bytes: &'a [u8],
+) -> Result<((Vec<Instruction>, Vec<u8>), &'a [u8]), LoadFault>
+    ensures { Gives (λ x. ((x.0.0.items, x.0.1.items), x.1.now)) result (pairs_at step_at size bytes.now) }
+{
+    let mut instructions = Vec::new(alloc);
+    let mut depths = Vec::new(alloc);
+    let mut rest = bytes;
+    for _ in 0..size {
+        let ((instruction, depth), after) = read_step(rest)?;
+        instructions.push(instruction)?;
+        depths.push(depth)?;
+        rest = after;
+    }
+    Ok(((instructions, depths), rest))
+}
+
+fn read_code<'a>(
+    alloc: Global,
+    size: u16,
+    bytes: &'a [u8],
+) -> Result<((Vec<Instruction>, Vec<u8>), &'a [u8]), LoadFault>
+    ensures { Gives (λ x. ((x.0.0.items, x.0.1.items), x.1.now)) result (code_at size bytes.now) }
+{
+    if bytes.len() < 6 * size as usize {
+        return Err(LoadFault::Image(ImageFault::Short));
+    }
+    read_steps(alloc, size, bytes)
+}
+
+fn greatest(depths: &[u8]) -> u8
+    ensures { result ≡ greatest depths.now }
+{
+    let mut most = 0;
+    for depth in depths {
+        most = most.max(*depth);
+    }
+    most
+}
+
+fn keeps_table(body: &BodyCode) -> bool
+    ensures { result ≡ keeps_table (body_tables body.now) }
+{
+    fmp_code::keeps_table(body)
+}
+
+fn keeps_numbers(kind: u8, locals: u8, depth: u8, depths: &[u8]) -> bool
+    ensures { result ≡ body_numbers kind locals depth depths.now }
+{
+    kind <= 1 && in_range(1, 64, locals as u32) && depth == greatest(depths)
+}
+
+fn kind_of(is_handler: bool) -> BodyKind
+    ensures { result ≡ kind_of is_handler }
+{
+    if is_handler {
+        BodyKind::Handler
+    } else {
+        BodyKind::Task
+    }
+}
+
+#[tactic(auto, unfolding(crate::specs::Bodies::body_at))]
+fn read_body<'a>(
+    alloc: Global,
+    bytes: &'a [u8],
+) -> Result<((BodyHead, BodyCode), &'a [u8]), LoadFault>
+    ensures { Gives (λ x. ((x.0.0, body_tables x.0.1), x.1.now)) result (body_at bytes.now) }
+{
+    let (kind, rest) = byte_at(bytes)?;
+    let (locals, rest) = byte_at(rest)?;
+    let (depth, rest) = byte_at(rest)?;
+    let (size, rest) = short_at(rest)?;
+    let ((instructions, depths), rest) = read_code(alloc, size, rest)?;
+    let body = BodyCode {
+        locals,
+        instructions,
+        depths,
+    };
+    if !keeps_table(&body) {
+        return Err(CODE);
+    }
+    if !keeps_numbers(kind, locals, depth, &body.depths) {
+        return Err(TABLE);
+    }
+    let head = BodyHead {
+        kind: kind_of(kind == 1),
+        depth,
+    };
+    Ok(((head, body), rest))
+}
+
+fn read_some_bodies<'a>(
+    alloc: Global,
+    count: u8,
+    bytes: &'a [u8],
+) -> Result<((Vec<BodyHead>, Vec<BodyCode>), &'a [u8]), LoadFault>
+    ensures { Gives (λ x. ((x.0.0.items, map body_tables x.0.1.items), x.1.now)) result (pairs_at body_at count bytes.now) }
+{
+    let mut heads = Vec::new(alloc);
+    let mut bodies = Vec::new(alloc);
+    let mut rest = bytes;
+    for _ in 0..count {
+        let ((head, body), after) = read_body(alloc, rest)?;
+        heads.push(head)?;
+        bodies.push(body)?;
+        rest = after;
+    }
+    Ok(((heads, bodies), rest))
+}
+
+/// Reads all bodies behind their number.
+pub fn read_bodies<'a>(
+    alloc: Global,
+    bytes: &'a [u8],
+) -> Result<((Vec<BodyHead>, Vec<BodyCode>), &'a [u8]), LoadFault>
+    ensures { Gives (λ x. ((x.0.0.items, map body_tables x.0.1.items), x.1.now)) result (all_bodies.read bytes.now) }
+{
+    let (count, rest) = byte_at(bytes)?;
+    read_some_bodies(alloc, count, rest)
+}
+
+/// Puts all bodies, at most 255, behind their number.
+pub fn put_bodies(
+    out: &mut Vec<u8>,
+    heads: &[BodyHead],
+    bodies: &[BodyCode],
+) -> Result<(), AllocError>
+    requires count { length bodies.now < 256 }
+    requires bodies { AllPairs IsBody heads.now (map body_tables bodies.now) }
+    ensures { OnOk result (out.new.items ≡ out.old.items ++ all_bodies.spell (heads.now, map body_tables bodies.now)) }
+{
+    put_byte(out, bodies.len() as u8)?;
+    for place in 0..bodies.len() {
+        put_body(out, &heads[place], &bodies[place])?;
+    }
+    Ok(())
+}

@@ -1,0 +1,16 @@
+//! What the tables of an image say of a body beside its code.
+
+/// What a body is the body of.
+#[derive(Clone, Copy, Debug, PartialEq, Eq)]
+pub enum BodyKind {
+    Task,
+    Handler,
+}
+
+/// What an image says of a body beside its code.
+#[derive(Clone, Copy, Debug, PartialEq, Eq)]
+pub struct BodyHead {
+    pub kind: BodyKind,
+    /// The greatest number of operands that stand before an instruction of the body, 0 to 64.
+    pub depth: u8,
+}

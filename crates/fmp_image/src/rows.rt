@@ -1,0 +1,125 @@
+//! Rows and tables of any kind.
+
+ghost use Rattle.std.specs.Prelude.{◌≡◌, ◌++◌, ◌∷◌, [], ◌<◌, ◌≤◌, ℕ, List, length, map, OnOk, IfOk};
+ghost use Rattle.std.specs.List.{flat_map, AllByRecursion};
+ghost use Rattle.fmp_base.specs.Names.{name_text};
+ghost use Rattle.fmp_image.specs.Fields.{Field, Gives, byte, text};
+ghost use Rattle.fmp_image.specs.Rows.{Frame, frame_of, bit, in_range};
+ghost use Rattle.fmp_image.specs.Tables.{rows_at, table};
+ghost use Rattle.fmp_image.specs.declared.keys.Key as spec_key;
+
+use crate::fault::{ImageFault, LoadFault};
+use crate::fields::{byte_at, put_byte, put_text};
+use crate::heads::BodyHead;
+use crate::keys::{Key, is_taken};
+use fmp_base::Name;
+use std::alloc::{AllocError, Global};
+
+/// The fault of a row that breaks a rule.
+pub const TABLE: LoadFault = LoadFault::Image(ImageFault::Table);
+
+/// Puts a number that stands for true, or 0 for false.
+pub fn put_bit(out: &mut Vec<u8>, is_set: bool, number: u8) -> Result<(), AllocError>
+    ensures { OnOk result (out.new.items ≡ out.old.items ++ byte.spell (bit is_set number)) }
+{
+    put_byte(out, if is_set { number } else { 0 })
+}
+
+/// Puts a name.
+pub fn put_name(out: &mut Vec<u8>, name: &Name) -> Result<(), AllocError>
+    requires { length (name_text name.now) < 256 }
+    ensures { OnOk result (out.new.items ≡ out.old.items ++ text.spell (name_text name.now)) }
+{
+    put_text(out, name.as_bytes())
+}
+
+pub fn in_range(least: u32, most: u32, number: u32) -> bool
+    ensures { result ≡ in_range least most number }
+{
+    least <= number && number <= most
+}
+
+/// A row of a table.
+pub trait Row: Copy {
+    ghost field: { Frame → Field Self };
+
+    ghost key_of: { Self → spec_key.Key };
+
+    ghost spelled: { Self → List ℕ };
+
+    ghost can_put: { Self → Type 0 };
+
+    /// Reads a row from the front of the bytes, and gives the bytes behind it.
+    fn read<'a>(
+        processors: u8,
+        heads: &[BodyHead],
+        bytes: &'a [u8],
+    ) -> Result<(Self, &'a [u8]), LoadFault>
+        ensures { Gives (λ x. (x.0, x.1.now)) result ((field (frame_of processors heads.now)).read bytes.now) };
+
+    /// What may stand only once in an image.
+    fn key(&self) -> Key
+        ensures { result ≡ key_of self.now };
+
+    /// Puts the row behind the bytes.
+    fn put(&self, out: &mut Vec<u8>) -> Result<(), AllocError>
+        requires { can_put self.now }
+        ensures { OnOk result (out.new.items ≡ out.old.items ++ spelled self.now) };
+}
+
+/// Reads so many rows, and enters their keys among those that are taken.
+pub fn read_rows<'a, R: Row>(
+    alloc: Global,
+    processors: u8,
+    heads: &[BodyHead],
+    count: u8,
+    taken: &mut Vec<Key>,
+    bytes: &'a [u8],
+) -> Result<(Vec<R>, &'a [u8]), LoadFault>
+    ensures read { Gives (λ x. (x.0.items, x.1.now)) result
+        (rows_at (R.field (frame_of processors heads.now)) R.key_of count taken.old.items bytes.now) }
+    ensures taken { IfOk result (λ x. taken.new.items ≡ taken.old.items ++ map R.key_of x.0.items) }
+{
+    let mut rows = Vec::new(alloc);
+    let mut rest = bytes;
+    for _ in 0..count {
+        let (row, after) = R::read(processors, heads, rest)?;
+        let key = row.key();
+        if is_taken(&key, taken) {
+            return Err(TABLE);
+        }
+        taken.push(key)?;
+        rows.push(row)?;
+        rest = after;
+    }
+    Ok((rows, rest))
+}
+
+/// Reads a table, and enters the keys of its rows among those that are taken.
+pub fn read_table<'a, R: Row>(
+    alloc: Global,
+    processors: u8,
+    heads: &[BodyHead],
+    taken: &mut Vec<Key>,
+    bytes: &'a [u8],
+) -> Result<(Vec<R>, &'a [u8]), LoadFault>
+    ensures read { Gives (λ x. (x.0.items, x.1.now)) result
+        ((table (R.field (frame_of processors heads.now)) R.key_of taken.old.items).read bytes.now) }
+    ensures taken { IfOk result (λ x. taken.new.items ≡ taken.old.items ++ map R.key_of x.0.items) }
+{
+    let (count, rest) = byte_at(bytes)?;
+    read_rows(alloc, processors, heads, count, taken, rest)
+}
+
+/// Puts a table of at most 255 rows behind the bytes.
+pub fn put_table<R: Row>(out: &mut Vec<u8>, rows: &[R]) -> Result<(), AllocError>
+    requires count { length rows.now < 256 }
+    requires rows { AllByRecursion R.can_put rows.now }
+    ensures { OnOk result (out.new.items ≡ out.old.items ++ length rows.now ∷ flat_map R.spelled rows.now) }
+{
+    put_byte(out, rows.len() as u8)?;
+    for row in rows {
+        row.put(out)?;
+    }
+    Ok(())
+}
