@@ -2,8 +2,8 @@
 use Rattle.std.specs.Prelude.{◌≡◌, ℕ, List, Err}
 use Rattle.fmp_trace.specs.declared.faults.StepsFault.{StepsFault}
 use Rattle.fmp_trace.specs.Steps.{steps_of}
-use Rattle.fmp.specs.declared.faults.BuildFault.{BuildFault}
-use Rattle.fmp.specs.declared.faults.BuildFault.TheVariants as build
+use Rattle.fmp_lex.specs.declared.fault.BuildFault.{BuildFault}
+use Rattle.fmp_lex.specs.declared.fault.BuildFault.TheVariants as build
 use Rattle.fmp.specs.declared.engine.RunFault.{RunFault}
 use Rattle.fmp.specs.declared.engine.RunFault.TheVariants as fault
 use Rattle.fmp.specs.declared.plain.TaskValues.{TaskValues}
@@ -17,7 +17,7 @@ pub data IsNoPair (cfg src : List ℕ) : Type 0 where
 
 -- a fault of the texts comes only where they are no accepted pair
 abbrev pub IsWhyBuild : BuildFault → (cfg src : List ℕ) → Type 0
-IsWhyBuild (build.Text file line kind) cfg src = IsNoPair cfg src
+IsWhyBuild (build.At file line kind) cfg src = IsNoPair cfg src
 IsWhyBuild build.Memory cfg src = Unit {0}
 
 -- the texts are accepted, and this is the first fault of the steps

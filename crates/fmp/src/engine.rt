@@ -10,11 +10,11 @@ ghost use Rattle.fmp.specs.Refusals.{IsWhyBuild, IsWhyRun};
 ghost use Rattle.fmp.specs.Runs.{Prints};
 
 use crate::compile::{compile, make_system};
-use crate::faults::BuildFault;
 use crate::plain::{PutBody, TaskValues, check_pair, read_bodies, read_config};
 use crate::play::play;
 use fmp_base::Event;
 use fmp_code::Vm;
+use fmp_lex::BuildFault;
 use fmp_trace::{StepsFault, read_steps};
 use std::alloc::{AllocError, Global};
 use thiserror::Error;

@@ -10,7 +10,6 @@ ghost use Rattle.fmp.specs.Commands.{HasBound};
 mod command;
 mod compile;
 mod engine;
-mod faults;
 mod files;
 mod perform;
 mod plain;

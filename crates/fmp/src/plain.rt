@@ -2,7 +2,7 @@
 ghost use Rattle.std.specs.Prelude.{◌≡◌, ◌≢◌, ◌<◌, ◌≤◌, ◌^◌, ◌↔◌, length, IfOk, IfErr, IsOk, MatchOption, slice_get, List};
 ghost use Rattle.fmp_lex.specs.declared.token.Token.{Token};
 ghost use Rattle.fmp_lex.specs.Cutting.{Cuts};
-ghost use Rattle.fmp.specs.declared.faults.BuildFault.TheVariants as fault;
+ghost use Rattle.fmp_lex.specs.declared.fault.BuildFault.TheVariants as fault;
 ghost use Rattle.fmp.specs.PlainTexts.{kinds, line_of, put_depth, Fits};
 ghost use Rattle.fmp.specs.PlainReaders.{kind_at, put_body};
 
@@ -12,11 +12,10 @@ mod sameness;
 #[cfg(test)]
 mod tests;
 
-use crate::faults::{BuildFault, FaultKind, SourceFile};
 pub use body::read_bodies;
 pub use config::{ConfigText, read_config};
 use fmp_base::Name;
-use fmp_lex::{LexFault, TextFault, Token, TokenKind, TokenList};
+use fmp_lex::{BuildFault, FaultKind, LexFault, TextFault, TextFile, Token, TokenKind, TokenList};
 use sameness::is_same;
 use std::alloc::Global;
 
@@ -44,7 +43,7 @@ pub struct PutBody {
 const STATEMENTS_MAX: usize = 32_767;
 
 /// The tokens of a text that is not too long.
-fn cut_text(alloc: Global, file: SourceFile, text: &[u8]) -> Result<TokenList, BuildFault>
+fn cut_text(alloc: Global, file: TextFile, text: &[u8]) -> Result<TokenList, BuildFault>
     ensures cut { IfOk result (λ list. Cuts text.now 0 list.tokens.items) }
     ensures only { IfOk result (λ list. (ts : List Token) → Cuts text.now 0 ts → ts ≡ list.tokens.items) }
     ensures fits { IfOk result (λ list. length text.now ≤ 2 ^ 20) }
@@ -52,11 +51,7 @@ fn cut_text(alloc: Global, file: SourceFile, text: &[u8]) -> Result<TokenList, B
 {
     match fmp_lex::tokens(alloc, text) {
         Ok(list) => Ok(list),
-        Err(TextFault::TooLong) => Err(BuildFault::Text {
-            file,
-            line: 1,
-            kind: FaultKind::Limit,
-        }),
+        Err(TextFault::TooLong) => Err(BuildFault::At(file, 1, FaultKind::Limit)),
         Err(TextFault::Memory) => Err(BuildFault::Memory),
     }
 }
@@ -96,19 +91,6 @@ fn misfit(tokens: &[Token], expected: &[TokenKind]) -> Option<usize>
     None
 }
 
-/// The fault of a text whose token at a place does not fit. Past the last token it stands where the text ends.
-fn fault_at(file: SourceFile, list: &TokenList, i: usize) -> BuildFault {
-    let tokens = list.tokens.as_slice();
-    let (line, kind) = match tokens.get(i) {
-        Some(token) if matches!(token.kind, TokenKind::Bad(LexFault::Limit)) => {
-            (token.line, FaultKind::Limit)
-        }
-        Some(token) => (token.line, FaultKind::Syntax),
-        None => (list.end_line, FaultKind::Syntax),
-    };
-    BuildFault::Text { file, line, kind }
-}
-
 /// How many operands the body needs at most.
 fn depth(body: &PutBody) -> u32
     ensures { result ≡ put_depth (put_body body.now).numbers }
@@ -121,13 +103,17 @@ pub fn check_pair(config: &ConfigText, body: &PutBody) -> Result<(), BuildFault>
     ensures { IsOk result ↔ Fits config.now.task (put_body body.now) }
 {
     let (file, line, kind) = if body.numbers.len() > STATEMENTS_MAX {
-        (SourceFile::Tasks, body.line, FaultKind::Limit)
+        (TextFile::Source, body.line, FaultKind::Limit)
     } else if config.task.entry != body.name {
-        (SourceFile::Config, config.line, FaultKind::UnknownName)
+        (TextFile::Configuration, config.line, FaultKind::UnknownName)
     } else if config.task.stack < 4 * depth(body) {
-        (SourceFile::Config, config.line, FaultKind::StackTooSmall)
+        (
+            TextFile::Configuration,
+            config.line,
+            FaultKind::StackTooSmall,
+        )
     } else {
         return Ok(());
     };
-    Err(BuildFault::Text { file, line, kind })
+    Err(BuildFault::At(file, line, kind))
 }

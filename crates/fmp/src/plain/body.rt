@@ -2,16 +2,15 @@ ghost use Rattle.std.specs.Prelude.{◌≡◌, ◌≢◌, IfOk, IfErr, IsTrue, �
 ghost use Rattle.fmp_base.specs.declared.names.Name.{Name};
 ghost use Rattle.fmp_base.specs.declared.calls.Service.TheVariants.{Put};
 ghost use Rattle.fmp_lex.specs.declared.token.TokenKind.TheVariants as token_kind;
-ghost use Rattle.fmp.specs.declared.faults.BuildFault.TheVariants as fault;
+ghost use Rattle.fmp_lex.specs.declared.fault.BuildFault.TheVariants as fault;
 ghost use Rattle.fmp.specs.PlainTexts as texts;
 ghost use Rattle.fmp.specs.PlainTexts.{kinds, task_kinds, Bodies};
 ghost use Rattle.fmp.specs.PlainReaders.{kind_at, name_or, number_or, put_body};
 
-use crate::faults::{BuildFault, SourceFile};
 use crate::plain::config::name_of;
-use crate::plain::{PutBody, cut_text, fault_at, find_kind, find_line, misfit};
+use crate::plain::{PutBody, cut_text, find_kind, find_line, misfit};
 use fmp_base::{Name, Service};
-use fmp_lex::{Keyword, Symbol, Token, TokenKind};
+use fmp_lex::{BuildFault, GrammarFault, Keyword, Symbol, TextFile, Token, TokenKind, fault_at};
 use std::alloc::{AllocError, Global};
 
 /// The number of a number's token, or 0.
@@ -70,14 +69,14 @@ pub fn read_bodies(alloc: Global, text: &[u8]) -> Result<PutBody, BuildFault>
     ensures reads { IfOk result (λ body. Bodies text.now (put_body body)) }
     ensures refuses { IfErr result (λ e. e ≢ fault.Memory → (b : texts.PutBody) → Bodies text.now b → ⊥) }
 {
-    let file = SourceFile::Tasks;
+    let file = TextFile::Source;
     let list = cut_text(alloc, file, text)?;
     let tokens = list.tokens.as_slice();
     let name = name_of(find_kind(tokens, 1));
     let numbers = find_numbers(alloc, tokens)?;
     let expected = expected_kinds(alloc, name, &numbers)?;
     if let Some(i) = misfit(tokens, &expected) {
-        return Err(fault_at(file, &list, i));
+        return Err(fault_at(&list, file, i, GrammarFault::Syntax));
     }
     Ok(PutBody {
         name,

@@ -1,13 +1,15 @@
 ghost use Rattle.std.specs.Prelude.{◌≡◌, ◌≢◌, IfOk, IfErr};
-ghost use Rattle.fmp.specs.declared.faults.BuildFault.TheVariants as fault;
+ghost use Rattle.fmp_lex.specs.declared.fault.BuildFault.TheVariants as fault;
 ghost use Rattle.fmp.specs.PlainTexts as texts;
 ghost use Rattle.fmp.specs.PlainTexts.{kinds, number_of, config_kinds, Configures};
 ghost use Rattle.fmp.specs.PlainReaders.{layout_of, name_or, value_or, Makes};
 
-use crate::faults::{BuildFault, FaultKind, SourceFile};
-use crate::plain::{TaskValues, cut_text, fault_at, find_kind, find_line, misfit};
+use crate::plain::{TaskValues, cut_text, find_kind, find_line, misfit};
 use fmp_base::{Er, Name};
-use fmp_lex::{Api, Constant, Keyword, Symbol, Token, TokenKind};
+use fmp_lex::{
+    Api, BuildFault, Constant, FaultKind, GrammarFault, Keyword, Symbol, TextFile, Token,
+    TokenKind, fault_at,
+};
 use std::alloc::Global;
 
 /// What a configuration says of its task: its name, its four values and the name of its entry.
@@ -153,20 +155,16 @@ pub fn read_config(alloc: Global, text: &[u8]) -> Result<ConfigText, BuildFault>
     ensures reads { IfOk result (λ config. Configures text.now config.task) }
     ensures refuses { IfErr result (λ e. e ≢ fault.Memory → (c : TaskValues) → Configures text.now c → ⊥) }
 {
-    let file = SourceFile::Config;
+    let file = TextFile::Configuration;
     let list = cut_text(alloc, file, text)?;
     let tokens = list.tokens.as_slice();
     let layout = find_layout(tokens);
     if let Some(i) = misfit(tokens, &expected_kinds(&layout)) {
-        return Err(fault_at(file, &list, i));
+        return Err(fault_at(&list, file, i, GrammarFault::Syntax));
     }
     let line = find_line(tokens, API_PLACE);
     match make_task(&layout) {
         Ok(task) => Ok(ConfigText { task, line }),
-        Err(code) => Err(BuildFault::Text {
-            file,
-            line,
-            kind: FaultKind::Api(code),
-        }),
+        Err(code) => Err(BuildFault::At(file, line, FaultKind::Api(code))),
     }
 }
