@@ -114,7 +114,8 @@ impl Processors {
 
     /// `loc_cpu` on processor p: a free CPU is locked, a locked one stays as it is.
     pub fn lock_cpu(&mut self, p: u8) -> Answer
-        ensures { (s : KernelState) → loc_cpu (with_processors s self.old) p ≡ answered_in (with_processors s self.new) result }
+        ensures outcome { (s : KernelState) → loc_cpu (with_processors s self.old) p ≡ answered_in (with_processors s self.new) result }
+        ensures count { length self.new ≡ length self.old }
     {
         let x = self.processor(p);
         if matches!(x.lock, Lock::Free) {
@@ -131,7 +132,8 @@ impl Processors {
 
     /// `unl_cpu` on processor p: E_CTX while it holds a spin lock, and then nothing changes; else its CPU is free.
     pub fn unlock_cpu(&mut self, p: u8) -> Answer
-        ensures { (s : KernelState) → unl_cpu (with_processors s self.old) p ≡ answered_in (with_processors s self.new) result }
+        ensures outcome { (s : KernelState) → unl_cpu (with_processors s self.old) p ≡ answered_in (with_processors s self.new) result }
+        ensures count { length self.new ≡ length self.old }
     {
         let x = self.processor(p);
         match x.lock {
@@ -152,7 +154,8 @@ impl Processors {
 
     /// `dis_dsp` and `ena_dsp` on processor p.
     pub fn set_dispatch(&mut self, p: u8, disabled: bool) -> Answer
-        ensures { (s : KernelState) → dispatch_set (with_processors s self.old) p disabled ≡ answered_in (with_processors s self.new) result }
+        ensures outcome { (s : KernelState) → dispatch_set (with_processors s self.old) p disabled ≡ answered_in (with_processors s self.new) result }
+        ensures count { length self.new ≡ length self.old }
     {
         let x = self.processor(p);
         self.set(
@@ -189,7 +192,8 @@ impl Processors {
     /// `loc_spn` of spin lock l on processor p: a free lock is taken, and the CPU is locked by it; for a held one the
     /// caller goes on asking, and nothing changes.
     pub fn acquire(&mut self, p: u8, l: u8) -> Answer
-        ensures { (s : KernelState) → acquired_by (is_held_in l self.old) (with_processors s self.old) p l ≡ answered_in (with_processors s self.new) result }
+        ensures outcome { (s : KernelState) → acquired_by (is_held_in l self.old) (with_processors s self.old) p l ≡ answered_in (with_processors s self.new) result }
+        ensures count { length self.new ≡ length self.old }
     {
         if self.is_held(l) {
             return Answer::Spins;
@@ -200,7 +204,8 @@ impl Processors {
 
     /// `try_spn` of spin lock l on processor p: E_OBJ for a held lock, and then nothing changes; a free one is taken.
     pub fn try_acquire(&mut self, p: u8, l: u8) -> Answer
-        ensures { (s : KernelState) → tried_by (is_held_in l self.old) (with_processors s self.old) p l ≡ answered_in (with_processors s self.new) result }
+        ensures outcome { (s : KernelState) → tried_by (is_held_in l self.old) (with_processors s self.old) p l ≡ answered_in (with_processors s self.new) result }
+        ensures count { length self.new ≡ length self.old }
     {
         if self.is_held(l) {
             return replied(Er::Obj);
@@ -212,7 +217,8 @@ impl Processors {
     /// `unl_spn` of spin lock l on processor p: E_ILUSE where it does not hold this lock, and then nothing changes; else
     /// its CPU is free.
     pub fn release(&mut self, p: u8, l: u8) -> Answer
-        ensures { (s : KernelState) → released_by (is_lock l (processor_in self.old p).lock) (with_processors s self.old) p ≡ answered_in (with_processors s self.new) result }
+        ensures outcome { (s : KernelState) → released_by (is_lock l (processor_in self.old p).lock) (with_processors s self.old) p ≡ answered_in (with_processors s self.new) result }
+        ensures count { length self.new ≡ length self.old }
     {
         let x = self.processor(p);
         if !is_spin(l, x.lock) {

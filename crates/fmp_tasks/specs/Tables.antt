@@ -34,7 +34,7 @@ tables_view a =
         data_queues = a.words;
         mailboxes = a.mailboxes.lists;
         shared_words = a.shared_words.items;
-        processors = a.processors.items;
+        processors = a.processors;
         due_times = a.cyclics;
         pending_cyclics = a.pending_cyclics.items;
         pending_interrupts = a.pending_interrupts.items;
@@ -59,6 +59,7 @@ pub record SystemFits (sys : SystemTables) : Type 0 where
   pub mailboxes : length sys.mailboxes ≤ 255
   pub messages : length sys.messages ≤ 255
   pub shared_words : length sys.shared_words ≤ 255
+  pub spin_locks : length sys.spin_locks ≤ 255
   pub cyclics : length sys.cyclics ≤ 255
   pub phases : ArePhases sys.cyclics
 
@@ -88,7 +89,7 @@ pub record IsWhole (a : Inside) : Type 0 where
   pub mailboxes : length a.mailboxes.lists ≡ length a.system.mailboxes.items
   pub messages : a.mailboxes.tasks ≡ length a.system.messages.items
   pub shared_words : length a.shared_words.items ≡ length a.system.shared_words.items
-  pub processors : length a.processors.items ≡ a.system.processors
+  pub processors : length a.processors ≡ a.system.processors
   pub cyclics : length a.cyclics ≡ length a.system.cyclics.items
   pub pending_cyclics : length a.pending_cyclics.items ≡ length a.system.cyclics.items
   pub pending_interrupts : length a.pending_interrupts.items ≡ 32

@@ -1,7 +1,6 @@
 //! The parts of the state in which a system starts.
 ghost use Rattle.std.specs.Prelude.{◌≡◌, false, replicate, IfOk, map};
 ghost use Rattle.fmp_base.specs.Setups.{created as created_block, created_state};
-ghost use Rattle.fmp_base.specs.States.{idle as idle_processor};
 ghost use Rattle.fmp_base.specs.Systems.{tables_of};
 ghost use Rattle.fmp_tasks.specs.Tables.{SystemFits};
 ghost use Rattle.fmp_tasks.specs.Empties.{empty_ready, empty_waits, empty_mailboxes, no_deadlines};
@@ -9,8 +8,7 @@ ghost use Rattle.fmp_tasks.specs.Empties.{empty_ready, empty_waits, empty_mailbo
 use crate::config::filled;
 use crate::words::Words;
 use fmp_base::{
-    FlagConfig, Lock, Phase, Processor, SemaphoreConfig, SharedWordConfig, System, TaskBlock,
-    TaskConfig,
+    FlagConfig, Phase, SemaphoreConfig, SharedWordConfig, System, TaskBlock, TaskConfig,
 };
 use fmp_lists::Lists;
 use fmp_ready::ReadyQueues;
@@ -76,18 +74,6 @@ fn initial_words(alloc: Global, configs: &[SharedWordConfig]) -> Result<Vec<i32>
         words.push_reserved(config.initial);
     }
     Ok(words)
-}
-
-/// A processor on which nothing runs and that nothing holds.
-pub fn idle() -> Processor
-    ensures { result ≡ idle_processor }
-{
-    Processor {
-        run: None,
-        lock: Lock::Free,
-        dispatch_disabled: false,
-        handler: None,
-    }
 }
 
 /// Empty ready queues and wait queues, and no deadlines.

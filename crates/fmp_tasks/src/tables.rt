@@ -4,15 +4,14 @@ ghost use Rattle.fmp_base.specs.Setups.{created_state};
 ghost use Rattle.fmp_base.specs.Systems.{tables_of};
 ghost use Rattle.fmp_tasks.specs.Tables.{SystemFits};
 
-use crate::config::{copied_system, filled};
+use crate::config::copied_system;
 use crate::order::Order;
-use crate::setup::{
-    created_blocks, empty_contents, empty_queues, idle, idle_handlers, initial_values,
-};
+use crate::setup::{created_blocks, empty_contents, empty_queues, idle_handlers, initial_values};
 use crate::words::Words;
-use fmp_base::{Processor, System, TaskBlock};
+use fmp_base::{System, TaskBlock};
 use fmp_lists::Lists;
 use fmp_ready::ReadyQueues;
+use fmp_spin::Processors;
 use fmp_ticks::{Cyclics, TickQueue};
 use fmp_waitq::WaitQueues;
 use std::alloc::{AllocError, Global};
@@ -20,6 +19,7 @@ use std::marker::Model;
 
 mod clock;
 mod configs;
+mod processors;
 mod queued;
 mod tasks;
 mod values;
@@ -40,7 +40,7 @@ pub struct Tables {
     words: Words,
     mailboxes: Lists,
     shared_words: Vec<i32>,
-    processors: Vec<Processor>,
+    processors: Processors,
     cyclics: Cyclics,
     pending_cyclics: Vec<bool>,
     pending_interrupts: Vec<bool>,
@@ -69,7 +69,7 @@ impl Tables {
         let (ready, waits, deadlines) = empty_queues(alloc, sys)?;
         let (semaphores, flags, shared_words) = initial_values(alloc, sys)?;
         let (words, mailboxes) = empty_contents(alloc, sys)?;
-        let processors = filled(alloc, idle(), sys.processors as usize)?;
+        let processors = Processors::new(alloc, sys.processors)?;
         let (cyclics, pending_cyclics, pending_interrupts) = idle_handlers(alloc, sys)?;
         Ok(Tables {
             system,

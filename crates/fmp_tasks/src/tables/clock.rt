@@ -1,39 +1,12 @@
-//! The processors, the clock, and the handlers that are due or pending.
+//! The clock, and the handlers that are due or pending.
 ghost use Rattle.std.specs.Prelude.{◌≡◌, ◌<◌, ◌≤◌, ◌^◌, length, map, slice_set, IfSome};
 ghost use Rattle.fmp_base.specs.ProcessorCalls.{with_due};
-ghost use Rattle.fmp_base.specs.States.{processor_at, with_processor};
 ghost use Rattle.fmp_base.specs.Ticks.{with_clock_advanced, is_pending};
 ghost use Rattle.fmp_ticks.specs.Times.{first_due};
 
 use crate::tables::Tables;
-use fmp_base::Processor;
 
 impl Tables {
-    /// How many processors there are.
-    pub fn processor_count(&self) -> usize
-        ensures state { result ≡ length self.now.state.processors }
-        ensures system { result ≡ self.now.system.processors }
-        ensures few { result ≤ 8 }
-    {
-        self.processors.len()
-    }
-
-    /// A processor.
-    pub fn processor(&self, p: u8) -> Processor
-        requires { p < self.now.system.processors }
-        ensures { result ≡ processor_at self.now.state p }
-    {
-        self.processors[p as usize]
-    }
-
-    /// Changes a processor.
-    pub fn set_processor(&mut self, p: u8, x: Processor)
-        requires { p < self.old.system.processors }
-        ensures { self.new ≡ record self.old { state = with_processor self.old.state p x } }
-    {
-        self.processors[p as usize] = x;
-    }
-
     /// The system clock.
     pub fn clock(&self) -> u32
         ensures value { result ≡ self.now.state.clock }

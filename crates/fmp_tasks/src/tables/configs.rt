@@ -86,7 +86,8 @@ impl Tables {
 
     /// How many spin locks there are.
     pub fn spin_lock_count(&self) -> usize
-        ensures { result ≡ length self.now.system.spin_locks }
+        ensures count { result ≡ length self.now.system.spin_locks }
+        ensures few { result ≤ 255 }
     {
         self.system.spin_locks.len()
     }

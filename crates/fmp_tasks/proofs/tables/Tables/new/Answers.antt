@@ -13,8 +13,8 @@ invariant_of-result c =
     record {
       system = subst SystemFits (sym e) c.requires;
       tasks =
-          subst (λ (s : SystemTables). Sound s c.in_ok-blocks.blocks.items c.new.result c.in_ok-ready.ready c.in_ok-ready.waits c.in_ok-ready.deadlines) (sym e)
-          (rw (c.in_ok-blocks.ensures, c.as_slice.ensures.value, c.new.ensures, c.in_ok-ready.ensures.ready, c.in_ok-ready.ensures.waits, c.in_ok-ready.ensures.deadlines) (Sound-new (tables_of c.args.sys.now) c.requires));
+          subst (λ (s : SystemTables). Sound s c.in_ok-blocks.blocks.items c.new-2.result c.in_ok-ready.ready c.in_ok-ready.waits c.in_ok-ready.deadlines) (sym e)
+          (rw (c.in_ok-blocks.ensures, c.as_slice.ensures.value, c.new-2.ensures, c.in_ok-ready.ensures.ready, c.in_ok-ready.ensures.waits, c.in_ok-ready.ensures.deadlines) (Sound-new (tables_of c.args.sys.now) c.requires));
       semaphores = ap (λ (l : List ℕ). length l) c.in_ok-semaphores.ensures.semaphores ∙ length-map _ _ ∙ ap (λ (s : SystemTables). length s.semaphores) (sym e);
       flags = ap (λ (l : List ℕ). length l) c.in_ok-semaphores.ensures.flags ∙ length-map _ _ ∙ ap (λ (s : SystemTables). length s.flags) (sym e);
       data_queues = ap (λ (l : List (List ℤ)). length l) c.in_ok-words.ensures.words ∙ length-replicate _ _ ∙ ap (λ (s : SystemTables). length s.data_queues) (sym e);

@@ -1,0 +1,98 @@
+//! The processors: what each runs, its CPU lock and spin locks, and whether its dispatching is disabled.
+ghost use Rattle.std.specs.Prelude.{◌≡◌, ◌<◌, ◌≤◌, [], length};
+ghost use Rattle.fmp_base.specs.ProcessorCalls as calls;
+ghost use Rattle.fmp_base.specs.States.{processor_at, with_processor};
+ghost use Rattle.fmp_tasks.specs.Tables.{outcome, SameShape};
+
+use crate::answers::replied;
+use crate::tables::Tables;
+use fmp_base::arguments::numbered;
+use fmp_base::{Answer, Er, Processor};
+
+impl Tables {
+    /// How many processors there are.
+    pub fn processor_count(&self) -> usize
+        ensures state { result ≡ length self.now.state.processors }
+        ensures system { result ≡ self.now.system.processors }
+        ensures few { result ≤ 8 }
+    {
+        self.processors.count()
+    }
+
+    /// A processor.
+    pub fn processor(&self, p: u8) -> Processor
+        requires { p < self.now.system.processors }
+        ensures { result ≡ processor_at self.now.state p }
+    {
+        self.processors.processor(p)
+    }
+
+    /// Changes a processor.
+    pub fn set_processor(&mut self, p: u8, x: Processor)
+        requires { p < self.old.system.processors }
+        ensures { self.new ≡ record self.old { state = with_processor self.old.state p x } }
+    {
+        self.processors.set(p, x);
+    }
+
+    /// `loc_cpu` on processor p: its CPU is locked; a locked one stays as it is (uITRON 4.0, section 4.8).
+    pub fn loc_cpu(&mut self, p: u8) -> Answer
+        ensures outcome { outcome result self.new [] ≡ calls.loc_cpu self.old.state p }
+        ensures shape { SameShape self.old self.new }
+    {
+        self.processors.lock_cpu(p)
+    }
+
+    /// `unl_cpu` on processor p: its CPU is free. E_CTX while it holds a spin lock, and then nothing changes (uITRON 4.0,
+    /// section 4.8; FMP kernel, spin locks).
+    pub fn unl_cpu(&mut self, p: u8) -> Answer
+        ensures outcome { outcome result self.new [] ≡ calls.unl_cpu self.old.state p }
+        ensures shape { SameShape self.old self.new }
+    {
+        self.processors.unlock_cpu(p)
+    }
+
+    /// `dis_dsp` and `ena_dsp` on processor p: its dispatching is disabled or enabled (uITRON 4.0, section 4.8).
+    pub fn set_dispatch(&mut self, p: u8, disabled: bool) -> Answer
+        ensures outcome { outcome result self.new [] ≡ calls.dispatch_set self.old.state p disabled }
+        ensures shape { SameShape self.old self.new }
+    {
+        self.processors.set_dispatch(p, disabled)
+    }
+
+    /// `loc_spn` on processor p: a free spin lock is taken, and locks the CPU; for a held one the caller goes on asking.
+    /// E_ID where the number names no spin lock. But for a lock that is taken nothing changes (FMP kernel, spin locks).
+    pub fn loc_spn(&mut self, p: u8, lock: i32) -> Answer
+        ensures outcome { outcome result self.new [] ≡ calls.loc_spn self.old.system self.old.state p lock }
+        ensures shape { SameShape self.old self.new }
+    {
+        match numbered(self.spin_lock_count(), lock) {
+            Some(l) => self.processors.acquire(p, l),
+            None => replied(Er::Id),
+        }
+    }
+
+    /// `try_spn` on processor p: a free spin lock is taken, and locks the CPU. E_ID where the number names no spin lock,
+    /// then E_OBJ for a held one; nothing changes then (FMP kernel, spin locks).
+    pub fn try_spn(&mut self, p: u8, lock: i32) -> Answer
+        ensures outcome { outcome result self.new [] ≡ calls.try_spn self.old.system self.old.state p lock }
+        ensures shape { SameShape self.old self.new }
+    {
+        match numbered(self.spin_lock_count(), lock) {
+            Some(l) => self.processors.try_acquire(p, l),
+            None => replied(Er::Id),
+        }
+    }
+
+    /// `unl_spn` on processor p: its spin lock is given up and its CPU is free. E_ID where the number names no spin lock,
+    /// then E_ILUSE where the processor does not hold it; nothing changes then (FMP kernel, spin locks).
+    pub fn unl_spn(&mut self, p: u8, lock: i32) -> Answer
+        ensures outcome { outcome result self.new [] ≡ calls.unl_spn self.old.system self.old.state p lock }
+        ensures shape { SameShape self.old self.new }
+    {
+        match numbered(self.spin_lock_count(), lock) {
+            Some(l) => self.processors.release(p, l),
+            None => replied(Er::Id),
+        }
+    }
+}
