@@ -1,6 +1,6 @@
 use crate::{BodyCode, Code, Instruction, Vm, apply_binary, apply_unary, keeps_table, verify};
 use fmp_base::{BinaryOperator, Call, Er, Fault, Reply, Service, Stretch, UnaryOperator};
-use fmp_kernel::Body;
+use fmp_body::Body;
 use std::alloc::{AllocError, Global};
 use std::test::Fail;
 

@@ -1,7 +1,5 @@
 -- What holds of each context, and lines that tell of tasks only.
 use Rattle.std.specs.Prelude.{◌<◌, ℕ, zero, suc, List, [], ◌∷◌, Option, Some, None, length}
-use Rattle.fmp_base.specs.declared.bodies.Stretch.{Stretch}
-use Rattle.fmp_base.specs.declared.bodies.Stretch.TheVariants as ends
 use Rattle.fmp_base.specs.declared.events.Line.{Line}
 use Rattle.fmp_base.specs.declared.events.Line.TheVariants as line
 use Rattle.fmp_base.specs.declared.states.Caller.{Caller}
@@ -18,20 +16,6 @@ AllContexts P (Some c ∷ cs) = P zero c × AllContexts (λ t. P (suc t)) cs
 abbrev pub OfOption : {C : Type 0} → (C → Type 0) → Option C → Type 0
 OfOption P None = Unit {0}
 OfOption P (Some c) = P c
-
--- P holds of the context that a stretch leaves
-abbrev pub OfStretch : {C : Type 0} → (C → Type 0) → Stretch C → Type 0
-OfStretch P (ends.Call c made) = P c
-OfStretch P (ends.End c) = P c
-OfStretch P (ends.Fault c fault) = P c
-OfStretch P ends.Over = Unit {0}
-
--- P holds of the context with which a stretch makes a call
-abbrev pub OfCall : {C : Type 0} → (C → Type 0) → Stretch C → Type 0
-OfCall P (ends.Call c made) = P c
-OfCall P (ends.End c) = Unit {0}
-OfCall P (ends.Fault c fault) = Unit {0}
-OfCall P ends.Over = Unit {0}
 
 -- each context is one that the body of its task gave
 pub record Fitting {B C : Type 0} (is_context : B → ℕ → C → Type 0) (body : B) (sys : SystemTables) (cs : List (Option C)) : Type 0 where

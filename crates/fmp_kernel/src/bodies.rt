@@ -1,52 +1,13 @@
-//! Bodies as the kernel sees them, and the contexts that they keep between their stretches.
+//! The contexts that bodies keep between their stretches.
 ghost use Rattle.std.specs.Prelude.{◌≡◌, ℕ, ◌+◌, ◌<◌, ◌≤◌, length, slice_set, Option, OnSome, All, false};
-ghost use Rattle.fmp_base.specs.declared.bodies.Stretch.{Stretch};
-ghost use Rattle.fmp_base.specs.Meanings.{Meaning, task_body, context_at, told, contexts_after_all};
+ghost use Rattle.fmp_base.specs.Meanings.{task_body, context_at, told, contexts_after_all};
 ghost use Rattle.fmp_base.specs.Systems.{task_config};
-ghost use Rattle.fmp_kernel.specs.Contexts.{Fitting, Entered, OfCall, IsOfTask};
+ghost use Rattle.fmp_kernel.specs.Contexts.{Fitting, Entered, IsOfTask};
 ghost use Rattle.fmp_kernel.specs.KernelViews.{contexts_of_tasks};
-ghost use Rattle.fmp_base.specs.Stretches.{is_over};
 
 use crate::tables::{Tables, body_number};
-use fmp_base::{Caller, Line, Reply, Stretch};
-
-/// The bodies of tasks and handlers, by their numbers, as a meaning that computes.
-pub trait Body {
-    /// What a body keeps between its stretches.
-    type Ctx: Copy;
-
-    /// What the bodies mean.
-    ghost meaning: { Self → Meaning Self.Ctx };
-
-    /// Which bodies there are.
-    ghost has_entry: { Self → ℕ → Type 0 };
-
-    /// Which contexts the calls of a body give.
-    ghost is_context: { Self → ℕ → Self.Ctx → Type 0 };
-
-    /// The context of a body at its start.
-    fn start(&self, entry: u8, exinf: i32) -> Self::Ctx
-        requires { has_entry self.now entry }
-        ensures value { result ≡ (meaning self.now).start entry exinf }
-        ensures context { is_context self.now entry result };
-
-    /// A stretch of a body, of at most n units.
-    fn stretch(&self, entry: u8, n: u64, c: Self::Ctx) -> Stretch<Self::Ctx>
-        requires entry { has_entry self.now entry }
-        requires context { is_context self.now entry c }
-        ensures value { result ≡ (meaning self.now).stretch entry n c }
-        ensures context { OfCall (is_context self.now entry) result };
-
-    /// The context after a reply to the call that ended a stretch.
-    fn deliver(&self, entry: u8, c: Self::Ctx, r: Reply) -> Self::Ctx
-        requires entry { has_entry self.now entry }
-        requires context { is_context self.now entry c }
-        ensures value { result ≡ (meaning self.now).deliver entry c r }
-        ensures context { is_context self.now entry result };
-
-    /// A stretch that is not over its bound is the same at every greater bound.
-    ghost stays: { (body : Self) (entry low high : ℕ) (c : Self.Ctx) → low ≤ high → is_over ((meaning body).stretch entry low c) ≡ false → (meaning body).stretch entry high c ≡ (meaning body).stretch entry low c };
-}
+use fmp_base::{Caller, Line, Reply};
+use fmp_body::Body;
 
 /// The context of a task, if it has one.
 pub fn context_of<C: Copy>(contexts: &[Option<C>], t: u8) -> Option<C>

@@ -5,19 +5,21 @@ ghost use Rattle.fmp_base.specs.Settles.{settled};
 ghost use Rattle.fmp_base.specs.States.{processor_at};
 ghost use Rattle.fmp_base.specs.Steps.{actor_ended, actor_of, effect_of, finished, run_by, stretched};
 ghost use Rattle.fmp_base.specs.Ticks.{ticked, with_clock_advanced};
-ghost use Rattle.fmp_kernel.specs.Contexts.{Fitting, Entered, OfCall, IsOfTask};
+ghost use Rattle.fmp_body.specs.Contexts.{OfCall};
+ghost use Rattle.fmp_kernel.specs.Contexts.{Fitting, Entered, IsOfTask};
 ghost use Rattle.fmp_kernel.specs.KernelViews.{contexts_of_tasks, world_of, done_of, done_or};
 ghost use Rattle.fmp_kernel.specs.Rooms.{IsReady};
 ghost use Rattle.fmp_kernel.specs.Stages.{makes_put_only, MakesPutsOnly};
 ghost use Rattle.fmp_kernel.specs.Tables.{progress, SameShape};
 
-use crate::bodies::{Body, carry_out, context_of};
+use crate::bodies::{carry_out, context_of};
 use crate::calls::call;
 use crate::settling::settle;
 use crate::tables::{Tables, body_number};
 use crate::tasks::end_itself;
 use crate::ticks::time_out_all;
 use fmp_base::{Answer, Caller, Effect, Line, Stretch};
+use fmp_body::Body;
 
 /// Adds lines to others.
 fn append(lines: &mut Vec<Line>, more: &Vec<Line>)

@@ -8,12 +8,12 @@ ghost use Rattle.fmp_kernel.specs.Contexts.{Entered};
 ghost use Rattle.fmp_kernel.specs.KernelViews.{view_after, view_of_setup};
 ghost use Rattle.fmp_kernel.specs.Stages.{IsInStage};
 
-use crate::bodies::Body;
 use crate::events::{conclude, run, tick};
 use crate::settling::is_same_task;
 use crate::tables::{Tables, filled};
 use crate::tasks::activate;
 use fmp_base::{Effect, Event, Line, Phase, StateWord, System, TaskState};
+use fmp_body::Body;
 use std::alloc::{AllocError, Global};
 use std::marker::Model;
 use thiserror::Error;

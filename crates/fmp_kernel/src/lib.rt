@@ -13,7 +13,7 @@ pub mod tables;
 pub mod tasks;
 pub mod ticks;
 
-pub use bodies::Body;
+pub use fmp_body::Body;
 pub use kernel::{Kernel, KernelFault};
 
 #[cfg(test)]

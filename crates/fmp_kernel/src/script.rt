@@ -1,6 +1,6 @@
 //! Bodies for tests: a list of values to put, the same for each entry.
-use crate::bodies::Body;
 use fmp_base::{Call, Reply, Stretch};
+use fmp_body::Body;
 
 /// Puts these values, one after the other, and ends. The context is the place of the next one.
 #[derive(Drop)]

@@ -1,0 +1,44 @@
+ghost use Rattle.std.specs.Prelude.{◌≡◌, ℕ, ◌≤◌, false};
+ghost use Rattle.fmp_base.specs.Meanings.{Meaning};
+ghost use Rattle.fmp_base.specs.Stretches.{is_over};
+ghost use Rattle.fmp_body.specs.Contexts.{OfCall};
+
+use fmp_base::{Reply, Stretch};
+
+/// The bodies of tasks and handlers, by their numbers, as a meaning that computes.
+pub trait Body {
+    /// What a body keeps between its stretches.
+    type Ctx: Copy;
+
+    /// What the bodies mean.
+    ghost meaning: { Self → Meaning Self.Ctx };
+
+    /// Which bodies there are.
+    ghost has_entry: { Self → ℕ → Type 0 };
+
+    /// Which contexts the calls of a body give.
+    ghost is_context: { Self → ℕ → Self.Ctx → Type 0 };
+
+    /// The context of a body at its start.
+    fn start(&self, entry: u8, exinf: i32) -> Self::Ctx
+        requires { has_entry self.now entry }
+        ensures value { result ≡ (meaning self.now).start entry exinf }
+        ensures context { is_context self.now entry result };
+
+    /// A stretch of a body, of at most n units.
+    fn stretch(&self, entry: u8, n: u64, c: Self::Ctx) -> Stretch<Self::Ctx>
+        requires entry { has_entry self.now entry }
+        requires context { is_context self.now entry c }
+        ensures value { result ≡ (meaning self.now).stretch entry n c }
+        ensures context { OfCall (is_context self.now entry) result };
+
+    /// The context after a reply to the call that ended a stretch.
+    fn deliver(&self, entry: u8, c: Self::Ctx, r: Reply) -> Self::Ctx
+        requires entry { has_entry self.now entry }
+        requires context { is_context self.now entry c }
+        ensures value { result ≡ (meaning self.now).deliver entry c r }
+        ensures context { is_context self.now entry result };
+
+    /// A stretch that is not over its bound is the same at every greater bound.
+    ghost stays: { (body : Self) (entry low high : ℕ) (c : Self.Ctx) → low ≤ high → is_over ((meaning body).stretch entry low c) ≡ false → (meaning body).stretch entry high c ≡ (meaning body).stretch entry low c };
+}
