@@ -1,9 +1,7 @@
-mod Misfits
-mod Statements
-mod Words
+pub mod OutsideLemmas
 pub mod PlayLemmas
 pub mod PrintLemmas
 pub mod PutCodes
 pub mod PutTies
-pub mod RefusalLemmas
+pub mod Statements
 pub mod StepLemmas

@@ -16,8 +16,8 @@ use Rattle.fmp_tasklang.specs.Contexts.{TextContext}
 use Rattle.fmp_tasklang.specs.Texts.{text_meaning}
 use Rattle.fmp_trace.specs.Steps.{steps_of}
 use Rattle.fmp.specs.PlainCode.{put_tables}
-use Rattle.fmp.specs.declared.plain.TaskValues.{TaskValues}
-use Rattle.fmp.specs.PlainTexts.{PutBody, Accepts, tables_of_task, put_tree, put_size}
+use Rattle.fmp_base.specs.declared.systems.TaskConfig.{TaskConfig}
+use Rattle.fmp.specs.OneTask.{PutBody, Accepts, built_task, put_tree, put_size}
 use Rattle.fmp.specs.Runs.{Prints}
 use Rattle.fmp.proofs.PutTies.{PutTied, keeps_from, keeps_back}
 
@@ -28,12 +28,12 @@ trace_text-same sys first first' r s p q e =
     ∙ ap (λ (lss : List (List Line)). lines_text sys 0 first' ++ (events_text sys 1 lss ++ states_text sys r.world.state)) q
     ∙ ap (λ (w : KernelState). lines_text sys 0 first' ++ (events_text sys 1 s.events ++ states_text sys w)) e
 
-pub prints : (cfg src steps : List ℕ) (n : ℕ) (before after : List ℕ) (c : TaskValues) (b : PutBody) (es : List Event)
+pub prints : (cfg src steps : List ℕ) (n : ℕ) (before after : List ℕ) (c : TaskConfig) (b : PutBody) (es : List Event)
     → Accepts cfg src c b → steps_of 1 steps ≡ Ok es
-    → after ≡ before ++ whole_text (tables_of_task c) (code_meaning (put_tables b.numbers ∷ [])) n es
+    → after ≡ before ++ whole_text (built_task c) (code_meaning (put_tables b.numbers ∷ [])) n es
     → Prints cfg src steps n before after
 prints cfg src steps n before after c b es accepted read wrote =
-    let sys : SystemTables = tables_of_task c in
+    let sys : SystemTables = built_task c in
     let text : Meaning TextContext = text_meaning sys (put_tree b ∷ []) in
     let machine : Meaning MachineContext = code_meaning (put_tables b.numbers ∷ []) in
     let tied = setup-tied sys (PutTied b.numbers) machine n text n (keeps_from sys b n n) in

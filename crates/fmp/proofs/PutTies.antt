@@ -21,7 +21,7 @@ use Rattle.fmp_tasklang.specs.Stretches.{places_of, turns}
 use Rattle.fmp_tasklang.specs.Texts.{body_at, text_meaning}
 use Rattle.fmp_tasklang.specs.Trees.{CallTree, number, Block}
 use Rattle.fmp_tasklang.proofs.Weights.{follows_each_item}
-use Rattle.fmp.specs.PlainTexts.{PutBody, put_size, put_block, put_tree}
+use Rattle.fmp.specs.OneTask.{PutBody, put_size, put_block, put_tree}
 use Rattle.fmp.specs.PlainCode.{put_code, put_tables}
 
 -- the statements that are still to do

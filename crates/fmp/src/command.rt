@@ -13,6 +13,11 @@ pub const BOUND_MAX: u64 = 281_474_976_710_656;
 /// What the program is asked to do.
 #[derive(Debug, Drop, PartialEq, Eq)]
 pub enum Cmd {
+    /// Check that a configuration and a text of task bodies, both names of files, have no fault.
+    Check {
+        config: String,
+        tasks: String,
+    },
     /// Run the tasks that a configuration declares, their bodies given by a second text, over the events of a steps
     /// text. The three are names of files. `bound` limits how long a task computes between two service calls.
     Run {
@@ -25,13 +30,29 @@ pub enum Cmd {
     Stored,
 }
 
-fn run_command<'a>(alloc: Global) -> Result<Command<'a>, AllocError> {
+/// The two words for the texts of a system.
+fn text_arguments<'a>(alloc: Global) -> (Arg<'a>, Arg<'a>) {
     let config = Arg::new(alloc, "CFG").required(true).help(
-        "File with the processors, their classes and the tasks in them",
+        "File with the processors, their classes and the objects in them",
     );
     let tasks = Arg::new(alloc, "SRC").required(true).help(
         "File with the bodies of the tasks, such as 'task main { put(7); }'",
     );
+    (config, tasks)
+}
+
+fn check_command<'a>(alloc: Global) -> Result<Command<'a>, AllocError> {
+    let (config, tasks) = text_arguments(alloc);
+    Command::new(alloc, "check")
+        .about(
+            "Reads a configuration and the bodies of its tasks, and prints 'ok' or the first fault",
+        )
+        .arg(config)?
+        .arg(tasks)
+}
+
+fn run_command<'a>(alloc: Global) -> Result<Command<'a>, AllocError> {
+    let (config, tasks) = text_arguments(alloc);
     let steps = Arg::new(alloc, "STEPS").required(true).help(
         "File with the events, one a line: 'run 1', 'tick' or 'int 3'",
     );
@@ -56,6 +77,7 @@ fn program<'a>(alloc: Global) -> Result<Command<'a>, AllocError> {
             "A multiprocessor real-time kernel. With no command, it runs a small example that it holds",
         )
         .subcommand_required(true)
+        .subcommand(check_command(alloc)?)?
         .subcommand(run_command(alloc)?)
 }
 
@@ -116,6 +138,10 @@ pub fn command<'a>(alloc: Global, words: &'a [&'a str]) -> Result<Cmd, Error>
     }
     let matches = program(alloc)?.try_get_matches_from(words)?;
     match matches.subcommand() {
+        Some(("check", check)) => Ok(Cmd::Check {
+            config: name_of(alloc, check, "CFG")?,
+            tasks: name_of(alloc, check, "SRC")?,
+        }),
         Some(("run", run)) => Ok(Cmd::Run {
             config: name_of(alloc, run, "CFG")?,
             tasks: name_of(alloc, run, "SRC")?,

@@ -4,9 +4,8 @@ ghost use Rattle.std.specs.Prelude.{◌≡◌, ◌+◌, ◌*◌, ◌<◌, ◌≤
 ghost use Rattle.fmp_base.specs.Systems.{tables_of};
 ghost use Rattle.fmp_code.specs.Instructions.{code_tables};
 ghost use Rattle.fmp.specs.PlainCode.{put_tables};
-ghost use Rattle.fmp.specs.PlainTexts.{tables_of_task};
+ghost use Rattle.fmp.specs.OneTask.{built_task};
 
-use crate::plain::TaskValues;
 use fmp_base::{Entry, Service, System, TaskConfig};
 use fmp_code::{BodyCode, Code, Instruction};
 use std::alloc::{AllocError, Global};
@@ -40,19 +39,13 @@ pub fn compile(alloc: Global, numbers: &[i32]) -> Result<Code, AllocError>
 }
 
 /// The tables of a system of this task on one processor.
-pub fn make_system(alloc: Global, task: &TaskValues) -> Result<System, AllocError>
-    ensures { IfOk result (λ sys. tables_of sys ≡ tables_of_task task.now) }
+pub fn make_system(alloc: Global, task: &TaskConfig) -> Result<System, AllocError>
+    ensures { IfOk result (λ sys. tables_of sys ≡ built_task task.now) }
 {
     let mut tasks = Vec::new(alloc);
     tasks.push(TaskConfig {
-        name: task.name,
-        activated: task.activated,
-        exinf: task.exinf,
         entry: Entry::Body(0),
-        priority: task.priority,
-        stack: task.stack,
-        processor: 0,
-        only: false,
+        ..*task
     })?;
     Ok(System {
         processors: 1,

@@ -48,6 +48,13 @@ pub fn read_inputs<R: Files + AllocGlobal>(rt: &R, cmd: &Cmd) -> Result<Vec<Vec<
     ensures err { IfErr result (λ exit. status_of exit ≡ 3) }
 {
     match cmd {
+        Cmd::Check { config, tasks } => {
+            let texts = [
+                read_up_to(rt, config, ENOUGH)?,
+                read_up_to(rt, tasks, ENOUGH)?,
+            ];
+            Vec::from_array(rt.alloc(), texts).map_err(|_| Exit::Memory(AllocError))
+        }
         Cmd::Run {
             config,
             tasks,

@@ -11,11 +11,14 @@ mod command;
 mod compile;
 mod engine;
 mod files;
+mod one_task;
+mod outside;
 mod perform;
-mod plain;
 mod play;
 #[cfg(test)]
 mod tests;
+#[cfg(test)]
+mod text_tests;
 
 use command::Cmd;
 use perform::Exit;

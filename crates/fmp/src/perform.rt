@@ -1,11 +1,12 @@
 //! Carrying out a command, from the bytes that were read to those that are to be written.
 ghost use Rattle.std.specs.Prelude.{◌≡◌, OnOk, OnErr, length, map};
 ghost use Rattle.fmp.specs.Commands.{HasBound, input_count};
-ghost use Rattle.fmp.specs.Performed.{CarriesOut, status_of};
+ghost use Rattle.fmp.specs.Performed.{CarriesOut, Checks, status_of};
 
 use crate::command::Cmd;
 use crate::engine;
 use crate::engine::RunFault;
+use fmp_lex::BuildFault;
 use std::alloc::{AllocError, Global};
 use thiserror::Error;
 
@@ -48,6 +49,21 @@ impl Exit {
     }
 }
 
+/// Checks two texts, and appends `ok` where they have no fault.
+fn checked(alloc: Global, cfg: &[u8], src: &[u8], out: &mut Vec<u8>) -> Result<(), RunFault>
+    ensures ok { OnOk result (Checks cfg.now src.now out.old.items out.new.items) }
+    ensures err { OnErr result (out.new.items ≡ out.old.items) }
+{
+    match engine::check(alloc, cfg, src) {
+        Ok(()) => match out.extend_from_slice(b"ok\n") {
+            Ok(()) => Ok(()),
+            Err(_) => Err(RunFault::Memory),
+        },
+        Err(BuildFault::Memory) => Err(RunFault::Memory),
+        Err(fault) => Err(RunFault::Build(fault)),
+    }
+}
+
 /// Carries out a command on the bytes of its files, in order of its words: `file` and `out` gain what is to be
 /// written and printed. No command so far writes a file.
 pub fn perform(
@@ -64,6 +80,7 @@ pub fn perform(
     ensures file { file.new.items ≡ file.old.items }
 {
     let ran = match cmd {
+        Cmd::Check { .. } => checked(alloc, inputs[0], inputs[1], out),
         Cmd::Run { bound, .. } => engine::run(alloc, inputs[0], inputs[1], inputs[2], *bound, out),
         Cmd::Stored => engine::run(
             alloc,

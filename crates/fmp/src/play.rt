@@ -10,7 +10,8 @@ ghost use Rattle.fmp_kernel.specs.Stages.{IsInStage};
 ghost use Rattle.fmp.specs.Plays.{HasTaken};
 
 use fmp_base::{Effect, Event, System, TaskState};
-use fmp_kernel::{Body, Kernel};
+use fmp_body::Body;
+use fmp_kernel::Kernel;
 use fmp_trace::{print, print_states};
 use std::alloc::{AllocError, Global};
 

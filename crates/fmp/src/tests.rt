@@ -48,6 +48,12 @@ fn accepted_lines(rt: HostRuntime) -> Result<(), Fail> {
         assert!(rt; cmd == Some(want), "with bound {bound}");
     }
     assert!(rt; command(rt.alloc(), &["fmp"]).ok() == Some(Cmd::Stored));
+    let checked = Cmd::Check {
+        config: String::from_str(rt.alloc(), "a.cfg")?,
+        tasks: String::from_str(rt.alloc(), "b.src")?,
+    };
+    let words = ["fmp", "check", "a.cfg", "b.src"];
+    assert!(rt; command(rt.alloc(), &words).ok() == Some(checked));
     Ok(())
 }
 
@@ -61,7 +67,7 @@ fn status_after(alloc: Global, words: &[&str]) -> Option<u8> {
 
 #[test]
 fn refused_lines(rt: HostRuntime) {
-    let lines: [(&[&str], u8); 11] = [
+    let lines: [(&[&str], u8); 14] = [
         (&["fmp", "run", "a", "b", "c", "--bound", "0"], 2),
         (
             &["fmp", "run", "a", "b", "c", "--bound", "281474976710657"],
@@ -76,6 +82,9 @@ fn refused_lines(rt: HostRuntime) {
         (&["fmp", ""], 2),
         (&["fmp", "--help"], 0),
         (&["fmp", "run", "--help"], 0),
+        (&["fmp", "check", "a"], 2),
+        (&["fmp", "check", "a", "b", "c"], 2),
+        (&["fmp", "check", "--help"], 0),
     ];
     for (words, status) in lines {
         assert_eq!(rt; status_after(rt.alloc(), words), Some(status), "{words:?}");
@@ -103,6 +112,22 @@ fn ends(rt: HostRuntime) -> Result<(), Fail> {
         assert_eq!(rt; exit.to_string(alloc)?.as_str(), line);
         assert_eq!(rt; exit.status(), status, "{line}");
     }
+    Ok(())
+}
+
+#[test]
+fn checked_texts(rt: HostRuntime) -> Result<(), Fail> {
+    let cmd = Cmd::Check {
+        config: String::from_str(rt.alloc(), "a")?,
+        tasks: String::from_str(rt.alloc(), "b")?,
+    };
+    let mut file = Vec::new(rt.alloc());
+    let mut out = Vec::new(rt.alloc());
+    let texts: [&[u8]; 2] = [CONFIG, TASKS];
+    perform(rt.alloc(), &cmd, &texts, &mut file, &mut out)?;
+    assert_eq!(rt; out.as_slice(), b"ok\n".as_slice());
+    let missing = read_inputs(&rt, &cmd);
+    assert!(rt; missing.is_err());
     Ok(())
 }
 

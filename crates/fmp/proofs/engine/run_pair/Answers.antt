@@ -6,7 +6,7 @@ use Rattle.fmp_code.specs.Verify.{Verified}
 use Rattle.fmp_code.proofs.PutStretches.{code_meaning-puts}
 use Rattle.fmp_kernel.specs.Stages.{MakesPutsOnly}
 use Rattle.fmp.specs.PlainCode.{put_tables}
-use Rattle.fmp.specs.PlainTexts.{tables_of_task}
+use Rattle.fmp.specs.OneTask.{built_task}
 use Rattle.fmp.proofs.PutCodes.{put_code-verified, put_code-only_puts}
 use Rattle.fmp.proofs.engine.run_pair.Goals as goal
 
@@ -20,7 +20,7 @@ new-requires c =
 pub play-requires-clause-stage : goal.play-requires-clause-stage
 play-requires-clause-stage c =
     let ks = c.args.pair.now.body.numbers.items in
-    let tables : tables_of c.in_ok-system.system ≡ tables_of_task c.args.pair.now.task = c.in_ok-system.ensures in
+    let tables : tables_of c.in_ok-system.system ≡ built_task c.args.pair.now.task = c.in_ok-system.ensures in
     let same : c.new.result ≡ put_tables ks ∷ [] =
     c.new.ensures ∙ c.in_ok-code.ensures ∙ ap (λ (xs : List ℤ). put_tables xs ∷ []) c.as_slice.ensures.value in
     let one : length c.in_ok-system.system.tasks.items ≡ 1 = ap (λ (t : SystemTables). length t.tasks) tables in
