@@ -5,3 +5,4 @@ pub mod PutCodes
 pub mod PutTies
 pub mod Statements
 pub mod StepLemmas
+pub mod TaskSystems

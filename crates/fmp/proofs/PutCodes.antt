@@ -1,13 +1,9 @@
--- The code of a body that puts numbers keeps to its depth table, and makes no call but put.
+-- The code of a body that puts numbers keeps to its depth table.
 use Rattle.std.proofs.Common.{◌≡◌, refl, ℕ, zero, suc, ◌+◌, ◌*◌, ◌≤◌, ℤ, List, [], ◌∷◌, Option, Some, None, Bool, true, ◌&&◌, length, slice_get, arith, ap, sym, ◌∙◌, subst}
-use Rattle.std.specs.List.{list_all}
 use Rattle.fmp_base.specs.declared.calls.Service.TheVariants.{Put}
 use Rattle.fmp_code.specs.declared.instructions.Instruction.{Instruction}
 use Rattle.fmp_code.specs.declared.instructions.Instruction.TheVariants.{Push, Call, End}
 use Rattle.fmp_code.specs.Instructions.{BodyTables}
-use Rattle.fmp_code.specs.Laws.{call_passes}
-use Rattle.fmp_code.specs.PutCode.{has_only_puts}
-use Rattle.fmp_code.specs.Stretches.{is_put_service}
 use Rattle.fmp_code.specs.Verify.{depth_is, fits, EachFits, VerifiedBody, Verified}
 use Rattle.fmp.specs.PlainCode.{put_code, put_depths, put_tables}
 
@@ -91,11 +87,3 @@ each_verified ks h (suc k) body e = absurd (cc)
 -- the code is verified
 pub put_code-verified : (ks : List ℤ) → 2 * length ks + 1 ≤ 65535 → Verified (put_tables ks ∷ [])
 put_code-verified ks h = record { each = each_verified ks h }
-
-only_puts : (ks : List ℤ) → list_all (call_passes is_put_service) (put_code ks) ≡ true
-only_puts [] = refl
-only_puts (k ∷ ks) = only_puts ks
-
--- its only calls are of put
-pub put_code-only_puts : (ks : List ℤ) → list_all has_only_puts (put_tables ks ∷ []) ≡ true
-put_code-only_puts ks = ap (λ (b : Bool). b && true) (only_puts ks)

@@ -3,7 +3,7 @@
 ghost use Rattle.std.specs.Prelude.{◌≡◌, ◌++◌, ◌+◌, ◌*◌, ◌≤◌, ◌^◌, length, [], ◌∷◌, IfOk, IfErr, OnOk, OnErr};
 ghost use Rattle.fmp_base.specs.Texts.{whole_text};
 ghost use Rattle.fmp_code.specs.Machine.{code_meaning};
-ghost use Rattle.fmp.specs.OneTask.{Accepts, built_task, put_body};
+ghost use Rattle.fmp.specs.OneTask.{Accepts, IsPlain, built_task, put_body};
 ghost use Rattle.fmp.specs.PlainCode.{put_tables};
 ghost use Rattle.fmp.specs.Refusals.{AreRead, BothRead, IsOutside, IsTextFault, IsWhyBuild, IsWhyRun};
 ghost use Rattle.fmp.specs.Runs.{Prints};
@@ -119,6 +119,7 @@ fn run_pair(
 ) -> Result<(), AllocError>
     requires low { 1 ≤ n }
     requires high { n ≤ 2 ^ 48 }
+    requires plain { IsPlain pair.now.task }
     requires fits { 2 * length pair.now.body.numbers.items + 1 ≤ 65535 }
     requires few { length events.now ≤ 2 ^ 20 }
     ensures ok { OnOk result (out.new.items ≡ out.old.items ++

@@ -62,7 +62,7 @@ fn text_of_run<B: Body + Drop>(
     requires low { 1 ≤ n }
     requires high { n ≤ 2 ^ 48 }
     requires entries { Entered B.has_entry body (tables_of sys.now) }
-    requires stage { IsInStage sys.now (B.meaning body) }
+    requires stage { IsInStage (tables_of sys.now) }
     requires few { length events.now ≤ 2 ^ 20 }
     ensures { IfOk result (λ text. text.items ≡ whole_text (tables_of sys.now) (B.meaning body) n events.now) }
 {
@@ -92,7 +92,7 @@ pub fn play<B: Body + Drop>(
     requires low { 1 ≤ n }
     requires high { n ≤ 2 ^ 48 }
     requires entries { Entered B.has_entry body (tables_of sys.now) }
-    requires stage { IsInStage sys.now (B.meaning body) }
+    requires stage { IsInStage (tables_of sys.now) }
     requires few { length events.now ≤ 2 ^ 20 }
     ensures ok { OnOk result (out.new.items ≡ out.old.items ++ whole_text (tables_of sys.now) (B.meaning body) n events.now) }
     ensures err { OnErr result (out.new.items ≡ out.old.items) }

@@ -1,5 +1,5 @@
 -- The code of a body does what the body does, within so many instructions.
-use Rattle.std.proofs.Common.{◌≡◌, ℕ, zero, suc, ◌+◌, ◌*◌, ◌≤◌, true, false, List, [], ◌∷◌, length, Option, Some, None, refl, sym, ap, ◌∙◌, subst, arith, ℤ}
+use Rattle.std.proofs.Common.{◌≡◌, ℕ, zero, suc, ◌+◌, ◌*◌, ◌≤◌, true, false, List, [], ◌∷◌, length, refl, sym, ap, ◌∙◌, subst, arith, ℤ}
 use Rattle.fmp_base.specs.declared.bodies.Stretch.{Stretch}
 use Rattle.fmp_base.specs.declared.bodies.Stretch.TheVariants as ends
 use Rattle.fmp_base.specs.Stretches.{is_over}

@@ -1,34 +1,32 @@
 -- The code of an accepted text does what its bodies do.
-use Rattle.std.proofs.Common.{◌≡◌, ℕ, zero, suc, ◌+◌, ◌*◌, ◌≤◌, Bool, true, false, List, [], ◌∷◌, ◌++◌, length, map, Option, Some, None, refl, sym, ap, ◌∙◌, subst, arith, ℤ}
+use Rattle.std.proofs.Common.{◌≡◌, ℕ, zero, suc, ◌+◌, ◌*◌, ◌≤◌, Bool, true, false, List, [], ◌∷◌, ◌++◌, length, Option, Some, None, refl, sym, ap, ◌∙◌, subst, arith, ℤ}
 use Rattle.std.specs.Prelude.{slice_get, nat_le, if◌then◌else◌}
 use Rattle.std.proofs.Math.Nat.{le-max_left, le-max_right}
 use Rattle.std.proofs.lemmas.Nat.{mul-le}
 use Rattle.fmp_base.specs.declared.calls.Reply.{Reply}
 use Rattle.fmp_base.specs.declared.names.Name.{Name}
-use Rattle.fmp_base.specs.FinishLaws.{turned}
 use Rattle.fmp_base.specs.Systems.{SystemTables}
-use Rattle.fmp_base.specs.Ties.{StretchTied, KeepsTie}
 use Rattle.fmp_lex.specs.declared.fault.FaultKind.TheVariants as fault
-use Rattle.fmp_tasklang.specs.Trees.{Block, BodyTree}
+use Rattle.fmp_tasklang.specs.Trees.{BodyTree}
 use Rattle.fmp_tasklang.specs.Scopes.{Scope, exinf_name, scope_of}
-use Rattle.fmp_tasklang.specs.Contexts.{TextContext, locals_after, start, deliver}
-use Rattle.fmp_tasklang.specs.Stretches.{stretch}
-use Rattle.fmp_tasklang.specs.Texts.{body_at, text_meaning}
+use Rattle.fmp_tasklang.specs.Contexts.{TextContext, start, deliver}
+use Rattle.fmp_tasklang.specs.Texts.{body_at}
 use Rattle.fmp_code.specs.declared.instructions.Instruction.{Instruction}
 use Rattle.fmp_code.specs.declared.instructions.Instruction.TheVariants.{End}
 use Rattle.fmp_code.specs.declared.instructions.MachineContext.{MachineContext}
 use Rattle.fmp_code.specs.Instructions.{BodyTables, found_instructions, instructions_at}
-use Rattle.fmp_code.specs.Machine.{code_start, code_deliver, call_before, replied, code_meaning}
+use Rattle.fmp_code.specs.Machine.{code_start, code_deliver, call_before, replied}
 use Rattle.fmp_codegen.specs.Compiling.{is_among, body_offence, bodies_offence, compiled, IsAccepted, variables_offence, size_offence}
 use Rattle.fmp_codegen.specs.Laws.{DoesText}
-use Rattle.fmp_codegen.specs.Naming.{Offence, first_offence, uses_offence, block_uses}
+use Rattle.fmp_codegen.specs.declared.offences.Offence.{Offence}
+use Rattle.fmp_codegen.specs.Naming.{first_offence, uses_offence, block_uses}
 use Rattle.fmp_codegen.specs.Scheme.{block_code, body_code}
 use Rattle.fmp_codegen.specs.Sizes.{block_size}
 use Rattle.fmp_codegen.specs.Tie.{HasAt, StandsSomehow, Reaches, ContextTied, CodeTied, longest}
 use Rattle.fmp_codegen.proofs.Behaves.{IsEnough, enough, one_is_enough, code_first, text_first}
 use Rattle.fmp_codegen.proofs.Expressions.{at_place}
 use Rattle.fmp_codegen.proofs.Lengths.{has_front, has_back, has_all, length-block_code}
-use Rattle.fmp_codegen.proofs.Names.{none-first, none-second}
+use Rattle.fmp_codegen.proofs.KnownNames.{none-first, none-second}
 use Rattle.fmp_codegen.proofs.Statements.{Then, here, block_stands}
 
 -- ---- names

@@ -1,5 +1,5 @@
 -- The code of a tree keeps to its depth table.
-use Rattle.std.proofs.Common.{◌≡◌, ℕ, zero, suc, ◌+◌, ◌-◌, ◌<◌, ◌≤◌, Bool, true, false, ◌&&◌, nat_eq, nat_le, nat_lt, List, [], ◌∷◌, ◌++◌, length, Option, Some, None, refl, sym, ap, ◌∙◌, subst, ⊎_elim, arith, pos}
+use Rattle.std.proofs.Common.{◌≡◌, ℕ, ◌+◌, ◌-◌, ◌<◌, ◌≤◌, Bool, true, false, ◌&&◌, nat_eq, nat_le, nat_lt, List, [], ◌∷◌, ◌++◌, length, Option, Some, None, refl, sym, ap, ◌∙◌, subst, ⊎_elim, arith, pos}
 use Rattle.std.specs.Prelude.{slice_get, is_some}
 use Rattle.std.proofs.lemmas.Bool.{cases_lt}
 use Rattle.std.proofs.lemmas.Bool.Decides.{nat_tests}
@@ -11,16 +11,16 @@ use Rattle.fmp_tasklang.specs.Stretches.{variable_place, word_place}
 use Rattle.fmp_code.specs.declared.instructions.Instruction.{Instruction}
 use Rattle.fmp_code.specs.declared.instructions.Instruction.TheVariants.{Push, Load, Store, Unary, Truth, Binary, Jump, JumpIfZero, End}
 use Rattle.fmp_code.specs.Verify.{depth_is, entry_is, local_fits, is_same, places_fit, wants, fits}
-use Rattle.fmp_codegen.specs.Calls.{CallFits, StatementFits, BlockFits}
+use Rattle.fmp_tasklang.specs.CallForms.{CallFits, StatementFits, BlockFits}
 use Rattle.fmp_codegen.specs.Depths.{expression_depth, arguments_depth, statement_depth, block_depth}
 use Rattle.fmp_codegen.specs.DepthTables.{expression_depths, arguments_depths, statement_depths, block_depths}
-use Rattle.fmp_codegen.specs.Naming.{NameUse, Reads, Writes, use_offence, uses_offence, expression_uses, arguments_uses, word_uses, call_uses, statement_uses, block_uses}
+use Rattle.fmp_codegen.specs.Naming.{Writes, use_offence, uses_offence, expression_uses, word_uses, call_uses, statement_uses, block_uses}
 use Rattle.fmp_codegen.specs.Scheme.{name_code, expression_code, arguments_code, target_place, call_instruction, statement_code, block_code}
 use Rattle.fmp_codegen.specs.Sizes.{expression_size, arguments_size, statement_size, block_size}
 use Rattle.fmp_codegen.specs.Tie.{HasAt}
 use Rattle.fmp_codegen.proofs.DepthLengths.{HasDepths, depths_front, depths_back, length-expression_depths, length-arguments_depths, length-statement_depths, length-block_depths}
 use Rattle.fmp_codegen.proofs.Lengths.{has_front, has_back, length-expression_code, length-arguments_code, length-statement_code, length-block_code}
-use Rattle.fmp_codegen.proofs.Names.{none-first, none-second, uses_front, uses_back, target_is, call-named}
+use Rattle.fmp_codegen.proofs.KnownNames.{none-first, uses_front, uses_back, target_is, call-named}
 use Rattle.fmp_codegen.proofs.Places.{variable-below}
 
 pub both_true : (a b : Bool) → a ≡ true → b ≡ true → (a && b) ≡ true

@@ -4,7 +4,7 @@ use Rattle.fmp_tasklang.specs.Trees.{ExpressionTree, number, named, unary, binar
 use Rattle.fmp_codegen.specs.Depths.{expression_depth, arguments_depth, statement_depth, block_depth, body_depth}
 use Rattle.fmp_codegen.specs.DepthTables.{expression_depths, arguments_depths, statement_depths, block_depths, body_depths}
 use Rattle.fmp_codegen.specs.Laws.{greatest}
-use Rattle.fmp_codegen.proofs.Fits.{one-le-expression_depth, arguments-le-depth}
+use Rattle.fmp_codegen.proofs.Fits.{one-le-expression_depth}
 
 greatest-append : (a b : List ℕ) → greatest (a ++ b) ≡ max (greatest a) (greatest b)
 greatest-append [] b = omega arith

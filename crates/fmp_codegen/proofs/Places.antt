@@ -5,7 +5,7 @@ use Rattle.std.proofs.lemmas.List.Quantifiers.{position-Some}
 use Rattle.fmp_base.specs.declared.names.Name.{Name}
 use Rattle.fmp_base.specs.Names.{name_text}
 use Rattle.fmp_base.specs.Systems.{SystemTables}
-use Rattle.fmp_tasklang.specs.Scopes.{Scope, NameMeaning, Variable, Object, Unknown, place_of, object_names, object_number, number_or, variable_or, exinf_name, meaning_of}
+use Rattle.fmp_tasklang.specs.Scopes.{Scope, NameMeaning, place_of, object_names, object_number, number_or, variable_or, exinf_name, meaning_of}
 use Rattle.fmp_tasklang.specs.Stretches.{variable_place}
 
 no-variable : (o : Option ℕ) (m : NameMeaning) → variable_place m ≡ None → variable_place (number_or o m) ≡ None

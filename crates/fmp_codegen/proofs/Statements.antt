@@ -1,5 +1,5 @@
 -- The machine follows the text, one thing to do after another.
-use Rattle.std.proofs.Common.{◌≡◌, ℕ, zero, suc, ◌+◌, ◌-◌, ◌<◌, ◌≤◌, Bool, true, false, cond, List, [], ◌∷◌, ◌++◌, length, Option, Some, None, Result, Ok, Err, refl, sym, ap, ◌∙◌, subst, arith, ℤ, pos}
+use Rattle.std.proofs.Common.{◌≡◌, ℕ, zero, suc, ◌+◌, ◌<◌, ◌≤◌, Bool, true, false, cond, List, [], ◌∷◌, ◌++◌, length, Some, None, Result, Ok, Err, refl, sym, ap, ◌∙◌, subst, arith, ℤ}
 use Rattle.std.specs.Prelude.{slice_get, slice_set, if◌then◌else◌}
 use Rattle.std.proofs.lemmas.Option.{slice_get_within}
 use Rattle.fmp_base.specs.declared.bodies.Fault.{Fault}
@@ -10,22 +10,22 @@ use Rattle.fmp_base.specs.Operators.{is_zero}
 use Rattle.fmp_base.specs.Services.{request}
 use Rattle.fmp_base.specs.Stretches.{is_over}
 use Rattle.fmp_base.specs.Ties.{StretchTied}
-use Rattle.fmp_tasklang.specs.Trees.{ExpressionTree, CallTree, StatementTree, assign, service_call, if_then, if_else, while, break, continue, return, Block, empty, next}
+use Rattle.fmp_tasklang.specs.Trees.{ExpressionTree, StatementTree, assign, service_call, if_then, if_else, while, break, continue, return, Block, empty, next}
 use Rattle.fmp_tasklang.specs.Scopes.{Scope}
 use Rattle.fmp_tasklang.specs.Values.{value, values}
 use Rattle.fmp_tasklang.specs.Contexts.{Item, Do, Mark, TextContext, going, calling, items_before}
-use Rattle.fmp_tasklang.specs.Stretches.{Way, Next, Goes, Turns, Stops, word_place, places_of, with_value, after_mark, from_mark, after_statement, after_item, statement_weight, block_weight, weight, follow, walk, turns}
+use Rattle.fmp_tasklang.specs.Stretches.{Way, Next, Goes, Stops, word_place, places_of, with_value, after_mark, from_mark, after_statement, after_item, statement_weight, block_weight, weight, follow, walk, turns}
 use Rattle.fmp_code.specs.declared.instructions.Instruction.{Instruction}
 use Rattle.fmp_code.specs.declared.instructions.Instruction.TheVariants.{Store, Jump, JumpIfZero, End}
 use Rattle.fmp_code.specs.declared.instructions.MachineContext.{MachineContext}
-use Rattle.fmp_code.specs.Machine.{at, unstacked, act, exec, call_before, replied}
+use Rattle.fmp_code.specs.Machine.{at, unstacked, exec, call_before, replied}
 use Rattle.fmp_codegen.specs.Naming.{uses_offence, expression_uses, statement_uses, block_uses, use_offence, Writes}
 use Rattle.fmp_codegen.specs.Scheme.{expression_code, arguments_code, target_place, call_instruction, statement_code, block_code}
 use Rattle.fmp_codegen.specs.Sizes.{expression_size, arguments_size, statement_size, block_size}
-use Rattle.fmp_codegen.specs.Tie.{HasAt, Path, Reaches, IsNamed, Stands, StandsSomehow, TakesReply, ContextTied}
-use Rattle.fmp_codegen.proofs.Expressions.{Leads, Faults, Runs, stacked, one_step, leads_on, goes, jumps_to, renamed, at_place, expression_runs, arguments_run}
+use Rattle.fmp_codegen.specs.Tie.{HasAt, Path, Reaches, Stands, StandsSomehow, ContextTied}
+use Rattle.fmp_codegen.proofs.Expressions.{Leads, Faults, Runs, stacked, one_step, leads_on, goes, jumps_to, renamed, expression_runs, arguments_run}
 use Rattle.fmp_codegen.proofs.Lengths.{has_front, has_back, length-expression_code, length-arguments_code, length-statement_code, length-block_code}
-use Rattle.fmp_codegen.proofs.Names.{none-first, uses_front, uses_back, target_is}
+use Rattle.fmp_codegen.proofs.KnownNames.{none-first, uses_front, uses_back, target_is}
 
 -- ---- the weight falls
 

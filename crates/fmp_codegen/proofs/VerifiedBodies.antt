@@ -1,5 +1,5 @@
 -- The code of an accepted text is verified.
-use Rattle.std.proofs.Common.{◌≡◌, ℕ, zero, suc, ◌+◌, ◌<◌, ◌≤◌, Bool, true, false, ◌||◌, nat_le, nat_lt, List, [], ◌∷◌, ◌++◌, length, map, Option, Some, None, refl, sym, ap, ◌∙◌, subst, arith, length-append}
+use Rattle.std.proofs.Common.{◌≡◌, ℕ, zero, suc, ◌+◌, ◌≤◌, Bool, true, false, ◌||◌, nat_le, nat_lt, List, [], ◌∷◌, ◌++◌, length, Option, Some, None, refl, sym, ap, ◌∙◌, subst, arith, length-append}
 use Rattle.std.specs.Prelude.{slice_get, if◌then◌else◌}
 use Rattle.std.proofs.lemmas.Bool.{leb-false, ltb-false}
 use Rattle.std.proofs.lemmas.List.{length-map}
@@ -10,23 +10,22 @@ use Rattle.fmp_lex.specs.declared.fault.FaultKind.TheVariants as fault
 use Rattle.fmp_tasklang.specs.declared.trees.Word.{Word}
 use Rattle.fmp_tasklang.specs.Trees.{BodyTree}
 use Rattle.fmp_tasklang.specs.Scopes.{exinf_name, scope_of}
-use Rattle.fmp_code.specs.declared.instructions.Instruction.{Instruction}
 use Rattle.fmp_code.specs.declared.instructions.Instruction.TheVariants.{End}
 use Rattle.fmp_code.specs.Instructions.{BodyTables}
 use Rattle.fmp_code.specs.Verify.{fits as fits_in, KeepsTable, VerifiedBody, Verified}
-use Rattle.fmp_codegen.specs.Calls.{BlockFits, CallsFit}
+use Rattle.fmp_tasklang.specs.CallForms.{BlockFits, CallsFit}
 use Rattle.fmp_codegen.specs.Compiling.{is_among, is_object, variables_offence, size_offence, body_offence, bodies_offence, compiled_body, compiled, IsAccepted}
 use Rattle.fmp_codegen.specs.Depths.{body_depth}
 use Rattle.fmp_codegen.specs.DepthTables.{block_depths, body_depths}
-use Rattle.fmp_codegen.specs.Naming.{Offence}
+use Rattle.fmp_codegen.specs.declared.offences.Offence.{Offence}
 use Rattle.fmp_codegen.specs.Scheme.{block_code, body_code}
 use Rattle.fmp_codegen.specs.Sizes.{block_size, body_size}
 use Rattle.fmp_codegen.specs.Tie.{HasAt}
 use Rattle.fmp_codegen.proofs.Bodies.{skips, Accepted, body-accepted}
 use Rattle.fmp_codegen.proofs.DepthLengths.{HasDepths, depths_front, depths_back, depths_all, length-block_depths, length-body_depths}
-use Rattle.fmp_codegen.proofs.Fits.{AllFit, fit_join, fit_at, block_first, block_fits}
+use Rattle.fmp_codegen.proofs.Fits.{fit_join, fit_at, block_first, block_fits}
 use Rattle.fmp_codegen.proofs.Lengths.{has_front, has_back, has_all, length-block_code, length-body_code}
-use Rattle.fmp_codegen.proofs.Names.{none-first, none-second}
+use Rattle.fmp_codegen.proofs.KnownNames.{none-first, none-second}
 
 -- ---- limits
 

@@ -1,5 +1,5 @@
 -- What compiling a text answers: the code of its bodies, or the first fault in order of text.
-use Rattle.std.specs.Prelude.{◌≡◌, ℕ, ◌+◌, List, [], ◌∷◌, ◌++◌, length, map, Option, Some, None, Result, Ok, Err, Bool, true, false, ◌||◌, nat_le, nat_lt, is_some, if◌then◌else◌}
+use Rattle.std.specs.Prelude.{◌≡◌, ◌+◌, List, [], ◌∷◌, ◌++◌, length, map, Option, Some, None, Result, Ok, Err, Bool, ◌||◌, nat_le, nat_lt, is_some, if◌then◌else◌}
 use Rattle.fmp_base.specs.declared.names.Name.{Name}
 use Rattle.fmp_base.specs.Names.{name_text}
 use Rattle.fmp_base.specs.Systems.{SystemTables}
@@ -14,7 +14,8 @@ use Rattle.fmp_code.specs.declared.instructions.Code as declared
 use Rattle.fmp_code.specs.Instructions.{BodyTables, code_tables}
 use Rattle.fmp_codegen.specs.Depths.{body_depth}
 use Rattle.fmp_codegen.specs.DepthTables.{body_depths}
-use Rattle.fmp_codegen.specs.Naming.{Offence, first_offence, uses_offence, block_uses, reads}
+use Rattle.fmp_codegen.specs.declared.offences.Offence.{Offence}
+use Rattle.fmp_codegen.specs.Naming.{first_offence, uses_offence, block_uses, reads}
 use Rattle.fmp_codegen.specs.Scheme.{body_code}
 use Rattle.fmp_codegen.specs.Sizes.{body_size}
 

@@ -1,5 +1,5 @@
 -- Laws of the compiled code.
-use Rattle.std.specs.Prelude.{◌≡◌, ℕ, ◌+◌, ◌*◌, ◌≤◌, max, List, [], ◌∷◌}
+use Rattle.std.specs.Prelude.{ℕ, ◌+◌, ◌*◌, ◌≤◌, max, List, [], ◌∷◌}
 use Rattle.fmp_base.specs.Ties.{KeepsTie}
 use Rattle.fmp_base.specs.FinishLaws.{turned}
 use Rattle.fmp_base.specs.Systems.{SystemTables}

@@ -1,10 +1,12 @@
-pub mod Calls
+pub mod Chains
 pub mod Compiling
 pub mod Depths
 pub mod DepthTables
+pub mod Entries
 pub mod Laws
 pub mod Naming
 pub mod Runs
 pub mod Scheme
 pub mod Sizes
+pub mod Scopes
 pub mod Tie

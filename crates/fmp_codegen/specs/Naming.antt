@@ -1,17 +1,12 @@
 -- The names that the bodies of a text use, in order of text, and what is wrong with them.
-use Rattle.std.specs.Prelude.{ℕ, ◌+◌, List, [], ◌∷◌, ◌++◌, take, drop, Option, Some, None, Bool, true, false, if◌then◌else◌}
+use Rattle.std.specs.Prelude.{List, [], ◌∷◌, ◌++◌, take, drop, Option, Some, None, Bool, true, false, if◌then◌else◌}
 use Rattle.fmp_base.specs.Services.{out_place}
-use Rattle.fmp_base.specs.Systems.{SystemTables, found}
-use Rattle.fmp_lex.specs.declared.fault.FaultKind.{FaultKind}
+use Rattle.fmp_base.specs.Systems.{found}
 use Rattle.fmp_lex.specs.declared.fault.FaultKind.TheVariants as fault
 use Rattle.fmp_tasklang.specs.declared.trees.Word.{Word}
-use Rattle.fmp_tasklang.specs.Trees.{ExpressionTree, number, named, unary, binary, both, either, CallTree, StatementTree, assign, service_call, if_then, if_else, while, break, continue, return, Block, empty, next, BodyTree}
+use Rattle.fmp_tasklang.specs.Trees.{ExpressionTree, number, named, unary, binary, both, either, CallTree, StatementTree, assign, service_call, if_then, if_else, while, break, continue, return, Block, empty, next}
+use Rattle.fmp_codegen.specs.declared.offences.Offence.{Offence}
 use Rattle.fmp_tasklang.specs.Scopes.{Scope, NameMeaning, Variable, Object, Unknown, meaning_of}
-
--- a fault and its line
-pub record Offence : Type 0 where
-  pub line : ℕ
-  pub why : FaultKind
 
 -- the first of two, if there is one
 abbrev pub first_offence : Option Offence → Option Offence → Option Offence

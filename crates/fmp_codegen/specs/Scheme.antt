@@ -1,6 +1,6 @@
 -- The instructions of a tree. Jumps lead to places counted from the body's beginning, so each tree is given the
 -- place at which its code begins.
-use Rattle.std.specs.Prelude.{ℕ, ◌+◌, pos, Option, List, [], ◌∷◌, ◌++◌}
+use Rattle.std.specs.Prelude.{ℕ, ◌+◌, pos, List, [], ◌∷◌, ◌++◌}
 use Rattle.fmp_base.specs.Systems.{SystemTables, found}
 use Rattle.fmp_tasklang.specs.declared.trees.Word.{Word}
 use Rattle.fmp_tasklang.specs.Trees.{ExpressionTree, number, named, unary, binary, both, either, CallTree, StatementTree, assign, service_call, if_then, if_else, while, break, continue, return, Block, empty, next, BodyTree}

@@ -1,4 +1,17 @@
 //! From the syntax trees of task bodies to stack code.
 #![tactic(auto)]
 
+mod compiling;
+mod emission;
+mod entries;
+mod extents;
 pub mod laws;
+mod names;
+mod offences;
+mod uses;
+
+pub use compiling::compile;
+pub use entries::{EntryUse, resolve_entries};
+
+#[cfg(test)]
+mod tests;

@@ -1,2 +1,9 @@
+mod CallLemmas
+mod CalledLemmas
 mod ContextLemmas
-mod OrderLemmas
+mod ObjectCallLemmas
+mod QueueCallLemmas
+mod ReadyLemmas
+mod SettleLemmas
+mod TaskCallLemmas
+mod TickLemmas

@@ -4,7 +4,7 @@ use Rattle.fmp_base.specs.declared.events.Line.{Line}
 use Rattle.fmp_base.specs.Meanings.{Contexts, World}
 use Rattle.fmp_base.specs.Steps.{Done}
 use Rattle.fmp_base.specs.Systems.{SystemTables}
-use Rattle.fmp_kernel.specs.Tables.{TablesView}
+use Rattle.fmp_tasks.specs.Tables.{TablesView}
 
 -- its bodies and their bound, the tables of its system, its state with the bodies' contexts, the lines of the last event
 -- that did something (or of setup), and how many events did something

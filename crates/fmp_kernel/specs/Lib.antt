@@ -1,8 +1,8 @@
 pub mod Contexts
+pub mod Groups
 pub mod KernelViews
-pub mod Orders
+pub mod Laws
 pub mod Rooms
 pub mod ScriptLemmas
 pub mod Scripts
 pub mod Stages
-pub mod Tables

@@ -1,28 +1,33 @@
--- Bodies that put a list of values, one after the other, and end: the context is the place in the list.
-use Rattle.std.specs.Prelude.{ℕ, ◌+◌, ℤ, List, Option, Some, None, Bool, true, false, length, nat_lt, slice_get, if◌then◌else◌}
+-- Bodies that make the calls of a list, one after the other, and end: the context is the place in the list. Body 0 has the
+-- first list, every other the second.
+use Rattle.std.specs.Prelude.{ℕ, zero, suc, ◌+◌, List, Option, Some, None, Bool, true, false, length, nat_lt, slice_get, if◌then◌else◌}
 use Rattle.fmp_base.specs.declared.bodies.Stretch.{Stretch}
 use Rattle.fmp_base.specs.declared.bodies.Stretch.TheVariants as ends
-use Rattle.fmp_base.specs.declared.calls.Call.TheVariants as call
+use Rattle.fmp_base.specs.declared.calls.Call.{Call}
 use Rattle.fmp_base.specs.Meanings.{Meaning}
 
--- a put takes two units
-abbrev pub put_within : Bool → ℕ → ℤ → Stretch ℕ
-put_within true c v = ends.Over
-put_within false c v = ends.Call c (call.Put v)
+abbrev pub calls_of : List Call → List Call → ℕ → List Call
+calls_of first second zero = first
+calls_of first second (suc n) = second
+
+-- a call takes two units
+abbrev pub call_within : Bool → ℕ → Call → Stretch ℕ
+call_within true c made = ends.Over
+call_within false c made = ends.Call c made
 
 -- the end takes one
 abbrev pub end_within : Bool → ℕ → Stretch ℕ
 end_within true c = ends.Over
 end_within false c = ends.End c
 
-abbrev pub script_from : Option ℤ → ℕ → ℕ → Stretch ℕ
-script_from (Some v) n c = put_within (nat_lt n 2) c v
+abbrev pub script_from : Option Call → ℕ → ℕ → Stretch ℕ
+script_from (Some made) n c = call_within (nat_lt n 2) c made
 script_from None n c = end_within (nat_lt n 1) c
 
-abbrev pub script_meaning : List ℤ → Meaning ℕ
-script_meaning puts =
+abbrev pub script_meaning : List Call → List Call → Meaning ℕ
+script_meaning first second =
     record {
-      start = λ entry exinf. 0;
-      stretch = λ entry n c. script_from (slice_get puts c) n c;
-      deliver = λ entry c reply. if nat_lt c (length puts) then c + 1 else c;
+      start = λ body exinf. 0;
+      stretch = λ body n c. script_from (slice_get (calls_of first second body) c) n c;
+      deliver = λ body c reply. if nat_lt c (length (calls_of first second body)) then c + 1 else c;
     }

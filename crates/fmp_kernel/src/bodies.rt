@@ -1,13 +1,35 @@
 //! The contexts that bodies keep between their stretches.
-ghost use Rattle.std.specs.Prelude.{◌≡◌, ℕ, ◌+◌, ◌<◌, ◌≤◌, length, slice_set, Option, OnSome, All, false};
+ghost use Rattle.std.specs.Prelude.{◌≡◌, ℕ, ◌+◌, ◌<◌, ◌≤◌, length, slice_set, Option, OnSome, IfOk, None, replicate, All};
 ghost use Rattle.fmp_base.specs.Meanings.{task_body, context_at, told, contexts_after_all};
-ghost use Rattle.fmp_base.specs.Systems.{task_config};
+ghost use Rattle.fmp_base.specs.Systems.{task_config, body_of};
 ghost use Rattle.fmp_kernel.specs.Contexts.{Fitting, Entered, IsOfTask};
 ghost use Rattle.fmp_kernel.specs.KernelViews.{contexts_of_tasks};
 
-use crate::tables::{Tables, body_number};
-use fmp_base::{Caller, Line, Reply};
+use fmp_base::{Caller, Entry, Line, Reply};
 use fmp_body::Body;
+use fmp_tasks::Tables;
+use std::alloc::{AllocError, Global};
+
+/// No contexts yet, of so many tasks.
+pub fn no_contexts<C: Copy>(alloc: Global, count: usize) -> Result<Vec<Option<C>>, AllocError>
+    ensures { IfOk result (λ v. v.items ≡ replicate count None) }
+{
+    let mut contexts = Vec::with_capacity(alloc, count)?;
+    for _ in 0..count {
+        contexts.push_reserved(None);
+    }
+    Ok(contexts)
+}
+
+/// The number of the body of an entry.
+pub fn body_number(entry: Entry) -> u8
+    ensures { result ≡ body_of entry }
+{
+    match entry {
+        Entry::Body(body) => body,
+        Entry::Named(_) => 0,
+    }
+}
 
 /// The context of a task, if it has one.
 pub fn context_of<C: Copy>(contexts: &[Option<C>], t: u8) -> Option<C>
@@ -29,7 +51,7 @@ fn begin<B: Body>(body: &B, tables: &Tables, contexts: &mut Vec<Option<B::Ctx>>,
     ensures contexts { Fitting B.is_context body.now tables.now.system contexts.new.items }
 {
     if (t as usize) < contexts.len() {
-        let config = tables.config(t);
+        let config = tables.task_config(t);
         contexts[t as usize] = Some(body.start(body_number(config.entry), config.exinf));
     }
 }
@@ -43,7 +65,7 @@ fn tell<B: Body>(body: &B, tables: &Tables, contexts: &mut Vec<Option<B::Ctx>>, 
     ensures contexts { Fitting B.is_context body.now tables.now.system contexts.new.items }
 {
     if (t as usize) < contexts.len() {
-        let config = tables.config(t);
+        let config = tables.task_config(t);
         let told = match context_of(contexts.as_slice(), t) {
             Some(context) => Some(body.deliver(body_number(config.entry), context, reply)),
             None => None,

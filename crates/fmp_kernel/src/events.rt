@@ -1,25 +1,24 @@
 //! What an event does: its own line, what it causes, and settling.
 ghost use Rattle.std.specs.Prelude.{◌≡◌, ◌+◌, ◌<◌, ◌≤◌, ◌^◌, ◌++◌, ◌∷◌, [], length, vec_len, vec_capacity, true, Option, OnSome, All};
-ghost use Rattle.fmp_base.specs.Meanings.{task_body};
-ghost use Rattle.fmp_base.specs.Settles.{settled};
+ghost use Rattle.fmp_base.specs.Calls.{called};
+ghost use Rattle.fmp_base.specs.Meanings.{task_body, with_context};
 ghost use Rattle.fmp_base.specs.States.{processor_at};
-ghost use Rattle.fmp_base.specs.Steps.{actor_ended, actor_of, effect_of, finished, run_by, stretched};
+ghost use Rattle.fmp_base.specs.Steps.{actor_ended, actor_of, call_made, effect_of, finished, run_by, stretched};
 ghost use Rattle.fmp_base.specs.Ticks.{ticked, with_clock_advanced};
 ghost use Rattle.fmp_body.specs.Contexts.{OfCall};
 ghost use Rattle.fmp_kernel.specs.Contexts.{Fitting, Entered, IsOfTask};
 ghost use Rattle.fmp_kernel.specs.KernelViews.{contexts_of_tasks, world_of, done_of, done_or};
 ghost use Rattle.fmp_kernel.specs.Rooms.{IsReady};
-ghost use Rattle.fmp_kernel.specs.Stages.{makes_put_only, MakesPutsOnly};
-ghost use Rattle.fmp_kernel.specs.Tables.{progress, SameShape};
+ghost use Rattle.fmp_tasks.specs.Tables.{progress, SameShape};
 
-use crate::bodies::{carry_out, context_of};
+use crate::bodies::{body_number, carry_out, context_of};
 use crate::calls::call;
 use crate::settling::settle;
-use crate::tables::{Tables, body_number};
-use crate::tasks::end_itself;
-use crate::ticks::time_out_all;
-use fmp_base::{Answer, Caller, Effect, Line, Stretch};
+use crate::ticks::advance;
+use fmp_base::{Answer, Call, Caller, Effect, Line, Stretch};
 use fmp_body::Body;
+use fmp_migrate::end_itself;
+use fmp_tasks::Tables;
 
 /// Adds lines to others.
 fn append(lines: &mut Vec<Line>, more: &Vec<Line>)
@@ -98,8 +97,9 @@ fn end_task<B: Body>(
     requires entries { Entered B.has_entry body.now tables.old.system }
     requires contexts { Fitting B.is_context body.now tables.old.system contexts.old.items }
     requires task { t < length contexts.old.items }
+    requires processor { p < tables.old.system.processors }
     requires empty { caused.old.items ≡ [] }
-    requires caused { 1 ≤ vec_capacity caused.old }
+    requires caused { 255 ≤ vec_capacity caused.old }
     requires room { vec_capacity caused.old + 9 ≤ vec_capacity lines.old }
     requires own { IsOfTask own }
     ensures after { done_of tables.new contexts.new.items lines.new.items ≡ finished tables.old.system (B.meaning body.now) (contexts_of_tasks tables.old.system.processors contexts.old.items) (own ∷ []) (actor_ended tables.old.system tables.old.state p (Caller.Task t)) }
@@ -111,6 +111,60 @@ fn end_task<B: Body>(
 {
     end_itself(tables, caused, p, t);
     finish(body, tables, contexts, caused, lines, own);
+}
+
+/// Task t, which processor p runs, makes a call, with this context.
+fn make_call<B: Body>(
+    body: &B,
+    tables: &mut Tables,
+    contexts: &mut Vec<Option<B::Ctx>>,
+    caused: &mut Vec<Line>,
+    lines: &mut Vec<Line>,
+    p: u8,
+    t: u8,
+    context: B::Ctx,
+    made: Call,
+) -> Effect
+    requires ready { IsReady tables.old (length contexts.old.items) }
+    requires entries { Entered B.has_entry body.now tables.old.system }
+    requires contexts { Fitting B.is_context body.now tables.old.system contexts.old.items }
+    requires context { B.is_context body.now (task_body tables.old.system t) context }
+    requires task { t < length contexts.old.items }
+    requires processor { p < tables.old.system.processors }
+    requires empty { caused.old.items ≡ [] }
+    requires caused { 255 ≤ vec_capacity caused.old }
+    requires room { vec_capacity caused.old + 9 ≤ vec_capacity lines.old }
+    ensures effect { result ≡ effect_of (call_made tables.old.system (B.meaning body.now) (with_context (contexts_of_tasks tables.old.system.processors contexts.old.items) p (Caller.Task t) (Some context)) p (Caller.Task t) made (called tables.old.system tables.old.state p (Caller.Task t) made)) }
+    ensures after { done_of tables.new contexts.new.items lines.new.items ≡ done_or (done_of tables.old contexts.old.items lines.old.items) (call_made tables.old.system (B.meaning body.now) (with_context (contexts_of_tasks tables.old.system.processors contexts.old.items) p (Caller.Task t) (Some context)) p (Caller.Task t) made (called tables.old.system tables.old.state p (Caller.Task t) made)) }
+    ensures shape { SameShape tables.old tables.new }
+    ensures long { length contexts.new.items ≡ length contexts.old.items }
+    ensures contexts { Fitting B.is_context body.now tables.old.system contexts.new.items }
+    ensures caused { vec_capacity caused.new ≡ vec_capacity caused.old }
+    ensures lines { vec_capacity lines.new ≡ vec_capacity lines.old }
+{
+    let caller = Caller::Task(t);
+    let own = match call(tables, caused, p, t, made) {
+        Answer::Replies(reply) => Line::Call {
+            processor: p,
+            caller,
+            call: made,
+            reply: Some(reply),
+        },
+        Answer::Waits => Line::Call {
+            processor: p,
+            caller,
+            call: made,
+            reply: None,
+        },
+        Answer::Ends => Line::End {
+            processor: p,
+            caller,
+        },
+        Answer::Spins => return Effect::Nothing,
+    };
+    contexts[t as usize] = Some(context);
+    finish(body, tables, contexts, caused, lines, own);
+    Effect::Done
 }
 
 /// Task t, which processor p runs, has made this stretch.
@@ -128,9 +182,9 @@ pub fn happen<B: Body>(
     requires entries { Entered B.has_entry body.now tables.old.system }
     requires contexts { Fitting B.is_context body.now tables.old.system contexts.old.items }
     requires context { OfCall (B.is_context body.now (task_body tables.old.system t)) stretch }
-    requires put { makes_put_only stretch ≡ true }
     requires task { t < length contexts.old.items }
-    requires caused { 1 ≤ vec_capacity caused.old }
+    requires processor { p < tables.old.system.processors }
+    requires caused { 255 ≤ vec_capacity caused.old }
     requires room { vec_capacity caused.old + 9 ≤ vec_capacity lines.old }
     ensures effect { result ≡ effect_of (stretched tables.old.system (B.meaning body.now) (world_of tables.old contexts.old.items) p (Caller.Task t) stretch) }
     ensures after { done_of tables.new contexts.new.items lines.new.items ≡ done_or (done_of tables.old contexts.old.items lines.old.items) (stretched tables.old.system (B.meaning body.now) (world_of tables.old contexts.old.items) p (Caller.Task t) stretch) }
@@ -143,20 +197,9 @@ pub fn happen<B: Body>(
     caused.clear();
     match stretch {
         Stretch::Over => Effect::Nothing,
-        Stretch::Call(context, made) => match call(tables, caused, p, t, made) {
-            Answer::Replies(reply) => {
-                contexts[t as usize] = Some(context);
-                let own = Line::Call {
-                    processor: p,
-                    caller: Caller::Task(t),
-                    call: made,
-                    reply: Some(reply),
-                };
-                finish(body, tables, contexts, caused, lines, own);
-                Effect::Done
-            }
-            _ => Effect::Nothing,
-        },
+        Stretch::Call(context, made) => {
+            make_call(body, tables, contexts, caused, lines, p, t, context, made)
+        }
         Stretch::End(_) => {
             let own = Line::End {
                 processor: p,
@@ -178,6 +221,7 @@ pub fn happen<B: Body>(
 }
 
 /// Processor p runs its actor for a stretch of at most so many units. So far no handler runs.
+#[tactic(auto, using(crate::proofs::ReadyLemmas::ready_kept))]
 pub fn run<B: Body>(
     body: &B,
     bound: u64,
@@ -190,17 +234,20 @@ pub fn run<B: Body>(
     requires ready { IsReady tables.old (length contexts.old.items) }
     requires entries { Entered B.has_entry body.now tables.old.system }
     requires contexts { Fitting B.is_context body.now tables.old.system contexts.old.items }
-    requires put { MakesPutsOnly (B.meaning body.now) }
-    requires caused { 1 ≤ vec_capacity caused.old }
+    requires caused { 255 ≤ vec_capacity caused.old }
     requires room { vec_capacity caused.old + 9 ≤ vec_capacity lines.old }
     ensures effect { result ≡ effect_of (run_by tables.old.system (B.meaning body.now) bound (world_of tables.old contexts.old.items) p (actor_of (processor_at tables.old.state p))) }
     ensures after { done_of tables.new contexts.new.items lines.new.items ≡ done_or (done_of tables.old contexts.old.items lines.old.items) (run_by tables.old.system (B.meaning body.now) bound (world_of tables.old contexts.old.items) p (actor_of (processor_at tables.old.state p))) }
     ensures shape { SameShape tables.old tables.new }
+    ensures ready { IsReady tables.new (length contexts.new.items) }
     ensures long { length contexts.new.items ≡ length contexts.old.items }
     ensures contexts { Fitting B.is_context body.now tables.old.system contexts.new.items }
     ensures caused { vec_capacity caused.new ≡ vec_capacity caused.old }
     ensures lines { vec_capacity lines.new ≡ vec_capacity lines.old }
 {
+    if p as usize >= tables.processor_count() {
+        return Effect::Nothing;
+    }
     let x = tables.processor(p);
     if x.handler.is_some() {
         return Effect::Nothing;
@@ -213,12 +260,13 @@ pub fn run<B: Body>(
         Some(context) => context,
         None => return Effect::Nothing,
     };
-    let entry = body_number(tables.config(t).entry);
+    let entry = body_number(tables.task_config(t).entry);
     let stretch = body.stretch(entry, bound, context);
     happen(body, tables, contexts, caused, lines, p, t, stretch)
 }
 
 /// The clock advances by one.
+#[tactic(auto, using(crate::proofs::ReadyLemmas::ready_kept))]
 pub fn tick<B: Body>(
     body: &B,
     tables: &mut Tables,
@@ -229,19 +277,19 @@ pub fn tick<B: Body>(
     requires ready { IsReady tables.old (length contexts.old.items) }
     requires entries { Entered B.has_entry body.now tables.old.system }
     requires contexts { Fitting B.is_context body.now tables.old.system contexts.old.items }
-    requires time { tables.old.state.clock < 2 ^ 21 }
+    requires time { tables.old.state.clock < 2 ^ 20 }
     requires caused { 255 ≤ vec_capacity caused.old }
     requires room { vec_capacity caused.old + 9 ≤ vec_capacity lines.old }
     ensures after { done_of tables.new contexts.new.items lines.new.items ≡ finished tables.old.system (B.meaning body.now) (contexts_of_tasks tables.old.system.processors contexts.old.items) (Line.Tick (tables.old.state.clock + 1) ∷ []) (ticked tables.old.system tables.old.state) }
     ensures shape { SameShape (record tables.old { state = with_clock_advanced tables.old.state }) tables.new }
+    ensures ready { IsReady tables.new (length contexts.new.items) }
     ensures long { length contexts.new.items ≡ length contexts.old.items }
     ensures contexts { Fitting B.is_context body.now tables.old.system contexts.new.items }
     ensures caused { vec_capacity caused.new ≡ vec_capacity caused.old }
     ensures lines { vec_capacity lines.new ≡ vec_capacity lines.old }
 {
     caused.clear();
-    tables.advance();
-    time_out_all(tables, caused);
+    advance(tables, caused);
     let own = Line::Tick(tables.clock());
     finish(body, tables, contexts, caused, lines, own);
 }

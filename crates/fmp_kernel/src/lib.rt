@@ -1,17 +1,16 @@
-//! The kernel over bodies that are given by a trait: one event is one step of its state.
+//! The kernel over bodies that are given by a trait: one event is one step of its state. Tasks make all service calls of
+//! the uITRON 4.0 standard profile and of the FMP kernel that this kernel has.
 //!
-//! So far it takes systems with tasks and no objects or handlers, whose bodies make no call but `put`.
+//! So far it takes systems of one processor, with no spin locks, cyclic handlers and interrupts.
 #![tactic(auto)]
 
-pub mod bodies;
-pub mod calls;
-pub mod events;
+mod bodies;
+mod calls;
+mod events;
 pub mod kernel;
-pub mod queues;
-pub mod settling;
-pub mod tables;
-pub mod tasks;
-pub mod ticks;
+mod settling;
+mod starting;
+mod ticks;
 
 pub use fmp_body::Body;
 pub use kernel::{Kernel, KernelFault};

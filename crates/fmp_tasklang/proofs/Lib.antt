@@ -1,5 +1,6 @@
 pub mod Arguments
 pub mod BodyPaths
+pub mod CallForms
 pub mod Families
 pub mod Layers
 pub mod Links

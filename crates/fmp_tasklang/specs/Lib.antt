@@ -1,4 +1,5 @@
 pub mod Blocks
+pub mod CallForms
 pub mod Calls
 pub mod Contexts
 pub mod Examples

@@ -1,4 +1,7 @@
+ghost use Rattle.std.specs.Prelude.{IfOk};
+ghost use Rattle.fmp_tasklang.specs.CallForms.{CallsFit};
 ghost use Rattle.fmp_tasklang.specs.Reading.{IsRead};
+ghost use Rattle.fmp_tasklang.specs.Views.{program_view};
 
 use crate::bodies::read_program;
 use crate::trees::Program;
@@ -7,9 +10,11 @@ use std::alloc::Global;
 
 /// The program that a task text spells, or the first fault of the text: a token that no text of the task language
 /// has in its place (B1), one that opens a 65th level of nesting, a name or number that is too great, or a text of
-/// more than 1,048,576 bytes (B5). Names and bodies have the lines of their tokens.
+/// more than 1,048,576 bytes (B5). Names and bodies have the lines of their tokens, and each call has the arguments of
+/// its service.
 pub fn read_tasks(alloc: Global, text: &[u8]) -> Result<Program, BuildFault>
-    ensures { IsRead text.now result }
+    ensures read { IsRead text.now result }
+    ensures calls { IfOk result (λ program. CallsFit (program_view program)) }
 {
     match tokens(alloc, text) {
         Ok(list) => match read_program(alloc, &list.tokens) {

@@ -2,8 +2,8 @@ use Rattle.std.proofs.Common.{◌≡◌, ◌≤◌, ◌+◌, ◌-◌, length, ve
 use Rattle.fmp_base.specs.Settles.{all_settled}
 use Rattle.fmp_base.specs.States.{places_from}
 use Rattle.fmp_kernel.specs.Contexts.{IsOfTask}
-use Rattle.fmp_kernel.specs.Tables.{progress, SameShape}
 use Rattle.fmp_kernel.proofs.settling.settle.Given as goal
+use Rattle.fmp_tasks.specs.Tables.{progress, SameShape}
 
 abbrev pub invariant-loop-p : goal.invariant-loop-p
 invariant-loop-p l =
@@ -12,7 +12,7 @@ invariant-loop-p l =
     record {
       progress : rest (progress l.tables l.lines.items) (places_from l.p (count - l.p)) ≡ rest (progress l.fn.tables l.fn.lines.items) (places_from 0 count);
       shape : SameShape l.fn.tables l.tables;
-      room : vec_len l.lines + length l.fn.tables.state.processors ≤ vec_capacity l.lines + l.p;
+      room : vec_len l.lines + 8 ≤ vec_capacity l.lines + l.p;
       capacity : vec_capacity l.lines ≡ vec_capacity l.fn.lines;
       of_tasks : All IsOfTask l.lines.items;
     }

@@ -1,17 +1,23 @@
-use Rattle.std.proofs.Common.{◌≡◌, ◌≤◌, ◌-◌, length, vec_len, vec_capacity, All}
+use Rattle.std.proofs.Common.{◌≡◌, ◌-◌, length, vec_len, vec_capacity, All}
 use Rattle.fmp_base.specs.States.{places_from, unchanged}
 use Rattle.fmp_base.specs.Ticks.{all_timed_out}
 use Rattle.fmp_kernel.specs.Contexts.{IsOfTask}
-use Rattle.fmp_kernel.specs.Tables.{progress, SameShape}
+use Rattle.fmp_kernel.proofs.TickLemmas.{Passed}
 use Rattle.fmp_kernel.proofs.ticks.time_out_all.Given as goal
+use Rattle.fmp_tasks.specs.Tables.{progress, SameShape}
 
+-- what is still to be released comes to the whole; as many first tasks as were released are not due
 abbrev pub invariant-loop-t : goal.invariant-loop-t
 invariant-loop-t l =
-    let count = length l.fn.tables.state.tasks in
+    let now = progress l.tables l.caused.items in
+    let all = places_from 0 (length l.fn.tables.state.tasks) in
     record {
-      progress : all_timed_out (progress l.tables l.caused.items) (places_from l.t (count - l.t)) ≡ all_timed_out (unchanged l.fn.tables.state) (places_from 0 count);
+      progress : all_timed_out now all ≡ all_timed_out (unchanged l.fn.tables.state) all;
       shape : SameShape l.fn.tables l.tables;
-      long : vec_len l.caused ≤ l.t;
+      passed : Passed now (vec_len l.caused);
       capacity : vec_capacity l.caused ≡ vec_capacity l.fn.caused;
       of_tasks : All IsOfTask l.caused.items;
     }
+
+abbrev pub decreases-loop-t : goal.decreases-loop-t
+decreases-loop-t l = length l.fn.tables.state.tasks - vec_len l.caused

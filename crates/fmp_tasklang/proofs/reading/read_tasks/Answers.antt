@@ -10,7 +10,10 @@ use Rattle.fmp_lex.specs.declared.token.TextFault.TheVariants as text_fault
 use Rattle.fmp_lex.specs.Cutting.{Cuts, end_line_of}
 use Rattle.fmp_lex.specs.Faults.{text_max, fault_of, IsSyntaxFault}
 use Rattle.fmp_lex.specs.Reading.{kinds_of, IsFirstFault}
+use Rattle.fmp_tasklang.specs.Expressions.{lines_of}
 use Rattle.fmp_tasklang.specs.Reading.{Tasks, IsRead}
+use Rattle.fmp_tasklang.specs.Views.{program_view}
+use Rattle.fmp_tasklang.proofs.CallForms.{calls_fit}
 use Rattle.fmp_tasklang.proofs.reading.read_tasks.Goals as goal
 
 not_long : (text : List ℕ) (list : TokenList) → ((Ok list ≡ Err text_fault.TooLong) ↔ (text_max < length text)) → length text ≤ text_max
@@ -28,10 +31,16 @@ read_stopped : (text : List ℕ) (ts : List Token) (j end_line : ℕ) (why : Gra
 read_stopped text ts j end_line why f short cut first line is =
     is_read text f (inr (short, (ts, cut, j, why, first, is ∙ ap (λ n. fault_of file.Source n (slice_get ts j) why) line)))
 
-pub returns-in-Ok : goal.returns-in-Ok
-returns-in-Ok c =
+pub returns-in-Ok-clause-read : goal.returns-in-Ok-clause-read
+returns-in-Ok-clause-read c =
     let text = c.args.text.now in
     let list = c.in-Ok.list in
     let short : length text ≤ text_max = not_long text list c.in-Ok.ensures.too_long in
     let first = rw (c.in-Err-Fault.field-0-is, c.deref.ensures.value) at c.in-Err-Fault.ensures in
     read_stopped text list.tokens.items c.in-Err-Fault.at list.end_line c.in-Err-Fault.why c.fault_at.result short c.in-Ok.ensures.cut first c.in-Ok.ensures.end_line c.fault_at.ensures
+
+pub returns-in-Ok-read_program-clause-calls : goal.returns-in-Ok-read_program-clause-calls
+returns-in-Ok-read_program-clause-calls c =
+    let tokens = c.deref.result.now in
+    let end = length (kinds_of tokens) in
+    calls_fit (lines_of tokens) (kinds_of tokens) end (program_view c.in-Ok-read_program.program) 0 end c.in-Ok-read_program.ensures.0

@@ -1,0 +1,109 @@
+-- Bodies and variables are judged one after another.
+use Rattle.std.proofs.Common.{◌≡◌, ℕ, zero, suc, ◌+◌, ◌<◌, ◌≤◌, List, [], ◌∷◌, ◌++◌, Option, Some, None, length, take, drop, get_or, map, refl, sym, ap, ◌∙◌, subst, arith}
+use Rattle.std.proofs.lemmas.List.{take_more}
+use Rattle.fmp_base.specs.declared.names.Name.{Name}
+use Rattle.fmp_base.specs.Names.{name_text}
+use Rattle.fmp_base.specs.Systems.{SystemTables}
+use Rattle.fmp_tasklang.specs.declared.trees.Body.{Body}
+use Rattle.fmp_tasklang.specs.Trees.{BodyTree}
+use Rattle.fmp_tasklang.specs.Scopes.{place_of}
+use Rattle.fmp_tasklang.specs.Texts.{body_at}
+use Rattle.fmp_tasklang.specs.Views.{body_view}
+use Rattle.fmp_code.specs.Instructions.{BodyTables}
+use Rattle.fmp_code.specs.Verify.{Verified}
+use Rattle.fmp_codegen.specs.declared.entries.EntryUse.{EntryUse}
+use Rattle.fmp_codegen.specs.Entries.{body_place}
+use Rattle.fmp_codegen.specs.declared.offences.Offence.{Offence}
+use Rattle.fmp_tasklang.specs.CallForms.{CallsFit}
+use Rattle.fmp_codegen.specs.Compiling.{body_offence, bodies_offence, compiled, IsAccepted}
+use Rattle.fmp_codegen.specs.Laws.{DoesText}
+use Rattle.fmp_codegen.specs.Naming.{first_offence}
+use Rattle.fmp_codegen.proofs.Bodies.{does_text}
+use Rattle.fmp_codegen.proofs.Loops.{drop-all, map-step}
+use Rattle.fmp_codegen.proofs.VerifiedBodies.{is_verified}
+
+map-append : {A B : Type 0} (f : A → B) (xs ys : List A) → map f (xs ++ ys) ≡ map f xs ++ map f ys
+map-append f [] ys = refl
+map-append f (x ∷ xs) ys = ap (λ zs. f x ∷ zs) (map-append f xs ys)
+
+pub take-step :
+    {A B : Type 0} (f : A → B) (xs : List A) (i : ℕ) (x : A) → i < length xs → x ≡ get_or xs i x →
+    map f (take (i + 1) xs) ≡ map f (take i xs) ++ f x ∷ []
+take-step f xs i x h e =
+    ap (map f) (take_more xs i x h) ∙ map-append f (take i xs) (get_or xs i x ∷ [])
+    ∙ ap (λ y. map f (take i xs) ++ f y ∷ []) (sym e)
+
+module _ (tables : SystemTables) (bodies : List Body) (i : ℕ) (b : Body) (within : i < length bodies) (is : b ≡ get_or bodies i b)
+    (whole : Option Offence) where
+  abbrev names_before : ℕ → List Name
+  names_before n = map (λ (x : Body). x.name.name) (take n bodies)
+
+  abbrev judged : ℕ → Option Offence
+  judged n = bodies_offence tables (names_before n) (map body_view (drop n bodies))
+
+  unrolled :
+      judged i ≡ first_offence (body_offence tables (names_before i) (body_view b)) (judged (i + 1))
+  unrolled =
+      ap (bodies_offence tables (names_before i)) (map-step body_view bodies i b within is)
+      ∙ ap (λ ns. first_offence (body_offence tables (names_before i) (body_view b)) (bodies_offence tables ns (map body_view (drop (i + 1) bodies))))
+      (sym (take-step (λ (x : Body). x.name.name) bodies i b within is))
+
+  -- a body without a fault
+  pub judged-on : None ≡ body_offence tables (names_before i) (body_view b) → judged i ≡ whole → judged (i + 1) ≡ whole
+  judged-on h before =
+      ap (λ o. first_offence o (judged (i + 1))) h ∙ sym unrolled ∙ before
+
+  -- the first body with a fault
+  pub judged-here : (o : Offence) → Some o ≡ body_offence tables (names_before i) (body_view b) → judged i ≡ whole → whole ≡ Some o
+  judged-here o h before = sym before ∙ unrolled ∙ ap (λ x. first_offence x (judged (i + 1))) (sym h)
+
+pub code-tied :
+    (tables : SystemTables) (bodies : List BodyTree) (code : List BodyTables) → IsAccepted tables bodies →
+    code ≡ compiled tables bodies → DoesText tables bodies code
+code-tied tables bodies code accepted e =
+    subst (λ (c : List BodyTables). DoesText tables bodies c) (sym e) (does_text tables bodies accepted)
+
+pub code-verified :
+    (tables : SystemTables) (bodies : List BodyTree) (code : List BodyTables) → IsAccepted tables bodies →
+    code ≡ compiled tables bodies → CallsFit bodies → Verified code
+code-verified tables bodies code accepted e fits = subst Verified (sym e) (is_verified tables bodies accepted fits)
+
+append-nil : {A : Type 0} (xs : List A) → xs ++ [] ≡ xs
+append-nil [] = refl
+append-nil (x ∷ xs) = ap (λ ys. x ∷ ys) (append-nil xs)
+
+-- after the last body
+pub all-accepted :
+    (tables : SystemTables) (bodies : List Body) (i : ℕ) → length bodies ≤ i →
+    bodies_offence tables (map (λ (b : Body). b.name.name) (take i bodies)) (map body_view (drop i bodies)) ≡
+    bodies_offence tables [] (map body_view bodies) →
+    IsAccepted tables (map body_view bodies)
+all-accepted tables bodies i last h =
+    sym h ∙ ap (λ bs. bodies_offence tables (map (λ (b : Body). b.name.name) (take i bodies)) (map body_view bs)) (drop-all bodies i last)
+
+pub all-compiled :
+    (tables : SystemTables) (bodies : List Body) (i : ℕ) → length bodies ≤ i → (code : List BodyTables) →
+    code ++ compiled tables (map body_view (drop i bodies)) ≡ compiled tables (map body_view bodies) →
+    code ≡ compiled tables (map body_view bodies)
+all-compiled tables bodies i last code h =
+    sym (append-nil code) ∙ sym (ap (λ bs. code ++ compiled tables (map body_view bs)) (drop-all bodies i last)) ∙ h
+
+-- ---- entries
+
+pub names-viewed :
+    (bodies : List Body) → map (λ (b : BodyTree). b.name.name) (map body_view bodies) ≡ map (λ (b : Body). b.name.name) bodies
+names-viewed [] = refl
+names-viewed (b ∷ bs) = ap (λ ns. b.name.name ∷ ns) (names-viewed bs)
+
+pub viewed-at :
+    (bodies : List Body) (k : ℕ) (b : Body) → k < length bodies → b ≡ get_or bodies k b →
+    body_at (map body_view bodies) k ≡ body_view b
+viewed-at [] k b h e = absurd (omega (arith, h))
+viewed-at (x ∷ xs) zero b h e = ap body_view (sym e)
+viewed-at (x ∷ xs) (suc k) b h e = viewed-at xs k b (omega (arith, h)) e
+
+-- the fault of an entry whose body is at a place
+pub entry-at :
+    (bodies : List Body) (u : EntryUse) (o : Option ℕ) → o ≡ place_of (name_text u.name) (map (λ (b : Body). b.name.name) bodies) →
+    body_place (map body_view bodies) u.name ≡ o
+entry-at bodies u o h = ap (place_of (name_text u.name)) (names-viewed bodies) ∙ sym h

@@ -1,0 +1,24 @@
+use Rattle.std.proofs.Common.{◌≤◌, length, map, arith}
+use Rattle.fmp_base.specs.Systems.{tables_of}
+use Rattle.fmp_tasklang.specs.Views.{body_view}
+use Rattle.fmp_code.specs.Instructions.{body_tables}
+use Rattle.fmp_codegen.proofs.Judging.{code-tied, code-verified, all-accepted, all-compiled}
+use Rattle.fmp_codegen.proofs.compiling.compile.Goals as goal
+
+pub returns-clause-tied : goal.returns-clause-tied
+returns-clause-tied c =
+    let tables = tables_of c.args.system.now in
+    let bodies = c.args.program.now.bodies.items in
+    let last : length bodies ≤ c.loop-i.i = omega (arith, c.loop-i-test.false) in
+    code-tied tables (map body_view bodies) (map body_tables c.loop-i.bodies.items)
+    (all-accepted tables bodies c.loop-i.i last c.loop-i.invariant.rest)
+    (all-compiled tables bodies c.loop-i.i last (map body_tables c.loop-i.bodies.items) c.loop-i.invariant.code)
+
+pub returns-clause-verified : goal.returns-clause-verified
+returns-clause-verified c = λ fits.
+    let tables = tables_of c.args.system.now in
+    let bodies = c.args.program.now.bodies.items in
+    let last : length bodies ≤ c.loop-i.i = omega (arith, c.loop-i-test.false) in
+    code-verified tables (map body_view bodies) (map body_tables c.loop-i.bodies.items)
+    (all-accepted tables bodies c.loop-i.i last c.loop-i.invariant.rest)
+    (all-compiled tables bodies c.loop-i.i last (map body_tables c.loop-i.bodies.items) c.loop-i.invariant.code) fits

@@ -1,0 +1,22 @@
+use Rattle.std.proofs.Common.{◌≡◌, ◌+◌, ◌≤◌, ◌++◌, length, drop}
+use Rattle.fmp_tasklang.specs.Views.{block_view}
+use Rattle.fmp_codegen.specs.Depths.{block_depth}
+use Rattle.fmp_codegen.specs.DepthTables.{block_depths}
+use Rattle.fmp_codegen.specs.Scheme.{block_code}
+use Rattle.fmp_codegen.specs.Scopes.{scope_view}
+use Rattle.fmp_codegen.specs.Sizes.{block_size}
+use Rattle.fmp_codegen.proofs.emission.+statement_emission.Given as goal
+
+abbrev pub invariant-emit_block-loop-s : goal.invariant-emit_block-loop-s
+invariant-emit_block-loop-s l =
+    let made = l.out.instructions.items in
+    let begun = l.fn.out.instructions.items in
+    let rest = block_view (drop l.s-index l.statements) in
+    let whole = block_view l.statements in
+    record {
+      code : made ++ block_code (scope_view l.names) rest (length made) l.again l.exit ≡
+          begun ++ block_code (scope_view l.names) whole (length begun) l.again l.exit;
+      len : length made + block_size rest ≡ length begun + block_size whole;
+      depths : l.out.depths.items ++ block_depths rest ≡ l.fn.out.depths.items ++ block_depths whole;
+      low : block_depth rest ≤ 64;
+    }

@@ -1,0 +1,169 @@
+//! The code of the bodies of a text, or the first fault in them.
+
+ghost use Rattle.std.specs.Prelude.{◌≡◌, ◌+◌, ◌≤◌, ◌++◌, ◌∷◌, [], map, length, IfOk, OnOk, IfNone};
+ghost use Rattle.fmp_base.specs.Systems.{tables_of};
+ghost use Rattle.fmp_tasklang.specs.Scopes.{exinf_name};
+ghost use Rattle.fmp_tasklang.specs.Views.{body_view, program_view};
+ghost use Rattle.fmp_code.specs.Instructions.{body_tables, code_tables};
+ghost use Rattle.fmp_code.specs.Verify.{Verified};
+ghost use Rattle.fmp_tasklang.specs.CallForms.{CallsFit};
+ghost use Rattle.fmp_codegen.specs.Compiling as spec;
+ghost use Rattle.fmp_codegen.specs.Compiling.{compiled_body, IsCompiled};
+ghost use Rattle.fmp_codegen.specs.Depths.{body_depth};
+ghost use Rattle.fmp_codegen.specs.Laws.{DoesText};
+ghost use Rattle.fmp_codegen.specs.Scopes.{HasFewObjects};
+ghost use Rattle.fmp_codegen.specs.Sizes.{body_size};
+
+use crate::emission::{Output, emit_block, put};
+use crate::extents::block_extent;
+use crate::names::{Names, is_exinf, is_object, place_in};
+use crate::offences::Offence;
+use crate::uses::block_offence;
+use fmp_base::System;
+use fmp_code::{BodyCode, Code, Instruction};
+use fmp_lex::{BuildFault, FaultKind, TextFile};
+use fmp_tasklang::{Body, Program, Word};
+use std::alloc::{AllocError, Global};
+
+/// The greatest number of instructions of a body.
+const MOST_INSTRUCTIONS: usize = 65535;
+/// The greatest number of operands that a body needs.
+const MOST_OPERANDS: usize = 64;
+/// The greatest number of declared variables of a body, beside `exinf`.
+const MOST_VARIABLES: usize = 63;
+/// The greatest number of bodies.
+const MOST_BODIES: usize = 255;
+
+/// Appends an item.
+pub fn append<T: Drop>(list: &mut Vec<T>, item: T) -> Result<(), AllocError>
+    ensures { OnOk result (list.new.items ≡ list.old.items ++ item ∷ []) }
+{
+    list.push(item)?;
+    Ok(())
+}
+
+/// The first fault of the declared variables of a body: the 65th local, or a name of another variable or of an object.
+fn variables_offence(system: &System, variables: &[Word]) -> Option<Offence>
+    requires { HasFewObjects (tables_of system.now) }
+    ensures first { result ≡ spec.variables_offence (tables_of system.now) (exinf_name ∷ []) variables.now }
+    ensures few { IfNone result (length variables.now ≤ 63) }
+{
+    for i in 0..variables.len() {
+        let word = variables[i];
+        if i >= MOST_VARIABLES {
+            return Some(Offence {
+                line: word.line,
+                why: FaultKind::Limit,
+            });
+        }
+        if is_exinf(&word.name)
+            || place_in(&variables[..i], &word.name).is_some()
+            || is_object(system, &word.name)
+        {
+            return Some(Offence {
+                line: word.line,
+                why: FaultKind::TwiceNamed,
+            });
+        }
+    }
+    None
+}
+
+/// The fault of a body that takes too many instructions or operands.
+fn size_offence(body: &Body) -> Option<Offence>
+    ensures first { result ≡ spec.size_offence (body_view body.now) }
+    ensures small { IfNone result (body_size (body_view body.now) ≤ 65535) }
+    ensures low { IfNone result (body_depth (body_view body.now) ≤ 64) }
+{
+    let extent = block_extent(&body.statements);
+    if extent.size >= MOST_INSTRUCTIONS || extent.depth > MOST_OPERANDS {
+        return Some(Offence {
+            line: body.line,
+            why: FaultKind::Limit,
+        });
+    }
+    None
+}
+
+/// The first fault of a body, after these bodies.
+fn body_offence(system: &System, earlier: &[Body], body: &Body) -> Option<Offence>
+    requires { HasFewObjects (tables_of system.now) }
+    ensures first { result ≡ spec.body_offence (tables_of system.now) (map (λ b. b.name.name) earlier.now) (body_view body.now) }
+    ensures variables { IfNone result (length body.now.variables.items ≤ 63) }
+    ensures small { IfNone result (body_size (body_view body.now) ≤ 65535) }
+    ensures low { IfNone result (body_depth (body_view body.now) ≤ 64) }
+{
+    if earlier.len() >= MOST_BODIES {
+        return Some(Offence {
+            line: body.line,
+            why: FaultKind::Limit,
+        });
+    }
+    if place_in(earlier, &body.name.name).is_some() {
+        return Some(Offence {
+            line: body.name.line,
+            why: FaultKind::TwiceNamed,
+        });
+    }
+    if let Some(offence) = variables_offence(system, &body.variables) {
+        return Some(offence);
+    }
+    let names = Names {
+        system,
+        variables: &body.variables,
+    };
+    if let Some(offence) = block_offence(&names, &body.statements) {
+        return Some(offence);
+    }
+    size_offence(body)
+}
+
+/// The code of a body that has no fault.
+fn compile_body(alloc: Global, system: &System, body: &Body) -> Result<BodyCode, AllocError>
+    requires objects { HasFewObjects (tables_of system.now) }
+    requires variables { length body.now.variables.items ≤ 63 }
+    requires small { body_size (body_view body.now) ≤ 65535 }
+    requires low { body_depth (body_view body.now) ≤ 64 }
+    ensures { IfOk result (λ code. body_tables code ≡ compiled_body (tables_of system.now) (body_view body.now)) }
+{
+    let names = Names {
+        system,
+        variables: &body.variables,
+    };
+    let end = block_extent(&body.statements).size as u16;
+    let mut out = Output {
+        instructions: Vec::new(alloc),
+        depths: Vec::new(alloc),
+    };
+    emit_block(&mut out, &names, &body.statements, end, end)?;
+    put(&mut out, Instruction::End, 0)?;
+    Ok(BodyCode {
+        locals: body.variables.len() as u8 + 1,
+        instructions: out.instructions,
+        depths: out.depths,
+    })
+}
+
+/// The code of the bodies of a text, which does what they do.
+///
+/// Bodies are judged in order of text. A fault stands at its line of the task text: `Limit` for the 256th body at its
+/// first line, for the 65th local at its name, and for more than 65535 instructions or 64 operands at the body's
+/// first line, after all of its names; `TwiceNamed` for a body with the name of another one, and for a variable with
+/// the name of another variable, of `exinf` or of an object; `UnknownName` for a name that is neither a variable nor
+/// an object, or is no variable where it is written.
+pub fn compile(alloc: Global, program: &Program, system: &System) -> Result<Code, BuildFault>
+    requires { HasFewObjects (tables_of system.now) }
+    ensures compiled { IsCompiled (tables_of system.now) (program_view program.now) result }
+    ensures tied { IfOk result (λ code. DoesText (tables_of system.now) (program_view program.now) (code_tables code)) }
+    ensures verified { CallsFit (program_view program.now) → IfOk result (λ code. Verified (code_tables code)) }
+{
+    let mut bodies = Vec::new(alloc);
+    for i in 0..program.bodies.len() {
+        let body = &program.bodies[i];
+        if let Some(offence) = body_offence(system, &program.bodies[..i], body) {
+            return Err(BuildFault::At(TextFile::Source, offence.line, offence.why));
+        }
+        append(&mut bodies, compile_body(alloc, system, body)?)?;
+    }
+    Ok(Code { bodies })
+}

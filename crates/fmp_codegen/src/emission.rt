@@ -1,0 +1,418 @@
+//! The code of a tree and its depths, one instruction after another. Sizes are counted before, so that each jump is
+//! known when it is emitted; nesting bounds how often a tree is counted.
+
+ghost use Rattle.std.specs.Prelude.{◌≡◌, ◌+◌, ◌<◌, ◌≤◌, ◌++◌, ◌∷◌, [], ℕ, map, length, Some, IfSome, OnOk, IfOk};
+ghost use Rattle.fmp_base.specs.Systems.{tables_of};
+ghost use Rattle.fmp_tasklang.specs.declared.trees.Operator.TheVariants as operator;
+ghost use Rattle.fmp_tasklang.specs.Scopes.{meaning_of};
+ghost use Rattle.fmp_tasklang.specs.Stretches.{word_place};
+ghost use Rattle.fmp_tasklang.specs.Views.{expression_view, link_view, call_view, statement_view, block_view};
+ghost use Rattle.fmp_codegen.specs.Chains.{link_size, links_size, link_depth, links_depth, operator_code, links_code, operator_depths, links_depths, test_code};
+ghost use Rattle.fmp_codegen.specs.Depths.{expression_depth, arguments_depth, statement_depth, block_depth};
+ghost use Rattle.fmp_codegen.specs.DepthTables.{expression_depths, arguments_depths, statement_depths, block_depths};
+ghost use Rattle.fmp_codegen.specs.Scheme.{name_code, expression_code, arguments_code, target_place, call_instruction, statement_code, block_code};
+ghost use Rattle.fmp_codegen.specs.Scopes.{IsHeld, meaning_view, scope_view};
+ghost use Rattle.fmp_codegen.specs.Sizes.{expression_size, arguments_size, statement_size, block_size};
+
+use crate::extents::{block_extent, expression_extent};
+use crate::names::{Meaning, Names, meaning_in};
+use fmp_base::BinaryOperator;
+use fmp_code::Instruction;
+use fmp_tasklang::{Expression, Link, Operator, ServiceCall, Statement, Word};
+use std::alloc::AllocError;
+
+/// The code that is made so far, with the number of operands before each instruction.
+#[derive(Debug, Drop)]
+pub struct Output {
+    pub instructions: Vec<Instruction>,
+    pub depths: Vec<u8>,
+}
+
+/// Appends an instruction.
+pub fn put(out: &mut Output, instruction: Instruction, depth: u8) -> Result<(), AllocError>
+    ensures code { OnOk result (out.new.instructions.items ≡ out.old.instructions.items ++ instruction ∷ []) }
+    ensures len { OnOk result (length out.new.instructions.items ≡ length out.old.instructions.items + 1) }
+    ensures depths { OnOk result (out.new.depths.items ≡ out.old.depths.items ++ depth ∷ []) }
+{
+    out.instructions.push(instruction)?;
+    out.depths.push(depth)?;
+    Ok(())
+}
+
+/// A place in the code, from 0.
+fn place(n: usize) -> u16
+    requires { n ≤ 65535 }
+    ensures { result ≡ n }
+{
+    n as u16
+}
+
+fn name_instruction(names: &Names<'_>, word: &Word) -> Instruction
+    requires { IsHeld names.now }
+    ensures { result ≡ name_code (meaning_of (scope_view names.now) word.now.name) }
+{
+    match meaning_in(names, &word.name) {
+        Meaning::Variable(v) => Instruction::Load(v),
+        Meaning::Object(number) => Instruction::Push(number as i32),
+        Meaning::Unknown => Instruction::Push(0),
+    }
+}
+
+/// The place of a variable that is written.
+fn target_of(names: &Names<'_>, word: &Word) -> u8
+    requires { IsHeld names.now }
+    ensures { result ≡ target_place (scope_view names.now) word.now }
+{
+    match meaning_in(names, &word.name) {
+        Meaning::Variable(v) => v,
+        _ => 0,
+    }
+}
+
+/// The place of a variable, where one is named.
+fn place_of_word(names: &Names<'_>, word: Option<Word>) -> Option<u8>
+    requires { IsHeld names.now }
+    ensures { result ≡ word_place (scope_view names.now) word }
+{
+    match word {
+        None => None,
+        Some(word) => match meaning_in(names, &word.name) {
+            Meaning::Variable(v) => Some(v),
+            _ => None,
+        },
+    }
+}
+
+/// The size of an expression of a body that is small enough.
+fn size_of(e: &Expression) -> usize
+    requires { expression_size (expression_view e.now) ≤ 65535 }
+    ensures { result ≡ expression_size (expression_view e.now) }
+{
+    expression_extent(e).size
+}
+
+/// The size of a block of a body that is small enough.
+fn size_of_block(statements: &[Statement]) -> usize
+    requires { block_size (block_view statements.now) ≤ 65535 }
+    ensures { result ≡ block_size (block_view statements.now) }
+{
+    block_extent(statements).size
+}
+
+/// The code of an expression before which so many operands stand.
+#[cycle(expression_emission)]
+fn emit_expression(
+    out: &mut Output,
+    names: &Names<'_>,
+    e: &Expression,
+    depth: u8,
+) -> Result<(), AllocError>
+    requires held { IsHeld names.now }
+    requires room { length out.old.instructions.items + expression_size (expression_view e.now) ≤ 65535 }
+    requires low { depth + expression_depth (expression_view e.now) ≤ 64 }
+    ensures code { OnOk result (out.new.instructions.items ≡
+        out.old.instructions.items ++ expression_code (scope_view names.now) (expression_view e.now) (length out.old.instructions.items)) }
+    ensures len { OnOk result (length out.new.instructions.items ≡
+        length out.old.instructions.items + expression_size (expression_view e.now)) }
+    ensures depths { OnOk result (out.new.depths.items ≡
+        out.old.depths.items ++ expression_depths (expression_view e.now) depth) }
+{
+    match e {
+        Expression::Number(k) => {
+            put(out, Instruction::Push(*k), depth)?;
+            Ok(())
+        }
+        Expression::Name(word) => {
+            put(out, name_instruction(names, word), depth)?;
+            Ok(())
+        }
+        Expression::Unary { operator, operand } => {
+            emit_expression(out, names, operand, depth)?;
+            put(out, Instruction::Unary(*operator), depth + 1)?;
+            Ok(())
+        }
+        Expression::Chain { first, rest } => {
+            emit_expression(out, names, first, depth)?;
+            emit_links(out, names, rest, depth)?;
+            Ok(())
+        }
+    }
+}
+
+/// The further operands of a chain, after its first operand.
+#[cycle(expression_emission)]
+fn emit_links(
+    out: &mut Output,
+    names: &Names<'_>,
+    links: &[Link],
+    depth: u8,
+) -> Result<(), AllocError>
+    requires held { IsHeld names.now }
+    requires room { length out.old.instructions.items + links_size (map link_view links.now) ≤ 65535 }
+    requires low { depth + links_depth (map link_view links.now) ≤ 64 }
+    ensures code { OnOk result (out.new.instructions.items ≡
+        out.old.instructions.items ++ links_code (scope_view names.now) (map link_view links.now) (length out.old.instructions.items)) }
+    ensures len { OnOk result (length out.new.instructions.items ≡
+        length out.old.instructions.items + links_size (map link_view links.now)) }
+    ensures depths { OnOk result (out.new.depths.items ≡
+        out.old.depths.items ++ links_depths (map link_view links.now) depth) }
+{
+    for link in links {
+        match link.operator {
+            Operator::Binary(op) => emit_binary(out, names, op, &link.operand, depth)?,
+            Operator::Both => emit_both(out, names, &link.operand, depth)?,
+            Operator::Either => emit_either(out, names, &link.operand, depth)?,
+        }
+    }
+    Ok(())
+}
+
+/// An operator but `&&` and `||`.
+#[cycle(expression_emission)]
+fn emit_binary(
+    out: &mut Output,
+    names: &Names<'_>,
+    op: BinaryOperator,
+    operand: &Expression,
+    depth: u8,
+) -> Result<(), AllocError>
+    requires held { IsHeld names.now }
+    requires room { length out.old.instructions.items + expression_size (expression_view operand.now) + 1 ≤ 65535 }
+    requires low { depth + expression_depth (expression_view operand.now) + 1 ≤ 64 }
+    ensures code { OnOk result (out.new.instructions.items ≡ out.old.instructions.items ++
+        operator_code (scope_view names.now) (operator.Binary op) (expression_view operand.now) (length out.old.instructions.items)) }
+    ensures len { OnOk result (length out.new.instructions.items ≡
+        length out.old.instructions.items + expression_size (expression_view operand.now) + 1) }
+    ensures depths { OnOk result (out.new.depths.items ≡
+        out.old.depths.items ++ operator_depths (operator.Binary op) (expression_view operand.now) depth) }
+{
+    emit_expression(out, names, operand, depth + 1)?;
+    put(out, Instruction::Binary(op), depth + 2)?;
+    Ok(())
+}
+
+/// `&&`
+#[cycle(expression_emission)]
+fn emit_both(
+    out: &mut Output,
+    names: &Names<'_>,
+    operand: &Expression,
+    depth: u8,
+) -> Result<(), AllocError>
+    requires held { IsHeld names.now }
+    requires room { length out.old.instructions.items + expression_size (expression_view operand.now) + 4 ≤ 65535 }
+    requires low { depth + expression_depth (expression_view operand.now) ≤ 64 }
+    ensures code { OnOk result (out.new.instructions.items ≡ out.old.instructions.items ++
+        operator_code (scope_view names.now) operator.Both (expression_view operand.now) (length out.old.instructions.items)) }
+    ensures len { OnOk result (length out.new.instructions.items ≡
+        length out.old.instructions.items + expression_size (expression_view operand.now) + 4) }
+    ensures depths { OnOk result (out.new.depths.items ≡
+        out.old.depths.items ++ operator_depths operator.Both (expression_view operand.now) depth) }
+{
+    let no = out.instructions.len() + 1 + size_of(operand) + 2;
+    put(out, Instruction::JumpIfZero(place(no)), depth + 1)?;
+    emit_expression(out, names, operand, depth)?;
+    put(out, Instruction::Truth, depth + 1)?;
+    put(out, Instruction::Jump(place(no + 1)), depth + 1)?;
+    put(out, Instruction::Push(0), depth)?;
+    Ok(())
+}
+
+/// `||`
+#[cycle(expression_emission)]
+fn emit_either(
+    out: &mut Output,
+    names: &Names<'_>,
+    operand: &Expression,
+    depth: u8,
+) -> Result<(), AllocError>
+    requires held { IsHeld names.now }
+    requires room { length out.old.instructions.items + expression_size (expression_view operand.now) + 4 ≤ 65535 }
+    requires low { depth + expression_depth (expression_view operand.now) ≤ 64 }
+    ensures code { OnOk result (out.new.instructions.items ≡ out.old.instructions.items ++
+        operator_code (scope_view names.now) operator.Either (expression_view operand.now) (length out.old.instructions.items)) }
+    ensures len { OnOk result (length out.new.instructions.items ≡
+        length out.old.instructions.items + expression_size (expression_view operand.now) + 4) }
+    ensures depths { OnOk result (out.new.depths.items ≡
+        out.old.depths.items ++ operator_depths operator.Either (expression_view operand.now) depth) }
+{
+    let second = out.instructions.len() + 3;
+    put(out, Instruction::JumpIfZero(place(second)), depth + 1)?;
+    put(out, Instruction::Push(1), depth)?;
+    put(
+        out,
+        Instruction::Jump(place(second + size_of(operand) + 1)),
+        depth + 1,
+    )?;
+    emit_expression(out, names, operand, depth)?;
+    put(out, Instruction::Truth, depth + 1)?;
+    Ok(())
+}
+
+/// The code of the arguments of a call, one upon another.
+fn emit_arguments(
+    out: &mut Output,
+    names: &Names<'_>,
+    arguments: &[Expression],
+) -> Result<(), AllocError>
+    requires held { IsHeld names.now }
+    requires room { length out.old.instructions.items + arguments_size (map expression_view arguments.now) ≤ 65535 }
+    requires low { arguments_depth (map expression_view arguments.now) ≤ 64 }
+    ensures code { OnOk result (out.new.instructions.items ≡ out.old.instructions.items ++
+        arguments_code (scope_view names.now) (map expression_view arguments.now) (length out.old.instructions.items)) }
+    ensures len { OnOk result (length out.new.instructions.items ≡
+        length out.old.instructions.items + arguments_size (map expression_view arguments.now)) }
+    ensures depths { OnOk result (out.new.depths.items ≡
+        out.old.depths.items ++ arguments_depths (map expression_view arguments.now) 0) }
+{
+    for i in 0..arguments.len() {
+        emit_expression(out, names, &arguments[i], i as u8)?;
+    }
+    Ok(())
+}
+
+/// The number of arguments of a call, which needs as many operands at least.
+fn count_of(arguments: &[Expression]) -> u8
+    requires { arguments_depth (map expression_view arguments.now) ≤ 64 }
+    ensures { result ≡ length arguments.now }
+{
+    arguments.len() as u8
+}
+
+fn emit_call(out: &mut Output, names: &Names<'_>, call: &ServiceCall) -> Result<(), AllocError>
+    requires held { IsHeld names.now }
+    requires room { length out.old.instructions.items + arguments_size (call_view call.now).arguments + 1 ≤ 65535 }
+    requires low { arguments_depth (call_view call.now).arguments ≤ 64 }
+    ensures code { OnOk result (out.new.instructions.items ≡ out.old.instructions.items ++
+        (arguments_code (scope_view names.now) (call_view call.now).arguments (length out.old.instructions.items) ++
+        call_instruction (scope_view names.now) (call_view call.now) ∷ [])) }
+    ensures len { OnOk result (length out.new.instructions.items ≡
+        length out.old.instructions.items + arguments_size (call_view call.now).arguments + 1) }
+    ensures depths { OnOk result (out.new.depths.items ≡ out.old.depths.items ++
+        (arguments_depths (call_view call.now).arguments 0 ++ length (call_view call.now).arguments ∷ [])) }
+{
+    emit_arguments(out, names, &call.arguments)?;
+    let instruction = Instruction::Call {
+        service: call.service,
+        out: place_of_word(names, call.out),
+        result: place_of_word(names, call.result),
+    };
+    put(out, instruction, count_of(&call.arguments))?;
+    Ok(())
+}
+
+/// The code of a condition, and a jump over so many instructions behind it where it is 0.
+fn emit_test(
+    out: &mut Output,
+    names: &Names<'_>,
+    condition: &Expression,
+    over: usize,
+) -> Result<(), AllocError>
+    requires held { IsHeld names.now }
+    requires room { length out.old.instructions.items + expression_size (expression_view condition.now) + 1 + over ≤ 65535 }
+    requires low { expression_depth (expression_view condition.now) ≤ 64 }
+    ensures code { OnOk result (out.new.instructions.items ≡ out.old.instructions.items ++
+        test_code (scope_view names.now) (expression_view condition.now) (length out.old.instructions.items) over) }
+    ensures len { OnOk result (length out.new.instructions.items ≡
+        length out.old.instructions.items + expression_size (expression_view condition.now) + 1) }
+    ensures depths { OnOk result (out.new.depths.items ≡ out.old.depths.items ++
+        (expression_depths (expression_view condition.now) 0 ++ 1 ∷ [])) }
+{
+    emit_expression(out, names, condition, 0)?;
+    let target = place(out.instructions.len() + 1 + over);
+    put(out, Instruction::JumpIfZero(target), 1)?;
+    Ok(())
+}
+
+#[cycle(statement_emission)]
+fn emit_statement(
+    out: &mut Output,
+    names: &Names<'_>,
+    s: &Statement,
+    again: u16,
+    exit: u16,
+) -> Result<(), AllocError>
+    requires held { IsHeld names.now }
+    requires room { length out.old.instructions.items + statement_size (statement_view s.now) ≤ 65535 }
+    requires low { statement_depth (statement_view s.now) ≤ 64 }
+    ensures code { OnOk result (out.new.instructions.items ≡ out.old.instructions.items ++
+        statement_code (scope_view names.now) (statement_view s.now) (length out.old.instructions.items) again exit) }
+    ensures len { OnOk result (length out.new.instructions.items ≡
+        length out.old.instructions.items + statement_size (statement_view s.now)) }
+    ensures depths { OnOk result (out.new.depths.items ≡ out.old.depths.items ++ statement_depths (statement_view s.now)) }
+{
+    match s {
+        Statement::Assign { target, value } => {
+            emit_expression(out, names, value, 0)?;
+            put(out, Instruction::Store(target_of(names, target)), 1)?;
+            Ok(())
+        }
+        Statement::Call(call) => {
+            emit_call(out, names, call)?;
+            Ok(())
+        }
+        Statement::If { condition, then } => {
+            emit_test(out, names, condition, size_of_block(then))?;
+            emit_block(out, names, then, again, exit)?;
+            Ok(())
+        }
+        Statement::IfElse {
+            condition,
+            then,
+            otherwise,
+        } => {
+            emit_test(out, names, condition, size_of_block(then) + 1)?;
+            emit_block(out, names, then, again, exit)?;
+            let over = out.instructions.len() + 1 + size_of_block(otherwise);
+            put(out, Instruction::Jump(place(over)), 0)?;
+            emit_block(out, names, otherwise, again, exit)?;
+            Ok(())
+        }
+        Statement::While { condition, body } => {
+            let start = place(out.instructions.len());
+            let over = size_of_block(body) + 1;
+            emit_test(out, names, condition, over)?;
+            let end = place(out.instructions.len() + over);
+            emit_block(out, names, body, start, end)?;
+            put(out, Instruction::Jump(start), 0)?;
+            Ok(())
+        }
+        Statement::Break => {
+            put(out, Instruction::Jump(exit), 0)?;
+            Ok(())
+        }
+        Statement::Continue => {
+            put(out, Instruction::Jump(again), 0)?;
+            Ok(())
+        }
+        Statement::Return => {
+            put(out, Instruction::End, 0)?;
+            Ok(())
+        }
+    }
+}
+
+/// The code of the statements of a block; `again` is the place to which a `continue` leads, `exit` that to which a
+/// `break` leads.
+#[cycle(statement_emission)]
+pub fn emit_block(
+    out: &mut Output,
+    names: &Names<'_>,
+    statements: &[Statement],
+    again: u16,
+    exit: u16,
+) -> Result<(), AllocError>
+    requires held { IsHeld names.now }
+    requires room { length out.old.instructions.items + block_size (block_view statements.now) ≤ 65535 }
+    requires low { block_depth (block_view statements.now) ≤ 64 }
+    ensures code { OnOk result (out.new.instructions.items ≡ out.old.instructions.items ++
+        block_code (scope_view names.now) (block_view statements.now) (length out.old.instructions.items) again exit) }
+    ensures len { OnOk result (length out.new.instructions.items ≡
+        length out.old.instructions.items + block_size (block_view statements.now)) }
+    ensures depths { OnOk result (out.new.depths.items ≡ out.old.depths.items ++ block_depths (block_view statements.now)) }
+{
+    for s in statements {
+        emit_statement(out, names, s, again, exit)?;
+    }
+    Ok(())
+}

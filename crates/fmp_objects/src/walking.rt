@@ -1,0 +1,66 @@
+//! What newly set bits of an eventflag do to the tasks that wait for it.
+ghost use Rattle.std.specs.Prelude.{◌≡◌, ◌<◌, ◌≤◌, [], length, vec_capacity, pos};
+ghost use Rattle.fmp_base.specs.FlagCalls.{satisfies as satisfies_case, is_satisfied as is_satisfied_case, walk as walk_case};
+ghost use Rattle.fmp_base.specs.Outcomes.{given as given_value};
+ghost use Rattle.fmp_base.specs.Queues.{wait_queue};
+ghost use Rattle.fmp_base.specs.Systems.{flag_config};
+ghost use Rattle.fmp_tasks.specs.Tables.{progress, SameShape};
+
+use fmp_base::{FlagMode, Line, Phase, Reply, WaitCause, WaitQueue};
+use fmp_tasks::Tables;
+use fmp_tasks::answers::given;
+use fmp_tasks::tasks::release;
+
+/// Whether bits satisfy a wait for a pattern: all of its bits, or any.
+pub fn satisfies(mode: FlagMode, pattern: u16, bits: u16) -> bool
+    ensures { result ≡ satisfies_case mode pattern bits }
+{
+    match mode {
+        FlagMode::And => bits & pattern == pattern,
+        FlagMode::Or => bits & pattern != 0,
+    }
+}
+
+/// Whether bits satisfy a task of this phase.
+fn is_satisfied(phase: Phase, bits: u16) -> bool
+    ensures { result ≡ is_satisfied_case phase bits }
+{
+    match phase {
+        Phase::Waiting(WaitCause::Flag { pattern, mode, .. }) => satisfies(mode, pattern, bits),
+        _ => false,
+    }
+}
+
+/// The reply E_OK with bits.
+fn with_bits(bits: u16) -> Reply
+    ensures { result ≡ given_value (pos bits) }
+{
+    given(bits as i32)
+}
+
+/// The waiting tasks of flag f that its bits satisfy are released with them, in the order of the queue; with TA_CLR the
+/// first release clears all bits and is the last.
+pub fn walk(tables: &mut Tables, lines: &mut Vec<Line>, f: u8, bits: u16)
+    requires there { f < length tables.old.system.flags }
+    requires empty { lines.old.items ≡ [] }
+    requires room { length tables.old.system.tasks ≤ vec_capacity lines.old }
+    ensures progress { progress tables.new lines.new.items ≡ walk_case (flag_config tables.old.system f).clears f bits (wait_queue tables.old.system tables.old.state (WaitQueue.Flag f)) (progress tables.old []) }
+    ensures shape { SameShape tables.old tables.new }
+    ensures capacity { vec_capacity lines.new ≡ vec_capacity lines.old }
+{
+    let clears = tables.flag_config(f).clears;
+    let mut place = 0;
+    while let Some(t) = tables.waiting_at(WaitQueue::Flag(f), place) {
+        let x = tables.task(t);
+        if !is_satisfied(x.phase, bits) {
+            place += 1;
+            continue;
+        }
+        // The next task now stands at this place.
+        release(tables, lines, t, x, with_bits(bits));
+        if clears {
+            tables.set_pattern(f, 0);
+            return;
+        }
+    }
+}

@@ -1,0 +1,279 @@
+//! The service calls on data queues (uITRON 4.0, section 4.4.3).
+ghost use Rattle.std.specs.Prelude.{◌≡◌, ℕ, ◌<◌, ◌≤◌, [], length, vec_capacity, slice_get, Some, IfSome};
+ghost use Rattle.fmp_base.specs.Arguments.{IsInRange};
+ghost use Rattle.fmp_base.specs.declared.states.TaskBlock.{TaskBlock};
+ghost use Rattle.fmp_base.specs.DataQueueCalls.{words_at, waiting_word as waiting_word_case, sent, forced_to, received, received_by, snd_dtq as snd_dtq_case, tsnd_dtq as tsnd_dtq_case, fsnd_dtq as fsnd_dtq_case, rcv_dtq as rcv_dtq_case, trcv_dtq as trcv_dtq_case};
+ghost use Rattle.fmp_base.specs.Outcomes.{numbered as place_of};
+ghost use Rattle.fmp_base.specs.Queues.{first_waiting};
+ghost use Rattle.fmp_base.specs.States.{task_at};
+ghost use Rattle.fmp_tasks.specs.Tables.{outcome, SameShape};
+
+use fmp_base::arguments::{limit_of, numbered};
+use fmp_base::{Answer, Er, Line, Phase, TimeLimit, WaitCause, WaitQueue};
+use fmp_tasks::Tables;
+use fmp_tasks::answers::{code, given, gives, replied};
+use fmp_tasks::tasks::{release, wait_within};
+
+/// The data queue that a number names, if there is one.
+fn data_queue_of(tables: &Tables, number: i32) -> Option<u8>
+    ensures value { result ≡ place_of (length tables.now.state.data_queues) number }
+    ensures there { IfSome result (λ d. d < length tables.now.system.data_queues) }
+{
+    numbered(tables.data_queue_count(), number)
+}
+
+/// The word with which a task of this phase waits; 0 where it waits with none.
+fn waiting_word(phase: Phase) -> i32
+    ensures { result ≡ waiting_word_case phase }
+{
+    match phase {
+        Phase::Waiting(WaitCause::Sending { word, .. }) => word,
+        _ => 0,
+    }
+}
+
+/// The first task that waits to receive gets the word, or the word is put last where there is room, or else task me waits
+/// with it within the limit.
+fn send(
+    tables: &mut Tables,
+    lines: &mut Vec<Line>,
+    me: u8,
+    limit: TimeLimit,
+    d: u8,
+    word: i32,
+) -> Answer
+    requires there { d < length tables.old.system.data_queues }
+    requires me { me < length tables.old.system.tasks }
+    requires limit { IsInRange limit }
+    requires empty { lines.old.items ≡ [] }
+    requires room { 1 ≤ vec_capacity lines.old }
+    ensures outcome { outcome result tables.new lines.new.items ≡ sent tables.old.system tables.old.state me (task_at tables.old.state.tasks me) word limit d }
+    ensures shape { SameShape tables.old tables.new }
+    ensures capacity { vec_capacity lines.new ≡ vec_capacity lines.old }
+{
+    if let Some(t) = tables.first_waiting(WaitQueue::Receivers(d)) {
+        let x = tables.task(t);
+        release(tables, lines, t, x, given(word));
+        return replied(Er::Ok);
+    }
+    if tables.has_room(d) {
+        tables.append_word(d, word);
+        return replied(Er::Ok);
+    }
+    let x = tables.task(me);
+    wait_within(tables, me, x, WaitCause::Sending { queue: d, word }, limit)
+}
+
+/// `snd_dtq` and `psnd_dtq` by task me (uITRON 4.0, section 4.4.3): releases the first task that waits to receive with
+/// E_OK and the word; with none puts the word last where there is room, and else waits with it at the end of the order
+/// within the limit. E_ID where the number names no data queue, then E_TMOUT where a poll would have to wait; nothing
+/// changes then.
+pub fn snd_dtq(
+    tables: &mut Tables,
+    lines: &mut Vec<Line>,
+    me: u8,
+    limit: TimeLimit,
+    queue: i32,
+    word: i32,
+) -> Answer
+    requires me { me < length tables.old.system.tasks }
+    requires limit { IsInRange limit }
+    requires empty { lines.old.items ≡ [] }
+    requires room { 1 ≤ vec_capacity lines.old }
+    ensures outcome { outcome result tables.new lines.new.items ≡ snd_dtq_case tables.old.system tables.old.state me (task_at tables.old.state.tasks me) limit queue word }
+    ensures shape { SameShape tables.old tables.new }
+    ensures capacity { vec_capacity lines.new ≡ vec_capacity lines.old }
+{
+    match data_queue_of(tables, queue) {
+        Some(d) => send(tables, lines, me, limit, d, word),
+        None => replied(Er::Id),
+    }
+}
+
+/// `tsnd_dtq` by task me (uITRON 4.0, section 4.4.3): as `snd_dtq`, with the time limit that a number states, in ticks: -1
+/// is none, 0 polls, the greatest is 2^30. E_ID where the number names no data queue, then E_PAR where the limit is none of
+/// these, then E_TMOUT where a poll would have to wait; nothing changes then.
+pub fn tsnd_dtq(
+    tables: &mut Tables,
+    lines: &mut Vec<Line>,
+    me: u8,
+    queue: i32,
+    word: i32,
+    limit: i32,
+) -> Answer
+    requires me { me < length tables.old.system.tasks }
+    requires empty { lines.old.items ≡ [] }
+    requires room { 1 ≤ vec_capacity lines.old }
+    ensures outcome { outcome result tables.new lines.new.items ≡ tsnd_dtq_case tables.old.system tables.old.state me (task_at tables.old.state.tasks me) queue word limit }
+    ensures shape { SameShape tables.old tables.new }
+    ensures capacity { vec_capacity lines.new ≡ vec_capacity lines.old }
+{
+    let Some(d) = data_queue_of(tables, queue) else {
+        return replied(Er::Id);
+    };
+    match limit_of(limit) {
+        Some(limit) => send(tables, lines, me, limit, d, word),
+        None => replied(Er::Par),
+    }
+}
+
+/// `ipsnd_dtq`, and what `psnd_dtq` does whoever calls it (uITRON 4.0, section 4.4.3): as `snd_dtq` with a poll, but with
+/// no caller. E_ID where the number names no data queue, then E_TMOUT where no task waits to receive and there is no room;
+/// nothing changes then.
+pub fn psnd_dtq(tables: &mut Tables, lines: &mut Vec<Line>, queue: i32, word: i32) -> Answer
+    requires empty { lines.old.items ≡ [] }
+    requires room { 1 ≤ vec_capacity lines.old }
+    ensures outcome { (me : ℕ) (x : TaskBlock) → outcome result tables.new lines.new.items ≡ snd_dtq_case tables.old.system tables.old.state me x TimeLimit.Poll queue word }
+    ensures shape { SameShape tables.old tables.new }
+    ensures capacity { vec_capacity lines.new ≡ vec_capacity lines.old }
+{
+    let Some(d) = data_queue_of(tables, queue) else {
+        return replied(Er::Id);
+    };
+    if let Some(t) = tables.first_waiting(WaitQueue::Receivers(d)) {
+        let x = tables.task(t);
+        release(tables, lines, t, x, given(word));
+        return replied(Er::Ok);
+    }
+    if tables.has_room(d) {
+        tables.append_word(d, word);
+        replied(Er::Ok)
+    } else {
+        replied(Er::Tmout)
+    }
+}
+
+/// The first task that waits to receive gets the word, or the word is put last, where a full queue drops its oldest.
+fn force(tables: &mut Tables, lines: &mut Vec<Line>, d: u8, word: i32) -> Answer
+    requires there { d < length tables.old.system.data_queues }
+    requires empty { lines.old.items ≡ [] }
+    requires room { 1 ≤ vec_capacity lines.old }
+    ensures outcome { outcome result tables.new lines.new.items ≡ forced_to (first_waiting tables.old.system tables.old.state (WaitQueue.Receivers d)) tables.old.system tables.old.state d word }
+    ensures shape { SameShape tables.old tables.new }
+    ensures capacity { vec_capacity lines.new ≡ vec_capacity lines.old }
+{
+    if let Some(t) = tables.first_waiting(WaitQueue::Receivers(d)) {
+        let x = tables.task(t);
+        release(tables, lines, t, x, given(word));
+    } else if tables.has_room(d) {
+        tables.append_word(d, word);
+    } else {
+        tables.force_word(d, word);
+    }
+    replied(Er::Ok)
+}
+
+/// `fsnd_dtq` and `ifsnd_dtq` (uITRON 4.0, section 4.4.3): releases the first task that waits to receive with E_OK and the
+/// word; with none puts the word last, and a full queue drops its oldest word first. E_ID where the number names no data
+/// queue, then E_ILUSE where it can hold no word; nothing changes then.
+pub fn fsnd_dtq(tables: &mut Tables, lines: &mut Vec<Line>, queue: i32, word: i32) -> Answer
+    requires empty { lines.old.items ≡ [] }
+    requires room { 1 ≤ vec_capacity lines.old }
+    ensures outcome { outcome result tables.new lines.new.items ≡ fsnd_dtq_case tables.old.system tables.old.state queue word }
+    ensures shape { SameShape tables.old tables.new }
+    ensures capacity { vec_capacity lines.new ≡ vec_capacity lines.old }
+{
+    let Some(d) = data_queue_of(tables, queue) else {
+        return replied(Er::Id);
+    };
+    if tables.data_queue_config(d).capacity == 0 {
+        return replied(Er::Iluse);
+    }
+    force(tables, lines, d, word)
+}
+
+/// The oldest word, which this is, leaves the queue. The word of the first task that waits to send, if any, is put last, and
+/// the task is released.
+fn take_oldest(tables: &mut Tables, lines: &mut Vec<Line>, d: u8, word: i32) -> Answer
+    requires there { d < length tables.old.system.data_queues }
+    requires oldest { slice_get (words_at tables.old.state d) 0 ≡ Some word }
+    requires empty { lines.old.items ≡ [] }
+    requires room { 1 ≤ vec_capacity lines.old }
+    ensures outcome { (me : ℕ) (x : TaskBlock) (limit : TimeLimit) → outcome result tables.new lines.new.items ≡ received tables.old.system tables.old.state me x limit d }
+    ensures shape { SameShape tables.old tables.new }
+    ensures capacity { vec_capacity lines.new ≡ vec_capacity lines.old }
+{
+    match tables.first_waiting(WaitQueue::Senders(d)) {
+        Some(t) => {
+            let x = tables.task(t);
+            tables.force_word(d, waiting_word(x.phase));
+            release(tables, lines, t, x, code(Er::Ok));
+        }
+        None => tables.drop_oldest(d),
+    }
+    gives(word)
+}
+
+/// Task me gets the oldest word, or with none that of the first task that waits to send, or else it waits within the limit.
+fn receive(tables: &mut Tables, lines: &mut Vec<Line>, me: u8, limit: TimeLimit, d: u8) -> Answer
+    requires there { d < length tables.old.system.data_queues }
+    requires me { me < length tables.old.system.tasks }
+    requires limit { IsInRange limit }
+    requires empty { lines.old.items ≡ [] }
+    requires room { 1 ≤ vec_capacity lines.old }
+    ensures outcome { outcome result tables.new lines.new.items ≡ received tables.old.system tables.old.state me (task_at tables.old.state.tasks me) limit d }
+    ensures shape { SameShape tables.old tables.new }
+    ensures capacity { vec_capacity lines.new ≡ vec_capacity lines.old }
+{
+    if let Some(word) = tables.oldest_word(d) {
+        return take_oldest(tables, lines, d, word);
+    }
+    if let Some(t) = tables.first_waiting(WaitQueue::Senders(d)) {
+        let x = tables.task(t);
+        release(tables, lines, t, x, code(Er::Ok));
+        return gives(waiting_word(x.phase));
+    }
+    let x = tables.task(me);
+    wait_within(tables, me, x, WaitCause::Receiving(d), limit)
+}
+
+/// `rcv_dtq` and `prcv_dtq` by task me (uITRON 4.0, section 4.4.3): gives the oldest word, then the word of the first task
+/// that waits to send is put last and that task is released with E_OK; of a queue that can hold no word gives the word of
+/// that task and releases it; else waits at the end of the order within the limit. E_ID where the number names no data
+/// queue, then E_TMOUT where a poll finds no word; nothing changes then.
+pub fn rcv_dtq(
+    tables: &mut Tables,
+    lines: &mut Vec<Line>,
+    me: u8,
+    limit: TimeLimit,
+    queue: i32,
+) -> Answer
+    requires me { me < length tables.old.system.tasks }
+    requires limit { IsInRange limit }
+    requires empty { lines.old.items ≡ [] }
+    requires room { 1 ≤ vec_capacity lines.old }
+    ensures outcome { outcome result tables.new lines.new.items ≡ rcv_dtq_case tables.old.system tables.old.state me (task_at tables.old.state.tasks me) limit queue }
+    ensures shape { SameShape tables.old tables.new }
+    ensures capacity { vec_capacity lines.new ≡ vec_capacity lines.old }
+{
+    match data_queue_of(tables, queue) {
+        Some(d) => receive(tables, lines, me, limit, d),
+        None => replied(Er::Id),
+    }
+}
+
+/// `trcv_dtq` by task me (uITRON 4.0, section 4.4.3): as `rcv_dtq`, with the time limit that a number states, in ticks: -1
+/// is none, 0 polls, the greatest is 2^30. E_ID where the number names no data queue, then E_PAR where the limit is none of
+/// these, then E_TMOUT where a poll finds no word; nothing changes then.
+pub fn trcv_dtq(
+    tables: &mut Tables,
+    lines: &mut Vec<Line>,
+    me: u8,
+    queue: i32,
+    limit: i32,
+) -> Answer
+    requires me { me < length tables.old.system.tasks }
+    requires empty { lines.old.items ≡ [] }
+    requires room { 1 ≤ vec_capacity lines.old }
+    ensures outcome { outcome result tables.new lines.new.items ≡ trcv_dtq_case tables.old.system tables.old.state me (task_at tables.old.state.tasks me) queue limit }
+    ensures shape { SameShape tables.old tables.new }
+    ensures capacity { vec_capacity lines.new ≡ vec_capacity lines.old }
+{
+    let Some(d) = data_queue_of(tables, queue) else {
+        return replied(Er::Id);
+    };
+    match limit_of(limit) {
+        Some(limit) => receive(tables, lines, me, limit, d),
+        None => replied(Er::Par),
+    }
+}
