@@ -2,5 +2,6 @@
 #![tactic(auto)]
 
 pub mod body;
+pub mod laws;
 
 pub use body::Body;
