@@ -49,7 +49,7 @@ module _ {A : Type 0} (X : Rel A) (framed : Framed X) where
   one_why ts j Depth Depth f g = refl
 
   -- a list has one first fault
-  one_first : (ts : List TokenKind) (j k : ℕ) (why other : GrammarFault) → IsFirstFault X ts j why → IsFirstFault X ts k other → (j ≡ k) × (why ≡ other)
+  pub one_first : (ts : List TokenKind) (j k : ℕ) (why other : GrammarFault) → IsFirstFault X ts j why → IsFirstFault X ts k other → (j ≡ k) × (why ≡ other)
   one_first ts j k why other f g = elim (cases_order j k) [
     | inl e ↦ (e, one_why ts j why other f (subst (λ n. IsFirstFault X ts n other) (sym e) g))
     | inr o ↦ elim o [
@@ -58,22 +58,22 @@ module _ {A : Type 0} (X : Rel A) (framed : Framed X) where
     ]
   ]
 
-  not_whole : (ts : List TokenKind) (j : ℕ) (why : GrammarFault) (a : A) → IsFirstFault X ts j why → IsWhole X ts a → ⊥
+  pub not_whole : (ts : List TokenKind) (j : ℕ) (why : GrammarFault) (a : A) → IsFirstFault X ts j why → IsWhole X ts a → ⊥
   not_whole ts j Syntax a f x = f.3 a x
   not_whole ts j Depth a f x = f.3 a x
 
-abbrev Faulty : List ℕ → BuildFault → Type 0
+abbrev pub Faulty : List ℕ → BuildFault → Type 0
 Faulty = IsSyntaxFault file.Configuration (λ ts. Config)
 
-abbrev Spelled : List ℕ → List Token → ConfigurationTree → Type 0
+abbrev pub Spelled : List ℕ → List Token → ConfigurationTree → Type 0
 Spelled = Spells (λ ts. Config)
 
-one_spelled : (text : List ℕ) (ts us : List Token) (t u : ConfigurationTree) → Spelled text ts t → Spelled text us u → (us ≡ ts) × (u ≡ t)
+pub one_spelled : (text : List ℕ) (ts us : List Token) (t u : ConfigurationTree) → Spelled text ts t → Spelled text us u → (us ≡ ts) × (u ≡ t)
 one_spelled text ts us t u x y =
     let same = cuts_unique text 0 us ts y.1 x.1 in
     (same, config_single (kinds_of ts) t u x.2 (subst (λ zs. IsWhole Config (kinds_of zs) u) same y.2))
 
-not_spelled : (text : List ℕ) (f : BuildFault) (ts : List Token) (t : ConfigurationTree) → Faulty text f → Spelled text ts t → ⊥
+pub not_spelled : (text : List ℕ) (f : BuildFault) (ts : List Token) (t : ConfigurationTree) → Faulty text f → Spelled text ts t → ⊥
 not_spelled text f ts t (inl a) x = let short = x.0 in let long = a.0 in absurd (omega arith)
 not_spelled text f ts t (inr a) x =
     let same = cuts_unique text 0 ts a.1.0 x.1 a.1.1 in

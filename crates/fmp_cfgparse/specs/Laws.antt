@@ -1,4 +1,5 @@
--- What holds of the configuration: a list of tokens spells at most one tree, and a text has at most one answer.
+-- What holds of the configuration: a list of tokens spells at most one tree, a text has at most one answer, and
+-- what it describes is in range.
 use Rattle.std.specs.Prelude.{◌≡◌, ℕ, List}
 use Rattle.fmp_base.specs.declared.systems.System.{System}
 use Rattle.fmp_base.specs.Systems.{tables_of}
@@ -7,6 +8,7 @@ use Rattle.fmp_lex.specs.declared.token.TokenKind.{TokenKind}
 use Rattle.fmp_lex.specs.Reading.{IsWhole}
 use Rattle.fmp_cfgparse.specs.Configurations.{Describes, IsFault}
 use Rattle.fmp_cfgparse.specs.Grammar.{Config}
+use Rattle.fmp_cfgparse.specs.Ranges.{IsInRange}
 use Rattle.fmp_cfgparse.specs.Trees.{ConfigurationTree}
 
 abbrev pub SpellsOneTree : Type 0
@@ -17,3 +19,7 @@ pub record HasOneAnswer (text : List ℕ) : Type 0 where
   pub one_system : (a b : System) → Describes text a → Describes text b → tables_of a ≡ tables_of b
   pub one_fault : (f g : BuildFault) → IsFault text f → IsFault text g → f ≡ g
   pub not_both : (s : System) (f : BuildFault) → Describes text s → IsFault text f → ⊥
+
+-- the tables of what a text describes are in range
+abbrev pub DescribesInRange : Type 0
+DescribesInRange = (text : List ℕ) (system : System) → Describes text system → IsInRange (tables_of system)

@@ -5,6 +5,7 @@ pub mod Grammar
 pub mod Laws
 pub mod Making
 pub mod Parsing
+pub mod Ranges
 pub mod Reading
 pub mod Trees
 pub mod UsedNames

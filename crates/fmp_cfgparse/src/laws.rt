@@ -1,5 +1,5 @@
 ghost use Rattle.std.specs.Prelude.{List, ℕ};
-ghost use Rattle.fmp_cfgparse.specs.Laws.{SpellsOneTree, HasOneAnswer};
+ghost use Rattle.fmp_cfgparse.specs.Laws.{SpellsOneTree, HasOneAnswer, DescribesInRange};
 
 /// A list of tokens spells at most one configuration.
 pub fn tokens_spell_one_tree()
@@ -10,4 +10,10 @@ pub fn tokens_spell_one_tree()
 /// is read exactly where it is so.
 pub fn a_text_has_one_answer()
     ensures { (text : List ℕ) → HasOneAnswer text }
+{}
+
+/// The tables of a system that a text describes are in range: counts, priorities, sizes and processors lie within their
+/// limits, and no name and no interrupt number stands twice.
+pub fn what_is_described_is_in_range()
+    ensures { DescribesInRange }
 {}

@@ -22,6 +22,4 @@ pub use parsing::{Parsed, parse};
 pub use reading::read_cfg;
 pub use tree::{Class, Configuration, Field, Item, StaticApi};
 pub use used_names::ObjectName;
-
-#[cfg(test)]
-mod tests;
+pub use values::{name_at, number_at, word_of};

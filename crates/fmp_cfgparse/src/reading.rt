@@ -1,5 +1,7 @@
-ghost use Rattle.std.specs.Prelude.{◌≡◌, slice_get};
+ghost use Rattle.std.specs.Prelude.{◌≡◌, slice_get, IfOk};
+ghost use Rattle.fmp_base.specs.Systems.{tables_of};
 ghost use Rattle.fmp_cfgparse.specs.Configurations.{IsRead, line_of, offence_fault};
+ghost use Rattle.fmp_cfgparse.specs.Ranges.{IsInRange};
 
 use crate::configuring::configure;
 use crate::objects::Stop;
@@ -29,8 +31,10 @@ fn fault_at(tokens: &[Token], at: usize, why: FaultKind) -> BuildFault
 /// has in its place, or B1 at the end of the text. Then, in order of text, B5 for a number of processors other than 1 to 8,
 /// B3 for an unknown class, and at each static API, with the line of its word, B5 for the 256th of its kind, B2 for a name
 /// that is used, B3 for an unknown constant, and B4 with the code that it answers. `Memory` where an allocation is refused.
+/// The tables of the system are in range, and no name and no interrupt number stands twice.
 pub fn read_cfg(alloc: Global, text: &[u8]) -> Result<System, BuildFault>
-    ensures { IsRead text.now result }
+    ensures read { IsRead text.now result }
+    ensures ranges { IfOk result (λ system. IsInRange (tables_of system)) }
 {
     match parse(alloc, text) {
         Ok(parsed) => match configure(alloc, &parsed.tree) {

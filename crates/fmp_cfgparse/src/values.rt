@@ -80,7 +80,7 @@ fn field_name(field: &Field) -> Name
 }
 
 /// The number of the field at a place; 0 where it has none.
-pub(crate) fn number_at(fields: &[Field], at: usize) -> i32
+pub fn number_at(fields: &[Field], at: usize) -> i32
     ensures { result ≡ spec.number_at (map field_view fields.now) at }
 {
     match fields.get(at) {
@@ -90,7 +90,7 @@ pub(crate) fn number_at(fields: &[Field], at: usize) -> i32
 }
 
 /// The name of the field at a place.
-pub(crate) fn name_at(fields: &[Field], at: usize) -> Name
+pub fn name_at(fields: &[Field], at: usize) -> Name
     ensures { result ≡ spec.name_at (map field_view fields.now) at }
 {
     match fields.get(at) {
@@ -128,7 +128,7 @@ pub(crate) fn half_of(x: i32) -> u16
 }
 
 /// A number that is not negative, else 0.
-pub(crate) fn word_of(x: i32) -> u32
+pub fn word_of(x: i32) -> u32
     ensures { result ≡ spec.held 4294967295 x }
 {
     if x < 0 { 0 } else { x as u32 }

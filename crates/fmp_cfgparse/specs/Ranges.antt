@@ -1,0 +1,158 @@
+-- The ranges of the tables that a configuration describes.
+use Rattle.std.specs.Prelude.{◌≡◌, ℕ, ◌<◌, ◌≤◌, FitsSigned, List, [], ◌∷◌, ◌++◌, length, map, None, Bool, true, false, ◌&&◌, nat_eq}
+use Rattle.std.specs.Int.{w32}
+use Rattle.std.specs.List.{AllByRecursion, IsDistinct, list_all}
+use Rattle.std.specs.Str.{bytes_eq}
+use Rattle.fmp_base.specs.declared.names.Name.{Name}
+use Rattle.fmp_base.specs.declared.systems.Entry.{Entry}
+use Rattle.fmp_base.specs.declared.systems.Entry.TheVariants as entry
+use Rattle.fmp_base.specs.declared.systems.TaskConfig.{TaskConfig}
+use Rattle.fmp_base.specs.declared.systems.SemaphoreConfig.{SemaphoreConfig}
+use Rattle.fmp_base.specs.declared.systems.FlagConfig.{FlagConfig}
+use Rattle.fmp_base.specs.declared.systems.DataQueueConfig.{DataQueueConfig}
+use Rattle.fmp_base.specs.declared.systems.MailboxConfig.{MailboxConfig}
+use Rattle.fmp_base.specs.declared.systems.MessageConfig.{MessageConfig}
+use Rattle.fmp_base.specs.declared.systems.SharedWordConfig.{SharedWordConfig}
+use Rattle.fmp_base.specs.declared.systems.SpinLockConfig.{SpinLockConfig}
+use Rattle.fmp_base.specs.declared.systems.CyclicConfig.{CyclicConfig}
+use Rattle.fmp_base.specs.declared.systems.InterruptConfig.{InterruptConfig}
+use Rattle.fmp_base.specs.Names.{name_text, name_from}
+use Rattle.fmp_base.specs.Systems.{SystemTables}
+use Rattle.fmp_lex.specs.Cutting.{word_kind}
+use Rattle.fmp_lex.specs.Scanning.{is_letter, is_word}
+
+-- a letter or `_`, then letters, digits and `_`
+abbrev pub is_identifier : List ℕ → Bool
+is_identifier [] = false
+is_identifier (b ∷ bs) = is_letter b && list_all is_word bs
+
+-- An object's name: its text is an identifier of at most 31 bytes and no word of the texts, and the bytes behind it are 0.
+pub record IsObjectName (n : Name) : Type 0 where
+  pub canonical : name_from (name_text n) ≡ n
+  pub short : length (name_text n) ≤ 31
+  pub identifier : is_identifier (name_text n) ≡ true
+  pub unreserved : word_kind (name_text n) ≡ None
+
+-- the number lies between these two, both included
+pub record Lies (low high n : ℕ) : Type 0 where
+  pub least : low ≤ n
+  pub most : n ≤ high
+
+-- an entry that is given by a name
+abbrev pub IsNamed : Entry → Type 0
+IsNamed (entry.Named n) = Unit {0}
+IsNamed (entry.Body b) = ⊥
+
+-- an object of each kind, where there are so many processors
+pub record IsTask (processors : ℕ) (t : TaskConfig) : Type 0 where
+  pub name : IsObjectName t.name
+  pub exinf : FitsSigned w32 t.exinf
+  pub entry : IsNamed t.entry
+  pub priority : Lies 1 16 t.priority
+  pub stack : Lies 1 65536 t.stack
+  pub processor : t.processor < processors
+
+pub record IsSemaphore (s : SemaphoreConfig) : Type 0 where
+  pub name : IsObjectName s.name
+  pub initial : s.initial ≤ s.most
+  pub most : Lies 1 65535 s.most
+
+pub record IsFlag (f : FlagConfig) : Type 0 where
+  pub name : IsObjectName f.name
+  pub initial : f.initial ≤ 65535
+
+pub record IsDataQueue (d : DataQueueConfig) : Type 0 where
+  pub name : IsObjectName d.name
+  pub capacity : d.capacity ≤ 255
+
+pub record IsMailbox (m : MailboxConfig) : Type 0 where
+  pub name : IsObjectName m.name
+  pub most : Lies 1 16 m.most
+
+pub record IsMessage (m : MessageConfig) : Type 0 where
+  pub name : IsObjectName m.name
+  pub priority : Lies 1 16 m.priority
+
+pub record IsSharedWord (w : SharedWordConfig) : Type 0 where
+  pub name : IsObjectName w.name
+  pub initial : FitsSigned w32 w.initial
+
+pub record IsSpinLock (l : SpinLockConfig) : Type 0 where
+  pub name : IsObjectName l.name
+
+-- 2^30 is 1073741824
+pub record IsCyclic (processors : ℕ) (c : CyclicConfig) : Type 0 where
+  pub name : IsObjectName c.name
+  pub exinf : FitsSigned w32 c.exinf
+  pub entry : IsNamed c.entry
+  pub period : Lies 1 1073741824 c.period
+  pub phase : c.phase ≤ 1073741824
+  pub processor : c.processor < processors
+
+pub record IsInterrupt (processors : ℕ) (i : InterruptConfig) : Type 0 where
+  pub number : Lies 1 32 i.number
+  pub entry : IsNamed i.entry
+  pub processor : i.processor < processors
+
+-- a table of at most 255 such objects
+pub record IsTable {A : Type 0} (P : A → Type 0) (rows : List A) : Type 0 where
+  pub count : length rows ≤ 255
+  pub each : AllByRecursion P rows
+
+-- the names of all objects, table after table
+abbrev pub task_name : TaskConfig → Name
+task_name t = t.name
+
+abbrev pub semaphore_name : SemaphoreConfig → Name
+semaphore_name s = s.name
+
+abbrev pub flag_name : FlagConfig → Name
+flag_name f = f.name
+
+abbrev pub data_queue_name : DataQueueConfig → Name
+data_queue_name d = d.name
+
+abbrev pub mailbox_name : MailboxConfig → Name
+mailbox_name m = m.name
+
+abbrev pub message_name : MessageConfig → Name
+message_name m = m.name
+
+abbrev pub shared_word_name : SharedWordConfig → Name
+shared_word_name w = w.name
+
+abbrev pub spin_lock_name : SpinLockConfig → Name
+spin_lock_name l = l.name
+
+abbrev pub cyclic_name : CyclicConfig → Name
+cyclic_name c = c.name
+
+abbrev pub object_names : SystemTables → List Name
+object_names t =
+    map task_name t.tasks ++ (map semaphore_name t.semaphores ++ (map flag_name t.flags
+    ++ (map data_queue_name t.data_queues ++ (map mailbox_name t.mailboxes ++ (map message_name t.messages
+    ++ (map shared_word_name t.shared_words ++ (map spin_lock_name t.spin_locks ++ map cyclic_name t.cyclics)))))))
+
+abbrev pub interrupt_number : InterruptConfig → ℕ
+interrupt_number i = i.number
+
+-- two names of the same text
+abbrev pub same_name : Name → Name → Bool
+same_name a b = bytes_eq (name_text a) (name_text b)
+
+-- the tables are in range, and no name and no interrupt number stands twice
+pub record IsInRange (t : SystemTables) : Type 0 where
+  pub processors : Lies 1 8 t.processors
+  pub queue_limit : t.queue_limit ≡ 1
+  pub tasks : IsTable (IsTask t.processors) t.tasks
+  pub semaphores : IsTable IsSemaphore t.semaphores
+  pub flags : IsTable IsFlag t.flags
+  pub data_queues : IsTable IsDataQueue t.data_queues
+  pub mailboxes : IsTable IsMailbox t.mailboxes
+  pub messages : IsTable IsMessage t.messages
+  pub shared_words : IsTable IsSharedWord t.shared_words
+  pub spin_locks : IsTable IsSpinLock t.spin_locks
+  pub cyclics : IsTable (IsCyclic t.processors) t.cyclics
+  pub interrupts : IsTable (IsInterrupt t.processors) t.interrupts
+  pub names : IsDistinct same_name (object_names t)
+  pub numbers : IsDistinct nat_eq (map interrupt_number t.interrupts)
