@@ -3,7 +3,6 @@ pub mod CallsMade
 pub mod Conjunctions
 pub mod OperandLists
 pub mod Places
-pub mod PutStretches
 pub mod Requests
 pub mod Steps
 pub mod Stops

@@ -2,7 +2,6 @@ pub mod Instructions
 pub mod Laws
 pub mod Longer
 pub mod Machine
-pub mod PutCode
 pub mod Stretches
 pub mod Verify
 pub mod Vms

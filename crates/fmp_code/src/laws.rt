@@ -1,5 +1,4 @@
 ghost use Rattle.fmp_code.specs.Laws.{StaysAtGreaterBounds, MakesOnlyItsCalls, LastStops};
-ghost use Rattle.fmp_code.specs.PutCode.{PutCodeMakesPutsOnly};
 
 /// More instructions do not change how a stretch ends.
 pub fn stretches_stay_at_greater_bounds()
@@ -14,9 +13,4 @@ pub fn stretches_make_only_calls_of_the_code()
 /// The last instruction of code that keeps to its table is a jump or the end.
 pub fn last_instructions_stop()
     ensures { LastStops }
-{}
-
-/// Bodies whose code has no call but `put` make no other.
-pub fn put_code_makes_puts_only()
-    ensures { PutCodeMakesPutsOnly }
 {}

@@ -7,9 +7,6 @@ pub mod laws;
 mod machine;
 mod operands;
 pub mod operators;
-mod puts;
-#[cfg(test)]
-mod tests;
 mod verifier;
 mod vm;
 
@@ -17,6 +14,5 @@ pub use delivery::deliver;
 pub use instructions::{BodyCode, Code, Instruction, MachineContext};
 pub use machine::{start, stretch};
 pub use operators::{apply_binary, apply_unary};
-pub use puts::has_only_puts;
 pub use verifier::{keeps_table, verify, verify_body};
 pub use vm::Vm;

@@ -1,8 +1,7 @@
 -- Entries are resolved one after another.
-use Rattle.std.proofs.Common.{◌≡◌, ℕ, ◌+◌, ◌*◌, ◌<◌, min, nat_le, List, [], ◌∷◌, ◌++◌, Option, None, length, drop, get_or, map, sym, ap, ◌∙◌, arith}
+use Rattle.std.proofs.Common.{◌≡◌, ℕ, ◌+◌, ◌*◌, ◌<◌, min, nat_le, List, [], Option, None, length, drop, get_or, map, sym, ap, ◌∙◌, arith}
 use Rattle.std.proofs.lemmas.Bool.Decides.{nat_tests}
 use Rattle.std.proofs.lemmas.List.{get_or-map, get_or_default}
-use Rattle.fmp_base.specs.Systems.{found}
 use Rattle.fmp_tasklang.specs.declared.trees.Body.{Body}
 use Rattle.fmp_tasklang.specs.declared.trees.BodyKind.TheVariants.{Task}
 use Rattle.fmp_tasklang.specs.Trees.{BodyTree}
@@ -10,9 +9,8 @@ use Rattle.fmp_tasklang.specs.Views.{body_view}
 use Rattle.fmp_codegen.specs.declared.entries.EntryUse.{EntryUse}
 use Rattle.fmp_codegen.specs.declared.offences.Offence.{Offence}
 use Rattle.fmp_codegen.specs.Depths.{body_depth}
-use Rattle.fmp_codegen.specs.Entries.{at_line, body_place, entered, entries_offence, entry_fault}
+use Rattle.fmp_codegen.specs.Entries.{at_line, body_place, entries_offence, entry_fault}
 use Rattle.fmp_codegen.specs.Naming.{first_offence}
-use Rattle.fmp_codegen.proofs.Emitted.{next-emitted}
 use Rattle.fmp_codegen.proofs.Loops.{drop-step}
 
 -- a stack of 32 bits is too small for 2^30 operands, and for more
@@ -52,12 +50,3 @@ module _ (bodies : List BodyTree) (entries : List EntryUse) (i : ℕ) (u : Entry
       entries_offence bodies (drop i entries) ≡ whole → entries_offence bodies (drop (i + 1) entries) ≡ whole
   entry-on whole h before =
       sym (unrolled ∙ ap (λ o. first_offence (at_line u.line o) (entries_offence bodies (drop (i + 1) entries))) h) ∙ before
-
-  -- its place comes off what is left
-  pub entered-on :
-      (made made' whole : List ℕ) (place : ℕ) → place ≡ found 0 (body_place bodies u.name) → made' ≡ made ++ place ∷ [] →
-      made ++ entered bodies (drop i entries) ≡ whole → made' ++ entered bodies (drop (i + 1) entries) ≡ whole
-  entered-on made made' whole place h did before =
-      next-emitted made made' (found 0 (body_place bodies u.name) ∷ []) (entered bodies (drop (i + 1) entries)) whole
-      (sym (ap (λ es. made ++ entered bodies es) (drop-step entries i u within is)) ∙ before)
-      (did ∙ ap (λ p. made ++ p ∷ []) h)

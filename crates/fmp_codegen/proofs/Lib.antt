@@ -11,6 +11,7 @@ mod Greatest
 mod Judging
 mod KnownNames
 mod Lengths
+pub mod Limits
 mod Loops
 mod Places
 mod Positions

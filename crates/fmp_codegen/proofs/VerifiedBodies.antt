@@ -29,7 +29,7 @@ use Rattle.fmp_codegen.proofs.KnownNames.{none-first, none-second}
 
 -- ---- limits
 
-not-taken : (t : Bool) (o : Offence) (rest : Option Offence) → (if t then Some o else rest) ≡ None → t ≡ false
+pub not-taken : (t : Bool) (o : Offence) (rest : Option Offence) → (if t then Some o else rest) ≡ None → t ≡ false
 not-taken true o rest h = absurd (cc h)
 not-taken false o rest h = refl
 
@@ -52,11 +52,11 @@ or-false : (a b : Bool) → (a || b) ≡ false → (a ≡ false) × (b ≡ false
 or-false false b h = (refl, h)
 or-false true b h = absurd (cc h)
 
-record Small (body : BodyTree) : Type 0 where
-  size : body_size body ≤ 65535
-  depth : body_depth body ≤ 64
+pub record Small (body : BodyTree) : Type 0 where
+  pub size : body_size body ≤ 65535
+  pub depth : body_depth body ≤ 64
 
-is_small : (body : BodyTree) → size_offence body ≡ None → Small body
+pub is_small : (body : BodyTree) → size_offence body ≡ None → Small body
 is_small body h =
     let limit : Offence = record { line = body.line; why = fault.Limit } in
     let tests = or-false (nat_lt 65535 (body_size body)) (nat_lt 64 (body_depth body))

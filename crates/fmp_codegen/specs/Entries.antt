@@ -1,10 +1,7 @@
 -- The bodies that static APIs name as entries, and what is wrong with one.
 use Rattle.std.specs.Prelude.{◌≡◌, ℕ, ◌*◌, List, [], ◌∷◌, map, Option, Some, None, Result, Ok, Err, Bool, true, false, not, nat_le, if◌then◌else◌}
-use Rattle.std.specs.declared.alloc.Global.{Global}
-use Rattle.std.specs.declared.vec.Vec.{Vec}
 use Rattle.fmp_base.specs.declared.names.Name.{Name}
 use Rattle.fmp_base.specs.Names.{name_text}
-use Rattle.fmp_base.specs.Systems.{found}
 use Rattle.fmp_lex.specs.declared.fault.BuildFault.{BuildFault}
 use Rattle.fmp_lex.specs.declared.fault.BuildFault.TheVariants as build
 use Rattle.fmp_lex.specs.declared.fault.FaultKind.{FaultKind}
@@ -55,13 +52,9 @@ entries_offence bodies [] = None
 entries_offence bodies (u ∷ us) =
     first_offence (at_line u.line (entry_fault bodies u (body_place bodies u.name))) (entries_offence bodies us)
 
--- the places of the bodies of entries
-abbrev pub entered : List BodyTree → List EntryUse → List ℕ
-entered bodies entries = map (λ u. found 0 (body_place bodies u.name)) entries
-
--- what resolving entries answers: the places of their bodies, or the first fault
-abbrev pub IsResolved : List BodyTree → List EntryUse → Result (Vec ℕ Global) BuildFault → Type 0
-IsResolved bodies entries (Ok places) = (entries_offence bodies entries ≡ None) × (places.items ≡ entered bodies entries)
-IsResolved bodies entries (Err build.Memory) = Unit {0}
-IsResolved bodies entries (Err (build.At f line why)) =
+-- what checking entries answers: none has a fault, or the first fault
+abbrev pub IsChecked : {R : Type 0} → List BodyTree → List EntryUse → Result R BuildFault → Type 0
+IsChecked bodies entries (Ok r) = entries_offence bodies entries ≡ None
+IsChecked bodies entries (Err build.Memory) = Unit {0}
+IsChecked bodies entries (Err (build.At f line why)) =
     (f ≡ file.Configuration) × (entries_offence bodies entries ≡ Some (record { line = line; why = why }))

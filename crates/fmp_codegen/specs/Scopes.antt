@@ -1,13 +1,13 @@
 -- The names of a body as the compiler holds them.
 use Rattle.std.specs.Prelude.{◌≤◌, ◌∷◌, length, map}
 use Rattle.fmp_base.specs.Systems.{SystemTables, tables_of}
-use Rattle.fmp_tasklang.specs.Scopes.{Scope, NameMeaning, Variable, Object, Unknown, exinf_name}
+use Rattle.fmp_tasklang.specs.Scopes.{Scope, NameMeaning, Variable, Object, Unknown, exinf_name, object_names}
 use Rattle.fmp_codegen.specs.declared.names.Meaning.{Meaning}
 use Rattle.fmp_codegen.specs.declared.names.Meaning.TheVariants as meaning
 use Rattle.fmp_codegen.specs.declared.names.Names.{Names}
 
 abbrev pub scope_view : Names → Scope
-scope_view n = record { tables = tables_of n.system.now; variables = exinf_name ∷ map (λ w. w.name) n.variables.now }
+scope_view n = record { objects = object_names (tables_of n.system.now); variables = exinf_name ∷ map (λ w. w.name) n.variables.now }
 
 abbrev pub meaning_view : Meaning → NameMeaning
 meaning_view (meaning.Variable v) = Variable v

@@ -1,6 +1,7 @@
 //! The code of the bodies of a text, or the first fault in them.
 
 ghost use Rattle.std.specs.Prelude.{◌≡◌, ◌+◌, ◌≤◌, ◌++◌, ◌∷◌, [], map, length, IfOk, OnOk, IfNone};
+ghost use Rattle.std.specs.List.{AllByRecursion};
 ghost use Rattle.fmp_base.specs.Systems.{tables_of};
 ghost use Rattle.fmp_tasklang.specs.Scopes.{exinf_name};
 ghost use Rattle.fmp_tasklang.specs.Views.{body_view, program_view};
@@ -156,6 +157,8 @@ pub fn compile(alloc: Global, program: &Program, system: &System) -> Result<Code
     ensures compiled { IsCompiled (tables_of system.now) (program_view program.now) result }
     ensures tied { IfOk result (λ code. DoesText (tables_of system.now) (program_view program.now) (code_tables code)) }
     ensures verified { CallsFit (program_view program.now) → IfOk result (λ code. Verified (code_tables code)) }
+    ensures few { IfOk result (λ _. length program.now.bodies.items ≤ 255) }
+    ensures low { IfOk result (λ _. AllByRecursion (λ b. body_depth (body_view b) ≤ 64) program.now.bodies.items) }
 {
     let mut bodies = Vec::new(alloc);
     for i in 0..program.bodies.len() {

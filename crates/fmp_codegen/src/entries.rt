@@ -1,11 +1,10 @@
 //! The bodies that the static APIs name as entries.
 
-ghost use Rattle.std.specs.Prelude.{◌≡◌, ℕ, ◌≤◌, min, map, length, None, Some, IfOk, IfErr};
-ghost use Rattle.fmp_base.specs.Systems.{found};
+ghost use Rattle.std.specs.Prelude.{◌≡◌, ℕ, ◌<◌, ◌≤◌, min, map, length, IfSome};
 ghost use Rattle.fmp_tasklang.specs.Views.{body_view, program_view};
-ghost use Rattle.fmp_codegen.specs.Depths.{body_depth};
+ghost use Rattle.fmp_codegen.specs.Depths.{body_depth as spec_depth};
 ghost use Rattle.fmp_codegen.specs.Entries as spec;
-ghost use Rattle.fmp_codegen.specs.Entries.{body_place, entry_fault, IsResolved};
+ghost use Rattle.fmp_codegen.specs.Entries.{IsChecked};
 
 use crate::compiling::append;
 use crate::extents::block_extent;
@@ -50,49 +49,58 @@ fn holds(stack: Option<u32>, depth: usize) -> bool
     }
 }
 
-/// The place of the body of an entry, or why it is not fit.
-fn entry_place(bodies: &[Body], depths: &[usize], entry: &EntryUse) -> Result<u8, FaultKind>
-    requires few { length bodies.now ≤ 255 }
-    requires depths { depths.now ≡ map (λ b. min (body_depth (body_view b)) 1073741824) bodies.now }
-    ensures fit { IfOk result (λ place. entry_fault (map body_view bodies.now) entry.now (body_place (map body_view bodies.now) entry.now.name) ≡ None) }
-    ensures place { IfOk result (λ place. place ≡ found 0 (body_place (map body_view bodies.now) entry.now.name)) }
-    ensures fault { IfErr result (λ why. entry_fault (map body_view bodies.now) entry.now (body_place (map body_view bodies.now) entry.now.name) ≡ Some why) }
+/// How many operands a body needs, counted up to 2^30.
+pub fn body_depth(body: &Body) -> usize
+    ensures { result ≡ min (spec_depth (body_view body.now)) 1073741824 }
+{
+    block_extent(&body.statements).depth
+}
+
+/// The place of the body of a name, from 0, if there is one.
+pub fn body_place(program: &Program, name: &Name) -> Option<usize>
+    ensures place { result ≡ spec.body_place (program_view program.now) name.now }
+    ensures below { IfSome result (λ place. place < length program.now.bodies.items) }
+{
+    place_in(&program.bodies, name)
+}
+
+/// The fault of an entry, if it has one.
+fn entry_fault(bodies: &[Body], depths: &[usize], entry: &EntryUse) -> Option<FaultKind>
+    requires { depths.now ≡ map (λ b. min (spec_depth (body_view b)) 1073741824) bodies.now }
+    ensures { result ≡ spec.entry_fault (map body_view bodies.now) entry.now (spec.body_place (map body_view bodies.now) entry.now.name) }
 {
     match place_in(bodies, &entry.name) {
-        None => Err(FaultKind::UnknownName),
+        None => Some(FaultKind::UnknownName),
         Some(place) => {
             if !is_kind(bodies[place].kind, entry.kind) {
-                return Err(FaultKind::WrongEntryKind);
+                return Some(FaultKind::WrongEntryKind);
             }
             if !holds(entry.stack, depths[place]) {
-                return Err(FaultKind::StackTooSmall);
+                return Some(FaultKind::StackTooSmall);
             }
-            Ok(place as u8)
+            None
         }
     }
 }
 
-/// The places of the bodies that the static APIs name, in order of the APIs in the text, or the first fault, at the
-/// line of its API in the configuration: `UnknownName` for an entry that names no body, `WrongEntryKind` for a body
-/// of the other kind, `StackTooSmall` for a task whose stack has fewer than four bytes for each operand of its body.
-pub fn resolve_entries(
+/// Whether the bodies that the static APIs name fit, or the first fault in order of the APIs in the text, at the line
+/// of its API in the configuration: `UnknownName` for an entry that names no body, `WrongEntryKind` for a body of the
+/// other kind, `StackTooSmall` for a task whose stack has fewer than four bytes for each operand of its body.
+pub fn check_entries(
     alloc: Global,
     program: &Program,
     entries: &[EntryUse],
-) -> Result<Vec<u8>, BuildFault>
-    requires { length program.now.bodies.items ≤ 255 }
-    ensures { IsResolved (program_view program.now) entries.now result }
+) -> Result<(), BuildFault>
+    ensures { IsChecked (program_view program.now) entries.now result }
 {
     let mut depths = Vec::new(alloc);
     for body in &program.bodies {
-        append(&mut depths, block_extent(&body.statements).depth)?;
+        append(&mut depths, body_depth(body))?;
     }
-    let mut places = Vec::new(alloc);
     for entry in entries {
-        match entry_place(&program.bodies, &depths, entry) {
-            Ok(place) => append(&mut places, place)?,
-            Err(why) => return Err(BuildFault::At(TextFile::Configuration, entry.line, why)),
+        if let Some(why) = entry_fault(&program.bodies, &depths, entry) {
+            return Err(BuildFault::At(TextFile::Configuration, entry.line, why));
         }
     }
-    Ok(places)
+    Ok(())
 }

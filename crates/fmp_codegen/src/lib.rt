@@ -11,7 +11,4 @@ mod offences;
 mod uses;
 
 pub use compiling::compile;
-pub use entries::{EntryUse, resolve_entries};
-
-#[cfg(test)]
-mod tests;
+pub use entries::{EntryUse, body_depth, body_place, check_entries};

@@ -21,6 +21,3 @@ pub use image::Image;
 pub use laws::one_spelling;
 pub use loading::load;
 pub use storing::store;
-
-#[cfg(test)]
-mod tests;

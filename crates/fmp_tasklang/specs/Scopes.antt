@@ -6,9 +6,9 @@ use Rattle.fmp_base.specs.Names.{name_text, name_from}
 use Rattle.fmp_base.specs.Systems.{SystemTables}
 use Rattle.fmp_tasklang.specs.Trees.{BodyTree}
 
--- the objects, and the local variables in order of place
+-- the names of the objects, a table after another, and the local variables in order of place
 pub record Scope : Type 0 where
-  pub tables : SystemTables
+  pub objects : List (List Name)
   pub variables : List Name
 
 -- a variable by its place among the locals, or an object by its number
@@ -46,13 +46,13 @@ object_number text [] = Unknown
 object_number text (names ∷ rest) = number_or (place_of text names) (object_number text rest)
 
 -- a local variable, or else an object
-abbrev pub variable_or : Option ℕ → SystemTables → List ℕ → NameMeaning
-variable_or (Some place) tables text = Variable place
-variable_or None tables text = object_number text (object_names tables)
+abbrev pub variable_or : Option ℕ → List (List Name) → List ℕ → NameMeaning
+variable_or (Some place) objects text = Variable place
+variable_or None objects text = object_number text objects
 
 -- what a name means: a local variable of that text, else an object, else nothing
 abbrev pub meaning_of : Scope → Name → NameMeaning
-meaning_of scope n = let text = name_text n in variable_or (place_of text scope.variables) scope.tables text
+meaning_of scope n = let text = name_text n in variable_or (place_of text scope.variables) scope.objects text
 
 -- the extended information of a task or a handler is its local 0
 abbrev pub exinf_name : Name
@@ -60,4 +60,4 @@ exinf_name = name_from (codes "exinf")
 
 -- `exinf`, and then the declared variables in order
 abbrev pub scope_of : SystemTables → BodyTree → Scope
-scope_of tables body = record { tables = tables; variables = exinf_name ∷ map (λ w. w.name) body.variables }
+scope_of tables body = record { objects = object_names tables; variables = exinf_name ∷ map (λ w. w.name) body.variables }

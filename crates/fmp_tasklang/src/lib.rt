@@ -16,6 +16,3 @@ pub use reading::read_tasks;
 pub use trees::{
     Body, BodyKind, Expression, Link, Operator, Program, ServiceCall, Statement, Word,
 };
-
-#[cfg(test)]
-mod tests;

@@ -3,6 +3,7 @@ use Rattle.fmp_base.specs.Systems.{tables_of}
 use Rattle.fmp_tasklang.specs.Views.{body_view}
 use Rattle.fmp_code.specs.Instructions.{body_tables}
 use Rattle.fmp_codegen.proofs.Judging.{code-tied, code-verified, all-accepted, all-compiled}
+use Rattle.fmp_codegen.proofs.Limits.{few-viewed, low-bodies}
 use Rattle.fmp_codegen.proofs.compiling.compile.Goals as goal
 
 pub returns-clause-tied : goal.returns-clause-tied
@@ -22,3 +23,17 @@ returns-clause-verified c = λ fits.
     code-verified tables (map body_view bodies) (map body_tables c.loop-i.bodies.items)
     (all-accepted tables bodies c.loop-i.i last c.loop-i.invariant.rest)
     (all-compiled tables bodies c.loop-i.i last (map body_tables c.loop-i.bodies.items) c.loop-i.invariant.code) fits
+
+pub returns-clause-few : goal.returns-clause-few
+returns-clause-few c =
+    let tables = tables_of c.args.system.now in
+    let bodies = c.args.program.now.bodies.items in
+    let last : length bodies ≤ c.loop-i.i = omega (arith, c.loop-i-test.false) in
+    few-viewed tables bodies (all-accepted tables bodies c.loop-i.i last c.loop-i.invariant.rest)
+
+pub returns-clause-low : goal.returns-clause-low
+returns-clause-low c =
+    let tables = tables_of c.args.system.now in
+    let bodies = c.args.program.now.bodies.items in
+    let last : length bodies ≤ c.loop-i.i = omega (arith, c.loop-i-test.false) in
+    low-bodies tables bodies (all-accepted tables bodies c.loop-i.i last c.loop-i.invariant.rest)

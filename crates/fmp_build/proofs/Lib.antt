@@ -1,0 +1,15 @@
+mod BodyRules
+mod Built
+mod CodeWords
+mod Entering
+mod EntryRules
+mod FittingBodies
+mod FittingRows
+mod Judged
+mod Lawful
+mod NewKeys
+mod OneAnswer
+mod RowLoops
+mod SameNames
+mod TextNumbers
+mod Walks

@@ -1,0 +1,9 @@
+use Rattle.std.proofs.Common.{arith}
+use Rattle.fmp_tasklang.specs.Views.{program_view}
+use Rattle.fmp_build.proofs.RowLoops.{interrupt_row}
+use Rattle.fmp_build.proofs.tables.build_interrupts.Goals as goal
+
+pub loop-interrupt-preserved : goal.loop-interrupt-preserved
+loop-interrupt-preserved c =
+    interrupt_row (program_view c.args.program.now) c.args.interrupts.now c.loop-interrupt.interrupts c.loop-interrupt.interrupt-index c.built_entry-interrupt.result
+    c.loop-interrupt-test.true (omega arith) c.loop-interrupt.invariant c.built_entry-interrupt.ensures

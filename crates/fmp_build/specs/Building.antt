@@ -1,0 +1,110 @@
+-- Building: from the texts of a system to its image.
+use Rattle.std.specs.Prelude.{◌≡◌, ℕ, List, [], map, Some, None, Ok}
+use Rattle.fmp_base.specs.declared.systems.CyclicConfig.{CyclicConfig}
+use Rattle.fmp_base.specs.declared.systems.Entry.{Entry}
+use Rattle.fmp_base.specs.declared.systems.Entry.TheVariants as entry
+use Rattle.fmp_base.specs.declared.systems.InterruptConfig.{InterruptConfig}
+use Rattle.fmp_base.specs.declared.systems.TaskConfig.{TaskConfig}
+use Rattle.fmp_base.specs.Systems.{SystemTables, found}
+use Rattle.fmp_lex.specs.declared.fault.BuildFault.{BuildFault}
+use Rattle.fmp_lex.specs.declared.fault.BuildFault.TheVariants as build
+use Rattle.fmp_lex.specs.declared.fault.TextFile.TheVariants as file
+use Rattle.fmp_lex.specs.declared.token.Token.{Token}
+use Rattle.fmp_lex.specs.Faults.{Spells, IsSyntaxFault}
+use Rattle.fmp_cfgparse.specs.Apis.{Making}
+use Rattle.fmp_cfgparse.specs.Configurations.{IsFault}
+use Rattle.fmp_cfgparse.specs.Configuring.{configured}
+use Rattle.fmp_cfgparse.specs.Grammar.{Config}
+use Rattle.fmp_cfgparse.specs.Trees.{ConfigurationTree}
+use Rattle.fmp_tasklang.specs.declared.trees.BodyKind as language
+use Rattle.fmp_tasklang.specs.declared.trees.BodyKind.TheVariants as written
+use Rattle.fmp_tasklang.specs.Reading.{Tasks}
+use Rattle.fmp_tasklang.specs.Trees.{BodyTree}
+use Rattle.fmp_codegen.specs.declared.offences.Offence.{Offence}
+use Rattle.fmp_codegen.specs.Compiling.{bodies_offence, compiled, IsAccepted}
+use Rattle.fmp_codegen.specs.Depths.{body_depth}
+use Rattle.fmp_codegen.specs.Entries.{body_place, entries_offence}
+use Rattle.fmp_image.specs.declared.heads.BodyHead.{BodyHead}
+use Rattle.fmp_image.specs.declared.heads.BodyKind.{BodyKind}
+use Rattle.fmp_image.specs.declared.heads.BodyKind.TheVariants as kind
+use Rattle.fmp_image.specs.Images.{ImageTables, image_tables}
+use Rattle.fmp_build.specs.Entries.{entry_uses}
+
+-- a name of a body becomes the body's number
+abbrev pub built_entry : List BodyTree → Entry → Entry
+built_entry bodies (entry.Named n) = entry.Body (found 0 (body_place bodies n))
+built_entry bodies (entry.Body k) = entry.Body k
+
+-- a row with the number of its body
+abbrev pub built_task : List BodyTree → TaskConfig → TaskConfig
+built_task bodies t = record t { entry = built_entry bodies t.entry }
+
+abbrev pub built_cyclic : List BodyTree → CyclicConfig → CyclicConfig
+built_cyclic bodies c = record c { entry = built_entry bodies c.entry }
+
+abbrev pub built_interrupt : List BodyTree → InterruptConfig → InterruptConfig
+built_interrupt bodies i = record i { entry = built_entry bodies i.entry }
+
+-- the same tables, with numbers of bodies in place of their names
+abbrev pub built_tables : List BodyTree → SystemTables → SystemTables
+built_tables bodies t =
+    record t {
+      tasks = map (built_task bodies) t.tasks;
+      cyclics = map (built_cyclic bodies) t.cyclics;
+      interrupts = map (built_interrupt bodies) t.interrupts;
+    }
+
+abbrev pub built_kind : language.BodyKind → BodyKind
+built_kind written.Task = kind.Task
+built_kind written.Handler = kind.Handler
+
+-- what an image says of a body: its kind, and how many operands it needs
+abbrev pub built_head : BodyTree → BodyHead
+built_head b = record { kind = built_kind b.kind; depth = body_depth b }
+
+abbrev pub built_heads : List BodyTree → List BodyHead
+built_heads bodies = map built_head bodies
+
+-- a configuration without a fault: its tokens, the tree that they spell, and what the tree makes
+pub record ReadConfiguration (cfg : List ℕ) : Type 0 where
+  pub tokens : List Token
+  pub tree : ConfigurationTree
+  pub spelled : Spells (λ ts. Config) cfg tokens tree
+  pub making : Making
+  pub makes : configured tree ≡ Ok making
+
+-- a task text without a fault of syntax: its tokens, and the bodies that they spell
+pub record ReadTasks (src : List ℕ) : Type 0 where
+  pub tokens : List Token
+  pub bodies : List BodyTree
+  pub spelled : Spells Tasks src tokens bodies
+
+-- the image of tables and bodies
+abbrev pub built_image : SystemTables → List BodyTree → ImageTables
+built_image tables bodies = image_tables (built_tables bodies tables) (built_heads bodies) (compiled tables bodies)
+
+-- Two texts build an image: both are read, no body has a fault over the objects of the configuration, nor has an entry.
+pub record Builds (cfg src : List ℕ) (i : ImageTables) : Type 0 where
+  pub configuration : ReadConfiguration cfg
+  pub tasks : ReadTasks src
+  pub accepted : IsAccepted configuration.making.tables tasks.bodies
+  pub entered : entries_offence tasks.bodies (entry_uses configuration.tokens configuration.tree) ≡ None
+  pub image : i ≡ built_image configuration.making.tables tasks.bodies
+
+-- Why two texts build none. The configuration is judged first, its syntax and what it makes; then the syntax of the task
+-- text, then its bodies, and last the entries. The fault is the first of the first of these that has one.
+pub data IsBuildFault (cfg src : List ℕ) (f : BuildFault) : Type 0 where
+  of_memory : f ≡ build.Memory → IsBuildFault cfg src f
+  of_configuration : IsFault cfg f → IsBuildFault cfg src f
+  of_tasks : ReadConfiguration cfg → IsSyntaxFault file.Source Tasks src f → IsBuildFault cfg src f
+  of_bodies :
+      (c : ReadConfiguration cfg) (t : ReadTasks src) (o : Offence) →
+      bodies_offence c.making.tables [] t.bodies ≡ Some o →
+      f ≡ build.At file.Source o.line o.why →
+      IsBuildFault cfg src f
+  of_entries :
+      (c : ReadConfiguration cfg) (t : ReadTasks src) (o : Offence) →
+      IsAccepted c.making.tables t.bodies →
+      entries_offence t.bodies (entry_uses c.tokens c.tree) ≡ Some o →
+      f ≡ build.At file.Configuration o.line o.why →
+      IsBuildFault cfg src f

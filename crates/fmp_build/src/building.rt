@@ -1,0 +1,94 @@
+ghost use Rattle.std.specs.Prelude.{◌≡◌, ◌≤◌, length, Err, IfOk, IfErr, slice_get};
+ghost use Rattle.std.specs.List.{AllByRecursion};
+ghost use Rattle.fmp_base.specs.Systems.{tables_of};
+ghost use Rattle.fmp_cfgparse.specs.Configurations.{offence_fault};
+ghost use Rattle.fmp_cfgparse.specs.Configurations as configuration;
+ghost use Rattle.fmp_cfgparse.specs.Ranges.{IsInRange};
+ghost use Rattle.fmp_tasklang.specs.Views.{body_view, program_view};
+ghost use Rattle.fmp_code.specs.Instructions.{code_tables};
+ghost use Rattle.fmp_codegen.specs.Compiling.{compiled};
+ghost use Rattle.fmp_codegen.specs.Depths.{body_depth};
+ghost use Rattle.fmp_image.specs.Images.{IsImage};
+ghost use Rattle.fmp_build.specs.Building.{Builds, IsBuildFault, built_image};
+ghost use Rattle.fmp_build.specs.Reading.{Reads};
+
+use crate::entries::{entry_uses, line_at};
+use crate::heads::built_heads;
+use crate::laws::what_is_built_is_an_image;
+use crate::tables::build_tables;
+use fmp_base::System;
+use fmp_cfgparse::{Parsed, Stop, configure, parse};
+use fmp_code::Code;
+use fmp_codegen::{check_entries, compile};
+use fmp_image::Image;
+use fmp_lex::{BuildFault, FaultKind, TextFile, Token};
+use fmp_tasklang::{Program, read_tasks};
+use std::alloc::{AllocError, Global};
+
+/// A configuration that is read: its tokens, its tree, and the system that it makes.
+#[derive(Drop)]
+pub struct Configured {
+    pub parsed: Parsed,
+    pub system: System,
+}
+
+fn fault_at(tokens: &[Token], at: usize, why: FaultKind) -> BuildFault
+    ensures { result ≡ offence_fault (slice_get tokens.now at) why }
+{
+    BuildFault::At(TextFile::Configuration, line_at(tokens, at), why)
+}
+
+/// Reads a configuration, and carries out its static APIs.
+fn read_configuration(alloc: Global, cfg: &[u8]) -> Result<Configured, BuildFault>
+    ensures reads { IfOk result (Reads cfg.now) }
+    ensures ranges { IfOk result (λ c. IsInRange (tables_of c.system)) }
+    ensures refuses { IfErr result (λ f. configuration.IsRead cfg.now (Err f)) }
+{
+    match parse(alloc, cfg) {
+        Ok(parsed) => match configure(alloc, &parsed.tree) {
+            Ok(making) => Ok(Configured {
+                parsed,
+                system: making.system,
+            }),
+            Err(Stop::Memory) => Err(BuildFault::Memory),
+            Err(Stop::Fault(at, why)) => Err(fault_at(&parsed.list.tokens, at, why)),
+        },
+        Err(fault) => Err(fault),
+    }
+}
+
+/// The image of a system and of the code of its bodies.
+fn image_of(
+    alloc: Global,
+    system: System,
+    program: &Program,
+    code: Code,
+) -> Result<Image, AllocError>
+    requires few { length program.now.bodies.items ≤ 255 }
+    requires low { AllByRecursion (λ b. body_depth (body_view b) ≤ 64) program.now.bodies.items }
+    requires code { code_tables code ≡ compiled (tables_of system) (program_view program.now) }
+    requires lawful { IsImage (built_image (tables_of system) (program_view program.now)) }
+    ensures { IfOk result (λ image. image ≡ built_image (tables_of system) (program_view program.now)) }
+{
+    let heads = built_heads(alloc, program)?;
+    let mut built = system;
+    build_tables(program, &mut built);
+    Ok(Image::new(built, code, heads))
+}
+
+/// The image of the system that a configuration describes, its bodies given by a task text; or the first fault of the
+/// texts: of the syntax of the configuration and of what it makes, then of the syntax of the task text, then of its
+/// bodies, then of the entries that the static APIs name. `Memory` where an allocation is refused.
+pub fn build(alloc: Global, cfg: &[u8], src: &[u8]) -> Result<Image, BuildFault>
+    ensures builds { IfOk result (λ image. Builds cfg.now src.now image) }
+    ensures refuses { IfErr result (IsBuildFault cfg.now src.now) }
+{
+    let configured = read_configuration(alloc, cfg)?;
+    let program = read_tasks(alloc, src)?;
+    let code = compile(alloc, &program, &configured.system)?;
+    let parsed = &configured.parsed;
+    let entries = entry_uses(alloc, &parsed.list.tokens, &parsed.tree)?;
+    check_entries(alloc, &program, &entries)?;
+    what_is_built_is_an_image();
+    Ok(image_of(alloc, configured.system, &program, code)?)
+}
