@@ -3,6 +3,4 @@ pub mod Groups
 pub mod KernelViews
 pub mod Laws
 pub mod Rooms
-pub mod ScriptLemmas
-pub mod Scripts
 pub mod Stages

@@ -1,7 +1,8 @@
 //! The kernel over bodies that are given by a trait: one event is one step of its state. Tasks make all service calls of
 //! the uITRON 4.0 standard profile and of the FMP kernel that this kernel has.
 //!
-//! So far it takes systems of one processor, with no spin locks, cyclic handlers and interrupts.
+//! So far it takes systems of one processor, with no spin locks, cyclic handlers and interrupts; `is_in_stage` tells
+//! whether a system is one of them.
 #![tactic(auto)]
 
 mod bodies;
@@ -9,13 +10,10 @@ mod calls;
 mod events;
 pub mod kernel;
 mod settling;
+mod stages;
 mod starting;
 mod ticks;
 
 pub use fmp_body::Body;
 pub use kernel::{Kernel, KernelFault};
-
-#[cfg(test)]
-mod script;
-#[cfg(test)]
-mod tests;
+pub use stages::is_in_stage;

@@ -5,6 +5,3 @@
 pub mod lists;
 
 pub use lists::Lists;
-
-#[cfg(test)]
-mod tests;

@@ -22,6 +22,3 @@ pub use rotation::{get_tid, irot_rdq, rot_rdq};
 pub use sleep::{can_wup, dly_tsk, iwup_tsk, rel_wai, slp_tsk, tslp_tsk, wup_tsk};
 pub use suspension::{rsm_tsk, sus_tsk};
 pub use termination::{end_itself, ext_tsk, ter_tsk};
-
-#[cfg(test)]
-mod tests;

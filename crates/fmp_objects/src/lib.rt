@@ -12,6 +12,3 @@ mod walking;
 pub use flags::{clr_flg, set_flg, twai_flg, wai_flg};
 pub use semaphores::{sig_sem, twai_sem, wai_sem};
 pub use shared_words::{ld_shr, st_shr};
-
-#[cfg(test)]
-mod tests;

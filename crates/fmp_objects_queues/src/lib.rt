@@ -8,6 +8,3 @@ pub mod mailboxes;
 
 pub use data_queues::{fsnd_dtq, psnd_dtq, rcv_dtq, snd_dtq, trcv_dtq, tsnd_dtq};
 pub use mailboxes::{rcv_mbx, snd_mbx, trcv_mbx};
-
-#[cfg(test)]
-mod tests;

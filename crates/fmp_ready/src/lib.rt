@@ -5,6 +5,3 @@
 pub mod queues;
 
 pub use queues::ReadyQueues;
-
-#[cfg(test)]
-mod tests;

@@ -5,6 +5,3 @@
 pub mod processors;
 
 pub use processors::Processors;
-
-#[cfg(test)]
-mod tests;

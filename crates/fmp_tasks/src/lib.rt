@@ -16,6 +16,3 @@ mod words;
 
 pub use order::Order;
 pub use tables::Tables;
-
-#[cfg(test)]
-mod tests;

@@ -8,6 +8,3 @@ mod times;
 
 pub use cyclics::Cyclics;
 pub use deadlines::TickQueue;
-
-#[cfg(test)]
-mod tests;

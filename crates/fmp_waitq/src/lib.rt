@@ -5,6 +5,3 @@
 pub mod queues;
 
 pub use queues::{ObjectCounts, WaitQueues};
-
-#[cfg(test)]
-mod tests;

@@ -3,7 +3,7 @@ use Rattle.std.proofs.Common.{arith, ◌≡◌, ℕ, ◌≤◌, List, Option, So
 use Rattle.std.proofs.lemmas.Bool.Decides.{nat_tests}
 use Rattle.fmp_base.specs.declared.calls.Call.{Call}
 use Rattle.fmp_base.specs.Stretches.{is_over}
-use Rattle.fmp_kernel.specs.Scripts.{calls_of, call_within, end_within, script_from, script_meaning}
+use Rattle.fmp_scripts.specs.Scripts.{calls_of, call_within, end_within, script_from, script_meaning}
 
 later_test : (low high m : ℕ) → low ≤ high → nat_lt low m ≡ false → nat_lt high m ≡ false
 later_test low high m l h = grind (arith, nat_tests)
@@ -25,8 +25,7 @@ from_stays : (o : Option Call) (low high c : ℕ) → low ≤ high → is_over (
 from_stays (Some made) low high c l h = call_stays (nat_lt low 2) (nat_lt high 2) c made (later_test low high 2 l) h
 from_stays None low high c l h = end_stays (nat_lt low 1) (nat_lt high 1) c (later_test low high 1 l) h
 
-pub script-stays : (first second : List Call) (body low high c : ℕ) → low ≤ high
-    → is_over ((script_meaning first second).stretch body low c) ≡ false
-    → (script_meaning first second).stretch body high c ≡ (script_meaning first second).stretch body low c
-script-stays first second body low high c l h =
-    from_stays (slice_get (calls_of first second body) c) low high c l h
+pub script-stays : (bodies : List (List Call)) (body low high c : ℕ) → low ≤ high
+    → is_over ((script_meaning bodies).stretch body low c) ≡ false
+    → (script_meaning bodies).stretch body high c ≡ (script_meaning bodies).stretch body low c
+script-stays bodies body low high c l h = from_stays (slice_get (calls_of bodies body) c) low high c l h

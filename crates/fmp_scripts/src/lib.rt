@@ -1,0 +1,9 @@
+//! Bodies for trying the kernel without code: each makes the service calls of a list, one after the other, and ends.
+#![tactic(auto)]
+
+mod script;
+
+pub use script::Script;
+
+#[cfg(test)]
+mod tests;
