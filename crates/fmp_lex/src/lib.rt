@@ -15,6 +15,3 @@ pub use fault::{BuildFault, FaultKind, TextFile, fault_at};
 pub use reading::{GrammarFault, ReadError};
 pub use token::{LexFault, Symbol, TextFault, Token, TokenKind, TokenList};
 pub use words::{Api, Constant, Keyword};
-
-#[cfg(test)]
-mod tests;

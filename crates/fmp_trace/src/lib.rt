@@ -10,8 +10,6 @@ mod names;
 mod numerals;
 mod reading;
 mod states;
-#[cfg(test)]
-mod tests;
 mod texts;
 
 pub use events::{print_steps, printed_steps_read_back};

@@ -1,0 +1,19 @@
+//! Rows of texts: what the readers, the compiler, the machine, images and the printer answer.
+#![tactic(auto)]
+
+#[cfg(test)]
+mod compiling;
+#[cfg(test)]
+mod configurations;
+#[cfg(test)]
+mod images;
+#[cfg(test)]
+mod lexing;
+#[cfg(test)]
+mod machine;
+#[cfg(test)]
+mod printing;
+#[cfg(test)]
+mod task_texts;
+#[cfg(test)]
+mod texts;
