@@ -1,36 +1,95 @@
--- What carrying out a command gives.
-use Rattle.std.specs.Prelude.{ℕ, List, [], ◌≡◌, ◌++◌, ⊤, codes, slice_get, string_bytes, unwrap_or}
+-- What carrying out a command gives, or why it gives nothing.
+use Rattle.std.specs.Prelude.{ℕ, List, [], ◌≡◌, ◌++◌, ⊤, codes, decimal, length, slice_get, string_bytes, unwrap_or}
+use Rattle.fmp_build.specs.Building.{Builds, IsBuildFault}
+use Rattle.fmp_engine.specs.Built.{CanBuild}
+use Rattle.fmp_engine.specs.declared.fault.SimFault.TheVariants as sim
+use Rattle.fmp_engine.specs.Simulations.{IsWhySim, PrintsTexts, Simulates}
+use Rattle.fmp_image.specs.Images.{ImageTables, Spells}
+use Rattle.fmp_lex.specs.declared.fault.BuildFault.TheVariants as build
 use Rattle.fmp.specs.declared.command.Cmd.{Cmd}
-use Rattle.fmp.specs.declared.command.Cmd.TheVariants.{Check, Run, Stored}
+use Rattle.fmp.specs.declared.command.Cmd.TheVariants as cmd
 use Rattle.fmp.specs.declared.perform.Exit.{Exit}
-use Rattle.fmp.specs.declared.perform.Exit.TheVariants.{Fault, File, Memory}
+use Rattle.fmp.specs.declared.perform.Exit.TheVariants.{Build, Sim, File, Memory}
 use Rattle.fmp.specs.declared.perform.TheConstants.{STORED_CONFIG, STORED_TASKS, STORED_STEPS, STORED_BOUND}
-use Rattle.fmp.specs.Refusals.{BothRead}
-use Rattle.fmp.specs.Runs.{Prints}
 
--- the status of an end: 1 for a fault of the texts, 3 for a file and for want of memory
+-- the status of an end: 1 for a fault of what was read, 3 for a file and for want of memory
 abbrev pub status_of : Exit → ℕ
-status_of (Fault _) = 1
+status_of (Build _) = 1
+status_of (Sim _) = 1
 status_of (File _) = 3
 status_of (Memory _) = 3
 
 -- an end that names this file, or says that memory ran out
 abbrev pub IsFor : List ℕ → Exit → Type 0
-IsFor _ (Fault _) = ⊥
+IsFor name (Build _) = ⊥
+IsFor name (Sim _) = ⊥
 IsFor name (File text) = string_bytes text ≡ name
-IsFor _ (Memory _) = ⊤
+IsFor name (Memory _) = ⊤
 
--- the text that was read k-th, counted from 0
-abbrev pub text_at : List (List ℕ) → ℕ → List ℕ
-text_at inputs k = unwrap_or (slice_get inputs k) []
+-- what was read k-th, counted from 0
+abbrev pub input_at : List (List ℕ) → ℕ → List ℕ
+input_at inputs k = unwrap_or (slice_get inputs k) []
 
--- both texts are read, and `ok` was appended
+-- two texts build an image, and `ok` was appended
 pub record Checks (cfg src before after : List ℕ) : Type 0 where
-  pub texts : BothRead cfg src
+  pub builds : CanBuild cfg src
   pub text : after ≡ before ++ codes "ok\n"
 
--- what was appended is what a command prints, given what was read
-abbrev pub CarriesOut : Cmd → List (List ℕ) → (before after : List ℕ) → Type 0
-CarriesOut (Check _ _) inputs before after = Checks (text_at inputs 0) (text_at inputs 1) before after
-CarriesOut (Run _ _ _ bound) inputs before after = Prints (text_at inputs 0) (text_at inputs 1) (text_at inputs 2) bound before after
-CarriesOut Stored _ before after = Prints STORED_CONFIG.now STORED_TASKS.now STORED_STEPS.now STORED_BOUND before after
+-- two texts build an image: the file gained the bytes that spell it, and `ok` was appended with how many they are
+pub record BuildsFile (cfg src file_before file_after before after : List ℕ) : Type 0 where
+  pub image : ImageTables
+  pub built : Builds cfg src image
+  pub bytes : List ℕ
+  pub spelled : Spells image bytes
+  pub file : file_after ≡ file_before ++ bytes
+  pub text : after ≡ before ++ (codes "ok " ++ (decimal (length bytes) ++ codes "\n"))
+
+-- What was appended is what an image prints over the steps; and where two texts build the image, it is what they mean.
+pub record RunsImage (image steps : List ℕ) (n : ℕ) (before after : List ℕ) : Type 0 where
+  pub printed : Simulates image steps n before after
+  pub meant : (cfg src : List ℕ) (i : ImageTables) (b : Builds cfg src i) → Spells i image → PrintsTexts i b.tasks.bodies steps n before after
+
+-- two texts build an image, and what was appended is what they mean over the steps that the run of the image finished
+pub record RunsTexts (cfg src steps : List ℕ) (n : ℕ) (before after : List ℕ) : Type 0 where
+  pub image : ImageTables
+  pub built : Builds cfg src image
+  pub meant : PrintsTexts image built.tasks.bodies steps n before after
+
+-- What was written and printed is what a command asks for, given what was read.
+abbrev pub CarriesOut : Cmd → List (List ℕ) → (file_before file_after before after : List ℕ) → Type 0
+CarriesOut (cmd.Check _ _) inputs file_before file_after before after =
+    Checks (input_at inputs 0) (input_at inputs 1) before after × (file_after ≡ file_before)
+CarriesOut (cmd.Build _ _ _) inputs file_before file_after before after =
+    BuildsFile (input_at inputs 0) (input_at inputs 1) file_before file_after before after
+CarriesOut (cmd.Sim _ _ bound) inputs file_before file_after before after =
+    RunsImage (input_at inputs 0) (input_at inputs 1) bound before after × (file_after ≡ file_before)
+CarriesOut cmd.Stored inputs file_before file_after before after =
+    RunsTexts STORED_CONFIG.now STORED_TASKS.now STORED_STEPS.now STORED_BOUND before after × (file_after ≡ file_before)
+
+-- why two texts build no image
+abbrev pub IsWhyNoImage : (cfg src : List ℕ) → Exit → Type 0
+IsWhyNoImage cfg src (Build (build.At file line why)) = IsBuildFault cfg src (build.At file line why)
+IsWhyNoImage cfg src (Build build.Memory) = ⊥
+IsWhyNoImage cfg src (Sim f) = ⊥
+IsWhyNoImage cfg src (File name) = ⊥
+IsWhyNoImage cfg src (Memory _) = ⊤
+
+-- why an image is not run
+abbrev pub IsWhyNoRun : (image steps : List ℕ) → Exit → Type 0
+IsWhyNoRun image steps (Build f) = ⊥
+IsWhyNoRun image steps (Sim sim.Memory) = ⊥
+IsWhyNoRun image steps (Sim f) = IsWhySim f image steps
+IsWhyNoRun image steps (File name) = ⊥
+IsWhyNoRun image steps (Memory _) = ⊤
+
+-- why two texts are not built and run
+pub data IsWhyNotRun (cfg src steps : List ℕ) (e : Exit) : Type 0 where
+  no_image : IsWhyNoImage cfg src e → IsWhyNotRun cfg src steps e
+  no_run : (image : ImageTables) (bytes : List ℕ) → Builds cfg src image → Spells image bytes → IsWhyNoRun bytes steps e → IsWhyNotRun cfg src steps e
+
+-- why a command is not carried out, given what was read
+abbrev pub IsWhyNot : Cmd → List (List ℕ) → Exit → Type 0
+IsWhyNot (cmd.Check _ _) inputs e = IsWhyNoImage (input_at inputs 0) (input_at inputs 1) e
+IsWhyNot (cmd.Build _ _ _) inputs e = IsWhyNoImage (input_at inputs 0) (input_at inputs 1) e
+IsWhyNot (cmd.Sim _ _ _) inputs e = IsWhyNoRun (input_at inputs 0) (input_at inputs 1) e
+IsWhyNot cmd.Stored inputs e = IsWhyNotRun STORED_CONFIG.now STORED_TASKS.now STORED_STEPS.now e

@@ -10,33 +10,49 @@ use std::alloc::{AllocError, Global};
 /// The largest bound on a stretch, 2^48.
 pub const BOUND_MAX: u64 = 281_474_976_710_656;
 
-/// What the program is asked to do.
+/// What is said of words that are no text.
+const NOT_TEXT: &str = "invalid UTF-8 was detected in one or more arguments";
+
+/// What stands below the list of commands.
+const EXAMPLE: &str = "Example:
+  fmp check one_task.cfg one_task.src
+  fmp build one_task.cfg one_task.src one_task.img
+  fmp sim one_task.img three_runs.steps
+
+Status: 0 done, 1 a fault of what was read, 2 a mistake in the command line, 3 a file or want of memory";
+
+/// What the program is asked to do. Each word is the name of a file.
 #[derive(Debug, Drop, PartialEq, Eq)]
 pub enum Cmd {
-    /// Check that a configuration and a text of task bodies, both names of files, have no fault.
+    /// Check that a configuration and the bodies of its tasks have no fault.
     Check {
         config: String,
         tasks: String,
     },
-    /// Run the tasks that a configuration declares, their bodies given by a second text, over the events of a steps
-    /// text. The three are names of files. `bound` limits how long a task computes between two service calls.
-    Run {
+    /// Build the image of a configuration and the bodies of its tasks.
+    Build {
         config: String,
         tasks: String,
+        image: String,
+    },
+    /// Run an image over the events of a steps text. `bound` limits how many instructions a task computes between two
+    /// service calls.
+    Sim {
+        image: String,
         steps: String,
         bound: u64,
     },
-    /// Run the texts that the program holds.
+    /// Build and run the texts that the program holds.
     Stored,
 }
 
 /// The two words for the texts of a system.
 fn text_arguments<'a>(alloc: Global) -> (Arg<'a>, Arg<'a>) {
     let config = Arg::new(alloc, "CFG").required(true).help(
-        "File with the processors, their classes and the objects in them",
+        "Configuration: the processors, their classes and the tasks and objects in them",
     );
     let tasks = Arg::new(alloc, "SRC").required(true).help(
-        "File with the bodies of the tasks, such as 'task main { put(7); }'",
+        "Task text: the bodies of the tasks and handlers, such as 'task main { put(7); }'",
     );
     (config, tasks)
 }
@@ -44,28 +60,45 @@ fn text_arguments<'a>(alloc: Global) -> (Arg<'a>, Arg<'a>) {
 fn check_command<'a>(alloc: Global) -> Result<Command<'a>, AllocError> {
     let (config, tasks) = text_arguments(alloc);
     Command::new(alloc, "check")
-        .about(
-            "Reads a configuration and the bodies of its tasks, and prints 'ok' or the first fault",
-        )
+        .about("Checks the two texts of a system, and prints 'ok' or the first fault with its line")
         .arg(config)?
         .arg(tasks)
 }
 
-fn run_command<'a>(alloc: Global) -> Result<Command<'a>, AllocError> {
+fn build_command<'a>(alloc: Global) -> Result<Command<'a>, AllocError> {
     let (config, tasks) = text_arguments(alloc);
+    let image = Arg::new(alloc, "OUT")
+        .required(true)
+        .help("File that the image is written to");
+    Command::new(alloc, "build")
+        .about(
+            "Compiles the two texts of a system into an image, and prints 'ok' and how many bytes it has",
+        )
+        .arg(config)?
+        .arg(tasks)?
+        .arg(image)
+}
+
+fn sim_command<'a>(alloc: Global) -> Result<Command<'a>, AllocError> {
+    let image = Arg::new(alloc, "IMAGE")
+        .required(true)
+        .help("Image that 'fmp build' has written");
     let steps = Arg::new(alloc, "STEPS").required(true).help(
-        "File with the events, one a line: 'run 1', 'tick' or 'int 3'",
+        "Text of the events, one a line: 'run 1' lets processor 1 run, 'tick' advances the clock, 'int 3' is an interrupt",
     );
     let bound = Arg::new(alloc, "bound")
         .long("bound")
         .value_name("N")
         .value_parser(value_parser!(u64))
         .default_value("100000")
-        .help("How far a task may compute between two service calls, 1 to 2^48");
-    Command::new(alloc, "run")
-        .about("Runs the tasks of a configuration over a list of events, and prints what happens")
-        .arg(config)?
-        .arg(tasks)?
+        .help(
+            "How many instructions a task may take up to its next service call, 1 to 2^48; a longer way does nothing",
+        );
+    Command::new(alloc, "sim")
+        .about(
+            "Runs an image over a list of events, and prints what happens and how the tasks stand at the end",
+        )
+        .arg(image)?
         .arg(steps)?
         .arg(bound)
 }
@@ -74,19 +107,21 @@ fn program<'a>(alloc: Global) -> Result<Command<'a>, AllocError> {
     Command::new(alloc, "fmp")
         .version("0.1.0")
         .about(
-            "A multiprocessor real-time kernel. With no command, it runs a small example that it holds",
+            "A multiprocessor real-time kernel, with the compiler of its systems: check or build the texts of a system, and run its image. With no command, it runs a small example that it holds",
         )
+        .after_help(EXAMPLE)
         .subcommand_required(true)
         .subcommand(check_command(alloc)?)?
-        .subcommand(run_command(alloc)?)
+        .subcommand(build_command(alloc)?)?
+        .subcommand(sim_command(alloc)?)
 }
 
-/// An error of `fmp run` that the parser of the command line did not find.
+/// An error of `fmp sim` that the parser of the command line did not find.
 fn refused(alloc: Global, kind: ErrorKind, message: &str) -> Result<Error, AllocError>
     ensures { IfOk result (λ e. kind_of e ≡ kind) }
 {
-    run_command(alloc)?
-        .bin_name("fmp run")?
+    sim_command(alloc)?
+        .bin_name("fmp sim")?
         .error(kind, message)
 }
 
@@ -94,20 +129,16 @@ fn refused(alloc: Global, kind: ErrorKind, message: &str) -> Result<Error, Alloc
 pub fn not_text(alloc: Global) -> Result<Error, AllocError>
     ensures { IfOk result (λ e. kind_of e ≡ ErrorKind.ValueValidation) }
 {
-    program(alloc)?.error(
-        ErrorKind::ValueValidation,
-        "invalid UTF-8 was detected in one or more arguments",
-    )
+    program(alloc)?.error(ErrorKind::ValueValidation, NOT_TEXT)
 }
 
 /// The name of a file that the words give.
-fn name_of(alloc: Global, run: &ArgMatches<'_>, id: &str) -> Result<String, Error>
-    ensures { IfOk result (λ s. first_value (found_of run.now) id.now ≡ Some (string_bytes s)) }
+fn name_of(alloc: Global, words: &ArgMatches<'_>, id: &str) -> Result<String, Error>
+    ensures { IfOk result (λ s. first_value (found_of words.now) id.now ≡ Some (string_bytes s)) }
 {
-    match run.get_str(id) {
+    match words.get_str(id) {
         Some(name) => Ok(String::from_str(alloc, name)?),
-        None => Err(refused(
-            alloc,
+        None => Err(program(alloc)?.error(
             ErrorKind::MissingRequiredArgument,
             "a file is missing",
         )?),
@@ -115,10 +146,10 @@ fn name_of(alloc: Global, run: &ArgMatches<'_>, id: &str) -> Result<String, Erro
 }
 
 /// The bound, which has to lie in its range.
-fn bound_of(alloc: Global, run: &ArgMatches<'_>) -> Result<u64, Error>
+fn bound_of(alloc: Global, words: &ArgMatches<'_>) -> Result<u64, Error>
     ensures { IfOk result IsBound }
 {
-    match run.get_one::<u64>("bound") {
+    match words.get_one::<u64>("bound") {
         Some(bound) if 1 <= bound && bound <= BOUND_MAX => Ok(bound),
         _ => Err(refused(
             alloc,
@@ -142,11 +173,15 @@ pub fn command<'a>(alloc: Global, words: &'a [&'a str]) -> Result<Cmd, Error>
             config: name_of(alloc, check, "CFG")?,
             tasks: name_of(alloc, check, "SRC")?,
         }),
-        Some(("run", run)) => Ok(Cmd::Run {
-            config: name_of(alloc, run, "CFG")?,
-            tasks: name_of(alloc, run, "SRC")?,
-            steps: name_of(alloc, run, "STEPS")?,
-            bound: bound_of(alloc, run)?,
+        Some(("build", build)) => Ok(Cmd::Build {
+            config: name_of(alloc, build, "CFG")?,
+            tasks: name_of(alloc, build, "SRC")?,
+            image: name_of(alloc, build, "OUT")?,
+        }),
+        Some(("sim", sim)) => Ok(Cmd::Sim {
+            image: name_of(alloc, sim, "IMAGE")?,
+            steps: name_of(alloc, sim, "STEPS")?,
+            bound: bound_of(alloc, sim)?,
         }),
         _ => Err(program(alloc)?.error(ErrorKind::MissingSubcommand, "a command is missing")?),
     }

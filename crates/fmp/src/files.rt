@@ -1,4 +1,4 @@
-//! Reading the files that a command names.
+//! Reading and writing the files that a command names.
 ghost use Rattle.std.specs.Prelude.{◌≡◌, IfErr, IfOk, vec_len};
 ghost use Rattle.fmp.specs.Commands.{input_count};
 ghost use Rattle.fmp.specs.Performed.{IsFor, status_of};
@@ -47,27 +47,29 @@ pub fn read_inputs<R: Files + AllocGlobal>(rt: &R, cmd: &Cmd) -> Result<Vec<Vec<
     ensures ok { IfOk result (λ texts. vec_len texts ≡ input_count cmd.now) }
     ensures err { IfErr result (λ exit. status_of exit ≡ 3) }
 {
-    match cmd {
-        Cmd::Check { config, tasks } => {
-            let texts = [
-                read_up_to(rt, config, ENOUGH)?,
-                read_up_to(rt, tasks, ENOUGH)?,
-            ];
-            Vec::from_array(rt.alloc(), texts).map_err(|_| Exit::Memory(AllocError))
-        }
-        Cmd::Run {
-            config,
-            tasks,
-            steps,
-            ..
-        } => {
-            let texts = [
-                read_up_to(rt, config, ENOUGH)?,
-                read_up_to(rt, tasks, ENOUGH)?,
-                read_up_to(rt, steps, u64::MAX)?,
-            ];
-            Vec::from_array(rt.alloc(), texts).map_err(|_| Exit::Memory(AllocError))
-        }
-        Cmd::Stored => Ok(Vec::new(rt.alloc())),
+    let inputs = match cmd {
+        Cmd::Check { config, tasks } | Cmd::Build { config, tasks, .. } => [
+            read_up_to(rt, config, ENOUGH)?,
+            read_up_to(rt, tasks, ENOUGH)?,
+        ],
+        Cmd::Sim { image, steps, .. } => [
+            read_up_to(rt, image, u64::MAX)?,
+            read_up_to(rt, steps, u64::MAX)?,
+        ],
+        Cmd::Stored => return Ok(Vec::new(rt.alloc())),
+    };
+    Vec::from_array(rt.alloc(), inputs).map_err(|_| Exit::Memory(AllocError))
+}
+
+/// Writes the file that a command names for it.
+pub fn write_output<R: Files + AllocGlobal>(rt: &R, cmd: &Cmd, bytes: &[u8]) -> Result<(), Exit>
+    ensures { IfErr result (λ exit. status_of exit ≡ 3) }
+{
+    let Cmd::Build { image, .. } = cmd else {
+        return Ok(());
+    };
+    match fs::write(rt, image, bytes) {
+        Ok(()) => Ok(()),
+        Err(error) => Err(failed(rt.alloc(), image, &error)),
     }
 }

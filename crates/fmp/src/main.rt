@@ -1,24 +1,25 @@
-//! The program `fmp`: it runs a system of tasks, given as texts, on the kernel, and prints what happened.
+//! The program `fmp`: it checks the texts of a system, builds its image, and runs an image on the kernel and prints
+//! what happened.
 //!
-//! It ends with status 0 where it did what it was asked, 1 for a fault of the texts, 2 for a mistake in the command
-//! line, and 3 where a file could not be read or memory ran out. What it prints is printed at once, at the end.
+//! It ends with status 0 where it did what it was asked, 1 for a fault of what it read, 2 for a mistake in the command
+//! line, and 3 where a file could not be read or written or memory ran out. What it prints is printed at once, at the
+//! end, and after the file that it writes.
 #![tactic(auto)]
 
 ghost use Rattle.std.specs.Prelude.{IfOk};
 ghost use Rattle.fmp.specs.Commands.{HasBound};
 
+#[cfg(test)]
+mod check_tests;
 mod command;
-mod compile;
-mod engine;
 mod files;
-mod one_task;
-mod outside;
+#[cfg(test)]
+mod image_tests;
 mod perform;
-mod play;
+#[cfg(test)]
+mod run_tests;
 #[cfg(test)]
 mod tests;
-#[cfg(test)]
-mod text_tests;
 
 use command::Cmd;
 use perform::Exit;
@@ -69,7 +70,7 @@ fn read_command(rt: &HostRuntime) -> Result<Cmd, Stop>
     Ok(command::command(rt.alloc(), &texts)?)
 }
 
-/// Reads the files of a command and carries it out, and gives what is to be printed.
+/// Reads the files of a command, carries it out, writes its file, and gives what is to be printed.
 fn carry_out(rt: &HostRuntime, cmd: &Cmd) -> Result<Vec<u8>, Exit>
     requires { HasBound cmd.now }
 {
@@ -81,6 +82,7 @@ fn carry_out(rt: &HostRuntime, cmd: &Cmd) -> Result<Vec<u8>, Exit>
     let mut file = Vec::new(rt.alloc());
     let mut out = Vec::new(rt.alloc());
     perform::perform(rt.alloc(), cmd, &inputs, &mut file, &mut out)?;
+    files::write_output(rt, cmd, &file)?;
     Ok(out)
 }
 

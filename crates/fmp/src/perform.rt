@@ -1,11 +1,12 @@
 //! Carrying out a command, from the bytes that were read to those that are to be written.
-ghost use Rattle.std.specs.Prelude.{◌≡◌, OnOk, OnErr, length, map};
-ghost use Rattle.fmp.specs.Commands.{HasBound, input_count};
-ghost use Rattle.fmp.specs.Performed.{CarriesOut, Checks, status_of};
+ghost use Rattle.std.specs.Prelude.{◌≡◌, ◌++◌, ℕ, List, OnOk, OnErr, IfErr, codes, decimal, length, map};
+ghost use Rattle.fmp_build.specs.Building.{IsBuildFault};
+ghost use Rattle.fmp_engine.specs.Simulations.{IsWhySim};
+ghost use Rattle.fmp.specs.Commands.{HasBound, IsBound, input_count};
+ghost use Rattle.fmp.specs.Performed.{BuildsFile, CarriesOut, Checks, IsWhyNoImage, IsWhyNoRun, IsWhyNot, IsWhyNotRun, RunsImage, RunsTexts, status_of};
 
 use crate::command::Cmd;
-use crate::engine;
-use crate::engine::RunFault;
+use fmp_engine::{SimFault, build_image, check, sim};
 use fmp_lex::BuildFault;
 use std::alloc::{AllocError, Global};
 use thiserror::Error;
@@ -26,9 +27,12 @@ pub const STORED_BOUND: u64 = 100_000;
 /// Why the program ends with nothing printed: its message is one line.
 #[derive(Debug, Drop, Error)]
 pub enum Exit {
-    /// One of the texts has a fault.
-    #[error(transparent)]
-    Fault(RunFault),
+    /// The texts build no image.
+    #[error("{0}")]
+    Build(BuildFault),
+    /// The image is not run.
+    #[error("{0}")]
+    Sim(SimFault),
     /// A file could not be read or written.
     #[error("file: {0}")]
     File(String),
@@ -43,29 +47,128 @@ impl Exit {
         ensures { result ≡ status_of self.now }
     {
         match self {
-            Exit::Fault(_) => 1,
+            Exit::Build(_) | Exit::Sim(_) => 1,
             Exit::File(_) | Exit::Memory(_) => 3,
         }
     }
 }
 
-/// Checks two texts, and appends `ok` where they have no fault.
-fn checked(alloc: Global, cfg: &[u8], src: &[u8], out: &mut Vec<u8>) -> Result<(), RunFault>
+/// The end of a program whose texts build no image.
+fn no_image(fault: BuildFault) -> Exit
+    ensures { (cfg src : List ℕ) → IsBuildFault cfg src fault → IsWhyNoImage cfg src result }
+{
+    match fault {
+        BuildFault::At(file, line, why) => Exit::Build(BuildFault::At(file, line, why)),
+        BuildFault::Memory => Exit::Memory(AllocError),
+    }
+}
+
+/// The end of a program that does not run an image.
+fn no_run(fault: SimFault) -> Exit
+    ensures { (image steps : List ℕ) → IsWhySim fault image steps → IsWhyNoRun image steps result }
+{
+    match fault {
+        SimFault::Load(fault) => Exit::Sim(SimFault::Load(fault)),
+        SimFault::NotYet => Exit::Sim(SimFault::NotYet),
+        SimFault::Steps(fault) => Exit::Sim(SimFault::Steps(fault)),
+        SimFault::Memory => Exit::Memory(AllocError),
+    }
+}
+
+/// Checks two texts, and appends `ok` where they build an image.
+fn checked(alloc: Global, cfg: &[u8], src: &[u8], out: &mut Vec<u8>) -> Result<(), Exit>
     ensures ok { OnOk result (Checks cfg.now src.now out.old.items out.new.items) }
+    ensures refused { IfErr result (IsWhyNoImage cfg.now src.now) }
     ensures err { OnErr result (out.new.items ≡ out.old.items) }
 {
-    match engine::check(alloc, cfg, src) {
-        Ok(()) => match out.extend_from_slice(b"ok\n") {
-            Ok(()) => Ok(()),
-            Err(_) => Err(RunFault::Memory),
-        },
-        Err(BuildFault::Memory) => Err(RunFault::Memory),
-        Err(fault) => Err(RunFault::Build(fault)),
+    match check(alloc, cfg, src) {
+        Ok(()) => {}
+        Err(fault) => return Err(no_image(fault)),
+    }
+    match out.extend_from_slice(b"ok\n") {
+        Ok(()) => Ok(()),
+        Err(error) => Err(Exit::Memory(error)),
+    }
+}
+
+/// Appends `ok` and the number of bytes of an image.
+fn append_size(alloc: Global, size: usize, out: &mut Vec<u8>) -> Result<(), AllocError>
+    ensures ok { OnOk result (out.new.items ≡ out.old.items ++ (codes "ok " ++ (decimal size ++ codes "\n"))) }
+    ensures err { OnErr result (out.new.items ≡ out.old.items) }
+{
+    let line = format!(in alloc; "ok {size}\n")?;
+    out.extend_from_slice(line.as_bytes())?;
+    Ok(())
+}
+
+/// Builds the image of two texts: the file gains its bytes, and what is printed says how many they are.
+fn built(
+    alloc: Global,
+    cfg: &[u8],
+    src: &[u8],
+    file: &mut Vec<u8>,
+    out: &mut Vec<u8>,
+) -> Result<(), Exit>
+    ensures ok { OnOk result (BuildsFile cfg.now src.now file.old.items file.new.items out.old.items out.new.items) }
+    ensures refused { IfErr result (IsWhyNoImage cfg.now src.now) }
+    ensures err { OnErr result ((file.new.items ≡ file.old.items) × (out.new.items ≡ out.old.items)) }
+{
+    let before = file.len();
+    match build_image(alloc, cfg, src, file) {
+        Ok(()) => {}
+        Err(fault) => return Err(no_image(fault)),
+    }
+    match append_size(alloc, file.len() - before, out) {
+        Ok(()) => Ok(()),
+        Err(error) => {
+            file.truncate(before);
+            Err(Exit::Memory(error))
+        }
+    }
+}
+
+/// Runs an image over steps, and appends what it prints.
+fn simulated(
+    alloc: Global,
+    image: &[u8],
+    steps: &[u8],
+    bound: u64,
+    out: &mut Vec<u8>,
+) -> Result<(), Exit>
+    requires { IsBound bound }
+    ensures ok { OnOk result (RunsImage image.now steps.now bound out.old.items out.new.items) }
+    ensures refused { IfErr result (IsWhyNoRun image.now steps.now) }
+    ensures err { OnErr result (out.new.items ≡ out.old.items) }
+{
+    match sim(alloc, image, steps, bound, out) {
+        Ok(()) => Ok(()),
+        Err(fault) => Err(no_run(fault)),
+    }
+}
+
+/// Builds two texts and runs their image over steps, and appends what the run prints.
+fn built_and_run(
+    alloc: Global,
+    cfg: &[u8],
+    src: &[u8],
+    steps: &[u8],
+    bound: u64,
+    out: &mut Vec<u8>,
+) -> Result<(), Exit>
+    requires { IsBound bound }
+    ensures ok { OnOk result (RunsTexts cfg.now src.now steps.now bound out.old.items out.new.items) }
+    ensures refused { IfErr result (IsWhyNotRun cfg.now src.now steps.now) }
+    ensures err { OnErr result (out.new.items ≡ out.old.items) }
+{
+    let mut image = Vec::new(alloc);
+    match build_image(alloc, cfg, src, &mut image) {
+        Ok(()) => simulated(alloc, &image, steps, bound, out),
+        Err(fault) => Err(no_image(fault)),
     }
 }
 
 /// Carries out a command on the bytes of its files, in order of its words: `file` and `out` gain what is to be
-/// written and printed. No command so far writes a file.
+/// written and printed. After an error neither has gained anything.
 pub fn perform(
     alloc: Global,
     cmd: &Cmd,
@@ -75,14 +178,15 @@ pub fn perform(
 ) -> Result<(), Exit>
     requires inputs { length inputs.now ≡ input_count cmd.now }
     requires bound { HasBound cmd.now }
-    ensures ok { OnOk result (CarriesOut cmd.now (map (λ s. s.now) inputs.now) out.old.items out.new.items) }
-    ensures err { OnErr result (out.new.items ≡ out.old.items) }
-    ensures file { file.new.items ≡ file.old.items }
+    ensures ok { OnOk result (CarriesOut cmd.now (map (λ s. s.now) inputs.now) file.old.items file.new.items out.old.items out.new.items) }
+    ensures refused { IfErr result (IsWhyNot cmd.now (map (λ s. s.now) inputs.now)) }
+    ensures err { OnErr result ((file.new.items ≡ file.old.items) × (out.new.items ≡ out.old.items)) }
 {
-    let ran = match cmd {
+    match cmd {
         Cmd::Check { .. } => checked(alloc, inputs[0], inputs[1], out),
-        Cmd::Run { bound, .. } => engine::run(alloc, inputs[0], inputs[1], inputs[2], *bound, out),
-        Cmd::Stored => engine::run(
+        Cmd::Build { .. } => built(alloc, inputs[0], inputs[1], file, out),
+        Cmd::Sim { bound, .. } => simulated(alloc, inputs[0], inputs[1], *bound, out),
+        Cmd::Stored => built_and_run(
             alloc,
             STORED_CONFIG.as_bytes(),
             STORED_TASKS.as_bytes(),
@@ -90,10 +194,5 @@ pub fn perform(
             STORED_BOUND,
             out,
         ),
-    };
-    match ran {
-        Ok(()) => Ok(()),
-        Err(RunFault::Memory) => Err(Exit::Memory(AllocError)),
-        Err(fault) => Err(Exit::Fault(fault)),
     }
 }

@@ -1,4 +1,4 @@
 use Rattle.fmp.proofs.perform.checked.Goals as goal
 
-pub returns-in-Ok-extend_from_slice-clause-ok : goal.returns-in-Ok-extend_from_slice-clause-ok
-returns-in-Ok-extend_from_slice-clause-ok c = record { texts = c.in-Ok.ensures.reads; text = c.in-Ok-extend_from_slice.ensures.items }
+pub returns-in-Err-clause-refused : goal.returns-in-Err-clause-refused
+returns-in-Err-clause-refused c = c.no_image.ensures c.args.cfg.now c.args.src.now c.in-Err.ensures.refuses

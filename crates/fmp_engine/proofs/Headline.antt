@@ -1,0 +1,31 @@
+-- What the image of two texts prints is what the texts mean.
+use Rattle.std.proofs.Common.{◌≡◌, ℕ, List, ◌++◌, Result, Ok, Err, OnOk, ap, subst, ◌∙◌}
+use Rattle.fmp_base.specs.declared.events.Event.{Event}
+use Rattle.fmp_base.specs.Texts.{whole_text}
+use Rattle.fmp_code.specs.Machine.{code_meaning}
+use Rattle.fmp_codegen.specs.Runs.{PrintsText}
+use Rattle.fmp_image.specs.Images.{ImageTables, Spells}
+use Rattle.fmp_image.proofs.ImageLaws.{one_image}
+use Rattle.fmp_tasklang.specs.Trees.{BodyTree}
+use Rattle.fmp_trace.specs.Steps.{steps_of}
+use Rattle.fmp_engine.specs.Simulations.{Simulates, PrintsTexts}
+
+pub prints_texts : (i : ImageTables) (bodies : List BodyTree) (image steps : List ℕ) (n : ℕ) (before after : List ℕ)
+    → Simulates image steps n before after → Spells i image → ((es : List Event) → PrintsText i.system bodies i.code n es)
+    → PrintsTexts i bodies steps n before after
+prints_texts i bodies image steps n before after s spelled law =
+    let same : s.loaded ≡ i = one_image s.loaded i image s.spelled spelled in
+    let like : PrintsText i.system bodies i.code n s.events = law s.events in
+    record {
+      events = s.events;
+      read = subst (λ (j : ImageTables). steps_of j.system.processors steps ≡ Ok s.events) same s.read;
+      finished = like.finished;
+      trace = like.trace;
+      finishes = like.finishes;
+      text = subst (λ (j : ImageTables). after ≡ before ++ whole_text j.system (code_meaning j.code) n s.events) same s.text
+          ∙ ap (λ (text : List ℕ). before ++ text) like.text;
+    }
+
+pub where_ok : {A E P Q : Type 0} (r : Result A E) → (P → Q) → OnOk r P → OnOk r Q
+where_ok (Ok a) f h = f h
+where_ok (Err e) f h = tt

@@ -1,0 +1,4 @@
+pub mod Entries
+pub mod Headline
+pub mod PlayLemmas
+pub mod StepLemmas

@@ -1,0 +1,118 @@
+-- One event of a run on a kernel, between what is printed and what is still to come.
+use Rattle.std.proofs.Common.{◌≡◌, refl, ℕ, ◌+◌, ◌<◌, ◌≤◌, List, ◌∷◌, ◌++◌, Option, Some, None, subst, sym, arith, ap, ◌∙◌, append_assoc, map, get_or, drop, length, add-one}
+use Rattle.std.proofs.Math.Seq.{drop-cons}
+use Rattle.fmp_base.specs.declared.events.Effect.TheVariants.{Done, Nothing}
+use Rattle.fmp_base.specs.declared.events.Event.{Event}
+use Rattle.fmp_base.specs.Meanings.{Meaning}
+use Rattle.fmp_base.specs.declared.events.TaskState.{TaskState}
+use Rattle.fmp_base.specs.Runs.{run, run_on, task_state}
+use Rattle.fmp_base.specs.Setups.{setup}
+use Rattle.fmp_base.specs.States.{KernelState, places_from}
+use Rattle.fmp_base.specs.Steps as steps
+use Rattle.fmp_base.specs.Steps.{effect_of, step}
+use Rattle.fmp_base.specs.Systems.{SystemTables}
+use Rattle.fmp_base.specs.Texts.{lines_text, events_text, states_text, whole_text}
+use Rattle.fmp_kernel.specs.KernelViews.{KernelView, view_of_setup, view_after}
+use Rattle.fmp_trace.specs.ListedStates.{listed_states_text}
+use Rattle.fmp_trace.proofs.ListedStates.{listed_states_are_states}
+use Rattle.fmp_engine.specs.Plays.{text_of_events, state_after, HasTaken}
+
+module _ {B C : Type 0} (meaning : B → Meaning C) where
+  abbrev step_of : KernelView B C → Event → Option (steps.Done C)
+  step_of k e = step k.system (meaning k.body) k.bound k.world e
+
+  done_here : (k : KernelView B C) (es : List Event) (o : Option (steps.Done C)) → Done ≡ effect_of o
+      → events_text k.system (k.done + 1) (run_on k.world o (λ w. run k.system (meaning k.body) k.bound w es)).events
+      ≡ lines_text k.system (view_after k o).done (view_after k o).lines ++ text_of_events meaning (view_after k o) es
+  done_here k es None h = absurd (cc)
+  done_here k es (Some d) h = refl
+
+  nothing_here : (k : KernelView B C) (es : List Event) (o : Option (steps.Done C)) → Nothing ≡ effect_of o
+      → events_text k.system (k.done + 1) (run_on k.world o (λ w. run k.system (meaning k.body) k.bound w es)).events
+      ≡ text_of_events meaning (view_after k o) es
+  nothing_here k es None h = refl
+  nothing_here k es (Some d) h = absurd (cc)
+
+  state_here : (k : KernelView B C) (es : List Event) (o : Option (steps.Done C))
+      → (run_on k.world o (λ w. run k.system (meaning k.body) k.bound w es)).world.state ≡ state_after meaning (view_after k o) es
+  state_here k es None = refl
+  state_here k es (Some d) = refl
+
+  system_here : (k : KernelView B C) (o : Option (steps.Done C)) → (view_after k o).system ≡ k.system
+  system_here k None = refl
+  system_here k (Some d) = refl
+
+  one_more : (k : KernelView B C) (o : Option (steps.Done C)) → (view_after k o).done ≤ k.done + 1
+  one_more k None = omega arith
+  one_more k (Some d) = omega arith
+
+  pub system-step : (k k' : KernelView B C) (e : Event) → k' ≡ view_after k (step_of k e) → k'.system ≡ k.system
+  system-step k k' e h = ap (λ (v : KernelView B C). v.system) h ∙ system_here k (step_of k e)
+
+  pub done-step : (k k' : KernelView B C) (e : Event) → k' ≡ view_after k (step_of k e) → k'.done ≤ k.done + 1
+  done-step k k' e h = subst (λ (v : KernelView B C). v.done ≤ k.done + 1) (sym h) (one_more k (step_of k e))
+
+  cut : (events : List Event) (i : ℕ) (d : Event) → i < length events → drop i events ≡ get_or events i d ∷ drop (i + 1) events
+  cut events i d h = rw add-one (drop-cons events i d h)
+
+  -- the state at the end stays that which was to come
+  pub state-step : (k k' : KernelView B C) (events : List Event) (i : ℕ) (d : Event) → i < length events
+      → k' ≡ view_after k (step_of k (get_or events i d)) → state_after meaning k' (drop (i + 1) events) ≡ state_after meaning k (drop i events)
+  state-step k k' events i d lt h =
+      ap (λ (v : KernelView B C). state_after meaning v (drop (i + 1) events)) h
+      ∙ sym (state_here k (drop (i + 1) events) (step_of k (get_or events i d)))
+      ∙ ap (λ (es : List Event). state_after meaning k es) (sym (cut events i d lt))
+
+  -- an event that did something: its lines have been printed
+  pub text-done : (sys : SystemTables) (k k' : KernelView B C) (events : List Event) (i : ℕ) (d : Event) (out wrote total : List ℕ)
+      → i < length events → k.system ≡ sys → Done ≡ effect_of (step_of k (get_or events i d))
+      → k' ≡ view_after k (step_of k (get_or events i d)) → wrote ≡ out ++ lines_text sys k'.done k'.lines
+      → out ++ text_of_events meaning k (drop i events) ≡ total → wrote ++ text_of_events meaning k' (drop (i + 1) events) ≡ total
+  text-done sys k k' events i d out wrote total lt same e h w so_far =
+      let o : Option (steps.Done C) = step_of k (get_or events i d) in
+      let rest : List Event = drop (i + 1) events in
+      let here : text_of_events meaning k (drop i events) ≡ lines_text k.system (view_after k o).done (view_after k o).lines ++ text_of_events meaning (view_after k o) rest =
+      ap (λ (es : List Event). text_of_events meaning k es) (cut events i d lt) ∙ done_here k rest o e in
+      let named : lines_text k.system (view_after k o).done (view_after k o).lines ++ text_of_events meaning (view_after k o) rest ≡ lines_text sys k'.done k'.lines ++ text_of_events meaning k' rest =
+      ap (λ (s : SystemTables). lines_text s (view_after k o).done (view_after k o).lines ++ text_of_events meaning (view_after k o) rest) same
+      ∙ ap (λ (v : KernelView B C). lines_text sys v.done v.lines ++ text_of_events meaning v rest) (sym h) in
+      ap (λ (q : List ℕ). q ++ text_of_events meaning k' rest) w
+      ∙ append_assoc out (lines_text sys k'.done k'.lines) (text_of_events meaning k' rest)
+      ∙ ap (λ (q : List ℕ). out ++ q) (sym (here ∙ named)) ∙ so_far
+
+  -- an event that did nothing
+  pub text-nothing : (k k' : KernelView B C) (events : List Event) (i : ℕ) (d : Event) (out total : List ℕ)
+      → i < length events → Nothing ≡ effect_of (step_of k (get_or events i d)) → k' ≡ view_after k (step_of k (get_or events i d))
+      → out ++ text_of_events meaning k (drop i events) ≡ total → out ++ text_of_events meaning k' (drop (i + 1) events) ≡ total
+  text-nothing k k' events i d out total lt e h so_far =
+      let o : Option (steps.Done C) = step_of k (get_or events i d) in
+      let here : text_of_events meaning k (drop i events) ≡ text_of_events meaning (view_after k o) (drop (i + 1) events) =
+      ap (λ (es : List Event). text_of_events meaning k es) (cut events i d lt) ∙ nothing_here k (drop (i + 1) events) o e in
+      ap (λ (v : KernelView B C). out ++ text_of_events meaning v (drop (i + 1) events)) h
+      ∙ ap (λ (q : List ℕ). out ++ q) (sym here) ∙ so_far
+
+  whole_here : (body : B) (n : ℕ) (sys : SystemTables) (k' : KernelView B C) (es : List Event) (first middle last : List ℕ) (xs : List TaskState)
+      → first ≡ lines_text sys 0 (setup sys (meaning body)).lines
+      → HasTaken meaning (view_of_setup body n sys (setup sys (meaning body))) k' es first middle
+      → xs ≡ map (task_state k'.world.state) (places_from 0 (length sys.tasks)) → last ≡ middle ++ listed_states_text sys 0 xs
+      → last ≡ whole_text sys (meaning body) n es
+  whole_here body n sys k' es first middle last xs p t q r =
+      let d = setup sys (meaning body) in
+      let events : List ℕ = events_text sys 1 (run sys (meaning body) n d.world es).events in
+      let end : KernelState = (run sys (meaning body) n d.world es).world.state in
+      r ∙ ap (λ (ys : List TaskState). middle ++ listed_states_text sys 0 ys) q
+      ∙ ap (λ (text : List ℕ). middle ++ text) (listed_states_are_states sys k'.world.state)
+      ∙ ap (λ (s : KernelState). middle ++ states_text sys s) t.state
+      ∙ ap (λ (text : List ℕ). text ++ states_text sys end) t.printed
+      ∙ ap (λ (text : List ℕ). (text ++ events) ++ states_text sys end) p
+      ∙ append_assoc (lines_text sys 0 d.lines) events (states_text sys end)
+
+  -- setup's lines, the events and the states at the end are the whole text
+  pub whole : (body : B) (n : ℕ) (sys : SystemTables) (k k' : KernelView B C) (es : List Event) (first middle last : List ℕ) (xs : List TaskState)
+      → k ≡ view_of_setup body n sys (setup sys (meaning body)) → first ≡ lines_text sys 0 k.lines
+      → HasTaken meaning k k' es first middle → xs ≡ map (task_state k'.world.state) (places_from 0 (length sys.tasks))
+      → last ≡ middle ++ listed_states_text sys 0 xs → last ≡ whole_text sys (meaning body) n es
+  whole body n sys k k' es first middle last xs h p t q r =
+      whole_here body n sys k' es first middle last xs
+      (p ∙ ap (λ (v : KernelView B C). lines_text sys 0 v.lines) h)
+      (subst (λ (v : KernelView B C). HasTaken meaning v k' es first middle) h t) q r

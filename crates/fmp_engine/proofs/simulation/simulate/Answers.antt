@@ -1,0 +1,12 @@
+use Rattle.std.proofs.Common.{subst, sym}
+use Rattle.fmp_engine.proofs.Entries.{entered}
+use Rattle.fmp_engine.proofs.StepLemmas.{few_events}
+use Rattle.fmp_engine.proofs.simulation.simulate.Goals as goal
+
+pub play-requires-clause-entries : goal.play-requires-clause-entries
+play-requires-clause-entries c =
+    rw c.vm.ensures (rw c.system-system.ensures (entered c.in-Ok.image c.in-Ok.ensures.found.lawful))
+
+pub play-requires-clause-few : goal.play-requires-clause-few
+play-requires-clause-few c =
+    rw c.deref.ensures.value (few_events c.system-system.result.now.processors c.args.steps.now c.in-Ok-read_steps.events.items c.in-Ok-read_steps.ensures.ok)

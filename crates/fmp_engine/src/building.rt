@@ -1,0 +1,46 @@
+//! From the two texts of a system to the bytes of its image.
+
+ghost use Rattle.std.specs.Prelude.{◌≡◌, IfErr, IfOk, OnErr, OnOk};
+ghost use Rattle.fmp_build.specs.Building.{IsBuildFault};
+ghost use Rattle.fmp_engine.specs.Built.{AppendsImage, CanBuild};
+
+use fmp_build::build;
+use fmp_image::store;
+use fmp_lex::BuildFault;
+use std::alloc::Global;
+
+/// Checks that two texts, a configuration and the bodies of its tasks and handlers, build an image.
+pub fn check(alloc: Global, cfg: &[u8], src: &[u8]) -> Result<(), BuildFault>
+    ensures builds { IfOk result (λ _. CanBuild cfg.now src.now) }
+    ensures refuses { IfErr result (IsBuildFault cfg.now src.now) }
+{
+    match build(alloc, cfg, src) {
+        Ok(_) => Ok(()),
+        Err(fault) => Err(fault),
+    }
+}
+
+/// Builds the image of two texts, a configuration and the bodies of its tasks and handlers, and appends its bytes.
+/// After an error nothing has been appended.
+pub fn build_image(
+    alloc: Global,
+    cfg: &[u8],
+    src: &[u8],
+    out: &mut Vec<u8>,
+) -> Result<(), BuildFault>
+    ensures ok { OnOk result (AppendsImage cfg.now src.now out.old.items out.new.items) }
+    ensures refused { IfErr result (IsBuildFault cfg.now src.now) }
+    ensures err { OnErr result (out.new.items ≡ out.old.items) }
+{
+    let image = match build(alloc, cfg, src) {
+        Ok(image) => image,
+        Err(fault) => return Err(fault),
+    };
+    let Ok(bytes) = store(alloc, &image) else {
+        return Err(BuildFault::Memory);
+    };
+    match out.extend_from_slice(&bytes) {
+        Ok(()) => Ok(()),
+        Err(_) => Err(BuildFault::Memory),
+    }
+}
