@@ -1,0 +1,121 @@
+#!/bin/bash
+# Times the proved program on systems and texts that this script makes, and prints a table.
+#
+#   bench/run.sh [RUNS]     RUNS is how often each is run, 5 where it is not given; the least time of each is printed
+#
+# It wants the program as `rt run` leaves it in crates/fmp/out, and builds it where it is not there.
+set -euo pipefail
+root=$(cd "$(dirname "$0")/.." && pwd)
+runs=${1:-5}
+fmp=$root/crates/fmp/out/fmp
+[ -x "$fmp" ] || (cd "$root/crates/fmp" && rt run > /dev/null)
+room=$(mktemp -d)
+trap 'rm -rf "$room"' EXIT
+cd "$room"
+
+events=1048576
+
+# So many lines of a step.
+repeated() { awk -v count="$1" -v step="$2" 'BEGIN { for (i = 0; i < count; i++) print step }'; }
+
+# A configuration of one processor around the static APIs on standard input.
+configuration() { echo 'NUM_PRC(1);'; echo 'CLASS(TCL_1) {'; cat; echo '}'; }
+
+# Two tasks that hand a semaphore back and forth.
+two_tasks() {
+    configuration > two_tasks.cfg <<'TEXT'
+CRE_TSK(A,{TA_ACT,0,a,10,256,NULL});
+CRE_TSK(B,{TA_ACT,0,b,10,256,NULL});
+CRE_SEM(P,{TA_TFIFO,0,1});
+CRE_SEM(Q,{TA_TFIFO,0,1});
+TEXT
+    cat > two_tasks.src <<'TEXT'
+task a { while (1) { sig_sem(Q); wai_sem(P); } }
+task b { while (1) { wai_sem(Q); sig_sem(P); } }
+TEXT
+    repeated $events 'run 1' > two_tasks.steps
+}
+
+# 255 tasks of one priority that take turns.
+rotation() {
+    awk 'BEGIN { for (i = 1; i <= 255; i++) printf "CRE_TSK(T%d,{TA_ACT,0,t,10,256,NULL});\n", i }' | configuration > rotation.cfg
+    echo 'task t { while (1) { rot_rdq(10); } }' > rotation.src
+    repeated $events 'run 1' > rotation.steps
+}
+
+# 255 tasks with different delays: a tick after each six calls.
+delays() {
+    awk 'BEGIN { for (i = 1; i <= 255; i++) printf "CRE_TSK(T%d,{TA_ACT,%d,t,10,256,NULL});\n", i, i }' | configuration > delays.cfg
+    echo 'task t { while (1) { dly_tsk(exinf); } }' > delays.src
+    awk -v count=$events 'BEGIN { for (i = 0; i < count; i++) print i % 7 == 6 ? "tick" : "run 1" }' > delays.steps
+}
+
+# 254 tasks of different priorities that wait for a semaphore in order of priority, and one that changes them and signals.
+priorities() {
+    awk 'BEGIN {
+        print "CRE_TSK(D,{TA_ACT,0,driver,16,256,NULL});"
+        for (i = 2; i <= 255; i++) printf "CRE_TSK(T%d,{TA_ACT,0,waiter,%d,256,NULL});\n", i, i % 15 + 1
+        print "CRE_SEM(S,{TA_TPRI,0,255});" }' | configuration > priorities.cfg
+    cat > priorities.src <<'TEXT'
+task driver { var i; while (1) { i = i % 254 + 1; chg_pri(i + 1, i * 7 % 15 + 1); sig_sem(S); } }
+task waiter { while (1) { wai_sem(S); } }
+TEXT
+    repeated $events 'run 1' > priorities.steps
+}
+
+# One stretch of arithmetic: 15 instructions a turn.
+turns=20000000
+arithmetic() {
+    echo 'CRE_TSK(T,{TA_ACT,0,t,10,256,NULL});' | configuration > arithmetic.cfg
+    echo "task t { var i; var s; while (i < $turns) { s = s ^ i * 3; i = i + 1; } put(s); }" > arithmetic.src
+    echo 'run 1' > arithmetic.steps
+}
+
+# A text of so many bodies, each of just under 256 KiB, and no steps.
+text() {
+    echo 'CRE_TSK(T,{TA_ACT,0,b0,10,256,NULL});' | configuration > "text$1.cfg"
+    awk -v bodies="$1" 'BEGIN {
+        for (b = 0; b < bodies; b++) {
+            printf "task b%d {\n", b
+            for (i = 0; i < 32762; i++) print "put(1);"
+            print "}"
+        } }' > "text$1.src"
+    : > "text$1.steps"
+}
+
+# The least real, user and system times of a command, in seconds.
+best() {
+    local TIMEFORMAT='%R %U %S'
+    for _ in $(seq "$runs"); do
+        { time "$@" > output 2> errors; } 2>> times
+    done
+    sort -n times | head -n 1
+    rm times
+}
+
+# A row of the table: a name, what was counted, how many, and the times.
+row() {
+    awk -v name="$1" -v unit="$2" -v count="$3" -v times="$4" 'BEGIN {
+        split(times, t, " ")
+        spent = t[2] + t[3]
+        printf "| %s | %d %s | %.3f | %.3f | %.3f | %.1f million %s |\n", name, count, unit, t[1], t[2], t[3], count / (spent > 0 ? spent : 0.001) / 1000000, unit }'
+}
+
+build() { "$fmp" build "$1.cfg" "$1.src" "$1.img"; }
+simulate() { "$fmp" sim "$1.img" "$1.steps" --bound 281474976710656; }
+
+echo '| What | Size | Real s | User s | System s | A second of user and system time |'
+echo '|---|---|---|---|---|---|'
+for it in two_tasks rotation delays priorities; do
+    $it
+    build $it > output
+    row "\`sim\`: ${it//_/ }" events $events "$(best simulate $it)"
+done
+arithmetic
+build arithmetic > output
+row '`sim`: arithmetic' instructions $((15 * turns)) "$(best simulate arithmetic)"
+for bodies in 1 2 4; do
+    text $bodies
+    row '`build`: task text' bytes "$(wc -c < text$bodies.src)" "$(best build text$bodies)"
+    row '`sim`: its image, no steps' bytes "$(wc -c < text$bodies.img)" "$(best simulate text$bodies)"
+done

@@ -1,0 +1,49 @@
+/* Stands in front of the C library's allocator and refuses one allocation: that whose number, from 1, REFUSE_AT gives.
+   At the end it writes how many were asked for into the file that REFUSE_LOG names. */
+#define _GNU_SOURCE
+#include <errno.h>
+#include <stddef.h>
+#include <stdio.h>
+#include <stdlib.h>
+
+extern void *__libc_malloc(size_t);
+extern void *__libc_calloc(size_t, size_t);
+extern void *__libc_realloc(void *, size_t);
+extern void *__libc_memalign(size_t, size_t);
+
+static long asked, refused_at = -1;
+
+static int is_refused(void) {
+    if (refused_at < 0) {
+        const char *at = getenv("REFUSE_AT");
+        refused_at = at ? atol(at) : 0;
+    }
+    asked += 1;
+    return asked == refused_at;
+}
+
+void *malloc(size_t size) { return is_refused() ? NULL : __libc_malloc(size); }
+
+void *calloc(size_t count, size_t size) { return is_refused() ? NULL : __libc_calloc(count, size); }
+
+void *realloc(void *old, size_t size) { return is_refused() ? NULL : __libc_realloc(old, size); }
+
+void *aligned_alloc(size_t alignment, size_t size) {
+    return is_refused() ? NULL : __libc_memalign(alignment, size);
+}
+
+int posix_memalign(void **result, size_t alignment, size_t size) {
+    void *made = is_refused() ? NULL : __libc_memalign(alignment, size);
+    if (made == NULL) return ENOMEM;
+    *result = made;
+    return 0;
+}
+
+__attribute__((destructor)) static void tell(void) {
+    const char *name = getenv("REFUSE_LOG");
+    long count = asked;
+    FILE *log = name ? fopen(name, "w") : NULL;
+    if (log == NULL) return;
+    fprintf(log, "%ld\n", count);
+    fclose(log);
+}

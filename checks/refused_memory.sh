@@ -1,0 +1,106 @@
+#!/bin/bash
+# Refuses each allocation of the proved program in turn, for each of its commands: it must then answer `memory` with status
+# 3, print nothing and write no image, or else answer as it does with memory. Then it counts the allocations of longer and
+# longer runs: events take none, so only the growth of the list of events and of the trace is seen.
+#
+#   checks/refused_memory.sh
+#
+# It wants a C compiler and the GNU C library, and the program as `rt run` leaves it in crates/fmp/out.
+set -euo pipefail
+root=$(cd "$(dirname "$0")/.." && pwd)
+fmp=$root/crates/fmp/out/fmp
+[ -x "$fmp" ] || (cd "$root/crates/fmp" && rt run > /dev/null)
+room=$(mktemp -d)
+trap 'rm -rf "$room"' EXIT
+cd "$room"
+"${CC:-cc}" -O1 -shared -fPIC -o refuse.so "$root/checks/refuse_memory.c"
+
+cat > system.cfg <<'TEXT'
+NUM_PRC(1);
+CLASS(TCL_1) {
+CRE_TSK(M,{TA_ACT,0,m,10,256,NULL});
+CRE_TSK(A,{0,3,a,5,256,NULL});
+CRE_SEM(S,{TA_TPRI,0,2});
+CRE_FLG(F,{TA_WMUL|TA_CLR,0});
+CRE_DTQ(Q,{TA_TFIFO,2,NULL});
+CRE_MBX(X,{TA_MPRI,3,NULL});
+CRE_MSG(G,{2});
+CRE_SHR(W,{-7});
+}
+TEXT
+cat > system.src <<'TEXT'
+task m {
+    var i;
+    act_tsk(A);
+    while (i < 3) { snd_dtq(Q, i * 2); sig_sem(S); i = i + 1; }
+    snd_mbx(X, G); set_flg(F, 5); dly_tsk(2);
+    if (i == 3 && !(i < 0)) { st_shr(W, i | 8); } else { return; }
+}
+task a { var v; var c; c = rcv_dtq(Q, &v); put(v); wai_sem(S); put(c); ld_shr(W, &v); put(v); }
+TEXT
+{ for _ in $(seq 12); do echo 'run 1'; done; for _ in $(seq 4); do echo tick; echo 'run 1'; done; } > system.steps
+sed 's/A,{0,3/A,{9,3/' system.cfg > fault.cfg
+sed 's/put(c)/put(d)/' system.src > fault.src
+"$fmp" build system.cfg system.src system.img > /dev/null
+head -c 100 system.img > short.img
+sed 's/tick/tock/' system.steps > fault.steps
+
+# One run of a command, with an allocation refused or none (0): its status, its output and its image.
+answer() {
+    local at=$1 status=0
+    shift
+    rm -f made.img
+    REFUSE_AT=$at REFUSE_LOG=asked LD_PRELOAD=$room/refuse.so "$fmp" "$@" > output 2> errors || status=$?
+    echo "$status"
+    cat output errors
+    if [ -e made.img ]; then cksum < made.img; fi
+}
+
+memory=$(printf '3\nmemory')
+failed=0
+
+# Each allocation of a command in turn, until it asks for fewer.
+each_refused() {
+    local whole at=1 said
+    whole=$(answer 0 "$@")
+    while said=$(answer $at "$@"); [ "$at" -le "$(cat asked)" ]; do
+        if [ "$said" != "$memory" ] && [ "$said" != "$whole" ]; then
+            echo "fmp $*: allocation $at refused: $said"
+            failed=1
+        fi
+        at=$((at + 1))
+    done
+    [ "$said" = "$whole" ] || { echo "fmp $*: not as with memory: $said"; failed=1; }
+    echo "fmp $*: $((at - 1)) allocations refused in turn"
+}
+
+each_refused
+each_refused check system.cfg system.src
+each_refused check fault.cfg system.src
+each_refused check system.cfg fault.src
+each_refused build system.cfg system.src made.img
+each_refused build system.cfg fault.src made.img
+each_refused sim system.img system.steps
+each_refused sim short.img system.steps
+each_refused sim system.img fault.steps
+
+cat > turns.cfg <<'TEXT'
+NUM_PRC(1);
+CLASS(TCL_1) {
+CRE_TSK(A,{TA_ACT,0,a,10,256,NULL});
+CRE_TSK(B,{TA_ACT,0,b,10,256,NULL});
+CRE_SEM(P,{TA_TFIFO,0,1});
+CRE_SEM(Q,{TA_TFIFO,0,1});
+}
+TEXT
+cat > turns.src <<'TEXT'
+task a { while (1) { sig_sem(Q); wai_sem(P); } }
+task b { while (1) { wai_sem(Q); sig_sem(P); } }
+TEXT
+"$fmp" build turns.cfg turns.src turns.img > /dev/null
+for events in 1024 4096 16384 65536 262144 1048576; do
+    awk -v count=$events 'BEGIN { for (i = 0; i < count; i++) print "run 1" }' > turns.steps
+    answer 0 sim turns.img turns.steps > /dev/null
+    echo "$events events: $(cat asked) allocations"
+done
+exit $failed
