@@ -1,17 +1,17 @@
 -- The body of each task of an image is there.
-use Rattle.std.proofs.Common.{◌≡◌, refl, ℕ, zero, suc, ◌+◌, ◌<◌, List, [], ◌∷◌, Option, Some, None, Bool, true, false, ◌&&◌, length, arith, subst, sym}
+use Rattle.std.proofs.Common.{◌≡◌, refl, ℕ, zero, suc, ◌<◌, List, [], ◌∷◌, Option, Some, None, Bool, true, false, ◌&&◌, length, arith, subst}
 use Rattle.std.specs.Prelude.{slice_get}
 use Rattle.std.specs.List.{AllByRecursion}
 use Rattle.std.proofs.lemmas.Option.{slice_get_within}
 use Rattle.fmp_base.specs.declared.systems.TaskConfig.{TaskConfig}
 use Rattle.fmp_base.specs.Meanings.{task_body}
-use Rattle.fmp_base.specs.Systems.{SystemTables, body_of, found}
+use Rattle.fmp_base.specs.Systems.{body_of, found}
 use Rattle.fmp_code.specs.Instructions.{BodyTables}
 use Rattle.fmp_image.specs.declared.heads.BodyHead.{BodyHead}
 use Rattle.fmp_image.specs.Bodies.{IsBody}
 use Rattle.fmp_image.specs.Images.{ImageTables, IsImage}
 use Rattle.fmp_image.specs.Keys.{is_name}
-use Rattle.fmp_image.specs.Rows.{Frame, frame_of, row, task_form, task_numbers, task_rules, is_task_body, in_range}
+use Rattle.fmp_image.specs.Rows.{Frame, frame_of, row, task_form, is_task_body}
 use Rattle.fmp_image.proofs.PairLists.{same_length}
 use Rattle.fmp_kernel.specs.Contexts.{Entered}
 use Rattle.fmp_base.specs.Names.{name_text}

@@ -1,11 +1,13 @@
 //! A run of a system on the kernel, and its text.
 
-ghost use Rattle.std.specs.Prelude.{◌≡◌, ◌+◌, ◌++◌, ◌<◌, ◌≤◌, ◌^◌, length, map, OnOk, OnErr, IfOk};
+ghost use Rattle.std.specs.Prelude.{◌≡◌, ℕ, ◌+◌, ◌++◌, ◌<◌, ◌≤◌, ◌^◌, length, map, OnOk, OnErr, IfOk};
 ghost use Rattle.fmp_base.specs.Runs.{task_state};
+ghost use Rattle.fmp_base.specs.Setups.{setup};
 ghost use Rattle.fmp_base.specs.States.{places_from};
 ghost use Rattle.fmp_base.specs.Systems.{tables_of};
 ghost use Rattle.fmp_base.specs.Texts.{whole_text};
 ghost use Rattle.fmp_kernel.specs.Contexts.{Entered};
+ghost use Rattle.fmp_kernel.specs.KernelViews.{view_of_setup};
 ghost use Rattle.fmp_kernel.specs.Stages.{IsInStage};
 ghost use Rattle.fmp_engine.specs.Plays.{HasTaken};
 
@@ -51,7 +53,31 @@ fn states<B: Body>(
     Ok(xs)
 }
 
-/// The text of a run: the lines of setup and of the events that did something, and the states at the end.
+/// The text of a run of a kernel after setup: its lines, those of the events that did something, and the states at the end.
+fn text_from_setup<B: Body>(
+    alloc: Global,
+    sys: &System,
+    kernel: &mut Kernel<B>,
+    events: &[Event],
+) -> Result<Vec<u8>, AllocError>
+    requires system { kernel.old.system ≡ tables_of sys.now }
+    requires fresh { kernel.old.done ≡ 0 }
+    requires tasks { length sys.now.tasks.items ≤ 255 }
+    requires few { length events.now ≤ 2 ^ 20 }
+    ensures { (body : B) (n : ℕ) →
+        kernel.old ≡ view_of_setup body n (tables_of sys.now) (setup (tables_of sys.now) (B.meaning body)) →
+        IfOk result (λ text. text.items ≡ whole_text (tables_of sys.now) (B.meaning body) n events.now) }
+{
+    let mut text = Vec::new(alloc);
+    let count = sys.tasks.len() as u8;
+    print(sys, 0, kernel.lines(), &mut text)?;
+    take(sys, kernel, events, &mut text)?;
+    let states = states(alloc, kernel, count)?;
+    print_states(sys, states.as_slice(), &mut text)?;
+    Ok(text)
+}
+
+/// The text of a run of a system over events.
 fn text_of_run<B: Body + Drop>(
     alloc: Global,
     sys: &System,
@@ -66,17 +92,10 @@ fn text_of_run<B: Body + Drop>(
     requires few { length events.now ≤ 2 ^ 20 }
     ensures { IfOk result (λ text. text.items ≡ whole_text (tables_of sys.now) (B.meaning body) n events.now) }
 {
-    let mut text = Vec::new(alloc);
-    let count = sys.tasks.len() as u8;
-    let mut kernel = match Kernel::new(alloc, body, sys, n) {
-        Ok(kernel) => kernel,
-        Err(_) => return Err(AllocError),
-    };
-    print(sys, 0, kernel.lines(), &mut text)?;
-    take(sys, &mut kernel, events, &mut text)?;
-    let states = states(alloc, &kernel, count)?;
-    print_states(sys, states.as_slice(), &mut text)?;
-    Ok(text)
+    match Kernel::new(alloc, body, sys, n) {
+        Ok(mut kernel) => text_from_setup(alloc, sys, &mut kernel, events),
+        Err(_) => Err(AllocError),
+    }
 }
 
 /// Runs a system over events within n units a stretch, and appends all that it prints. Want of memory is the only

@@ -1,4 +1,3 @@
-use Rattle.std.proofs.Common.{subst, sym}
 use Rattle.fmp_engine.proofs.Entries.{entered}
 use Rattle.fmp_engine.proofs.StepLemmas.{few_events}
 use Rattle.fmp_engine.proofs.simulation.simulate.Goals as goal
