@@ -101,6 +101,13 @@ TEXT
 for events in 1024 4096 16384 65536 262144 1048576; do
     awk -v count=$events 'BEGIN { for (i = 0; i < count; i++) print "run 1" }' > turns.steps
     answer 0 sim turns.img turns.steps > /dev/null
-    echo "$events events: $(cat asked) allocations"
+    now=$(cat asked)
+    echo "$events events: $now allocations"
+    # two doublings each of the bytes of the steps, the events and the trace
+    if [ "${before:-$now}" -lt $((now - 6)) ]; then
+        echo "events take memory"
+        failed=1
+    fi
+    before=$now
 done
 exit $failed
