@@ -3,7 +3,7 @@
 
     checks/compare.py [COUNT] [SEED]
 
-makes COUNT systems (300), one from each seed from SEED (1) on: a configuration, the bodies of its tasks and a
+makes COUNT systems (2000), one from each seed from SEED (1) on: a configuration, the bodies of its tasks and a
 list of steps. The program builds and runs each. Its whole trace and the states at the end must be those of
 model.py, which is written from the rules of the service calls and shares nothing with the program.
 
@@ -107,7 +107,7 @@ class Generator:
         }
 
     def case(self):
-        task_count = self.random.randint(1, 6)
+        task_count = self.random.randint(2, 6)
         body_count = self.random.randint(1, 4)
         class_name = self.random.choice(("TCL_1", "TCL_1_ONLY"))
         system = System(
@@ -129,19 +129,19 @@ class Generator:
         system.bodies = [self.body(favoured) for _ in range(body_count)]
         configuration = f"NUM_PRC(1);\nCLASS({class_name}) {{\n" + "\n".join(self.apis) + "\n}\n"
         source = "".join(body_text(index, body) for index, body in enumerate(system.bodies))
-        steps = [self.step() for _ in range(self.random.randint(5, 80))]
+        steps = [self.step() for _ in range(self.random.randint(40, 160))]
         return Case(system, configuration, source, steps)
 
     def chance(self, share):
         return self.random.random() < share
 
     def some(self, most, make):
-        return [make(number) for number in range(1, self.random.randint(0, most) + 1)]
+        return [make(number) for number in range(1, self.random.randint(1, most) + 1)]
 
     # Objects: each of these adds a static API and gives the model's object
 
     def task(self, number, body_count):
-        starts = self.chance(0.6)
+        starts = self.chance(0.8)
         priority = self.random.choice((1, 5, 5, 10, 10, 16, self.random.randint(1, 16)))
         body = self.random.randrange(body_count)
         exinf = self.random.randint(-3, 7)
@@ -188,7 +188,7 @@ class Generator:
     # Bodies
 
     def body(self, favoured):
-        return [self.call(favoured) for _ in range(self.random.randint(1, 9))]
+        return [self.call(favoured) for _ in range(self.random.randint(4, 24))]
 
     def call(self, favoured):
         groups = favoured if self.chance(0.85) else list(GROUPS)
@@ -207,9 +207,9 @@ class Generator:
         return self.object_number(self.counts[kind]) if kind in self.counts else int(kind)
 
     def object_number(self, count):
-        if self.chance(0.06):
+        if self.chance(0.03):
             return self.random.choice((-1, count + 1))
-        least = 0 if self.chance(0.1) else 1
+        least = 0 if self.chance(0.03) else 1
         return self.random.randint(least, max(1, count))
 
     def task_number(self):
@@ -312,7 +312,7 @@ def compare(count, seed, folder):
 
 def main():
     parser = argparse.ArgumentParser(description="Compares the program with a model on random systems.")
-    parser.add_argument("count", metavar="COUNT", nargs="?", type=int, default=300, help="systems (300)")
+    parser.add_argument("count", metavar="COUNT", nargs="?", type=int, default=2000, help="systems (2000)")
     parser.add_argument("seed", metavar="SEED", nargs="?", type=int, default=1, help="the first seed (1)")
     options = parser.parse_args()
     if options.count < 1:
