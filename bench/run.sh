@@ -23,16 +23,8 @@ configuration() { echo 'NUM_PRC(1);'; echo 'CLASS(TCL_1) {'; cat; echo '}'; }
 
 # Two tasks that hand a semaphore back and forth.
 two_tasks() {
-    configuration > two_tasks.cfg <<'TEXT'
-CRE_TSK(A,{TA_ACT,0,a,10,256,NULL});
-CRE_TSK(B,{TA_ACT,0,b,10,256,NULL});
-CRE_SEM(P,{TA_TFIFO,0,1});
-CRE_SEM(Q,{TA_TFIFO,0,1});
-TEXT
-    cat > two_tasks.src <<'TEXT'
-task a { while (1) { sig_sem(Q); wai_sem(P); } }
-task b { while (1) { wai_sem(Q); sig_sem(P); } }
-TEXT
+    cp "$root/examples/semaphore.cfg" two_tasks.cfg
+    cp "$root/examples/semaphore.src" two_tasks.src
     repeated $events 'run 1' > two_tasks.steps
 }
 

@@ -84,20 +84,7 @@ each_refused sim system.img system.steps
 each_refused sim short.img system.steps
 each_refused sim system.img fault.steps
 
-cat > turns.cfg <<'TEXT'
-NUM_PRC(1);
-CLASS(TCL_1) {
-CRE_TSK(A,{TA_ACT,0,a,10,256,NULL});
-CRE_TSK(B,{TA_ACT,0,b,10,256,NULL});
-CRE_SEM(P,{TA_TFIFO,0,1});
-CRE_SEM(Q,{TA_TFIFO,0,1});
-}
-TEXT
-cat > turns.src <<'TEXT'
-task a { while (1) { sig_sem(Q); wai_sem(P); } }
-task b { while (1) { wai_sem(Q); sig_sem(P); } }
-TEXT
-"$fmp" build turns.cfg turns.src turns.img > /dev/null
+"$fmp" build "$root/examples/semaphore.cfg" "$root/examples/semaphore.src" turns.img > /dev/null
 for events in 1024 4096 16384 65536 262144 1048576; do
     awk -v count=$events 'BEGIN { for (i = 0; i < count; i++) print "run 1" }' > turns.steps
     answer 0 sim turns.img turns.steps > /dev/null

@@ -1,4 +1,5 @@
-use crate::texts::{compiled, text_of};
+use crate::compile_alone;
+use crate::texts::text_of;
 use fmp_base::Name;
 use fmp_code::{Code, verify};
 use fmp_codegen::{EntryUse, check_entries};
@@ -45,14 +46,14 @@ fn listed(alloc: Global, code: &Code) -> Result<String, Fail> {
 
 #[test]
 fn compiles_to_twelve_instructions(rt: HostRuntime) -> Result<(), Fail> {
-    let code = compiled(rt.alloc(), WORKED)?;
+    let code = compile_alone(rt.alloc(), WORKED.as_bytes())?;
     assert!(rt; verify(&code));
     assert_eq!(rt; listed(rt.alloc(), &code)?.as_str(), WORKED_CODE);
     Ok(())
 }
 
 fn sizes(alloc: Global, text: &str) -> Result<String, Fail> {
-    match compiled(alloc, text) {
+    match compile_alone(alloc, text.as_bytes()) {
         Ok(code) => {
             let body = code.bodies.first().ok_or("a body")?;
             let deepest = body.depths.iter().max().copied().ok_or("an instruction")?;

@@ -1,5 +1,10 @@
-//! Rows of texts: what the readers, the compiler, the machine, images and the printer answer.
+//! Rows of texts: what the readers, the compiler, the machine, images and the printer answer. Those of the compiler and
+//! of the machine are task texts that use no objects.
 #![tactic(auto)]
+
+mod alone;
+
+pub use alone::compile_alone;
 
 #[cfg(test)]
 mod compiling;

@@ -1,4 +1,4 @@
-use crate::texts::compiled;
+use crate::compile_alone;
 use fmp_base::{Call, Er, Fault, Reply, Stretch, UnaryOperator};
 use fmp_body::Body;
 use fmp_code::{BodyCode, Code, Instruction, Vm, apply_unary, keeps_table, verify};
@@ -43,7 +43,7 @@ fn computes_and_stops(rt: HostRuntime) -> Result<(), Fail> {
     for row in VALUES.lines() {
         if let Some((value, expected)) = row.split_once(" => ") {
             let text = format!(in alloc; "task m {{ put({value}); }}")?;
-            let code = compiled(alloc, text.as_str())?;
+            let code = compile_alone(alloc, text.as_bytes())?;
             assert_eq!(rt; first_stretch(alloc, &code)?.as_str(), expected, "{row}");
         }
     }
@@ -53,7 +53,7 @@ fn computes_and_stops(rt: HostRuntime) -> Result<(), Fail> {
 
 #[test]
 fn runs_to_a_call(rt: HostRuntime) -> Result<(), Fail> {
-    let code = compiled(rt.alloc(), WORKED)?;
+    let code = compile_alone(rt.alloc(), WORKED.as_bytes())?;
     assert!(rt; code.bodies.len() == 1 && verify(&code));
     let vm = Vm::new(&code);
     let start = vm.start(0, 5);
@@ -68,7 +68,7 @@ fn runs_to_a_call(rt: HostRuntime) -> Result<(), Fail> {
 
 #[test]
 fn runs_to_the_end(rt: HostRuntime) -> Result<(), Fail> {
-    let code = compiled(rt.alloc(), WORKED)?;
+    let code = compile_alone(rt.alloc(), WORKED.as_bytes())?;
     assert!(rt; code.bodies.len() == 1 && verify(&code));
     let vm = Vm::new(&code);
     let Stretch::Call(context, _) = vm.stretch(0, 6, vm.start(0, 5)) else {
@@ -85,7 +85,7 @@ fn runs_to_the_end(rt: HostRuntime) -> Result<(), Fail> {
 }
 
 fn worked_body(alloc: Global) -> Result<BodyCode, Fail> {
-    let mut code = compiled(alloc, WORKED)?;
+    let mut code = compile_alone(alloc, WORKED.as_bytes())?;
     Ok(code.bodies.pop().ok_or("a body")?)
 }
 

@@ -2,10 +2,6 @@
 
 use fmp_base::System;
 use fmp_cfgparse::read_cfg;
-use fmp_code::Code;
-use fmp_codegen::compile;
-use fmp_lex::BuildFault;
-use fmp_tasklang::read_tasks;
 use std::alloc::Global;
 use std::test::Fail;
 
@@ -43,12 +39,4 @@ pub fn text_of(alloc: Global, row: &str) -> Result<String, Fail> {
 pub fn system_of(alloc: Global, apis: &str) -> Result<System, Fail> {
     let text = format!(in alloc; "NUM_PRC(2); CLASS(TCL_1) {{ {apis} }}")?;
     Ok(read_cfg(alloc, text.as_bytes())?)
-}
-
-/// The code of the bodies of a text, beside no objects.
-#[tactic(auto, using(crate::proofs::Objects::few_objects))]
-pub fn compiled(alloc: Global, text: &str) -> Result<Code, BuildFault> {
-    let system = read_cfg(alloc, b"NUM_PRC(1);")?;
-    let program = read_tasks(alloc, text.as_bytes())?;
-    compile(alloc, &program, &system)
 }
