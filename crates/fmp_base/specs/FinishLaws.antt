@@ -5,7 +5,7 @@ use Rattle.fmp_base.specs.declared.events.Event.{Event}
 use Rattle.fmp_base.specs.declared.events.Line.{Line}
 use Rattle.fmp_base.specs.Meanings.{Meaning, HandlerContext, World, task_body}
 use Rattle.fmp_base.specs.Runs.{Trace, after_first, run, run_on, done_events, done_on, completed_by, completed_on, complete_run}
-use Rattle.fmp_base.specs.Steps.{Done, step}
+use Rattle.fmp_base.specs.Steps.{Reaction, Nothing, Did, step}
 use Rattle.fmp_base.specs.Systems.{SystemTables}
 use Rattle.fmp_base.specs.Ties.{OptionTied, AllTied, KeepsTie, HandlerTied, WorldTied, DoneTied, TraceAgrees}
 use Rattle.fmp_base.specs.TieLaws.{step-tied, complete_run-tied}
@@ -55,10 +55,10 @@ WorldTied-turned sys R v w h =
       };
     }
 
-none_of : {C D : Type 0} (sys : SystemTables) (R : ℕ → C → D → Type 0) (x : Option (Done C)) (y : Option (Done D)) → y ≡ None
-    → DoneTied sys R x y → x ≡ None
-none_of sys R None y e h = refl
-none_of {C} {D} sys R (Some a) y e h = absurd (subst (λ (z : Option (Done D)). DoneTied sys R (Some a) z) e h)
+none_of : {C D : Type 0} (sys : SystemTables) (R : ℕ → C → D → Type 0) (x : Reaction C) (y : Reaction D) → y ≡ Nothing
+    → DoneTied sys R x y → x ≡ Nothing
+none_of sys R Nothing y e h = refl
+none_of {C} {D} sys R (Did a) y e h = absurd (subst (λ (z : Reaction D). DoneTied sys R (Did a) z) e h)
 
 -- what the tied run of the other meaning leaves: the same lines and the same state at the end
 pub record FinishedLike {C D : Type 0} (sys : SystemTables) (M : Meaning C) (n size : ℕ) (v : World C) (es ds : List Event) (s : Trace D) : Type 0 where
@@ -69,12 +69,12 @@ pub record FinishedLike {C D : Type 0} (sys : SystemTables) (M : Meaning C) (n s
 
 module _ {C D : Type 0} (sys : SystemTables) (R : ℕ → D → C → Type 0) (M : Meaning C) (N : Meaning D) (n size : ℕ)
     (from : KeepsTie R N n M n) (back : (t : ℕ) → (t + 1) * size ≤ n → KeepsTie (turned R) M t N n) where
-  step_like : (w : World D) (v : World C) (e : Event) (es : List Event) (x : Option (Done D)) (y : Option (Done C))
+  step_like : (w : World D) (v : World C) (e : Event) (es : List Event) (x : Reaction D) (y : Reaction C)
       → step sys N n w e ≡ x → step sys M n v e ≡ y → WorldTied sys R w v → DoneTied sys R x y
       → (ds : World D → List Event) (s : World D → Trace D)
       → ((w' : World D) (v' : World C) → WorldTied sys R w' v' → FinishedLike sys M n size v' es (ds w') (s w'))
       → FinishedLike sys M n size v (e ∷ es) (done_on w e x ds) (run_on w x s)
-  step_like w v e es None y p q h k ds s rest =
+  step_like w v e es Nothing y p q h k ds s rest =
       let l = rest w v h in
       record {
         trace = l.trace;
@@ -85,8 +85,8 @@ module _ {C D : Type 0} (sys : SystemTables) (R : ℕ → D → C → Type 0) (M
         events = l.events;
         state = l.state;
       }
-  step_like w v e es (Some d) None p q h k ds s rest = absurd k
-  step_like w v e es (Some d) (Some d') p q h k ds s rest =
+  step_like w v e es (Did d) Nothing p q h k ds s rest = absurd k
+  step_like w v e es (Did d) (Did d') p q h k ds s rest =
       let l = rest d.world d'.world k.1 in
       record {
         trace = after_first d'.lines l.trace;
@@ -107,11 +107,11 @@ IsComplete-rest : {C : Type 0} (ls : List Line) (r : Option (Trace C)) → IsCom
 IsComplete-rest ls None h = absurd h
 IsComplete-rest ls (Some r) h = tt
 
-done_on-complete : {C : Type 0} (w : World C) (e : Event) (es : List Event) (x : Option (Done C))
+done_on-complete : {C : Type 0} (w : World C) (e : Event) (es : List Event) (x : Reaction C)
     (ds : World C → List Event) (r : World C → Option (Trace C))
     → ((v : World C) → IsComplete (r v) → ds v ≡ es) → IsComplete (completed_on x r) → done_on w e x ds ≡ e ∷ es
-done_on-complete w e es None ds r rest h = absurd h
-done_on-complete w e es (Some d) ds r rest h =
+done_on-complete w e es Nothing ds r rest h = absurd h
+done_on-complete w e es (Did d) ds r rest h =
     ap (λ (es' : List Event). e ∷ es') (rest d.world (IsComplete-rest d.lines (r d.world) h))
 
 -- a run that is complete does all of its events
@@ -131,7 +131,7 @@ pub complete_run-Finishes : {C : Type 0} (sys : SystemTables) (M : Meaning C) (n
     → Finishes sys M n size w es ds r → complete_run sys M n w ds ≡ Some r
 complete_run-Finishes sys M n size _ _ _ _ (over w) = refl
 complete_run-Finishes {C} sys M n size _ _ _ _ (did w e es ds d r h f) =
-    ap (λ (o : Option (Done C)). completed_on o (λ v. complete_run sys M n v ds)) h
+    ap (λ (o : Reaction C). completed_on o (λ v. complete_run sys M n v ds)) h
     ∙ ap (completed_by d.lines) (complete_run-Finishes sys M n size d.world es ds r f)
 complete_run-Finishes sys M n size _ _ _ _ (did_nothing w e es ds r h f) = complete_run-Finishes sys M n size w es ds r f
 

@@ -3,7 +3,7 @@ use Rattle.std.specs.Prelude.{ℕ, ◌+◌, ◌*◌, ◌≤◌, ◌≡◌, List,
 use Rattle.fmp_base.specs.declared.events.Event.{Event}
 use Rattle.fmp_base.specs.Meanings.{Meaning, World}
 use Rattle.fmp_base.specs.Runs.{Trace, after_first, complete_run}
-use Rattle.fmp_base.specs.Steps.{Done, step}
+use Rattle.fmp_base.specs.Steps.{Done, Nothing, Did, step}
 use Rattle.fmp_base.specs.Systems.{SystemTables}
 
 -- the trace of a run that is over
@@ -15,10 +15,10 @@ ended_in w = record { world = w; events = [] }
 -- t units of the meaning with (t + 1) * size up to n.
 pub data Finishes {C : Type 0} (sys : SystemTables) (M : Meaning C) (n size : ℕ) : World C → List Event → List Event → Trace C → Type 0 where
   over : (w : World C) → Finishes sys M n size w [] [] (ended_in w)
-  did : (w : World C) (e : Event) (es ds : List Event) (d : Done C) (r : Trace C) → step sys M n w e ≡ Some d →
+  did : (w : World C) (e : Event) (es ds : List Event) (d : Done C) (r : Trace C) → step sys M n w e ≡ Did d →
       Finishes sys M n size d.world es ds r → Finishes sys M n size w (e ∷ es) (e ∷ ds) (after_first d.lines r)
   did_nothing : (w : World C) (e : Event) (es ds : List Event) (r : Trace C) →
-      ((t : ℕ) → (t + 1) * size ≤ n → step sys M t w e ≡ None) → Finishes sys M n size w es ds r →
+      ((t : ℕ) → (t + 1) * size ≤ n → step sys M t w e ≡ Nothing) → Finishes sys M n size w es ds r →
       Finishes sys M n size w (e ∷ es) ds r
 
 -- a run of which each event is done

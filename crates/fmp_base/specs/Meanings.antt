@@ -1,7 +1,6 @@
 -- What bodies mean, and the contexts that they keep between their stretches.
 use Rattle.std.specs.Prelude.{ℕ, ℤ, pos, List, [], ◌∷◌, Option, Some, None, slice_get, slice_set}
 use Rattle.fmp_base.specs.declared.calls.Reply.{Reply}
-use Rattle.fmp_base.specs.declared.bodies.Stretch.{Stretch}
 use Rattle.fmp_base.specs.declared.events.Line.{Line}
 use Rattle.fmp_base.specs.declared.events.Line.TheVariants as line
 use Rattle.fmp_base.specs.declared.states.Caller.{Caller}
@@ -10,13 +9,14 @@ use Rattle.fmp_base.specs.declared.states.Handler.{Handler}
 use Rattle.fmp_base.specs.declared.states.Handler.TheVariants as handler
 use Rattle.fmp_base.specs.declared.systems.InterruptConfig.{InterruptConfig}
 use Rattle.fmp_base.specs.States.{KernelState}
+use Rattle.fmp_base.specs.Stretches.{Ending}
 use Rattle.fmp_base.specs.Systems.{SystemTables, found, body_of, task_config, cyclic_config, interrupt_config}
 
 -- a meaning of bodies with contexts C: the context at a start, a stretch of at most so many units, and the context
 -- after a reply to the call that ended a stretch
 pub record Meaning (C : Type 0) : Type 0 where
   pub start : (body : ℕ) (exinf : ℤ) → C
-  pub stretch : (body bound : ℕ) (context : C) → Stretch C
+  pub stretch : (body bound : ℕ) (context : C) → Ending C
   pub deliver : (body : ℕ) (context : C) (reply : Reply) → C
 
 -- the body of a handler that runs, and its context

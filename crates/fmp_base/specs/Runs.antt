@@ -11,7 +11,7 @@ use Rattle.fmp_base.specs.declared.states.TaskBlock.{TaskBlock}
 use Rattle.fmp_base.specs.Meanings.{Meaning, World}
 use Rattle.fmp_base.specs.Settles.{is_same_task}
 use Rattle.fmp_base.specs.States.{KernelState, task_at, processor_at}
-use Rattle.fmp_base.specs.Steps.{Done, step}
+use Rattle.fmp_base.specs.Steps.{Reaction, Nothing, Did, step}
 use Rattle.fmp_base.specs.Systems.{SystemTables}
 
 -- the world at the end of a run, and the lines of each event that did something, in order
@@ -22,18 +22,18 @@ pub record Trace (C : Type 0) : Type 0 where
 abbrev pub after_first : {C : Type 0} → List Line → Trace C → Trace C
 after_first ls r = record r { events = ls ∷ r.events }
 
-abbrev pub run_on : {C : Type 0} → World C → Option (Done C) → (World C → Trace C) → Trace C
-run_on w None rest = rest w
-run_on w (Some d) rest = after_first d.lines (rest d.world)
+abbrev pub run_on : {C : Type 0} → World C → Reaction C → (World C → Trace C) → Trace C
+run_on w Nothing rest = rest w
+run_on w (Did d) rest = after_first d.lines (rest d.world)
 
 -- a run: one event after the other; those that do nothing leave no trace
 abbrev pub run : {C : Type 0} → SystemTables → Meaning C → (bound : ℕ) → World C → List Event → Trace C
 run sys M bound w [] = record { world = w; events = [] }
 run sys M bound w (e ∷ es) = run_on w (step sys M bound w e) (λ v. run sys M bound v es)
 
-abbrev pub done_on : {C : Type 0} → World C → Event → Option (Done C) → (World C → List Event) → List Event
-done_on w e None rest = rest w
-done_on w e (Some d) rest = e ∷ rest d.world
+abbrev pub done_on : {C : Type 0} → World C → Event → Reaction C → (World C → List Event) → List Event
+done_on w e Nothing rest = rest w
+done_on w e (Did d) rest = e ∷ rest d.world
 
 -- the events of a run that did something
 abbrev pub done_events : {C : Type 0} → SystemTables → Meaning C → (bound : ℕ) → World C → List Event → List Event
@@ -44,9 +44,9 @@ abbrev pub completed_by : {C : Type 0} → List Line → Option (Trace C) → Op
 completed_by ls None = None
 completed_by ls (Some r) = Some (after_first ls r)
 
-abbrev pub completed_on : {C : Type 0} → Option (Done C) → (World C → Option (Trace C)) → Option (Trace C)
-completed_on None rest = None
-completed_on (Some d) rest = completed_by d.lines (rest d.world)
+abbrev pub completed_on : {C : Type 0} → Reaction C → (World C → Option (Trace C)) → Option (Trace C)
+completed_on Nothing rest = None
+completed_on (Did d) rest = completed_by d.lines (rest d.world)
 
 -- a run in which every event does something, if it is one
 abbrev pub complete_run : {C : Type 0} → SystemTables → Meaning C → (bound : ℕ) → World C → List Event → Option (Trace C)

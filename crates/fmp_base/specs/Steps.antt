@@ -1,7 +1,5 @@
 -- One event is one step.
 use Rattle.std.specs.Prelude.{ℕ, zero, suc, ◌+◌, List, [], ◌∷◌, ◌++◌, Option, Some, None, Bool, true, false}
-use Rattle.fmp_base.specs.declared.bodies.Stretch.{Stretch}
-use Rattle.fmp_base.specs.declared.bodies.Stretch.TheVariants as ends
 use Rattle.fmp_base.specs.declared.calls.Answer.{Answer}
 use Rattle.fmp_base.specs.declared.calls.Answer.TheVariants.{Replies, Waits, Ends, Spins}
 use Rattle.fmp_base.specs.declared.calls.Call.{Call}
@@ -22,6 +20,8 @@ use Rattle.fmp_base.specs.Meanings.{Meaning, Contexts, World, caller_body, conte
 use Rattle.fmp_base.specs.Outcomes.{Outcome}
 use Rattle.fmp_base.specs.Settles.{settled}
 use Rattle.fmp_base.specs.States.{KernelState, Progress, unchanged, task_at, processor_at, with_processor}
+use Rattle.fmp_base.specs.Stretches.{Ending}
+use Rattle.fmp_base.specs.Stretches as ends
 use Rattle.fmp_base.specs.Systems.{SystemTables, interrupt_config}
 use Rattle.fmp_base.specs.Ticks.{ticked, is_pending, with_interrupt_pending}
 
@@ -29,6 +29,15 @@ use Rattle.fmp_base.specs.Ticks.{ticked, is_pending, with_interrupt_pending}
 pub record Done (C : Type 0) : Type 0 where
   pub world : World C
   pub lines : List Line
+
+-- what an event does: nothing, or it is done
+pub data Reaction (C : Type 0) : Type 0 where
+  Nothing : Reaction C
+  Did : Done C → Reaction C
+
+abbrev pub effect_of : {C : Type 0} → Reaction C → Effect
+effect_of Nothing = effect.Nothing
+effect_of (Did d) = effect.Done
 
 abbrev pub concluded : {C : Type 0} → SystemTables → Meaning C → Contexts C → Progress → Done C
 concluded sys M cs g =
@@ -57,52 +66,48 @@ actor_ended sys s p (caller.Task t) = ended_itself sys s p t (task_at s.tasks t)
 actor_ended sys s p (caller.Handler h) = unchanged (handler_ended s p)
 
 -- what a call comes to, where this was its answer; a caller that asks for a held spin lock has done nothing
-abbrev pub answered : {C : Type 0} → Answer → SystemTables → Meaning C → Contexts C → ℕ → Caller → Call → Progress → Option (Done C)
-answered (Replies reply) sys M cs p who c g = Some (finished sys M cs (line.Call p who c (Some reply) ∷ []) g)
-answered Waits sys M cs p who c g = Some (finished sys M cs (line.Call p who c None ∷ []) g)
-answered Ends sys M cs p who c g = Some (finished sys M cs (line.End p who ∷ []) g)
-answered Spins sys M cs p who c g = None
+abbrev pub answered : {C : Type 0} → Answer → SystemTables → Meaning C → Contexts C → ℕ → Caller → Call → Progress → Reaction C
+answered (Replies reply) sys M cs p who c g = Did (finished sys M cs (line.Call p who c (Some reply) ∷ []) g)
+answered Waits sys M cs p who c g = Did (finished sys M cs (line.Call p who c None ∷ []) g)
+answered Ends sys M cs p who c g = Did (finished sys M cs (line.End p who ∷ []) g)
+answered Spins sys M cs p who c g = Nothing
 
-abbrev pub call_made : {C : Type 0} → SystemTables → Meaning C → Contexts C → ℕ → Caller → Call → Outcome → Option (Done C)
+abbrev pub call_made : {C : Type 0} → SystemTables → Meaning C → Contexts C → ℕ → Caller → Call → Outcome → Reaction C
 call_made sys M cs p who c o = answered o.answer sys M cs p who c o.progress
 
 -- the actor of p has made this stretch: its context is taken, and the call, end or fault is carried out
-abbrev pub stretched : {C : Type 0} → SystemTables → Meaning C → World C → ℕ → Caller → Stretch C → Option (Done C)
+abbrev pub stretched : {C : Type 0} → SystemTables → Meaning C → World C → ℕ → Caller → Ending C → Reaction C
 stretched sys M w p who (ends.Call c made) =
     call_made sys M (with_context w.contexts p who (Some c)) p who made (called sys w.state p who made)
 stretched sys M w p who (ends.End c) =
-    Some (finished sys M w.contexts (line.End p who ∷ []) (actor_ended sys w.state p who))
+    Did (finished sys M w.contexts (line.End p who ∷ []) (actor_ended sys w.state p who))
 stretched sys M w p who (ends.Fault c fault) =
-    Some (finished sys M w.contexts (line.Fault p who fault ∷ []) (actor_ended sys w.state p who))
-stretched sys M w p who ends.Over = None
+    Did (finished sys M w.contexts (line.Fault p who fault ∷ []) (actor_ended sys w.state p who))
+stretched sys M w p who (ends.Over kept) = Nothing
 
-abbrev pub run_in : {C : Type 0} → SystemTables → Meaning C → ℕ → World C → ℕ → Caller → Option C → Option (Done C)
-run_in sys M bound w p who None = None
+abbrev pub run_in : {C : Type 0} → SystemTables → Meaning C → ℕ → World C → ℕ → Caller → Option C → Reaction C
+run_in sys M bound w p who None = Nothing
 run_in sys M bound w p who (Some c) = stretched sys M w p who (M.stretch (caller_body sys w.contexts p who) bound c)
 
-abbrev pub run_by : {C : Type 0} → SystemTables → Meaning C → ℕ → World C → ℕ → Option Caller → Option (Done C)
-run_by sys M bound w p None = None
+abbrev pub run_by : {C : Type 0} → SystemTables → Meaning C → ℕ → World C → ℕ → Option Caller → Reaction C
+run_by sys M bound w p None = Nothing
 run_by sys M bound w p (Some who) = run_in sys M bound w p who (context_of w.contexts p who)
 
 -- the handler of the interrupt at place i becomes pending; one that is pending already does nothing
-abbrev pub interrupted_by : {C : Type 0} → Bool → SystemTables → Meaning C → World C → ℕ → Option (Done C)
-interrupted_by true sys M w i = None
+abbrev pub interrupted_by : {C : Type 0} → Bool → SystemTables → Meaning C → World C → ℕ → Reaction C
+interrupted_by true sys M w i = Nothing
 interrupted_by false sys M w i =
-    Some (finished sys M w.contexts (line.Int i ∷ []) (unchanged (with_interrupt_pending w.state i)))
+    Did (finished sys M w.contexts (line.Int i ∷ []) (unchanged (with_interrupt_pending w.state i)))
 
-abbrev pub interrupted : {C : Type 0} → Option InterruptConfig → SystemTables → Meaning C → World C → ℕ → Option (Done C)
-interrupted None sys M w i = None
+abbrev pub interrupted : {C : Type 0} → Option InterruptConfig → SystemTables → Meaning C → World C → ℕ → Reaction C
+interrupted None sys M w i = Nothing
 interrupted (Some config) sys M w i = interrupted_by (is_pending w.state.pending_interrupts i) sys M w i
 
 -- what an event does: nothing, or a new world with its lines
-abbrev pub step : {C : Type 0} → SystemTables → Meaning C → (bound : ℕ) → World C → Event → Option (Done C)
-step sys M bound w (Run zero) = None
+abbrev pub step : {C : Type 0} → SystemTables → Meaning C → (bound : ℕ) → World C → Event → Reaction C
+step sys M bound w (Run zero) = Nothing
 step sys M bound w (Run (suc p)) = run_by sys M bound w p (actor_of (processor_at w.state p))
 step sys M bound w Tick =
-    Some (finished sys M w.contexts (line.Tick (w.state.clock + 1) ∷ []) (ticked sys w.state))
-step sys M bound w (Int zero) = None
+    Did (finished sys M w.contexts (line.Tick (w.state.clock + 1) ∷ []) (ticked sys w.state))
+step sys M bound w (Int zero) = Nothing
 step sys M bound w (Int (suc i)) = interrupted (interrupt_config sys i) sys M w i
-
-abbrev pub effect_of : {C : Type 0} → Option (Done C) → Effect
-effect_of None = effect.Nothing
-effect_of (Some d) = effect.Done

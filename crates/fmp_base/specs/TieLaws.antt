@@ -2,9 +2,6 @@
 -- into a context.
 use Rattle.std.specs.Prelude.{ℕ, zero, suc, ◌+◌, ◌≡◌, refl, List, [], ◌∷◌, ◌++◌, Option, Some, None, Bool, true, false, slice_set, replicate, length}
 use Rattle.std.proofs.Common.{subst, ap, ◌∙◌}
-use Rattle.fmp_base.specs.declared.bodies.Fault.{Fault}
-use Rattle.fmp_base.specs.declared.bodies.Stretch.{Stretch}
-use Rattle.fmp_base.specs.declared.bodies.Stretch.TheVariants as ends
 use Rattle.fmp_base.specs.declared.calls.Answer.{Answer}
 use Rattle.fmp_base.specs.declared.calls.Answer.TheVariants.{Replies, Waits, Ends, Spins}
 use Rattle.fmp_base.specs.declared.calls.Call.{Call}
@@ -23,10 +20,11 @@ use Rattle.fmp_base.specs.Runs.{Trace, run, run_on, done_events, done_on, comple
 use Rattle.fmp_base.specs.Settles.{settled}
 use Rattle.fmp_base.specs.Setups.{setup, no_contexts, all_activated, created_state}
 use Rattle.fmp_base.specs.States.{KernelState, Progress, unchanged, processor_at, places_from}
-use Rattle.fmp_base.specs.Steps.{Done, finished, actor_of, actor_ended, answered, stretched, run_in, run_by, interrupted, interrupted_by, step}
+use Rattle.fmp_base.specs.Steps.{Reaction, Nothing, Did, finished, actor_of, actor_ended, answered, stretched, run_in, run_by, interrupted, interrupted_by, step}
+use Rattle.fmp_base.specs.Stretches.{Ending}
 use Rattle.fmp_base.specs.Systems.{SystemTables, task_config, interrupt_config}
 use Rattle.fmp_base.specs.Ticks.{ticked, with_interrupt_pending}
-use Rattle.fmp_base.specs.Ties.{OptionTied, AllTied, StretchTied, KeepsTie, HandlerTied, ContextsTied, WorldTied, DoneTied, TraceAgrees}
+use Rattle.fmp_base.specs.Ties.{OptionTied, AllTied, StretchTied, over, call, end_, fault, Any, KeepsTie, HandlerTied, ContextsTied, WorldTied, BothDone, DoneTied, TraceAgrees}
 
 pub AllTied-slice_set : {C D : Type 0} (R : ℕ → C → D → Type 0) (cs : List (Option C)) (ds : List (Option D)) (i : ℕ) (c : Option C) (d : Option D)
     → AllTied R cs ds → OptionTied (R i) c d → AllTied R (slice_set cs i c) (slice_set ds i d)
@@ -157,7 +155,7 @@ contexts_after_all-tied sys R M m N n k a b (l ∷ ls) h =
 
 pub finished-tied : {C D : Type 0} (sys : SystemTables) (R : ℕ → C → D → Type 0) (M : Meaning C) (m : ℕ) (N : Meaning D) (n : ℕ) → KeepsTie R M m N n
     → (a : Contexts C) (b : Contexts D) (own : List Line) (g : Progress) → ContextsTied sys R a b
-    → DoneTied sys R (Some (finished sys M a own g)) (Some (finished sys N b own g))
+    → BothDone sys R (finished sys M a own g) (finished sys N b own g)
 finished-tied sys R M m N n k a b own g h =
     (refl, record { states = refl; contexts = contexts_after_all-tied sys R M m N n k a b (settled sys (record g { lines = own ++ g.lines })).lines h })
 
@@ -170,28 +168,24 @@ answered-tied sys R M m N n k Ends a b p who c g h = finished-tied sys R M m N n
 answered-tied sys R M m N n k Spins a b p who c g h = tt
 
 pub stretched-tied : {C D : Type 0} (sys : SystemTables) (R : ℕ → C → D → Type 0) (M : Meaning C) (m : ℕ) (N : Meaning D) (n : ℕ) → KeepsTie R M m N n
-    → (s : KernelState) (a : Contexts C) (b : Contexts D) (p : ℕ) (who : Caller) (x : Stretch C) (y : Stretch D)
-    → ContextsTied sys R a b → StretchTied (R (caller_body sys a p who)) x y
+    → (s : KernelState) (a : Contexts C) (b : Contexts D) (p : ℕ) (who : Caller) (x : Ending C) (y : Ending D)
+    → ContextsTied sys R a b → StretchTied (R (caller_body sys a p who)) Any x y
     → DoneTied sys R (stretched sys M (record { state = s; contexts = a }) p who x) (stretched sys N (record { state = s; contexts = b }) p who y)
-stretched-tied sys R M m N n k s a b p who ends.Over y h e = tt
-stretched-tied {C} {D} sys R M m N n k s a b p who (ends.Call c made) (ends.Call d made') h e =
-    subst (λ (z : Call). DoneTied sys R (stretched sys M (record { state = s; contexts = a }) p who (ends.Call c made)) (stretched sys N (record { state = s; contexts = b }) p who (ends.Call d z))) e.0
-    (answered-tied sys R M m N n k (called sys s p who made).answer _ _ p who made (called sys s p who made).progress
-    (with_context-tied sys R a b p who (Some c) (Some d) h e.1))
-stretched-tied sys R M m N n k s a b p who (ends.End c) (ends.End d) h e =
+stretched-tied sys R M m N n k s a b p who _ _ h (over kept y) = tt
+stretched-tied sys R M m N n k s a b p who _ _ h (call c d made e) =
+    answered-tied sys R M m N n k (called sys s p who made).answer _ _ p who made (called sys s p who made).progress
+    (with_context-tied sys R a b p who (Some c) (Some d) h e)
+stretched-tied sys R M m N n k s a b p who _ _ h (end_ c d e) =
     finished-tied sys R M m N n k a b (line.End p who ∷ []) (actor_ended sys s p who) h
-stretched-tied {C} {D} sys R M m N n k s a b p who (ends.Fault c f) (ends.Fault d f') h e =
-    subst (λ (z : Fault). DoneTied sys R (stretched sys M (record { state = s; contexts = a }) p who (ends.Fault c f)) (stretched sys N (record { state = s; contexts = b }) p who (ends.Fault d z))) e
-    (finished-tied sys R M m N n k a b (line.Fault p who f ∷ []) (actor_ended sys s p who) h)
-stretched-tied sys R M m N n k s a b p who (ends.Call c x) (ends.End d) h e = absurd e
-stretched-tied sys R M m N n k s a b p who (ends.Call c x) (ends.Fault d y) h e = absurd e
-stretched-tied sys R M m N n k s a b p who (ends.Call c x) ends.Over h e = absurd e
-stretched-tied sys R M m N n k s a b p who (ends.End c) (ends.Call d y) h e = absurd e
-stretched-tied sys R M m N n k s a b p who (ends.End c) (ends.Fault d y) h e = absurd e
-stretched-tied sys R M m N n k s a b p who (ends.End c) ends.Over h e = absurd e
-stretched-tied sys R M m N n k s a b p who (ends.Fault c x) (ends.Call d y) h e = absurd e
-stretched-tied sys R M m N n k s a b p who (ends.Fault c x) (ends.End d) h e = absurd e
-stretched-tied sys R M m N n k s a b p who (ends.Fault c x) ends.Over h e = absurd e
+stretched-tied sys R M m N n k s a b p who _ _ h (fault c d f e) =
+    finished-tied sys R M m N n k a b (line.Fault p who f ∷ []) (actor_ended sys s p who) h
+
+-- what ties an end or a fault is not needed for what follows
+pub any_end : {C D : Type 0} (R S : C → D → Type 0) (x : Ending C) (y : Ending D) → StretchTied R S x y → StretchTied R Any x y
+any_end R S _ _ (over kept y) = over kept y
+any_end R S _ _ (call c d made h) = call c d made h
+any_end R S _ _ (end_ c d h) = end_ c d tt
+any_end R S _ _ (fault c d f h) = fault c d f tt
 
 pub run_in-tied : {C D : Type 0} (sys : SystemTables) (R : ℕ → C → D → Type 0) (M : Meaning C) (m : ℕ) (N : Meaning D) (n : ℕ) → KeepsTie R M m N n
     → (s : KernelState) (a : Contexts C) (b : Contexts D) (p : ℕ) (who : Caller) (c : Option C) (d : Option D)
@@ -201,7 +195,7 @@ run_in-tied sys R M m N n k s a b p who None d h e = tt
 run_in-tied sys R M m N n k s a b p who (Some c) None h e = absurd e
 run_in-tied {C} {D} sys R M m N n k s a b p who (Some c) (Some d) h e =
     stretched-tied sys R M m N n k s a b p who _ _ h
-    (subst (λ (body : ℕ). StretchTied (R (caller_body sys a p who)) (M.stretch (caller_body sys a p who) m c) (N.stretch body n d))
+    (subst (λ (body : ℕ). StretchTied (R (caller_body sys a p who)) Any (M.stretch (caller_body sys a p who) m c) (N.stretch body n d))
     (caller_body-tied sys R a b p who h) (k.stretches (caller_body sys a p who) c d e))
 
 pub run_by-tied : {C D : Type 0} (sys : SystemTables) (R : ℕ → C → D → Type 0) (M : Meaning C) (m : ℕ) (N : Meaning D) (n : ℕ) → KeepsTie R M m N n
@@ -242,7 +236,7 @@ step-tied {C} {D} sys R M m N n k v w e h =
 
 -- setup gives both the same lines and ties them
 pub setup-tied : {C D : Type 0} (sys : SystemTables) (R : ℕ → C → D → Type 0) (M : Meaning C) (m : ℕ) (N : Meaning D) (n : ℕ) → KeepsTie R M m N n
-    → DoneTied sys R (Some (setup sys M)) (Some (setup sys N))
+    → BothDone sys R (setup sys M) (setup sys N)
 setup-tied sys R M m N n k =
     finished-tied sys R M m N n k (no_contexts sys) (no_contexts sys) [] (all_activated sys (unchanged (created_state sys)) (places_from 0 (length sys.tasks)))
     (record { tasks = AllTied-replicate (λ t. R (task_body sys t)) (length sys.tasks); handlers = AllTied-replicate (λ p. HandlerTied R) sys.processors })
@@ -254,13 +248,13 @@ completed_by-agrees ls ms (Some r) None e h = absurd h
 completed_by-agrees ls ms (Some r) (Some s) e h =
     (ap (λ (q : List Line). q ∷ r.events) e ∙ ap (λ (q : List (List Line)). ms ∷ q) h.0, h.1)
 
-completed_on-agrees : {C D : Type 0} (sys : SystemTables) (R : ℕ → C → D → Type 0) (x : Option (Done C)) (y : Option (Done D))
+completed_on-agrees : {C D : Type 0} (sys : SystemTables) (R : ℕ → C → D → Type 0) (x : Reaction C) (y : Reaction D)
     (f : World C → Option (Trace C)) (g : World D → Option (Trace D)) → DoneTied sys R x y
     → ((v : World C) (w : World D) → WorldTied sys R v w → TraceAgrees (f v) (g w))
     → TraceAgrees (completed_on x f) (completed_on y g)
-completed_on-agrees sys R None y f g h rest = tt
-completed_on-agrees sys R (Some x) None f g h rest = absurd h
-completed_on-agrees sys R (Some x) (Some y) f g h rest =
+completed_on-agrees sys R Nothing y f g h rest = tt
+completed_on-agrees sys R (Did x) Nothing f g h rest = absurd h
+completed_on-agrees sys R (Did x) (Did y) f g h rest =
     completed_by-agrees x.lines y.lines _ _ h.0 (rest x.world y.world h.1)
 
 -- tied worlds have the same lines and the same state at the end of every run that the first completes
@@ -272,13 +266,13 @@ complete_run-tied sys R M m N n k v w (e ∷ es) h =
     completed_on-agrees sys R (step sys M m v e) (step sys N n w e) _ _ (step-tied sys R M m N n k v w e h)
     (λ v' w' q. complete_run-tied sys R M m N n k v' w' es q)
 
-done_on-completes : {C : Type 0} (sys : SystemTables) (M : Meaning C) (m : ℕ) (w : World C) (e : Event) (o : Option (Done C))
+done_on-completes : {C : Type 0} (sys : SystemTables) (M : Meaning C) (m : ℕ) (w : World C) (e : Event) (o : Reaction C)
     (f : World C → List Event) (g : World C → Trace C) → step sys M m w e ≡ o
     → ((v : World C) → complete_run sys M m v (f v) ≡ Some (g v))
     → complete_run sys M m w (done_on w e o f) ≡ Some (run_on w o g)
-done_on-completes sys M m w e None f g h rest = rest w
-done_on-completes {C} sys M m w e (Some d) f g h rest =
-    ap (λ (o : Option (Done C)). completed_on o (λ v. complete_run sys M m v (f d.world))) h ∙ ap (completed_by d.lines) (rest d.world)
+done_on-completes sys M m w e Nothing f g h rest = rest w
+done_on-completes {C} sys M m w e (Did d) f g h rest =
+    ap (λ (o : Reaction C). completed_on o (λ v. complete_run sys M m v (f d.world))) h ∙ ap (completed_by d.lines) (rest d.world)
 
 -- the events of a run that did something are a complete run of their own, with the same lines and the same end
 pub complete_run-done_events : {C : Type 0} (sys : SystemTables) (M : Meaning C) (m : ℕ) (w : World C) (es : List Event)

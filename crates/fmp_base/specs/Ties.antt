@@ -1,12 +1,14 @@
 -- Two meanings of bodies whose contexts are tied give the same lines along every list of events that the first
 -- finishes.
 use Rattle.std.specs.Prelude.{ℕ, zero, suc, ℤ, ◌≡◌, List, [], ◌∷◌, Option, Some, None}
-use Rattle.fmp_base.specs.declared.bodies.Stretch.{Stretch}
-use Rattle.fmp_base.specs.declared.bodies.Stretch.TheVariants as ends
+use Rattle.fmp_base.specs.declared.bodies.Fault.{Fault}
+use Rattle.fmp_base.specs.declared.calls.Call.{Call}
 use Rattle.fmp_base.specs.declared.calls.Reply.{Reply}
 use Rattle.fmp_base.specs.Meanings.{Meaning, HandlerContext, Contexts, World, task_body}
 use Rattle.fmp_base.specs.Runs.{Trace}
-use Rattle.fmp_base.specs.Steps.{Done}
+use Rattle.fmp_base.specs.Steps.{Done, Reaction, Nothing, Did}
+use Rattle.fmp_base.specs.Stretches.{Ending}
+use Rattle.fmp_base.specs.Stretches as ends
 use Rattle.fmp_base.specs.Systems.{SystemTables}
 
 -- both have no context, or tied ones
@@ -23,27 +25,23 @@ AllTied R (c ∷ cs) (d ∷ ds) = OptionTied (R zero) c d × AllTied (λ i. R (s
 AllTied R [] (d ∷ ds) = ⊥
 AllTied R (c ∷ cs) [] = ⊥
 
--- where the first is not over, the second ends in the same way, and the contexts of a call stay tied
-abbrev pub StretchTied : {C D : Type 0} → (C → D → Type 0) → Stretch C → Stretch D → Type 0
-StretchTied R ends.Over other = Unit {0}
-StretchTied R (ends.Call c x) (ends.Call d y) = (x ≡ y) × R c d
-StretchTied R (ends.End c) (ends.End d) = Unit {0}
-StretchTied R (ends.Fault c f) (ends.Fault d g) = f ≡ g
-StretchTied R (ends.Call c x) (ends.End d) = ⊥
-StretchTied R (ends.Call c x) (ends.Fault d y) = ⊥
-StretchTied R (ends.Call c x) ends.Over = ⊥
-StretchTied R (ends.End c) (ends.Call d y) = ⊥
-StretchTied R (ends.End c) (ends.Fault d y) = ⊥
-StretchTied R (ends.End c) ends.Over = ⊥
-StretchTied R (ends.Fault c x) (ends.Call d y) = ⊥
-StretchTied R (ends.Fault c x) (ends.End d) = ⊥
-StretchTied R (ends.Fault c x) ends.Over = ⊥
+-- where the first is not over, the second ends in the same way; the contexts of a call are tied by R, those of an end or
+-- a fault by S
+pub data StretchTied {C D : Type 0} (R S : C → D → Type 0) : Ending C → Ending D → Type 0 where
+  over : (kept : Option C) (other : Ending D) → StretchTied R S (ends.Over kept) other
+  call : (c : C) (d : D) (made : Call) → R c d → StretchTied R S (ends.Call c made) (ends.Call d made)
+  end_ : (c : C) (d : D) → S c d → StretchTied R S (ends.End c) (ends.End d)
+  fault : (c : C) (d : D) (f : Fault) → S c d → StretchTied R S (ends.Fault c f) (ends.Fault d f)
+
+-- any contexts: no step looks at those of an end or a fault
+abbrev pub Any : {C D : Type 0} → C → D → Type 0
+Any c d = Unit {0}
 
 -- start, stretch (at m and at n) and deliver keep the tie R, which is given for each body
 pub record KeepsTie {C D : Type 0} (R : ℕ → C → D → Type 0) (M : Meaning C) (m : ℕ) (N : Meaning D) (n : ℕ) : Type 0 where
   pub starts : (body : ℕ) (exinf : ℤ) → R body (M.start body exinf) (N.start body exinf)
   pub delivers : (body : ℕ) (c : C) (d : D) (reply : Reply) → R body c d → R body (M.deliver body c reply) (N.deliver body d reply)
-  pub stretches : (body : ℕ) (c : C) (d : D) → R body c d → StretchTied (R body) (M.stretch body m c) (N.stretch body n d)
+  pub stretches : (body : ℕ) (c : C) (d : D) → R body c d → StretchTied (R body) Any (M.stretch body m c) (N.stretch body n d)
 
 -- contexts of one body, tied
 pub record HandlerTied {C D : Type 0} (R : ℕ → C → D → Type 0) (c : HandlerContext C) (d : HandlerContext D) : Type 0 where
@@ -59,11 +57,15 @@ pub record WorldTied {C D : Type 0} (sys : SystemTables) (R : ℕ → C → D �
   pub states : v.state ≡ w.state
   pub contexts : ContextsTied sys R v.contexts w.contexts
 
+-- two events were done, with the same lines, and leave tied worlds
+abbrev pub BothDone : {C D : Type 0} → SystemTables → (ℕ → C → D → Type 0) → Done C → Done D → Type 0
+BothDone sys R a b = (a.lines ≡ b.lines) × WorldTied sys R a.world b.world
+
 -- where the first did something, the second did it too, with the same lines
-abbrev pub DoneTied : {C D : Type 0} → SystemTables → (ℕ → C → D → Type 0) → Option (Done C) → Option (Done D) → Type 0
-DoneTied sys R None other = Unit {0}
-DoneTied sys R (Some a) None = ⊥
-DoneTied sys R (Some a) (Some b) = (a.lines ≡ b.lines) × WorldTied sys R a.world b.world
+abbrev pub DoneTied : {C D : Type 0} → SystemTables → (ℕ → C → D → Type 0) → Reaction C → Reaction D → Type 0
+DoneTied sys R Nothing other = Unit {0}
+DoneTied sys R (Did a) Nothing = ⊥
+DoneTied sys R (Did a) (Did b) = BothDone sys R a b
 
 -- the second is the same run as the first, if there is a first: the same lines and the same state at the end
 abbrev pub TraceAgrees : {C D : Type 0} → Option (Trace C) → Option (Trace D) → Type 0

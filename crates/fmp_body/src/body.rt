@@ -1,6 +1,6 @@
 ghost use Rattle.std.specs.Prelude.{◌≡◌, ℕ, ◌≤◌, false};
 ghost use Rattle.fmp_base.specs.Meanings.{Meaning};
-ghost use Rattle.fmp_base.specs.Stretches.{is_over};
+ghost use Rattle.fmp_base.specs.Stretches.{ending, is_over};
 ghost use Rattle.fmp_body.specs.Contexts.{OfCall};
 
 use fmp_base::{Reply, Stretch};
@@ -29,8 +29,8 @@ pub trait Body {
     fn stretch(&self, entry: u8, n: u64, c: Self::Ctx) -> Stretch<Self::Ctx>
         requires entry { has_entry self.now entry }
         requires context { is_context self.now entry c }
-        ensures value { result ≡ (meaning self.now).stretch entry n c }
-        ensures context { OfCall (is_context self.now entry) result };
+        ensures value { ending result ≡ (meaning self.now).stretch entry n c }
+        ensures context { OfCall (is_context self.now entry) (ending result) };
 
     /// The context after a reply to the call that ended a stretch.
     fn deliver(&self, entry: u8, c: Self::Ctx, r: Reply) -> Self::Ctx

@@ -1,9 +1,8 @@
 -- The code of a body does what the body does, within so many instructions.
 use Rattle.std.proofs.Common.{◌≡◌, ℕ, zero, suc, ◌+◌, ◌*◌, ◌≤◌, true, false, List, [], ◌∷◌, length, refl, sym, ap, ◌∙◌, subst, arith, ℤ}
-use Rattle.fmp_base.specs.declared.bodies.Stretch.{Stretch}
-use Rattle.fmp_base.specs.declared.bodies.Stretch.TheVariants as ends
-use Rattle.fmp_base.specs.Stretches.{is_over}
-use Rattle.fmp_base.specs.Ties.{StretchTied}
+use Rattle.fmp_base.specs.Stretches.{Ending, is_over}
+use Rattle.fmp_base.specs.Stretches as ends
+use Rattle.fmp_base.specs.Ties.{StretchTied, over, call, end_, fault}
 use Rattle.fmp_tasklang.specs.Scopes.{Scope}
 use Rattle.fmp_tasklang.specs.Contexts.{TextContext}
 use Rattle.fmp_tasklang.specs.Stretches.{turns, stretch}
@@ -12,8 +11,8 @@ use Rattle.fmp_code.specs.declared.instructions.Instruction.TheVariants.{End}
 use Rattle.fmp_code.specs.declared.instructions.MachineContext.{MachineContext}
 use Rattle.fmp_code.specs.Longer.{exec-longer, exec-one_end}
 use Rattle.fmp_code.specs.Machine.{exec, code_stretch}
-use Rattle.fmp_codegen.specs.Tie.{ContextTied}
-use Rattle.fmp_codegen.proofs.Statements.{room, Comes, Match, Tied, turns_follow}
+use Rattle.fmp_codegen.specs.Tie.{ContextTied, SameLocals}
+use Rattle.fmp_codegen.proofs.Statements.{room, Comes, Match, Tied, SameLocalsBack, turns_follow}
 
 pub room-is : (code : List Instruction) (t : ℕ) → room code t ≡ (t + 1) * length code
 room-is code zero = omega arith
@@ -43,59 +42,51 @@ module _ (scope : Scope) (code : List Instruction) where
   CodeTied d c = ContextTied scope code d c
 
   -- the same tie from the other side
-  turned : (o : Stretch TextContext) (m : Stretch MachineContext) → is_over o ≡ false → StretchTied (Tied scope code) o m
-      → StretchTied CodeTied m o
-  turned ends.Over m e h = absurd (cc e)
-  turned (ends.Call c r) (ends.Call d s) e h = (sym h.0, h.1)
-  turned (ends.End c) (ends.End d) e h = tt
-  turned (ends.Fault c f) (ends.Fault d g) e h = sym h
-  turned (ends.Call c r) (ends.End d) e h = absurd h
-  turned (ends.Call c r) (ends.Fault d g) e h = absurd h
-  turned (ends.Call c r) ends.Over e h = absurd h
-  turned (ends.End c) (ends.Call d s) e h = absurd h
-  turned (ends.End c) (ends.Fault d g) e h = absurd h
-  turned (ends.End c) ends.Over e h = absurd h
-  turned (ends.Fault c f) (ends.Call d s) e h = absurd h
-  turned (ends.Fault c f) (ends.End d) e h = absurd h
-  turned (ends.Fault c f) ends.Over e h = absurd h
+  turned :
+      (o : Ending TextContext) (m : Ending MachineContext) → is_over o ≡ false →
+      StretchTied (Tied scope code) SameLocalsBack o m → StretchTied CodeTied SameLocals m o
+  turned _ _ e (over kept m) = absurd (cc e)
+  turned _ _ e (call c d made h) = call d c made h
+  turned _ _ e (end_ c d h) = end_ d c h
+  turned _ _ e (fault c d f h) = fault d c f h
 
   comes_first :
-      (n p : ℕ) (l : List ℤ) (o : Stretch TextContext) (m : Stretch MachineContext) → is_over o ≡ false →
-      is_over m ≡ false → exec code n p [] l ≡ m → Comes scope code n p l o → StretchTied CodeTied m o
+      (n p : ℕ) (l : List ℤ) (o : Ending TextContext) (m : Ending MachineContext) → is_over o ≡ false →
+      is_over m ≡ false → exec code n p [] l ≡ m → Comes scope code n p l o → StretchTied CodeTied SameLocals m o
   comes_first n p l o m going ended e h =
       let same : h.outcome ≡ m = exec-one_end code h.steps n p [] l h.outcome m h.ended ended h.by e in
-      turned o m going (subst (λ (x : Stretch MachineContext). StretchTied (Tied scope code) o x) same h.same)
+      turned o m going (subst (λ (x : Ending MachineContext). StretchTied (Tied scope code) SameLocalsBack o x) same h.same)
 
   ended_first :
-      (n p : ℕ) (l : List ℤ) (o : Stretch TextContext) (m : Stretch MachineContext) → is_over m ≡ false →
-      exec code n p [] l ≡ m → Match scope code n p l o → StretchTied CodeTied m o
-  ended_first n p l ends.Over m ended e h =
-      let over : true ≡ is_over m = ap is_over (sym h.2 ∙ exec-longer code n h.0 h.1 p [] l m ended e) in
-      absurd (cc (over, ended))
+      (n p : ℕ) (l : List ℤ) (o : Ending TextContext) (m : Ending MachineContext) → is_over m ≡ false →
+      exec code n p [] l ≡ m → Match scope code n p l o → StretchTied CodeTied SameLocals m o
+  ended_first n p l (ends.Over k) m ended e h =
+      let more : true ≡ is_over m = sym h.2 ∙ ap is_over (exec-longer code n h.0 h.1 p [] l m ended e) in
+      absurd (cc (more, ended))
   ended_first n p l (ends.Call c r) m ended e h = comes_first n p l (ends.Call c r) m refl ended e h
   ended_first n p l (ends.End c) m ended e h = comes_first n p l (ends.End c) m refl ended e h
   ended_first n p l (ends.Fault c f) m ended e h = comes_first n p l (ends.Fault c f) m refl ended e h
 
   machine_first :
-      (n p : ℕ) (l : List ℤ) (o : Stretch TextContext) (m : Stretch MachineContext) → exec code n p [] l ≡ m →
-      Match scope code n p l o → StretchTied CodeTied m o
-  machine_first n p l o ends.Over e h = tt
+      (n p : ℕ) (l : List ℤ) (o : Ending TextContext) (m : Ending MachineContext) → exec code n p [] l ≡ m →
+      Match scope code n p l o → StretchTied CodeTied SameLocals m o
+  machine_first n p l o (ends.Over k) e h = over k o
   machine_first n p l o (ends.Call d s) e h = ended_first n p l o (ends.Call d s) refl e h
   machine_first n p l o (ends.End d) e h = ended_first n p l o (ends.End d) refl e h
   machine_first n p l o (ends.Fault d g) e h = ended_first n p l o (ends.Fault d g) refl e h
 
   comes_then :
-      (t n p : ℕ) (l : List ℤ) (o : Stretch TextContext) → IsEnough code t n p l → Comes scope code t p l o →
-      StretchTied (Tied scope code) o (exec code n p [] l)
+      (t n p : ℕ) (l : List ℤ) (o : Ending TextContext) → IsEnough code t n p l → Comes scope code t p l o →
+      StretchTied (Tied scope code) SameLocalsBack o (exec code n p [] l)
   comes_then t n p l o le h =
       let ended : is_over (exec code h.steps p [] l) ≡ false = ap is_over h.by ∙ h.ended in
       let same : h.outcome ≡ exec code n p [] l = sym h.by ∙ sym (le h.steps h.within ended) in
-      subst (λ (x : Stretch MachineContext). StretchTied (Tied scope code) o x) same h.same
+      subst (λ (x : Ending MachineContext). StretchTied (Tied scope code) SameLocalsBack o x) same h.same
 
   text_first_of :
-      (t n p : ℕ) (l : List ℤ) (o : Stretch TextContext) → IsEnough code t n p l → Match scope code t p l o →
-      StretchTied (Tied scope code) o (exec code n p [] l)
-  text_first_of t n p l ends.Over le h = tt
+      (t n p : ℕ) (l : List ℤ) (o : Ending TextContext) → IsEnough code t n p l → Match scope code t p l o →
+      StretchTied (Tied scope code) SameLocalsBack o (exec code n p [] l)
+  text_first_of t n p l (ends.Over k) le h = over k (exec code n p [] l)
   text_first_of t n p l (ends.Call c r) le h = comes_then t n p l (ends.Call c r) le h
   text_first_of t n p l (ends.End c) le h = comes_then t n p l (ends.End c) le h
   text_first_of t n p l (ends.Fault c f) le h = comes_then t n p l (ends.Fault c f) le h
@@ -108,11 +99,11 @@ module _ (scope : Scope) (code : List Instruction) where
   -- what the code finishes within n instructions the text finishes within n turns, in the same way
   pub code_first :
       (n : ℕ) (d : MachineContext) (c : TextContext) → CodeTied d c →
-      StretchTied CodeTied (code_stretch code n d) (stretch scope n c)
+      StretchTied CodeTied SameLocals (code_stretch code n d) (stretch scope n c)
   code_first n d c h = machine_first n d.pc d.locals (stretch scope n c) (code_stretch code n d) refl (matched n d c h)
 
   -- what the text finishes within t turns the code finishes within so many instructions
   pub text_first :
       (t n : ℕ) (d : MachineContext) (c : TextContext) → CodeTied d c → IsEnough code t n d.pc d.locals →
-      StretchTied (Tied scope code) (stretch scope t c) (code_stretch code n d)
+      StretchTied (Tied scope code) SameLocalsBack (stretch scope t c) (code_stretch code n d)
   text_first t n d c h le = text_first_of t n d.pc d.locals (stretch scope t c) le (matched t d c h)

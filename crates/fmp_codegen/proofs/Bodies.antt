@@ -6,6 +6,7 @@ use Rattle.std.proofs.lemmas.Nat.{mul-le}
 use Rattle.fmp_base.specs.declared.calls.Reply.{Reply}
 use Rattle.fmp_base.specs.declared.names.Name.{Name}
 use Rattle.fmp_base.specs.Systems.{SystemTables}
+use Rattle.fmp_base.specs.TieLaws.{any_end}
 use Rattle.fmp_lex.specs.declared.fault.FaultKind.TheVariants as fault
 use Rattle.fmp_tasklang.specs.Trees.{BodyTree}
 use Rattle.fmp_tasklang.specs.Scopes.{Scope, exinf_name, scope_of}
@@ -160,13 +161,15 @@ module _ (tables : SystemTables) (bodies : List BodyTree) (accepted : IsAccepted
           starts = starts_tied;
           delivers = delivers_tied;
           stretches = λ body d c h.
-              code_first (scope_of tables (body_at bodies body)) (instructions_at code body) n d c h;
+              any_end _ _ _ _ (code_first (scope_of tables (body_at bodies body)) (instructions_at code body) n d c h);
         };
         text_first = λ t n one le. record {
           starts = starts_tied;
           delivers = λ body c d reply h. delivers_tied body d c reply h;
           stretches = λ body c d h.
-              text_first (scope_of tables (body_at bodies body)) (instructions_at code body) t n d c h
-              (enough_for code t n one le (slice_get code body) (length-le-longest code body) d.pc d.locals);
+              any_end _ _ _ _ (text_first (scope_of tables (body_at bodies body)) (instructions_at code body) t n d c h
+              (enough_for code t n one le (slice_get code body) (length-le-longest code body) d.pc d.locals));
         };
+        ends_alike = λ body n d c h.
+            code_first (scope_of tables (body_at bodies body)) (instructions_at code body) n d c h;
       }

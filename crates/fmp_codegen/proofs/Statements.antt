@@ -3,18 +3,17 @@ use Rattle.std.proofs.Common.{◌≡◌, ℕ, zero, suc, ◌+◌, ◌<◌, ◌�
 use Rattle.std.specs.Prelude.{slice_get, slice_set, if◌then◌else◌}
 use Rattle.std.proofs.lemmas.Option.{slice_get_within}
 use Rattle.fmp_base.specs.declared.bodies.Fault.{Fault}
-use Rattle.fmp_base.specs.declared.bodies.Stretch.{Stretch}
-use Rattle.fmp_base.specs.declared.bodies.Stretch.TheVariants as ends
 use Rattle.fmp_base.specs.Deliveries.{written}
 use Rattle.fmp_base.specs.Operators.{is_zero}
 use Rattle.fmp_base.specs.Services.{request}
-use Rattle.fmp_base.specs.Stretches.{is_over}
-use Rattle.fmp_base.specs.Ties.{StretchTied}
+use Rattle.fmp_base.specs.Stretches.{Ending, is_over}
+use Rattle.fmp_base.specs.Stretches as ends
+use Rattle.fmp_base.specs.Ties.{StretchTied, call, end_, fault}
 use Rattle.fmp_tasklang.specs.Trees.{ExpressionTree, StatementTree, assign, service_call, if_then, if_else, while, break, continue, return, Block, empty, next}
 use Rattle.fmp_tasklang.specs.Scopes.{Scope}
 use Rattle.fmp_tasklang.specs.Values.{value, values}
 use Rattle.fmp_tasklang.specs.Contexts.{Item, Do, Mark, TextContext, going, calling, items_before}
-use Rattle.fmp_tasklang.specs.Stretches.{Way, Next, Goes, Stops, word_place, places_of, with_value, after_mark, from_mark, after_statement, after_item, statement_weight, block_weight, weight, follow, walk, turns}
+use Rattle.fmp_tasklang.specs.Stretches.{Way, Next, Goes, Stops, word_place, places_of, with_value, after_mark, from_mark, after_statement, after_item, statement_weight, block_weight, weight, follow, out_of_turns, walk, turns}
 use Rattle.fmp_code.specs.declared.instructions.Instruction.{Instruction}
 use Rattle.fmp_code.specs.declared.instructions.Instruction.TheVariants.{Store, Jump, JumpIfZero, End}
 use Rattle.fmp_code.specs.declared.instructions.MachineContext.{MachineContext}
@@ -22,7 +21,7 @@ use Rattle.fmp_code.specs.Machine.{at, unstacked, exec, call_before, replied}
 use Rattle.fmp_codegen.specs.Naming.{uses_offence, expression_uses, statement_uses, block_uses, use_offence, Writes}
 use Rattle.fmp_codegen.specs.Scheme.{expression_code, arguments_code, target_place, call_instruction, statement_code, block_code}
 use Rattle.fmp_codegen.specs.Sizes.{expression_size, arguments_size, statement_size, block_size}
-use Rattle.fmp_codegen.specs.Tie.{HasAt, Path, Reaches, Stands, StandsSomehow, ContextTied}
+use Rattle.fmp_codegen.specs.Tie.{HasAt, Path, Reaches, Stands, StandsSomehow, ContextTied, SameLocals}
 use Rattle.fmp_codegen.proofs.Expressions.{Leads, Faults, Runs, stacked, one_step, leads_on, goes, jumps_to, renamed, expression_runs, arguments_run}
 use Rattle.fmp_codegen.proofs.Lengths.{has_front, has_back, length-expression_code, length-arguments_code, length-statement_code, length-block_code}
 use Rattle.fmp_codegen.proofs.KnownNames.{none-first, uses_front, uses_back, target_is}
@@ -77,6 +76,10 @@ room-least : (code : List Instruction) (t : ℕ) → length code ≤ room code t
 room-least code zero = omega arith
 room-least code (suc t) = omega arith
 
+-- the same locals, from the other side
+abbrev pub SameLocalsBack : TextContext → MachineContext → Type 0
+SameLocalsBack c d = SameLocals d c
+
 module _ (scope : Scope) (code : List Instruction) where
   -- jumps forward lead from p to where the code of these things to do stands
   abbrev pub Stood : ℕ → List Item → Type 0
@@ -86,17 +89,17 @@ module _ (scope : Scope) (code : List Instruction) where
   Tied c d = ContextTied scope code d c
 
   -- the machine comes to the same end
-  pub record Comes (t p : ℕ) (l : List ℤ) (o : Stretch TextContext) : Type 0 where
+  pub record Comes (t p : ℕ) (l : List ℤ) (o : Ending TextContext) : Type 0 where
     pub steps : ℕ
     pub within : p + steps ≤ room code t
-    pub outcome : Stretch MachineContext
+    pub outcome : Ending MachineContext
     pub by : exec code steps p [] l ≡ outcome
     pub ended : is_over outcome ≡ false
-    pub same : StretchTied Tied o outcome
+    pub same : StretchTied Tied SameLocalsBack o outcome
 
   -- the same end, or none within t instructions
-  abbrev pub Match : (t p : ℕ) → List ℤ → Stretch TextContext → Type 0
-  Match t p l ends.Over = (j : ℕ) × (t ≤ j) × (exec code j p [] l ≡ ends.Over)
+  abbrev pub Match : (t p : ℕ) → List ℤ → Ending TextContext → Type 0
+  Match t p l (ends.Over k) = (j : ℕ) × (t ≤ j) × (is_over (exec code j p [] l) ≡ true)
   Match t p l (ends.Call c r) = Comes t p l (ends.Call c r)
   Match t p l (ends.End c) = Comes t p l (ends.End c)
   Match t p l (ends.Fault c f) = Comes t p l (ends.Fault c f)
@@ -188,7 +191,7 @@ module _ (scope : Scope) (code : List Instruction) where
   -- ---- matches
 
   comes_on :
-      (t p q : ℕ) (l l' : List ℤ) (o : Stretch TextContext) → Leads code p [] l q [] l' → Comes t q l' o → Comes t p l o
+      (t p q : ℕ) (l l' : List ℤ) (o : Ending TextContext) → Leads code p [] l q [] l' → Comes t q l' o → Comes t p l o
   comes_on t p q l l' o a m =
       record {
         steps = a.steps + m.steps;
@@ -200,14 +203,14 @@ module _ (scope : Scope) (code : List Instruction) where
       }
 
   match_on :
-      (t p q : ℕ) (l l' : List ℤ) (o : Stretch TextContext) → Leads code p [] l q [] l' → Match t q l' o → Match t p l o
-  match_on t p q l l' ends.Over a m = (a.steps + m.0, omega (arith, m.1), a.by m.0 ∙ m.2)
+      (t p q : ℕ) (l l' : List ℤ) (o : Ending TextContext) → Leads code p [] l q [] l' → Match t q l' o → Match t p l o
+  match_on t p q l l' (ends.Over k) a m = (a.steps + m.0, omega (arith, m.1), ap is_over (a.by m.0) ∙ m.2)
   match_on t p q l l' (ends.Call c r) a m = comes_on t p q l l' (ends.Call c r) a m
   match_on t p q l l' (ends.End c) a m = comes_on t p q l l' (ends.End c) a m
   match_on t p q l l' (ends.Fault c f) a m = comes_on t p q l l' (ends.Fault c f) a m
 
   comes_turn :
-      (t p q : ℕ) (l : List ℤ) (o : Stretch TextContext) → slice_get code p ≡ Some (Jump q) → Comes t q l o →
+      (t p q : ℕ) (l : List ℤ) (o : Ending TextContext) → slice_get code p ≡ Some (Jump q) → Comes t q l o →
       Comes (suc t) p l o
   comes_turn t p q l o h m =
       record {
@@ -221,9 +224,9 @@ module _ (scope : Scope) (code : List Instruction) where
 
   -- a jump back is a turn
   match_turn :
-      (t p q : ℕ) (l : List ℤ) (o : Stretch TextContext) → slice_get code p ≡ Some (Jump q) → Match t q l o →
+      (t p q : ℕ) (l : List ℤ) (o : Ending TextContext) → slice_get code p ≡ Some (Jump q) → Match t q l o →
       Match (suc t) p l o
-  match_turn t p q l ends.Over h m = (1 + m.0, omega (arith, m.1), one_step code p [] l (Jump q) h m.0 ∙ m.2)
+  match_turn t p q l (ends.Over k) h m = (1 + m.0, omega (arith, m.1), ap is_over (one_step code p [] l (Jump q) h m.0) ∙ m.2)
   match_turn t p q l (ends.Call c r) h m = comes_turn t p q l (ends.Call c r) h m
   match_turn t p q l (ends.End c) h m = comes_turn t p q l (ends.End c) h m
   match_turn t p q l (ends.Fault c f) h m = comes_turn t p q l (ends.Fault c f) h m
@@ -238,7 +241,7 @@ module _ (scope : Scope) (code : List Instruction) where
         outcome = ends.Fault (at a.place l) f;
         by = a.by;
         ended = refl;
-        same = refl;
+        same = fault (going l rest) (at a.place l) f refl;
       }
 
   -- ---- one thing to do
@@ -305,18 +308,17 @@ module _ (scope : Scope) (code : List Instruction) where
         (λ xs a. record {
           steps = a.steps + 1;
           within = omega (arith, a.rises, room-least code t);
-          outcome = ends.Call (at (pe + 1) l) (request c.service (unstacked (stacked xs []) []));
-          by = a.by 1 ∙ one_step code pe (stacked xs []) l i st 0;
+          outcome = ends.Call (at (pe + 1) l) (request c.service xs);
+          by = a.by 1 ∙ one_step code pe (stacked xs []) l i st 0
+              ∙ ap (λ ys. ends.Call (at (pe + 1) l) (request c.service ys)) (unstacked-stacked xs [] [] ∙ append-nil xs);
           ended = refl;
-          same = (
-            ap (request c.service) (sym (unstacked-stacked xs [] [] ∙ append-nil xs)),
-            record {
-              locals = refl;
-              todo = stood rest (pe + 1) back exit
-                  (moved (p + (arguments_size c.arguments + 1)) (pe + 1) (Then rest back exit) (omega arith) h.2);
-              reply = λ ls reply. ap (λ o. replied o ls reply) (sym before) ∙ ap (λ n. replied (call_before code n) ls reply) after;
-            },
-          );
+          same = call (calling l rest (places_of scope c)) (at (pe + 1) l) (request c.service xs)
+              (record {
+                locals = refl;
+                todo = stood rest (pe + 1) back exit
+                    (moved (p + (arguments_size c.arguments + 1)) (pe + 1) (Then rest back exit) (omega arith) h.2);
+                reply = λ ls reply. ap (λ o. replied o ls reply) (sym before) ∙ ap (λ n. replied (call_before code n) ls reply) after;
+              });
         })
     statement_follows (if_then e s) rest p back exit l le h =
         let pe = p + expression_size e in
@@ -405,7 +407,7 @@ module _ (scope : Scope) (code : List Instruction) where
           outcome = ends.End (at p l);
           by = one_step code p [] l End h.0 0;
           ended = refl;
-          same = tt;
+          same = end_ (going l []) (at p l) refl;
         }
     item_follows (Do s ∷ rest) p back exit l le h = statement_follows s rest p back exit l le h
     item_follows (Mark e b ∷ rest) p back exit l le h = turned e b rest p back exit l h
@@ -426,7 +428,7 @@ module _ (scope : Scope) (code : List Instruction) where
   pub turns_follow :
       (t : ℕ) (l : List ℤ) (todo : List Item) (p : ℕ) → Stood p todo → Match t p l (turns scope t l todo)
   turns_follow zero l todo p h =
-      walk_follows 0 (λ l d. ends.Over) (λ e b rest p back exit l st. (0, omega arith, refl)) (weight todo) l todo p
+      walk_follows 0 out_of_turns (λ e b rest p back exit l st. (0, omega arith, refl)) (weight todo) l todo p
       (omega arith) h
   turns_follow (suc t) l todo p h =
       walk_follows (suc t) (turns scope t)

@@ -68,6 +68,10 @@ pub record ContextTied (scope : Scope) (code : List Instruction) (d : MachineCon
   pub todo : Reaches code d.pc (StandsSomehow scope code c.todo)
   pub reply : TakesReply code c.places d.pc
 
+-- contexts at an end or a fault: the same locals
+abbrev pub SameLocals : MachineContext → TextContext → Type 0
+SameLocals d c = c.locals ≡ d.locals
+
 -- the same for each body of a text, by its number
 abbrev pub CodeTied : SystemTables → List BodyTree → List BodyTables → ℕ → MachineContext → TextContext → Type 0
 CodeTied tables bodies code body d c =

@@ -1,15 +1,14 @@
 -- One event of a run on a kernel, between what is printed and what is still to come.
-use Rattle.std.proofs.Common.{◌≡◌, refl, ℕ, ◌+◌, ◌<◌, ◌≤◌, List, ◌∷◌, ◌++◌, Option, Some, None, subst, sym, arith, ap, ◌∙◌, append_assoc, map, get_or, drop, length, add-one}
+use Rattle.std.proofs.Common.{◌≡◌, refl, ℕ, ◌+◌, ◌<◌, ◌≤◌, List, ◌∷◌, ◌++◌, subst, sym, arith, ap, ◌∙◌, append_assoc, map, get_or, drop, length, add-one}
 use Rattle.std.proofs.Math.Seq.{drop-cons}
-use Rattle.fmp_base.specs.declared.events.Effect.TheVariants.{Done, Nothing}
+use Rattle.fmp_base.specs.declared.events.Effect.TheVariants as effect
 use Rattle.fmp_base.specs.declared.events.Event.{Event}
 use Rattle.fmp_base.specs.Meanings.{Meaning}
 use Rattle.fmp_base.specs.declared.events.TaskState.{TaskState}
 use Rattle.fmp_base.specs.Runs.{run, run_on, task_state}
 use Rattle.fmp_base.specs.Setups.{setup}
 use Rattle.fmp_base.specs.States.{KernelState, places_from}
-use Rattle.fmp_base.specs.Steps as steps
-use Rattle.fmp_base.specs.Steps.{effect_of, step}
+use Rattle.fmp_base.specs.Steps.{Reaction, Nothing, Did, effect_of, step}
 use Rattle.fmp_base.specs.Systems.{SystemTables}
 use Rattle.fmp_base.specs.Texts.{lines_text, events_text, states_text, whole_text}
 use Rattle.fmp_kernel.specs.KernelViews.{KernelView, view_of_setup, view_after}
@@ -18,33 +17,33 @@ use Rattle.fmp_trace.proofs.ListedStates.{listed_states_are_states}
 use Rattle.fmp_engine.specs.Plays.{text_of_events, state_after, HasTaken}
 
 module _ {B C : Type 0} (meaning : B → Meaning C) where
-  abbrev step_of : KernelView B C → Event → Option (steps.Done C)
+  abbrev step_of : KernelView B C → Event → Reaction C
   step_of k e = step k.system (meaning k.body) k.bound k.world e
 
-  done_here : (k : KernelView B C) (es : List Event) (o : Option (steps.Done C)) → Done ≡ effect_of o
+  done_here : (k : KernelView B C) (es : List Event) (o : Reaction C) → effect.Done ≡ effect_of o
       → events_text k.system (k.done + 1) (run_on k.world o (λ w. run k.system (meaning k.body) k.bound w es)).events
       ≡ lines_text k.system (view_after k o).done (view_after k o).lines ++ text_of_events meaning (view_after k o) es
-  done_here k es None h = absurd (cc)
-  done_here k es (Some d) h = refl
+  done_here k es Nothing h = absurd (cc)
+  done_here k es (Did d) h = refl
 
-  nothing_here : (k : KernelView B C) (es : List Event) (o : Option (steps.Done C)) → Nothing ≡ effect_of o
+  nothing_here : (k : KernelView B C) (es : List Event) (o : Reaction C) → effect.Nothing ≡ effect_of o
       → events_text k.system (k.done + 1) (run_on k.world o (λ w. run k.system (meaning k.body) k.bound w es)).events
       ≡ text_of_events meaning (view_after k o) es
-  nothing_here k es None h = refl
-  nothing_here k es (Some d) h = absurd (cc)
+  nothing_here k es Nothing h = refl
+  nothing_here k es (Did d) h = absurd (cc)
 
-  state_here : (k : KernelView B C) (es : List Event) (o : Option (steps.Done C))
+  state_here : (k : KernelView B C) (es : List Event) (o : Reaction C)
       → (run_on k.world o (λ w. run k.system (meaning k.body) k.bound w es)).world.state ≡ state_after meaning (view_after k o) es
-  state_here k es None = refl
-  state_here k es (Some d) = refl
+  state_here k es Nothing = refl
+  state_here k es (Did d) = refl
 
-  system_here : (k : KernelView B C) (o : Option (steps.Done C)) → (view_after k o).system ≡ k.system
-  system_here k None = refl
-  system_here k (Some d) = refl
+  system_here : (k : KernelView B C) (o : Reaction C) → (view_after k o).system ≡ k.system
+  system_here k Nothing = refl
+  system_here k (Did d) = refl
 
-  one_more : (k : KernelView B C) (o : Option (steps.Done C)) → (view_after k o).done ≤ k.done + 1
-  one_more k None = omega arith
-  one_more k (Some d) = omega arith
+  one_more : (k : KernelView B C) (o : Reaction C) → (view_after k o).done ≤ k.done + 1
+  one_more k Nothing = omega arith
+  one_more k (Did d) = omega arith
 
   pub system-step : (k k' : KernelView B C) (e : Event) → k' ≡ view_after k (step_of k e) → k'.system ≡ k.system
   system-step k k' e h = ap (λ (v : KernelView B C). v.system) h ∙ system_here k (step_of k e)
@@ -65,11 +64,11 @@ module _ {B C : Type 0} (meaning : B → Meaning C) where
 
   -- an event that did something: its lines have been printed
   pub text-done : (sys : SystemTables) (k k' : KernelView B C) (events : List Event) (i : ℕ) (d : Event) (out wrote total : List ℕ)
-      → i < length events → k.system ≡ sys → Done ≡ effect_of (step_of k (get_or events i d))
+      → i < length events → k.system ≡ sys → effect.Done ≡ effect_of (step_of k (get_or events i d))
       → k' ≡ view_after k (step_of k (get_or events i d)) → wrote ≡ out ++ lines_text sys k'.done k'.lines
       → out ++ text_of_events meaning k (drop i events) ≡ total → wrote ++ text_of_events meaning k' (drop (i + 1) events) ≡ total
   text-done sys k k' events i d out wrote total lt same e h w so_far =
-      let o : Option (steps.Done C) = step_of k (get_or events i d) in
+      let o : Reaction C = step_of k (get_or events i d) in
       let rest : List Event = drop (i + 1) events in
       let here : text_of_events meaning k (drop i events) ≡ lines_text k.system (view_after k o).done (view_after k o).lines ++ text_of_events meaning (view_after k o) rest =
       ap (λ (es : List Event). text_of_events meaning k es) (cut events i d lt) ∙ done_here k rest o e in
@@ -82,10 +81,10 @@ module _ {B C : Type 0} (meaning : B → Meaning C) where
 
   -- an event that did nothing
   pub text-nothing : (k k' : KernelView B C) (events : List Event) (i : ℕ) (d : Event) (out total : List ℕ)
-      → i < length events → Nothing ≡ effect_of (step_of k (get_or events i d)) → k' ≡ view_after k (step_of k (get_or events i d))
+      → i < length events → effect.Nothing ≡ effect_of (step_of k (get_or events i d)) → k' ≡ view_after k (step_of k (get_or events i d))
       → out ++ text_of_events meaning k (drop i events) ≡ total → out ++ text_of_events meaning k' (drop (i + 1) events) ≡ total
   text-nothing k k' events i d out total lt e h so_far =
-      let o : Option (steps.Done C) = step_of k (get_or events i d) in
+      let o : Reaction C = step_of k (get_or events i d) in
       let here : text_of_events meaning k (drop i events) ≡ text_of_events meaning (view_after k o) (drop (i + 1) events) =
       ap (λ (es : List Event). text_of_events meaning k es) (cut events i d lt) ∙ nothing_here k (drop (i + 1) events) o e in
       ap (λ (v : KernelView B C). out ++ text_of_events meaning v (drop (i + 1) events)) h

@@ -1,12 +1,12 @@
 -- A run in parts: what follows a part is the run from the world at its end.
-use Rattle.std.proofs.Common.{◌≡◌, refl, ap, subst, ◌∙◌, ℕ, ◌+◌, ◌-◌, List, [], ◌∷◌, ◌++◌, length, drop, Option, Some, None}
+use Rattle.std.proofs.Common.{◌≡◌, refl, ap, subst, ◌∙◌, ℕ, ◌+◌, ◌-◌, List, [], ◌∷◌, ◌++◌, length, drop}
 use Rattle.std.proofs.Math.Seq.{drop-append-add}
 use Rattle.fmp_base.specs.declared.events.Event.{Event}
 use Rattle.fmp_base.specs.declared.events.Line.{Line}
 use Rattle.fmp_base.specs.Meanings.{Meaning, World}
 use Rattle.fmp_base.specs.Runs.{Trace, after_first, run, run_on}
 use Rattle.fmp_base.specs.Setups.{setup}
-use Rattle.fmp_base.specs.Steps.{Done, step}
+use Rattle.fmp_base.specs.Steps.{Reaction, Nothing, Did, step}
 use Rattle.fmp_base.specs.Systems.{SystemTables}
 use Rattle.fmp_base.specs.Texts.{events_text}
 use Rattle.fmp_tasklang.specs.Texts.{text_meaning}
@@ -24,11 +24,11 @@ Parts sys M bound es fs w = run sys M bound w (es ++ fs) ≡ joined (run sys M b
 parts_on :
     {C : Type 0} (sys : SystemTables) (M : Meaning C) (bound : ℕ) (es fs : List Event) →
     ((v : World C) → Parts sys M bound es fs v) →
-    (w : World C) (o : Option (Done C)) →
+    (w : World C) (o : Reaction C) →
     run_on w o (λ v. run sys M bound v (es ++ fs)) ≡
     joined (run_on w o (λ v. run sys M bound v es)) (run sys M bound (run_on w o (λ v. run sys M bound v es)).world fs)
-parts_on sys M bound es fs rest w None = rest w
-parts_on sys M bound es fs rest w (Some d) = ap (after_first d.lines) (rest d.world)
+parts_on sys M bound es fs rest w Nothing = rest w
+parts_on sys M bound es fs rest w (Did d) = ap (after_first d.lines) (rest d.world)
 
 parts : {C : Type 0} (sys : SystemTables) (M : Meaning C) (bound : ℕ) (es fs : List Event) (w : World C) → Parts sys M bound es fs w
 parts sys M bound [] fs w = refl

@@ -1,8 +1,8 @@
 -- What is seen of a kernel.
-use Rattle.std.specs.Prelude.{ℕ, ◌+◌, List, Option, Some, None, replicate}
+use Rattle.std.specs.Prelude.{ℕ, ◌+◌, List, Option, None, replicate}
 use Rattle.fmp_base.specs.declared.events.Line.{Line}
 use Rattle.fmp_base.specs.Meanings.{Contexts, World}
-use Rattle.fmp_base.specs.Steps.{Done}
+use Rattle.fmp_base.specs.Steps.{Done, Reaction, Nothing, Did}
 use Rattle.fmp_base.specs.Systems.{SystemTables}
 use Rattle.fmp_tasks.specs.Tables.{TablesView}
 
@@ -29,9 +29,9 @@ abbrev pub done_of : {C : Type 0} → TablesView → List (Option C) → List Li
 done_of h cs lines = record { world = world_of h cs; lines = lines }
 
 -- what an event left, or what was before where it did nothing
-abbrev pub done_or : {C : Type 0} → Done C → Option (Done C) → Done C
-done_or d None = d
-done_or d (Some e) = e
+abbrev pub done_or : {C : Type 0} → Done C → Reaction C → Done C
+done_or d Nothing = d
+done_or d (Did e) = e
 
 -- a kernel after setup
 abbrev pub view_of_setup : {B C : Type 0} → B → ℕ → SystemTables → Done C → KernelView B C
@@ -39,6 +39,6 @@ view_of_setup body bound sys d =
     record { body = body; bound = bound; system = sys; world = d.world; lines = d.lines; done = 0 }
 
 -- a kernel after an event; where the event did nothing, the same
-abbrev pub view_after : {B C : Type 0} → KernelView B C → Option (Done C) → KernelView B C
-view_after k None = k
-view_after k (Some d) = record k { world = d.world; lines = d.lines; done = k.done + 1 }
+abbrev pub view_after : {B C : Type 0} → KernelView B C → Reaction C → KernelView B C
+view_after k Nothing = k
+view_after k (Did d) = record k { world = d.world; lines = d.lines; done = k.done + 1 }

@@ -4,6 +4,7 @@ ghost use Rattle.fmp_base.specs.Calls.{called};
 ghost use Rattle.fmp_base.specs.Meanings.{task_body, with_context};
 ghost use Rattle.fmp_base.specs.States.{processor_at};
 ghost use Rattle.fmp_base.specs.Steps.{actor_ended, actor_of, call_made, effect_of, finished, run_by, stretched};
+ghost use Rattle.fmp_base.specs.Stretches.{ending};
 ghost use Rattle.fmp_base.specs.Ticks.{ticked, with_clock_advanced};
 ghost use Rattle.fmp_body.specs.Contexts.{OfCall};
 ghost use Rattle.fmp_kernel.specs.Contexts.{Fitting, Entered, IsOfTask};
@@ -181,13 +182,13 @@ pub fn happen<B: Body>(
     requires ready { IsReady tables.old (length contexts.old.items) }
     requires entries { Entered B.has_entry body.now tables.old.system }
     requires contexts { Fitting B.is_context body.now tables.old.system contexts.old.items }
-    requires context { OfCall (B.is_context body.now (task_body tables.old.system t)) stretch }
+    requires context { OfCall (B.is_context body.now (task_body tables.old.system t)) (ending stretch) }
     requires task { t < length contexts.old.items }
     requires processor { p < tables.old.system.processors }
     requires caused { 255 ≤ vec_capacity caused.old }
     requires room { vec_capacity caused.old + 9 ≤ vec_capacity lines.old }
-    ensures effect { result ≡ effect_of (stretched tables.old.system (B.meaning body.now) (world_of tables.old contexts.old.items) p (Caller.Task t) stretch) }
-    ensures after { done_of tables.new contexts.new.items lines.new.items ≡ done_or (done_of tables.old contexts.old.items lines.old.items) (stretched tables.old.system (B.meaning body.now) (world_of tables.old contexts.old.items) p (Caller.Task t) stretch) }
+    ensures effect { result ≡ effect_of (stretched tables.old.system (B.meaning body.now) (world_of tables.old contexts.old.items) p (Caller.Task t) (ending stretch)) }
+    ensures after { done_of tables.new contexts.new.items lines.new.items ≡ done_or (done_of tables.old contexts.old.items lines.old.items) (stretched tables.old.system (B.meaning body.now) (world_of tables.old contexts.old.items) p (Caller.Task t) (ending stretch)) }
     ensures shape { SameShape tables.old tables.new }
     ensures long { length contexts.new.items ≡ length contexts.old.items }
     ensures contexts { Fitting B.is_context body.now tables.old.system contexts.new.items }

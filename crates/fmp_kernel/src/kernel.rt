@@ -1,9 +1,9 @@
 //! The kernel over lawful bodies: setup, and one event after the other.
-ghost use Rattle.std.specs.Prelude.{◌≡◌, ◌+◌, ◌<◌, ◌≤◌, ◌^◌, length, vec_len, vec_capacity, IfOk, All, None};
+ghost use Rattle.std.specs.Prelude.{◌≡◌, ◌+◌, ◌<◌, ◌≤◌, ◌^◌, length, vec_len, vec_capacity, IfOk, All};
 ghost use Rattle.fmp_base.specs.Runs.{task_state, state_word as word_of_state};
 ghost use Rattle.fmp_base.specs.Setups.{setup};
 ghost use Rattle.fmp_base.specs.States.{processor_at};
-ghost use Rattle.fmp_base.specs.Steps.{actor_of, effect_of, run_by, step};
+ghost use Rattle.fmp_base.specs.Steps.{Nothing, actor_of, effect_of, run_by, step};
 ghost use Rattle.fmp_base.specs.Systems.{tables_of};
 ghost use Rattle.fmp_kernel.specs.Contexts.{Entered};
 ghost use Rattle.fmp_kernel.specs.KernelViews.{view_after, view_of_setup};
@@ -191,7 +191,7 @@ impl<B: Body> Kernel<B> {
 
     /// An interrupt does nothing, since so far none has a handler.
     fn expect_no_interrupt(&self, number: u8)
-        ensures { step self.now.system (B.meaning self.now.body) self.now.bound self.now.world (Event.Int number) ≡ None }
+        ensures { step self.now.system (B.meaning self.now.body) self.now.bound self.now.world (Event.Int number) ≡ Nothing }
     {
         if number > 0 {
             let config = self.tables.interrupt_config(number - 1);

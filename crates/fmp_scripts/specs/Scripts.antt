@@ -1,9 +1,9 @@
 -- Bodies that make the calls of a list, one after the other, and end: the context is the place in the list.
 use Rattle.std.specs.Prelude.{ℕ, ◌+◌, ◌<◌, List, [], Option, Some, None, Bool, true, false, length, nat_lt, slice_get, if◌then◌else◌}
-use Rattle.fmp_base.specs.declared.bodies.Stretch.{Stretch}
-use Rattle.fmp_base.specs.declared.bodies.Stretch.TheVariants as ends
 use Rattle.fmp_base.specs.declared.calls.Call.{Call}
 use Rattle.fmp_base.specs.Meanings.{Meaning}
+use Rattle.fmp_base.specs.Stretches.{Ending}
+use Rattle.fmp_base.specs.Stretches as ends
 
 -- a body of this number is there
 abbrev pub IsBody : List (List Call) → ℕ → Type 0
@@ -18,16 +18,16 @@ abbrev pub calls_of : List (List Call) → ℕ → List Call
 calls_of bodies body = listed (slice_get bodies body)
 
 -- a call takes two units
-abbrev pub call_within : Bool → ℕ → Call → Stretch ℕ
-call_within true c made = ends.Over
+abbrev pub call_within : Bool → ℕ → Call → Ending ℕ
+call_within true c made = ends.Over None
 call_within false c made = ends.Call c made
 
 -- the end takes one
-abbrev pub end_within : Bool → ℕ → Stretch ℕ
-end_within true c = ends.Over
+abbrev pub end_within : Bool → ℕ → Ending ℕ
+end_within true c = ends.Over None
 end_within false c = ends.End c
 
-abbrev pub script_from : Option Call → ℕ → ℕ → Stretch ℕ
+abbrev pub script_from : Option Call → ℕ → ℕ → Ending ℕ
 script_from (Some made) n c = call_within (nat_lt n 2) c made
 script_from None n c = end_within (nat_lt n 1) c
 

@@ -1,17 +1,16 @@
 -- More turns change no stretch that is within its bound.
 use Rattle.std.proofs.Common.{◌≡◌, ℕ, zero, suc, ◌≤◌, ℤ, List, false, refl, arith}
-use Rattle.fmp_base.specs.declared.bodies.Stretch.TheVariants as ends
 use Rattle.fmp_tasklang.specs.Scopes.{Scope}
 use Rattle.fmp_tasklang.specs.Contexts.{Item}
 use Rattle.fmp_base.specs.Stretches.{is_over}
-use Rattle.fmp_tasklang.specs.Stretches.{Way, Next, Goes, Turns, Stops, after_item, follow, walk, weight, turns}
+use Rattle.fmp_tasklang.specs.Stretches.{Way, Next, Goes, Turns, Stops, after_item, follow, out_of_turns, walk, weight, turns}
 use Rattle.fmp_tasklang.specs.Laws.{MoreTurnsChangeNothing}
 
 -- where f is not over its bound, g is the same
 abbrev Extends : (f g : Way) → Type 0
 Extends f g = (locals : List ℤ) (todo : List Item) → is_over (f locals todo) ≡ false → g locals todo ≡ f locals todo
 
-over_extends : (g : Way) → Extends (λ l d. ends.Over) g
+over_extends : (g : Way) → Extends out_of_turns g
 over_extends g locals todo e = absurd (cc e)
 
 follow_extends :
@@ -38,7 +37,7 @@ module _ (scope : Scope) where
   turns_extend zero zero le locals todo e = refl
   turns_extend zero (suc high) le locals todo e =
       let after = turns scope high in
-      walk_extends (λ l d. ends.Over) after (over_extends after) (weight todo) locals todo e
+      walk_extends out_of_turns after (over_extends after) (weight todo) locals todo e
   turns_extend (suc low) zero le locals todo e = absurd (omega (arith, le))
   turns_extend (suc low) (suc high) le locals todo e =
       let extends = turns_extend low high (omega (arith, le)) in

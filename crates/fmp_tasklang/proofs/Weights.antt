@@ -2,13 +2,12 @@
 use Rattle.std.proofs.Common.{◌≡◌, ℕ, zero, suc, ◌+◌, ◌≤◌, ◌<◌, ℤ, List, [], ◌∷◌, Bool, true, false, Result, Ok, Err, refl, ◌∙◌, arith}
 use Rattle.std.specs.Prelude.{if◌then◌else◌}
 use Rattle.fmp_base.specs.declared.bodies.Fault.{Fault}
-use Rattle.fmp_base.specs.declared.bodies.Stretch.TheVariants as ends
 use Rattle.fmp_base.specs.Operators.{is_zero}
 use Rattle.fmp_tasklang.specs.Trees.{StatementTree, assign, service_call, if_then, if_else, while, break, continue, return, Block, empty, next}
 use Rattle.fmp_tasklang.specs.Scopes.{Scope}
 use Rattle.fmp_tasklang.specs.Values.{value, values}
 use Rattle.fmp_tasklang.specs.Contexts.{Item, Do, Mark, items_before}
-use Rattle.fmp_tasklang.specs.Stretches.{Way, Next, Goes, Turns, Stops, with_value, after_mark, from_mark, after_statement, after_item, statement_weight, block_weight, weight, follow, walk, turns}
+use Rattle.fmp_tasklang.specs.Stretches.{Way, Next, Goes, Turns, Stops, with_value, after_mark, from_mark, after_statement, after_item, statement_weight, block_weight, weight, follow, out_of_turns, walk, turns}
 use Rattle.fmp_tasklang.specs.Laws.{FollowsEachItem}
 
 one-le-statement_weight : (s : StatementTree) → 1 ≤ statement_weight s
@@ -137,5 +136,5 @@ module _ (scope : Scope) where
       follow_same again go (by_weight again) n same (after_item scope locals todo) (item_lighter locals todo)
 
 pub follows_each_item : FollowsEachItem
-follows_each_item scope zero locals todo = walk_follows scope (λ l d. ends.Over) locals todo
+follows_each_item scope zero locals todo = walk_follows scope out_of_turns locals todo
 follows_each_item scope (suc t) locals todo = walk_follows scope (turns scope t) locals todo

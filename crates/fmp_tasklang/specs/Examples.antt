@@ -1,8 +1,6 @@
 -- Small bodies, and what they do.
 use Rattle.std.specs.Prelude.{◌≡◌, ℕ, ℤ, pos, negsuc, List, [], ◌∷◌, Some, Ok, Err, true, replicate, codes}
 use Rattle.fmp_base.specs.declared.bodies.Fault.TheVariants.{Overflow, Division}
-use Rattle.fmp_base.specs.declared.bodies.Stretch.{Stretch}
-use Rattle.fmp_base.specs.declared.bodies.Stretch.TheVariants as ends
 use Rattle.fmp_base.specs.declared.calls.Service.TheVariants as service
 use Rattle.fmp_base.specs.declared.calls.Call.TheVariants as calls
 use Rattle.fmp_base.specs.declared.calls.Reply.{Reply}
@@ -22,7 +20,8 @@ use Rattle.fmp_tasklang.specs.Trees.{ExpressionTree, number, named, unary, binar
 use Rattle.fmp_tasklang.specs.Scopes.{Scope, scope_of}
 use Rattle.fmp_tasklang.specs.Values.{value}
 use Rattle.fmp_tasklang.specs.Contexts.{TextContext, Do, going, calling, start}
-use Rattle.fmp_base.specs.Stretches.{is_over}
+use Rattle.fmp_base.specs.Stretches.{Ending, is_over}
+use Rattle.fmp_base.specs.Stretches as ends
 use Rattle.fmp_tasklang.specs.Stretches.{stretch}
 use Rattle.fmp_tasklang.specs.Texts.{text_start, text_stretch, text_deliver}
 
@@ -189,7 +188,7 @@ abbrev pub reply : Er → Reply
 reply code = record { code = code; value = Some (pos 7) }
 
 -- the stretch of a task that starts with 9, in at most t turns
-abbrev pub first_stretch : ℕ → List StatementTree → Stretch TextContext
+abbrev pub first_stretch : ℕ → List StatementTree → Ending TextContext
 first_stretch t statements = stretch scope t (start (task statements) (pos 9))
 
 -- the bodies of a text

@@ -4,7 +4,6 @@ use Rattle.std.specs.Box.{box_value}
 use Rattle.std.specs.declared.alloc.Global.{Global}
 use Rattle.std.specs.declared.vec.Vec.{Vec}
 use Rattle.std.specs.Global.{Box}
-use Rattle.fmp_base.specs.declared.bodies.Stretch.TheVariants as ends
 use Rattle.fmp_base.specs.declared.operators.UnaryOperator.{UnaryOperator}
 use Rattle.fmp_lex.specs.declared.token.TokenKind.{TokenKind}
 use Rattle.fmp_lex.specs.Reading.{IsWhole}
@@ -17,7 +16,7 @@ use Rattle.fmp_tasklang.specs.Views.{chain_tree, expression_view, link_view, sta
 use Rattle.fmp_tasklang.specs.Scopes.{Scope}
 use Rattle.fmp_tasklang.specs.Contexts.{Item, TextContext}
 use Rattle.fmp_base.specs.Stretches.{is_over}
-use Rattle.fmp_tasklang.specs.Stretches.{Way, after_item, follow, turns, stretch}
+use Rattle.fmp_tasklang.specs.Stretches.{Way, after_item, follow, out_of_turns, turns, stretch}
 
 -- the view of a tree is made of the views of what its boxes and vectors hold
 pub record ViewsOfParts : Type 0 where
@@ -48,7 +47,7 @@ MoreTurnsChangeNothing =
 
 -- what follows a turn where t turns were left before it
 abbrev pub after_turn : Scope → ℕ → Way
-after_turn scope zero locals todo = ends.Over
+after_turn scope zero locals todo = out_of_turns locals todo
 after_turn scope (suc t) locals todo = turns scope t locals todo
 
 -- every item is followed, however many come before the next mark: the turns alone are bounded

@@ -1,10 +1,10 @@
 -- A stretch of a body: what it does up to its next service call, its end or its fault.
 use Rattle.std.specs.Prelude.{ℕ, zero, suc, ◌+◌, ℤ, List, [], ◌∷◌, Option, Some, None, Result, Ok, Err, if◌then◌else◌}
 use Rattle.fmp_base.specs.declared.bodies.Fault.{Fault}
-use Rattle.fmp_base.specs.declared.bodies.Stretch.{Stretch}
-use Rattle.fmp_base.specs.declared.bodies.Stretch.TheVariants as ends
 use Rattle.fmp_base.specs.Operators.{is_zero}
 use Rattle.fmp_base.specs.Services.{request}
+use Rattle.fmp_base.specs.Stretches.{Ending}
+use Rattle.fmp_base.specs.Stretches as ends
 use Rattle.fmp_base.specs.Deliveries.{Places, written}
 use Rattle.fmp_tasklang.specs.declared.trees.Word.{Word}
 use Rattle.fmp_tasklang.specs.Trees.{CallTree, StatementTree, assign, service_call, if_then, if_else, while, break, continue, return, Block, empty, next}
@@ -43,11 +43,11 @@ places_of scope c = record { service = c.service; out = word_place scope c.out; 
 pub data Next : Type 0 where
   Goes : List ℤ → List Item → Next
   Turns : List ℤ → List Item → Next
-  Stops : Stretch TextContext → Next
+  Stops : Ending TextContext → Next
 
 -- a way on: the stretch from some locals and items
 abbrev pub Way : Type 0
-Way = List ℤ → List Item → Stretch TextContext
+Way = List ℤ → List Item → Ending TextContext
 
 -- goes on with a value, or stops with its fault
 abbrev pub with_value : {A : Type 0} → Result A Fault → List ℤ → List Item → (A → Next) → Next
@@ -104,21 +104,25 @@ weight (Do s ∷ rest) = statement_weight s + weight rest
 weight (Mark e b ∷ rest) = 1 + weight rest
 
 -- goes where an item leads: on by `go`, or after a turn by `again`
-abbrev pub follow : (again go : Way) → Next → Stretch TextContext
+abbrev pub follow : (again go : Way) → Next → Ending TextContext
 follow again go (Goes locals todo) = go locals todo
 follow again go (Turns locals todo) = again locals todo
 follow again go (Stops s) = s
 
+-- more turns are needed; nothing is handed over
+abbrev pub out_of_turns : Way
+out_of_turns locals todo = ends.Over None
+
 -- one item after another, at most so many
 abbrev pub walk : Scope → Way → ℕ → Way
-walk scope again zero locals todo = ends.Over
+walk scope again zero locals todo = out_of_turns locals todo
 walk scope again (suc fuel) locals todo = follow again (walk scope again fuel) (after_item scope locals todo)
 
 -- at most so many turns of loops
 abbrev pub turns : Scope → ℕ → Way
-turns scope zero locals todo = walk scope (λ l d. ends.Over) (weight todo) locals todo
+turns scope zero locals todo = walk scope out_of_turns (weight todo) locals todo
 turns scope (suc t) locals todo = walk scope (turns scope t) (weight todo) locals todo
 
 -- the stretch from a context, in at most t turns of loops
-abbrev pub stretch : Scope → ℕ → TextContext → Stretch TextContext
+abbrev pub stretch : Scope → ℕ → TextContext → Ending TextContext
 stretch scope t c = turns scope t c.locals c.todo

@@ -1,8 +1,8 @@
 -- What the bodies of a text mean, by their number: how one starts, its stretch, and how it receives a reply.
 use Rattle.std.specs.Prelude.{ℕ, ℤ, List, [], slice_get}
-use Rattle.fmp_base.specs.declared.bodies.Stretch.{Stretch}
 use Rattle.fmp_base.specs.declared.calls.Reply.{Reply}
 use Rattle.fmp_base.specs.Meanings.{Meaning}
+use Rattle.fmp_base.specs.Stretches.{Ending}
 use Rattle.fmp_base.specs.Systems.{SystemTables, no_name, found}
 use Rattle.fmp_tasklang.specs.declared.trees.BodyKind.TheVariants.{Task}
 use Rattle.fmp_tasklang.specs.Trees.{BodyTree, empty}
@@ -24,7 +24,7 @@ abbrev pub text_start : List BodyTree → ℕ → ℤ → TextContext
 text_start bodies entry exinf = start (body_at bodies entry) exinf
 
 -- the stretch of a body in at most t turns of loops
-abbrev pub text_stretch : SystemTables → List BodyTree → ℕ → ℕ → TextContext → Stretch TextContext
+abbrev pub text_stretch : SystemTables → List BodyTree → ℕ → ℕ → TextContext → Ending TextContext
 text_stretch tables bodies entry t c = stretch (scope_of tables (body_at bodies entry)) t c
 
 -- the context of a body after the reply of its call
