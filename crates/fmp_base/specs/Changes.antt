@@ -7,7 +7,7 @@ use Rattle.fmp_base.specs.declared.states.Lock.TheVariants.{Free}
 use Rattle.fmp_base.specs.declared.states.Phase.{Phase}
 use Rattle.fmp_base.specs.declared.states.Phase.TheVariants.{Dormant, Ready, Waiting}
 use Rattle.fmp_base.specs.declared.states.TaskBlock.{TaskBlock}
-use Rattle.fmp_base.specs.States.{KernelState, Progress, unchanged, processor_at, with_processor, with_task, with_last, with_left}
+use Rattle.fmp_base.specs.States.{KernelState, Progress, unchanged, processor_at, with_processor, with_task, with_last, with_removed}
 use Rattle.fmp_base.specs.Systems.{SystemTables, task_config, found}
 
 -- the block of a task that starts: a stored processor becomes the assigned one
@@ -33,7 +33,7 @@ started sys g t x = started_as g t (started_block sys t x)
 
 -- a suspended task leaves the order, another goes to its end
 abbrev pub released_state : Bool → KernelState → ℕ → TaskBlock → KernelState
-released_state true s t y = with_left s t y
+released_state true s t y = with_removed s t y
 released_state false s t y = with_last s t y
 
 -- the waiting task is released with a reply
@@ -51,7 +51,7 @@ ended_block sys t x =
 
 -- with no activation queued the task, now y, is dormant; else one is taken and it starts
 abbrev pub ended_by : ℕ → SystemTables → Progress → ℕ → TaskBlock → Progress
-ended_by zero sys g t y = record g { state = with_left g.state t y }
+ended_by zero sys g t y = record g { state = with_removed g.state t y }
 ended_by (suc n) sys g t y = started sys g t (record y { activations = n })
 
 -- the task ends, and starts again where an activation is queued
@@ -69,8 +69,8 @@ ended_itself sys s p t x = ended sys (unchanged (with_nothing_run s p)) t x
 
 -- a waiting task waits on in its place, another leaves the order
 abbrev pub suspended_by : Phase → KernelState → ℕ → TaskBlock → KernelState
-suspended_by Dormant s t y = with_left s t y
-suspended_by Ready s t y = with_left s t y
+suspended_by Dormant s t y = with_removed s t y
+suspended_by Ready s t y = with_removed s t y
 suspended_by (Waiting c) s t y = with_task s t y
 
 -- the task is suspended

@@ -9,7 +9,7 @@ use Rattle.fmp_base.specs.declared.states.WaitCause.{WaitCause}
 use Rattle.fmp_base.specs.declared.states.WaitCause.TheVariants as cause
 use Rattle.fmp_base.specs.declared.states.WaitQueue.TheVariants as queue
 use Rattle.fmp_base.specs.Changes.{released}
-use Rattle.fmp_base.specs.Outcomes.{Outcome, code, given, done, done_in, gives, waits_within, limit_of, numbered, tested, unless}
+use Rattle.fmp_base.specs.Outcomes.{Outcome, code, given, succeeds, succeeds_in, gives, waits_within, limit_of, numbered, tested, refused_if}
 use Rattle.fmp_base.specs.Queues.{first_waiting}
 use Rattle.fmp_base.specs.States.{KernelState, unchanged, task_at}
 use Rattle.fmp_base.specs.Systems.{SystemTables, data_queue_config}
@@ -29,24 +29,24 @@ appended s d v = with_words s d (words_at s d ++ v ∷ [])
 
 -- with no receiver: the word is appended where there is room, else the caller waits with it
 abbrev pub queued_by : Bool → KernelState → ℕ → TaskBlock → TimeLimit → ℕ → ℤ → Outcome
-queued_by true s me x limit d v = done_in (appended s d v)
+queued_by true s me x limit d v = succeeds_in (appended s d v)
 queued_by false s me x limit d v = waits_within limit s me x (cause.Sending d v)
 
 -- the first receiver, if any, is released with the word
-abbrev pub sent_to : Option ℕ → SystemTables → KernelState → ℕ → TaskBlock → TimeLimit → ℕ → ℤ → Outcome
-sent_to (Some t) sys s me x limit d v = done (released (unchanged s) t (task_at s.tasks t) (given v))
-sent_to None sys s me x limit d v = queued_by (has_room sys s d) s me x limit d v
+abbrev pub word_sent_to : Option ℕ → SystemTables → KernelState → ℕ → TaskBlock → TimeLimit → ℕ → ℤ → Outcome
+word_sent_to (Some t) sys s me x limit d v = succeeds (released (unchanged s) t (task_at s.tasks t) (given v))
+word_sent_to None sys s me x limit d v = queued_by (has_room sys s d) s me x limit d v
 
-abbrev pub sent : SystemTables → KernelState → ℕ → TaskBlock → ℤ → TimeLimit → ℕ → Outcome
-sent sys s me x v limit d = sent_to (first_waiting sys s (queue.Receivers d)) sys s me x limit d v
+abbrev pub word_sent : SystemTables → KernelState → ℕ → TaskBlock → ℤ → TimeLimit → ℕ → Outcome
+word_sent sys s me x v limit d = word_sent_to (first_waiting sys s (queue.Receivers d)) sys s me x limit d v
 
 -- snd_dtq and psnd_dtq; ipsnd_dtq never waits, so its caller is not looked at
 abbrev pub snd_dtq : SystemTables → KernelState → ℕ → TaskBlock → TimeLimit → ℤ → ℤ → Outcome
-snd_dtq sys s me x limit d v = tested s er.Id (numbered (length s.data_queues) d) (sent sys s me x v limit)
+snd_dtq sys s me x limit d v = tested s er.Id (numbered (length s.data_queues) d) (word_sent sys s me x v limit)
 
 abbrev pub tsnd_dtq : SystemTables → KernelState → ℕ → TaskBlock → ℤ → ℤ → ℤ → Outcome
-tsnd_dtq sys s me x d v m =
-    tested s er.Id (numbered (length s.data_queues) d) (λ i. tested s er.Par (limit_of m) (λ limit. sent sys s me x v limit i))
+tsnd_dtq sys s me x d v tmout =
+    tested s er.Id (numbered (length s.data_queues) d) (λ i. tested s er.Par (limit_of tmout) (λ limit. word_sent sys s me x v limit i))
 
 abbrev pub without_oldest : List ℤ → List ℤ
 without_oldest [] = []
@@ -54,53 +54,53 @@ without_oldest (w ∷ ws) = ws
 
 -- with no receiver: a full queue drops its oldest word, and the word is appended
 abbrev pub forced_in : Bool → KernelState → ℕ → ℤ → Outcome
-forced_in true s d v = done_in (appended s d v)
-forced_in false s d v = done_in (with_words s d (without_oldest (words_at s d) ++ v ∷ []))
+forced_in true s d v = succeeds_in (appended s d v)
+forced_in false s d v = succeeds_in (with_words s d (without_oldest (words_at s d) ++ v ∷ []))
 
 abbrev pub forced_to : Option ℕ → SystemTables → KernelState → ℕ → ℤ → Outcome
-forced_to (Some t) sys s d v = done (released (unchanged s) t (task_at s.tasks t) (given v))
+forced_to (Some t) sys s d v = succeeds (released (unchanged s) t (task_at s.tasks t) (given v))
 forced_to None sys s d v = forced_in (has_room sys s d) s d v
 
 -- fsnd_dtq and ifsnd_dtq
 abbrev pub fsnd_dtq : SystemTables → KernelState → ℤ → ℤ → Outcome
 fsnd_dtq sys s d v =
-    tested s er.Id (numbered (length s.data_queues) d) (λ i. unless (nat_eq (data_queue_config sys i).capacity 0) s er.Iluse (forced_to (first_waiting sys s (queue.Receivers i)) sys s i v))
+    tested s er.Id (numbered (length s.data_queues) d) (λ i. refused_if (nat_eq (data_queue_config sys i).capacity 0) s er.Iluse (forced_to (first_waiting sys s (queue.Receivers i)) sys s i v))
 
-abbrev pub cause_word : WaitCause → ℤ
-cause_word (cause.Sending d v) = v
-cause_word _ = pos 0
+abbrev pub word_of_cause : WaitCause → ℤ
+word_of_cause (cause.Sending d v) = v
+word_of_cause _ = pos 0
 
 -- the word with which a task of this phase waits
-abbrev pub waiting_word : Phase → ℤ
-waiting_word Dormant = pos 0
-waiting_word Ready = pos 0
-waiting_word (Waiting c) = cause_word c
+abbrev pub offered_word : Phase → ℤ
+offered_word Dormant = pos 0
+offered_word Ready = pos 0
+offered_word (Waiting c) = word_of_cause c
 
 -- the oldest word is given; the first sender's word takes the room, and the sender is released
-abbrev pub taken : Option ℕ → KernelState → ℕ → ℤ → List ℤ → Outcome
-taken None s d w ws = gives w (unchanged (with_words s d ws))
-taken (Some t) s d w ws =
+abbrev pub oldest_taken : Option ℕ → KernelState → ℕ → ℤ → List ℤ → Outcome
+oldest_taken None s d w ws = gives w (unchanged (with_words s d ws))
+oldest_taken (Some t) s d w ws =
     let x = task_at s.tasks t in
-    gives w (released (unchanged (with_words s d (ws ++ waiting_word x.phase ∷ []))) t x (code er.Ok))
+    gives w (released (unchanged (with_words s d (ws ++ offered_word x.phase ∷ []))) t x (code er.Ok))
 
 -- with no word: the first sender's is given and the sender released, else the caller waits
-abbrev pub taken_from : Option ℕ → KernelState → ℕ → TaskBlock → TimeLimit → ℕ → Outcome
-taken_from None s me x limit d = waits_within limit s me x (cause.Receiving d)
-taken_from (Some t) s me x limit d =
+abbrev pub sender_taken_from : Option ℕ → KernelState → ℕ → TaskBlock → TimeLimit → ℕ → Outcome
+sender_taken_from None s me x limit d = waits_within limit s me x (cause.Receiving d)
+sender_taken_from (Some t) s me x limit d =
     let y = task_at s.tasks t in
-    gives (waiting_word y.phase) (released (unchanged s) t y (code er.Ok))
+    gives (offered_word y.phase) (released (unchanged s) t y (code er.Ok))
 
-abbrev pub received_by : List ℤ → SystemTables → KernelState → ℕ → TaskBlock → TimeLimit → ℕ → Outcome
-received_by [] sys s me x limit d = taken_from (first_waiting sys s (queue.Senders d)) s me x limit d
-received_by (w ∷ ws) sys s me x limit d = taken (first_waiting sys s (queue.Senders d)) s d w ws
+abbrev pub word_received_from : List ℤ → SystemTables → KernelState → ℕ → TaskBlock → TimeLimit → ℕ → Outcome
+word_received_from [] sys s me x limit d = sender_taken_from (first_waiting sys s (queue.Senders d)) s me x limit d
+word_received_from (w ∷ ws) sys s me x limit d = oldest_taken (first_waiting sys s (queue.Senders d)) s d w ws
 
-abbrev pub received : SystemTables → KernelState → ℕ → TaskBlock → TimeLimit → ℕ → Outcome
-received sys s me x limit d = received_by (words_at s d) sys s me x limit d
+abbrev pub word_received : SystemTables → KernelState → ℕ → TaskBlock → TimeLimit → ℕ → Outcome
+word_received sys s me x limit d = word_received_from (words_at s d) sys s me x limit d
 
 -- rcv_dtq and prcv_dtq
 abbrev pub rcv_dtq : SystemTables → KernelState → ℕ → TaskBlock → TimeLimit → ℤ → Outcome
-rcv_dtq sys s me x limit d = tested s er.Id (numbered (length s.data_queues) d) (received sys s me x limit)
+rcv_dtq sys s me x limit d = tested s er.Id (numbered (length s.data_queues) d) (word_received sys s me x limit)
 
 abbrev pub trcv_dtq : SystemTables → KernelState → ℕ → TaskBlock → ℤ → ℤ → Outcome
-trcv_dtq sys s me x d m =
-    tested s er.Id (numbered (length s.data_queues) d) (λ i. tested s er.Par (limit_of m) (λ limit. received sys s me x limit i))
+trcv_dtq sys s me x d tmout =
+    tested s er.Id (numbered (length s.data_queues) d) (λ i. tested s er.Par (limit_of tmout) (λ limit. word_received sys s me x limit i))

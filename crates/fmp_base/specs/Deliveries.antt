@@ -29,12 +29,12 @@ out_written Ok locals out v = written locals out v
 out_written _ locals out v = locals
 
 -- what the variable before `=` receives: the code, or at E_OK the count where the service gives one
-abbrev pub received : Er → Bool → ℤ → ℤ
-received Ok true v = v
-received e _ v = code_of e
+abbrev pub result_value : Er → Bool → ℤ → ℤ
+result_value Ok true v = v
+result_value e _ v = code_of e
 
 -- first the out place, then the variable before `=`
 abbrev pub delivered : List ℤ → Places → Reply → List ℤ
 delivered locals p reply =
     let v = value_or_zero reply.value in
-    written (out_written reply.code locals p.out v) p.result (received reply.code (gives_count p.service) v)
+    written (out_written reply.code locals p.out v) p.result (result_value reply.code (gives_count p.service) v)

@@ -3,11 +3,11 @@ use Rattle.std.specs.Prelude.{ℕ, zero, suc, ◌+◌, ◌*◌, ◌≤◌, ◌�
 use Rattle.std.proofs.Common.{subst, sym, ap, ◌∙◌}
 use Rattle.fmp_base.specs.declared.events.Event.{Event}
 use Rattle.fmp_base.specs.declared.events.Line.{Line}
-use Rattle.fmp_base.specs.Meanings.{Meaning, HandlerContext, World, task_body}
+use Rattle.fmp_base.specs.Meanings.{Meaning, Held, Goes, Awaits, HandlerContext, World, task_body}
 use Rattle.fmp_base.specs.Runs.{Trace, after_first, run, run_on, done_events, done_on, completed_by, completed_on, complete_run}
 use Rattle.fmp_base.specs.Steps.{Reaction, Nothing, Did, step}
 use Rattle.fmp_base.specs.Systems.{SystemTables}
-use Rattle.fmp_base.specs.Ties.{OptionTied, AllTied, KeepsTie, HandlerTied, WorldTied, DoneTied, TraceAgrees}
+use Rattle.fmp_base.specs.Ties.{OptionTied, AllTied, KeepsTie, HandlerTied, HeldTied, WorldTied, DoneTied, TraceAgrees}
 use Rattle.fmp_base.specs.TieLaws.{step-tied, complete_run-tied}
 use Rattle.fmp_base.specs.Finishes.{ended_in, Finishes, over, did, did_nothing, IsComplete, IsFinished}
 
@@ -15,30 +15,39 @@ use Rattle.fmp_base.specs.Finishes.{ended_in, Finishes, over, did, did_nothing, 
 abbrev pub turned : {C D : Type 0} → (ℕ → C → D → Type 0) → ℕ → D → C → Type 0
 turned R i d c = R i c d
 
-OptionTied-turned : {C D : Type 0} (R : C → D → Type 0) (c : Option C) (d : Option D) → OptionTied R c d
-    → OptionTied (λ y x. R x y) d c
-OptionTied-turned R None None h = tt
-OptionTied-turned R (Some c) (Some d) h = h
-OptionTied-turned R None (Some d) h = absurd h
-OptionTied-turned R (Some c) None h = absurd h
+held-turned : {C D : Type 0} (R : ℕ → C → D → Type 0) (body : ℕ) (c : Held C) (d : Held D) → HeldTied R body c d
+    → HeldTied (turned R) body d c
+held-turned R body (Goes c) (Goes d) h = h
+held-turned R body (Awaits c) (Awaits d) h = h
+held-turned R body (Goes c) (Awaits d) h = absurd h
+held-turned R body (Awaits c) (Goes d) h = absurd h
 
-AllTied-turned : {C D : Type 0} (R : ℕ → C → D → Type 0) (cs : List (Option C)) (ds : List (Option D)) → AllTied R cs ds
-    → AllTied (λ i y x. R i x y) ds cs
-AllTied-turned R [] [] h = tt
-AllTied-turned R (c ∷ cs) (d ∷ ds) h = (OptionTied-turned (R zero) c d h.0, AllTied-turned (λ i. R (suc i)) cs ds h.1)
-AllTied-turned R [] (d ∷ ds) h = absurd h
-AllTied-turned R (c ∷ cs) [] h = absurd h
+task-turned : {C D : Type 0} (R : ℕ → C → D → Type 0) (body : ℕ) (c : Option (Held C)) (d : Option (Held D))
+    → OptionTied (HeldTied R body) c d → OptionTied (HeldTied (turned R) body) d c
+task-turned R body None None h = tt
+task-turned R body (Some c) (Some d) h = held-turned R body c d h
+task-turned R body None (Some d) h = absurd h
+task-turned R body (Some c) None h = absurd h
 
-handler-turned : {C D : Type 0} (R : ℕ → C → D → Type 0) (c : Option (HandlerContext C)) (d : Option (HandlerContext D))
-    → OptionTied (HandlerTied R) c d → OptionTied (HandlerTied (turned R)) d c
+tasks-turned : {C D : Type 0} (R : ℕ → C → D → Type 0) (bodies : ℕ → ℕ) (cs : List (Option (Held C))) (ds : List (Option (Held D)))
+    → AllTied (λ t. HeldTied R (bodies t)) cs ds → AllTied (λ t. HeldTied (turned R) (bodies t)) ds cs
+tasks-turned R bodies [] [] h = tt
+tasks-turned R bodies (c ∷ cs) (d ∷ ds) h =
+    (task-turned R (bodies zero) c d h.0, tasks-turned R (λ i. bodies (suc i)) cs ds h.1)
+tasks-turned R bodies [] (d ∷ ds) h = absurd h
+tasks-turned R bodies (c ∷ cs) [] h = absurd h
+
+handler-turned : {C D : Type 0} (R : ℕ → C → D → Type 0) (c : Option (HandlerContext (Held C))) (d : Option (HandlerContext (Held D)))
+    → OptionTied (HandlerTied (HeldTied R)) c d → OptionTied (HandlerTied (HeldTied (turned R))) d c
 handler-turned R None None h = tt
 handler-turned R (Some c) (Some d) h =
-    record { bodies = sym h.bodies; contexts = subst (λ (b : ℕ). R b c.context d.context) h.bodies h.contexts }
+    let same = subst (λ (b : ℕ). HeldTied R b c.context d.context) h.bodies h.contexts in
+    record { bodies = sym h.bodies; contexts = held-turned R d.body c.context d.context same }
 handler-turned R None (Some d) h = absurd h
 handler-turned R (Some c) None h = absurd h
 
-handlers-turned : {C D : Type 0} (R : ℕ → C → D → Type 0) (cs : List (Option (HandlerContext C))) (ds : List (Option (HandlerContext D)))
-    → AllTied (λ p. HandlerTied R) cs ds → AllTied (λ p. HandlerTied (turned R)) ds cs
+handlers-turned : {C D : Type 0} (R : ℕ → C → D → Type 0) (cs : List (Option (HandlerContext (Held C)))) (ds : List (Option (HandlerContext (Held D))))
+    → AllTied (λ p. HandlerTied (HeldTied R)) cs ds → AllTied (λ p. HandlerTied (HeldTied (turned R))) ds cs
 handlers-turned R [] [] h = tt
 handlers-turned R (c ∷ cs) (d ∷ ds) h = (handler-turned R c d h.0, handlers-turned R cs ds h.1)
 handlers-turned R [] (d ∷ ds) h = absurd h
@@ -50,7 +59,7 @@ WorldTied-turned sys R v w h =
     record {
       states = sym h.states;
       contexts = record {
-        tasks = AllTied-turned (λ t. R (task_body sys t)) v.contexts.tasks w.contexts.tasks h.contexts.tasks;
+        tasks = tasks-turned R (task_body sys) v.contexts.tasks w.contexts.tasks h.contexts.tasks;
         handlers = handlers-turned R v.contexts.handlers w.contexts.handlers h.contexts.handlers;
       };
     }

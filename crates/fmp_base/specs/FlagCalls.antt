@@ -2,7 +2,7 @@
 use Rattle.std.specs.Prelude.{ℕ, zero, suc, ℤ, pos, negsuc, List, [], ◌∷◌, Option, Some, None, Bool, true, false, not, ◌&&◌, length, nat_eq, slice_set, get_or, bit_and, bit_or}
 use Rattle.fmp_base.specs.declared.codes.Er.TheVariants as er
 use Rattle.fmp_base.specs.declared.states.FlagMode.{FlagMode}
-use Rattle.fmp_base.specs.declared.states.FlagMode.TheVariants as mode
+use Rattle.fmp_base.specs.declared.states.FlagMode.TheVariants as modes
 use Rattle.fmp_base.specs.declared.states.Phase.{Phase}
 use Rattle.fmp_base.specs.declared.states.Phase.TheVariants.{Dormant, Ready, Waiting}
 use Rattle.fmp_base.specs.declared.states.TaskBlock.{TaskBlock}
@@ -11,7 +11,7 @@ use Rattle.fmp_base.specs.declared.states.WaitCause.{WaitCause}
 use Rattle.fmp_base.specs.declared.states.WaitCause.TheVariants as cause
 use Rattle.fmp_base.specs.declared.states.WaitQueue.TheVariants as queue
 use Rattle.fmp_base.specs.Changes.{released}
-use Rattle.fmp_base.specs.Outcomes.{Outcome, given, done, done_in, gives, waits_within, limit_of, numbered, ranged, tested, unless}
+use Rattle.fmp_base.specs.Outcomes.{Outcome, given, succeeds, succeeds_in, gives, waits_within, limit_of, numbered, ranged, tested, refused_if}
 use Rattle.fmp_base.specs.Queues.{wait_queue}
 use Rattle.fmp_base.specs.States.{KernelState, Progress, unchanged, task_at}
 use Rattle.fmp_base.specs.Systems.{SystemTables, flag_config}
@@ -24,11 +24,11 @@ pattern_at s f = get_or s.flags f 0
 
 -- whether bits satisfy a wait for a pattern: all of its bits, or any
 abbrev pub satisfies : FlagMode → ℕ → ℕ → Bool
-satisfies mode.And pattern bits = nat_eq (bit_and bits pattern) pattern
-satisfies mode.Or pattern bits = not (nat_eq (bit_and bits pattern) 0)
+satisfies modes.And pattern bits = nat_eq (bit_and bits pattern) pattern
+satisfies modes.Or pattern bits = not (nat_eq (bit_and bits pattern) 0)
 
 abbrev pub cause_satisfied : WaitCause → ℕ → Bool
-cause_satisfied (cause.Flag f pattern m) bits = satisfies m pattern bits
+cause_satisfied (cause.Flag f pattern mode) bits = satisfies mode pattern bits
 cause_satisfied _ bits = false
 
 -- whether bits satisfy a task of this phase
@@ -61,16 +61,16 @@ bits_set sys s f bits =
 -- set_flg and iset_flg
 abbrev pub set_flg : SystemTables → KernelState → ℤ → ℤ → Outcome
 set_flg sys s f b =
-    tested s er.Id (numbered (length s.flags) f) (λ i. tested s er.Par (ranged 0 65535 b) (λ bits. done (bits_set sys s i (bit_or (pattern_at s i) bits))))
+    tested s er.Id (numbered (length s.flags) f) (λ i. tested s er.Par (ranged 0 65535 b) (λ bits. succeeds (bits_set sys s i (bit_or (pattern_at s i) bits))))
 
 abbrev pub clr_flg : KernelState → ℤ → ℤ → Outcome
 clr_flg s f b =
-    tested s er.Id (numbered (length s.flags) f) (λ i. tested s er.Par (ranged 0 65535 b) (λ bits. done_in (with_pattern s i (bit_and (pattern_at s i) bits))))
+    tested s er.Id (numbered (length s.flags) f) (λ i. tested s er.Par (ranged 0 65535 b) (λ bits. succeeds_in (with_pattern s i (bit_and (pattern_at s i) bits))))
 
 -- 0 is TWF_ANDW, 1 is TWF_ORW
 abbrev pub mode_of : ℤ → Option FlagMode
-mode_of (pos zero) = Some mode.And
-mode_of (pos (suc zero)) = Some mode.Or
+mode_of (pos zero) = Some modes.And
+mode_of (pos (suc zero)) = Some modes.Or
 mode_of (pos (suc (suc n))) = None
 mode_of (negsuc n) = None
 
@@ -84,23 +84,23 @@ obtained true s f = gives (pos (pattern_at s f)) (unchanged (with_pattern s f 0)
 obtained false s f = gives (pos (pattern_at s f)) (unchanged s)
 
 abbrev pub awaited_by : Bool → SystemTables → KernelState → ℕ → TaskBlock → TimeLimit → (f pattern : ℕ) → FlagMode → Outcome
-awaited_by true sys s me x limit f pattern m = obtained (flag_config sys f).clears s f
-awaited_by false sys s me x limit f pattern m = waits_within limit s me x (cause.Flag f pattern m)
+awaited_by true sys s me x limit f pattern mode = obtained (flag_config sys f).clears s f
+awaited_by false sys s me x limit f pattern mode = waits_within limit s me x (cause.Flag f pattern mode)
 
 -- without TA_WMUL only one task may wait
 abbrev pub awaited : SystemTables → KernelState → ℕ → TaskBlock → (f pattern : ℕ) → FlagMode → TimeLimit → Outcome
-awaited sys s me x f pattern m limit =
-    unless (not (flag_config sys f).multiple && not (is_empty (wait_queue sys s (queue.Flag f)))) s er.Iluse (awaited_by (satisfies m pattern (pattern_at s f)) sys s me x limit f pattern m)
+awaited sys s me x f pattern mode limit =
+    refused_if (not (flag_config sys f).multiple && not (is_empty (wait_queue sys s (queue.Flag f)))) s er.Iluse (awaited_by (satisfies mode pattern (pattern_at s f)) sys s me x limit f pattern mode)
 
 -- goes on with a flag, a pattern and a mode, which are tested in this order
 abbrev pub flag_tested : KernelState → ℤ → ℤ → ℤ → (ℕ → ℕ → FlagMode → Outcome) → Outcome
 flag_tested s f b o go =
-    tested s er.Id (numbered (length s.flags) f) (λ i. tested s er.Par (ranged 1 65535 b) (λ bits. tested s er.Par (mode_of o) (λ m. go i bits m)))
+    tested s er.Id (numbered (length s.flags) f) (λ i. tested s er.Par (ranged 1 65535 b) (λ bits. tested s er.Par (mode_of o) (λ mode. go i bits mode)))
 
 -- wai_flg and pol_flg
 abbrev pub wai_flg : SystemTables → KernelState → ℕ → TaskBlock → TimeLimit → ℤ → ℤ → ℤ → Outcome
-wai_flg sys s me x limit f b o = flag_tested s f b o (λ i bits m. awaited sys s me x i bits m limit)
+wai_flg sys s me x limit f b o = flag_tested s f b o (λ i bits mode. awaited sys s me x i bits mode limit)
 
 abbrev pub twai_flg : SystemTables → KernelState → ℕ → TaskBlock → ℤ → ℤ → ℤ → ℤ → Outcome
-twai_flg sys s me x f b o m =
-    flag_tested s f b o (λ i bits w. tested s er.Par (limit_of m) (λ limit. awaited sys s me x i bits w limit))
+twai_flg sys s me x f b o tmout =
+    flag_tested s f b o (λ i bits mode. tested s er.Par (limit_of tmout) (λ limit. awaited sys s me x i bits mode limit))

@@ -12,8 +12,10 @@ pub mod Meanings
 pub mod Names
 pub mod Operators
 pub mod Outcomes
+pub mod Permissions
 pub mod ProcessorCalls
 pub mod Queues
+pub mod Ranges
 pub mod Runs
 pub mod SemaphoreCalls
 pub mod Services

@@ -19,6 +19,11 @@ pub record Meaning (C : Type 0) : Type 0 where
   pub stretch : (body bound : ℕ) (context : C) → Ending C
   pub deliver : (body : ℕ) (context : C) (reply : Reply) → C
 
+-- a context from which a body goes on, or one that awaits the reply to its call
+pub data Held (C : Type 0) : Type 0 where
+  Goes : C → Held C
+  Awaits : C → Held C
+
 -- the body of a handler that runs, and its context
 pub record HandlerContext (C : Type 0) : Type 0 where
   pub body : ℕ
@@ -33,7 +38,7 @@ pub record Contexts (C : Type 0) : Type 0 where
 -- the state of the kernel and the contexts of the bodies
 pub record World (C : Type 0) : Type 0 where
   pub state : KernelState
-  pub contexts : Contexts C
+  pub contexts : Contexts (Held C)
 
 abbrev pub task_body : SystemTables → ℕ → ℕ
 task_body sys t = body_of (task_config sys t).entry
@@ -87,39 +92,40 @@ with_context cs p (caller.Task t) c = record cs { tasks = slice_set cs.tasks t c
 with_context cs p (caller.Handler h) c =
     with_handler_context cs p (context_for (body_in (context_at cs.handlers p)) c)
 
--- a reply to a context, where there is one
-abbrev pub told : {C : Type 0} → Meaning C → ℕ → Reply → Option C → Option C
+-- a reply to a context, where one awaits it
+abbrev pub told : {C : Type 0} → Meaning C → ℕ → Reply → Option (Held C) → Option (Held C)
 told M body reply None = None
-told M body reply (Some c) = Some (M.deliver body c reply)
+told M body reply (Some (Goes c)) = Some (Goes c)
+told M body reply (Some (Awaits c)) = Some (Goes (M.deliver body c reply))
 
 -- the caller on processor p is told a reply
-abbrev pub delivered_to : {C : Type 0} → SystemTables → Meaning C → Contexts C → ℕ → Caller → Reply → Contexts C
+abbrev pub delivered_to : {C : Type 0} → SystemTables → Meaning C → Contexts (Held C) → ℕ → Caller → Reply → Contexts (Held C)
 delivered_to sys M cs p who reply =
     with_context cs p who (told M (caller_body sys cs p who) reply (context_of cs p who))
 
-abbrev pub called_back : {C : Type 0} → SystemTables → Meaning C → Contexts C → ℕ → Caller → Option Reply → Contexts C
+abbrev pub called_back : {C : Type 0} → SystemTables → Meaning C → Contexts (Held C) → ℕ → Caller → Option Reply → Contexts (Held C)
 called_back sys M cs p who None = cs
 called_back sys M cs p who (Some reply) = delivered_to sys M cs p who reply
 
 -- task t has a fresh context
-abbrev pub task_begun : {C : Type 0} → SystemTables → Meaning C → Contexts C → ℕ → Contexts C
+abbrev pub task_begun : {C : Type 0} → SystemTables → Meaning C → Contexts (Held C) → ℕ → Contexts (Held C)
 task_begun sys M cs t =
-    record cs { tasks = slice_set cs.tasks t (Some (M.start (task_body sys t) (task_config sys t).exinf)) }
+    record cs { tasks = slice_set cs.tasks t (Some (Goes (M.start (task_body sys t) (task_config sys t).exinf))) }
 
 -- handler h has a fresh context on processor p
-abbrev pub handler_begun : {C : Type 0} → SystemTables → Meaning C → Contexts C → ℕ → Handler → Contexts C
+abbrev pub handler_begun : {C : Type 0} → SystemTables → Meaning C → Contexts (Held C) → ℕ → Handler → Contexts (Held C)
 handler_begun sys M cs p h =
-    with_handler_context cs p (Some (record { body = handler_body sys h; context = M.start (handler_body sys h) (handler_exinf sys h) }))
+    with_handler_context cs p (Some (record { body = handler_body sys h; context = Goes (M.start (handler_body sys h) (handler_exinf sys h)) }))
 
 -- the contexts after what a line tells: a task or handler that starts has a fresh one, a caller and a released task
 -- are told their replies
-abbrev pub contexts_after : {C : Type 0} → SystemTables → Meaning C → Contexts C → Line → Contexts C
+abbrev pub contexts_after : {C : Type 0} → SystemTables → Meaning C → Contexts (Held C) → Line → Contexts (Held C)
 contexts_after sys M cs (line.Starts p t) = task_begun sys M cs t
 contexts_after sys M cs (line.Gets p t reply) = delivered_to sys M cs p (caller.Task t) reply
 contexts_after sys M cs (line.Begins p h) = handler_begun sys M cs p h
 contexts_after sys M cs (line.Call p who c reply) = called_back sys M cs p who reply
 contexts_after sys M cs _ = cs
 
-abbrev pub contexts_after_all : {C : Type 0} → SystemTables → Meaning C → Contexts C → List Line → Contexts C
+abbrev pub contexts_after_all : {C : Type 0} → SystemTables → Meaning C → Contexts (Held C) → List Line → Contexts (Held C)
 contexts_after_all sys M cs [] = cs
 contexts_after_all sys M cs (l ∷ ls) = contexts_after_all sys M (contexts_after sys M cs l) ls

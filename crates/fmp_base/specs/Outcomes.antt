@@ -1,5 +1,5 @@
 -- What a service call comes to, and the tests of its arguments (uITRON 4.0, section 2.1).
-use Rattle.std.specs.Prelude.{ℕ, zero, suc, ◌+◌, ◌^◌, ℤ, pos, negsuc, Option, Some, None, Bool, true, false, nat_lt, nat_le, if◌then◌else◌}
+use Rattle.std.specs.Prelude.{ℕ, zero, suc, ◌^◌, ℤ, pos, negsuc, Option, Some, None, Bool, true, false, nat_lt, nat_le, if◌then◌else◌}
 use Rattle.fmp_base.specs.declared.calls.Answer.{Answer}
 use Rattle.fmp_base.specs.declared.calls.Answer.TheVariants.{Replies, Waits}
 use Rattle.fmp_base.specs.declared.calls.Reply.{Reply}
@@ -10,7 +10,7 @@ use Rattle.fmp_base.specs.declared.states.TaskBlock.{TaskBlock}
 use Rattle.fmp_base.specs.declared.states.TimeLimit.{TimeLimit}
 use Rattle.fmp_base.specs.declared.states.TimeLimit.TheVariants as limit
 use Rattle.fmp_base.specs.declared.states.WaitCause.{WaitCause}
-use Rattle.fmp_base.specs.States.{KernelState, Progress, unchanged, task_at, with_last}
+use Rattle.fmp_base.specs.States.{KernelState, Progress, unchanged, clock_after, task_at, with_last}
 
 -- the answer, and the state after the call with the lines of what it caused
 pub record Outcome : Type 0 where
@@ -30,12 +30,12 @@ abbrev pub refused : KernelState → Er → Outcome
 refused s e = record { answer = Replies (code e); progress = unchanged s }
 
 -- E_OK, after this progress
-abbrev pub done : Progress → Outcome
-done g = record { answer = Replies (code er.Ok); progress = g }
+abbrev pub succeeds : Progress → Outcome
+succeeds g = record { answer = Replies (code er.Ok); progress = g }
 
 -- E_OK, in this state
-abbrev pub done_in : KernelState → Outcome
-done_in s = done (unchanged s)
+abbrev pub succeeds_in : KernelState → Outcome
+succeeds_in s = succeeds (unchanged s)
 
 -- E_OK with a value, after this progress
 abbrev pub gives : ℤ → Progress → Outcome
@@ -50,7 +50,7 @@ waits s t x c deadline =
 abbrev pub waits_within : TimeLimit → KernelState → ℕ → TaskBlock → WaitCause → Outcome
 waits_within limit.Forever s t x c = waits s t x c None
 waits_within limit.Poll s t x c = refused s er.Tmout
-waits_within (limit.Ticks n) s t x c = waits s t x c (Some (s.clock + n + 1))
+waits_within (limit.Ticks n) s t x c = waits s t x c (Some (clock_after s n))
 
 -- the time limit that a number states: -1 is none, 0 polls, the greatest is 2^30
 abbrev pub limit_of : ℤ → Option TimeLimit
@@ -81,10 +81,10 @@ abbrev pub tested : {A : Type 0} → KernelState → Er → Option A → (A → 
 tested s e None go = refused s e
 tested s e (Some a) go = go a
 
--- goes on where a test holds, else is refused with its code
-abbrev pub unless : Bool → KernelState → Er → Outcome → Outcome
-unless true s e o = refused s e
-unless false s e o = o
+-- is refused with a code where a test holds, else goes on
+abbrev pub refused_if : Bool → KernelState → Er → Outcome → Outcome
+refused_if true s e o = refused s e
+refused_if false s e o = o
 
 -- goes on with task t and its block, or is refused with E_ID
 abbrev pub on_task : KernelState → Option ℕ → (ℕ → TaskBlock → Outcome) → Outcome

@@ -76,7 +76,7 @@ queue_of_cause (cause.Semaphore s) = Some (queue.Semaphore s)
 queue_of_cause (cause.Flag f pattern mode) = Some (queue.Flag f)
 queue_of_cause (cause.Sending d word) = Some (queue.Senders d)
 queue_of_cause (cause.Receiving d) = Some (queue.Receivers d)
-queue_of_cause (cause.Mailbox x) = Some (queue.Mailbox x)
+queue_of_cause (cause.Mailbox mailbox) = Some (queue.Mailbox mailbox)
 
 -- the wait queue in which a task of this phase stands, if any
 abbrev pub queue_of : Phase → Option WaitQueue
@@ -105,7 +105,7 @@ order_of sys (queue.Semaphore s) = (semaphore_config sys s).order
 order_of sys (queue.Flag f) = (flag_config sys f).order
 order_of sys (queue.Senders d) = (data_queue_config sys d).order
 order_of sys (queue.Receivers d) = Fifo
-order_of sys (queue.Mailbox x) = (mailbox_config sys x).order
+order_of sys (queue.Mailbox mailbox) = (mailbox_config sys mailbox).order
 
 -- the tasks that wait in a queue, those to be released first in front
 abbrev pub wait_queue : SystemTables → KernelState → WaitQueue → List ℕ

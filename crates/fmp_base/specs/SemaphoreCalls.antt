@@ -7,7 +7,7 @@ use Rattle.fmp_base.specs.declared.states.TimeLimit.{TimeLimit}
 use Rattle.fmp_base.specs.declared.states.WaitCause.TheVariants as cause
 use Rattle.fmp_base.specs.declared.states.WaitQueue.TheVariants as queue
 use Rattle.fmp_base.specs.Changes.{released}
-use Rattle.fmp_base.specs.Outcomes.{Outcome, code, refused, done, done_in, gives, waits_within, limit_of, numbered, tested}
+use Rattle.fmp_base.specs.Outcomes.{Outcome, code, refused, succeeds, succeeds_in, gives, waits_within, limit_of, numbered, tested}
 use Rattle.fmp_base.specs.Queues.{first_waiting}
 use Rattle.fmp_base.specs.States.{KernelState, unchanged, task_at}
 use Rattle.fmp_base.specs.Systems.{SystemTables, semaphore_config}
@@ -17,9 +17,9 @@ with_count s i count = record s { semaphores = slice_set s.semaphores i count }
 
 -- the first waiting task is released; with none the count rises, up to its limit
 abbrev pub signalled_to : Option ℕ → SystemTables → KernelState → ℕ → ℕ → Outcome
-signalled_to (Some t) sys s i count = done (released (unchanged s) t (task_at s.tasks t) (code er.Ok))
+signalled_to (Some t) sys s i count = succeeds (released (unchanged s) t (task_at s.tasks t) (code er.Ok))
 signalled_to None sys s i count =
-    if nat_lt count (semaphore_config sys i).most then done_in (with_count s i (count + 1)) else refused s er.Qovr
+    if nat_lt count (semaphore_config sys i).most then succeeds_in (with_count s i (count + 1)) else refused s er.Qovr
 
 abbrev pub signalled : SystemTables → KernelState → ℕ → Outcome
 signalled sys s i = signalled_to (first_waiting sys s (queue.Semaphore i)) sys s i (get_or s.semaphores i 0)
@@ -31,7 +31,7 @@ sig_sem sys s i = tested s er.Id (numbered (length s.semaphores) i) (signalled s
 -- a resource is taken where the count is above 0, else the caller waits within a limit
 abbrev pub acquired_by : ℕ → KernelState → ℕ → TaskBlock → TimeLimit → ℕ → Outcome
 acquired_by zero s me x limit i = waits_within limit s me x (cause.Semaphore i)
-acquired_by (suc n) s me x limit i = done_in (with_count s i n)
+acquired_by (suc n) s me x limit i = succeeds_in (with_count s i n)
 
 abbrev pub acquired : KernelState → ℕ → TaskBlock → TimeLimit → ℕ → Outcome
 acquired s me x limit i = acquired_by (get_or s.semaphores i 0) s me x limit i
@@ -41,8 +41,8 @@ abbrev pub wai_sem : KernelState → ℕ → TaskBlock → TimeLimit → ℤ →
 wai_sem s me x limit i = tested s er.Id (numbered (length s.semaphores) i) (acquired s me x limit)
 
 abbrev pub twai_sem : KernelState → ℕ → TaskBlock → ℤ → ℤ → Outcome
-twai_sem s me x i m =
-    tested s er.Id (numbered (length s.semaphores) i) (λ n. tested s er.Par (limit_of m) (λ limit. acquired s me x limit n))
+twai_sem s me x i tmout =
+    tested s er.Id (numbered (length s.semaphores) i) (λ n. tested s er.Par (limit_of tmout) (λ limit. acquired s me x limit n))
 
 abbrev pub ld_shr : KernelState → ℤ → Outcome
 ld_shr s w =
@@ -50,4 +50,4 @@ ld_shr s w =
 
 abbrev pub st_shr : KernelState → ℤ → ℤ → Outcome
 st_shr s w v =
-    tested s er.Id (numbered (length s.shared_words) w) (λ n. done_in (record s { shared_words = slice_set s.shared_words n v }))
+    tested s er.Id (numbered (length s.shared_words) w) (λ n. succeeds_in (record s { shared_words = slice_set s.shared_words n v }))

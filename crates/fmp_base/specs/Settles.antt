@@ -1,6 +1,6 @@
 -- What ends every event that does something: on each processor a pending handler begins, or the dispatcher
 -- gives it the most urgent ready task (uITRON 4.0, sections 3.5 and 3.6; FMP kernel, dispatching).
-use Rattle.std.specs.Prelude.{ℕ, ◌+◌, List, [], ◌∷◌, ◌++◌, Option, Some, None, Bool, true, false, ◌&&◌, nat_eq, slice_set, length}
+use Rattle.std.specs.Prelude.{ℕ, ◌+◌, List, [], ◌∷◌, ◌++◌, Option, Some, None, Bool, true, false, ◌&&◌, ◌||◌, nat_eq, slice_set, length, if◌then◌else◌}
 use Rattle.fmp_base.specs.declared.events.Line.{Line}
 use Rattle.fmp_base.specs.declared.events.Line.TheVariants as line
 use Rattle.fmp_base.specs.declared.states.Handler.{Handler}
@@ -51,13 +51,17 @@ abbrev pub without_pending : KernelState → Handler → KernelState
 without_pending s (handler.Interrupt i) = record s { pending_interrupts = slice_set s.pending_interrupts i false }
 without_pending s (handler.Cyclic c) = record s { pending_cyclics = slice_set s.pending_cyclics c false }
 
--- handler h begins on p, which is x
+-- handler h begins on p, which is cpu
 abbrev pub begun : Progress → ℕ → Processor → Handler → Progress
-begun g p x h =
+begun g p cpu h =
     record {
-      state = with_processor (without_pending g.state h) p (record x { handler = Some h });
+      state = with_processor (without_pending g.state h) p (record cpu { handler = Some h });
       lines = g.lines ++ line.Begins p h ∷ [];
     }
+
+abbrev pub runs_handler : Option Handler → Bool
+runs_handler None = false
+runs_handler (Some h) = true
 
 abbrev pub is_same_task : Option ℕ → Option ℕ → Bool
 is_same_task None None = true
@@ -70,36 +74,31 @@ abbrev pub dispatch_lines : Bool → ℕ → Option ℕ → List Line
 dispatch_lines true p now = []
 dispatch_lines false p now = line.Runs p now ∷ []
 
--- p, which is x, runs task t, or none
+-- p, which is cpu, runs task t, or none
 abbrev pub dispatched : Progress → ℕ → Processor → Option ℕ → Progress
-dispatched g p x t =
+dispatched g p cpu t =
     record {
-      state = with_processor g.state p (record x { run = t });
-      lines = g.lines ++ dispatch_lines (is_same_task x.run t) p t;
+      state = with_processor g.state p (record cpu { run = t });
+      lines = g.lines ++ dispatch_lines (is_same_task cpu.run t) p t;
     }
 
--- no handler is pending on p: the dispatcher runs, unless dispatching is disabled
-abbrev pub dispatched_unless : Bool → Progress → ℕ → Processor → Progress
-dispatched_unless true g p x = g
-dispatched_unless false g p x = dispatched g p x (top g.state p)
+-- dispatch is held by a running handler, by CPU lock, or while dispatching is disabled
+abbrev pub is_dispatch_held : Processor → Bool
+is_dispatch_held cpu = runs_handler cpu.handler || is_cpu_locked cpu || cpu.dispatch_disabled
 
-abbrev pub begun_or_dispatched : Option Handler → Progress → ℕ → Processor → Progress
-begun_or_dispatched (Some h) g p x = begun g p x h
-begun_or_dispatched None g p x = dispatched_unless x.dispatch_disabled g p x
+-- the handler that begins on p, which is cpu: the first pending one, where none runs and the CPU is not locked
+abbrev pub handler_to_begin : SystemTables → KernelState → ℕ → Processor → Option Handler
+handler_to_begin sys s p cpu =
+    if runs_handler cpu.handler || is_cpu_locked cpu then None else pending_handler sys s p
 
--- a locked CPU lets nothing begin and holds dispatch
-abbrev pub settled_unless : Bool → SystemTables → Progress → ℕ → Processor → Progress
-settled_unless true sys g p x = g
-settled_unless false sys g p x = begun_or_dispatched (pending_handler sys g.state p) g p x
+-- a handler begins; where none does, p runs the most urgent ready task, unless dispatch is held
+abbrev pub settled_with : Option Handler → Progress → ℕ → Processor → Progress
+settled_with (Some h) g p cpu = begun g p cpu h
+settled_with None g p cpu = if is_dispatch_held cpu then g else dispatched g p cpu (top g.state p)
 
--- a running handler lets none other begin and holds dispatch
-abbrev pub settled_by : Option Handler → SystemTables → Progress → ℕ → Processor → Progress
-settled_by (Some h) sys g p x = g
-settled_by None sys g p x = settled_unless (is_cpu_locked x) sys g p x
-
--- processor p, which is x, settles
+-- processor p, which is cpu, settles
 abbrev pub settled_on : SystemTables → Progress → ℕ → Processor → Progress
-settled_on sys g p x = settled_by x.handler sys g p x
+settled_on sys g p cpu = settled_with (handler_to_begin sys g.state p cpu) g p cpu
 
 -- these processors settle, one after the other
 abbrev pub all_settled : SystemTables → Progress → List ℕ → Progress

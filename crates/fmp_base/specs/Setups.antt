@@ -1,6 +1,8 @@
 -- The state in which a system starts: its static APIs have been carried out, in order, on a system without
--- objects at clock 0 (uITRON 4.0, section 3.12). Only CRE_TSK does more than make its object, so the order of the
--- text is that of the tasks' numbers.
+-- objects at clock 0 (uITRON 4.0, section 3.12). Of all static APIs only CRE_TSK does more than make its object: with
+-- TA_ACT it starts the task. A start looks at no other object, and no object is changed once it is made, so the APIs of one
+-- table may be carried out before those of another: setup is said over the tables, the tasks in order of number, which is
+-- the order of the text.
 use Rattle.std.specs.Prelude.{ℕ, ◌+◌, List, [], ◌∷◌, Option, Some, None, Bool, true, false, replicate, length, map, if◌then◌else◌}
 use Rattle.fmp_base.specs.declared.states.Phase.TheVariants.{Dormant}
 use Rattle.fmp_base.specs.declared.states.TaskBlock.{TaskBlock}
@@ -39,14 +41,14 @@ created_state sys =
       clock = 0;
     }
 
-abbrev pub activated_by : Bool → SystemTables → Progress → ℕ → Progress
-activated_by true sys g t = started sys g t (task_at g.state.tasks t)
-activated_by false sys g t = g
+abbrev pub started_if : Bool → SystemTables → Progress → ℕ → Progress
+started_if true sys g t = started sys g t (task_at g.state.tasks t)
+started_if false sys g t = g
 
 -- of these tasks, in order, those with TA_ACT start
-abbrev pub all_activated : SystemTables → Progress → List ℕ → Progress
-all_activated sys g [] = g
-all_activated sys g (t ∷ ts) = all_activated sys (activated_by (task_config sys t).activated sys g t) ts
+abbrev pub all_started : SystemTables → Progress → List ℕ → Progress
+all_started sys g [] = g
+all_started sys g (t ∷ ts) = all_started sys (started_if (task_config sys t).activated sys g t) ts
 
 -- no context yet
 abbrev pub no_contexts : {C : Type 0} → SystemTables → Contexts C
@@ -55,4 +57,4 @@ no_contexts sys = record { tasks = replicate (length sys.tasks) None; handlers =
 -- setup: the objects are made, the tasks with TA_ACT start, and all processors settle
 abbrev pub setup : {C : Type 0} → SystemTables → Meaning C → Done C
 setup sys M =
-    finished sys M (no_contexts sys) [] (all_activated sys (unchanged (created_state sys)) (places_from 0 (length sys.tasks)))
+    finished sys M (no_contexts sys) [] (all_started sys (unchanged (created_state sys)) (places_from 0 (length sys.tasks)))

@@ -42,6 +42,10 @@ abbrev pub task_at : List TaskBlock → ℕ → TaskBlock
 task_at tasks t =
     found (record { phase = Dormant; suspended = false; priority = 1; processor = 0; activations = 0; next_processor = None; wakeups = 0; deadline = None }) (slice_get tasks t)
 
+-- the clock at which a time of so many ticks that begins now has passed
+abbrev pub clock_after : KernelState → ℕ → ℕ
+clock_after s ticks = s.clock + ticks + 1
+
 -- a processor on which nothing runs and that nothing holds
 abbrev pub idle : Processor
 idle = record { run = None; lock = Free; dispatch_disabled = false; handler = None }
@@ -50,7 +54,7 @@ abbrev pub processor_at : KernelState → ℕ → Processor
 processor_at s p = found idle (slice_get s.processors p)
 
 abbrev pub with_processor : KernelState → ℕ → Processor → KernelState
-with_processor s p x = record s { processors = slice_set s.processors p x }
+with_processor s p cpu = record s { processors = slice_set s.processors p cpu }
 
 -- an order without task t
 abbrev pub without : List ℕ → ℕ → List ℕ
@@ -69,8 +73,8 @@ abbrev pub with_last : KernelState → ℕ → TaskBlock → KernelState
 with_last s t x = record s { tasks = slice_set s.tasks t x; order = to_end s.order t }
 
 -- task t becomes x, and leaves the order
-abbrev pub with_left : KernelState → ℕ → TaskBlock → KernelState
-with_left s t x = record s { tasks = slice_set s.tasks t x; order = without s.order t }
+abbrev pub with_removed : KernelState → ℕ → TaskBlock → KernelState
+with_removed s t x = record s { tasks = slice_set s.tasks t x; order = without s.order t }
 
 -- the numbers from k on, as many as the second says
 abbrev pub places_from : ℕ → ℕ → List ℕ

@@ -16,7 +16,7 @@ use Rattle.fmp_base.specs.declared.states.Processor.{Processor}
 use Rattle.fmp_base.specs.declared.systems.InterruptConfig.{InterruptConfig}
 use Rattle.fmp_base.specs.Calls.{called}
 use Rattle.fmp_base.specs.Changes.{ended_itself}
-use Rattle.fmp_base.specs.Meanings.{Meaning, Contexts, World, caller_body, context_of, with_context, contexts_after_all}
+use Rattle.fmp_base.specs.Meanings.{Meaning, Held, Goes, Awaits, Contexts, World, caller_body, context_of, with_context, contexts_after_all}
 use Rattle.fmp_base.specs.Outcomes.{Outcome}
 use Rattle.fmp_base.specs.Settles.{settled}
 use Rattle.fmp_base.specs.States.{KernelState, Progress, unchanged, task_at, processor_at, with_processor}
@@ -39,12 +39,12 @@ abbrev pub effect_of : {C : Type 0} → Reaction C → Effect
 effect_of Nothing = effect.Nothing
 effect_of (Did d) = effect.Done
 
-abbrev pub concluded : {C : Type 0} → SystemTables → Meaning C → Contexts C → Progress → Done C
+abbrev pub concluded : {C : Type 0} → SystemTables → Meaning C → Contexts (Held C) → Progress → Done C
 concluded sys M cs g =
     record { world = record { state = g.state; contexts = contexts_after_all sys M cs g.lines }; lines = g.lines }
 
 -- an event with its own lines first, then those of what it caused, then those of settling
-abbrev pub finished : {C : Type 0} → SystemTables → Meaning C → Contexts C → List Line → Progress → Done C
+abbrev pub finished : {C : Type 0} → SystemTables → Meaning C → Contexts (Held C) → List Line → Progress → Done C
 finished sys M cs own g = concluded sys M cs (settled sys (record g { lines = own ++ g.lines }))
 
 -- the actor of a processor: its running handler, else the task that it runs
@@ -54,7 +54,7 @@ actor_by None (Some t) = Some (caller.Task t)
 actor_by None None = None
 
 abbrev pub actor_of : Processor → Option Caller
-actor_of x = actor_by x.handler x.run
+actor_of cpu = actor_by cpu.handler cpu.run
 
 -- the handler of p runs no more
 abbrev pub handler_ended : KernelState → ℕ → KernelState
@@ -66,28 +66,30 @@ actor_ended sys s p (caller.Task t) = ended_itself sys s p t (task_at s.tasks t)
 actor_ended sys s p (caller.Handler h) = unchanged (handler_ended s p)
 
 -- what a call comes to, where this was its answer; a caller that asks for a held spin lock has done nothing
-abbrev pub answered : {C : Type 0} → Answer → SystemTables → Meaning C → Contexts C → ℕ → Caller → Call → Progress → Reaction C
+abbrev pub answered : {C : Type 0} → Answer → SystemTables → Meaning C → Contexts (Held C) → ℕ → Caller → Call → Progress → Reaction C
 answered (Replies reply) sys M cs p who c g = Did (finished sys M cs (line.Call p who c (Some reply) ∷ []) g)
 answered Waits sys M cs p who c g = Did (finished sys M cs (line.Call p who c None ∷ []) g)
 answered Ends sys M cs p who c g = Did (finished sys M cs (line.End p who ∷ []) g)
 answered Spins sys M cs p who c g = Nothing
 
-abbrev pub call_made : {C : Type 0} → SystemTables → Meaning C → Contexts C → ℕ → Caller → Call → Outcome → Reaction C
+abbrev pub call_made : {C : Type 0} → SystemTables → Meaning C → Contexts (Held C) → ℕ → Caller → Call → Outcome → Reaction C
 call_made sys M cs p who c o = answered o.answer sys M cs p who c o.progress
 
 -- the actor of p has made this stretch: its context is taken, and the call, end or fault is carried out
 abbrev pub stretched : {C : Type 0} → SystemTables → Meaning C → World C → ℕ → Caller → Ending C → Reaction C
 stretched sys M w p who (ends.Call c made) =
-    call_made sys M (with_context w.contexts p who (Some c)) p who made (called sys w.state p who made)
+    call_made sys M (with_context w.contexts p who (Some (Awaits c))) p who made (called sys w.state p who made)
 stretched sys M w p who (ends.End c) =
     Did (finished sys M w.contexts (line.End p who ∷ []) (actor_ended sys w.state p who))
 stretched sys M w p who (ends.Fault c fault) =
     Did (finished sys M w.contexts (line.Fault p who fault ∷ []) (actor_ended sys w.state p who))
 stretched sys M w p who (ends.Over kept) = Nothing
 
-abbrev pub run_in : {C : Type 0} → SystemTables → Meaning C → ℕ → World C → ℕ → Caller → Option C → Reaction C
+-- an actor that awaits a reply makes no stretch
+abbrev pub run_in : {C : Type 0} → SystemTables → Meaning C → ℕ → World C → ℕ → Caller → Option (Held C) → Reaction C
 run_in sys M bound w p who None = Nothing
-run_in sys M bound w p who (Some c) = stretched sys M w p who (M.stretch (caller_body sys w.contexts p who) bound c)
+run_in sys M bound w p who (Some (Awaits c)) = Nothing
+run_in sys M bound w p who (Some (Goes c)) = stretched sys M w p who (M.stretch (caller_body sys w.contexts p who) bound c)
 
 abbrev pub run_by : {C : Type 0} → SystemTables → Meaning C → ℕ → World C → ℕ → Option Caller → Reaction C
 run_by sys M bound w p None = Nothing

@@ -49,7 +49,8 @@ tables_of s =
       interrupts = s.interrupts.items;
     }
 
--- the number of the body of an entry
+-- The number of the body of an entry. An entry is a name only until the bodies are known: in a system that runs, as in
+-- every image, each is a number, so that what a name gives is never looked at.
 abbrev pub body_of : Entry → ℕ
 body_of (entry.Body b) = b
 body_of (entry.Named n) = 0
@@ -77,11 +78,11 @@ abbrev pub data_queue_config : SystemTables → ℕ → DataQueueConfig
 data_queue_config sys d = found (record { name = no_name; order = Fifo; capacity = 0 }) (slice_get sys.data_queues d)
 
 abbrev pub mailbox_config : SystemTables → ℕ → MailboxConfig
-mailbox_config sys x =
-    found (record { name = no_name; order = Fifo; message_order = Fifo; most = 1 }) (slice_get sys.mailboxes x)
+mailbox_config sys mailbox =
+    found (record { name = no_name; order = Fifo; message_order = Fifo; most = 1 }) (slice_get sys.mailboxes mailbox)
 
 abbrev pub message_config : SystemTables → ℕ → MessageConfig
-message_config sys g = found (record { name = no_name; priority = 1 }) (slice_get sys.messages g)
+message_config sys message = found (record { name = no_name; priority = 1 }) (slice_get sys.messages message)
 
 abbrev pub cyclic_config : SystemTables → ℕ → CyclicConfig
 cyclic_config sys c =

@@ -9,9 +9,9 @@ use Rattle.fmp_base.specs.declared.states.TimeLimit.{TimeLimit}
 use Rattle.fmp_base.specs.declared.states.WaitCause.{WaitCause}
 use Rattle.fmp_base.specs.declared.states.WaitCause.TheVariants as cause
 use Rattle.fmp_base.specs.Changes.{started, released, ended, suspended}
-use Rattle.fmp_base.specs.Outcomes.{Outcome, code, refused, done, done_in, gives, waits, waits_within, limit_of, numbered, named, ranged, tested, unless, on_task}
+use Rattle.fmp_base.specs.Outcomes.{Outcome, code, refused, succeeds, succeeds_in, gives, waits, waits_within, limit_of, numbered, named, ranged, tested, refused_if, on_task}
 use Rattle.fmp_base.specs.Queues.{is_ready, queue_of, stands_by_priority, first_ready}
-use Rattle.fmp_base.specs.States.{KernelState, unchanged, task_at, with_task, with_last}
+use Rattle.fmp_base.specs.States.{KernelState, unchanged, clock_after, task_at, with_task, with_last}
 use Rattle.fmp_base.specs.Systems.{SystemTables, task_config, is_allowed_by}
 
 abbrev pub is_dormant : Phase → Bool
@@ -30,10 +30,10 @@ by_number s t = numbered (length s.tasks) t
 -- one more activation is queued
 abbrev pub activation_queued : SystemTables → KernelState → ℕ → TaskBlock → Outcome
 activation_queued sys s t x =
-    if nat_lt x.activations sys.queue_limit then done_in (with_task s t (record x { activations = x.activations + 1 })) else refused s er.Qovr
+    if nat_lt x.activations sys.queue_limit then succeeds_in (with_task s t (record x { activations = x.activations + 1 })) else refused s er.Qovr
 
 abbrev pub activated_by : Phase → SystemTables → KernelState → ℕ → TaskBlock → Outcome
-activated_by Dormant sys s t x = done (started sys (unchanged s) t x)
+activated_by Dormant sys s t x = succeeds (started sys (unchanged s) t x)
 activated_by Ready sys s t x = activation_queued sys s t x
 activated_by (Waiting c) sys s t x = activation_queued sys s t x
 
@@ -57,7 +57,7 @@ can_act s me t = on_task s (self_or s me t) (activations_cancelled s)
 
 abbrev pub terminated : SystemTables → KernelState → ℕ → ℕ → ℕ → TaskBlock → Outcome
 terminated sys s p me t x =
-    unless (nat_eq t me) s er.Iluse (unless (is_dormant x.phase || not (nat_eq x.processor p)) s er.Obj (done (ended sys (unchanged s) t x)))
+    refused_if (nat_eq t me) s er.Iluse (refused_if (is_dormant x.phase || not (nat_eq x.processor p)) s er.Obj (succeeds (ended sys (unchanged s) t x)))
 
 abbrev pub ter_tsk : SystemTables → KernelState → (p me : ℕ) → ℤ → Outcome
 ter_tsk sys s p me t = on_task s (by_number s t) (terminated sys s p me)
@@ -70,14 +70,15 @@ abbrev pub moved_by : Bool → KernelState → ℕ → TaskBlock → KernelState
 moved_by true s t y = with_last s t y
 moved_by false s t y = with_task s t y
 
--- priority 0 (TPRI_INI) is the initial one
-abbrev pub initial_or : ℕ → ℕ → ℕ
-initial_or initial zero = initial
-initial_or initial (suc n) = suc n
+-- a priority, where 0 stands for another one
+abbrev pub or_if_zero : ℕ → ℕ → ℕ
+or_if_zero other zero = other
+or_if_zero other (suc n) = suc n
 
+-- priority 0 (TPRI_INI) is the initial one
 abbrev pub priority_changed : SystemTables → KernelState → ℕ → TaskBlock → ℕ → Outcome
 priority_changed sys s t x priority =
-    unless (is_dormant x.phase) s er.Obj (done_in (moved_by (goes_last sys x) s t (record x { priority = initial_or (task_config sys t).priority priority })))
+    refused_if (is_dormant x.phase) s er.Obj (succeeds_in (moved_by (goes_last sys x) s t (record x { priority = or_if_zero (task_config sys t).priority priority })))
 
 abbrev pub chg_pri : SystemTables → KernelState → ℕ → ℤ → ℤ → Outcome
 chg_pri sys s me t priority =
@@ -85,7 +86,7 @@ chg_pri sys s me t priority =
 
 abbrev pub get_pri : KernelState → ℕ → ℤ → Outcome
 get_pri s me t =
-    on_task s (self_or s me t) (λ u x. unless (is_dormant x.phase) s er.Obj (gives (pos x.priority) (unchanged s)))
+    on_task s (self_or s me t) (λ u x. refused_if (is_dormant x.phase) s er.Obj (gives (pos x.priority) (unchanged s)))
 
 abbrev pub allowed_by : Bool → ℕ → Option ℕ
 allowed_by true p = Some p
@@ -102,10 +103,10 @@ allowed_processor sys t c = allowed sys t (numbered sys.processors c)
 -- one more activation is queued, for a start on processor c
 abbrev pub activation_queued_on : SystemTables → KernelState → ℕ → TaskBlock → ℕ → Outcome
 activation_queued_on sys s t x c =
-    if nat_lt x.activations sys.queue_limit then done_in (with_task s t (record x { activations = x.activations + 1; next_processor = Some c })) else refused s er.Qovr
+    if nat_lt x.activations sys.queue_limit then succeeds_in (with_task s t (record x { activations = x.activations + 1; next_processor = Some c })) else refused s er.Qovr
 
 abbrev pub activated_on_by : Phase → SystemTables → KernelState → ℕ → TaskBlock → ℕ → Outcome
-activated_on_by Dormant sys s t x c = done (started sys (unchanged s) t (record x { processor = c }))
+activated_on_by Dormant sys s t x c = succeeds (started sys (unchanged s) t (record x { processor = c }))
 activated_on_by Ready sys s t x c = activation_queued_on sys s t x c
 activated_on_by (Waiting w) sys s t x c = activation_queued_on sys s t x c
 
@@ -120,7 +121,7 @@ assigned_by false s t x c = moved_by (is_ready x) s t (record x { processor = c 
 
 abbrev pub migrated : KernelState → ℕ → ℕ → TaskBlock → ℕ → Outcome
 migrated s p t x c =
-    unless (is_dormant x.phase || not (nat_eq x.processor p)) s er.Obj (done_in (assigned_by (nat_eq x.processor c) s t x c))
+    refused_if (is_dormant x.phase || not (nat_eq x.processor p)) s er.Obj (succeeds_in (assigned_by (nat_eq x.processor c) s t x c))
 
 abbrev pub mig_tsk : SystemTables → KernelState → (p me : ℕ) → ℤ → ℤ → Outcome
 mig_tsk sys s p me t c =
@@ -129,22 +130,22 @@ mig_tsk sys s p me t c =
 -- a queued wakeup is taken, else the caller sleeps within a limit
 abbrev pub slept_by : ℕ → KernelState → ℕ → TaskBlock → TimeLimit → Outcome
 slept_by zero s me x limit = waits_within limit s me x cause.Sleep
-slept_by (suc n) s me x limit = done_in (with_task s me (record x { wakeups = n }))
+slept_by (suc n) s me x limit = succeeds_in (with_task s me (record x { wakeups = n }))
 
 abbrev pub slp_tsk : KernelState → ℕ → TaskBlock → TimeLimit → Outcome
 slp_tsk s me x limit = slept_by x.wakeups s me x limit
 
 abbrev pub tslp_tsk : KernelState → ℕ → TaskBlock → ℤ → Outcome
-tslp_tsk s me x m = tested s er.Par (limit_of m) (slp_tsk s me x)
+tslp_tsk s me x tmout = tested s er.Par (limit_of tmout) (slp_tsk s me x)
 
 -- one more wakeup is queued
 abbrev pub wakeup_queued : SystemTables → KernelState → ℕ → TaskBlock → Outcome
 wakeup_queued sys s t x =
-    if nat_lt x.wakeups sys.queue_limit then done_in (with_task s t (record x { wakeups = x.wakeups + 1 })) else refused s er.Qovr
+    if nat_lt x.wakeups sys.queue_limit then succeeds_in (with_task s t (record x { wakeups = x.wakeups + 1 })) else refused s er.Qovr
 
 -- a sleeping task is released, for another that is not dormant a wakeup is queued
 abbrev pub woken_from : WaitCause → SystemTables → KernelState → ℕ → TaskBlock → Outcome
-woken_from cause.Sleep sys s t x = done (released (unchanged s) t x (code er.Ok))
+woken_from cause.Sleep sys s t x = succeeds (released (unchanged s) t x (code er.Ok))
 woken_from _ sys s t x = wakeup_queued sys s t x
 
 abbrev pub woken_by : Phase → SystemTables → KernelState → ℕ → TaskBlock → Outcome
@@ -163,12 +164,12 @@ iwup_tsk sys s t = on_task s (by_number s t) (woken sys s)
 
 abbrev pub can_wup : KernelState → ℕ → ℤ → Outcome
 can_wup s me t =
-    on_task s (self_or s me t) (λ u x. unless (is_dormant x.phase) s er.Obj (gives (pos x.wakeups) (unchanged (with_task s u (record x { wakeups = 0 })))))
+    on_task s (self_or s me t) (λ u x. refused_if (is_dormant x.phase) s er.Obj (gives (pos x.wakeups) (unchanged (with_task s u (record x { wakeups = 0 })))))
 
 abbrev pub released_by : Phase → KernelState → ℕ → TaskBlock → Outcome
 released_by Dormant s t x = refused s er.Obj
 released_by Ready s t x = refused s er.Obj
-released_by (Waiting c) s t x = done (released (unchanged s) t x (code er.Rlwai))
+released_by (Waiting c) s t x = succeeds (released (unchanged s) t x (code er.Rlwai))
 
 -- rel_wai and irel_wai: a waiting task is released by force
 abbrev pub rel_wai : KernelState → ℤ → Outcome
@@ -176,7 +177,7 @@ rel_wai s t = on_task s (by_number s t) (λ u x. released_by x.phase s u x)
 
 abbrev pub sus_tsk : KernelState → ℕ → ℤ → Outcome
 sus_tsk s me t =
-    on_task s (self_or s me t) (λ u x. unless (is_dormant x.phase) s er.Obj (unless x.suspended s er.Qovr (done_in (suspended s u x))))
+    on_task s (self_or s me t) (λ u x. refused_if (is_dormant x.phase) s er.Obj (refused_if x.suspended s er.Qovr (succeeds_in (suspended s u x))))
 
 -- a waiting task waits on in its place, another is ready, at the end
 abbrev pub resumed_by : Phase → KernelState → ℕ → TaskBlock → KernelState
@@ -186,11 +187,11 @@ resumed_by (Waiting c) s t y = with_task s t y
 
 abbrev pub rsm_tsk : KernelState → ℤ → Outcome
 rsm_tsk s t =
-    on_task s (by_number s t) (λ u x. unless (not x.suspended) s er.Obj (done_in (resumed_by x.phase s u (record x { suspended = false }))))
+    on_task s (by_number s t) (λ u x. refused_if (not x.suspended) s er.Obj (succeeds_in (resumed_by x.phase s u (record x { suspended = false }))))
 
 -- the caller waits until the clock has advanced by more than d
 abbrev pub dly_tsk : KernelState → ℕ → TaskBlock → ℤ → Outcome
-dly_tsk s me x d = tested s er.Par (ranged 0 (2 ^ 30) d) (λ n. waits s me x cause.Delay (Some (s.clock + n + 1)))
+dly_tsk s me x d = tested s er.Par (ranged 0 (2 ^ 30) d) (λ n. waits s me x cause.Delay (Some (clock_after s n)))
 
 -- the first of a queue goes to the end
 abbrev pub rotated : KernelState → Option ℕ → KernelState
@@ -200,10 +201,10 @@ rotated s (Some t) = with_last s t (task_at s.tasks t)
 -- priority 0 (TPRI_SELF) is the caller's current one
 abbrev pub rot_rdq : KernelState → ℕ → TaskBlock → ℤ → Outcome
 rot_rdq s p x priority =
-    tested s er.Par (ranged 0 16 priority) (λ n. done_in (rotated s (first_ready s p (initial_or x.priority n))))
+    tested s er.Par (ranged 0 16 priority) (λ n. succeeds_in (rotated s (first_ready s p (or_if_zero x.priority n))))
 
 abbrev pub irot_rdq : KernelState → ℕ → ℤ → Outcome
-irot_rdq s p priority = tested s er.Par (ranged 1 16 priority) (λ n. done_in (rotated s (first_ready s p n)))
+irot_rdq s p priority = tested s er.Par (ranged 1 16 priority) (λ n. succeeds_in (rotated s (first_ready s p n)))
 
 abbrev pub get_tid : KernelState → ℕ → Outcome
 get_tid s me = gives (pos (me + 1)) (unchanged s)

@@ -15,16 +15,16 @@ use Rattle.fmp_base.specs.declared.states.Caller.TheVariants as caller
 use Rattle.fmp_base.specs.declared.states.Handler.{Handler}
 use Rattle.fmp_base.specs.declared.systems.InterruptConfig.{InterruptConfig}
 use Rattle.fmp_base.specs.Calls.{called}
-use Rattle.fmp_base.specs.Meanings.{Meaning, HandlerContext, Contexts, World, task_body, handler_body, handler_exinf, context_at, context_in, body_in, context_of, caller_body, context_for, with_context, told, delivered_to, called_back, task_begun, handler_begun, contexts_after, contexts_after_all}
+use Rattle.fmp_base.specs.Meanings.{Meaning, Held, Goes, Awaits, HandlerContext, Contexts, World, task_body, handler_body, handler_exinf, context_at, context_in, body_in, context_of, caller_body, context_for, with_context, told, delivered_to, called_back, task_begun, handler_begun, contexts_after, contexts_after_all}
 use Rattle.fmp_base.specs.Runs.{Trace, run, run_on, done_events, done_on, completed_by, completed_on, complete_run}
 use Rattle.fmp_base.specs.Settles.{settled}
-use Rattle.fmp_base.specs.Setups.{setup, no_contexts, all_activated, created_state}
+use Rattle.fmp_base.specs.Setups.{setup, no_contexts, all_started, created_state}
 use Rattle.fmp_base.specs.States.{KernelState, Progress, unchanged, processor_at, places_from}
 use Rattle.fmp_base.specs.Steps.{Reaction, Nothing, Did, finished, actor_of, actor_ended, answered, stretched, run_in, run_by, interrupted, interrupted_by, step}
 use Rattle.fmp_base.specs.Stretches.{Ending}
 use Rattle.fmp_base.specs.Systems.{SystemTables, task_config, interrupt_config}
 use Rattle.fmp_base.specs.Ticks.{ticked, with_interrupt_pending}
-use Rattle.fmp_base.specs.Ties.{OptionTied, AllTied, StretchTied, over, call, end_, fault, Any, KeepsTie, HandlerTied, ContextsTied, WorldTied, BothDone, DoneTied, TraceAgrees}
+use Rattle.fmp_base.specs.Ties.{OptionTied, AllTied, StretchTied, over, call, end_, fault, Any, KeepsTie, HandlerTied, HeldTied, ContextsTied, WorldTied, BothDone, DoneTied, TraceAgrees}
 
 pub AllTied-slice_set : {C D : Type 0} (R : ℕ → C → D → Type 0) (cs : List (Option C)) (ds : List (Option D)) (i : ℕ) (c : Option C) (d : Option D)
     → AllTied R cs ds → OptionTied (R i) c d → AllTied R (slice_set cs i c) (slice_set ds i d)
@@ -69,12 +69,15 @@ context_for-tied R a b (Some c) None e h = absurd h
 context_for-tied R a b (Some c) (Some d) e h = record { bodies = e; contexts = h }
 
 pub told-tied : {C D : Type 0} (R : ℕ → C → D → Type 0) (M : Meaning C) (m : ℕ) (N : Meaning D) (n : ℕ) → KeepsTie R M m N n
-    → (body : ℕ) (reply : Reply) (c : Option C) (d : Option D) → OptionTied (R body) c d
-    → OptionTied (R body) (told M body reply c) (told N body reply d)
+    → (body : ℕ) (reply : Reply) (c : Option (Held C)) (d : Option (Held D)) → OptionTied (HeldTied R body) c d
+    → OptionTied (HeldTied R body) (told M body reply c) (told N body reply d)
 told-tied R M m N n k body reply None None h = tt
 told-tied R M m N n k body reply None (Some d) h = absurd h
 told-tied R M m N n k body reply (Some c) None h = absurd h
-told-tied R M m N n k body reply (Some c) (Some d) h = k.delivers body c d reply h
+told-tied R M m N n k body reply (Some (Goes c)) (Some (Goes d)) h = h
+told-tied R M m N n k body reply (Some (Awaits c)) (Some (Awaits d)) h = k.delivers body c d reply h
+told-tied R M m N n k body reply (Some (Goes c)) (Some (Awaits d)) h = absurd h
+told-tied R M m N n k body reply (Some (Awaits c)) (Some (Goes d)) h = absurd h
 
 -- where the caller's body is one in both, a tied context keeps the contexts tied
 pub caller_body-tied : {C D : Type 0} (sys : SystemTables) (R : ℕ → C → D → Type 0) (a : Contexts C) (b : Contexts D) (p : ℕ) (who : Caller)
@@ -102,39 +105,39 @@ with_context-tied sys R a b p (caller.Handler i) c d h k =
     }
 
 pub delivered_to-tied : {C D : Type 0} (sys : SystemTables) (R : ℕ → C → D → Type 0) (M : Meaning C) (m : ℕ) (N : Meaning D) (n : ℕ) → KeepsTie R M m N n
-    → (a : Contexts C) (b : Contexts D) (p : ℕ) (who : Caller) (reply : Reply) → ContextsTied sys R a b
-    → ContextsTied sys R (delivered_to sys M a p who reply) (delivered_to sys N b p who reply)
+    → (a : Contexts (Held C)) (b : Contexts (Held D)) (p : ℕ) (who : Caller) (reply : Reply) → ContextsTied sys (HeldTied R) a b
+    → ContextsTied sys (HeldTied R) (delivered_to sys M a p who reply) (delivered_to sys N b p who reply)
 delivered_to-tied {C} {D} sys R M m N n k a b p who reply h =
-    with_context-tied sys R a b p who _ _ h
-    (subst (λ (body : ℕ). OptionTied (R (caller_body sys a p who)) (told M (caller_body sys a p who) reply (context_of a p who)) (told N body reply (context_of b p who)))
-    (caller_body-tied sys R a b p who h)
-    (told-tied R M m N n k (caller_body sys a p who) reply (context_of a p who) (context_of b p who) (context_of-tied sys R a b p who h)))
+    with_context-tied sys (HeldTied R) a b p who _ _ h
+    (subst (λ (body : ℕ). OptionTied (HeldTied R (caller_body sys a p who)) (told M (caller_body sys a p who) reply (context_of a p who)) (told N body reply (context_of b p who)))
+    (caller_body-tied sys (HeldTied R) a b p who h)
+    (told-tied R M m N n k (caller_body sys a p who) reply (context_of a p who) (context_of b p who) (context_of-tied sys (HeldTied R) a b p who h)))
 
 pub called_back-tied : {C D : Type 0} (sys : SystemTables) (R : ℕ → C → D → Type 0) (M : Meaning C) (m : ℕ) (N : Meaning D) (n : ℕ) → KeepsTie R M m N n
-    → (a : Contexts C) (b : Contexts D) (p : ℕ) (who : Caller) (reply : Option Reply) → ContextsTied sys R a b
-    → ContextsTied sys R (called_back sys M a p who reply) (called_back sys N b p who reply)
+    → (a : Contexts (Held C)) (b : Contexts (Held D)) (p : ℕ) (who : Caller) (reply : Option Reply) → ContextsTied sys (HeldTied R) a b
+    → ContextsTied sys (HeldTied R) (called_back sys M a p who reply) (called_back sys N b p who reply)
 called_back-tied sys R M m N n k a b p who None h = h
 called_back-tied sys R M m N n k a b p who (Some reply) h = delivered_to-tied sys R M m N n k a b p who reply h
 
 pub task_begun-tied : {C D : Type 0} (sys : SystemTables) (R : ℕ → C → D → Type 0) (M : Meaning C) (m : ℕ) (N : Meaning D) (n : ℕ) → KeepsTie R M m N n
-    → (a : Contexts C) (b : Contexts D) (t : ℕ) → ContextsTied sys R a b
-    → ContextsTied sys R (task_begun sys M a t) (task_begun sys N b t)
+    → (a : Contexts (Held C)) (b : Contexts (Held D)) (t : ℕ) → ContextsTied sys (HeldTied R) a b
+    → ContextsTied sys (HeldTied R) (task_begun sys M a t) (task_begun sys N b t)
 task_begun-tied sys R M m N n k a b t h =
-    record { tasks = AllTied-slice_set (λ u. R (task_body sys u)) a.tasks b.tasks t _ _ h.tasks (k.starts (task_body sys t) (task_config sys t).exinf); handlers = h.handlers }
+    record { tasks = AllTied-slice_set (λ u. HeldTied R (task_body sys u)) a.tasks b.tasks t _ _ h.tasks (k.starts (task_body sys t) (task_config sys t).exinf); handlers = h.handlers }
 
 pub handler_begun-tied : {C D : Type 0} (sys : SystemTables) (R : ℕ → C → D → Type 0) (M : Meaning C) (m : ℕ) (N : Meaning D) (n : ℕ) → KeepsTie R M m N n
-    → (a : Contexts C) (b : Contexts D) (p : ℕ) (i : Handler) → ContextsTied sys R a b
-    → ContextsTied sys R (handler_begun sys M a p i) (handler_begun sys N b p i)
+    → (a : Contexts (Held C)) (b : Contexts (Held D)) (p : ℕ) (i : Handler) → ContextsTied sys (HeldTied R) a b
+    → ContextsTied sys (HeldTied R) (handler_begun sys M a p i) (handler_begun sys N b p i)
 handler_begun-tied sys R M m N n k a b p i h =
     record {
       tasks = h.tasks;
-      handlers = AllTied-slice_set (λ q. HandlerTied R) a.handlers b.handlers p _ _ h.handlers
+      handlers = AllTied-slice_set (λ q. HandlerTied (HeldTied R)) a.handlers b.handlers p _ _ h.handlers
           (record { bodies = refl; contexts = k.starts (handler_body sys i) (handler_exinf sys i) });
     }
 
 pub contexts_after-tied : {C D : Type 0} (sys : SystemTables) (R : ℕ → C → D → Type 0) (M : Meaning C) (m : ℕ) (N : Meaning D) (n : ℕ) → KeepsTie R M m N n
-    → (a : Contexts C) (b : Contexts D) (l : Line) → ContextsTied sys R a b
-    → ContextsTied sys R (contexts_after sys M a l) (contexts_after sys N b l)
+    → (a : Contexts (Held C)) (b : Contexts (Held D)) (l : Line) → ContextsTied sys (HeldTied R) a b
+    → ContextsTied sys (HeldTied R) (contexts_after sys M a l) (contexts_after sys N b l)
 contexts_after-tied sys R M m N n k a b (line.Starts p t) h = task_begun-tied sys R M m N n k a b t h
 contexts_after-tied sys R M m N n k a b (line.Gets p t reply) h = delivered_to-tied sys R M m N n k a b p (caller.Task t) reply h
 contexts_after-tied sys R M m N n k a b (line.Begins p i) h = handler_begun-tied sys R M m N n k a b p i h
@@ -147,20 +150,20 @@ contexts_after-tied sys R M m N n k a b (line.Pends p c) h = h
 contexts_after-tied sys R M m N n k a b (line.Runs p t) h = h
 
 pub contexts_after_all-tied : {C D : Type 0} (sys : SystemTables) (R : ℕ → C → D → Type 0) (M : Meaning C) (m : ℕ) (N : Meaning D) (n : ℕ) → KeepsTie R M m N n
-    → (a : Contexts C) (b : Contexts D) (ls : List Line) → ContextsTied sys R a b
-    → ContextsTied sys R (contexts_after_all sys M a ls) (contexts_after_all sys N b ls)
+    → (a : Contexts (Held C)) (b : Contexts (Held D)) (ls : List Line) → ContextsTied sys (HeldTied R) a b
+    → ContextsTied sys (HeldTied R) (contexts_after_all sys M a ls) (contexts_after_all sys N b ls)
 contexts_after_all-tied sys R M m N n k a b [] h = h
 contexts_after_all-tied sys R M m N n k a b (l ∷ ls) h =
     contexts_after_all-tied sys R M m N n k (contexts_after sys M a l) (contexts_after sys N b l) ls (contexts_after-tied sys R M m N n k a b l h)
 
 pub finished-tied : {C D : Type 0} (sys : SystemTables) (R : ℕ → C → D → Type 0) (M : Meaning C) (m : ℕ) (N : Meaning D) (n : ℕ) → KeepsTie R M m N n
-    → (a : Contexts C) (b : Contexts D) (own : List Line) (g : Progress) → ContextsTied sys R a b
+    → (a : Contexts (Held C)) (b : Contexts (Held D)) (own : List Line) (g : Progress) → ContextsTied sys (HeldTied R) a b
     → BothDone sys R (finished sys M a own g) (finished sys N b own g)
 finished-tied sys R M m N n k a b own g h =
     (refl, record { states = refl; contexts = contexts_after_all-tied sys R M m N n k a b (settled sys (record g { lines = own ++ g.lines })).lines h })
 
 pub answered-tied : {C D : Type 0} (sys : SystemTables) (R : ℕ → C → D → Type 0) (M : Meaning C) (m : ℕ) (N : Meaning D) (n : ℕ) → KeepsTie R M m N n
-    → (answer : Answer) (a : Contexts C) (b : Contexts D) (p : ℕ) (who : Caller) (c : Call) (g : Progress) → ContextsTied sys R a b
+    → (answer : Answer) (a : Contexts (Held C)) (b : Contexts (Held D)) (p : ℕ) (who : Caller) (c : Call) (g : Progress) → ContextsTied sys (HeldTied R) a b
     → DoneTied sys R (answered answer sys M a p who c g) (answered answer sys N b p who c g)
 answered-tied sys R M m N n k (Replies reply) a b p who c g h = finished-tied sys R M m N n k a b (line.Call p who c (Some reply) ∷ []) g h
 answered-tied sys R M m N n k Waits a b p who c g h = finished-tied sys R M m N n k a b (line.Call p who c None ∷ []) g h
@@ -168,13 +171,13 @@ answered-tied sys R M m N n k Ends a b p who c g h = finished-tied sys R M m N n
 answered-tied sys R M m N n k Spins a b p who c g h = tt
 
 pub stretched-tied : {C D : Type 0} (sys : SystemTables) (R : ℕ → C → D → Type 0) (M : Meaning C) (m : ℕ) (N : Meaning D) (n : ℕ) → KeepsTie R M m N n
-    → (s : KernelState) (a : Contexts C) (b : Contexts D) (p : ℕ) (who : Caller) (x : Ending C) (y : Ending D)
-    → ContextsTied sys R a b → StretchTied (R (caller_body sys a p who)) Any x y
+    → (s : KernelState) (a : Contexts (Held C)) (b : Contexts (Held D)) (p : ℕ) (who : Caller) (x : Ending C) (y : Ending D)
+    → ContextsTied sys (HeldTied R) a b → StretchTied (R (caller_body sys a p who)) Any x y
     → DoneTied sys R (stretched sys M (record { state = s; contexts = a }) p who x) (stretched sys N (record { state = s; contexts = b }) p who y)
 stretched-tied sys R M m N n k s a b p who _ _ h (over kept y) = tt
 stretched-tied sys R M m N n k s a b p who _ _ h (call c d made e) =
     answered-tied sys R M m N n k (called sys s p who made).answer _ _ p who made (called sys s p who made).progress
-    (with_context-tied sys R a b p who (Some c) (Some d) h e)
+    (with_context-tied sys (HeldTied R) a b p who (Some (Awaits c)) (Some (Awaits d)) h e)
 stretched-tied sys R M m N n k s a b p who _ _ h (end_ c d e) =
     finished-tied sys R M m N n k a b (line.End p who ∷ []) (actor_ended sys s p who) h
 stretched-tied sys R M m N n k s a b p who _ _ h (fault c d f e) =
@@ -188,38 +191,41 @@ any_end R S _ _ (end_ c d h) = end_ c d tt
 any_end R S _ _ (fault c d f h) = fault c d f tt
 
 pub run_in-tied : {C D : Type 0} (sys : SystemTables) (R : ℕ → C → D → Type 0) (M : Meaning C) (m : ℕ) (N : Meaning D) (n : ℕ) → KeepsTie R M m N n
-    → (s : KernelState) (a : Contexts C) (b : Contexts D) (p : ℕ) (who : Caller) (c : Option C) (d : Option D)
-    → ContextsTied sys R a b → OptionTied (R (caller_body sys a p who)) c d
+    → (s : KernelState) (a : Contexts (Held C)) (b : Contexts (Held D)) (p : ℕ) (who : Caller) (c : Option (Held C)) (d : Option (Held D))
+    → ContextsTied sys (HeldTied R) a b → OptionTied (HeldTied R (caller_body sys a p who)) c d
     → DoneTied sys R (run_in sys M m (record { state = s; contexts = a }) p who c) (run_in sys N n (record { state = s; contexts = b }) p who d)
 run_in-tied sys R M m N n k s a b p who None d h e = tt
 run_in-tied sys R M m N n k s a b p who (Some c) None h e = absurd e
-run_in-tied {C} {D} sys R M m N n k s a b p who (Some c) (Some d) h e =
+run_in-tied sys R M m N n k s a b p who (Some (Awaits c)) (Some (Awaits d)) h e = tt
+run_in-tied sys R M m N n k s a b p who (Some (Awaits c)) (Some (Goes d)) h e = absurd e
+run_in-tied sys R M m N n k s a b p who (Some (Goes c)) (Some (Awaits d)) h e = absurd e
+run_in-tied {C} {D} sys R M m N n k s a b p who (Some (Goes c)) (Some (Goes d)) h e =
     stretched-tied sys R M m N n k s a b p who _ _ h
     (subst (λ (body : ℕ). StretchTied (R (caller_body sys a p who)) Any (M.stretch (caller_body sys a p who) m c) (N.stretch body n d))
-    (caller_body-tied sys R a b p who h) (k.stretches (caller_body sys a p who) c d e))
+    (caller_body-tied sys (HeldTied R) a b p who h) (k.stretches (caller_body sys a p who) c d e))
 
 pub run_by-tied : {C D : Type 0} (sys : SystemTables) (R : ℕ → C → D → Type 0) (M : Meaning C) (m : ℕ) (N : Meaning D) (n : ℕ) → KeepsTie R M m N n
-    → (s : KernelState) (a : Contexts C) (b : Contexts D) (p : ℕ) (who : Option Caller) → ContextsTied sys R a b
+    → (s : KernelState) (a : Contexts (Held C)) (b : Contexts (Held D)) (p : ℕ) (who : Option Caller) → ContextsTied sys (HeldTied R) a b
     → DoneTied sys R (run_by sys M m (record { state = s; contexts = a }) p who) (run_by sys N n (record { state = s; contexts = b }) p who)
 run_by-tied sys R M m N n k s a b p None h = tt
 run_by-tied sys R M m N n k s a b p (Some who) h =
-    run_in-tied sys R M m N n k s a b p who (context_of a p who) (context_of b p who) h (context_of-tied sys R a b p who h)
+    run_in-tied sys R M m N n k s a b p who (context_of a p who) (context_of b p who) h (context_of-tied sys (HeldTied R) a b p who h)
 
 pub interrupted_by-tied : {C D : Type 0} (sys : SystemTables) (R : ℕ → C → D → Type 0) (M : Meaning C) (m : ℕ) (N : Meaning D) (n : ℕ) → KeepsTie R M m N n
-    → (pending : Bool) (s : KernelState) (a : Contexts C) (b : Contexts D) (i : ℕ) → ContextsTied sys R a b
+    → (pending : Bool) (s : KernelState) (a : Contexts (Held C)) (b : Contexts (Held D)) (i : ℕ) → ContextsTied sys (HeldTied R) a b
     → DoneTied sys R (interrupted_by pending sys M (record { state = s; contexts = a }) i) (interrupted_by pending sys N (record { state = s; contexts = b }) i)
 interrupted_by-tied sys R M m N n k true s a b i h = tt
 interrupted_by-tied sys R M m N n k false s a b i h =
     finished-tied sys R M m N n k a b (line.Int i ∷ []) (unchanged (with_interrupt_pending s i)) h
 
 pub interrupted-tied : {C D : Type 0} (sys : SystemTables) (R : ℕ → C → D → Type 0) (M : Meaning C) (m : ℕ) (N : Meaning D) (n : ℕ) → KeepsTie R M m N n
-    → (config : Option InterruptConfig) (s : KernelState) (a : Contexts C) (b : Contexts D) (i : ℕ) → ContextsTied sys R a b
+    → (config : Option InterruptConfig) (s : KernelState) (a : Contexts (Held C)) (b : Contexts (Held D)) (i : ℕ) → ContextsTied sys (HeldTied R) a b
     → DoneTied sys R (interrupted config sys M (record { state = s; contexts = a }) i) (interrupted config sys N (record { state = s; contexts = b }) i)
 interrupted-tied sys R M m N n k None s a b i h = tt
 interrupted-tied sys R M m N n k (Some config) s a b i h = interrupted_by-tied sys R M m N n k _ s a b i h
 
 step-tied_in : {C D : Type 0} (sys : SystemTables) (R : ℕ → C → D → Type 0) (M : Meaning C) (m : ℕ) (N : Meaning D) (n : ℕ) → KeepsTie R M m N n
-    → (s : KernelState) (a : Contexts C) (b : Contexts D) (e : Event) → ContextsTied sys R a b
+    → (s : KernelState) (a : Contexts (Held C)) (b : Contexts (Held D)) (e : Event) → ContextsTied sys (HeldTied R) a b
     → DoneTied sys R (step sys M m (record { state = s; contexts = a }) e) (step sys N n (record { state = s; contexts = b }) e)
 step-tied_in sys R M m N n k s a b (Run zero) h = tt
 step-tied_in sys R M m N n k s a b (Run (suc p)) h = run_by-tied sys R M m N n k s a b p (actor_of (processor_at s p)) h
@@ -238,8 +244,8 @@ step-tied {C} {D} sys R M m N n k v w e h =
 pub setup-tied : {C D : Type 0} (sys : SystemTables) (R : ℕ → C → D → Type 0) (M : Meaning C) (m : ℕ) (N : Meaning D) (n : ℕ) → KeepsTie R M m N n
     → BothDone sys R (setup sys M) (setup sys N)
 setup-tied sys R M m N n k =
-    finished-tied sys R M m N n k (no_contexts sys) (no_contexts sys) [] (all_activated sys (unchanged (created_state sys)) (places_from 0 (length sys.tasks)))
-    (record { tasks = AllTied-replicate (λ t. R (task_body sys t)) (length sys.tasks); handlers = AllTied-replicate (λ p. HandlerTied R) sys.processors })
+    finished-tied sys R M m N n k (no_contexts sys) (no_contexts sys) [] (all_started sys (unchanged (created_state sys)) (places_from 0 (length sys.tasks)))
+    (record { tasks = AllTied-replicate (λ t. HeldTied R (task_body sys t)) (length sys.tasks); handlers = AllTied-replicate (λ p. HandlerTied (HeldTied R)) sys.processors })
 
 completed_by-agrees : {C D : Type 0} (ls ms : List Line) (r : Option (Trace C)) (s : Option (Trace D)) → ls ≡ ms → TraceAgrees r s
     → TraceAgrees (completed_by ls r) (completed_by ms s)

@@ -4,7 +4,7 @@ use Rattle.std.specs.Prelude.{ℕ, zero, suc, ℤ, ◌≡◌, List, [], ◌∷�
 use Rattle.fmp_base.specs.declared.bodies.Fault.{Fault}
 use Rattle.fmp_base.specs.declared.calls.Call.{Call}
 use Rattle.fmp_base.specs.declared.calls.Reply.{Reply}
-use Rattle.fmp_base.specs.Meanings.{Meaning, HandlerContext, Contexts, World, task_body}
+use Rattle.fmp_base.specs.Meanings.{Meaning, Held, Goes, Awaits, HandlerContext, Contexts, World, task_body}
 use Rattle.fmp_base.specs.Runs.{Trace}
 use Rattle.fmp_base.specs.Steps.{Done, Reaction, Nothing, Did}
 use Rattle.fmp_base.specs.Stretches.{Ending}
@@ -43,6 +43,13 @@ pub record KeepsTie {C D : Type 0} (R : ℕ → C → D → Type 0) (M : Meaning
   pub delivers : (body : ℕ) (c : C) (d : D) (reply : Reply) → R body c d → R body (M.deliver body c reply) (N.deliver body d reply)
   pub stretches : (body : ℕ) (c : C) (d : D) → R body c d → StretchTied (R body) Any (M.stretch body m c) (N.stretch body n d)
 
+-- contexts that both go on, or both await a reply, tied by R
+abbrev pub HeldTied : {C D : Type 0} → (ℕ → C → D → Type 0) → ℕ → Held C → Held D → Type 0
+HeldTied R body (Goes c) (Goes d) = R body c d
+HeldTied R body (Awaits c) (Awaits d) = R body c d
+HeldTied R body (Goes c) (Awaits d) = ⊥
+HeldTied R body (Awaits c) (Goes d) = ⊥
+
 -- contexts of one body, tied
 pub record HandlerTied {C D : Type 0} (R : ℕ → C → D → Type 0) (c : HandlerContext C) (d : HandlerContext D) : Type 0 where
   pub bodies : c.body ≡ d.body
@@ -55,7 +62,7 @@ pub record ContextsTied {C D : Type 0} (sys : SystemTables) (R : ℕ → C → D
 -- one state, and tied contexts
 pub record WorldTied {C D : Type 0} (sys : SystemTables) (R : ℕ → C → D → Type 0) (v : World C) (w : World D) : Type 0 where
   pub states : v.state ≡ w.state
-  pub contexts : ContextsTied sys R v.contexts w.contexts
+  pub contexts : ContextsTied sys (HeldTied R) v.contexts w.contexts
 
 -- two events were done, with the same lines, and leave tied worlds
 abbrev pub BothDone : {C D : Type 0} → SystemTables → (ℕ → C → D → Type 0) → Done C → Done D → Type 0

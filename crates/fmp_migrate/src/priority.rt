@@ -5,7 +5,7 @@ ghost use Rattle.fmp_base.specs.TaskCalls as calls;
 ghost use Rattle.fmp_tasks.specs.Homes.{Fits};
 ghost use Rattle.fmp_tasks.specs.Tables.{outcome, SameShape};
 
-use crate::targets::{initial_or, is_dormant, self_or};
+use crate::targets::{or_if_zero, is_dormant, self_or};
 use fmp_base::arguments::ranged;
 use fmp_base::{Answer, Er, TaskBlock};
 use fmp_tasks::Tables;
@@ -49,7 +49,7 @@ pub fn chg_pri(tables: &mut Tables, me: u8, task: i32, priority: i32) -> Answer
         return replied(Er::Obj);
     }
     let initial = tables.task_config(t).priority;
-    set_priority(tables, t, x, initial_or(initial, n as u8));
+    set_priority(tables, t, x, or_if_zero(initial, n as u8));
     replied(Er::Ok)
 }
 

@@ -5,7 +5,7 @@ ghost use Rattle.fmp_base.specs.States.{KernelState, task_at, unchanged};
 ghost use Rattle.fmp_base.specs.TaskCalls as calls;
 ghost use Rattle.fmp_tasks.specs.Tables.{outcome, SameShape};
 
-use crate::targets::initial_or;
+use crate::targets::or_if_zero;
 use fmp_base::arguments::ranged;
 use fmp_base::{Answer, Er};
 use fmp_tasks::Tables;
@@ -35,7 +35,7 @@ pub fn rot_rdq(tables: &mut Tables, p: u8, me: u8, priority: i32) -> Answer
         return replied(Er::Par);
     };
     let own = tables.task(me).priority;
-    rotate(tables, p, initial_or(own, n as u8));
+    rotate(tables, p, or_if_zero(own, n as u8));
     replied(Er::Ok)
 }
 

@@ -2,7 +2,7 @@
 ghost use Rattle.std.specs.Prelude.{◌≡◌, ℕ, ◌<◌, ◌≤◌, [], length, vec_capacity, slice_get, Some, IfSome};
 ghost use Rattle.fmp_base.specs.Arguments.{IsInRange};
 ghost use Rattle.fmp_base.specs.declared.states.TaskBlock.{TaskBlock};
-ghost use Rattle.fmp_base.specs.DataQueueCalls.{words_at, waiting_word as waiting_word_case, sent, forced_to, received, received_by, snd_dtq as snd_dtq_case, tsnd_dtq as tsnd_dtq_case, fsnd_dtq as fsnd_dtq_case, rcv_dtq as rcv_dtq_case, trcv_dtq as trcv_dtq_case};
+ghost use Rattle.fmp_base.specs.DataQueueCalls.{words_at, offered_word as offered_word_case, word_sent, forced_to, word_received, word_received_from, snd_dtq as snd_dtq_case, tsnd_dtq as tsnd_dtq_case, fsnd_dtq as fsnd_dtq_case, rcv_dtq as rcv_dtq_case, trcv_dtq as trcv_dtq_case};
 ghost use Rattle.fmp_base.specs.Outcomes.{numbered as place_of};
 ghost use Rattle.fmp_base.specs.Queues.{first_waiting};
 ghost use Rattle.fmp_base.specs.States.{task_at};
@@ -23,8 +23,8 @@ fn data_queue_of(tables: &Tables, number: i32) -> Option<u8>
 }
 
 /// The word with which a task of this phase waits; 0 where it waits with none.
-fn waiting_word(phase: Phase) -> i32
-    ensures { result ≡ waiting_word_case phase }
+fn offered_word(phase: Phase) -> i32
+    ensures { result ≡ offered_word_case phase }
 {
     match phase {
         Phase::Waiting(WaitCause::Sending { word, .. }) => word,
@@ -47,7 +47,7 @@ fn send(
     requires limit { IsInRange limit }
     requires empty { lines.old.items ≡ [] }
     requires room { 1 ≤ vec_capacity lines.old }
-    ensures outcome { outcome result tables.new lines.new.items ≡ sent tables.old.system tables.old.state me (task_at tables.old.state.tasks me) word limit d }
+    ensures outcome { outcome result tables.new lines.new.items ≡ word_sent tables.old.system tables.old.state me (task_at tables.old.state.tasks me) word limit d }
     ensures shape { SameShape tables.old tables.new }
     ensures capacity { vec_capacity lines.new ≡ vec_capacity lines.old }
 {
@@ -189,14 +189,14 @@ fn take_oldest(tables: &mut Tables, lines: &mut Vec<Line>, d: u8, word: i32) -> 
     requires oldest { slice_get (words_at tables.old.state d) 0 ≡ Some word }
     requires empty { lines.old.items ≡ [] }
     requires room { 1 ≤ vec_capacity lines.old }
-    ensures outcome { (me : ℕ) (x : TaskBlock) (limit : TimeLimit) → outcome result tables.new lines.new.items ≡ received tables.old.system tables.old.state me x limit d }
+    ensures outcome { (me : ℕ) (x : TaskBlock) (limit : TimeLimit) → outcome result tables.new lines.new.items ≡ word_received tables.old.system tables.old.state me x limit d }
     ensures shape { SameShape tables.old tables.new }
     ensures capacity { vec_capacity lines.new ≡ vec_capacity lines.old }
 {
     match tables.first_waiting(WaitQueue::Senders(d)) {
         Some(t) => {
             let x = tables.task(t);
-            tables.force_word(d, waiting_word(x.phase));
+            tables.force_word(d, offered_word(x.phase));
             release(tables, lines, t, x, code(Er::Ok));
         }
         None => tables.drop_oldest(d),
@@ -211,7 +211,7 @@ fn receive(tables: &mut Tables, lines: &mut Vec<Line>, me: u8, limit: TimeLimit,
     requires limit { IsInRange limit }
     requires empty { lines.old.items ≡ [] }
     requires room { 1 ≤ vec_capacity lines.old }
-    ensures outcome { outcome result tables.new lines.new.items ≡ received tables.old.system tables.old.state me (task_at tables.old.state.tasks me) limit d }
+    ensures outcome { outcome result tables.new lines.new.items ≡ word_received tables.old.system tables.old.state me (task_at tables.old.state.tasks me) limit d }
     ensures shape { SameShape tables.old tables.new }
     ensures capacity { vec_capacity lines.new ≡ vec_capacity lines.old }
 {
@@ -221,7 +221,7 @@ fn receive(tables: &mut Tables, lines: &mut Vec<Line>, me: u8, limit: TimeLimit,
     if let Some(t) = tables.first_waiting(WaitQueue::Senders(d)) {
         let x = tables.task(t);
         release(tables, lines, t, x, code(Er::Ok));
-        return gives(waiting_word(x.phase));
+        return gives(offered_word(x.phase));
     }
     let x = tables.task(me);
     wait_within(tables, me, x, WaitCause::Receiving(d), limit)

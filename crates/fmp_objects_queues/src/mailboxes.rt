@@ -1,7 +1,7 @@
 //! The service calls on mailboxes (uITRON 4.0, section 4.4.4). A message is its number and its priority.
 ghost use Rattle.std.specs.Prelude.{◌≡◌, ◌<◌, ◌≤◌, [], length, vec_capacity, IfSome};
 ghost use Rattle.fmp_base.specs.Arguments.{IsInRange};
-ghost use Rattle.fmp_base.specs.MailboxCalls.{sent, received, snd_mbx as snd_mbx_case, rcv_mbx as rcv_mbx_case, trcv_mbx as trcv_mbx_case};
+ghost use Rattle.fmp_base.specs.MailboxCalls.{message_sent, message_received, snd_mbx as snd_mbx_case, rcv_mbx as rcv_mbx_case, trcv_mbx as trcv_mbx_case};
 ghost use Rattle.fmp_base.specs.Outcomes.{numbered as place_of};
 ghost use Rattle.fmp_base.specs.States.{task_at};
 ghost use Rattle.fmp_tasks.specs.Tables.{outcome, SameShape};
@@ -35,7 +35,7 @@ fn send(tables: &mut Tables, lines: &mut Vec<Line>, m: u8, g: u8) -> Answer
     requires message { g < length tables.old.system.messages }
     requires empty { lines.old.items ≡ [] }
     requires room { 1 ≤ vec_capacity lines.old }
-    ensures outcome { outcome result tables.new lines.new.items ≡ sent tables.old.system tables.old.state m g }
+    ensures outcome { outcome result tables.new lines.new.items ≡ message_sent tables.old.system tables.old.state m g }
     ensures shape { SameShape tables.old tables.new }
     ensures capacity { vec_capacity lines.new ≡ vec_capacity lines.old }
 {
@@ -82,7 +82,7 @@ fn receive(tables: &mut Tables, me: u8, limit: TimeLimit, m: u8) -> Answer
     requires there { m < length tables.old.system.mailboxes }
     requires me { me < length tables.old.system.tasks }
     requires limit { IsInRange limit }
-    ensures outcome { outcome result tables.new [] ≡ received tables.old.state me (task_at tables.old.state.tasks me) limit m }
+    ensures outcome { outcome result tables.new [] ≡ message_received tables.old.state me (task_at tables.old.state.tasks me) limit m }
     ensures shape { SameShape tables.old tables.new }
 {
     match tables.first_message(m) {

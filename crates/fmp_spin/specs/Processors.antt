@@ -4,7 +4,7 @@ use Rattle.fmp_base.specs.declared.calls.Answer.{Answer}
 use Rattle.fmp_base.specs.declared.states.Processor.{Processor}
 use Rattle.fmp_base.specs.declared.codes.Er.TheVariants as er
 use Rattle.fmp_base.specs.declared.states.Lock.TheVariants.{Free, Spin}
-use Rattle.fmp_base.specs.Outcomes.{Outcome, refused, done_in, unless}
+use Rattle.fmp_base.specs.Outcomes.{Outcome, refused, succeeds_in, refused_if}
 use Rattle.fmp_base.specs.ProcessorCalls.{with_lock}
 use Rattle.fmp_base.specs.States.{KernelState, unchanged, idle}
 use Rattle.fmp_base.specs.Systems.{found}
@@ -23,8 +23,8 @@ processor_in xs p = found idle (slice_get xs p)
 
 -- try_spn of lock l, held or not, on processor p
 abbrev pub tried_by : Bool → KernelState → ℕ → ℕ → Outcome
-tried_by held s p l = unless held s er.Obj (done_in (with_lock s p (Spin l)))
+tried_by held s p l = refused_if held s er.Obj (succeeds_in (with_lock s p (Spin l)))
 
 -- unl_spn of a lock that processor p holds or not
 abbrev pub released_by : Bool → KernelState → ℕ → Outcome
-released_by held s p = unless (not held) s er.Iluse (done_in (with_lock s p Free))
+released_by held s p = refused_if (not held) s er.Iluse (succeeds_in (with_lock s p Free))

@@ -1,5 +1,5 @@
 ghost use Rattle.std.specs.Prelude.{◌≡◌, ◌<◌, length, replicate, slice_set, IfOk};
-ghost use Rattle.fmp_base.specs.ProcessorCalls.{loc_cpu, unl_cpu, dispatch_set, is_held as is_held_in, is_cpu_locked as is_locked, is_spin as is_lock, acquired_by};
+ghost use Rattle.fmp_base.specs.ProcessorCalls.{loc_cpu, unl_cpu, dispatch_set, is_held as is_held_in, is_cpu_locked as is_locked, is_spin as is_lock, spin_lock_taken};
 ghost use Rattle.fmp_base.specs.Outcomes.{code};
 ghost use Rattle.fmp_base.specs.States.{KernelState, idle as idle_processor};
 ghost use Rattle.fmp_spin.specs.Processors.{with_processors, answered_in, processor_in, tried_by, released_by};
@@ -192,7 +192,7 @@ impl Processors {
     /// `loc_spn` of spin lock l on processor p: a free lock is taken, and the CPU is locked by it; for a held one the
     /// caller goes on asking, and nothing changes.
     pub fn acquire(&mut self, p: u8, l: u8) -> Answer
-        ensures outcome { (s : KernelState) → acquired_by (is_held_in l self.old) (with_processors s self.old) p l ≡ answered_in (with_processors s self.new) result }
+        ensures outcome { (s : KernelState) → spin_lock_taken (is_held_in l self.old) (with_processors s self.old) p l ≡ answered_in (with_processors s self.new) result }
         ensures count { length self.new ≡ length self.old }
     {
         if self.is_held(l) {

@@ -6,7 +6,7 @@ use Rattle.fmp_base.specs.declared.states.TaskBlock.{TaskBlock}
 use Rattle.fmp_base.specs.declared.states.WaitQueue.{WaitQueue}
 use Rattle.fmp_base.specs.Changes.{released_state}
 use Rattle.fmp_base.specs.Queues.{order_of, priority_in, waits_in, wait_queue}
-use Rattle.fmp_base.specs.States.{KernelState, task_at, without, with_last, with_left}
+use Rattle.fmp_base.specs.States.{KernelState, task_at, without, with_last, with_removed}
 use Rattle.fmp_base.specs.Systems.{SystemTables}
 use Rattle.fmp_tasks.specs.KeptLaws.{arranged-without, arranged-last, task-other, task-same, priority-other}
 
@@ -15,7 +15,7 @@ waits-other : (q : WaitQueue) (xs : List TaskBlock) (t : ℕ) (y : TaskBlock) (u
 waits-other q xs t y u e = ap (waits_in q) (task-other xs t u y e)
 
 wait_queue-left : (sys : SystemTables) (s : KernelState) (q : WaitQueue) (t : ℕ) (y : TaskBlock)
-    → wait_queue sys (with_left s t y) q ≡ without (wait_queue sys s q) t
+    → wait_queue sys (with_removed s t y) q ≡ without (wait_queue sys s q) t
 wait_queue-left sys s q t y =
     arranged-without (order_of sys q) (λ u. waits_in q (task_at s.tasks u)) (λ u. waits_in q (task_at (slice_set s.tasks t y) u))
     (priority_in s.tasks) (priority_in (slice_set s.tasks t y)) t s.order (waits-other q s.tasks t y) (priority-other s.tasks t y)

@@ -58,7 +58,7 @@ pub fn release(tables: &mut Tables, lines: &mut Vec<Line>, t: u8, x: TaskBlock, 
         ..x
     };
     if x.suspended {
-        tables.set_left(t, y);
+        tables.set_removed(t, y);
     } else {
         tables.set_last(t, y);
     }
@@ -89,7 +89,7 @@ pub fn end(tables: &mut Tables, lines: &mut Vec<Line>, t: u8, x: TaskBlock)
         ..x
     };
     if x.activations == 0 {
-        tables.set_left(t, y);
+        tables.set_removed(t, y);
     } else {
         let activations = x.activations - 1;
         start(tables, lines, t, TaskBlock { activations, ..y });
@@ -111,7 +111,7 @@ pub fn suspend(tables: &mut Tables, t: u8, x: TaskBlock)
     };
     match x.phase {
         Phase::Waiting(_) => tables.set_task(t, y),
-        _ => tables.set_left(t, y),
+        _ => tables.set_removed(t, y),
     }
 }
 

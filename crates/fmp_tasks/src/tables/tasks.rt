@@ -1,7 +1,7 @@
 //! The task blocks and the queues in which the tasks stand.
 ghost use Rattle.std.specs.Prelude.{◌≡◌, ◌<◌, ◌≤◌, length, true, false, IfSome, ◌+◌, slice_get, drop};
 ghost use Rattle.fmp_base.specs.Queues.{is_ready, top, first_ready, first_waiting, wait_queue};
-ghost use Rattle.fmp_base.specs.States.{task_at, without, with_task, with_last, with_left};
+ghost use Rattle.fmp_base.specs.States.{task_at, without, with_task, with_last, with_removed};
 ghost use Rattle.fmp_base.specs.TaskCalls.{goes_last, rotated};
 ghost use Rattle.fmp_tasks.specs.Homes.{Fits, Stays, is_in_order, counts_of};
 ghost use Rattle.fmp_waitq.specs.WaitLists.{IsThere};
@@ -132,11 +132,11 @@ impl Tables {
     }
 
     /// Task t becomes x, and leaves the order.
-    pub fn set_left(&mut self, t: u8, x: TaskBlock)
+    pub fn set_removed(&mut self, t: u8, x: TaskBlock)
         requires there { t < length self.old.system.tasks }
         requires fits { Fits self.old.system x }
         requires in_order { is_in_order x ≡ false }
-        ensures { self.new ≡ record self.old { state = with_left self.old.state t x } }
+        ensures { self.new ≡ record self.old { state = with_removed self.old.state t x } }
     {
         let old = self.blocks[t as usize];
         leave(&mut self.ready, &mut self.waits, &old, t);

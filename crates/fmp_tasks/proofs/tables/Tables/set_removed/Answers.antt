@@ -7,7 +7,7 @@ use Rattle.fmp_waitq.specs.declared.queues.ObjectCounts.{ObjectCounts}
 use Rattle.fmp_tasks.specs.Homes.{Fits, IsAmong, IsSomeThere, counts_of, ready_home, wait_home}
 use Rattle.fmp_tasks.proofs.SoundLemmas.{read-at, ready-among, wait-among, Sound-taken}
 use Rattle.fmp_tasks.proofs.TopLemmas.{Fits-at}
-use Rattle.fmp_tasks.proofs.tables.Tables.set_left.Goals as goal
+use Rattle.fmp_tasks.proofs.tables.Tables.set_removed.Goals as goal
 
 pub leave-requires-clause-urgent : goal.leave-requires-clause-urgent
 leave-requires-clause-urgent c =
