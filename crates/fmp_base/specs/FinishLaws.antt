@@ -1,9 +1,12 @@
 -- What a run of one meaning finishes, said of another to which it is tied both ways.
 use Rattle.std.specs.Prelude.{ℕ, zero, suc, ◌+◌, ◌*◌, ◌≤◌, ◌≡◌, refl, List, [], ◌∷◌, Option, Some, None}
 use Rattle.std.proofs.Common.{subst, sym, ap, ◌∙◌}
+use Rattle.fmp_base.specs.declared.bodies.HandlerContext.{HandlerContext}
+use Rattle.fmp_base.specs.declared.bodies.Held.{Held}
+use Rattle.fmp_base.specs.declared.bodies.Held.TheVariants.{Goes, Awaits}
 use Rattle.fmp_base.specs.declared.events.Event.{Event}
 use Rattle.fmp_base.specs.declared.events.Line.{Line}
-use Rattle.fmp_base.specs.Meanings.{Meaning, Held, Goes, Awaits, HandlerContext, World, task_body}
+use Rattle.fmp_base.specs.Meanings.{Meaning, World, task_body}
 use Rattle.fmp_base.specs.Runs.{Trace, after_first, run, run_on, done_events, done_on, completed_by, completed_on, complete_run}
 use Rattle.fmp_base.specs.Steps.{Reaction, Nothing, Did, step}
 use Rattle.fmp_base.specs.Systems.{SystemTables}

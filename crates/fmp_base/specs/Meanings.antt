@@ -1,5 +1,8 @@
 -- What bodies mean, and the contexts that they keep between their stretches.
 use Rattle.std.specs.Prelude.{ℕ, ℤ, pos, List, [], ◌∷◌, Option, Some, None, slice_get, slice_set}
+use Rattle.fmp_base.specs.declared.bodies.HandlerContext.{HandlerContext}
+use Rattle.fmp_base.specs.declared.bodies.Held.{Held}
+use Rattle.fmp_base.specs.declared.bodies.Held.TheVariants.{Goes, Awaits}
 use Rattle.fmp_base.specs.declared.calls.Reply.{Reply}
 use Rattle.fmp_base.specs.declared.events.Line.{Line}
 use Rattle.fmp_base.specs.declared.events.Line.TheVariants as line
@@ -18,16 +21,6 @@ pub record Meaning (C : Type 0) : Type 0 where
   pub start : (body : ℕ) (exinf : ℤ) → C
   pub stretch : (body bound : ℕ) (context : C) → Ending C
   pub deliver : (body : ℕ) (context : C) (reply : Reply) → C
-
--- a context from which a body goes on, or one that awaits the reply to its call
-pub data Held (C : Type 0) : Type 0 where
-  Goes : C → Held C
-  Awaits : C → Held C
-
--- the body of a handler that runs, and its context
-pub record HandlerContext (C : Type 0) : Type 0 where
-  pub body : ℕ
-  pub context : C
 
 -- the contexts of the tasks' bodies, and of the handlers that run, by processor; what a dormant task or a processor
 -- without a handler has is not looked at

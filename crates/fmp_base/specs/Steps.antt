@@ -1,5 +1,7 @@
 -- One event is one step.
 use Rattle.std.specs.Prelude.{ℕ, zero, suc, ◌+◌, List, [], ◌∷◌, ◌++◌, Option, Some, None, Bool, true, false}
+use Rattle.fmp_base.specs.declared.bodies.Held.{Held}
+use Rattle.fmp_base.specs.declared.bodies.Held.TheVariants.{Goes, Awaits}
 use Rattle.fmp_base.specs.declared.calls.Answer.{Answer}
 use Rattle.fmp_base.specs.declared.calls.Answer.TheVariants.{Replies, Waits, Ends, Spins}
 use Rattle.fmp_base.specs.declared.calls.Call.{Call}
@@ -16,7 +18,7 @@ use Rattle.fmp_base.specs.declared.states.Processor.{Processor}
 use Rattle.fmp_base.specs.declared.systems.InterruptConfig.{InterruptConfig}
 use Rattle.fmp_base.specs.Calls.{called}
 use Rattle.fmp_base.specs.Changes.{ended_itself}
-use Rattle.fmp_base.specs.Meanings.{Meaning, Held, Goes, Awaits, Contexts, World, caller_body, context_of, with_context, contexts_after_all}
+use Rattle.fmp_base.specs.Meanings.{Meaning, Contexts, World, caller_body, context_of, with_context, contexts_after_all}
 use Rattle.fmp_base.specs.Outcomes.{Outcome}
 use Rattle.fmp_base.specs.Settles.{settled}
 use Rattle.fmp_base.specs.States.{KernelState, Progress, unchanged, task_at, processor_at, with_processor}

@@ -1,10 +1,13 @@
 -- Two meanings of bodies whose contexts are tied give the same lines along every list of events that the first
 -- finishes.
 use Rattle.std.specs.Prelude.{ℕ, zero, suc, ℤ, ◌≡◌, List, [], ◌∷◌, Option, Some, None}
+use Rattle.fmp_base.specs.declared.bodies.HandlerContext.{HandlerContext}
+use Rattle.fmp_base.specs.declared.bodies.Held.{Held}
+use Rattle.fmp_base.specs.declared.bodies.Held.TheVariants.{Goes, Awaits}
 use Rattle.fmp_base.specs.declared.bodies.Fault.{Fault}
 use Rattle.fmp_base.specs.declared.calls.Call.{Call}
 use Rattle.fmp_base.specs.declared.calls.Reply.{Reply}
-use Rattle.fmp_base.specs.Meanings.{Meaning, Held, Goes, Awaits, HandlerContext, Contexts, World, task_body}
+use Rattle.fmp_base.specs.Meanings.{Meaning, Contexts, World, task_body}
 use Rattle.fmp_base.specs.Runs.{Trace}
 use Rattle.fmp_base.specs.Steps.{Done, Reaction, Nothing, Did}
 use Rattle.fmp_base.specs.Stretches.{Ending}

@@ -1,3 +1,5 @@
+//! What the bodies of tasks and handlers do, and what is kept of them.
+
 use crate::calls::Call;
 
 /// Why a body stops in the middle of a statement.
@@ -21,4 +23,22 @@ pub enum Stretch<C> {
     Fault(C, Fault),
     /// It needs more than the bound.
     Over,
+}
+
+/// What is kept of a body between its stretches.
+#[derive(Clone, Copy, Debug, PartialEq, Eq)]
+pub enum Held<C> {
+    /// A context from which the body goes on.
+    Goes(C),
+    /// A context that awaits the reply to the body's call.
+    Awaits(C),
+}
+
+/// What is kept of a handler that runs.
+#[derive(Clone, Copy, Debug, PartialEq, Eq)]
+pub struct HandlerContext<C> {
+    /// The number of its body.
+    pub body: u8,
+    /// The context of its body.
+    pub context: C,
 }
