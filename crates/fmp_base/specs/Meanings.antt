@@ -10,10 +10,11 @@ use Rattle.fmp_base.specs.declared.states.Caller.{Caller}
 use Rattle.fmp_base.specs.declared.states.Caller.TheVariants as caller
 use Rattle.fmp_base.specs.declared.states.Handler.{Handler}
 use Rattle.fmp_base.specs.declared.states.Handler.TheVariants as handler
+use Rattle.fmp_base.specs.declared.systems.CyclicConfig.{CyclicConfig}
 use Rattle.fmp_base.specs.declared.systems.InterruptConfig.{InterruptConfig}
 use Rattle.fmp_base.specs.States.{KernelState}
 use Rattle.fmp_base.specs.Stretches.{Ending}
-use Rattle.fmp_base.specs.Systems.{SystemTables, found, body_of, task_config, cyclic_config, interrupt_config}
+use Rattle.fmp_base.specs.Systems.{SystemTables, found, body_of, task_config, interrupt_config}
 
 -- a meaning of bodies with contexts C: the context at a start, a stretch of at most so many units, and the context
 -- after a reply to the call that ended a stretch
@@ -36,18 +37,24 @@ pub record World (C : Type 0) : Type 0 where
 abbrev pub task_body : SystemTables → ℕ → ℕ
 task_body sys t = body_of (task_config sys t).entry
 
-abbrev pub interrupt_body : Option InterruptConfig → ℕ
-interrupt_body None = 0
-interrupt_body (Some i) = body_of i.entry
-
-abbrev pub handler_body : SystemTables → Handler → ℕ
-handler_body sys (handler.Interrupt i) = interrupt_body (interrupt_config sys i)
-handler_body sys (handler.Cyclic c) = body_of (cyclic_config sys c).entry
+-- the body with which a handler begins, and its extended information
+pub record HandlerStart : Type 0 where
+  pub body : ℕ
+  pub exinf : ℤ
 
 -- an interrupt handler has exinf 0
-abbrev pub handler_exinf : SystemTables → Handler → ℤ
-handler_exinf sys (handler.Interrupt i) = pos 0
-handler_exinf sys (handler.Cyclic c) = (cyclic_config sys c).exinf
+abbrev pub interrupt_start : Option InterruptConfig → Option HandlerStart
+interrupt_start None = None
+interrupt_start (Some i) = Some (record { body = body_of i.entry; exinf = pos 0 })
+
+abbrev pub cyclic_start : Option CyclicConfig → Option HandlerStart
+cyclic_start None = None
+cyclic_start (Some c) = Some (record { body = body_of c.entry; exinf = c.exinf })
+
+-- how a handler begins, where the system has it
+abbrev pub handler_start : SystemTables → Handler → Option HandlerStart
+handler_start sys (handler.Interrupt i) = interrupt_start (interrupt_config sys i)
+handler_start sys (handler.Cyclic c) = cyclic_start (slice_get sys.cyclics c)
 
 -- what is at a place of a list of contexts, if anything
 abbrev pub context_at : {A : Type 0} → List (Option A) → ℕ → Option A
@@ -105,10 +112,13 @@ abbrev pub task_begun : {C : Type 0} → SystemTables → Meaning C → Contexts
 task_begun sys M cs t =
     record cs { tasks = slice_set cs.tasks t (Some (Goes (M.start (task_body sys t) (task_config sys t).exinf))) }
 
+abbrev pub fresh_context : {C : Type 0} → Meaning C → Option HandlerStart → Option (HandlerContext (Held C))
+fresh_context M None = None
+fresh_context M (Some h) = Some (record { body = h.body; context = Goes (M.start h.body h.exinf) })
+
 -- handler h has a fresh context on processor p
 abbrev pub handler_begun : {C : Type 0} → SystemTables → Meaning C → Contexts (Held C) → ℕ → Handler → Contexts (Held C)
-handler_begun sys M cs p h =
-    with_handler_context cs p (Some (record { body = handler_body sys h; context = Goes (M.start (handler_body sys h) (handler_exinf sys h)) }))
+handler_begun sys M cs p h = with_handler_context cs p (fresh_context M (handler_start sys h))
 
 -- the contexts after what a line tells: a task or handler that starts has a fresh one, a caller and a released task
 -- are told their replies

@@ -18,7 +18,7 @@ use Rattle.fmp_base.specs.declared.states.Caller.TheVariants as caller
 use Rattle.fmp_base.specs.declared.states.Handler.{Handler}
 use Rattle.fmp_base.specs.declared.systems.InterruptConfig.{InterruptConfig}
 use Rattle.fmp_base.specs.Calls.{called}
-use Rattle.fmp_base.specs.Meanings.{Meaning, Contexts, World, task_body, handler_body, handler_exinf, context_at, context_in, body_in, context_of, caller_body, context_for, with_context, told, delivered_to, called_back, task_begun, handler_begun, contexts_after, contexts_after_all}
+use Rattle.fmp_base.specs.Meanings.{Meaning, Contexts, World, task_body, HandlerStart, handler_start, fresh_context, context_at, context_in, body_in, context_of, caller_body, context_for, with_context, told, delivered_to, called_back, task_begun, handler_begun, contexts_after, contexts_after_all}
 use Rattle.fmp_base.specs.Runs.{Trace, run, run_on, done_events, done_on, completed_by, completed_on, complete_run}
 use Rattle.fmp_base.specs.Settles.{settled}
 use Rattle.fmp_base.specs.Setups.{setup, no_contexts, all_started, created_state}
@@ -128,6 +128,11 @@ pub task_begun-tied : {C D : Type 0} (sys : SystemTables) (R : ℕ → C → D �
 task_begun-tied sys R M m N n k a b t h =
     record { tasks = AllTied-slice_set (λ u. HeldTied R (task_body sys u)) a.tasks b.tasks t _ _ h.tasks (k.starts (task_body sys t) (task_config sys t).exinf); handlers = h.handlers }
 
+fresh_context-tied : {C D : Type 0} (R : ℕ → C → D → Type 0) (M : Meaning C) (m : ℕ) (N : Meaning D) (n : ℕ) → KeepsTie R M m N n
+    → (h : Option HandlerStart) → OptionTied (HandlerTied (HeldTied R)) (fresh_context M h) (fresh_context N h)
+fresh_context-tied R M m N n k None = tt
+fresh_context-tied R M m N n k (Some h) = record { bodies = refl; contexts = k.starts h.body h.exinf }
+
 pub handler_begun-tied : {C D : Type 0} (sys : SystemTables) (R : ℕ → C → D → Type 0) (M : Meaning C) (m : ℕ) (N : Meaning D) (n : ℕ) → KeepsTie R M m N n
     → (a : Contexts (Held C)) (b : Contexts (Held D)) (p : ℕ) (i : Handler) → ContextsTied sys (HeldTied R) a b
     → ContextsTied sys (HeldTied R) (handler_begun sys M a p i) (handler_begun sys N b p i)
@@ -135,7 +140,7 @@ handler_begun-tied sys R M m N n k a b p i h =
     record {
       tasks = h.tasks;
       handlers = AllTied-slice_set (λ q. HandlerTied (HeldTied R)) a.handlers b.handlers p _ _ h.handlers
-          (record { bodies = refl; contexts = k.starts (handler_body sys i) (handler_exinf sys i) });
+          (fresh_context-tied R M m N n k (handler_start sys i));
     }
 
 pub contexts_after-tied : {C D : Type 0} (sys : SystemTables) (R : ℕ → C → D → Type 0) (M : Meaning C) (m : ℕ) (N : Meaning D) (n : ℕ) → KeepsTie R M m N n
