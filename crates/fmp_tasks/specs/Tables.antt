@@ -1,18 +1,18 @@
 -- What the tables hold, what is true of them, and what the calls on them leave alone.
 use Rattle.std.specs.Prelude.{◌≡◌, ℕ, ◌*◌, ◌≤◌, ◌<◌, ◌^◌, List, Option, map, length}
-use Rattle.std.specs.List.{AllByRecursion}
 use Rattle.fmp_base.specs.declared.calls.Answer.{Answer}
 use Rattle.fmp_base.specs.declared.events.Line.{Line}
+use Rattle.fmp_base.specs.declared.states.Handler.{Handler}
+use Rattle.fmp_base.specs.declared.states.Handler.TheVariants as handler
 use Rattle.fmp_base.specs.declared.states.TaskBlock.{TaskBlock}
 use Rattle.fmp_base.specs.declared.states.TimeLimit.{TimeLimit}
 use Rattle.fmp_base.specs.declared.states.TimeLimit.TheVariants as limit
-use Rattle.fmp_base.specs.declared.systems.TaskConfig.{TaskConfig}
 use Rattle.fmp_base.specs.Outcomes.{Outcome}
+use Rattle.fmp_base.specs.Ranges.{IsInRange}
 use Rattle.fmp_base.specs.States.{KernelState, Progress}
 use Rattle.fmp_base.specs.Systems.{SystemTables, tables_of}
 use Rattle.fmp_lists.specs.Orders.{IsOrder}
 use Rattle.fmp_ready.specs.ReadyLists.{ReadyLists}
-use Rattle.fmp_ticks.specs.Times.{ArePhases}
 use Rattle.fmp_waitq.specs.WaitLists.{WaitLists, count_of_lists}
 use Rattle.fmp_tasks.specs.declared.tables.Tables.TheInside.{Inside}
 use Rattle.fmp_tasks.specs.Homes.{Kept, BlocksFit, Standing, ready_home, wait_home, always_fifo, order_with_head, counts_of}
@@ -42,26 +42,10 @@ tables_view a =
       };
     }
 
--- a task that the kernel can hold: its priority and its processor are in range
-pub record ConfigFits (processors : ℕ) (c : TaskConfig) : Type 0 where
-  pub urgent : 1 ≤ c.priority
-  pub least : c.priority ≤ 16
-  pub processor : c.processor < processors
-
--- a system that the kernel can hold: up to 8 processors, 255 tasks and 255 objects of each kind
-pub record SystemFits (sys : SystemTables) : Type 0 where
-  pub processors : sys.processors ≤ 8
-  pub few_tasks : length sys.tasks ≤ 255
-  pub tasks : AllByRecursion (ConfigFits sys.processors) sys.tasks
-  pub semaphores : length sys.semaphores ≤ 255
-  pub flags : length sys.flags ≤ 255
-  pub data_queues : length sys.data_queues ≤ 255
-  pub mailboxes : length sys.mailboxes ≤ 255
-  pub messages : length sys.messages ≤ 255
-  pub shared_words : length sys.shared_words ≤ 255
-  pub spin_locks : length sys.spin_locks ≤ 255
-  pub cyclics : length sys.cyclics ≤ 255
-  pub phases : ArePhases sys.cyclics
+-- a system has such a handler: the place of an interrupt is below 32
+abbrev pub HasHandler : SystemTables → Handler → Type 0
+HasHandler sys (handler.Interrupt i) = i < 32
+HasHandler sys (handler.Cyclic c) = c < length sys.cyclics
 
 -- the queues are parts of the order, and the deadlines those of the blocks
 pub record Sound (sys : SystemTables) (tasks : List TaskBlock) (order : List ℕ) (ready : ReadyLists) (waits : WaitLists) (deadlines : List (Option ℕ)) : Type 0 where
@@ -81,7 +65,7 @@ pub record Sound (sys : SystemTables) (tasks : List TaskBlock) (order : List ℕ
 
 -- the system is in range, the tasks and queues agree, and there is a value for each object
 pub record IsWhole (a : Inside) : Type 0 where
-  pub system : SystemFits (tables_of a.system)
+  pub system : IsInRange (tables_of a.system)
   pub tasks : Sound (tables_of a.system) a.blocks.items a.order a.ready a.waits a.deadlines
   pub semaphores : length a.semaphores.items ≡ length a.system.semaphores.items
   pub flags : length a.flags.items ≡ length a.system.flags.items

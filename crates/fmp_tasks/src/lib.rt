@@ -7,6 +7,7 @@ pub mod answers;
 mod config;
 mod messages;
 pub mod order;
+mod pending;
 mod queues;
 mod setup;
 pub mod tables;

@@ -1,8 +1,8 @@
 //! The parts of the state in which a system starts.
 ghost use Rattle.std.specs.Prelude.{◌≡◌, false, replicate, IfOk, map};
+ghost use Rattle.fmp_base.specs.Ranges.{IsInRange};
 ghost use Rattle.fmp_base.specs.Setups.{created as created_block, created_state};
 ghost use Rattle.fmp_base.specs.Systems.{tables_of};
-ghost use Rattle.fmp_tasks.specs.Tables.{SystemFits};
 ghost use Rattle.fmp_tasks.specs.Empties.{empty_ready, empty_waits, empty_mailboxes, no_deadlines};
 
 use crate::config::filled;
@@ -81,7 +81,7 @@ pub fn empty_queues(
     alloc: Global,
     sys: &System,
 ) -> Result<(ReadyQueues, WaitQueues, TickQueue), AllocError>
-    requires { SystemFits (tables_of sys.now) }
+    requires { IsInRange (tables_of sys.now) }
     ensures ready { IfOk result (λ q. q.0 ≡ empty_ready (tables_of sys.now)) }
     ensures waits { IfOk result (λ q. q.1 ≡ empty_waits (tables_of sys.now)) }
     ensures deadlines { IfOk result (λ q. q.2 ≡ no_deadlines (tables_of sys.now)) }
@@ -129,12 +129,12 @@ pub fn idle_handlers(
     alloc: Global,
     sys: &System,
 ) -> Result<(Cyclics, Vec<bool>, Vec<bool>), AllocError>
-    requires { SystemFits (tables_of sys.now) }
+    requires { IsInRange (tables_of sys.now) }
     ensures due_times { IfOk result (λ v. v.0 ≡ (created_state (tables_of sys.now)).due_times) }
     ensures cyclics { IfOk result (λ v. v.1.items ≡ (created_state (tables_of sys.now)).pending_cyclics) }
     ensures interrupts { IfOk result (λ v. v.2.items ≡ replicate 32 false) }
 {
-    let cyclics = Cyclics::new(alloc, sys.cyclics.as_slice())?;
+    let cyclics = Cyclics::new(alloc, sys)?;
     let pending_cyclics = filled(alloc, false, sys.cyclics.len())?;
     let pending_interrupts = filled(alloc, false, 32)?;
     Ok((cyclics, pending_cyclics, pending_interrupts))

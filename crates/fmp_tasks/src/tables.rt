@@ -1,8 +1,8 @@
 //! The tables of the system and the state of the kernel.
 ghost use Rattle.std.specs.Prelude.{◌≡◌, IfOk};
+ghost use Rattle.fmp_base.specs.Ranges.{IsInRange};
 ghost use Rattle.fmp_base.specs.Setups.{created_state};
 ghost use Rattle.fmp_base.specs.Systems.{tables_of};
-ghost use Rattle.fmp_tasks.specs.Tables.{SystemFits};
 
 use crate::config::copied_system;
 use crate::order::Order;
@@ -61,7 +61,7 @@ impl Tables {
     /// The state in which a system starts, with no task started yet (uITRON 4.0, section 3.12). `AllocError` for want of
     /// memory.
     pub fn new(alloc: Global, sys: &System) -> Result<Tables, AllocError>
-        requires { SystemFits (tables_of sys.now) }
+        requires { IsInRange (tables_of sys.now) }
         ensures { IfOk result (λ h. h ≡ record { system = tables_of sys.now; state = created_state (tables_of sys.now) }) }
     {
         let system = copied_system(alloc, sys)?;

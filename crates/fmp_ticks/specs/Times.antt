@@ -1,7 +1,5 @@
 -- Tables of times, and who is due.
-use Rattle.std.specs.Prelude.{◌≡◌, ℕ, ◌+◌, ◌≤◌, ◌<◌, ◌^◌, List, [], ◌∷◌, Option, Some, None, length, slice_get, if◌then◌else◌}
-use Rattle.std.specs.List.{AllByRecursion}
-use Rattle.fmp_base.specs.declared.systems.CyclicConfig.{CyclicConfig}
+use Rattle.std.specs.Prelude.{◌≡◌, ℕ, ◌+◌, ◌≤◌, List, [], ◌∷◌, Option, Some, None, length, slice_get, if◌then◌else◌}
 use Rattle.fmp_base.specs.Ticks.{is_due}
 
 abbrev pub first_due_from : ℕ → ℕ → List (Option ℕ) → Option ℕ
@@ -15,7 +13,3 @@ first_due now times = first_due_from now 0 times
 -- at most 255 places
 abbrev pub IsShort : List (Option ℕ) → Type 0
 IsShort times = length times ≤ 255
-
--- phases that a clock can reach
-abbrev pub ArePhases : List CyclicConfig → Type 0
-ArePhases cs = AllByRecursion (λ c. c.phase ≤ 2 ^ 30) cs

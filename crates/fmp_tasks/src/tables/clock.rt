@@ -1,10 +1,14 @@
 //! The clock, and the handlers that are due or pending.
-ghost use Rattle.std.specs.Prelude.{◌≡◌, ◌<◌, ◌≤◌, ◌^◌, length, map, slice_set, IfSome};
+ghost use Rattle.std.specs.Prelude.{◌≡◌, ◌<◌, ◌≤◌, ◌^◌, length, map, IfSome};
 ghost use Rattle.fmp_base.specs.ProcessorCalls.{with_due};
-ghost use Rattle.fmp_base.specs.Ticks.{with_clock_advanced, is_pending};
+ghost use Rattle.fmp_base.specs.Settles.{pending_handler, without_pending};
+ghost use Rattle.fmp_base.specs.Ticks.{with_clock_advanced, with_cyclic_pending, with_interrupt_pending, is_pending};
+ghost use Rattle.fmp_tasks.specs.Tables.{HasHandler};
 ghost use Rattle.fmp_ticks.specs.Times.{first_due};
 
+use crate::pending::{first_cyclic, first_interrupt};
 use crate::tables::Tables;
+use fmp_base::Handler;
 
 impl Tables {
     /// The system clock.
@@ -68,12 +72,12 @@ impl Tables {
         self.pending_cyclics[c as usize]
     }
 
-    /// A cyclic handler is pending, or no more.
-    pub fn set_cyclic_pending(&mut self, c: u8, pending: bool)
+    /// A cyclic handler becomes pending.
+    pub fn pend_cyclic(&mut self, c: u8)
         requires { c < length self.old.system.cyclics }
-        ensures { self.new ≡ record self.old { state = record self.old.state { pending_cyclics = slice_set self.old.state.pending_cyclics c pending } } }
+        ensures { self.new ≡ record self.old { state = with_cyclic_pending self.old.state c } }
     {
-        self.pending_cyclics[c as usize] = pending;
+        self.pending_cyclics[c as usize] = true;
     }
 
     /// Whether the interrupt at a place, 0 to 31, is pending.
@@ -84,11 +88,37 @@ impl Tables {
         self.pending_interrupts[i as usize]
     }
 
-    /// The interrupt at a place, 0 to 31, is pending, or no more.
-    pub fn set_interrupt_pending(&mut self, i: u8, pending: bool)
+    /// The interrupt at a place, 0 to 31, becomes pending.
+    pub fn pend_interrupt(&mut self, i: u8)
         requires { i < 32 }
-        ensures { self.new ≡ record self.old { state = record self.old.state { pending_interrupts = slice_set self.old.state.pending_interrupts i pending } } }
+        ensures { self.new ≡ record self.old { state = with_interrupt_pending self.old.state i } }
     {
-        self.pending_interrupts[i as usize] = pending;
+        self.pending_interrupts[i as usize] = true;
+    }
+
+    /// The first pending handler of a processor, if any: interrupts by number, then cyclic handlers by number.
+    pub fn first_pending(&self, p: u8) -> Option<Handler>
+        requires there { p < self.now.system.processors }
+        ensures value { result ≡ pending_handler self.now.system self.now.state p }
+        ensures valid { IfSome result (λ h. HasHandler self.now.system h) }
+    {
+        match first_interrupt(&self.system, self.pending_interrupts.as_slice(), p) {
+            Some(i) => Some(Handler::Interrupt(i)),
+            None => match first_cyclic(&self.system, self.pending_cyclics.as_slice(), p) {
+                Some(c) => Some(Handler::Cyclic(c)),
+                None => None,
+            },
+        }
+    }
+
+    /// A handler is pending no more.
+    pub fn clear_pending(&mut self, h: Handler)
+        requires there { HasHandler self.old.system h }
+        ensures { self.new ≡ record self.old { state = without_pending self.old.state h } }
+    {
+        match h {
+            Handler::Interrupt(i) => self.pending_interrupts[i as usize] = false,
+            Handler::Cyclic(c) => self.pending_cyclics[c as usize] = false,
+        }
     }
 }

@@ -1,5 +1,5 @@
 //! The tables of the system.
-ghost use Rattle.std.specs.Prelude.{◌≡◌, ◌<◌, ◌≤◌, length};
+ghost use Rattle.std.specs.Prelude.{◌≡◌, ◌<◌, ◌≤◌, ◌^◌, length, IfSome};
 ghost use Rattle.fmp_base.specs.Systems.{task_config, semaphore_config, flag_config, data_queue_config, mailbox_config, message_config, cyclic_config, interrupt_config};
 
 use crate::config::handler_for;
@@ -71,7 +71,10 @@ impl Tables {
     /// What a cyclic handler is created with.
     pub fn cyclic_config(&self, c: u8) -> CyclicConfig
         requires { c < length self.now.system.cyclics }
-        ensures { result ≡ cyclic_config self.now.system c }
+        ensures value { result ≡ cyclic_config self.now.system c }
+        ensures period { result.period ≤ 2 ^ 30 }
+        ensures phase { result.phase ≤ 2 ^ 30 }
+        ensures processor { result.processor < self.now.system.processors }
     {
         self.system.cyclics[c as usize]
     }
@@ -79,7 +82,8 @@ impl Tables {
     /// The handler of the interrupt at a place, if one is defined.
     pub fn interrupt_config(&self, i: u8) -> Option<InterruptConfig>
         requires { i < 255 }
-        ensures { result ≡ interrupt_config self.now.system i }
+        ensures value { result ≡ interrupt_config self.now.system i }
+        ensures processor { IfSome result (λ config. config.processor < self.now.system.processors) }
     {
         handler_for(self.system.interrupts.as_slice(), i + 1)
     }

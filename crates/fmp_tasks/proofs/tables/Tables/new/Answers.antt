@@ -1,9 +1,10 @@
 use Rattle.std.proofs.Common.{◌≡◌, ℕ, ℤ, List, Option, Bool, false, length, ap, ◌∙◌, sym, subst, arith}
 use Rattle.std.proofs.lemmas.List.{length-map, length-replicate}
 use Rattle.fmp_base.specs.declared.states.Processor.{Processor}
+use Rattle.fmp_base.specs.Ranges.{IsInRange}
 use Rattle.fmp_base.specs.Systems.{SystemTables, tables_of}
 use Rattle.fmp_lists.specs.Heads.{Heads}
-use Rattle.fmp_tasks.specs.Tables.{SystemFits, Sound}
+use Rattle.fmp_tasks.specs.Tables.{Sound}
 use Rattle.fmp_tasks.proofs.NewLemmas.{Sound-new}
 use Rattle.fmp_tasks.proofs.tables.Tables.new.Goals as goal
 
@@ -11,7 +12,7 @@ pub invariant_of-result : goal.invariant_of-result
 invariant_of-result c =
     let e : tables_of c.in_ok-system.system ≡ tables_of c.args.sys.now = c.in_ok-system.ensures in
     record {
-      system = subst SystemFits (sym e) c.requires;
+      system = subst IsInRange (sym e) c.requires;
       tasks =
           subst (λ (s : SystemTables). Sound s c.in_ok-blocks.blocks.items c.new-2.result c.in_ok-ready.ready c.in_ok-ready.waits c.in_ok-ready.deadlines) (sym e)
           (rw (c.in_ok-blocks.ensures, c.as_slice.ensures.value, c.new-2.ensures, c.in_ok-ready.ensures.ready, c.in_ok-ready.ensures.waits, c.in_ok-ready.ensures.deadlines) (Sound-new (tables_of c.args.sys.now) c.requires));
