@@ -3,25 +3,13 @@ use Rattle.std.specs.Prelude.{ℕ, zero, suc, ℤ, pos, negsuc, Bool, true, fals
 use Rattle.fmp_base.specs.declared.calls.Call.{Call}
 use Rattle.fmp_base.specs.declared.calls.Service.{Service}
 use Rattle.fmp_base.specs.declared.calls.Service.TheVariants as service
+use Rattle.fmp_base.specs.declared.permissions.Permission.{Permission}
+use Rattle.fmp_base.specs.declared.permissions.Permission.TheVariants.{Anywhere, LockedTasks, Tasks, TasksOnOthers, WaitingTasks, Handlers}
 use Rattle.fmp_base.specs.declared.states.Caller.{Caller}
 use Rattle.fmp_base.specs.declared.states.Caller.TheVariants as caller
 use Rattle.fmp_base.specs.declared.states.Processor.{Processor}
 use Rattle.fmp_base.specs.ProcessorCalls.{is_cpu_locked}
 use Rattle.fmp_base.specs.Services.{argument, arguments_of}
-
-pub data Permission : Type 0 where
-  -- from tasks and handlers, also while the CPU is locked
-  Anywhere : Permission
-  -- from tasks, also while the CPU is locked
-  LockedTasks : Permission
-  -- from tasks
-  Tasks : Permission
-  -- from tasks; while dispatching is disabled not on the caller itself, whom it takes off its processor
-  TasksOnOthers : Permission
-  -- from tasks while dispatching is enabled, since the caller may wait, whatever its time limit
-  WaitingTasks : Permission
-  -- from handlers
-  Handlers : Permission
 
 -- one clause a service, so that none is called from anywhere before its clause stands here
 abbrev pub permission : Service → Permission

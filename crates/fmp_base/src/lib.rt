@@ -9,6 +9,7 @@ pub mod codes;
 pub mod events;
 pub mod names;
 pub mod operators;
+pub mod permissions;
 pub mod states;
 pub mod systems;
 pub mod ties;
@@ -19,6 +20,7 @@ pub use codes::Er;
 pub use events::{Effect, Event, Line, StateWord, TaskState};
 pub use names::Name;
 pub use operators::{BinaryOperator, UnaryOperator};
+pub use permissions::Permission;
 pub use states::{
     Caller, FlagMode, Handler, Lock, Phase, Processor, TaskBlock, TimeLimit, WaitCause, WaitQueue,
 };

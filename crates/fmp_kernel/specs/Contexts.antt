@@ -1,36 +1,45 @@
--- What holds of each context, and lines that tell of tasks only.
-use Rattle.std.specs.Prelude.{◌<◌, ℕ, zero, suc, List, [], ◌∷◌, Option, Some, None, length}
-use Rattle.fmp_base.specs.declared.events.Line.{Line}
-use Rattle.fmp_base.specs.declared.events.Line.TheVariants as line
-use Rattle.fmp_base.specs.declared.states.Caller.{Caller}
-use Rattle.fmp_base.specs.declared.states.Caller.TheVariants as caller
-use Rattle.fmp_base.specs.Meanings.{task_body}
+-- What holds of the contexts of bodies.
+use Rattle.std.specs.Prelude.{◌≡◌, ◌<◌, ℕ, zero, suc, List, [], ◌∷◌, Option, Some, None, length}
+use Rattle.fmp_base.specs.declared.bodies.HandlerContext.{HandlerContext}
+use Rattle.fmp_base.specs.declared.bodies.Held.{Held}
+use Rattle.fmp_base.specs.declared.bodies.Held.TheVariants.{Goes, Awaits}
+use Rattle.fmp_base.specs.declared.states.Handler.{Handler}
+use Rattle.fmp_base.specs.Meanings.{Contexts, HandlerStart, handler_start, task_body}
 use Rattle.fmp_base.specs.Systems.{SystemTables}
 
--- P t holds of the context of each task t that has one
-abbrev pub AllContexts : {C : Type 0} → (ℕ → C → Type 0) → List (Option C) → Type 0
+-- P i holds of what is at each place i, where something is
+abbrev pub AllContexts : {A : Type 0} → (ℕ → A → Type 0) → List (Option A) → Type 0
 AllContexts P [] = Unit {0}
-AllContexts P (None ∷ cs) = AllContexts (λ t. P (suc t)) cs
-AllContexts P (Some c ∷ cs) = P zero c × AllContexts (λ t. P (suc t)) cs
+AllContexts P (None ∷ cs) = AllContexts (λ i. P (suc i)) cs
+AllContexts P (Some c ∷ cs) = P zero c × AllContexts (λ i. P (suc i)) cs
 
-abbrev pub OfOption : {C : Type 0} → (C → Type 0) → Option C → Type 0
+abbrev pub OfOption : {A : Type 0} → (A → Type 0) → Option A → Type 0
 OfOption P None = Unit {0}
 OfOption P (Some c) = P c
 
--- each context is one that the body of its task gave
-pub record Fitting {B C : Type 0} (is_context : B → ℕ → C → Type 0) (body : B) (sys : SystemTables) (cs : List (Option C)) : Type 0 where
-  pub each : AllContexts (λ t. is_context body (task_body sys t)) cs
+-- P holds of the context that goes on, or awaits a reply
+abbrev pub OfHeld : {C : Type 0} → (C → Type 0) → Held C → Type 0
+OfHeld P (Goes c) = P c
+OfHeld P (Awaits c) = P c
 
--- the body of each task is there
+-- a body that is there, with a context that it gave
+pub record HandlerFits {B C : Type 0} (has_entry : B → ℕ → Type 0) (is_context : B → ℕ → C → Type 0) (body : B)
+    (h : HandlerContext (Held C)) : Type 0 where
+  pub entry : has_entry body h.body
+  pub context : OfHeld (is_context body h.body) h.context
+
+-- each context is one that the body of its task, or of its handler, gave
+pub record Fitting {B C : Type 0} (has_entry : B → ℕ → Type 0) (is_context : B → ℕ → C → Type 0) (body : B)
+    (sys : SystemTables) (cs : Contexts (Held C)) : Type 0 where
+  pub tasks : AllContexts (λ t. OfHeld (is_context body (task_body sys t))) cs.tasks
+  pub handlers : AllContexts (λ p. HandlerFits has_entry is_context body) cs.handlers
+
+-- the body with which a handler begins is there
+abbrev pub BeginsIn : (ℕ → Type 0) → Option HandlerStart → Type 0
+BeginsIn P None = Unit {0}
+BeginsIn P (Some h) = P h.body
+
+-- the body of each task and of each handler is there
 pub record Entered {B : Type 0} (has_entry : B → ℕ → Type 0) (body : B) (sys : SystemTables) : Type 0 where
-  pub each : (t : ℕ) → t < length sys.tasks → has_entry body (task_body sys t)
-
-abbrev pub IsTask : Caller → Type 0
-IsTask (caller.Task t) = Unit {0}
-IsTask (caller.Handler h) = ⊥
-
--- a line that gives no context to a handler
-abbrev pub IsOfTask : Line → Type 0
-IsOfTask (line.Call p who c reply) = IsTask who
-IsOfTask (line.Begins p h) = ⊥
-IsOfTask _ = Unit {0}
+  pub tasks : (t : ℕ) → t < length sys.tasks → has_entry body (task_body sys t)
+  pub handlers : (h : Handler) → BeginsIn (has_entry body) (handler_start sys h)

@@ -1,16 +1,19 @@
--- What is true of the tables and the vectors of a kernel.
-use Rattle.std.specs.Prelude.{◌≡◌, ℕ, ◌≤◌, ◌^◌, length}
-use Rattle.fmp_tasks.specs.Tables.{TablesView}
-use Rattle.fmp_kernel.specs.Stages.{IsInStage}
+-- What is true of the vectors and the clock of a kernel.
+use Rattle.std.specs.Prelude.{◌≡◌, ℕ, ◌≤◌, ◌^◌, List, Option, length}
+use Rattle.fmp_base.specs.Meanings.{Contexts}
+use Rattle.fmp_base.specs.Ranges.{IsInRange}
+use Rattle.fmp_base.specs.Systems.{SystemTables}
 
--- tables of a system that the kernel takes, and a context for each task
-pub record IsReady (h : TablesView) (count : ℕ) : Type 0 where
-  pub contexts : count ≡ length h.system.tasks
-  pub stage : IsInStage h.system
-
--- room for the lines that an event causes and for all its lines; and the clock, by how many events did something
-pub record HasRoom (h : TablesView) (caused_room lines_room done : ℕ) : Type 0 where
+-- the system is in range, with a place for the context of each task and of the handler of each processor, and there is
+-- room for the lines that an event causes and for all its lines
+pub record HasRoom {C : Type 0} (sys : SystemTables) (cs : Contexts C) (caused_room lines_room : ℕ) : Type 0 where
+  pub range : IsInRange sys
+  pub tasks : length cs.tasks ≡ length sys.tasks
+  pub handlers : length cs.handlers ≡ sys.processors
   pub caused : caused_room ≡ 510
   pub lines : lines_room ≡ 519
-  pub time : h.state.clock ≤ done
+
+-- the clock, by how many events did something
+pub record IsEarly (clock done : ℕ) : Type 0 where
+  pub time : clock ≤ done
   pub early : done ≤ 2 ^ 20
