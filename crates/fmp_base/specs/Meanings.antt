@@ -1,6 +1,7 @@
 -- What bodies mean, and the contexts that they keep between their stretches.
 use Rattle.std.specs.Prelude.{ℕ, ℤ, pos, List, [], ◌∷◌, Option, Some, None, slice_get, slice_set}
 use Rattle.fmp_base.specs.declared.bodies.HandlerContext.{HandlerContext}
+use Rattle.fmp_base.specs.declared.bodies.HandlerStart.{HandlerStart}
 use Rattle.fmp_base.specs.declared.bodies.Held.{Held}
 use Rattle.fmp_base.specs.declared.bodies.Held.TheVariants.{Goes, Awaits}
 use Rattle.fmp_base.specs.declared.calls.Reply.{Reply}
@@ -36,11 +37,6 @@ pub record World (C : Type 0) : Type 0 where
 
 abbrev pub task_body : SystemTables → ℕ → ℕ
 task_body sys t = body_of (task_config sys t).entry
-
--- the body with which a handler begins, and its extended information
-pub record HandlerStart : Type 0 where
-  pub body : ℕ
-  pub exinf : ℤ
 
 -- an interrupt handler has exinf 0
 abbrev pub interrupt_start : Option InterruptConfig → Option HandlerStart

@@ -3,6 +3,7 @@
 use Rattle.std.specs.Prelude.{ℕ, zero, suc, ◌+◌, ◌≡◌, refl, List, [], ◌∷◌, ◌++◌, Option, Some, None, Bool, true, false, slice_set, replicate, length}
 use Rattle.std.proofs.Common.{subst, ap, ◌∙◌}
 use Rattle.fmp_base.specs.declared.bodies.HandlerContext.{HandlerContext}
+use Rattle.fmp_base.specs.declared.bodies.HandlerStart.{HandlerStart}
 use Rattle.fmp_base.specs.declared.bodies.Held.{Held}
 use Rattle.fmp_base.specs.declared.bodies.Held.TheVariants.{Goes, Awaits}
 use Rattle.fmp_base.specs.declared.calls.Answer.{Answer}
@@ -18,7 +19,7 @@ use Rattle.fmp_base.specs.declared.states.Caller.TheVariants as caller
 use Rattle.fmp_base.specs.declared.states.Handler.{Handler}
 use Rattle.fmp_base.specs.declared.systems.InterruptConfig.{InterruptConfig}
 use Rattle.fmp_base.specs.Calls.{called}
-use Rattle.fmp_base.specs.Meanings.{Meaning, Contexts, World, task_body, HandlerStart, handler_start, fresh_context, context_at, context_in, body_in, context_of, caller_body, context_for, with_context, told, delivered_to, called_back, task_begun, handler_begun, contexts_after, contexts_after_all}
+use Rattle.fmp_base.specs.Meanings.{Meaning, Contexts, World, task_body, handler_start, fresh_context, context_at, context_in, body_in, context_of, caller_body, context_for, with_context, told, delivered_to, called_back, task_begun, handler_begun, contexts_after, contexts_after_all}
 use Rattle.fmp_base.specs.Runs.{Trace, run, run_on, done_events, done_on, completed_by, completed_on, complete_run}
 use Rattle.fmp_base.specs.Settles.{settled}
 use Rattle.fmp_base.specs.Setups.{setup, no_contexts, all_started, created_state}

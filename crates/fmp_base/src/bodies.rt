@@ -42,3 +42,12 @@ pub struct HandlerContext<C> {
     /// The context of its body.
     pub context: C,
 }
+
+/// How a handler begins.
+#[derive(Clone, Copy, Debug, PartialEq, Eq)]
+pub struct HandlerStart {
+    /// The number of its body.
+    pub body: u8,
+    /// Its extended information, 0 for an interrupt handler.
+    pub exinf: i32,
+}

@@ -14,7 +14,7 @@ pub mod states;
 pub mod systems;
 pub mod ties;
 
-pub use bodies::{Fault, HandlerContext, Held, Stretch};
+pub use bodies::{Fault, HandlerContext, HandlerStart, Held, Stretch};
 pub use calls::{Answer, Call, Reply, Service};
 pub use codes::Er;
 pub use events::{Effect, Event, Line, StateWord, TaskState};

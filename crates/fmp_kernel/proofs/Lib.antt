@@ -1,9 +1,3 @@
-mod CallLemmas
-mod CalledLemmas
 mod ContextLemmas
-mod ObjectCallLemmas
-mod QueueCallLemmas
-mod ReadyLemmas
-mod SettleLemmas
-mod TaskCallLemmas
+mod GroupLemmas
 mod TickLemmas

@@ -1,10 +1,12 @@
 -- What holds of the contexts of bodies.
 use Rattle.std.specs.Prelude.{◌≡◌, ◌<◌, ℕ, zero, suc, List, [], ◌∷◌, Option, Some, None, length}
 use Rattle.fmp_base.specs.declared.bodies.HandlerContext.{HandlerContext}
+use Rattle.fmp_base.specs.declared.bodies.HandlerStart.{HandlerStart}
 use Rattle.fmp_base.specs.declared.bodies.Held.{Held}
 use Rattle.fmp_base.specs.declared.bodies.Held.TheVariants.{Goes, Awaits}
+use Rattle.fmp_base.specs.declared.states.Caller.{Caller}
 use Rattle.fmp_base.specs.declared.states.Handler.{Handler}
-use Rattle.fmp_base.specs.Meanings.{Contexts, HandlerStart, handler_start, task_body}
+use Rattle.fmp_base.specs.Meanings.{Contexts, context_of, handler_start, task_body}
 use Rattle.fmp_base.specs.Systems.{SystemTables}
 
 -- P i holds of what is at each place i, where something is
@@ -43,3 +45,11 @@ BeginsIn P (Some h) = P h.body
 pub record Entered {B : Type 0} (has_entry : B → ℕ → Type 0) (body : B) (sys : SystemTables) : Type 0 where
   pub tasks : (t : ℕ) → t < length sys.tasks → has_entry body (task_body sys t)
   pub handlers : (h : Handler) → BeginsIn (has_entry body) (handler_start sys h)
+
+abbrev pub IsThere : {A : Type 0} → Option A → Type 0
+IsThere None = ⊥
+IsThere (Some a) = Unit {0}
+
+-- something is kept of the caller on processor p
+abbrev pub HasContext : {C : Type 0} → Contexts C → ℕ → Caller → Type 0
+HasContext cs p who = IsThere (context_of cs p who)

@@ -1,6 +1,10 @@
 -- The service calls in the groups in which they are carried out.
+use Rattle.std.specs.Prelude.{◌<◌, length}
+use Rattle.fmp_base.specs.declared.states.Caller.{Caller}
+use Rattle.fmp_base.specs.declared.states.Caller.TheVariants as caller
 use Rattle.fmp_base.specs.declared.calls.Service.{Service}
 use Rattle.fmp_base.specs.declared.calls.Service.TheVariants as service
+use Rattle.fmp_base.specs.Systems.{SystemTables}
 use Rattle.fmp_kernel.specs.declared.calls.groups.ServiceGroup.{ServiceGroup}
 use Rattle.fmp_kernel.specs.declared.calls.groups.ServiceGroup.TheVariants as group
 
@@ -63,3 +67,18 @@ group_of service.IsetFlg = group.Handlers
 group_of service.IpsndDtq = group.Handlers
 group_of service.IfsndDtq = group.Handlers
 group_of service.IrotRdq = group.Handlers
+
+-- a task that calls is one of the system
+abbrev pub IsTaskOf : SystemTables → Caller → Type 0
+IsTaskOf sys (caller.Task t) = t < length sys.tasks
+IsTaskOf sys (caller.Handler h) = Unit {0}
+
+-- the groups from which a handler may call
+abbrev pub IsForHandlers : ServiceGroup → Type 0
+IsForHandlers group.Own = Unit {0}
+IsForHandlers group.Handlers = Unit {0}
+IsForHandlers group.Management = ⊥
+IsForHandlers group.Synchronization = ⊥
+IsForHandlers group.Objects = ⊥
+IsForHandlers group.Queues = ⊥
+IsForHandlers group.Processors = ⊥

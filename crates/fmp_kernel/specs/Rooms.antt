@@ -4,12 +4,14 @@ use Rattle.fmp_base.specs.Meanings.{Contexts}
 use Rattle.fmp_base.specs.Ranges.{IsInRange}
 use Rattle.fmp_base.specs.Systems.{SystemTables}
 
--- the system is in range, with a place for the context of each task and of the handler of each processor, and there is
--- room for the lines that an event causes and for all its lines
-pub record HasRoom {C : Type 0} (sys : SystemTables) (cs : Contexts C) (caused_room lines_room : ℕ) : Type 0 where
-  pub range : IsInRange sys
+-- a place for the context of each task, and of the handler of each processor
+pub record HasPlaces {C : Type 0} (sys : SystemTables) (cs : Contexts C) : Type 0 where
   pub tasks : length cs.tasks ≡ length sys.tasks
   pub handlers : length cs.handlers ≡ sys.processors
+
+-- the system is in range, and there is room for the lines that an event causes and for all its lines
+pub record HasRoom (sys : SystemTables) (caused_room lines_room : ℕ) : Type 0 where
+  pub range : IsInRange sys
   pub caused : caused_room ≡ 510
   pub lines : lines_room ≡ 519
 

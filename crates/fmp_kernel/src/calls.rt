@@ -1,13 +1,16 @@
-//! The service calls that a task makes: the test of the context, then the case of the call.
-ghost use Rattle.std.specs.Prelude.{◌≡◌, ◌<◌, ◌≤◌, [], length, vec_capacity, All};
-ghost use Rattle.fmp_base.specs.Calls.{called, task_call};
-ghost use Rattle.fmp_base.specs.States.{task_at};
-ghost use Rattle.fmp_kernel.specs.Contexts.{IsOfTask};
-ghost use Rattle.fmp_kernel.specs.Stages.{IsInStage};
+//! The service calls: the test of where a call is made from, then the case of the call.
+ghost use Rattle.std.specs.Prelude.{◌≡◌, ◌<◌, ◌≤◌, [], length, vec_capacity, false};
+ghost use Rattle.fmp_base.specs.declared.states.Handler.{Handler};
+ghost use Rattle.fmp_base.specs.Calls.{called, case_by, case_of};
+ghost use Rattle.fmp_base.specs.Permissions.{permission, is_barred as barred};
+ghost use Rattle.fmp_base.specs.Services.{service_of};
+ghost use Rattle.fmp_base.specs.States.{processor_at, task_at};
+ghost use Rattle.fmp_kernel.specs.Groups.{IsTaskOf, IsForHandlers, group_of};
 ghost use Rattle.fmp_tasks.specs.Tables.{outcome, SameShape};
 
 use crate::calls::context::is_barred;
 use crate::calls::groups::{ServiceGroup, group};
+use crate::calls::handlers::handler_call;
 use crate::calls::management::management_call;
 use crate::calls::objects::object_call;
 use crate::calls::own::own_call;
@@ -20,6 +23,7 @@ use fmp_tasks::answers::replied;
 
 pub mod context;
 pub mod groups;
+mod handlers;
 mod management;
 mod objects;
 mod own;
@@ -27,14 +31,13 @@ mod processors;
 mod queues;
 mod synchronization;
 
-/// The case of a call by task me, which processor p runs; the calls for handlers are E_CTX.
-fn allowed_call(tables: &mut Tables, lines: &mut Vec<Line>, p: u8, me: u8, made: Call) -> Answer
-    requires stage { IsInStage tables.old.system }
+/// The case of a call by task me, which processor p runs.
+fn case_of_task(tables: &mut Tables, lines: &mut Vec<Line>, p: u8, me: u8, made: Call) -> Answer
     requires caller { me < length tables.old.system.tasks }
     requires processor { p < tables.old.system.processors }
     requires empty { lines.old.items ≡ [] }
     requires room { 255 ≤ vec_capacity lines.old }
-    ensures outcome { outcome result tables.new lines.new.items ≡ task_call tables.old.system tables.old.state p me (task_at tables.old.state.tasks me) made }
+    ensures outcome { outcome result tables.new lines.new.items ≡ case_of tables.old.system tables.old.state p me (task_at tables.old.state.tasks me) made }
     ensures shape { SameShape tables.old tables.new }
     ensures capacity { vec_capacity lines.new ≡ vec_capacity lines.old }
 {
@@ -45,26 +48,69 @@ fn allowed_call(tables: &mut Tables, lines: &mut Vec<Line>, p: u8, me: u8, made:
         ServiceGroup::Objects => object_call(tables, lines, me, made),
         ServiceGroup::Queues => queue_call(tables, lines, me, made),
         ServiceGroup::Processors => processor_call(tables, p, made),
-        ServiceGroup::Handlers => replied(Er::Ctx),
+        ServiceGroup::Handlers => handler_call(tables, lines, p, made),
     }
 }
 
-/// What a call by task me, which processor p runs, comes to. The lines of what it causes are added to those that are
-/// given.
-pub fn call(tables: &mut Tables, lines: &mut Vec<Line>, p: u8, me: u8, made: Call) -> Answer
-    requires stage { IsInStage tables.old.system }
-    requires caller { me < length tables.old.system.tasks }
+/// The case of a call that a handler on processor p may make.
+fn case_of_handler(tables: &mut Tables, lines: &mut Vec<Line>, p: u8, made: Call) -> Answer
+    requires group { IsForHandlers (group_of (service_of made)) }
     requires processor { p < tables.old.system.processors }
     requires empty { lines.old.items ≡ [] }
     requires room { 255 ≤ vec_capacity lines.old }
-    ensures outcome { outcome result tables.new lines.new.items ≡ called tables.old.system tables.old.state p (Caller.Task me) made }
-    ensures of_tasks { All IsOfTask lines.new.items }
-    ensures spins { result ≡ Answer.Spins → tables.new ≡ tables.old }
+    ensures outcome { outcome result tables.new lines.new.items ≡ case_of tables.old.system tables.old.state p 0 (task_at [] 0) made }
     ensures shape { SameShape tables.old tables.new }
     ensures capacity { vec_capacity lines.new ≡ vec_capacity lines.old }
 {
-    if is_barred(&tables.processor(p), me, made) {
+    match group(made.service()) {
+        ServiceGroup::Own => own_call(tables, made),
+        ServiceGroup::Handlers => handler_call(tables, lines, p, made),
+        _ => unreachable!(),
+    }
+}
+
+/// The case of a call that its caller on processor p may make.
+#[tactic(auto, using(crate::proofs::GroupLemmas::handlers_call))]
+fn permitted_call(
+    tables: &mut Tables,
+    lines: &mut Vec<Line>,
+    p: u8,
+    who: Caller,
+    made: Call,
+) -> Answer
+    requires permitted { barred (permission (service_of made)) (processor_at tables.old.state p) who made ≡ false }
+    requires caller { IsTaskOf tables.old.system who }
+    requires processor { p < tables.old.system.processors }
+    requires empty { lines.old.items ≡ [] }
+    requires room { 255 ≤ vec_capacity lines.old }
+    ensures outcome { outcome result tables.new lines.new.items ≡ case_by tables.old.system tables.old.state p who made }
+    ensures shape { SameShape tables.old tables.new }
+    ensures capacity { vec_capacity lines.new ≡ vec_capacity lines.old }
+{
+    match who {
+        Caller::Task(me) => case_of_task(tables, lines, p, me, made),
+        Caller::Handler(_) => case_of_handler(tables, lines, p, made),
+    }
+}
+
+/// What a call of this caller on processor p comes to. The lines of what it causes are added to those that are given.
+pub fn call(
+    tables: &mut Tables,
+    lines: &mut Vec<Line>,
+    p: u8,
+    who: Caller,
+    made: Call,
+) -> Answer
+    requires caller { IsTaskOf tables.old.system who }
+    requires processor { p < tables.old.system.processors }
+    requires empty { lines.old.items ≡ [] }
+    requires room { 255 ≤ vec_capacity lines.old }
+    ensures outcome { outcome result tables.new lines.new.items ≡ called tables.old.system tables.old.state p who made }
+    ensures shape { SameShape tables.old tables.new }
+    ensures capacity { vec_capacity lines.new ≡ vec_capacity lines.old }
+{
+    if is_barred(&tables.processor(p), who, made) {
         return replied(Er::Ctx);
     }
-    allowed_call(tables, lines, p, me, made)
+    permitted_call(tables, lines, p, who, made)
 }

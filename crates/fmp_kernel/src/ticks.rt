@@ -1,10 +1,9 @@
-//! The ends of limited waits (uITRON 4.0, section 4.7).
-ghost use Rattle.std.specs.Prelude.{◌≡◌, ◌+◌, ◌<◌, ◌≤◌, ◌^◌, length, vec_len, vec_capacity, All, []};
+//! What the clock does: the ends of limited waits, and cyclic handlers that become pending (uITRON 4.0, section 4.7).
+ghost use Rattle.std.specs.Prelude.{◌≡◌, ◌+◌, ◌<◌, ◌≤◌, ◌^◌, length, vec_len, vec_capacity, []};
 ghost use Rattle.fmp_base.specs.Changes.{released};
 ghost use Rattle.fmp_base.specs.Outcomes.{code as code_of};
 ghost use Rattle.fmp_base.specs.States.{task_at, unchanged, places_from};
-ghost use Rattle.fmp_base.specs.Ticks.{timeout_code as code_at_timeout, all_timed_out, ticked, with_clock_advanced};
-ghost use Rattle.fmp_kernel.specs.Contexts.{IsOfTask};
+ghost use Rattle.fmp_base.specs.Ticks.{timeout_code as code_at_timeout, all_timed_out, all_cycled, cycled, pended, ticked, with_clock_advanced};
 ghost use Rattle.fmp_tasks.specs.Tables.{progress, SameShape};
 
 use fmp_base::{Er, Line, Phase, WaitCause};
@@ -41,8 +40,8 @@ fn time_out_all(tables: &mut Tables, caused: &mut Vec<Line>)
     requires room { length tables.old.system.tasks ≤ vec_capacity caused.old }
     ensures progress { progress tables.new caused.new.items ≡ all_timed_out (unchanged tables.old.state) (places_from 0 (length tables.old.state.tasks)) }
     ensures shape { SameShape tables.old tables.new }
+    ensures few { vec_len caused.new ≤ length tables.old.system.tasks }
     ensures capacity { vec_capacity caused.new ≡ vec_capacity caused.old }
-    ensures of_tasks { All IsOfTask caused.new.items }
 {
     let count = tables.task_count();
     while let Some(t) = tables.due() {
@@ -51,19 +50,65 @@ fn time_out_all(tables: &mut Tables, caused: &mut Vec<Line>)
     }
 }
 
-/// The clock advances by one, and the tasks whose deadline that is are released. So far there are no cyclic handlers.
+/// A cyclic handler becomes pending; one that is pending already stays one, with no line.
+fn pend(tables: &mut Tables, caused: &mut Vec<Line>, c: u8)
+    requires there { c < length tables.old.system.cyclics }
+    requires room { vec_len caused.old < vec_capacity caused.old }
+    ensures progress { progress tables.new caused.new.items ≡ pended tables.old.system (progress tables.old caused.old.items) c }
+    ensures shape { SameShape tables.old tables.new }
+    ensures few { vec_len caused.new ≤ vec_len caused.old + 1 }
+    ensures capacity { vec_capacity caused.new ≡ vec_capacity caused.old }
+{
+    if tables.is_cyclic_pending(c) {
+        return;
+    }
+    tables.pend_cyclic(c);
+    caused.push_reserved(Line::Pends {
+        processor: tables.cyclic_config(c).processor,
+        cyclic: c,
+    });
+}
+
+/// A cyclic handler that is due now becomes pending, and is due again one period later.
+fn cycle(tables: &mut Tables, caused: &mut Vec<Line>, c: u8)
+    requires there { c < length tables.old.system.cyclics }
+    requires room { vec_len caused.old < vec_capacity caused.old }
+    ensures progress { progress tables.new caused.new.items ≡ cycled tables.old.system (progress tables.old caused.old.items) c }
+    ensures shape { SameShape tables.old tables.new }
+    ensures few { vec_len caused.new ≤ vec_len caused.old + 1 }
+    ensures capacity { vec_capacity caused.new ≡ vec_capacity caused.old }
+{
+    let now = tables.clock();
+    if tables.due_time(c) == Some(now) {
+        pend(tables, caused, c);
+        tables.set_due(c, Some(now + tables.cyclic_config(c).period));
+    }
+}
+
+/// Of all cyclic handlers, in order of number, those that are due now become pending.
+fn cycle_all(tables: &mut Tables, caused: &mut Vec<Line>)
+    requires room { vec_len caused.old + length tables.old.system.cyclics ≤ vec_capacity caused.old }
+    ensures progress { progress tables.new caused.new.items ≡ all_cycled tables.old.system (progress tables.old caused.old.items) (places_from 0 (length tables.old.state.due_times)) }
+    ensures shape { SameShape tables.old tables.new }
+    ensures capacity { vec_capacity caused.new ≡ vec_capacity caused.old }
+{
+    let count = tables.cyclic_count() as u8;
+    for c in 0..count {
+        cycle(tables, caused, c);
+    }
+}
+
+/// The clock advances by one, the tasks whose deadline that is are released, and the cyclic handlers that are due become
+/// pending.
 pub fn advance(tables: &mut Tables, caused: &mut Vec<Line>)
     requires time { tables.old.state.clock < 2 ^ 20 }
-    requires cyclics { tables.old.system.cyclics ≡ [] }
     requires empty { caused.old.items ≡ [] }
-    requires room { length tables.old.system.tasks ≤ vec_capacity caused.old }
+    requires room { 510 ≤ vec_capacity caused.old }
     ensures progress { progress tables.new caused.new.items ≡ ticked tables.old.system tables.old.state }
     ensures shape { SameShape (record tables.old { state = with_clock_advanced tables.old.state }) tables.new }
     ensures capacity { vec_capacity caused.new ≡ vec_capacity caused.old }
-    ensures of_tasks { All IsOfTask caused.new.items }
 {
-    let cyclics = tables.cyclic_count();
-    prove!(cyclics == 0);
     tables.advance();
     time_out_all(tables, caused);
+    cycle_all(tables, caused);
 }

@@ -1,6 +1,6 @@
 //! The calls that manage tasks (uITRON 4.0, sections 4.1 and 4.8; FMP kernel, task management).
 ghost use Rattle.std.specs.Prelude.{◌≡◌, ◌<◌, ◌≤◌, [], length, vec_capacity};
-ghost use Rattle.fmp_base.specs.Calls.{task_call};
+ghost use Rattle.fmp_base.specs.Calls.{case_of};
 ghost use Rattle.fmp_base.specs.Services.{service_of};
 ghost use Rattle.fmp_base.specs.States.{task_at};
 ghost use Rattle.fmp_kernel.specs.Groups.{group_of};
@@ -27,7 +27,7 @@ pub fn management_call(
     requires processor { p < tables.old.system.processors }
     requires empty { lines.old.items ≡ [] }
     requires room { 1 ≤ vec_capacity lines.old }
-    ensures outcome { outcome result tables.new lines.new.items ≡ task_call tables.old.system tables.old.state p me (task_at tables.old.state.tasks me) made }
+    ensures outcome { outcome result tables.new lines.new.items ≡ case_of tables.old.system tables.old.state p me (task_at tables.old.state.tasks me) made }
     ensures shape { SameShape tables.old tables.new }
     ensures capacity { vec_capacity lines.new ≡ vec_capacity lines.old }
 {

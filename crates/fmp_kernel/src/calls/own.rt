@@ -1,7 +1,7 @@
 //! This kernel's own calls: `put`, and shared words.
 ghost use Rattle.std.specs.Prelude.{◌≡◌, ℕ, []};
 ghost use Rattle.fmp_base.specs.declared.states.TaskBlock.{TaskBlock};
-ghost use Rattle.fmp_base.specs.Calls.{task_call};
+ghost use Rattle.fmp_base.specs.Calls.{case_of};
 ghost use Rattle.fmp_base.specs.Services.{service_of};
 ghost use Rattle.fmp_kernel.specs.Groups.{group_of};
 ghost use Rattle.fmp_tasks.specs.Tables.{outcome, SameShape};
@@ -15,7 +15,7 @@ use fmp_tasks::answers::replied;
 /// A call of this kernel's own.
 pub fn own_call(tables: &mut Tables, made: Call) -> Answer
     requires { group_of (service_of made) ≡ ServiceGroup.Own }
-    ensures outcome { (p me : ℕ) (x : TaskBlock) → outcome result tables.new [] ≡ task_call tables.old.system tables.old.state p me x made }
+    ensures outcome { (p me : ℕ) (x : TaskBlock) → outcome result tables.new [] ≡ case_of tables.old.system tables.old.state p me x made }
     ensures shape { SameShape tables.old tables.new }
 {
     match made {

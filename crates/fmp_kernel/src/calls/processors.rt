@@ -2,7 +2,7 @@
 //! spin locks).
 ghost use Rattle.std.specs.Prelude.{◌≡◌, ℕ, []};
 ghost use Rattle.fmp_base.specs.declared.states.TaskBlock.{TaskBlock};
-ghost use Rattle.fmp_base.specs.Calls.{task_call};
+ghost use Rattle.fmp_base.specs.Calls.{case_of};
 ghost use Rattle.fmp_base.specs.ProcessorCalls as calls;
 ghost use Rattle.fmp_base.specs.Services.{service_of};
 ghost use Rattle.fmp_kernel.specs.Groups.{group_of};
@@ -15,9 +15,8 @@ use fmp_tasks::Tables;
 use fmp_tasks::answers::replied;
 
 /// `sta_cyc`: a cyclic handler is due anew, one period and a tick from now. E_ID where the number names none; nothing
-/// changes then. So far there are no cyclic handlers.
+/// changes then.
 fn sta_cyc(tables: &mut Tables, cyclic: i32) -> Answer
-    requires { tables.old.system.cyclics ≡ [] }
     ensures outcome { outcome result tables.new [] ≡ calls.sta_cyc tables.old.system tables.old.state cyclic }
     ensures shape { SameShape tables.old tables.new }
 {
@@ -45,8 +44,7 @@ fn stp_cyc(tables: &mut Tables, cyclic: i32) -> Answer
 /// A call on a cyclic handler or on the state of processor p.
 pub fn processor_call(tables: &mut Tables, p: u8, made: Call) -> Answer
     requires group { group_of (service_of made) ≡ ServiceGroup.Processors }
-    requires cyclics { tables.old.system.cyclics ≡ [] }
-    ensures outcome { (me : ℕ) (x : TaskBlock) → outcome result tables.new [] ≡ task_call tables.old.system tables.old.state p me x made }
+    ensures outcome { (me : ℕ) (x : TaskBlock) → outcome result tables.new [] ≡ case_of tables.old.system tables.old.state p me x made }
     ensures shape { SameShape tables.old tables.new }
 {
     match made {

@@ -1,6 +1,6 @@
 //! The calls for sleep, wakeup, suspension and delay of tasks (uITRON 4.0, section 4.2).
 ghost use Rattle.std.specs.Prelude.{◌≡◌, ℕ, ◌<◌, ◌≤◌, [], length, vec_capacity};
-ghost use Rattle.fmp_base.specs.Calls.{task_call};
+ghost use Rattle.fmp_base.specs.Calls.{case_of};
 ghost use Rattle.fmp_base.specs.Services.{service_of};
 ghost use Rattle.fmp_base.specs.States.{task_at};
 ghost use Rattle.fmp_kernel.specs.Groups.{group_of};
@@ -22,7 +22,7 @@ pub fn synchronization_call(
     requires caller { me < length tables.old.system.tasks }
     requires empty { lines.old.items ≡ [] }
     requires room { 1 ≤ vec_capacity lines.old }
-    ensures outcome { (p : ℕ) → outcome result tables.new lines.new.items ≡ task_call tables.old.system tables.old.state p me (task_at tables.old.state.tasks me) made }
+    ensures outcome { (p : ℕ) → outcome result tables.new lines.new.items ≡ case_of tables.old.system tables.old.state p me (task_at tables.old.state.tasks me) made }
     ensures shape { SameShape tables.old tables.new }
     ensures capacity { vec_capacity lines.new ≡ vec_capacity lines.old }
 {

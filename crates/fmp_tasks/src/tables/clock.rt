@@ -1,7 +1,8 @@
 //! The clock, and the handlers that are due or pending.
-ghost use Rattle.std.specs.Prelude.{◌≡◌, ◌<◌, ◌≤◌, ◌^◌, length, map, IfSome};
+ghost use Rattle.std.specs.Prelude.{◌≡◌, ◌<◌, ◌≤◌, ◌^◌, length, map, slice_get, IfSome, None};
 ghost use Rattle.fmp_base.specs.ProcessorCalls.{with_due};
 ghost use Rattle.fmp_base.specs.Settles.{pending_handler, without_pending};
+ghost use Rattle.fmp_base.specs.Systems.{found};
 ghost use Rattle.fmp_base.specs.Ticks.{with_clock_advanced, with_cyclic_pending, with_interrupt_pending, is_pending};
 ghost use Rattle.fmp_tasks.specs.Tables.{HasHandler};
 ghost use Rattle.fmp_ticks.specs.Times.{first_due};
@@ -51,6 +52,14 @@ impl Tables {
         ensures there { IfSome result (λ c. c < length self.now.system.cyclics) }
     {
         self.cyclics.due(self.clock)
+    }
+
+    /// The clock at which a cyclic handler is due next, if it is started.
+    pub fn due_time(&self, c: u8) -> Option<u32>
+        requires { c < length self.now.system.cyclics }
+        ensures { result ≡ found None (slice_get self.now.state.due_times c) }
+    {
+        self.cyclics.due_time(c)
     }
 
     /// A cyclic handler is due when the clock is this, or no more.

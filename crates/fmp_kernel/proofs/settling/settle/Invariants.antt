@@ -1,7 +1,6 @@
-use Rattle.std.proofs.Common.{◌≡◌, ◌≤◌, ◌+◌, ◌-◌, length, vec_len, vec_capacity, All}
+use Rattle.std.proofs.Common.{◌≡◌, ◌≤◌, ◌+◌, ◌-◌, length, vec_len, vec_capacity}
 use Rattle.fmp_base.specs.Settles.{all_settled}
 use Rattle.fmp_base.specs.States.{places_from}
-use Rattle.fmp_kernel.specs.Contexts.{IsOfTask}
 use Rattle.fmp_kernel.proofs.settling.settle.Given as goal
 use Rattle.fmp_tasks.specs.Tables.{progress, SameShape}
 
@@ -14,5 +13,4 @@ invariant-loop-p l =
       shape : SameShape l.fn.tables l.tables;
       room : vec_len l.lines + 8 ≤ vec_capacity l.lines + l.p;
       capacity : vec_capacity l.lines ≡ vec_capacity l.fn.lines;
-      of_tasks : All IsOfTask l.lines.items;
     }

@@ -1,11 +1,8 @@
-use Rattle.std.proofs.Common.{◌≡◌, ◌∙◌, ◌<◌, ◌≤◌, All, ap, arith, length, subst, sym, vec_len}
+use Rattle.std.proofs.Common.{◌≡◌, ◌∙◌, ◌<◌, ◌≤◌, ap, arith, length, sym, vec_len}
 use Rattle.std.proofs.lemmas.Bool.Decides.{nat_tests}
-use Rattle.fmp_base.specs.Outcomes.{code}
-use Rattle.fmp_base.specs.States.{Progress, places_from, task_at}
+use Rattle.fmp_base.specs.States.{Progress, places_from}
 use Rattle.fmp_base.specs.Systems.{SystemTables}
-use Rattle.fmp_base.specs.Ticks.{all_timed_out, timeout_code}
-use Rattle.fmp_kernel.specs.Contexts.{IsOfTask}
-use Rattle.fmp_kernel.proofs.CallLemmas.{released-of}
+use Rattle.fmp_base.specs.Ticks.{all_timed_out}
 use Rattle.fmp_kernel.proofs.TickLemmas.{IsFirstDue, first_is_due, late, none_due, passed-next, release_first, stay_all, timed-release}
 use Rattle.fmp_kernel.proofs.ticks.time_out_all.Goals as goal
 use Rattle.fmp_tasks.specs.Tables.{progress}
@@ -20,7 +17,6 @@ loop-t-preserved c =
     let same : length c.loop-t.tables.system.tasks ≡ length c.args.tables.now.system.tasks = ap (λ (s : SystemTables). length s.tasks) c.loop-t.invariant.shape.system in
     let below : t < length c.args.tables.now.state.tasks = omega (arith, c.in-Some.ensures.there, same, c.task_count-count.ensures.count, c.task_count-count.ensures.configs) in
     let is : after ≡ release_first now t = c.time_out.ensures.progress in
-    let x = task_at now.state.tasks t in
     record {
       progress = ap (λ (g : Progress). all_timed_out g all) is ∙ timed-release now t (length c.args.tables.now.state.tasks) first below ∙ c.loop-t.invariant.progress;
       shape = record {
@@ -29,7 +25,6 @@ loop-t-preserved c =
       };
       passed = rw c.time_out.ensures.one_more (passed-next now after t (vec_len c.loop-t.caused) c.loop-t.invariant.passed first is);
       capacity = c.time_out.ensures.capacity ∙ c.loop-t.invariant.capacity;
-      of_tasks = subst (λ (g : Progress). All IsOfTask g.lines) (sym is) (released-of now t x (code (timeout_code x.phase)) c.loop-t.invariant.of_tasks);
     }
 
 pub returns-clause-progress : goal.returns-clause-progress

@@ -1,7 +1,6 @@
-use Rattle.std.proofs.Common.{◌≡◌, ◌-◌, length, vec_len, vec_capacity, All}
+use Rattle.std.proofs.Common.{◌≡◌, ◌-◌, length, vec_len, vec_capacity}
 use Rattle.fmp_base.specs.States.{places_from, unchanged}
 use Rattle.fmp_base.specs.Ticks.{all_timed_out}
-use Rattle.fmp_kernel.specs.Contexts.{IsOfTask}
 use Rattle.fmp_kernel.proofs.TickLemmas.{Passed}
 use Rattle.fmp_kernel.proofs.ticks.time_out_all.Given as goal
 use Rattle.fmp_tasks.specs.Tables.{progress, SameShape}
@@ -16,7 +15,6 @@ invariant-loop-t l =
       shape : SameShape l.fn.tables l.tables;
       passed : Passed now (vec_len l.caused);
       capacity : vec_capacity l.caused ≡ vec_capacity l.fn.caused;
-      of_tasks : All IsOfTask l.caused.items;
     }
 
 abbrev pub decreases-loop-t : goal.decreases-loop-t

@@ -1,0 +1,16 @@
+use Rattle.std.proofs.Common.{◌≡◌, ◌≤◌, ◌+◌, ◌-◌, length, vec_len, vec_capacity}
+use Rattle.fmp_base.specs.States.{places_from}
+use Rattle.fmp_base.specs.Ticks.{all_cycled}
+use Rattle.fmp_kernel.proofs.ticks.cycle_all.Given as goal
+use Rattle.fmp_tasks.specs.Tables.{progress, SameShape}
+
+abbrev pub invariant-loop-c : goal.invariant-loop-c
+invariant-loop-c l =
+    let count = length l.fn.tables.state.due_times in
+    let rest = all_cycled l.fn.tables.system in
+    record {
+      progress : rest (progress l.tables l.caused.items) (places_from l.c (count - l.c)) ≡ rest (progress l.fn.tables l.fn.caused.items) (places_from 0 count);
+      shape : SameShape l.fn.tables l.tables;
+      room : vec_len l.caused ≤ vec_len l.fn.caused + l.c;
+      capacity : vec_capacity l.caused ≡ vec_capacity l.fn.caused;
+    }

@@ -1,0 +1,164 @@
+//! What the lines of an event mean for the bodies: fresh contexts, and replies.
+ghost use Rattle.std.specs.Prelude.{◌≡◌, ◌<◌, length};
+ghost use Rattle.fmp_base.specs.Meanings.{caller_body, contexts_after, contexts_after_all, delivered_to, handler_begun, handler_start as start_of_handler, task_begun};
+ghost use Rattle.fmp_base.specs.Ranges.{IsInRange};
+ghost use Rattle.fmp_kernel.specs.Contexts.{Entered, Fitting};
+ghost use Rattle.fmp_kernel.specs.Rooms.{HasPlaces};
+
+use crate::contexts::{BodyContexts, body_number};
+use fmp_base::{Caller, Handler, HandlerContext, HandlerStart, Held, Line, Reply};
+use fmp_body::Body;
+use fmp_tasks::Tables;
+
+/// How a handler begins, where the system has it.
+fn handler_start(tables: &Tables, h: Handler) -> Option<HandlerStart>
+    requires { IsInRange tables.now.system }
+    ensures { result ≡ start_of_handler tables.now.system h }
+{
+    match h {
+        Handler::Interrupt(i) if i < 32 => match tables.interrupt_config(i) {
+            Some(config) => Some(HandlerStart {
+                body: body_number(config.entry),
+                exinf: 0,
+            }),
+            None => None,
+        },
+        Handler::Cyclic(c) if (c as usize) < tables.cyclic_count() => {
+            let config = tables.cyclic_config(c);
+            Some(HandlerStart {
+                body: body_number(config.entry),
+                exinf: config.exinf,
+            })
+        }
+        _ => None,
+    }
+}
+
+/// The number of the body of the caller on processor p.
+pub fn entry_of<C: Copy>(tables: &Tables, contexts: &BodyContexts<C>, p: u8, who: Caller) -> u8
+    requires { HasPlaces tables.now.system contexts.now }
+    ensures { result ≡ caller_body tables.now.system contexts.now p who }
+{
+    match who {
+        Caller::Task(t) if (t as usize) < tables.task_count() => {
+            body_number(tables.task_config(t).entry)
+        }
+        Caller::Task(_) => 0,
+        Caller::Handler(_) => contexts.handler_body(p),
+    }
+}
+
+/// Task t has a fresh context.
+fn begin_task<B: Body>(body: &B, tables: &Tables, contexts: &mut BodyContexts<B::Ctx>, t: u8)
+    requires places { HasPlaces tables.now.system contexts.old }
+    requires entries { Entered B.has_entry body.now tables.now.system }
+    requires contexts { Fitting B.has_entry B.is_context body.now tables.now.system contexts.old }
+    ensures contexts { contexts.new ≡ task_begun tables.now.system (B.meaning body.now) contexts.old t }
+    ensures fitting { Fitting B.has_entry B.is_context body.now tables.now.system contexts.new }
+{
+    if (t as usize) < tables.task_count() {
+        let config = tables.task_config(t);
+        let context = body.start(body_number(config.entry), config.exinf);
+        contexts.set_task(t, Some(Held::Goes(context)));
+    }
+}
+
+/// Handler h has a fresh context on processor p.
+fn begin_handler<B: Body>(
+    body: &B,
+    tables: &Tables,
+    contexts: &mut BodyContexts<B::Ctx>,
+    p: u8,
+    h: Handler,
+)
+    requires range { IsInRange tables.now.system }
+    requires entries { Entered B.has_entry body.now tables.now.system }
+    requires contexts { Fitting B.has_entry B.is_context body.now tables.now.system contexts.old }
+    ensures contexts { contexts.new ≡ handler_begun tables.now.system (B.meaning body.now) contexts.old p h }
+    ensures fitting { Fitting B.has_entry B.is_context body.now tables.now.system contexts.new }
+{
+    let fresh = match handler_start(tables, h) {
+        Some(start) => Some(HandlerContext {
+            body: start.body,
+            context: Held::Goes(body.start(start.body, start.exinf)),
+        }),
+        None => None,
+    };
+    contexts.set_handler(p, fresh);
+}
+
+/// The caller on processor p is told a reply, where its context awaits one.
+fn tell<B: Body>(
+    body: &B,
+    tables: &Tables,
+    contexts: &mut BodyContexts<B::Ctx>,
+    p: u8,
+    who: Caller,
+    reply: Reply,
+)
+    requires places { HasPlaces tables.now.system contexts.old }
+    requires entries { Entered B.has_entry body.now tables.now.system }
+    requires contexts { Fitting B.has_entry B.is_context body.now tables.now.system contexts.old }
+    ensures contexts { contexts.new ≡ delivered_to tables.now.system (B.meaning body.now) contexts.old p who reply }
+    ensures fitting { Fitting B.has_entry B.is_context body.now tables.now.system contexts.new }
+{
+    let told = match contexts.of(p, who) {
+        Some(Held::Awaits(context)) => {
+            let entry = entry_of(tables, contexts, p, who);
+            Some(Held::Goes(body.deliver(entry, context, reply)))
+        }
+        other => other,
+    };
+    contexts.set(p, who, told);
+}
+
+/// The contexts after what a line tells.
+fn follow<B: Body>(body: &B, tables: &Tables, contexts: &mut BodyContexts<B::Ctx>, line: Line)
+    requires range { IsInRange tables.now.system }
+    requires places { HasPlaces tables.now.system contexts.old }
+    requires entries { Entered B.has_entry body.now tables.now.system }
+    requires contexts { Fitting B.has_entry B.is_context body.now tables.now.system contexts.old }
+    ensures contexts { contexts.new ≡ contexts_after tables.now.system (B.meaning body.now) contexts.old line }
+    ensures places { HasPlaces tables.now.system contexts.new }
+    ensures fitting { Fitting B.has_entry B.is_context body.now tables.now.system contexts.new }
+{
+    match line {
+        Line::Starts { task, .. } => begin_task(body, tables, contexts, task),
+        Line::Gets {
+            processor,
+            task,
+            reply,
+        } => tell(body, tables, contexts, processor, Caller::Task(task), reply),
+        Line::Begins { processor, handler } => {
+            begin_handler(body, tables, contexts, processor, handler)
+        }
+        Line::Call {
+            processor,
+            caller,
+            reply: Some(reply),
+            ..
+        } => tell(body, tables, contexts, processor, caller, reply),
+        _ => {}
+    }
+}
+
+/// The contexts after what the lines of an event tell: a task or handler that starts has a fresh one, a caller and a
+/// released task are told their replies.
+pub fn carry_out<B: Body>(
+    body: &B,
+    tables: &Tables,
+    contexts: &mut BodyContexts<B::Ctx>,
+    lines: &Vec<Line>,
+)
+    requires range { IsInRange tables.now.system }
+    requires places { HasPlaces tables.now.system contexts.old }
+    requires entries { Entered B.has_entry body.now tables.now.system }
+    requires contexts { Fitting B.has_entry B.is_context body.now tables.now.system contexts.old }
+    ensures contexts { contexts.new ≡ contexts_after_all tables.now.system (B.meaning body.now) contexts.old lines.now.items }
+    ensures places { HasPlaces tables.now.system contexts.new }
+    ensures fitting { Fitting B.has_entry B.is_context body.now tables.now.system contexts.new }
+{
+    for line in lines {
+        follow(body, tables, contexts, *line);
+    }
+}

@@ -1,0 +1,176 @@
+//! What carries events out: the bodies with their contexts over the tables, and room for the lines of an event.
+ghost use Rattle.std.specs.Prelude.{◌≡◌, ◌+◌, ◌≤◌, ◌<◌, ◌++◌, ◌∷◌, [], length, vec_len, vec_capacity, IfOk, OnSome};
+ghost use Rattle.fmp_base.specs.Runs.{task_state, state_word as word_of_state};
+ghost use Rattle.fmp_base.specs.Ranges.{IsInRange};
+ghost use Rattle.fmp_base.specs.Setups.{created_state, no_contexts, setup};
+ghost use Rattle.fmp_base.specs.States.{processor_at};
+ghost use Rattle.fmp_base.specs.Steps.{actor_of, finished};
+ghost use Rattle.fmp_base.specs.Systems.{tables_of};
+ghost use Rattle.fmp_kernel.specs.Contexts.{Entered};
+ghost use Rattle.fmp_kernel.specs.KernelViews.{SameBodies, done_of, progress_of};
+
+use crate::contexts::BodyContexts;
+use crate::deliveries::carry_out;
+use crate::settling::{is_same_task, settle};
+use crate::starting::start_active;
+use fmp_base::{Caller, Line, Phase, StateWord, System, TaskState};
+use fmp_body::Body;
+use fmp_tasks::Tables;
+use std::alloc::{AllocError, Global};
+use std::marker::Model;
+
+/// The bodies with their contexts over the tables of a system, and the lines of an event: those that it has caused so far,
+/// and all of the last event that did something, or of setup.
+#[derive(Drop)]
+pub struct Runner<B: Body> {
+    pub body: B,
+    pub bound: u64,
+    pub tables: Tables,
+    pub contexts: BodyContexts<B::Ctx>,
+    pub caused: Vec<Line>,
+    pub lines: Vec<Line>,
+}
+
+impl<B: Body> Model for Runner<B> {
+    ghost use Rattle.std.specs.Prelude.{vec_capacity};
+    ghost use Rattle.fmp_kernel.specs.Contexts.{Fitting, Entered};
+    ghost use Rattle.fmp_kernel.specs.KernelViews.{RunnerView};
+    ghost use Rattle.fmp_kernel.specs.Rooms.{HasPlaces, HasRoom};
+
+    ghost Value = { RunnerView B B.Ctx };
+
+    ghost view = { λ r. record { body = r.body; bound = r.bound; system = r.tables.system; world = record { state = r.tables.state; contexts = r.contexts }; caused = r.caused.items; lines = r.lines.items } };
+
+    ghost invariant = { λ r. HasRoom r.tables.system (vec_capacity r.caused) (vec_capacity r.lines) × HasPlaces r.tables.system r.contexts × Entered B.has_entry r.body r.tables.system × Fitting B.has_entry B.is_context r.body r.tables.system r.contexts };
+}
+
+/// Adds lines to others.
+fn append(lines: &mut Vec<Line>, more: &Vec<Line>)
+    requires room { vec_len lines.old + vec_len more.now ≤ vec_capacity lines.old }
+    ensures items { lines.new.items ≡ lines.old.items ++ more.now.items }
+    ensures capacity { vec_capacity lines.new ≡ vec_capacity lines.old }
+{
+    for line in more {
+        lines.push_reserved(*line);
+    }
+}
+
+/// The word for a task's state.
+fn state_word(phase: Phase, suspended: bool, runs: bool) -> StateWord
+    ensures { result ≡ word_of_state phase suspended runs }
+{
+    match (phase, suspended) {
+        (Phase::Dormant, _) => StateWord::Dormant,
+        (Phase::Waiting(_), true) => StateWord::WaitingSuspended,
+        (Phase::Waiting(_), false) => StateWord::Waiting,
+        (Phase::Ready, true) => StateWord::Suspended,
+        (Phase::Ready, false) => {
+            if runs {
+                StateWord::Running
+            } else {
+                StateWord::Ready
+            }
+        }
+    }
+}
+
+impl<B: Body + Drop> Runner<B> {
+    /// The bodies on a system whose objects have just been made. `AllocError` for want of memory: nothing else takes any.
+    pub fn new(alloc: Global, body: B, sys: &System, n: u64) -> Result<Self, AllocError>
+        requires entries { Entered B.has_entry body (tables_of sys.now) }
+        requires range { IsInRange (tables_of sys.now) }
+        ensures { IfOk result (λ r. r ≡ record { body = body; bound = n; system = tables_of sys.now; world = record { state = created_state (tables_of sys.now); contexts = no_contexts (tables_of sys.now) }; caused = []; lines = [] }) }
+    {
+        let contexts = BodyContexts::new(alloc, sys.tasks.len(), sys.processors as usize)?;
+        let caused = Vec::with_capacity(alloc, 510)?;
+        let lines = Vec::with_capacity(alloc, 519)?;
+        let tables = Tables::new(alloc, sys)?;
+        Ok(Runner {
+            body,
+            bound: n,
+            tables,
+            contexts,
+            caused,
+            lines,
+        })
+    }
+}
+
+impl<B: Body> Runner<B> {
+    /// The lines of the last event that did something, or of setup: at most 519.
+    pub fn lines(&self) -> &[Line]
+        ensures lines { result.now ≡ self.now.lines }
+        ensures few { length self.now.lines ≤ 519 }
+    {
+        self.lines.as_slice()
+    }
+
+    /// What is shown of a task.
+    pub fn state(&self, t: u8) -> TaskState
+        requires { t < length self.now.system.tasks }
+        ensures { result ≡ task_state self.now.world.state t }
+    {
+        let x = self.tables.task(t);
+        let runs = is_same_task(self.tables.processor(x.processor).run, Some(t));
+        TaskState {
+            word: state_word(x.phase, x.suspended, runs),
+            processor: x.processor,
+            priority: x.priority,
+        }
+    }
+
+    /// The actor of a processor: its running handler, else the task that it runs, if any.
+    pub fn actor(&self, p: u8) -> Option<Caller>
+        ensures value { result ≡ actor_of (processor_at self.now.world.state p) }
+        ensures there { OnSome result (p < self.now.system.processors) }
+    {
+        if p as usize >= self.tables.processor_count() {
+            return None;
+        }
+        let cpu = self.tables.processor(p);
+        match (cpu.handler, cpu.run) {
+            (Some(h), _) => Some(Caller::Handler(h)),
+            (None, Some(t)) => Some(Caller::Task(t)),
+            (None, None) => None,
+        }
+    }
+
+    /// Ends an event or setup, of which the first lines are there: those of what it caused follow, all processors settle,
+    /// and the contexts follow the lines.
+    fn conclude(&mut self)
+        requires few { length self.old.lines ≤ 1 }
+        ensures after { done_of self.new ≡ finished self.old.system (B.meaning self.old.body) self.old.world.contexts self.old.lines (progress_of self.old) }
+        ensures bodies { SameBodies self.old self.new }
+        ensures clock { self.new.world.state.clock ≡ self.old.world.state.clock }
+    {
+        append(&mut self.lines, &self.caused);
+        settle(&mut self.tables, &mut self.lines);
+        carry_out(&self.body, &self.tables, &mut self.contexts, &self.lines);
+    }
+
+    /// Ends an event: its own line, the lines of what it caused, and settling.
+    pub fn finish(&mut self, own: Line)
+        ensures after { done_of self.new ≡ finished self.old.system (B.meaning self.old.body) self.old.world.contexts (own ∷ []) (progress_of self.old) }
+        ensures bodies { SameBodies self.old self.new }
+        ensures clock { self.new.world.state.clock ≡ self.old.world.state.clock }
+    {
+        self.lines.clear();
+        self.lines.push_reserved(own);
+        self.conclude();
+    }
+
+    /// Setup, where all objects have just been made: the tasks with TA_ACT start, in order of number, and all processors
+    /// settle (uITRON 4.0, section 3.12).
+    pub fn set_up(&mut self)
+        requires state { self.old.world.state ≡ created_state self.old.system }
+        requires contexts { self.old.world.contexts ≡ no_contexts self.old.system }
+        requires caused { self.old.caused ≡ [] }
+        requires lines { self.old.lines ≡ [] }
+        ensures after { done_of self.new ≡ setup self.old.system (B.meaning self.old.body) }
+        ensures bodies { SameBodies self.old self.new }
+        ensures clock { self.new.world.state.clock ≡ 0 }
+    {
+        start_active(&mut self.tables, &mut self.caused);
+        self.conclude();
+    }
+}
