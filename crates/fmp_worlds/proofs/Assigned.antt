@@ -1,5 +1,5 @@
 -- What a processor runs is assigned to it: how this comes through a change of a task or a processor.
-use Rattle.std.proofs.Common.{◌≡◌, ℕ, zero, suc, List, [], ◌∷◌, Option, Some, None, true, false, slice_get, slice_set, refl, sym, subst, ap, ◌∙◌}
+use Rattle.std.proofs.Common.{◌≡◌, ℕ, zero, suc, ◌<◌, List, [], ◌∷◌, length, Some, true, false, slice_get, slice_set, refl, sym, subst, ap, ◌∙◌, arith}
 use Rattle.fmp_base.specs.declared.states.Processor.{Processor}
 use Rattle.fmp_base.specs.declared.states.TaskBlock.{TaskBlock}
 use Rattle.fmp_base.specs.States.{KernelState, task_at, idle}
@@ -81,3 +81,23 @@ dormant-unrun tasks cpus t a d q r = let f = a.each q t r in let e = f.active in
 pub run-once : (tasks : List TaskBlock) (cpus : List Processor) (t p q : ℕ) → Assigned tasks cpus → Runs cpus p t
     → Runs cpus q t → p ≡ q
 run-once tasks cpus t p q a h k = let f = a.each p t h in let g = a.each q t k in sym f.place ∙ g.place
+
+pub set_other : {A : Type 0} (d : A) (xs : List A) (i : ℕ) (y : A) (j : ℕ) → (i ≡ j → ⊥)
+    → found d (slice_get (slice_set xs i y) j) ≡ found d (slice_get xs j)
+set_other d [] i y j h = refl
+set_other d (x ∷ xs) zero y zero h = absurd (h refl)
+set_other d (x ∷ xs) zero y (suc j) h = refl
+set_other d (x ∷ xs) (suc i) y zero h = refl
+set_other d (x ∷ xs) (suc i) y (suc j) h = set_other d xs i y j (λ e. h (ap suc e))
+
+pub set_same : {A : Type 0} (d : A) (xs : List A) (i : ℕ) (y : A) → i < length xs
+    → found d (slice_get (slice_set xs i y) i) ≡ y
+set_same d [] i y h = absurd (omega (arith, h))
+set_same d (x ∷ xs) zero y h = refl
+set_same d (x ∷ xs) (suc i) y h = set_same d xs i y (omega (arith, h))
+
+-- a processor that runs a task is there
+pub runs-within : (cpus : List Processor) (q t : ℕ) → Runs cpus q t → q < length cpus
+runs-within [] q t r = cc
+runs-within (c ∷ cpus) zero t r = omega arith
+runs-within (c ∷ cpus) (suc q) t r = let l = runs-within cpus q t r in omega (arith, l)
