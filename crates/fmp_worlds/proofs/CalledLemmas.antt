@@ -7,6 +7,7 @@ use Rattle.fmp_base.specs.declared.states.Caller.TheVariants as caller
 use Rattle.fmp_base.specs.declared.states.Handler.{Handler}
 use Rattle.fmp_base.specs.declared.states.TimeLimit.TheVariants.{Forever, Poll}
 use Rattle.fmp_base.specs.Calls.{case_of, called}
+use Rattle.fmp_base.specs.Outcomes.{Outcome, refused_if}
 use Rattle.fmp_base.specs.Permissions.{permission, is_barred, is_caller}
 use Rattle.fmp_base.specs.ProcessorCalls.{is_cpu_locked}
 use Rattle.fmp_base.specs.Services.{service_of}
@@ -85,20 +86,25 @@ by_task sys s p me (call.TrySpn lock) h = keeps-try_spn sys s p lock
 by_task sys s p me (call.UnlSpn lock) h = keeps-unl_spn sys s p lock
 by_task sys s p me c h = cc
 
--- what a handler calls, which is only barred or a call for handlers
+-- a call for handlers
+unless_locked : (sys : SystemTables) (s : KernelState) (p : ℕ) (o : Outcome) → Keeps (Unit {0}) sys s o
+    → Keeps (Unit {0}) sys s (refused_if (is_cpu_locked (processor_at s p)) s er.Ctx o)
+unless_locked sys s p o h = keeps-refused_if sys s (is_cpu_locked (processor_at s p)) er.Ctx o (λ e. h)
+
+-- the calls of a handler; the others are barred
 pub keeps-handler_call : (sys : SystemTables) (s : KernelState) (p : ℕ) (i : Handler) (c : Call)
     → Keeps (Unit {0}) sys s (called sys s p (caller.Handler i) c)
 keeps-handler_call sys s p i (call.Put value) = keeps-succeeds_in sys s s (λ a. a)
 keeps-handler_call sys s p i (call.LdShr word) = keeps-ld_shr sys s word
 keeps-handler_call sys s p i (call.StShr word value) = keeps-st_shr sys s word value
-keeps-handler_call sys s p i (call.IactTsk task) = keeps-refused_if sys s (is_cpu_locked (processor_at s p)) er.Ctx _ (λ e. keeps-iact_tsk sys s task)
-keeps-handler_call sys s p i (call.IwupTsk task) = keeps-refused_if sys s (is_cpu_locked (processor_at s p)) er.Ctx _ (λ e. keeps-iwup_tsk sys s task)
-keeps-handler_call sys s p i (call.IrelWai task) = keeps-refused_if sys s (is_cpu_locked (processor_at s p)) er.Ctx _ (λ e. keeps-rel_wai sys s task)
-keeps-handler_call sys s p i (call.IsigSem semaphore) = keeps-refused_if sys s (is_cpu_locked (processor_at s p)) er.Ctx _ (λ e. keeps-sig_sem sys s semaphore)
-keeps-handler_call sys s p i (call.IsetFlg flag pattern) = keeps-refused_if sys s (is_cpu_locked (processor_at s p)) er.Ctx _ (λ e. keeps-set_flg sys s flag pattern)
-keeps-handler_call sys s p i (call.IpsndDtq queue word) = keeps-refused_if sys s (is_cpu_locked (processor_at s p)) er.Ctx _ (λ e. keeps-snd_dtq sys s 0 (task_at [] 0) Poll queue word (λ c. keeps-refused sys s er.Tmout))
-keeps-handler_call sys s p i (call.IfsndDtq queue word) = keeps-refused_if sys s (is_cpu_locked (processor_at s p)) er.Ctx _ (λ e. keeps-fsnd_dtq sys s queue word)
-keeps-handler_call sys s p i (call.IrotRdq priority) = keeps-refused_if sys s (is_cpu_locked (processor_at s p)) er.Ctx _ (λ e. keeps-irot_rdq sys s p priority)
+keeps-handler_call sys s p i (call.IactTsk task) = unless_locked sys s p _ (keeps-iact_tsk sys s task)
+keeps-handler_call sys s p i (call.IwupTsk task) = unless_locked sys s p _ (keeps-iwup_tsk sys s task)
+keeps-handler_call sys s p i (call.IrelWai task) = unless_locked sys s p _ (keeps-rel_wai sys s task)
+keeps-handler_call sys s p i (call.IsigSem semaphore) = unless_locked sys s p _ (keeps-sig_sem sys s semaphore)
+keeps-handler_call sys s p i (call.IsetFlg flag pattern) = unless_locked sys s p _ (keeps-set_flg sys s flag pattern)
+keeps-handler_call sys s p i (call.IpsndDtq queue word) = unless_locked sys s p _ (keeps-snd_dtq sys s 0 (task_at [] 0) Poll queue word (λ c. keeps-refused sys s er.Tmout))
+keeps-handler_call sys s p i (call.IfsndDtq queue word) = unless_locked sys s p _ (keeps-fsnd_dtq sys s queue word)
+keeps-handler_call sys s p i (call.IrotRdq priority) = unless_locked sys s p _ (keeps-irot_rdq sys s p priority)
 keeps-handler_call sys s p i c = keeps-refused sys s er.Ctx
 
 pub keeps-task_call : (sys : SystemTables) (s : KernelState) (p me : ℕ) (c : Call)

@@ -59,7 +59,9 @@ keeps-ter_tsk sys s p me t = keeps-on_task sys s (by_number s t) _ (λ u o. by_b
   by_block : (u : ℕ) → Keeps (Acts sys s p me) sys s (terminated sys s p me u (task_at s.tasks u))
   by_block u =
       let x = task_at s.tasks u in
-      keeps-refused_if sys s (nat_eq u me) er.Iluse _ (λ e. keeps-refused_if sys s (is_dormant x.phase || not (nat_eq x.processor p)) er.Obj _ (λ f. keeps-succeeds sys s _ (λ k a. holds-ended sys (unchanged s) u x (unrun u e (on_processor x p f) k a) a)))
+      keeps-refused_if sys s (nat_eq u me) er.Iluse _
+      (λ e. keeps-refused_if sys s (is_dormant x.phase || not (nat_eq x.processor p)) er.Obj _
+      (λ f. keeps-succeeds sys s _ (λ k a. holds-ended sys (unchanged s) u x (unrun u e (on_processor x p f) k a) a)))
 
 pub keeps-ext_tsk : (sys : SystemTables) (s : KernelState) (p me : ℕ)
     → Keeps (Acts sys s p me) sys s (record { answer = Ends; progress = ended_itself sys s p me (task_at s.tasks me) })

@@ -67,7 +67,9 @@ module _ {K : Type 0} (sys : SystemTables) (s : KernelState) where
 
   pub keeps-set_flg : (f b : ℤ) → Keeps K sys s (flags.set_flg sys s f b)
   keeps-set_flg f b =
-      keeps-tested sys s er.Id (numbered (length s.flags) f) _ (λ i. keeps-tested sys s er.Par (ranged 0 65535 b) _ (λ bits. keeps-succeeds sys s _ (λ k a. holds-bits_set sys s i (bit_or (pattern_at s i) bits) a)))
+      keeps-tested sys s er.Id (numbered (length s.flags) f) _
+      (λ i. keeps-tested sys s er.Par (ranged 0 65535 b) _
+      (λ bits. keeps-succeeds sys s _ (λ k a. holds-bits_set sys s i (bit_or (pattern_at s i) bits) a)))
 
   pub keeps-clr_flg : (f b : ℤ) → Keeps K sys s (flags.clr_flg s f b)
   keeps-clr_flg f b =
@@ -85,7 +87,8 @@ module _ {K : Type 0} (sys : SystemTables) (s : KernelState) where
   awaited : (me f pattern : ℕ) (m : FlagMode) (limit : TimeLimit)
       → Keeps K sys s (flags.awaited sys s me (task_at s.tasks me) f pattern m limit)
   awaited me f pattern m limit =
-      keeps-refused_if sys s (not (flag_config sys f).multiple && not (is_empty (wait_queue sys s (queue.Flag f)))) er.Iluse _ (λ e. awaited_by (satisfies m pattern (pattern_at s f)) me limit f pattern m)
+      keeps-refused_if sys s (not (flag_config sys f).multiple && not (is_empty (wait_queue sys s (queue.Flag f)))) er.Iluse _
+      (λ e. awaited_by (satisfies m pattern (pattern_at s f)) me limit f pattern m)
 
   flag_tested : (f b o : ℤ) (go : ℕ → ℕ → FlagMode → Outcome) → ((i bits : ℕ) (m : FlagMode) → Keeps K sys s (go i bits m))
       → Keeps K sys s (flags.flag_tested s f b o go)

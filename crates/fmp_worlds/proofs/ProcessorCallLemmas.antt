@@ -54,8 +54,10 @@ module _ {K : Type 0} (sys : SystemTables) (s : KernelState) where
 
   pub keeps-try_spn : (p : ℕ) (l : ℤ) → Keeps K sys s (calls.try_spn sys s p l)
   keeps-try_spn p l =
-      keeps-tested sys s er.Id (numbered (length sys.spin_locks) l) _ (λ i. keeps-refused_if sys s (is_held i s.processors) er.Obj _ (λ e. keeps-succeeds_in sys s _ (λ a. holds-lock s p (Spin i) a)))
+      keeps-tested sys s er.Id (numbered (length sys.spin_locks) l) _
+      (λ i. keeps-refused_if sys s (is_held i s.processors) er.Obj _ (λ e. keeps-succeeds_in sys s _ (λ a. holds-lock s p (Spin i) a)))
 
   pub keeps-unl_spn : (p : ℕ) (l : ℤ) → Keeps K sys s (calls.unl_spn sys s p l)
   keeps-unl_spn p l =
-      keeps-tested sys s er.Id (numbered (length sys.spin_locks) l) _ (λ i. keeps-refused_if sys s (not (is_spin i (processor_at s p).lock)) er.Iluse _ (λ e. keeps-succeeds_in sys s _ (λ a. holds-lock s p Free a)))
+      keeps-tested sys s er.Id (numbered (length sys.spin_locks) l) _
+      (λ i. keeps-refused_if sys s (not (is_spin i (processor_at s p).lock)) er.Iluse _ (λ e. keeps-succeeds_in sys s _ (λ a. holds-lock s p Free a)))

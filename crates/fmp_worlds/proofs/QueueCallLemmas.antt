@@ -36,7 +36,9 @@ module _ {K : Type 0} (sys : SystemTables) (s : KernelState) where
 
   pub keeps-tsnd_dtq : (me : ℕ) (d v tmout : ℤ) → Keeps K sys s (words.tsnd_dtq sys s me (task_at s.tasks me) d v tmout)
   keeps-tsnd_dtq me d v tmout =
-      keeps-tested sys s er.Id (numbered (length s.data_queues) d) _ (λ i. keeps-tested sys s er.Par (limit_of tmout) _ (λ limit. word_sent_to (first_waiting sys s (queue.Receivers i)) me (task_at s.tasks me) limit i v (keeps-within sys s limit me (cause.Sending i v))))
+      keeps-tested sys s er.Id (numbered (length s.data_queues) d) _
+      (λ i. keeps-tested sys s er.Par (limit_of tmout) _
+      (λ limit. word_sent_to (first_waiting sys s (queue.Receivers i)) me (task_at s.tasks me) limit i v (keeps-within sys s limit me (cause.Sending i v))))
 
   forced_in : (b : Bool) (d : ℕ) (v : ℤ) → Keeps K sys s (words.forced_in b s d v)
   forced_in true d v = keeps-succeeds_in sys s _ (λ a. a)
@@ -48,7 +50,8 @@ module _ {K : Type 0} (sys : SystemTables) (s : KernelState) where
 
   pub keeps-fsnd_dtq : (d v : ℤ) → Keeps K sys s (words.fsnd_dtq sys s d v)
   keeps-fsnd_dtq d v =
-      keeps-tested sys s er.Id (numbered (length s.data_queues) d) _ (λ i. keeps-refused_if sys s (nat_eq (data_queue_config sys i).capacity 0) er.Iluse _ (λ e. forced_to (first_waiting sys s (queue.Receivers i)) i v))
+      keeps-tested sys s er.Id (numbered (length s.data_queues) d) _
+      (λ i. keeps-refused_if sys s (nat_eq (data_queue_config sys i).capacity 0) er.Iluse _ (λ e. forced_to (first_waiting sys s (queue.Receivers i)) i v))
 
   oldest_taken : (o : Option ℕ) (d : ℕ) (w : ℤ) (ws : List ℤ) → Keeps K sys s (words.oldest_taken o s d w ws)
   oldest_taken None d w ws = keeps-gives sys s _ _ (λ a. a)
@@ -80,7 +83,10 @@ module _ {K : Type 0} (sys : SystemTables) (s : KernelState) where
 
   message_sent : (mailbox message : ℕ) → Keeps K sys s (mailboxes.message_sent sys s mailbox message)
   message_sent mailbox message =
-      keeps-refused_if sys s (is_by_priority (mailbox_config sys mailbox).message_order && nat_lt (mailbox_config sys mailbox).most (message_priority sys message)) er.Par _ (λ e. keeps-refused_if sys s (is_queued message s.mailboxes) er.Obj _ (λ f. message_sent_to (first_waiting sys s (queue.Mailbox mailbox)) mailbox message))
+      let b = mailbox_config sys mailbox in
+      keeps-refused_if sys s (is_by_priority b.message_order && nat_lt b.most (message_priority sys message)) er.Par _
+      (λ e. keeps-refused_if sys s (is_queued message s.mailboxes) er.Obj _
+      (λ f. message_sent_to (first_waiting sys s (queue.Mailbox mailbox)) mailbox message))
 
   pub keeps-snd_mbx : (mailbox message : ℤ) → Keeps K sys s (mailboxes.snd_mbx sys s mailbox message)
   keeps-snd_mbx mailbox message =

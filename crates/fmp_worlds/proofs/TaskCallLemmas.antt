@@ -132,11 +132,16 @@ module _ {K : Type 0} (sys : SystemTables) (s : KernelState) where
 
   pub keeps-sus_tsk : (me : ℕ) (t : ℤ) → Keeps K sys s (calls.sus_tsk s me t)
   keeps-sus_tsk me t =
-      keeps-on_task sys s (self_or s me t) _ (λ u o. keeps-refused_if sys s (is_dormant (task_at s.tasks u).phase) er.Obj _ (λ e. keeps-refused_if sys s (task_at s.tasks u).suspended er.Qovr _ (λ f. keeps-succeeds_in sys s _ (λ a. holds-suspended s u a))))
+      keeps-on_task sys s (self_or s me t) _
+      (λ u o. keeps-refused_if sys s (is_dormant (task_at s.tasks u).phase) er.Obj _
+      (λ e. keeps-refused_if sys s (task_at s.tasks u).suspended er.Qovr _
+      (λ f. keeps-succeeds_in sys s _ (λ a. holds-suspended s u a))))
 
   pub keeps-rsm_tsk : (t : ℤ) → Keeps K sys s (calls.rsm_tsk s t)
   keeps-rsm_tsk t =
-      keeps-on_task sys s (by_number s t) _ (λ u o. keeps-refused_if sys s (not (task_at s.tasks u).suspended) er.Obj _ (λ e. keeps-succeeds_in sys s _ (λ a. resumed (task_at s.tasks u).phase s u _ (holds-changed s u _ refl refl a))))
+      keeps-on_task sys s (by_number s t) _
+      (λ u o. keeps-refused_if sys s (not (task_at s.tasks u).suspended) er.Obj _
+      (λ e. keeps-succeeds_in sys s _ (λ a. resumed (task_at s.tasks u).phase s u _ (holds-changed s u _ refl refl a))))
 
   pub keeps-dly_tsk : (me : ℕ) (d : ℤ) → Keeps K sys s (calls.dly_tsk s me (task_at s.tasks me) d)
   keeps-dly_tsk me d = keeps-tested sys s er.Par (ranged 0 (2 ^ 30) d) _ (λ n. keeps-waits sys s me cause.Delay _)
