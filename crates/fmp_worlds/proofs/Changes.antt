@@ -1,0 +1,76 @@
+-- What a processor runs stays assigned to it when a task starts, is released, ends or is changed otherwise.
+use Rattle.std.proofs.Common.{◌≡◌, ℕ, zero, suc, Option, Some, Bool, true, false, slice_set, refl, sym, ap, ◌∙◌}
+use Rattle.fmp_base.specs.declared.calls.Reply.{Reply}
+use Rattle.fmp_base.specs.declared.states.Phase.{Phase}
+use Rattle.fmp_base.specs.declared.states.Phase.TheVariants.{Dormant, Ready, Waiting}
+use Rattle.fmp_base.specs.declared.states.Processor.{Processor}
+use Rattle.fmp_base.specs.declared.states.TaskBlock.{TaskBlock}
+use Rattle.fmp_base.specs.declared.states.WaitCause.{WaitCause}
+use Rattle.fmp_base.specs.Changes.{started, started_block, released, released_state, ended, ended_by, ended_block, ended_itself, with_nothing_run, suspended, suspended_by}
+use Rattle.fmp_base.specs.States.{KernelState, Progress, unchanged, task_at, processor_at, with_processor, idle}
+use Rattle.fmp_base.specs.Systems.{SystemTables}
+use Rattle.fmp_base.specs.TaskCalls.{is_dormant}
+use Rattle.fmp_worlds.proofs.Assigned.{set_over, Runs, Assigned, Holds, IsRunNowhere, assigned-processor, assigned-alike, assigned-unrun}
+
+-- a processor changes, and not what it runs
+pub holds-processor : (s : KernelState) (p : ℕ) (cpu : Processor) → cpu.run ≡ (processor_at s p).run → Holds s
+    → Holds (with_processor s p cpu)
+holds-processor s p cpu e a = assigned-processor s.tasks s.processors p cpu a (λ t r. a.each p t (sym e ∙ r))
+
+pub holds-started : (sys : SystemTables) (g : Progress) (t : ℕ) (x : TaskBlock) → IsRunNowhere g.state.processors t
+    → Holds g.state → Holds (started sys g t x).state
+holds-started sys g t x u a = assigned-unrun g.state.tasks g.state.processors t (started_block sys t x) a u
+
+released_by : (b : Bool) (s : KernelState) (t : ℕ) (y : TaskBlock) → Assigned (slice_set s.tasks t y) s.processors
+    → Holds (released_state b s t y)
+released_by true s t y a = a
+released_by false s t y a = a
+
+pub holds-released : (g : Progress) (t : ℕ) (reply : Reply) → Holds g.state
+    → Holds (released g t (task_at g.state.tasks t) reply).state
+holds-released g t reply a =
+    let x = task_at g.state.tasks t in
+    released_by x.suspended g.state t _ (assigned-alike g.state.tasks g.state.processors t _ a refl (λ h. refl))
+
+ended_from : (n : ℕ) (sys : SystemTables) (g : Progress) (t : ℕ) (y : TaskBlock) → IsRunNowhere g.state.processors t
+    → Holds g.state → Holds (ended_by n sys g t y).state
+ended_from zero sys g t y u a = assigned-unrun g.state.tasks g.state.processors t y a u
+ended_from (suc n) sys g t y u a = holds-started sys g t (record y { activations = n }) u a
+
+pub holds-ended : (sys : SystemTables) (g : Progress) (t : ℕ) (x : TaskBlock) → IsRunNowhere g.state.processors t
+    → Holds g.state → Holds (ended sys g t x).state
+holds-ended sys g t x u a = ended_from x.activations sys g t (ended_block sys t x) u a
+
+-- where p runs nothing more, no processor runs its task
+nowhere : (s : KernelState) (p t : ℕ) → Runs s.processors p t → Holds s
+    → IsRunNowhere (with_nothing_run s p).processors t
+nowhere s p t r a q =
+    set_over idle (λ c. c.run ≡ Some t → ⊥) s.processors p _ q (λ e. cc) (λ e h. cc) (λ apart h. apart (let f = a.each p t r in let g = a.each q t h in sym f.place ∙ g.place))
+
+pub holds-ended_itself : (sys : SystemTables) (s : KernelState) (p t : ℕ) (x : TaskBlock) → Runs s.processors p t
+    → Holds s → Holds (ended_itself sys s p t x).state
+holds-ended_itself sys s p t x r a =
+    holds-ended sys (unchanged (with_nothing_run s p)) t x (nowhere s p t r a)
+    (assigned-processor s.tasks s.processors p _ a (λ u h. cc))
+
+suspended_from : (phase : Phase) (s : KernelState) (t : ℕ) (y : TaskBlock) → Assigned (slice_set s.tasks t y) s.processors
+    → Holds (suspended_by phase s t y)
+suspended_from Dormant s t y a = a
+suspended_from Ready s t y a = a
+suspended_from (Waiting c) s t y a = a
+
+pub holds-suspended : (s : KernelState) (t : ℕ) → Holds s → Holds (suspended s t (task_at s.tasks t))
+holds-suspended s t a =
+    let x = task_at s.tasks t in
+    suspended_from x.phase s t _ (assigned-alike s.tasks s.processors t _ a refl (λ h. h))
+
+-- a task changes, and neither its phase nor its processor
+pub holds-changed : (s : KernelState) (t : ℕ) (y : TaskBlock) → y.processor ≡ (task_at s.tasks t).processor
+    → y.phase ≡ (task_at s.tasks t).phase → Holds s → Assigned (slice_set s.tasks t y) s.processors
+holds-changed s t y e f a =
+    assigned-alike s.tasks s.processors t y a e (λ h. ap is_dormant f ∙ h)
+
+-- a task waits
+pub holds-waits : (s : KernelState) (t : ℕ) (c : WaitCause) (deadline : Option ℕ) → Holds s
+    → Assigned (slice_set s.tasks t (record (task_at s.tasks t) { phase = Waiting c; deadline = deadline })) s.processors
+holds-waits s t c deadline a = assigned-alike s.tasks s.processors t _ a refl (λ h. refl)

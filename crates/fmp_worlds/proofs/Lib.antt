@@ -1,0 +1,16 @@
+pub mod Assigned
+pub mod Bools
+pub mod CalledLemmas
+pub mod CallerLemmas
+pub mod Changes
+pub mod ObjectCallLemmas
+pub mod Outcomes
+pub mod Pending
+pub mod ProcessorCallLemmas
+pub mod QueueCallLemmas
+pub mod SettledLaws
+pub mod Settling
+pub mod StepLemmas
+pub mod TaskCallLemmas
+pub mod TickLemmas
+pub mod Tops

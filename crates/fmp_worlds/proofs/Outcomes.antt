@@ -1,0 +1,63 @@
+-- What every call comes to: a state that can settle, and nothing where the caller goes on asking for a spin lock.
+use Rattle.std.proofs.Common.{◌≡◌, ℕ, ℤ, Option, Some, None, Bool, true, false, refl, if◌then◌else◌}
+use Rattle.fmp_base.specs.declared.calls.Answer.TheVariants.{Spins}
+use Rattle.fmp_base.specs.declared.codes.Er.{Er}
+use Rattle.fmp_base.specs.declared.codes.Er.TheVariants as er
+use Rattle.fmp_base.specs.declared.states.TaskBlock.{TaskBlock}
+use Rattle.fmp_base.specs.declared.states.TimeLimit.{TimeLimit}
+use Rattle.fmp_base.specs.declared.states.TimeLimit.TheVariants as limit
+use Rattle.fmp_base.specs.declared.states.WaitCause.{WaitCause}
+use Rattle.fmp_base.specs.Outcomes.{Outcome, refused, succeeds, succeeds_in, gives, waits, waits_within, tested, refused_if, on_task}
+use Rattle.fmp_base.specs.States.{KernelState, Progress, unchanged, task_at}
+use Rattle.fmp_base.specs.Systems.{SystemTables}
+use Rattle.fmp_worlds.proofs.Assigned.{Holds}
+use Rattle.fmp_worlds.proofs.Changes.{holds-waits}
+use Rattle.fmp_worlds.proofs.Settling.{CanSettle, can_settle}
+
+-- where K is known of the caller
+pub record Keeps (K : Type 0) (sys : SystemTables) (s : KernelState) (o : Outcome) : Type 0 where
+  pub settles : K → Holds s → CanSettle sys o.progress.state
+  pub spins : o.answer ≡ Spins → o.progress ≡ unchanged s
+
+module _ {K : Type 0} (sys : SystemTables) (s : KernelState) where
+  pub keeps-refused : (e : Er) → Keeps K sys s (refused s e)
+  keeps-refused e = record { settles = λ k a. can_settle sys s a; spins = λ h. refl }
+
+  pub keeps-succeeds : (g : Progress) → (K → Holds s → Holds g.state) → Keeps K sys s (succeeds g)
+  keeps-succeeds g h = record { settles = λ k a. can_settle sys g.state (h k a); spins = λ e. cc }
+
+  pub keeps-succeeds_in : (u : KernelState) → (Holds s → Holds u) → Keeps K sys s (succeeds_in u)
+  keeps-succeeds_in u h = keeps-succeeds (unchanged u) (λ k a. h a)
+
+  pub keeps-gives : (v : ℤ) (g : Progress) → (Holds s → Holds g.state) → Keeps K sys s (gives v g)
+  keeps-gives v g h = record { settles = λ k a. can_settle sys g.state (h a); spins = λ e. cc }
+
+  pub keeps-waits : (t : ℕ) (c : WaitCause) (deadline : Option ℕ)
+      → Keeps K sys s (waits s t (task_at s.tasks t) c deadline)
+  keeps-waits t c deadline =
+      record { settles = λ k a. can_settle sys _ (holds-waits s t c deadline a); spins = λ e. cc }
+
+  pub keeps-within : (limit : TimeLimit) (t : ℕ) (c : WaitCause)
+      → Keeps K sys s (waits_within limit s t (task_at s.tasks t) c)
+  keeps-within limit.Forever t c = keeps-waits t c None
+  keeps-within limit.Poll t c = keeps-refused er.Tmout
+  keeps-within (limit.Ticks n) t c = keeps-waits t c _
+
+  pub keeps-tested : {A : Type 0} (e : Er) (o : Option A) (go : A → Outcome) → ((a : A) → Keeps K sys s (go a))
+      → Keeps K sys s (tested s e o go)
+  keeps-tested e None go h = keeps-refused e
+  keeps-tested e (Some a) go h = h a
+
+  pub keeps-refused_if : (b : Bool) (e : Er) (o : Outcome) → (b ≡ false → Keeps K sys s o)
+      → Keeps K sys s (refused_if b s e o)
+  keeps-refused_if true e o h = keeps-refused e
+  keeps-refused_if false e o h = h refl
+
+  pub keeps-on_task : (o : Option ℕ) (go : ℕ → TaskBlock → Outcome)
+      → ((t : ℕ) → o ≡ Some t → Keeps K sys s (go t (task_at s.tasks t))) → Keeps K sys s (on_task s o go)
+  keeps-on_task None go h = keeps-refused er.Id
+  keeps-on_task (Some t) go h = h t refl
+
+  pub keeps-if : (b : Bool) (o p : Outcome) → Keeps K sys s o → Keeps K sys s p → Keeps K sys s (if b then o else p)
+  keeps-if true o p h k = h
+  keeps-if false o p h k = k

@@ -1,0 +1,8 @@
+use Rattle.fmp_worlds.proofs.SettledLaws.{setup-settled, step-settled}
+use Rattle.fmp_worlds.proofs.laws.worlds_are_settled.Goals as goal
+
+pub returns-clause-setup : goal.returns-clause-setup
+returns-clause-setup g c sys M = setup-settled sys M
+
+pub returns-clause-step : goal.returns-clause-step
+returns-clause-step g c sys M n w e d h k = step-settled sys M n w e d h k

@@ -1,0 +1,38 @@
+//! The laws, each the contract of a function that does nothing. `C` is the type of the contexts of bodies.
+ghost use Rattle.std.specs.Prelude.{◌≡◌, ℕ, List};
+ghost use Rattle.fmp_base.specs.declared.calls.Answer.TheVariants.{Spins};
+ghost use Rattle.fmp_base.specs.declared.calls.Call.{Call};
+ghost use Rattle.fmp_base.specs.declared.events.Event.{Event};
+ghost use Rattle.fmp_base.specs.declared.states.Caller.{Caller};
+ghost use Rattle.fmp_base.specs.Calls.{called};
+ghost use Rattle.fmp_base.specs.Meanings.{Meaning, World};
+ghost use Rattle.fmp_base.specs.Runs.{run};
+ghost use Rattle.fmp_base.specs.Setups.{setup};
+ghost use Rattle.fmp_base.specs.States.{KernelState, unchanged};
+ghost use Rattle.fmp_base.specs.Steps.{Done, Did, step};
+ghost use Rattle.fmp_base.specs.Systems.{SystemTables};
+ghost use Rattle.fmp_worlds.specs.Settled.{RunOnce, IsSettled};
+
+/// Setup leaves a settled state, and so does each event that does something in one.
+pub fn worlds_are_settled<C>()
+    ensures setup { (sys : SystemTables) (M : Meaning C) → IsSettled sys (setup sys M).world.state }
+    ensures step { (sys : SystemTables) (M : Meaning C) (n : ℕ) (w : World C) (e : Event) (d : Done C) →
+        IsSettled sys w.state → step sys M n w e ≡ Did d → IsSettled sys d.world.state }
+{}
+
+/// In a settled state no task is run by two processors.
+pub fn settled_states_run_once()
+    ensures { (sys : SystemTables) (s : KernelState) → IsSettled sys s → RunOnce s }
+{}
+
+/// In no world that setup and events reach is a task run by two processors.
+pub fn tasks_run_once<C>()
+    ensures { (sys : SystemTables) (M : Meaning C) (n : ℕ) (es : List Event) →
+        RunOnce (run sys M n (setup sys M).world es).world.state }
+{}
+
+/// A call that finds its spin lock held, so that its caller goes on asking, has changed nothing and has no line.
+pub fn spinning_changes_nothing()
+    ensures { (sys : SystemTables) (s : KernelState) (p : ℕ) (who : Caller) (c : Call) →
+        (called sys s p who c).answer ≡ Spins → (called sys s p who c).progress ≡ unchanged s }
+{}
