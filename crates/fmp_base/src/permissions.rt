@@ -39,8 +39,8 @@ impl Service {
             | Service::WupTsk
             | Service::CanWup
             | Service::RelWai
-            | Service::RsmTsk
-            | Service::SigSem
+            | Service::RsmTsk => Permission::Tasks,
+            Service::SigSem
             | Service::PolSem
             | Service::SetFlg
             | Service::ClrFlg
@@ -49,8 +49,8 @@ impl Service {
             | Service::FsndDtq
             | Service::PrcvDtq
             | Service::SndMbx
-            | Service::PrcvMbx
-            | Service::StaCyc
+            | Service::PrcvMbx => Permission::Tasks,
+            Service::StaCyc
             | Service::StpCyc
             | Service::RotRdq
             | Service::GetTid

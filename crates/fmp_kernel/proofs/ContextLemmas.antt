@@ -1,12 +1,15 @@
 -- Contexts that fit, after one of them is written or read.
-use Rattle.std.proofs.Common.{◌≡◌, ◌<◌, ℕ, zero, suc, List, [], ◌∷◌, Option, Some, None, slice_set, replicate, length, subst, sym}
+use Rattle.std.proofs.Common.{◌≡◌, ◌<◌, ℕ, zero, suc, List, [], ◌∷◌, Option, Some, None, slice_set, replicate, length, subst, sym, arith}
 use Rattle.fmp_base.specs.declared.bodies.HandlerContext.{HandlerContext}
 use Rattle.fmp_base.specs.declared.bodies.Held.{Held}
+use Rattle.fmp_base.specs.declared.bodies.Held.TheVariants.{Goes}
 use Rattle.fmp_base.specs.declared.states.Caller.{Caller}
 use Rattle.fmp_base.specs.declared.states.Caller.TheVariants as caller
-use Rattle.fmp_base.specs.Meanings.{Contexts, task_body, context_at, context_in, body_in, context_of, caller_body, context_for, with_context, with_handler_context}
+use Rattle.fmp_base.specs.Meanings.{Contexts, task_body, context_at, context_in, body_in, context_of, caller_body, context_for, with_context}
 use Rattle.fmp_base.specs.Systems.{SystemTables}
-use Rattle.fmp_kernel.specs.Contexts.{AllContexts, OfOption, OfHeld, HandlerFits, Fitting, IsThere, HasContext}
+use Rattle.fmp_kernel.specs.Contexts.{AllContexts, OfOption, OfHeld, HandlerFits, Fitting, Entered, IsThere, HasContext}
+use Rattle.fmp_kernel.specs.Groups.{IsTaskOf}
+use Rattle.fmp_kernel.specs.Rooms.{HasPlaces}
 
 AllContexts-set : {A : Type 0} (P : ℕ → A → Type 0) (cs : List (Option A)) (i : ℕ) (c : Option A)
     → AllContexts P cs → OfOption (P i) c → AllContexts P (slice_set cs i c)
@@ -30,71 +33,107 @@ AllContexts-nothing : {A : Type 0} (P : ℕ → A → Type 0) (n : ℕ) → AllC
 AllContexts-nothing P zero = tt
 AllContexts-nothing P (suc n) = AllContexts-nothing (λ i. P (suc i)) n
 
+-- what is kept of a caller fits its body
+fits_in : {B C : Type 0} (has_entry : B → ℕ → Type 0) (is_context : B → ℕ → C → Type 0) (body : B) (o : Option (HandlerContext (Held C))) → OfOption (HandlerFits has_entry is_context body) o
+    → OfOption (OfHeld (is_context body (body_in o))) (context_in o)
+fits_in has_entry is_context body None h = tt
+fits_in has_entry is_context body (Some c) h = h.context
+
+entry_in : {B C : Type 0} (has_entry : B → ℕ → Type 0) (is_context : B → ℕ → C → Type 0) (body : B) (o : Option (HandlerContext (Held C))) → IsThere (context_in o) → OfOption (HandlerFits has_entry is_context body) o
+    → has_entry body (body_in o)
+entry_in has_entry is_context body None k h = absurd k
+entry_in has_entry is_context body (Some c) k h = h.entry
+
+for_fits : {B C : Type 0} (has_entry : B → ℕ → Type 0) (is_context : B → ℕ → C → Type 0) (body : B) (o : Option (HandlerContext (Held C)))
+    (c : Option (Held C)) → (IsThere c → IsThere (context_in o)) → OfOption (HandlerFits has_entry is_context body) o
+    → OfOption (OfHeld (is_context body (body_in o))) c → OfOption (HandlerFits has_entry is_context body) (context_for (body_in o) c)
+for_fits has_entry is_context body o None t h k = tt
+for_fits has_entry is_context body o (Some c) t h k =
+    record { entry = entry_in has_entry is_context body o (t tt) h; context = k }
+
 -- a context that is there is at a place
-pub context-inside : {A : Type 0} (cs : List (Option A)) (i : ℕ) → IsThere (context_at cs i) → i < length cs
-context-inside [] i h = absurd h
-context-inside (c ∷ cs) zero h = search
-context-inside (c ∷ cs) (suc i) h = let k = context-inside cs i h in search
+inside : {A : Type 0} (cs : List (Option A)) (i : ℕ) → IsThere (context_at cs i) → i < length cs
+inside [] i h = absurd h
+inside (c ∷ cs) zero h = omega arith
+inside (c ∷ cs) (suc i) h = let k = inside cs i h in omega (arith, k)
 
-module _ {B C : Type 0} {has_entry : B → ℕ → Type 0} {is_context : B → ℕ → C → Type 0} {body : B} {sys : SystemTables} where
-  -- where nothing is kept
-  pub Fitting-nothing : (n m : ℕ) → Fitting has_entry is_context body sys (record { tasks = replicate n None; handlers = replicate m None })
-  Fitting-nothing n m =
-      record {
-        tasks = AllContexts-nothing (λ t. OfHeld (is_context body (task_body sys t))) n;
-        handlers = AllContexts-nothing (λ p. HandlerFits has_entry is_context body) m;
-      }
+-- where nothing is kept
+pub fitting_nothing : {B C : Type 0} {has_entry : B → ℕ → Type 0} {is_context : B → ℕ → C → Type 0} {body : B} {sys : SystemTables}
+    (n m : ℕ) → Fitting has_entry is_context body sys (record { tasks = replicate n None; handlers = replicate m None })
+fitting_nothing {has_entry} {is_context} {body} {sys} n m =
+    record {
+      tasks = AllContexts-nothing (λ t. OfHeld (is_context body (task_body sys t))) n;
+      handlers = AllContexts-nothing (λ p. HandlerFits has_entry is_context body) m;
+    }
 
-  pub Fitting-task : {cs : Contexts (Held C)} (t : ℕ) (c : Option (Held C)) → Fitting has_entry is_context body sys cs
-      → OfOption (OfHeld (is_context body (task_body sys t))) c
-      → Fitting has_entry is_context body sys (record cs { tasks = slice_set cs.tasks t c })
-  Fitting-task {cs} t c h k =
-      record { tasks = AllContexts-set (λ u. OfHeld (is_context body (task_body sys u))) cs.tasks t c h.tasks k; handlers = h.handlers }
+pub fitting_task : {B C : Type 0} {has_entry : B → ℕ → Type 0} {is_context : B → ℕ → C → Type 0} {body : B} {sys : SystemTables}
+    (cs : Contexts (Held C)) (t : ℕ) (c : Option (Held C)) → Fitting has_entry is_context body sys cs
+    → OfOption (OfHeld (is_context body (task_body sys t))) c
+    → Fitting has_entry is_context body sys (record cs { tasks = slice_set cs.tasks t c })
+fitting_task {is_context} {body} {sys} cs t c h k =
+    record { tasks = AllContexts-set (λ u. OfHeld (is_context body (task_body sys u))) cs.tasks t c h.tasks k; handlers = h.handlers }
 
-  pub Fitting-handler : {cs : Contexts (Held C)} (p : ℕ) (c : Option (HandlerContext (Held C))) → Fitting has_entry is_context body sys cs
-      → OfOption (HandlerFits has_entry is_context body) c
-      → Fitting has_entry is_context body sys (record cs { handlers = slice_set cs.handlers p c })
-  Fitting-handler {cs} p c h k =
-      record { tasks = h.tasks; handlers = AllContexts-set (λ q. HandlerFits has_entry is_context body) cs.handlers p c h.handlers k }
+pub fitting_handler : {B C : Type 0} {has_entry : B → ℕ → Type 0} {is_context : B → ℕ → C → Type 0} {body : B} {sys : SystemTables}
+    (cs : Contexts (Held C)) (p : ℕ) (c : Option (HandlerContext (Held C))) → Fitting has_entry is_context body sys cs
+    → OfOption (HandlerFits has_entry is_context body) c
+    → Fitting has_entry is_context body sys (record cs { handlers = slice_set cs.handlers p c })
+fitting_handler {has_entry} {is_context} {body} cs p c h k =
+    record { tasks = h.tasks; handlers = AllContexts-set (λ q. HandlerFits has_entry is_context body) cs.handlers p c h.handlers k }
 
-  -- what is kept of a caller fits its body
-  fits_in : (o : Option (HandlerContext (Held C))) → OfOption (HandlerFits has_entry is_context body) o
-      → OfOption (OfHeld (is_context body (body_in o))) (context_in o)
-  fits_in None h = tt
-  fits_in (Some c) h = h.context
+-- what is kept of a caller fits its body
+pub fits_of : {B C : Type 0} {has_entry : B → ℕ → Type 0} {is_context : B → ℕ → C → Type 0} {body : B} {sys : SystemTables}
+    (cs : Contexts (Held C)) (p : ℕ) (who : Caller) → Fitting has_entry is_context body sys cs
+    → OfOption (OfHeld (is_context body (caller_body sys cs p who))) (context_of cs p who)
+fits_of {is_context} {body} {sys} cs p (caller.Task t) h =
+    AllContexts-get (λ u. OfHeld (is_context body (task_body sys u))) cs.tasks t h.tasks
+fits_of {has_entry} {is_context} {body} cs p (caller.Handler i) h =
+    fits_in has_entry is_context body (context_at cs.handlers p)
+    (AllContexts-get (λ q. HandlerFits has_entry is_context body) cs.handlers p h.handlers)
 
-  pub Fitting-of : {cs : Contexts (Held C)} (p : ℕ) (who : Caller) → Fitting has_entry is_context body sys cs
-      → OfOption (OfHeld (is_context body (caller_body sys cs p who))) (context_of cs p who)
-  Fitting-of {cs} p (caller.Task t) h = AllContexts-get (λ u. OfHeld (is_context body (task_body sys u))) cs.tasks t h.tasks
-  Fitting-of {cs} p (caller.Handler i) h =
-      fits_in (context_at cs.handlers p) (AllContexts-get (λ q. HandlerFits has_entry is_context body) cs.handlers p h.handlers)
+-- a task of which something is kept is one of the system
+pub task_of_context : {C : Type 0} {sys : SystemTables} (cs : Contexts (Held C)) (p : ℕ) (who : Caller) → HasPlaces sys cs
+    → HasContext cs p who → IsTaskOf sys who
+task_of_context {sys} cs p (caller.Task t) h k =
+    let below = inside cs.tasks t k in
+    omega (arith, below, h.tasks)
+task_of_context cs p (caller.Handler i) h k = tt
 
-  entry_in : (o : Option (HandlerContext (Held C))) → IsThere (context_in o) → OfOption (HandlerFits has_entry is_context body) o
-      → has_entry body (body_in o)
-  entry_in None k h = absurd k
-  entry_in (Some c) k h = h.entry
+-- the body of a caller of which something is kept is there
+pub entry_of_context : {B C : Type 0} {has_entry : B → ℕ → Type 0} {is_context : B → ℕ → C → Type 0} {body : B} {sys : SystemTables}
+    (cs : Contexts (Held C)) (p : ℕ) (who : Caller) → Fitting has_entry is_context body sys cs → Entered has_entry body sys → HasPlaces sys cs
+    → HasContext cs p who → has_entry body (caller_body sys cs p who)
+entry_of_context cs p (caller.Task t) h e n k = e.tasks t (task_of_context cs p (caller.Task t) n k)
+entry_of_context {has_entry} {is_context} {body} cs p (caller.Handler i) h e n k =
+    entry_in has_entry is_context body (context_at cs.handlers p) k
+    (AllContexts-get (λ q. HandlerFits has_entry is_context body) cs.handlers p h.handlers)
 
-  -- the body of a handler that runs is there
-  pub Fitting-entry : {cs : Contexts (Held C)} (p : ℕ) → Fitting has_entry is_context body sys cs → IsThere (context_in (context_at cs.handlers p))
-      → has_entry body (body_in (context_at cs.handlers p))
-  Fitting-entry {cs} p h k = entry_in (context_at cs.handlers p) k (AllContexts-get (λ q. HandlerFits has_entry is_context body) cs.handlers p h.handlers)
+-- what is kept of a caller may change where something was kept, or go
+pub fitting_set : {B C : Type 0} {has_entry : B → ℕ → Type 0} {is_context : B → ℕ → C → Type 0} {body : B} {sys : SystemTables}
+    (cs : Contexts (Held C)) (p : ℕ) (who : Caller) (c : Option (Held C)) → Fitting has_entry is_context body sys cs
+    → (IsThere c → HasContext cs p who) → OfOption (OfHeld (is_context body (caller_body sys cs p who))) c
+    → Fitting has_entry is_context body sys (with_context cs p who c)
+fitting_set cs p (caller.Task t) c h k f = fitting_task cs t c h f
+fitting_set {has_entry} {is_context} {body} cs p (caller.Handler i) c h k f =
+    fitting_handler cs p (context_for (body_in (context_at cs.handlers p)) c) h
+    (for_fits has_entry is_context body (context_at cs.handlers p) c k
+    (AllContexts-get (λ q. HandlerFits has_entry is_context body) cs.handlers p h.handlers) f)
 
-  for_fits : (o : Option (HandlerContext (Held C))) (c : Option (Held C)) → IsThere (context_in o) → OfOption (HandlerFits has_entry is_context body) o
-      → OfOption (OfHeld (is_context body (body_in o))) c → OfOption (HandlerFits has_entry is_context body) (context_for (body_in o) c)
-  for_fits o None t h k = tt
-  for_fits o (Some c) t h k = record { entry = entry_in o t h; context = k }
+-- the same, where the context is known
+pub has_context : {C : Type 0} (cs : Contexts (Held C)) (p : ℕ) (who : Caller) (c : Held C) → context_of cs p who ≡ Some c
+    → HasContext cs p who
+has_context {C} cs p who c e = subst (λ (o : Option (Held C)). IsThere o) (sym e) tt
 
-  -- what is kept of a caller may change, where something was kept of it
-  pub Fitting-set : {cs : Contexts (Held C)} (p : ℕ) (who : Caller) (c : Option (Held C)) → Fitting has_entry is_context body sys cs
-      → HasContext cs p who → OfOption (OfHeld (is_context body (caller_body sys cs p who))) c
-      → Fitting has_entry is_context body sys (with_context cs p who c)
-  Fitting-set {cs} p (caller.Task t) c h k f = Fitting-task t c h f
-  Fitting-set {cs} p (caller.Handler i) c h k f =
-      Fitting-handler p (context_for (body_in (context_at cs.handlers p)) c) h
-      (for_fits (context_at cs.handlers p) c k (AllContexts-get (λ q. HandlerFits has_entry is_context body) cs.handlers p h.handlers) f)
+pub task_of : {C : Type 0} {sys : SystemTables} (cs : Contexts (Held C)) (p : ℕ) (who : Caller) (c : Held C) → HasPlaces sys cs
+    → context_of cs p who ≡ Some c → IsTaskOf sys who
+task_of {sys} cs p who c h e = task_of_context {sys = sys} cs p who h (has_context cs p who c e)
 
-  -- nothing may be kept of a caller
-  pub Fitting-unset : {cs : Contexts (Held C)} (p : ℕ) (who : Caller) → Fitting has_entry is_context body sys cs
-      → Fitting has_entry is_context body sys (with_context cs p who None)
-  Fitting-unset {cs} p (caller.Task t) h = Fitting-task t None h tt
-  Fitting-unset {cs} p (caller.Handler i) h = Fitting-handler p None h tt
+pub entry_of : {B C : Type 0} {has_entry : B → ℕ → Type 0} {is_context : B → ℕ → C → Type 0} {body : B} {sys : SystemTables}
+    (cs : Contexts (Held C)) (p : ℕ) (who : Caller) (c : Held C) → Fitting has_entry is_context body sys cs → Entered has_entry body sys
+    → HasPlaces sys cs → context_of cs p who ≡ Some c → has_entry body (caller_body sys cs p who)
+entry_of cs p who c h k n e = entry_of_context cs p who h k n (has_context cs p who c e)
+
+pub goes_fits : {B C : Type 0} {has_entry : B → ℕ → Type 0} {is_context : B → ℕ → C → Type 0} {body : B} {sys : SystemTables}
+    (cs : Contexts (Held C)) (p : ℕ) (who : Caller) (c : C) → Fitting has_entry is_context body sys cs
+    → context_of cs p who ≡ Some (Goes c) → is_context body (caller_body sys cs p who) c
+goes_fits {C = C} {is_context = is_context} {body} {sys} cs p who c h e =
+    subst (λ (o : Option (Held C)). OfOption (OfHeld (is_context body (caller_body sys cs p who))) o) e (fits_of cs p who h)

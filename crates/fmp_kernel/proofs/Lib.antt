@@ -1,3 +1,5 @@
 mod ContextLemmas
 mod GroupLemmas
+mod PlaceLemmas
+mod RangeLemmas
 mod TickLemmas

@@ -3,6 +3,7 @@ ghost use Rattle.std.specs.Prelude.{◌≡◌, ◌<◌, ◌≤◌, [], length, v
 ghost use Rattle.fmp_base.specs.declared.states.Handler.{Handler};
 ghost use Rattle.fmp_base.specs.Calls.{called, case_by, case_of};
 ghost use Rattle.fmp_base.specs.Permissions.{permission, is_barred as barred};
+ghost use Rattle.fmp_base.specs.Ranges.{IsInRange};
 ghost use Rattle.fmp_base.specs.Services.{service_of};
 ghost use Rattle.fmp_base.specs.States.{processor_at, task_at};
 ghost use Rattle.fmp_kernel.specs.Groups.{IsTaskOf, IsForHandlers, group_of};
@@ -35,6 +36,7 @@ mod synchronization;
 fn case_of_task(tables: &mut Tables, lines: &mut Vec<Line>, p: u8, me: u8, made: Call) -> Answer
     requires caller { me < length tables.old.system.tasks }
     requires processor { p < tables.old.system.processors }
+    requires range { IsInRange tables.old.system }
     requires empty { lines.old.items ≡ [] }
     requires room { 255 ≤ vec_capacity lines.old }
     ensures outcome { outcome result tables.new lines.new.items ≡ case_of tables.old.system tables.old.state p me (task_at tables.old.state.tasks me) made }
@@ -56,6 +58,7 @@ fn case_of_task(tables: &mut Tables, lines: &mut Vec<Line>, p: u8, me: u8, made:
 fn case_of_handler(tables: &mut Tables, lines: &mut Vec<Line>, p: u8, made: Call) -> Answer
     requires group { IsForHandlers (group_of (service_of made)) }
     requires processor { p < tables.old.system.processors }
+    requires range { IsInRange tables.old.system }
     requires empty { lines.old.items ≡ [] }
     requires room { 255 ≤ vec_capacity lines.old }
     ensures outcome { outcome result tables.new lines.new.items ≡ case_of tables.old.system tables.old.state p 0 (task_at [] 0) made }
@@ -81,6 +84,7 @@ fn permitted_call(
     requires permitted { barred (permission (service_of made)) (processor_at tables.old.state p) who made ≡ false }
     requires caller { IsTaskOf tables.old.system who }
     requires processor { p < tables.old.system.processors }
+    requires range { IsInRange tables.old.system }
     requires empty { lines.old.items ≡ [] }
     requires room { 255 ≤ vec_capacity lines.old }
     ensures outcome { outcome result tables.new lines.new.items ≡ case_by tables.old.system tables.old.state p who made }
@@ -94,15 +98,10 @@ fn permitted_call(
 }
 
 /// What a call of this caller on processor p comes to. The lines of what it causes are added to those that are given.
-pub fn call(
-    tables: &mut Tables,
-    lines: &mut Vec<Line>,
-    p: u8,
-    who: Caller,
-    made: Call,
-) -> Answer
+pub fn call(tables: &mut Tables, lines: &mut Vec<Line>, p: u8, who: Caller, made: Call) -> Answer
     requires caller { IsTaskOf tables.old.system who }
     requires processor { p < tables.old.system.processors }
+    requires range { IsInRange tables.old.system }
     requires empty { lines.old.items ≡ [] }
     requires room { 255 ≤ vec_capacity lines.old }
     ensures outcome { outcome result tables.new lines.new.items ≡ called tables.old.system tables.old.state p who made }

@@ -1,8 +1,8 @@
 //! What the lines of an event mean for the bodies: fresh contexts, and replies.
-ghost use Rattle.std.specs.Prelude.{◌≡◌, ◌<◌, length};
-ghost use Rattle.fmp_base.specs.Meanings.{caller_body, contexts_after, contexts_after_all, delivered_to, handler_begun, handler_start as start_of_handler, task_begun};
+ghost use Rattle.std.specs.Prelude.{◌≡◌};
+ghost use Rattle.fmp_base.specs.Meanings.{caller_body, contexts_after, contexts_after_all, delivered_to, fresh_context as fresh_context_of, handler_begun, handler_start as start_of_handler, task_begun, told as told_by};
 ghost use Rattle.fmp_base.specs.Ranges.{IsInRange};
-ghost use Rattle.fmp_kernel.specs.Contexts.{Entered, Fitting};
+ghost use Rattle.fmp_kernel.specs.Contexts.{Entered, Fitting, HandlerFits, IsThere, OfHeld, OfOption};
 ghost use Rattle.fmp_kernel.specs.Rooms.{HasPlaces};
 
 use crate::contexts::{BodyContexts, body_number};
@@ -11,26 +11,32 @@ use fmp_body::Body;
 use fmp_tasks::Tables;
 
 /// How a handler begins, where the system has it.
+#[tactic(auto, using(crate::proofs::RangeLemmas::no_interrupt_beyond))]
 fn handler_start(tables: &Tables, h: Handler) -> Option<HandlerStart>
     requires { IsInRange tables.now.system }
     ensures { result ≡ start_of_handler tables.now.system h }
 {
     match h {
-        Handler::Interrupt(i) if i < 32 => match tables.interrupt_config(i) {
-            Some(config) => Some(HandlerStart {
+        Handler::Interrupt(i) => {
+            if i >= 32 {
+                return None;
+            }
+            let config = tables.interrupt_config(i)?;
+            Some(HandlerStart {
                 body: body_number(config.entry),
                 exinf: 0,
-            }),
-            None => None,
-        },
-        Handler::Cyclic(c) if (c as usize) < tables.cyclic_count() => {
+            })
+        }
+        Handler::Cyclic(c) => {
+            if c as usize >= tables.cyclic_count() {
+                return None;
+            }
             let config = tables.cyclic_config(c);
             Some(HandlerStart {
                 body: body_number(config.entry),
                 exinf: config.exinf,
             })
         }
-        _ => None,
     }
 }
 
@@ -49,6 +55,7 @@ pub fn entry_of<C: Copy>(tables: &Tables, contexts: &BodyContexts<C>, p: u8, who
 }
 
 /// Task t has a fresh context.
+#[tactic(auto, using(crate::proofs::ContextLemmas::fitting_task))]
 fn begin_task<B: Body>(body: &B, tables: &Tables, contexts: &mut BodyContexts<B::Ctx>, t: u8)
     requires places { HasPlaces tables.now.system contexts.old }
     requires entries { Entered B.has_entry body.now tables.now.system }
@@ -63,7 +70,27 @@ fn begin_task<B: Body>(body: &B, tables: &Tables, contexts: &mut BodyContexts<B:
     }
 }
 
+/// The fresh context of a handler, where the system has it.
+fn fresh_context<B: Body>(
+    body: &B,
+    tables: &Tables,
+    h: Handler,
+) -> Option<HandlerContext<Held<B::Ctx>>>
+    requires range { IsInRange tables.now.system }
+    requires entries { Entered B.has_entry body.now tables.now.system }
+    ensures value { result ≡ fresh_context_of (B.meaning body.now) (start_of_handler tables.now.system h) }
+    ensures fits { OfOption (HandlerFits B.has_entry B.is_context body.now) result }
+{
+    let start = handler_start(tables, h)?;
+    let context = Held::Goes(body.start(start.body, start.exinf));
+    Some(HandlerContext {
+        body: start.body,
+        context,
+    })
+}
+
 /// Handler h has a fresh context on processor p.
+#[tactic(auto, using(crate::proofs::ContextLemmas::fitting_handler))]
 fn begin_handler<B: Body>(
     body: &B,
     tables: &Tables,
@@ -77,17 +104,31 @@ fn begin_handler<B: Body>(
     ensures contexts { contexts.new ≡ handler_begun tables.now.system (B.meaning body.now) contexts.old p h }
     ensures fitting { Fitting B.has_entry B.is_context body.now tables.now.system contexts.new }
 {
-    let fresh = match handler_start(tables, h) {
-        Some(start) => Some(HandlerContext {
-            body: start.body,
-            context: Held::Goes(body.start(start.body, start.exinf)),
-        }),
-        None => None,
-    };
+    let fresh = fresh_context(body, tables, h);
     contexts.set_handler(p, fresh);
 }
 
+/// What is kept of a body after a reply: a context that awaits it goes on with it.
+fn told<B: Body>(
+    body: &B,
+    entry: u8,
+    held: Option<Held<B::Ctx>>,
+    reply: Reply,
+) -> Option<Held<B::Ctx>>
+    requires entry { IsThere held → B.has_entry body.now entry }
+    requires fits { OfOption (OfHeld (B.is_context body.now entry)) held }
+    ensures value { result ≡ told_by (B.meaning body.now) entry reply held }
+    ensures there { IsThere result → IsThere held }
+    ensures fits { OfOption (OfHeld (B.is_context body.now entry)) result }
+{
+    match held {
+        Some(Held::Awaits(context)) => Some(Held::Goes(body.deliver(entry, context, reply))),
+        other => other,
+    }
+}
+
 /// The caller on processor p is told a reply, where its context awaits one.
+#[tactic(auto, using(crate::proofs::ContextLemmas::fits_of, crate::proofs::ContextLemmas::entry_of_context, crate::proofs::ContextLemmas::fitting_set))]
 fn tell<B: Body>(
     body: &B,
     tables: &Tables,
@@ -102,14 +143,10 @@ fn tell<B: Body>(
     ensures contexts { contexts.new ≡ delivered_to tables.now.system (B.meaning body.now) contexts.old p who reply }
     ensures fitting { Fitting B.has_entry B.is_context body.now tables.now.system contexts.new }
 {
-    let told = match contexts.of(p, who) {
-        Some(Held::Awaits(context)) => {
-            let entry = entry_of(tables, contexts, p, who);
-            Some(Held::Goes(body.deliver(entry, context, reply)))
-        }
-        other => other,
-    };
-    contexts.set(p, who, told);
+    let held = contexts.of(p, who);
+    let entry = entry_of(tables, contexts, p, who);
+    let after = told(body, entry, held, reply);
+    contexts.set(p, who, after);
 }
 
 /// The contexts after what a line tells.

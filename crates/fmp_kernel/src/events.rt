@@ -3,7 +3,7 @@ ghost use Rattle.std.specs.Prelude.{◌≡◌, ◌+◌, ◌<◌, ◌^◌, ◌∷
 ghost use Rattle.fmp_base.specs.Calls.{called};
 ghost use Rattle.fmp_base.specs.Meanings.{caller_body, with_context};
 ghost use Rattle.fmp_base.specs.States.{processor_at};
-ghost use Rattle.fmp_base.specs.Steps.{actor_ended, actor_of, call_made, effect_of, finished, handler_ended as ended_handler, run_by, step, stretched};
+ghost use Rattle.fmp_base.specs.Steps.{Did, actor_ended, actor_of, call_made, effect_of, finished, handler_ended as ended_handler, run_by, step, stretched};
 ghost use Rattle.fmp_base.specs.Stretches.{ending};
 ghost use Rattle.fmp_body.specs.Contexts.{OfCall};
 ghost use Rattle.fmp_kernel.specs.Contexts.{HasContext};
@@ -15,7 +15,7 @@ use crate::calls::call;
 use crate::deliveries::entry_of;
 use crate::runner::Runner;
 use crate::ticks::advance;
-use fmp_base::{Answer, Call, Caller, Effect, Held, Line, Processor, Stretch};
+use fmp_base::{Answer, Call, Caller, Effect, Event, Held, Line, Processor, Stretch};
 use fmp_body::Body;
 use fmp_migrate::end_itself;
 use fmp_tasks::Tables;
@@ -55,6 +55,7 @@ impl<B: Body> Runner<B> {
     /// The actor of processor p makes a call, with this context.
     fn make_call(&mut self, p: u8, who: Caller, context: B::Ctx, made: Call) -> Effect
         requires there { p < self.old.system.processors }
+        requires caller { IsTaskOf self.old.system who }
         requires kept { HasContext self.old.world.contexts p who }
         requires context { B.is_context self.old.body (caller_body self.old.system self.old.world.contexts p who) context }
         ensures effect { result ≡ effect_of (call_made self.old.system (B.meaning self.old.body) (with_context self.old.world.contexts p who (Some (Held.Awaits context))) p who made (called self.old.system self.old.world.state p who made)) }
@@ -90,6 +91,7 @@ impl<B: Body> Runner<B> {
     /// The actor of processor p has made this stretch: the call, end or fault is carried out.
     fn apply_stretch(&mut self, p: u8, who: Caller, stretch: Stretch<B::Ctx>) -> Effect
         requires there { p < self.old.system.processors }
+        requires caller { IsTaskOf self.old.system who }
         requires kept { HasContext self.old.world.contexts p who }
         requires context { OfCall (B.is_context self.old.body (caller_body self.old.system self.old.world.contexts p who)) (ending stretch) }
         ensures effect { result ≡ effect_of (stretched self.old.system (B.meaning self.old.body) self.old.world p who (ending stretch)) }
@@ -121,6 +123,7 @@ impl<B: Body> Runner<B> {
     }
 
     /// Processor p runs its actor for a stretch.
+    #[tactic(auto, using(crate::proofs::ContextLemmas::has_context, crate::proofs::ContextLemmas::task_of, crate::proofs::ContextLemmas::entry_of, crate::proofs::ContextLemmas::goes_fits))]
     pub fn run(&mut self, p: u8) -> Effect
         ensures effect { result ≡ effect_of (run_by self.old.system (B.meaning self.old.body) self.old.bound self.old.world p (actor_of (processor_at self.old.world.state p))) }
         ensures after { done_of self.new ≡ done_or (done_of self.old) (run_by self.old.system (B.meaning self.old.body) self.old.bound self.old.world p (actor_of (processor_at self.old.world.state p))) }
@@ -153,16 +156,20 @@ impl<B: Body> Runner<B> {
 
     /// An interrupt, by its number, is raised: its handler becomes pending. Nothing happens where it has none, or it is
     /// pending already.
+    #[tactic(auto, using(crate::proofs::RangeLemmas::no_interrupt_beyond))]
     pub fn interrupt(&mut self, number: u8) -> Effect
         ensures effect { result ≡ effect_of (step self.old.system (B.meaning self.old.body) self.old.bound self.old.world (Event.Int number)) }
         ensures after { done_of self.new ≡ done_or (done_of self.old) (step self.old.system (B.meaning self.old.body) self.old.bound self.old.world (Event.Int number)) }
         ensures bodies { SameBodies self.old self.new }
         ensures clock { self.new.world.state.clock ≡ self.old.world.state.clock }
     {
-        if number == 0 || number > 32 {
+        if number == 0 {
             return Effect::Nothing;
         }
         let i = number - 1;
+        if i >= 32 {
+            return Effect::Nothing;
+        }
         if self.tables.interrupt_config(i).is_none() || self.tables.is_interrupt_pending(i) {
             return Effect::Nothing;
         }

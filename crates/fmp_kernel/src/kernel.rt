@@ -100,6 +100,7 @@ impl<B: Body> Kernel<B> {
     pub fn no_task_runs_twice(&self)
         ensures { RunOnce self.now.world.state }
     {
+        let _ = &self.runner;
     }
 
     /// One event, while fewer than 2^20 did something: whether it does something. If it does, its lines and the state

@@ -93,6 +93,7 @@ fn settle_on(tables: &mut Tables, lines: &mut Vec<Line>, p: u8)
 }
 
 /// All processors settle, in order of number.
+#[tactic(auto, using(crate::proofs::PlaceLemmas::places_next))]
 pub fn settle(tables: &mut Tables, lines: &mut Vec<Line>)
     requires room { vec_len lines.old + 8 ≤ vec_capacity lines.old }
     ensures progress { progress tables.new lines.new.items ≡ settled tables.old.system (progress tables.old lines.old.items) }

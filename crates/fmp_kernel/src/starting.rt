@@ -25,6 +25,7 @@ fn start_if_active(tables: &mut Tables, caused: &mut Vec<Line>, t: u8)
 }
 
 /// Of all tasks, in order of number, those with TA_ACT start.
+#[tactic(auto, using(crate::proofs::PlaceLemmas::places_next))]
 pub fn start_active(tables: &mut Tables, caused: &mut Vec<Line>)
     requires empty { caused.old.items ≡ [] }
     requires room { length tables.old.system.tasks ≤ vec_capacity caused.old }

@@ -2,6 +2,7 @@
 ghost use Rattle.std.specs.Prelude.{◌≡◌, ◌+◌, ◌<◌, ◌≤◌, ◌^◌, length, vec_len, vec_capacity, []};
 ghost use Rattle.fmp_base.specs.Changes.{released};
 ghost use Rattle.fmp_base.specs.Outcomes.{code as code_of};
+ghost use Rattle.fmp_base.specs.Ranges.{IsInRange};
 ghost use Rattle.fmp_base.specs.States.{task_at, unchanged, places_from};
 ghost use Rattle.fmp_base.specs.Ticks.{timeout_code as code_at_timeout, all_timed_out, all_cycled, cycled, pended, ticked, with_clock_advanced};
 ghost use Rattle.fmp_tasks.specs.Tables.{progress, SameShape};
@@ -85,14 +86,15 @@ fn cycle(tables: &mut Tables, caused: &mut Vec<Line>, c: u8)
     }
 }
 
-/// Of all cyclic handlers, in order of number, those that are due now become pending.
-fn cycle_all(tables: &mut Tables, caused: &mut Vec<Line>)
-    requires room { vec_len caused.old + length tables.old.system.cyclics ≤ vec_capacity caused.old }
-    ensures progress { progress tables.new caused.new.items ≡ all_cycled tables.old.system (progress tables.old caused.old.items) (places_from 0 (length tables.old.state.due_times)) }
+/// Of all cyclic handlers, of which there are so many, in order of number, those that are due now become pending.
+#[tactic(auto, using(crate::proofs::PlaceLemmas::places_next))]
+fn cycle_all(tables: &mut Tables, caused: &mut Vec<Line>, count: u8)
+    requires count { count ≡ length tables.old.system.cyclics }
+    requires room { vec_len caused.old + count ≤ vec_capacity caused.old }
+    ensures progress { progress tables.new caused.new.items ≡ all_cycled tables.old.system (progress tables.old caused.old.items) (places_from 0 count) }
     ensures shape { SameShape tables.old tables.new }
     ensures capacity { vec_capacity caused.new ≡ vec_capacity caused.old }
 {
-    let count = tables.cyclic_count() as u8;
     for c in 0..count {
         cycle(tables, caused, c);
     }
@@ -103,12 +105,14 @@ fn cycle_all(tables: &mut Tables, caused: &mut Vec<Line>)
 pub fn advance(tables: &mut Tables, caused: &mut Vec<Line>)
     requires time { tables.old.state.clock < 2 ^ 20 }
     requires empty { caused.old.items ≡ [] }
+    requires range { IsInRange tables.old.system }
     requires room { 510 ≤ vec_capacity caused.old }
     ensures progress { progress tables.new caused.new.items ≡ ticked tables.old.system tables.old.state }
     ensures shape { SameShape (record tables.old { state = with_clock_advanced tables.old.state }) tables.new }
     ensures capacity { vec_capacity caused.new ≡ vec_capacity caused.old }
 {
+    let cyclics = tables.cyclic_count() as u8;
     tables.advance();
     time_out_all(tables, caused);
-    cycle_all(tables, caused);
+    cycle_all(tables, caused, cyclics);
 }

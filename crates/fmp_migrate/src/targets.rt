@@ -43,7 +43,7 @@ pub fn allowed_processor(tables: &Tables, t: u8, number: i32) -> Option<u8>
 
 /// A priority, or the initial one for 0.
 pub fn or_if_zero(initial: u8, priority: u8) -> u8
-    ensures { result ≡ calls.initial_or initial priority }
+    ensures { result ≡ calls.or_if_zero initial priority }
 {
     if priority == 0 { initial } else { priority }
 }

@@ -1,5 +1,7 @@
 -- Each event that does something leaves a settled state.
 use Rattle.std.proofs.Common.{◌≡◌, ℕ, zero, suc, ◌+◌, List, [], ◌∷◌, ◌++◌, Option, Some, None, Bool, true, false, refl}
+use Rattle.fmp_base.specs.declared.bodies.Held.{Held}
+use Rattle.fmp_base.specs.declared.bodies.Held.TheVariants.{Goes, Awaits}
 use Rattle.fmp_base.specs.declared.calls.Answer.{Answer}
 use Rattle.fmp_base.specs.declared.calls.Answer.TheVariants.{Replies, Waits, Ends, Spins}
 use Rattle.fmp_base.specs.declared.calls.Call.{Call}
@@ -12,7 +14,7 @@ use Rattle.fmp_base.specs.declared.states.Caller.TheVariants as caller
 use Rattle.fmp_base.specs.declared.states.Handler.{Handler}
 use Rattle.fmp_base.specs.declared.systems.InterruptConfig.{InterruptConfig}
 use Rattle.fmp_base.specs.Calls.{called}
-use Rattle.fmp_base.specs.Meanings.{Meaning, Held, Goes, Awaits, Contexts, World, context_of}
+use Rattle.fmp_base.specs.Meanings.{Meaning, Contexts, World, context_of}
 use Rattle.fmp_base.specs.States.{KernelState, Progress, unchanged, task_at, processor_at}
 use Rattle.fmp_base.specs.Steps.{Reaction, Nothing, Did, finished, actor_by, actor_ended, answered, stretched, run_in, run_by, interrupted, interrupted_by, step}
 use Rattle.fmp_base.specs.Stretches.{Ending}

@@ -2,6 +2,7 @@
 ghost use Rattle.std.specs.Prelude.{◌≡◌, ℕ, ◌<◌, ◌≤◌, [], vec_capacity};
 ghost use Rattle.fmp_base.specs.declared.states.TaskBlock.{TaskBlock};
 ghost use Rattle.fmp_base.specs.Calls.{case_of};
+ghost use Rattle.fmp_base.specs.Ranges.{IsInRange};
 ghost use Rattle.fmp_base.specs.Services.{service_of};
 ghost use Rattle.fmp_kernel.specs.Groups.{group_of};
 ghost use Rattle.fmp_tasks.specs.Tables.{outcome, SameShape};
@@ -17,6 +18,7 @@ use fmp_tasks::Tables;
 pub fn handler_call(tables: &mut Tables, lines: &mut Vec<Line>, p: u8, made: Call) -> Answer
     requires group { group_of (service_of made) ≡ ServiceGroup.Handlers }
     requires processor { p < tables.old.system.processors }
+    requires range { IsInRange tables.old.system }
     requires empty { lines.old.items ≡ [] }
     requires room { 255 ≤ vec_capacity lines.old }
     ensures outcome { (me : ℕ) (x : TaskBlock) → outcome result tables.new lines.new.items ≡ case_of tables.old.system tables.old.state p me x made }

@@ -6,7 +6,7 @@ use Rattle.fmp_tasks.specs.Tables.{progress, SameShape}
 
 abbrev pub invariant-loop-c : goal.invariant-loop-c
 invariant-loop-c l =
-    let count = length l.fn.tables.state.due_times in
+    let count = l.count in
     let rest = all_cycled l.fn.tables.system in
     record {
       progress : rest (progress l.tables l.caused.items) (places_from l.c (count - l.c)) ≡ rest (progress l.fn.tables l.fn.caused.items) (places_from 0 count);

@@ -16,6 +16,8 @@ loop-t-preserved c =
     let first : IsFirstDue now.state.clock now.state.tasks t = first_is_due now.state.clock t now.state.tasks (sym c.in-Some.ensures.value) in
     let same : length c.loop-t.tables.system.tasks ≡ length c.args.tables.now.system.tasks = ap (λ (s : SystemTables). length s.tasks) c.loop-t.invariant.shape.system in
     let below : t < length c.args.tables.now.state.tasks = omega (arith, c.in-Some.ensures.there, same, c.task_count-count.ensures.count, c.task_count-count.ensures.configs) in
+    let there : t < length c.loop-t.tables.system.tasks = c.in-Some.ensures.there in
+    let low : vec_len c.loop-t.caused ≤ t = late now (vec_len c.loop-t.caused) t c.loop-t.invariant.passed first in
     let is : after ≡ release_first now t = c.time_out.ensures.progress in
     record {
       progress = ap (λ (g : Progress). all_timed_out g all) is ∙ timed-release now t (length c.args.tables.now.state.tasks) first below ∙ c.loop-t.invariant.progress;
@@ -24,6 +26,7 @@ loop-t-preserved c =
         clock = c.time_out.ensures.shape.clock ∙ c.loop-t.invariant.shape.clock;
       };
       passed = rw c.time_out.ensures.one_more (passed-next now after t (vec_len c.loop-t.caused) c.loop-t.invariant.passed first is);
+      few = omega (arith, low, there, same, c.time_out.ensures.one_more);
       capacity = c.time_out.ensures.capacity ∙ c.loop-t.invariant.capacity;
     }
 

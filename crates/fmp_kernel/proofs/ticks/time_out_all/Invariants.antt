@@ -1,4 +1,4 @@
-use Rattle.std.proofs.Common.{◌≡◌, ◌-◌, length, vec_len, vec_capacity}
+use Rattle.std.proofs.Common.{◌≡◌, ◌≤◌, ◌-◌, length, vec_len, vec_capacity}
 use Rattle.fmp_base.specs.States.{places_from, unchanged}
 use Rattle.fmp_base.specs.Ticks.{all_timed_out}
 use Rattle.fmp_kernel.proofs.TickLemmas.{Passed}
@@ -14,6 +14,7 @@ invariant-loop-t l =
       progress : all_timed_out now all ≡ all_timed_out (unchanged l.fn.tables.state) all;
       shape : SameShape l.fn.tables l.tables;
       passed : Passed now (vec_len l.caused);
+      few : vec_len l.caused ≤ length l.fn.tables.system.tasks;
       capacity : vec_capacity l.caused ≡ vec_capacity l.fn.caused;
     }
 
