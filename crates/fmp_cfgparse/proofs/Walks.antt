@@ -149,38 +149,42 @@ module _ (processors : ℕ) where
       let on = both_ok (walk_class c.at place c.apis g) (walk_classes processors more) made_ e in
       classes_made more on.0 made_ known.1 (class_made c.at place c.apis g on.0 (class_inside (name_text c.name)) known.0 h on.1) on.2
 
-  no_rows : {A : Type 0} (P : A → Type 0) → IsTable P []
-  no_rows P = record { count = omega arith; each = tt }
+no_rows : {A : Type 0} (P : A → Type 0) → IsTable P []
+no_rows P = record { count = omega arith; each = tt }
 
-  started : Lies 1 8 processors → IsMaking processors (nothing_made processors)
-  unfolding IsDistinct
-  started lies =
-      record {
-        count = refl;
-        ranges = record {
-          processors = lies;
-          queue_limit = record { least = omega arith; most = omega arith };
-          tasks = no_rows (TaskInRange processors);
-          semaphores = no_rows SemaphoreInRange;
-          flags = no_rows FlagInRange;
-          data_queues = no_rows DataQueueInRange;
-          mailboxes = no_rows MailboxInRange;
-          messages = no_rows MessageInRange;
-          shared_words = omega arith;
-          spin_locks = omega arith;
-          cyclics = no_rows (CyclicInRange processors);
-          interrupts = no_rows (InterruptInRange processors);
-        };
-        queue_limit = refl;
-        tasks = tt;
-        shared_words = tt;
-        cyclics = tt;
-        interrupts = tt;
-        numbers = tt;
-        names = tt;
-        distinct = tt;
-        listed = IsPermutation-refl [];
-      }
+pub nothing_in_range : (processors : ℕ) → Lies 1 8 processors → IsInRange (nothing_made processors).tables
+nothing_in_range processors lies =
+    record {
+      processors = lies;
+      queue_limit = record { least = omega arith; most = omega arith };
+      tasks = no_rows (TaskInRange processors);
+      semaphores = no_rows SemaphoreInRange;
+      flags = no_rows FlagInRange;
+      data_queues = no_rows DataQueueInRange;
+      mailboxes = no_rows MailboxInRange;
+      messages = no_rows MessageInRange;
+      shared_words = omega arith;
+      spin_locks = omega arith;
+      cyclics = no_rows (CyclicInRange processors);
+      interrupts = no_rows (InterruptInRange processors);
+    }
+
+started : (processors : ℕ) → Lies 1 8 processors → IsMaking processors (nothing_made processors)
+unfolding IsDistinct
+started processors lies =
+    record {
+      count = refl;
+      ranges = nothing_in_range processors lies;
+      queue_limit = refl;
+      tasks = tt;
+      shared_words = tt;
+      cyclics = tt;
+      interrupts = tt;
+      numbers = tt;
+      names = tt;
+      distinct = tt;
+      listed = IsPermutation-refl [];
+    }
 
 within : (a : Bool) (r : Result Making Offence) (o : Offence) (g : Making) → (if a then r else Err o) ≡ Ok g → (a ≡ true) × (r ≡ Ok g)
 within true r o g e = (refl, e)
