@@ -15,7 +15,7 @@ use Rattle.fmp_codegen.proofs.Limits.{few-bodies}
 use Rattle.fmp_image.specs.Images.{ImageTables, IsImage}
 use Rattle.fmp_build.specs.Building.{ReadTasks, Builds}
 use Rattle.fmp_build.proofs.CodeWords.{compiled_words}
-use Rattle.fmp_build.proofs.Judged.{few_objects, read_in_range}
+use Rattle.fmp_build.proofs.Judged.{read_keeps}
 use Rattle.fmp_build.proofs.Lawful.{lawful}
 use Rattle.fmp_build.proofs.TextNumbers.{text_words}
 use Rattle.fmp_build.proofs.Walks.{each_enters}
@@ -33,8 +33,8 @@ built_is_image needed verified cfg src i b =
     let c = b.configuration in
     let t = c.making.tables in
     let bodies = b.tasks.bodies in
-    let ranges = read_in_range cfg c in
+    let rules = read_keeps cfg c in
     subst IsImage (sym b.image)
-    (lawful needed t bodies (compiled t bodies) ranges (each_enters bodies c.tokens c.tree c.making c.makes b.entered)
+    (lawful needed t bodies (compiled t bodies) rules (each_enters bodies c.tokens c.tree c.making c.makes b.entered)
     (few-bodies t bodies b.accepted) refl (verified t bodies b.accepted (text_calls src b.tasks))
-    (compiled_words t (few_objects t ranges) bodies (text_words src b.tasks)))
+    (compiled_words t rules.ranges bodies (text_words src b.tasks)))

@@ -7,6 +7,7 @@ use Rattle.std.specs.Str.{bytes_eq}
 use Rattle.std.proofs.lemmas.List.Quantifiers.{position-Some}
 use Rattle.fmp_base.specs.declared.names.Name.{Name}
 use Rattle.fmp_base.specs.Names.{name_text}
+use Rattle.fmp_base.specs.Ranges.{IsInRange}
 use Rattle.fmp_base.specs.Systems.{SystemTables, no_name}
 use Rattle.fmp_tasklang.specs.Scopes.{Scope, NameMeaning, Variable, Object, Unknown, place_of, number_or, object_number, object_names, variable_or, meaning_of, scope_of}
 use Rattle.fmp_tasklang.specs.Trees.{ExpressionTree, number, named, unary, binary, both, either, StatementTree, assign, service_call, if_then, if_else, while, break, continue, return, Block, empty, next, BodyTree}
@@ -14,7 +15,6 @@ use Rattle.fmp_code.specs.declared.instructions.Instruction.{Instruction}
 use Rattle.fmp_code.specs.Instructions.{BodyTables}
 use Rattle.fmp_codegen.specs.Compiling.{compiled}
 use Rattle.fmp_codegen.specs.Scheme.{name_code, expression_code, arguments_code, statement_code, block_code}
-use Rattle.fmp_codegen.specs.Scopes.{HasFewObjects}
 use Rattle.fmp_codegen.specs.Sizes.{expression_size, statement_size, block_size}
 use Rattle.fmp_image.specs.Instructions.{HasWord}
 use Rattle.fmp_build.proofs.TextNumbers.{ExpressionHasWords, StatementHasWords, BlockHasWords, BodyHasWords}
@@ -49,24 +49,24 @@ small_word (Variable place) h = tt
 small_word (Object k) h = record { sfits = omega (arith, h) }
 small_word Unknown h = record { sfits = omega arith }
 
-few_names : (t : SystemTables) → HasFewObjects t → AllByRecursion AreFew (object_names t)
+few_names : (t : SystemTables) → IsInRange t → AllByRecursion AreFew (object_names t)
 few_names t h = (
-  few (λ x. x.name) t.tasks h.tasks,
+  few (λ x. x.name) t.tasks h.tasks.count,
   (
-    few (λ x. x.name) t.semaphores h.semaphores,
+    few (λ x. x.name) t.semaphores h.semaphores.count,
     (
-      few (λ x. x.name) t.flags h.flags,
+      few (λ x. x.name) t.flags h.flags.count,
       (
-        few (λ x. x.name) t.data_queues h.data_queues,
+        few (λ x. x.name) t.data_queues h.data_queues.count,
         (
-          few (λ x. x.name) t.mailboxes h.mailboxes,
+          few (λ x. x.name) t.mailboxes h.mailboxes.count,
           (
-            few (λ x. x.name) t.messages h.messages,
+            few (λ x. x.name) t.messages h.messages.count,
             (
               few (λ x. x.name) t.shared_words h.shared_words,
               (
                 few (λ x. x.name) t.spin_locks h.spin_locks,
-                (few (λ x. x.name) t.cyclics h.cyclics, tt),
+                (few (λ x. x.name) t.cyclics h.cyclics.count, tt),
               ),
             ),
           ),
@@ -146,7 +146,7 @@ module _ (scope : Scope) (few : AllByRecursion AreFew scope.objects) where
 
 -- the code of bodies
 pub compiled_words :
-    (t : SystemTables) → HasFewObjects t → (bodies : List BodyTree) → AllByRecursion BodyHasWords bodies →
+    (t : SystemTables) → IsInRange t → (bodies : List BodyTree) → AllByRecursion BodyHasWords bodies →
     AllByRecursion (λ (b : BodyTables). AllByRecursion HasWord b.instructions) (compiled t bodies)
 compiled_words t few [] h = tt
 compiled_words t few (b ∷ bs) h =

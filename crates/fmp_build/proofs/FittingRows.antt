@@ -4,6 +4,7 @@ use Rattle.std.proofs.lemmas.Bool.{le-leb}
 use Rattle.std.specs.List.{AllByRecursion}
 use Rattle.std.specs.Option.{option_or}
 use Rattle.fmp_base.specs.Names.{name_text}
+use Rattle.fmp_base.specs.Ranges.{Lies, SemaphoreInRange, FlagInRange, DataQueueInRange, MailboxInRange, MessageInRange}
 use Rattle.fmp_base.specs.declared.calls.Service.{Service}
 use Rattle.fmp_base.specs.declared.names.Name.{Name}
 use Rattle.fmp_base.specs.declared.systems.QueueOrder.{QueueOrder}
@@ -20,7 +21,7 @@ use Rattle.fmp_lex.specs.declared.token.TokenKind.TheVariants as kind
 use Rattle.fmp_lex.specs.declared.words.Api.{Api}
 use Rattle.fmp_lex.specs.declared.words.Constant.{Constant}
 use Rattle.fmp_lex.specs.declared.words.Keyword.{Keyword}
-use Rattle.fmp_cfgparse.specs.Ranges.{is_identifier, IsObjectName, Lies, IsTable, IsSemaphore, IsFlag, IsDataQueue, IsMailbox, IsMessage, IsSharedWord, IsSpinLock}
+use Rattle.fmp_cfgparse.specs.Tables.{is_identifier, IsObjectName, SharedWordConfigured}
 use Rattle.fmp_image.specs.Images.{KeepRules}
 use Rattle.fmp_image.specs.Keys.{begins_and_goes_on, is_reserved, is_name}
 use Rattle.fmp_image.specs.Rows.{Frame, RowForm, row, in_range, bit, order_bit, order_of, semaphore_form, flag_form, data_queue_form, mailbox_form, message_form, shared_word_form, spin_lock_form}
@@ -64,15 +65,15 @@ order_small Priority = omega arith
 
 -- ---- rows
 
-pub semaphore_fits : (frame : Frame) (s : SemaphoreConfig) → IsSemaphore s → (row semaphore_form frame).fits s
-semaphore_fits frame s h =
+pub semaphore_fits : (frame : Frame) (s : SemaphoreConfig) → SemaphoreInRange s → IsObjectName s.name → (row semaphore_form frame).fits s
+semaphore_fits frame s h name =
     let small = order_small s.order in
     let most : s.most ≤ 65535 = h.most.most in
     let initial : s.initial ≤ s.most = h.initial in (
-      (name_room s.name h.name, (omega arith, (omega arith, omega arith))),
-      both_true _ _ (object_is_name s.name h.name)
+      (name_room s.name name, (omega arith, (omega arith, omega arith))),
+      both_true _ _ (object_is_name s.name name)
           (both_true _ _ (both_true _ _ (le-leb (order_bit s.order 1) 1 small) (le-leb 1 s.most h.most.least)) (le-leb s.initial s.most initial)),
-      ap₂ (λ n o. record { name = n; order = o; initial = s.initial; most = s.most }) h.name.canonical (order_again s.order),
+      ap₂ (λ n o. record { name = n; order = o; initial = s.initial; most = s.most }) name.canonical (order_again s.order),
     )
 
 flag_attributes : QueueOrder → Bool → Bool → ℕ
@@ -95,25 +96,25 @@ flag_back Priority false true = record { small = omega arith; order = refl; mult
 flag_back Priority true false = record { small = omega arith; order = refl; multiple = refl; clears = refl }
 flag_back Priority true true = record { small = omega arith; order = refl; multiple = refl; clears = refl }
 
-pub flag_fits : (frame : Frame) (f : FlagConfig) → IsFlag f → (row flag_form frame).fits f
+pub flag_fits : (frame : Frame) (f : FlagConfig) → FlagInRange f → IsObjectName f.name → (row flag_form frame).fits f
 unfolding flag_attributes
-flag_fits frame f h =
+flag_fits frame f h name =
     let back = flag_back f.order f.multiple f.clears in
     let small : flag_attributes f.order f.multiple f.clears ≤ 7 = back.small in
     let initial : f.initial ≤ 65535 = h.initial in (
-      (name_room f.name h.name, (omega arith, omega arith)),
-      both_true _ _ (object_is_name f.name h.name) (le-leb (flag_attributes f.order f.multiple f.clears) 7 small),
-      ap₂ (λ n (x : QueueOrder × (Bool × Bool)). record { name = n; order = x.0; multiple = x.1.0; clears = x.1.1; initial = f.initial }) h.name.canonical
+      (name_room f.name name, (omega arith, omega arith)),
+      both_true _ _ (object_is_name f.name name) (le-leb (flag_attributes f.order f.multiple f.clears) 7 small),
+      ap₂ (λ n (x : QueueOrder × (Bool × Bool)). record { name = n; order = x.0; multiple = x.1.0; clears = x.1.1; initial = f.initial }) name.canonical
           (ap₂ (λ a b. (a, b)) back.order (ap₂ (λ a b. (a, b)) back.multiple back.clears)),
     )
 
-pub data_queue_fits : (frame : Frame) (d : DataQueueConfig) → IsDataQueue d → (row data_queue_form frame).fits d
-data_queue_fits frame d h =
+pub data_queue_fits : (frame : Frame) (d : DataQueueConfig) → DataQueueInRange d → IsObjectName d.name → (row data_queue_form frame).fits d
+data_queue_fits frame d h name =
     let small = order_small d.order in
     let capacity : d.capacity ≤ 255 = h.capacity in (
-      (name_room d.name h.name, (omega arith, omega arith)),
-      both_true _ _ (object_is_name d.name h.name) (le-leb (order_bit d.order 1) 1 small),
-      ap₂ (λ n o. record { name = n; order = o; capacity = d.capacity }) h.name.canonical (order_again d.order),
+      (name_room d.name name, (omega arith, omega arith)),
+      both_true _ _ (object_is_name d.name name) (le-leb (order_bit d.order 1) 1 small),
+      ap₂ (λ n o. record { name = n; order = o; capacity = d.capacity }) name.canonical (order_again d.order),
     )
 
 mailbox_attributes : QueueOrder → QueueOrder → ℕ
@@ -131,40 +132,44 @@ mailbox_back Fifo Priority = record { small = omega arith; order = refl; message
 mailbox_back Priority Fifo = record { small = omega arith; order = refl; message_order = refl }
 mailbox_back Priority Priority = record { small = omega arith; order = refl; message_order = refl }
 
-pub mailbox_fits : (frame : Frame) (m : MailboxConfig) → IsMailbox m → (row mailbox_form frame).fits m
+pub mailbox_fits : (frame : Frame) (m : MailboxConfig) → MailboxInRange m → IsObjectName m.name → (row mailbox_form frame).fits m
 unfolding mailbox_attributes
-mailbox_fits frame m h =
+mailbox_fits frame m h name =
     let back = mailbox_back m.order m.message_order in
     let small : mailbox_attributes m.order m.message_order ≤ 3 = back.small in
     let most : m.most ≤ 16 = h.most.most in (
-      (name_room m.name h.name, (omega arith, omega arith)),
-      both_true _ _ (object_is_name m.name h.name)
+      (name_room m.name name, (omega arith, omega arith)),
+      both_true _ _ (object_is_name m.name name)
           (both_true _ _ (le-leb (mailbox_attributes m.order m.message_order) 3 small) (lies_in_range 1 16 m.most h.most)),
-      ap₂ (λ n (x : QueueOrder × QueueOrder). record { name = n; order = x.0; message_order = x.1; most = m.most }) h.name.canonical
+      ap₂ (λ n (x : QueueOrder × QueueOrder). record { name = n; order = x.0; message_order = x.1; most = m.most }) name.canonical
           (ap₂ (λ a b. (a, b)) back.order back.message_order),
     )
 
-pub message_fits : (frame : Frame) (m : MessageConfig) → IsMessage m → (row message_form frame).fits m
-message_fits frame m h =
+pub message_fits : (frame : Frame) (m : MessageConfig) → MessageInRange m → IsObjectName m.name → (row message_form frame).fits m
+message_fits frame m h name =
     let most : m.priority ≤ 16 = h.priority.most in (
-      (name_room m.name h.name, omega arith),
-      both_true _ _ (object_is_name m.name h.name) (lies_in_range 1 16 m.priority h.priority),
-      ap (λ n. record { name = n; priority = m.priority }) h.name.canonical,
+      (name_room m.name name, omega arith),
+      both_true _ _ (object_is_name m.name name) (lies_in_range 1 16 m.priority h.priority),
+      ap (λ n. record { name = n; priority = m.priority }) name.canonical,
     )
 
-pub shared_word_fits : (frame : Frame) (w : SharedWordConfig) → IsSharedWord w → (row shared_word_form frame).fits w
-shared_word_fits frame w h =
-    ((name_room w.name h.name, h.initial), object_is_name w.name h.name, ap (λ n. record { name = n; initial = w.initial }) h.name.canonical)
+pub shared_word_fits : (frame : Frame) (w : SharedWordConfig) → SharedWordConfigured w → IsObjectName w.name → (row shared_word_form frame).fits w
+shared_word_fits frame w h name =
+    ((name_room w.name name, h.initial), object_is_name w.name name, ap (λ n. record { name = n; initial = w.initial }) name.canonical)
 
-pub spin_lock_fits : (frame : Frame) (l : SpinLockConfig) → IsSpinLock l → (row spin_lock_form frame).fits l
-spin_lock_fits frame l h = (name_room l.name h.name, object_is_name l.name h.name, ap (λ n. record { name = n }) h.name.canonical)
+pub spin_lock_fits : (frame : Frame) (l : SpinLockConfig) → IsObjectName l.name → (row spin_lock_form frame).fits l
+spin_lock_fits frame l name = (name_room l.name name, object_is_name l.name name, ap (λ n. record { name = n }) name.canonical)
 
 -- ---- tables
 
-all_map : {A : Type 0} {P Q : A → Type 0} → ((a : A) → P a → Q a) → (rows : List A) → AllByRecursion P rows → AllByRecursion Q rows
-all_map f [] h = tt
-all_map f (a ∷ rows) h = (f a h.0, all_map f rows h.1)
+pub both_all : {A : Type 0} (P Q : A → Type 0) (rows : List A) → AllByRecursion P rows → AllByRecursion Q rows → AllByRecursion (λ a. P a × Q a) rows
+both_all P Q [] p q = tt
+both_all P Q (a ∷ rows) p q = ((p.0, q.0), both_all P Q rows p.1 q.1)
 
-pub table_keeps : {F A : Type 0} (form : RowForm F A) (frame : Frame) {P : A → Type 0} → ((a : A) → P a → (row form frame).fits a) →
-    (rows : List A) → IsTable P rows → KeepRules form frame rows
-table_keeps form frame fits rows h = let count : length rows ≤ 255 = h.count in record { count = omega arith; each = all_map fits rows h.each }
+each_fits : {A : Type 0} {P Q R : A → Type 0} → ((a : A) → P a → Q a → R a) → (rows : List A) → AllByRecursion P rows → AllByRecursion Q rows → AllByRecursion R rows
+each_fits f [] p q = tt
+each_fits f (a ∷ rows) p q = (f a p.0 q.0, each_fits f rows p.1 q.1)
+
+pub table_keeps : {F A : Type 0} (form : RowForm F A) (frame : Frame) {P Q : A → Type 0} → ((a : A) → P a → Q a → (row form frame).fits a) →
+    (rows : List A) → length rows ≤ 255 → AllByRecursion P rows → AllByRecursion Q rows → KeepRules form frame rows
+table_keeps form frame fits rows count p q = record { count = omega arith; each = each_fits fits rows p q }

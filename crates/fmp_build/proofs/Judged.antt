@@ -8,9 +8,9 @@ use Rattle.fmp_lex.specs.declared.fault.BuildFault.TheVariants as build
 use Rattle.fmp_lex.specs.declared.fault.TextFile.{TextFile}
 use Rattle.fmp_lex.specs.declared.token.Token.{Token}
 use Rattle.fmp_cfgparse.specs.Configurations as configuration
-use Rattle.fmp_cfgparse.specs.Ranges.{IsInRange}
+use Rattle.fmp_cfgparse.specs.Tables.{IsConfiguration}
 use Rattle.fmp_cfgparse.specs.Trees.{configuration_view}
-use Rattle.fmp_cfgparse.proofs.Ranges.{made_in_range}
+use Rattle.fmp_cfgparse.proofs.Tables.{made_keeps}
 use Rattle.fmp_tasklang.specs.declared.trees.Program.{Program}
 use Rattle.fmp_tasklang.specs.Reading as tasks
 use Rattle.fmp_tasklang.specs.Trees.{BodyTree}
@@ -18,7 +18,6 @@ use Rattle.fmp_tasklang.specs.Views.{program_view}
 use Rattle.fmp_codegen.specs.declared.entries.EntryUse.{EntryUse}
 use Rattle.fmp_codegen.specs.Compiling.{bodies_offence, IsAccepted, IsCompiled}
 use Rattle.fmp_codegen.specs.Entries.{entries_offence, IsChecked}
-use Rattle.fmp_codegen.specs.Scopes.{HasFewObjects}
 use Rattle.fmp_image.specs.Images.{ImageTables}
 use Rattle.fmp_build.specs.declared.building.Configured.{Configured}
 use Rattle.fmp_build.specs.Building.{ReadConfiguration, ReadTasks, built_image, Builds, IsBuildFault, of_memory, of_configuration, of_tasks, of_bodies, of_entries}
@@ -30,21 +29,8 @@ pub err_is : {T E : Type 0} (P : E → Type 0) (r : Result T E) (x : E) → IsEr
 err_is P (Ok t) x h p = tt
 err_is P (Err y) x h p = subst P (sym h) p
 
-pub few_objects : (t : SystemTables) → IsInRange t → HasFewObjects t
-few_objects t h = record {
-  tasks = h.tasks.count;
-  semaphores = h.semaphores.count;
-  flags = h.flags.count;
-  data_queues = h.data_queues.count;
-  mailboxes = h.mailboxes.count;
-  messages = h.messages.count;
-  shared_words = h.shared_words.count;
-  spin_locks = h.spin_locks.count;
-  cyclics = h.cyclics.count;
-}
-
-pub read_in_range : (cfg : List ℕ) (c : ReadConfiguration cfg) → IsInRange c.making.tables
-read_in_range cfg c = made_in_range cfg c.tokens c.tree c.making c.spelled c.makes
+pub read_keeps : (cfg : List ℕ) (c : ReadConfiguration cfg) → IsConfiguration c.making.tables
+read_keeps cfg c = made_keeps cfg c.tokens c.tree c.making c.spelled c.makes
 
 pub configuration_refused : (cfg src : List ℕ) (f : BuildFault) → configuration.IsRead cfg (Err f) → IsBuildFault cfg src f
 configuration_refused cfg src build.Memory h = of_memory refl

@@ -7,8 +7,9 @@ use Rattle.fmp_base.specs.declared.systems.Entry.{Entry}
 use Rattle.fmp_base.specs.declared.systems.Entry.TheVariants as entry
 use Rattle.fmp_base.specs.declared.systems.InterruptConfig.{InterruptConfig}
 use Rattle.fmp_base.specs.declared.systems.TaskConfig.{TaskConfig}
+use Rattle.fmp_base.specs.Ranges.{IsTable, TaskInRange, CyclicInRange, InterruptInRange}
 use Rattle.fmp_base.specs.Systems.{SystemTables}
-use Rattle.fmp_cfgparse.specs.Ranges.{IsTask, IsCyclic, IsInterrupt, IsInRange}
+use Rattle.fmp_cfgparse.specs.Tables.{IsConfiguration, TaskConfigured, CyclicConfigured, task_name, cyclic_name}
 use Rattle.fmp_tasklang.specs.declared.trees.BodyKind.TheVariants.{Task, Handler}
 use Rattle.fmp_tasklang.specs.Trees.{BodyTree}
 use Rattle.fmp_code.specs.Instructions.{BodyTables}
@@ -26,8 +27,9 @@ use Rattle.fmp_build.specs.Building.{built_entry, built_task, built_cyclic, buil
 use Rattle.fmp_build.proofs.Entering.{Enters, TaskEnters, CyclicEnters, InterruptEnters, EachEnters}
 use Rattle.fmp_build.proofs.BodyRules.{are_bodies}
 use Rattle.fmp_build.proofs.EntryRules.{number, number_below, enters_task, enters_handler}
-use Rattle.fmp_build.proofs.FittingBodies.{task_fits, cyclic_fits, interrupt_fits}
-use Rattle.fmp_build.proofs.FittingRows.{lies_in_range, semaphore_fits, flag_fits, data_queue_fits, mailbox_fits, message_fits, shared_word_fits, spin_lock_fits, table_keeps}
+use Rattle.fmp_build.proofs.FittingBodies.{IsTask, IsCyclic, task_fits, cyclic_fits, interrupt_fits}
+use Rattle.fmp_build.proofs.FittingRows.{lies_in_range, both_all, semaphore_fits, flag_fits, data_queue_fits, mailbox_fits, message_fits, shared_word_fits, spin_lock_fits, table_keeps}
+use Rattle.fmp_build.proofs.NamedRows.{AreNamed, has_names}
 use Rattle.fmp_build.proofs.NewKeys.{keys_new}
 use Rattle.fmp_build.proofs.SameNames.{kept}
 
@@ -52,7 +54,7 @@ module _ (bodies : List BodyTree) (processors : ℕ) (few : length bodies ≤ 25
   cyclic_row c (entry.Body k) ok h = absurd h
 
   interrupt_row :
-      (i : InterruptConfig) (e : Entry) → IsInterrupt processors i → Enters bodies Handler None e →
+      (i : InterruptConfig) (e : Entry) → InterruptInRange processors i → Enters bodies Handler None e →
       (row interrupt_form frame).fits (record i { entry = built_entry bodies e })
   interrupt_row i (entry.Named n) ok h =
       let below = number_below bodies n Handler None h in
@@ -68,24 +70,30 @@ module _ (bodies : List BodyTree) (processors : ℕ) (few : length bodies ≤ 25
   fewer : {A : Type 0} (change : A → A) (rows : List A) → length rows ≤ 255 → length (map change rows) < 256
   fewer change rows h = omega (arith, h, length-map rows change)
 
-  module _ (t : SystemTables) (same : t.processors ≡ processors) where
-    tasks_keep : AllByRecursion (IsTask processors) t.tasks → length t.tasks ≤ 255 → AllByRecursion (TaskEnters bodies) t.tasks → KeepRules task_form frame (map (built_task bodies) t.tasks)
-    tasks_keep ok count enters = record {
-      count = fewer (built_task bodies) t.tasks count;
-      each = each_row (IsTask processors) (TaskEnters bodies) (row task_form frame).fits (built_task bodies) (λ a p q. task_row a a.entry p q) t.tasks ok enters;
-    }
+  tasks_keep : (rows : List TaskConfig) → IsTable (TaskInRange processors) rows → AreNamed task_name rows → AllByRecursion TaskConfigured rows → AllByRecursion (TaskEnters bodies) rows →
+      KeepRules task_form frame (map (built_task bodies) rows)
+  tasks_keep rows h named given enters =
+      let ok = both_all (TaskInRange processors) _ rows h.each (both_all _ TaskConfigured rows named given) in
+      record {
+        count = fewer (built_task bodies) rows h.count;
+        each = each_row (IsTask processors) (TaskEnters bodies) (row task_form frame).fits (built_task bodies) (λ a p q. task_row a a.entry p q) rows ok enters;
+      }
 
-    cyclics_keep : AllByRecursion (IsCyclic processors) t.cyclics → length t.cyclics ≤ 255 → AllByRecursion (CyclicEnters bodies) t.cyclics → KeepRules cyclic_form frame (map (built_cyclic bodies) t.cyclics)
-    cyclics_keep ok count enters = record {
-      count = fewer (built_cyclic bodies) t.cyclics count;
-      each = each_row (IsCyclic processors) (CyclicEnters bodies) (row cyclic_form frame).fits (built_cyclic bodies) (λ a p q. cyclic_row a a.entry p q) t.cyclics ok enters;
-    }
+  cyclics_keep : (rows : List CyclicConfig) → IsTable (CyclicInRange processors) rows → AreNamed cyclic_name rows → AllByRecursion CyclicConfigured rows → AllByRecursion (CyclicEnters bodies) rows →
+      KeepRules cyclic_form frame (map (built_cyclic bodies) rows)
+  cyclics_keep rows h named given enters =
+      let ok = both_all (CyclicInRange processors) _ rows h.each (both_all _ CyclicConfigured rows named given) in
+      record {
+        count = fewer (built_cyclic bodies) rows h.count;
+        each = each_row (IsCyclic processors) (CyclicEnters bodies) (row cyclic_form frame).fits (built_cyclic bodies) (λ a p q. cyclic_row a a.entry p q) rows ok enters;
+      }
 
-    interrupts_keep : AllByRecursion (IsInterrupt processors) t.interrupts → length t.interrupts ≤ 255 → AllByRecursion (InterruptEnters bodies) t.interrupts → KeepRules interrupt_form frame (map (built_interrupt bodies) t.interrupts)
-    interrupts_keep ok count enters = record {
-      count = fewer (built_interrupt bodies) t.interrupts count;
-      each = each_row (IsInterrupt processors) (InterruptEnters bodies) (row interrupt_form frame).fits (built_interrupt bodies) (λ a p q. interrupt_row a a.entry p q) t.interrupts ok enters;
-    }
+  interrupts_keep : (rows : List InterruptConfig) → IsTable (InterruptInRange processors) rows → AllByRecursion (InterruptEnters bodies) rows →
+      KeepRules interrupt_form frame (map (built_interrupt bodies) rows)
+  interrupts_keep rows h enters = record {
+    count = fewer (built_interrupt bodies) rows h.count;
+    each = each_row (InterruptInRange processors) (InterruptEnters bodies) (row interrupt_form frame).fits (built_interrupt bodies) (λ a p q. interrupt_row a a.entry p q) rows h.each enters;
+  }
 
 keys_kept : (bodies : List BodyTree) (t : SystemTables) → keys_of (built_tables bodies t) ≡ keys_of t
 keys_kept bodies t =
@@ -96,29 +104,31 @@ keys_kept bodies t =
 
 pub lawful :
     ((body : BodyTree) → codegen.greatest (body_depths body) ≡ body_depth body) →
-    (t : SystemTables) (bodies : List BodyTree) (code : List BodyTables) → IsInRange t → EachEnters bodies t → length bodies ≤ 255 →
+    (t : SystemTables) (bodies : List BodyTree) (code : List BodyTables) → IsConfiguration t → EachEnters bodies t → length bodies ≤ 255 →
     code ≡ compiled t bodies → Verified code → AllByRecursion (λ (b : BodyTables). AllByRecursion HasWord b.instructions) code →
     IsImage (image_tables (built_tables bodies t) (built_heads bodies) code)
 lawful needed t bodies code h enters few is verified words =
     let p = t.processors in
-    let small : p ≤ 8 = h.processors.most in
+    let r = h.ranges in
+    let n = has_names t h.names in
+    let small : p ≤ 8 = r.processors.most in
     let frame = frame_of p (built_heads bodies) in
     let many : length code ≡ length (compiled t bodies) = ap length is in
     record {
-      processors = lies_in_range 1 8 p h.processors;
+      processors = lies_in_range 1 8 p r.processors;
       queue_limit = h.queue_limit;
       count = omega (arith, few, many, length-map bodies (compiled_body t));
       bodies = are_bodies needed t bodies code is verified words;
-      tasks = tasks_keep bodies p few small t refl h.tasks.each h.tasks.count enters.tasks;
-      semaphores = table_keeps semaphore_form frame (semaphore_fits frame) t.semaphores h.semaphores;
-      flags = table_keeps flag_form frame (flag_fits frame) t.flags h.flags;
-      data_queues = table_keeps data_queue_form frame (data_queue_fits frame) t.data_queues h.data_queues;
-      mailboxes = table_keeps mailbox_form frame (mailbox_fits frame) t.mailboxes h.mailboxes;
-      messages = table_keeps message_form frame (message_fits frame) t.messages h.messages;
-      shared_words = table_keeps shared_word_form frame (shared_word_fits frame) t.shared_words h.shared_words;
-      spin_locks = table_keeps spin_lock_form frame (spin_lock_fits frame) t.spin_locks h.spin_locks;
-      cyclics = cyclics_keep bodies p few small t refl h.cyclics.each h.cyclics.count enters.cyclics;
-      interrupts = interrupts_keep bodies p few small t refl h.interrupts.each h.interrupts.count enters.interrupts;
+      tasks = tasks_keep bodies p few small t.tasks r.tasks n.tasks h.tasks enters.tasks;
+      semaphores = table_keeps semaphore_form frame (semaphore_fits frame) t.semaphores r.semaphores.count r.semaphores.each n.semaphores;
+      flags = table_keeps flag_form frame (flag_fits frame) t.flags r.flags.count r.flags.each n.flags;
+      data_queues = table_keeps data_queue_form frame (data_queue_fits frame) t.data_queues r.data_queues.count r.data_queues.each n.data_queues;
+      mailboxes = table_keeps mailbox_form frame (mailbox_fits frame) t.mailboxes r.mailboxes.count r.mailboxes.each n.mailboxes;
+      messages = table_keeps message_form frame (message_fits frame) t.messages r.messages.count r.messages.each n.messages;
+      shared_words = table_keeps shared_word_form frame (shared_word_fits frame) t.shared_words r.shared_words h.shared_words n.shared_words;
+      spin_locks = table_keeps spin_lock_form frame (λ l name same. spin_lock_fits frame l name) t.spin_locks r.spin_locks n.spin_locks n.spin_locks;
+      cyclics = cyclics_keep bodies p few small t.cyclics r.cyclics n.cyclics h.cyclics enters.cyclics;
+      interrupts = interrupts_keep bodies p few small t.interrupts r.interrupts enters.interrupts;
       once = ap (are_new []) (keys_kept bodies t) ∙ keys_new t h;
     }
 

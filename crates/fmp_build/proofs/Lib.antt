@@ -7,6 +7,7 @@ mod FittingBodies
 mod FittingRows
 mod Judged
 mod Lawful
+mod NamedRows
 mod NewKeys
 mod OneAnswer
 mod RowLoops

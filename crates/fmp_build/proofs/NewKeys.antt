@@ -5,7 +5,7 @@ use Rattle.std.proofs.lemmas.List.Folds.{list_any-append}
 use Rattle.std.specs.List.{AllByRecursion, IsDistinct}
 use Rattle.fmp_base.specs.declared.names.Name.{Name}
 use Rattle.fmp_base.specs.Systems.{SystemTables}
-use Rattle.fmp_cfgparse.specs.Ranges.{same_name, object_names, interrupt_number, task_name, semaphore_name, flag_name, data_queue_name, mailbox_name, message_name, shared_word_name, spin_lock_name, cyclic_name, IsInRange}
+use Rattle.fmp_cfgparse.specs.Tables.{same_name, object_names, interrupt_number, task_name, semaphore_name, flag_name, data_queue_name, mailbox_name, message_name, shared_word_name, spin_lock_name, cyclic_name, IsConfiguration}
 use Rattle.fmp_cfgparse.proofs.OneMore.{name_flip}
 use Rattle.fmp_image.specs.declared.keys.Key.{Key}
 use Rattle.fmp_image.specs.declared.keys.Key.TheVariants as key
@@ -91,6 +91,6 @@ keys_are t =
     (ap (λ numbers. map (λ c. key.Name (cyclic_name c)) t.cyclics ++ numbers) (keys_numbers interrupt_number t.interrupts)
     ∙ keys_last cyclic_name t.cyclics (map key.Interrupt (map interrupt_number t.interrupts))))))))))
 
-pub keys_new : (t : SystemTables) → IsInRange t → are_new [] (keys_of t) ≡ true
+pub keys_new : (t : SystemTables) → IsConfiguration t → are_new [] (keys_of t) ≡ true
 keys_new t h =
-    rw (keys_are t) (distinct_new [] _ (keys_differ (object_names t) (map interrupt_number t.interrupts) h.names h.numbers) (all_free _))
+    rw (keys_are t) (distinct_new [] _ (keys_differ (object_names t) (map interrupt_number t.interrupts) h.distinct h.numbers) (all_free _))

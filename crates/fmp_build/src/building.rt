@@ -3,7 +3,7 @@ ghost use Rattle.std.specs.List.{AllByRecursion};
 ghost use Rattle.fmp_base.specs.Systems.{tables_of};
 ghost use Rattle.fmp_cfgparse.specs.Configurations.{offence_fault};
 ghost use Rattle.fmp_cfgparse.specs.Configurations as configuration;
-ghost use Rattle.fmp_cfgparse.specs.Ranges.{IsInRange};
+ghost use Rattle.fmp_cfgparse.specs.Tables.{IsConfiguration};
 ghost use Rattle.fmp_tasklang.specs.Views.{body_view, program_view};
 ghost use Rattle.fmp_code.specs.Instructions.{code_tables};
 ghost use Rattle.fmp_codegen.specs.Compiling.{compiled};
@@ -41,7 +41,7 @@ fn fault_at(tokens: &[Token], at: usize, why: FaultKind) -> BuildFault
 /// Reads a configuration, and carries out its static APIs.
 fn read_configuration(alloc: Global, cfg: &[u8]) -> Result<Configured, BuildFault>
     ensures reads { IfOk result (Reads cfg.now) }
-    ensures ranges { IfOk result (λ c. IsInRange (tables_of c.system)) }
+    ensures rules { IfOk result (λ c. IsConfiguration (tables_of c.system)) }
     ensures refuses { IfErr result (λ f. configuration.IsRead cfg.now (Err f)) }
 {
     match parse(alloc, cfg) {

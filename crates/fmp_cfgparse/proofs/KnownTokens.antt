@@ -20,7 +20,7 @@ use Rattle.fmp_lex.specs.Cutting.{long_symbol, short_symbol, is_followed, number
 use Rattle.fmp_lex.specs.Laws.{IsWord}
 use Rattle.fmp_lex.specs.Reading.{kinds_of}
 use Rattle.fmp_lex.proofs.Names.{reads_words}
-use Rattle.fmp_cfgparse.specs.Ranges.{is_identifier, IsObjectName}
+use Rattle.fmp_cfgparse.specs.Tables.{is_identifier, IsObjectName}
 
 -- what a token can be
 abbrev pub IsKnown : TokenKind → Type 0

@@ -22,7 +22,7 @@ use Rattle.fmp_cfgparse.specs.declared.tree.Item.{Item}
 use Rattle.fmp_cfgparse.specs.declared.tree.Item.TheVariants as item
 use Rattle.fmp_cfgparse.specs.Apis.{gives_name}
 use Rattle.fmp_cfgparse.specs.Grammar.{name_of, plain_item_of, OneItem, MoreItem, OneValue, OnePart, put, Parts, api_parts, OneApi, OneClass, Config}
-use Rattle.fmp_cfgparse.specs.Ranges.{IsObjectName}
+use Rattle.fmp_cfgparse.specs.Tables.{IsObjectName}
 use Rattle.fmp_cfgparse.specs.Trees.{FieldTree, value, name, ApiTree, ClassTree, ConfigurationTree}
 use Rattle.fmp_cfgparse.specs.Values.{item_number, joined, joined_items, number_of, or_zero, field_number, number_at, name_at}
 use Rattle.fmp_cfgparse.proofs.KnownTokens.{IsKnown, IsKnownAt, known_at}

@@ -3,17 +3,19 @@ use Rattle.std.proofs.Common.{◌≡◌, ℕ, ℤ, pos, negsuc, ◌<◌, ◌≤�
 use Rattle.std.proofs.lemmas.Bool.{leb-true, leb-false}
 use Rattle.std.proofs.lemmas.Bool.Decides.{Decides-like, same_from_decides, nat_tests}
 use Rattle.std.proofs.lemmas.List.{map-append}
-use Rattle.std.proofs.lemmas.List.Sorted.{IsPermutation-refl, IsPermutation-append_comm, IsPermutation-append_right}
+use Rattle.std.proofs.lemmas.List.Elements.{All-from_recursion, recursion_from_All}
+use Rattle.std.proofs.lemmas.List.Sorted.{IsPermutation-refl, IsPermutation-append_comm, IsPermutation-append_right, All-permutation}
 use Rattle.std.proofs.lemmas.Map.Keys.{IsDistinct-IsPermutation}
 use Rattle.std.proofs.lemmas.Slice.Eq.{bytes_eq-Decides}
 use Rattle.std.specs.List.{AllByRecursion, IsDistinct}
 use Rattle.std.specs.List.Sorted.{IsPermutation}
 use Rattle.std.specs.Str.{bytes_eq}
 use Rattle.fmp_base.specs.Names.{name_text}
+use Rattle.fmp_base.specs.Ranges.{Lies, IsTable}
 use Rattle.fmp_base.specs.declared.names.Name.{Name}
 use Rattle.fmp_base.specs.declared.systems.InterruptConfig.{InterruptConfig}
 use Rattle.fmp_cfgparse.specs.Apis.{is_used, is_defined}
-use Rattle.fmp_cfgparse.specs.Ranges.{Lies, IsTable, same_name, interrupt_number}
+use Rattle.fmp_cfgparse.specs.Tables.{IsObjectName, same_name, interrupt_number}
 use Rattle.fmp_cfgparse.specs.Values.{between, held}
 
 pub both : (a b : Bool) → (a && b) ≡ true → (a ≡ true) × (b ≡ true)
@@ -37,14 +39,17 @@ held_lies most low high (pos n) fits e =
     rw is_held (record { least = least; most = top })
 held_lies most low high (negsuc n) fits e = cc
 
-all_more : {A : Type 0} (P : A → Type 0) (xs : List A) (x : A) → AllByRecursion P xs → P x → AllByRecursion P (xs ++ x ∷ [])
+pub all_more : {A : Type 0} (P : A → Type 0) (xs : List A) (x : A) → AllByRecursion P xs → P x → AllByRecursion P (xs ++ x ∷ [])
 all_more P [] x h p = (p, tt)
 all_more P (y ∷ ys) x h p = (h.0, all_more P ys x h.1 p)
 
-pub row_more : {A : Type 0} (P : A → Type 0) (rows : List A) (row : A) → IsTable P rows → nat_le 255 (length rows) ≡ false → P row → IsTable P (rows ++ row ∷ [])
-row_more P rows row h room p =
+pub count_more : {A : Type 0} (rows : List A) (row : A) → nat_le 255 (length rows) ≡ false → length (rows ++ row ∷ []) ≤ 255
+count_more rows row room =
     let below : length rows < 255 = leb-false 255 (length rows) room in
-    record { count = omega (arith, length-append rows (row ∷ [])); each = all_more P rows row h.each p }
+    omega (arith, length-append rows (row ∷ []))
+
+pub row_more : {A : Type 0} (P : A → Type 0) (rows : List A) (row : A) → IsTable P rows → nat_le 255 (length rows) ≡ false → P row → IsTable P (rows ++ row ∷ [])
+row_more P rows row h room p = record { count = count_more rows row room; each = all_more P rows row h.each p }
 
 -- what differs from all others is one more that differs
 distinct_more : {A : Type 0} (same : A → A → Bool) (xs : List A) (x : A) → IsDistinct same xs → AllByRecursion (λ y. same y x ≡ false) xs → IsDistinct same (xs ++ x ∷ [])
@@ -70,6 +75,10 @@ name_more names n h unused = distinct_more same_name names n h (unused_differs n
 
 pub listed_distinct : (names listed : List Name) → IsPermutation names listed → IsDistinct same_name names → IsDistinct same_name listed
 listed_distinct names listed moved h = IsDistinct-IsPermutation same_name name_flip names listed moved h
+
+pub listed_named : (names listed : List Name) → IsPermutation names listed → AllByRecursion IsObjectName names → AllByRecursion IsObjectName listed
+listed_named names listed moved h =
+    recursion_from_All IsObjectName listed (All-permutation IsObjectName names listed moved (All-from_recursion IsObjectName names h))
 
 -- one more row of the first table of those that follow
 pub name_here : {A : Type 0} (f : A → Name) (rows : List A) (row : A) (rest : List Name) → IsPermutation ((map f rows ++ rest) ++ f row ∷ []) (map f (rows ++ row ∷ []) ++ rest)

@@ -1,5 +1,5 @@
 -- What holds of the configuration: a list of tokens spells at most one tree, a text has at most one answer, and
--- what it describes is in range.
+-- what it describes keeps the rules of a configuration, so that it is in range.
 use Rattle.std.specs.Prelude.{◌≡◌, ℕ, List}
 use Rattle.fmp_base.specs.declared.systems.System.{System}
 use Rattle.fmp_base.specs.Systems.{tables_of}
@@ -8,7 +8,7 @@ use Rattle.fmp_lex.specs.declared.token.TokenKind.{TokenKind}
 use Rattle.fmp_lex.specs.Reading.{IsWhole}
 use Rattle.fmp_cfgparse.specs.Configurations.{Describes, IsFault}
 use Rattle.fmp_cfgparse.specs.Grammar.{Config}
-use Rattle.fmp_cfgparse.specs.Ranges.{IsInRange}
+use Rattle.fmp_cfgparse.specs.Tables.{IsConfiguration}
 use Rattle.fmp_cfgparse.specs.Trees.{ConfigurationTree}
 
 abbrev pub SpellsOneTree : Type 0
@@ -20,6 +20,6 @@ pub record HasOneAnswer (text : List ℕ) : Type 0 where
   pub one_fault : (f g : BuildFault) → IsFault text f → IsFault text g → f ≡ g
   pub not_both : (s : System) (f : BuildFault) → Describes text s → IsFault text f → ⊥
 
--- the tables of what a text describes are in range
+-- the tables of what a text describes keep the rules of a configuration
 abbrev pub DescribesInRange : Type 0
-DescribesInRange = (text : List ℕ) (system : System) → Describes text system → IsInRange (tables_of system)
+DescribesInRange = (text : List ℕ) (system : System) → Describes text system → IsConfiguration (tables_of system)

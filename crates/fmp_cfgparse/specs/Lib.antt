@@ -5,8 +5,8 @@ pub mod Grammar
 pub mod Laws
 pub mod Making
 pub mod Parsing
-pub mod Ranges
 pub mod Reading
+pub mod Tables
 pub mod Trees
 pub mod UsedNames
 pub mod Values

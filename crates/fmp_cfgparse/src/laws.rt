@@ -12,8 +12,8 @@ pub fn a_text_has_one_answer()
     ensures { (text : List ℕ) → HasOneAnswer text }
 {}
 
-/// The tables of a system that a text describes are in range: counts, priorities, sizes and processors lie within their
-/// limits, and no name and no interrupt number stands twice.
+/// The tables of a system that a text describes keep the rules of a configuration: they are in range, each name is an
+/// identifier that is no word of the texts, entries are given by names, and no name and no interrupt number stands twice.
 pub fn what_is_described_is_in_range()
     ensures { DescribesInRange }
 {}

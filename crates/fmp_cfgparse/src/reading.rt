@@ -1,7 +1,7 @@
 ghost use Rattle.std.specs.Prelude.{◌≡◌, slice_get, IfOk};
 ghost use Rattle.fmp_base.specs.Systems.{tables_of};
 ghost use Rattle.fmp_cfgparse.specs.Configurations.{IsRead, line_of, offence_fault};
-ghost use Rattle.fmp_cfgparse.specs.Ranges.{IsInRange};
+ghost use Rattle.fmp_cfgparse.specs.Tables.{IsConfiguration};
 
 use crate::configuring::configure;
 use crate::objects::Stop;
@@ -34,7 +34,7 @@ fn fault_at(tokens: &[Token], at: usize, why: FaultKind) -> BuildFault
 /// The tables of the system are in range, and no name and no interrupt number stands twice.
 pub fn read_cfg(alloc: Global, text: &[u8]) -> Result<System, BuildFault>
     ensures read { IsRead text.now result }
-    ensures ranges { IfOk result (λ system. IsInRange (tables_of system)) }
+    ensures rules { IfOk result (λ system. IsConfiguration (tables_of system)) }
 {
     match parse(alloc, text) {
         Ok(parsed) => match configure(alloc, &parsed.tree) {

@@ -2,6 +2,7 @@
 
 ghost use Rattle.std.specs.Prelude.{◌≡◌, ◌+◌, ◌≤◌, ◌++◌, ◌∷◌, [], map, length, IfOk, OnOk, IfNone};
 ghost use Rattle.std.specs.List.{AllByRecursion};
+ghost use Rattle.fmp_base.specs.Ranges.{IsInRange};
 ghost use Rattle.fmp_base.specs.Systems.{tables_of};
 ghost use Rattle.fmp_tasklang.specs.Scopes.{exinf_name};
 ghost use Rattle.fmp_tasklang.specs.Views.{body_view, program_view};
@@ -12,7 +13,6 @@ ghost use Rattle.fmp_codegen.specs.Compiling as spec;
 ghost use Rattle.fmp_codegen.specs.Compiling.{compiled_body, IsCompiled};
 ghost use Rattle.fmp_codegen.specs.Depths.{body_depth};
 ghost use Rattle.fmp_codegen.specs.Laws.{DoesText};
-ghost use Rattle.fmp_codegen.specs.Scopes.{HasFewObjects};
 ghost use Rattle.fmp_codegen.specs.Sizes.{body_size};
 
 use crate::emission::{Output, emit_block, put};
@@ -45,7 +45,7 @@ pub fn append<T: Drop>(list: &mut Vec<T>, item: T) -> Result<(), AllocError>
 
 /// The first fault of the declared variables of a body: the 65th local, or a name of another variable or of an object.
 fn variables_offence(system: &System, variables: &[Word]) -> Option<Offence>
-    requires { HasFewObjects (tables_of system.now) }
+    requires { IsInRange (tables_of system.now) }
     ensures first { result ≡ spec.variables_offence (tables_of system.now) (exinf_name ∷ []) variables.now }
     ensures few { IfNone result (length variables.now ≤ 63) }
 {
@@ -88,7 +88,7 @@ fn size_offence(body: &Body) -> Option<Offence>
 
 /// The first fault of a body, after these bodies.
 fn body_offence(system: &System, earlier: &[Body], body: &Body) -> Option<Offence>
-    requires { HasFewObjects (tables_of system.now) }
+    requires { IsInRange (tables_of system.now) }
     ensures first { result ≡ spec.body_offence (tables_of system.now) (map (λ b. b.name.name) earlier.now) (body_view body.now) }
     ensures variables { IfNone result (length body.now.variables.items ≤ 63) }
     ensures small { IfNone result (body_size (body_view body.now) ≤ 65535) }
@@ -121,7 +121,7 @@ fn body_offence(system: &System, earlier: &[Body], body: &Body) -> Option<Offenc
 
 /// The code of a body that has no fault.
 fn compile_body(alloc: Global, system: &System, body: &Body) -> Result<BodyCode, AllocError>
-    requires objects { HasFewObjects (tables_of system.now) }
+    requires system { IsInRange (tables_of system.now) }
     requires variables { length body.now.variables.items ≤ 63 }
     requires small { body_size (body_view body.now) ≤ 65535 }
     requires low { body_depth (body_view body.now) ≤ 64 }
@@ -153,7 +153,7 @@ fn compile_body(alloc: Global, system: &System, body: &Body) -> Result<BodyCode,
 /// the name of another variable, of `exinf` or of an object; `UnknownName` for a name that is neither a variable nor
 /// an object, or is no variable where it is written.
 pub fn compile(alloc: Global, program: &Program, system: &System) -> Result<Code, BuildFault>
-    requires { HasFewObjects (tables_of system.now) }
+    requires { IsInRange (tables_of system.now) }
     ensures compiled { IsCompiled (tables_of system.now) (program_view program.now) result }
     ensures tied { IfOk result (λ code. DoesText (tables_of system.now) (program_view program.now) (code_tables code)) }
     ensures verified { CallsFit (program_view program.now) → IfOk result (λ code. Verified (code_tables code)) }

@@ -3,11 +3,12 @@
 ghost use Rattle.std.specs.Prelude.{◌≡◌, ◌+◌, ◌<◌, ◌≤◌, ◌↔◌, IsTrue, ℕ, List, Option, Some, None, map, length, IfSome, IfNone, is_some};
 ghost use Rattle.std.specs.Str.{bytes_eq};
 ghost use Rattle.fmp_base.specs.Names.{name_text};
+ghost use Rattle.fmp_base.specs.Ranges.{IsInRange};
 ghost use Rattle.fmp_base.specs.Systems.{tables_of};
 ghost use Rattle.fmp_tasklang.specs.Scopes.{exinf_name, meaning_of, object_names, object_number, place_of};
 ghost use Rattle.fmp_codegen.specs.Compiling as spec;
 ghost use Rattle.fmp_codegen.specs.Naming.{Reads, Writes, use_offence};
-ghost use Rattle.fmp_codegen.specs.Scopes.{HasFewObjects, IsHeld, meaning_view, scope_view};
+ghost use Rattle.fmp_codegen.specs.Scopes.{IsHeld, meaning_view, scope_view};
 
 use crate::offences::Offence;
 use fmp_base::{
@@ -140,7 +141,7 @@ fn numbered(place: usize) -> u8
 
 /// The number of the object of a name, in the first table that has it.
 fn object_in(system: &System, name: &Name) -> Meaning
-    requires { HasFewObjects (tables_of system.now) }
+    requires { IsInRange (tables_of system.now) }
     ensures { meaning_view result ≡ object_number (name_text name.now) (object_names (tables_of system.now)) }
 {
     if let Some(place) = place_in(&system.tasks, name) {
@@ -199,7 +200,7 @@ pub fn is_exinf(name: &Name) -> bool
 
 /// Whether some object has this name.
 pub fn is_object(system: &System, name: &Name) -> bool
-    requires { HasFewObjects (tables_of system.now) }
+    requires { IsInRange (tables_of system.now) }
     ensures { result ≡ spec.is_object (tables_of system.now) name.now }
 {
     match object_in(system, name) {

@@ -1,7 +1,9 @@
 pub mod BodyLaws
 pub mod Chains
+pub mod Entries
 pub mod FieldLaws
 pub mod ImageLaws
+pub mod InRange
 pub mod InstructionLaws
 pub mod Names
 pub mod PairLaws

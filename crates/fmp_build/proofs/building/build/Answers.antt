@@ -2,11 +2,11 @@ use Rattle.std.proofs.Common.{refl}
 use Rattle.fmp_base.specs.Systems.{tables_of}
 use Rattle.fmp_tasklang.specs.Views.{program_view}
 use Rattle.fmp_build.specs.Building.{IsBuildFault, built_image}
-use Rattle.fmp_build.proofs.Judged.{err_is, few_objects, bodies_refused, collected, entries_refused, builds}
+use Rattle.fmp_build.proofs.Judged.{err_is, bodies_refused, collected, entries_refused, builds}
 use Rattle.fmp_build.proofs.building.build.Goals as goal
 
 pub compile-requires : goal.compile-requires
-compile-requires c = few_objects (tables_of c.in_ok-configured.configured.system) c.in_ok-configured.ensures.ranges
+compile-requires c = c.in_ok-configured.ensures.rules.ranges
 
 pub returns-in_err-code-clause-refuses : goal.returns-in_err-code-clause-refuses
 returns-in_err-code-clause-refuses c =

@@ -4,7 +4,7 @@ use Rattle.fmp_lex.specs.declared.fault.BuildFault.TheVariants as build
 use Rattle.fmp_cfgparse.specs.Configurations.{IsOffence, IsRead}
 use Rattle.fmp_cfgparse.specs.Making.{making_of}
 use Rattle.fmp_cfgparse.specs.Trees.{configuration_view}
-use Rattle.fmp_cfgparse.proofs.Ranges.{made_in_range}
+use Rattle.fmp_cfgparse.proofs.Tables.{made_keeps}
 use Rattle.fmp_build.proofs.building.read_configuration.Goals as goal
 
 is_read : (text : List ℕ) (f : BuildFault) → IsOffence text f → IsRead text (Err f)
@@ -38,7 +38,7 @@ returns-in-Ok-clause-refuses c =
       is,
     )
 
-pub returns-in-Ok-configure-clause-ranges : goal.returns-in-Ok-configure-clause-ranges
-returns-in-Ok-configure-clause-ranges c =
-    made_in_range c.args.cfg.now c.in-Ok.parsed.list.tokens.items (configuration_view c.in-Ok.parsed.tree) (making_of c.in-Ok-configure.making)
+pub returns-in-Ok-configure-clause-rules : goal.returns-in-Ok-configure-clause-rules
+returns-in-Ok-configure-clause-rules c =
+    made_keeps c.args.cfg.now c.in-Ok.parsed.list.tokens.items (configuration_view c.in-Ok.parsed.tree) (making_of c.in-Ok-configure.making)
     c.in-Ok.ensures c.in-Ok-configure.ensures

@@ -4,7 +4,7 @@ use Rattle.fmp_lex.specs.declared.fault.BuildFault.TheVariants as build
 use Rattle.fmp_cfgparse.specs.Configurations.{IsOffence, IsRead}
 use Rattle.fmp_cfgparse.specs.Making.{making_of}
 use Rattle.fmp_cfgparse.specs.Trees.{configuration_view}
-use Rattle.fmp_cfgparse.proofs.Ranges.{described_in_range}
+use Rattle.fmp_cfgparse.proofs.Tables.{described_keeps}
 use Rattle.fmp_cfgparse.proofs.reading.read_cfg.Goals as goal
 
 is_read : (text : List ℕ) (f : BuildFault) → IsOffence text f → IsRead text (Err f)
@@ -24,9 +24,9 @@ returns-in-Ok-clause-read c =
       is,
     )
 
-pub returns-in-Ok-configure-clause-ranges : goal.returns-in-Ok-configure-clause-ranges
-returns-in-Ok-configure-clause-ranges c =
-    described_in_range c.args.text.now c.in-Ok-configure.making.system (
+pub returns-in-Ok-configure-clause-rules : goal.returns-in-Ok-configure-clause-rules
+returns-in-Ok-configure-clause-rules c =
+    described_keeps c.args.text.now c.in-Ok-configure.making.system (
       c.in-Ok.parsed.list.tokens.items,
       configuration_view c.in-Ok.parsed.tree,
       c.in-Ok.ensures,

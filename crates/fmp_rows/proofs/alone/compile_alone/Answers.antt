@@ -1,9 +1,15 @@
-use Rattle.std.proofs.Common.{refl, subst}
+use Rattle.std.proofs.Common.{arith, refl, subst, sym}
+use Rattle.fmp_base.specs.Ranges.{IsInRange}
 use Rattle.fmp_base.specs.Systems.{SystemTables}
+use Rattle.fmp_cfgparse.proofs.Walks.{nothing_in_range}
 use Rattle.fmp_codegen.specs.Compiling.{IsCompiled}
 use Rattle.fmp_tasklang.specs.Views.{program_view}
 use Rattle.fmp_rows.specs.Alone.{of_bodies, of_syntax}
 use Rattle.fmp_rows.proofs.alone.compile_alone.Goals as goal
+
+pub compile-requires : goal.compile-requires
+compile-requires c =
+    subst IsInRange (sym c.without_objects-system.ensures) (nothing_in_range 1 (record { least = omega arith; most = omega arith }))
 
 pub returns-in-Err : goal.returns-in-Err
 returns-in-Err c = of_syntax c.in-Err.fault refl c.in-Err.ensures.read

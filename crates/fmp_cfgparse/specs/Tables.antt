@@ -1,5 +1,5 @@
--- The ranges of the tables that a configuration describes.
-use Rattle.std.specs.Prelude.{◌≡◌, ℕ, ◌<◌, ◌≤◌, FitsSigned, List, [], ◌∷◌, ◌++◌, length, map, None, Bool, true, false, ◌&&◌, nat_eq}
+-- The tables that a configuration describes: the names of their objects, and the rules that they keep.
+use Rattle.std.specs.Prelude.{◌≡◌, ℕ, ◌≤◌, FitsSigned, List, [], ◌∷◌, ◌++◌, length, map, None, Bool, true, false, ◌&&◌, nat_eq}
 use Rattle.std.specs.Int.{w32}
 use Rattle.std.specs.List.{AllByRecursion, IsDistinct, list_all}
 use Rattle.std.specs.Str.{bytes_eq}
@@ -17,6 +17,7 @@ use Rattle.fmp_base.specs.declared.systems.SpinLockConfig.{SpinLockConfig}
 use Rattle.fmp_base.specs.declared.systems.CyclicConfig.{CyclicConfig}
 use Rattle.fmp_base.specs.declared.systems.InterruptConfig.{InterruptConfig}
 use Rattle.fmp_base.specs.Names.{name_text, name_from}
+use Rattle.fmp_base.specs.Ranges.{IsInRange}
 use Rattle.fmp_base.specs.Systems.{SystemTables}
 use Rattle.fmp_lex.specs.Cutting.{word_kind}
 use Rattle.fmp_lex.specs.Scanning.{is_letter, is_word}
@@ -33,71 +34,25 @@ pub record IsObjectName (n : Name) : Type 0 where
   pub identifier : is_identifier (name_text n) ≡ true
   pub unreserved : word_kind (name_text n) ≡ None
 
--- the number lies between these two, both included
-pub record Lies (low high n : ℕ) : Type 0 where
-  pub least : low ≤ n
-  pub most : n ≤ high
-
 -- an entry that is given by a name
 abbrev pub IsNamed : Entry → Type 0
 IsNamed (entry.Named n) = Unit {0}
 IsNamed (entry.Body b) = ⊥
 
--- an object of each kind, where there are so many processors
-pub record IsTask (processors : ℕ) (t : TaskConfig) : Type 0 where
-  pub name : IsObjectName t.name
+-- what an object of a kind has beside its name and its ranges: words of 32 bits, and the name of its body
+pub record TaskConfigured (t : TaskConfig) : Type 0 where
   pub exinf : FitsSigned w32 t.exinf
   pub entry : IsNamed t.entry
-  pub priority : Lies 1 16 t.priority
-  pub stack : Lies 1 65536 t.stack
-  pub processor : t.processor < processors
 
-pub record IsSemaphore (s : SemaphoreConfig) : Type 0 where
-  pub name : IsObjectName s.name
-  pub initial : s.initial ≤ s.most
-  pub most : Lies 1 65535 s.most
-
-pub record IsFlag (f : FlagConfig) : Type 0 where
-  pub name : IsObjectName f.name
-  pub initial : f.initial ≤ 65535
-
-pub record IsDataQueue (d : DataQueueConfig) : Type 0 where
-  pub name : IsObjectName d.name
-  pub capacity : d.capacity ≤ 255
-
-pub record IsMailbox (m : MailboxConfig) : Type 0 where
-  pub name : IsObjectName m.name
-  pub most : Lies 1 16 m.most
-
-pub record IsMessage (m : MessageConfig) : Type 0 where
-  pub name : IsObjectName m.name
-  pub priority : Lies 1 16 m.priority
-
-pub record IsSharedWord (w : SharedWordConfig) : Type 0 where
-  pub name : IsObjectName w.name
+pub record SharedWordConfigured (w : SharedWordConfig) : Type 0 where
   pub initial : FitsSigned w32 w.initial
 
-pub record IsSpinLock (l : SpinLockConfig) : Type 0 where
-  pub name : IsObjectName l.name
-
--- 2^30 is 1073741824
-pub record IsCyclic (processors : ℕ) (c : CyclicConfig) : Type 0 where
-  pub name : IsObjectName c.name
+pub record CyclicConfigured (c : CyclicConfig) : Type 0 where
   pub exinf : FitsSigned w32 c.exinf
   pub entry : IsNamed c.entry
-  pub period : Lies 1 1073741824 c.period
-  pub phase : c.phase ≤ 1073741824
-  pub processor : c.processor < processors
 
-pub record IsInterrupt (processors : ℕ) (i : InterruptConfig) : Type 0 where
-  pub number : Lies 1 32 i.number
+pub record InterruptConfigured (i : InterruptConfig) : Type 0 where
   pub entry : IsNamed i.entry
-  pub processor : i.processor < processors
-
--- a table of at most 255 such objects
-pub record IsTable {A : Type 0} (P : A → Type 0) (rows : List A) : Type 0 where
-  pub count : length rows ≤ 255
-  pub each : AllByRecursion P rows
 
 -- the names of all objects, table after table
 abbrev pub task_name : TaskConfig → Name
@@ -140,19 +95,15 @@ interrupt_number i = i.number
 abbrev pub same_name : Name → Name → Bool
 same_name a b = bytes_eq (name_text a) (name_text b)
 
--- the tables are in range, and no name and no interrupt number stands twice
-pub record IsInRange (t : SystemTables) : Type 0 where
-  pub processors : Lies 1 8 t.processors
+-- The rules of a configuration: its tables are in range, each queue of activations and of wakeups of a task holds one,
+-- and no name and no interrupt number stands twice.
+pub record IsConfiguration (t : SystemTables) : Type 0 where
+  pub ranges : IsInRange t
   pub queue_limit : t.queue_limit ≡ 1
-  pub tasks : IsTable (IsTask t.processors) t.tasks
-  pub semaphores : IsTable IsSemaphore t.semaphores
-  pub flags : IsTable IsFlag t.flags
-  pub data_queues : IsTable IsDataQueue t.data_queues
-  pub mailboxes : IsTable IsMailbox t.mailboxes
-  pub messages : IsTable IsMessage t.messages
-  pub shared_words : IsTable IsSharedWord t.shared_words
-  pub spin_locks : IsTable IsSpinLock t.spin_locks
-  pub cyclics : IsTable (IsCyclic t.processors) t.cyclics
-  pub interrupts : IsTable (IsInterrupt t.processors) t.interrupts
-  pub names : IsDistinct same_name (object_names t)
+  pub names : AllByRecursion IsObjectName (object_names t)
+  pub distinct : IsDistinct same_name (object_names t)
+  pub tasks : AllByRecursion TaskConfigured t.tasks
+  pub shared_words : AllByRecursion SharedWordConfigured t.shared_words
+  pub cyclics : AllByRecursion CyclicConfigured t.cyclics
+  pub interrupts : AllByRecursion InterruptConfigured t.interrupts
   pub numbers : IsDistinct nat_eq (map interrupt_number t.interrupts)
