@@ -1,5 +1,7 @@
 -- Contexts that fit, after one of them is written or read.
-use Rattle.std.proofs.Common.{◌≡◌, ◌<◌, ℕ, zero, suc, List, [], ◌∷◌, Option, Some, None, slice_set, replicate, length, subst, sym, arith}
+use Rattle.std.proofs.Common.{◌≡◌, ◌<◌, ℕ, zero, suc, List, [], ◌∷◌, Option, Some, None, slice_set, replicate, length, subst, sym, ◌∙◌, arith}
+use Rattle.std.proofs.Math.ListN.{length-set}
+use Rattle.std.proofs.lemmas.List.{length-replicate}
 use Rattle.fmp_base.specs.declared.bodies.HandlerContext.{HandlerContext}
 use Rattle.fmp_base.specs.declared.bodies.Held.{Held}
 use Rattle.fmp_base.specs.declared.bodies.Held.TheVariants.{Goes}
@@ -65,6 +67,10 @@ fitting_nothing {has_entry} {is_context} {body} {sys} n m =
       tasks = AllContexts-nothing (λ t. OfHeld (is_context body (task_body sys t))) n;
       handlers = AllContexts-nothing (λ p. HandlerFits has_entry is_context body) m;
     }
+
+pub places_of_nothing : {C : Type 0} {sys : SystemTables} (n m : ℕ) → n ≡ length sys.tasks → m ≡ sys.processors
+    → HasPlaces {C = Held C} sys (record { tasks = replicate n None; handlers = replicate m None })
+places_of_nothing n m h k = record { tasks = length-replicate _ _ ∙ h; handlers = length-replicate _ _ ∙ k }
 
 pub fitting_task : {B C : Type 0} {has_entry : B → ℕ → Type 0} {is_context : B → ℕ → C → Type 0} {body : B} {sys : SystemTables}
     (cs : Contexts (Held C)) (t : ℕ) (c : Option (Held C)) → Fitting has_entry is_context body sys cs
@@ -137,3 +143,9 @@ pub goes_fits : {B C : Type 0} {has_entry : B → ℕ → Type 0} {is_context : 
     → context_of cs p who ≡ Some (Goes c) → is_context body (caller_body sys cs p who) c
 goes_fits {C = C} {is_context = is_context} {body} {sys} cs p who c h e =
     subst (λ (o : Option (Held C)). OfOption (OfHeld (is_context body (caller_body sys cs p who))) o) e (fits_of cs p who h)
+
+-- the places stay, whatever is kept
+pub places_set : {C : Type 0} {sys : SystemTables} (cs : Contexts (Held C)) (p : ℕ) (who : Caller) (c : Option (Held C))
+    → HasPlaces sys cs → HasPlaces sys (with_context cs p who c)
+places_set cs p (caller.Task t) c h = record { tasks = length-set _ _ _ ∙ h.tasks; handlers = h.handlers }
+places_set cs p (caller.Handler i) c h = record { tasks = h.tasks; handlers = length-set _ _ _ ∙ h.handlers }

@@ -2,4 +2,5 @@ mod ContextLemmas
 mod GroupLemmas
 mod PlaceLemmas
 mod RangeLemmas
+mod StepLemmas
 mod TickLemmas

@@ -1,5 +1,5 @@
 //! What events do: the actor of a processor runs, the clock advances, an interrupt is raised.
-ghost use Rattle.std.specs.Prelude.{◌≡◌, ◌+◌, ◌<◌, ◌^◌, ◌∷◌, []};
+ghost use Rattle.std.specs.Prelude.{◌≡◌, ◌+◌, ◌<◌, ◌≤◌, ◌^◌, ◌∷◌, []};
 ghost use Rattle.fmp_base.specs.Calls.{called};
 ghost use Rattle.fmp_base.specs.Meanings.{caller_body, with_context};
 ghost use Rattle.fmp_base.specs.States.{processor_at};
@@ -124,7 +124,7 @@ impl<B: Body> Runner<B> {
 
     /// Processor p runs its actor for a stretch.
     #[tactic(auto, using(crate::proofs::ContextLemmas::has_context, crate::proofs::ContextLemmas::task_of, crate::proofs::ContextLemmas::entry_of, crate::proofs::ContextLemmas::goes_fits))]
-    pub fn run(&mut self, p: u8) -> Effect
+    fn run(&mut self, p: u8) -> Effect
         ensures effect { result ≡ effect_of (run_by self.old.system (B.meaning self.old.body) self.old.bound self.old.world p (actor_of (processor_at self.old.world.state p))) }
         ensures after { done_of self.new ≡ done_or (done_of self.old) (run_by self.old.system (B.meaning self.old.body) self.old.bound self.old.world p (actor_of (processor_at self.old.world.state p))) }
         ensures bodies { SameBodies self.old self.new }
@@ -142,7 +142,7 @@ impl<B: Body> Runner<B> {
     }
 
     /// The clock advances by one.
-    pub fn tick(&mut self)
+    fn tick(&mut self)
         requires { self.old.world.state.clock < 2 ^ 20 }
         ensures after { Did (done_of self.new) ≡ step self.old.system (B.meaning self.old.body) self.old.bound self.old.world Event.Tick }
         ensures bodies { SameBodies self.old self.new }
@@ -157,12 +157,13 @@ impl<B: Body> Runner<B> {
     /// An interrupt, by its number, is raised: its handler becomes pending. Nothing happens where it has none, or it is
     /// pending already.
     #[tactic(auto, using(crate::proofs::RangeLemmas::no_interrupt_beyond))]
-    pub fn interrupt(&mut self, number: u8) -> Effect
+    fn interrupt(&mut self, number: u8) -> Effect
         ensures effect { result ≡ effect_of (step self.old.system (B.meaning self.old.body) self.old.bound self.old.world (Event.Int number)) }
         ensures after { done_of self.new ≡ done_or (done_of self.old) (step self.old.system (B.meaning self.old.body) self.old.bound self.old.world (Event.Int number)) }
         ensures bodies { SameBodies self.old self.new }
         ensures clock { self.new.world.state.clock ≡ self.old.world.state.clock }
     {
+        let tables = &self.tables;
         if number == 0 {
             return Effect::Nothing;
         }
@@ -170,12 +171,31 @@ impl<B: Body> Runner<B> {
         if i >= 32 {
             return Effect::Nothing;
         }
-        if self.tables.interrupt_config(i).is_none() || self.tables.is_interrupt_pending(i) {
+        if tables.interrupt_config(i).is_none() || tables.is_interrupt_pending(i) {
             return Effect::Nothing;
         }
         self.caused.clear();
         self.tables.pend_interrupt(i);
         self.finish(Line::Int(i));
         Effect::Done
+    }
+
+    /// One event.
+    pub fn react(&mut self, e: Event) -> Effect
+        requires { self.old.world.state.clock < 2 ^ 20 }
+        ensures effect { result ≡ effect_of (step self.old.system (B.meaning self.old.body) self.old.bound self.old.world e) }
+        ensures after { done_of self.new ≡ done_or (done_of self.old) (step self.old.system (B.meaning self.old.body) self.old.bound self.old.world e) }
+        ensures bodies { SameBodies self.old self.new }
+        ensures clock { self.new.world.state.clock ≤ self.old.world.state.clock + 1 }
+    {
+        match e {
+            Event::Run(0) => Effect::Nothing,
+            Event::Run(number) => self.run(number - 1),
+            Event::Tick => {
+                self.tick();
+                Effect::Done
+            }
+            Event::Int(number) => self.interrupt(number),
+        }
     }
 }

@@ -110,15 +110,7 @@ impl<B: Body> Kernel<B> {
         ensures effect { result ≡ effect_of (step self.old.system (B.meaning self.old.body) self.old.bound self.old.world e) }
         ensures state { self.new ≡ view_after self.old (step self.old.system (B.meaning self.old.body) self.old.bound self.old.world e) }
     {
-        let effect = match e {
-            Event::Run(0) => Effect::Nothing,
-            Event::Run(number) => self.runner.run(number - 1),
-            Event::Tick => {
-                self.runner.tick();
-                Effect::Done
-            }
-            Event::Int(number) => self.runner.interrupt(number),
-        };
+        let effect = self.runner.react(e);
         if matches!(&effect, Effect::Done) {
             self.done += 1;
         }

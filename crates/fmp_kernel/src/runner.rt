@@ -81,10 +81,10 @@ impl<B: Body + Drop> Runner<B> {
         requires range { IsInRange (tables_of sys.now) }
         ensures { IfOk result (λ r. r ≡ record { body = body; bound = n; system = tables_of sys.now; world = record { state = created_state (tables_of sys.now); contexts = no_contexts (tables_of sys.now) }; caused = []; lines = [] }) }
     {
-        let contexts = BodyContexts::new(alloc, sys.tasks.len(), sys.processors as usize)?;
+        let tables = Tables::new(alloc, sys)?;
+        let contexts = BodyContexts::new(alloc, tables.task_count(), tables.processor_count())?;
         let caused = Vec::with_capacity(alloc, 510)?;
         let lines = Vec::with_capacity(alloc, 519)?;
-        let tables = Tables::new(alloc, sys)?;
         Ok(Runner {
             body,
             bound: n,
