@@ -102,8 +102,7 @@ const CHANGES: &str = "0=0 => image: L2
 46=2 => image: L4
 47=2 => image: L4
 48=1 => image: L4
-56=1 => image: L1
-6=2 => sim: not yet";
+56=1 => image: L1";
 
 /// Changes the bytes of an image.
 fn change(image: &mut [u8], changes: &str) -> Result<(), Fail> {
@@ -137,7 +136,10 @@ fn jump_out_of_a_body(rt: HostRuntime) -> Result<(), Fail> {
     let src = b"task a { while (1) { } } task b { put(1); put(2); }";
     let mut image = Vec::new(alloc);
     build(alloc, cfg, src, &mut image)?;
-    assert_eq!(rt; loaded(alloc, &image)?.as_str(), "sim: not yet");
+    assert_eq!(rt;
+        loaded(alloc, &image)?.as_str(),
+        "0 p1 A starts\n0 p2 B starts\n0 p1 > A\n0 p2 > B\nA RUNNING p1 10\nB RUNNING p2 10\n"
+    );
     assert!(rt; image.len() > 26);
     assert_eq!(rt; (image[25], image[26]), (6, 0));
     image[26] = 9;
@@ -145,8 +147,9 @@ fn jump_out_of_a_body(rt: HostRuntime) -> Result<(), Fail> {
     Ok(())
 }
 
-/// A line of steps and the answer to steps whose second line it is.
+/// A line of steps for two processors, and the answer to steps whose second line it is.
 const STEPS: &str = "run 1 => ok
+run 2 => ok
 tick => ok
 int 32 => ok
 run 01 => steps:2: S1
@@ -159,7 +162,7 @@ tick 1 => steps:2: S1
 run => steps:2: S1
 Run 1 => steps:2: S1
 run 1x => steps:2: S1
-run 2 => steps:2: S2
+run 3 => steps:2: S2
 run 0 => steps:2: S2
 int 33 => steps:2: S2
 int 0 => steps:2: S2
@@ -169,7 +172,8 @@ run 256 => steps:2: S2";
 #[test]
 fn faults_of_steps(rt: HostRuntime) -> Result<(), Fail> {
     let alloc = rt.alloc();
-    let image = one_task(alloc)?;
+    let mut image = Vec::new(alloc);
+    build(alloc, b"NUM_PRC(2);", b"", &mut image)?;
     for row in STEPS.lines() {
         let (line, expected) = row.split_once(" => ").ok_or("no row")?;
         let line = line.replace(alloc, "@", " ")?;
@@ -188,14 +192,11 @@ fn faults_of_steps(rt: HostRuntime) -> Result<(), Fail> {
     Ok(())
 }
 
-// The image is judged first, then whether the kernel takes its system, then the steps.
+// The image is judged first, then the steps.
 #[test]
 fn order_of_judgement(rt: HostRuntime) -> Result<(), Fail> {
     let alloc = rt.alloc();
     assert_eq!(rt; sim(alloc, b"FMPI", b"x", 1)?.as_str(), "image: L1");
-    let mut image = Vec::new(alloc);
-    build(alloc, b"NUM_PRC(2);", b"", &mut image)?;
-    assert_eq!(rt; sim(alloc, &image, b"x", 1)?.as_str(), "sim: not yet");
     let image = one_task(alloc)?;
     assert_eq!(rt; sim(alloc, &image, b"x", 1)?.as_str(), "steps:1: S1");
     Ok(())

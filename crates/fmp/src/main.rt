@@ -17,6 +17,8 @@ mod files;
 mod image_tests;
 mod perform;
 #[cfg(test)]
+mod processor_tests;
+#[cfg(test)]
 mod run_tests;
 #[cfg(test)]
 mod tests;

@@ -69,7 +69,6 @@ fn no_run(fault: SimFault) -> Exit
 {
     match fault {
         SimFault::Load(fault) => Exit::Sim(SimFault::Load(fault)),
-        SimFault::NotYet => Exit::Sim(SimFault::NotYet),
         SimFault::Steps(fault) => Exit::Sim(SimFault::Steps(fault)),
         SimFault::Memory => Exit::Memory(AllocError),
     }

@@ -206,31 +206,3 @@ fn time_and_other_calls(rt: HostRuntime) -> Result<(), Fail> {
     );
     Ok(())
 }
-
-// Systems that the kernel does not take yet.
-#[test]
-fn beyond_the_kernel(rt: HostRuntime) -> Result<(), Fail> {
-    for (cfg, src) in [
-        ("NUM_PRC(2);", ""),
-        (
-            "NUM_PRC(2); CLASS(TCL_1_ONLY) { CRE_TSK(M,{TA_ACT,0,m,10,256,NULL}); } CLASS(TCL_2) { CRE_TSK(N,{TA_ACT,0,e,10,256,NULL}); }",
-            "task m { mig_tsk(M,2); mig_tsk(N,1); } task e { }",
-        ),
-        (
-            "NUM_PRC(1); CLASS(TCL_1) { CRE_TSK(T,{TA_ACT,0,t,10,256,NULL}); CRE_SHR(W,{0}); CRE_SPN(L,{0}); }",
-            "task t { var v; var x; ld_shr(W,&v); st_shr(W,1); act_tsk(TSK_SELF); loc_spn(L); if (v == 0) { x = (-2147483647 - 1) / -1; } x = 1 / 0; }",
-        ),
-        (
-            "NUM_PRC(1); CLASS(TCL_1) { CRE_TSK(T,{TA_ACT,0,t,10,256,NULL}); CRE_TSK(U,{0,0,u,5,256,NULL}); DEF_INH(3,{0,h}); }",
-            "task t { loc_cpu(); unl_cpu(); put(1); } task u { } handler h { iact_tsk(U); }",
-        ),
-        (
-            "NUM_PRC(1); CLASS(TCL_1) { CRE_CYC(C,{TA_STA,0,h,2,0}); }",
-            "handler h { put(exinf); }",
-        ),
-    ] {
-        let answer = traced(rt.alloc(), (cfg, src), (1, 0), 100_000)?;
-        assert_eq!(rt; answer.as_str(), "sim: not yet", "{cfg}");
-    }
-    Ok(())
-}

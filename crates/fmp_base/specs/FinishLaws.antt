@@ -1,5 +1,5 @@
 -- What a run of one meaning finishes, said of another to which it is tied both ways.
-use Rattle.std.specs.Prelude.{ℕ, zero, suc, ◌+◌, ◌*◌, ◌≤◌, ◌≡◌, refl, List, [], ◌∷◌, Option, Some, None}
+use Rattle.std.specs.Prelude.{ℕ, zero, suc, ◌+◌, ◌*◌, ◌≤◌, ◌≡◌, refl, List, [], ◌∷◌, take, Option, Some, None}
 use Rattle.std.proofs.Common.{subst, sym, ap, ◌∙◌}
 use Rattle.fmp_base.specs.declared.bodies.HandlerContext.{HandlerContext}
 use Rattle.fmp_base.specs.declared.bodies.Held.{Held}
@@ -119,19 +119,22 @@ IsComplete-rest : {C : Type 0} (ls : List Line) (r : Option (Trace C)) → IsCom
 IsComplete-rest ls None h = absurd h
 IsComplete-rest ls (Some r) h = tt
 
-done_on-complete : {C : Type 0} (w : World C) (e : Event) (es : List Event) (x : Reaction C)
+done_on-first : {C : Type 0} (k : ℕ) (w : World C) (e : Event) (es : List Event) (x : Reaction C)
     (ds : World C → List Event) (r : World C → Option (Trace C))
-    → ((v : World C) → IsComplete (r v) → ds v ≡ es) → IsComplete (completed_on x r) → done_on w e x ds ≡ e ∷ es
-done_on-complete w e es Nothing ds r rest h = absurd h
-done_on-complete w e es (Did d) ds r rest h =
+    → ((v : World C) → IsComplete (r v) → take k (ds v) ≡ take k es) → IsComplete (completed_on x r)
+    → take (suc k) (done_on w e x ds) ≡ take (suc k) (e ∷ es)
+done_on-first k w e es Nothing ds r rest h = absurd h
+done_on-first k w e es (Did d) ds r rest h =
     ap (λ (es' : List Event). e ∷ es') (rest d.world (IsComplete-rest d.lines (r d.world) h))
 
--- a run that is complete does all of its events
-pub done_events-complete : {C : Type 0} (sys : SystemTables) (M : Meaning C) (n : ℕ) (w : World C) (es : List Event)
-    → IsComplete (complete_run sys M n w es) → done_events sys M n w es ≡ es
-done_events-complete sys M n w [] h = refl
-done_events-complete sys M n w (e ∷ es) h =
-    done_on-complete w e es (step sys M n w e) _ _ (λ v k. done_events-complete sys M n v es k) h
+-- where the first k events alone are a complete run, they are the first that a run does
+pub done_events-first : {C : Type 0} (sys : SystemTables) (M : Meaning C) (n : ℕ) (w : World C) (es : List Event) (k : ℕ)
+    → IsComplete (complete_run sys M n w (take k es)) → take k (done_events sys M n w es) ≡ take k es
+done_events-first sys M n w [] zero h = refl
+done_events-first sys M n w (e ∷ es) zero h = refl
+done_events-first sys M n w [] (suc k) h = refl
+done_events-first sys M n w (e ∷ es) (suc k) h =
+    done_on-first k w e es (step sys M n w e) _ _ (λ v h'. done_events-first sys M n v es k h') h
 
 IsComplete-agrees : {C D : Type 0} (r : Option (Trace C)) (s : Option (Trace D)) → TraceAgrees r s → IsComplete r → IsComplete s
 IsComplete-agrees None s h k = absurd k
@@ -157,7 +160,7 @@ module _ {C D : Type 0} (sys : SystemTables) (R : ℕ → D → C → Type 0) (M
       record {
         each = l.finishes;
         complete = complete_run-Finishes sys M n size v es (done_events sys N n w es) l.trace l.finishes;
-        all = λ t le k. done_events-complete sys N n w es
-            (IsComplete-agrees (complete_run sys M t v es) (complete_run sys N n w es)
-            (complete_run-tied sys (turned R) M t N n (back t le) v w es (WorldTied-turned sys R w v h)) k);
+        first = λ k t le h'. done_events-first sys N n w es k
+            (IsComplete-agrees (complete_run sys M t v (take k es)) (complete_run sys N n w (take k es))
+            (complete_run-tied sys (turned R) M t N n (back t le) v w (take k es) (WorldTied-turned sys R w v h)) h');
       }

@@ -1,5 +1,5 @@
 -- Which events of a list a bounded run finishes, in the words of the meaning alone.
-use Rattle.std.specs.Prelude.{ℕ, ◌+◌, ◌*◌, ◌≤◌, ◌≡◌, List, [], ◌∷◌, Option, Some, None}
+use Rattle.std.specs.Prelude.{ℕ, ◌+◌, ◌*◌, ◌≤◌, ◌≡◌, List, [], ◌∷◌, take, Option, Some, None}
 use Rattle.fmp_base.specs.declared.events.Event.{Event}
 use Rattle.fmp_base.specs.Meanings.{Meaning, World}
 use Rattle.fmp_base.specs.Runs.{Trace, after_first, complete_run}
@@ -27,8 +27,9 @@ IsComplete None = ⊥
 IsComplete (Some r) = Unit {0}
 
 -- What a bounded run over a list of events finishes: these events, with this trace. They are a complete run of their
--- own; and where the meaning completes the whole list within t units, (t + 1) * size up to n, they are all of it.
+-- own; and where the meaning completes the first k events of the list within t units, (t + 1) * size up to n, these are
+-- the first k that are finished.
 pub record IsFinished {C : Type 0} (sys : SystemTables) (M : Meaning C) (n size : ℕ) (w : World C) (es ds : List Event) (r : Trace C) : Type 0 where
   pub each : Finishes sys M n size w es ds r
   pub complete : complete_run sys M n w ds ≡ Some r
-  pub all : (t : ℕ) → (t + 1) * size ≤ n → IsComplete (complete_run sys M t w es) → ds ≡ es
+  pub first : (k t : ℕ) → (t + 1) * size ≤ n → IsComplete (complete_run sys M t w (take k es)) → take k ds ≡ take k es

@@ -1,5 +1,5 @@
 -- Code that does what the bodies of a text do prints what the text means.
-use Rattle.std.proofs.Common.{◌≡◌, ℕ, ◌≤◌, List, ◌++◌, ap, sym, ◌∙◌}
+use Rattle.std.proofs.Common.{◌≡◌, refl, ℕ, ◌≤◌, List, ◌++◌, ap, sym, ◌∙◌}
 use Rattle.fmp_base.specs.declared.events.Event.{Event}
 use Rattle.fmp_base.specs.declared.events.Line.{Line}
 use Rattle.fmp_base.specs.FinishLaws.{FinishedLike, finished-like, is_finished-like}
@@ -39,6 +39,7 @@ prints_text sys bodies code n es does low =
     (setup sys machine).world (setup sys text).world es tied.1 in
     record {
       finished = done_events sys machine n (setup sys machine).world es;
+      are_done = refl;
       trace = like.trace;
       finishes = is_finished-like sys R text machine n (longest code) (does.code_first n) (λ t le. does.text_first t n low le)
           (setup sys machine).world (setup sys text).world es tied.1 like;

@@ -1,47 +1,50 @@
--- The body of each task of an image is there.
-use Rattle.std.proofs.Common.{◌≡◌, refl, ℕ, zero, suc, ◌<◌, List, [], ◌∷◌, Option, Some, None, Bool, true, false, ◌&&◌, length, arith, subst}
-use Rattle.std.specs.Prelude.{slice_get}
+-- The body of each task and handler of an image is there.
+use Rattle.std.proofs.Common.{ℕ, zero, suc, ◌+◌, ◌<◌, List, [], ◌∷◌, Option, Some, Bool, true, false, length, arith}
+use Rattle.std.specs.Prelude.{if◌then◌else◌, nat_eq, slice_get}
 use Rattle.std.specs.List.{AllByRecursion}
-use Rattle.std.proofs.lemmas.Option.{slice_get_within}
+use Rattle.fmp_base.specs.declared.states.Handler.{Handler}
+use Rattle.fmp_base.specs.declared.states.Handler.TheVariants as handler
 use Rattle.fmp_base.specs.declared.systems.TaskConfig.{TaskConfig}
-use Rattle.fmp_base.specs.Meanings.{task_body}
-use Rattle.fmp_base.specs.Systems.{body_of, found}
+use Rattle.fmp_base.specs.declared.systems.CyclicConfig.{CyclicConfig}
+use Rattle.fmp_base.specs.declared.systems.InterruptConfig.{InterruptConfig}
+use Rattle.fmp_base.specs.Meanings.{cyclic_start, interrupt_start, handler_start}
+use Rattle.fmp_base.specs.Systems.{body_of, defined_for, found}
 use Rattle.fmp_code.specs.Instructions.{BodyTables}
-use Rattle.fmp_image.specs.declared.heads.BodyHead.{BodyHead}
-use Rattle.fmp_image.specs.Bodies.{IsBody}
 use Rattle.fmp_image.specs.Images.{ImageTables, IsImage}
-use Rattle.fmp_image.specs.Keys.{is_name}
-use Rattle.fmp_image.specs.Rows.{Frame, frame_of, row, task_form, is_task_body}
-use Rattle.fmp_image.proofs.PairLists.{same_length}
-use Rattle.fmp_kernel.specs.Contexts.{Entered}
-use Rattle.fmp_base.specs.Names.{name_text}
+use Rattle.fmp_image.proofs.Entries.{task_bodies, cyclic_bodies, interrupt_bodies}
+use Rattle.fmp_kernel.specs.Contexts.{BeginsIn, Entered}
 
-left : (a b : Bool) → a && b ≡ true → a ≡ true
-left true b h = refl
-left false b h = absurd (cc)
+module _ (n : ℕ) where
+  task_at : (other : TaskConfig) (ts : List TaskConfig) (t : ℕ) → AllByRecursion (λ x. body_of x.entry < n) ts → t < length ts
+      → body_of (found other (slice_get ts t)).entry < n
+  task_at other [] t h lt = absurd (omega (arith, lt))
+  task_at other (x ∷ ts) zero h lt = h.0
+  task_at other (x ∷ ts) (suc t) h lt = task_at other ts t h.1 (omega (arith, lt))
 
-right : (a b : Bool) → a && b ≡ true → b ≡ true
-right true b h = h
-right false b h = absurd (cc)
+  cyclic_at : (cs : List CyclicConfig) (c : ℕ) → AllByRecursion (λ x. body_of x.entry < n) cs
+      → BeginsIn (λ b. b < n) (cyclic_start (slice_get cs c))
+  cyclic_at [] c h = tt
+  cyclic_at (x ∷ cs) zero h = h.0
+  cyclic_at (x ∷ cs) (suc c) h = cyclic_at cs c h.1
 
-some_head : (heads : List BodyHead) (body stack : ℕ) (o : Option BodyHead) → slice_get heads body ≡ o → is_task_body o stack ≡ true → body < length heads
-some_head heads body stack None e h = absurd (cc)
-some_head heads body stack (Some head) e h = slice_get_within heads body head e
+  by_number : (same : Bool) (x : InterruptConfig) (rest : Option InterruptConfig) → body_of x.entry < n
+      → BeginsIn (λ b. b < n) (interrupt_start rest) → BeginsIn (λ b. b < n) (interrupt_start (if same then Some x else rest))
+  by_number true x rest h k = h
+  by_number false x rest h k = k
 
-entered_row : (frame : Frame) (t : TaskConfig) → (row task_form frame).fits t → body_of t.entry < length frame.heads
-entered_row frame t h =
-    let rules = right (is_name (name_text t.name)) _ h.1 in
-    some_head frame.heads (body_of t.entry) t.stack (slice_get frame.heads (body_of t.entry)) refl (right _ _ (left _ _ rules))
+  interrupt_at : (number : ℕ) (is : List InterruptConfig) → AllByRecursion (λ x. body_of x.entry < n) is
+      → BeginsIn (λ b. b < n) (interrupt_start (defined_for number is))
+  interrupt_at number [] h = tt
+  interrupt_at number (x ∷ is) h =
+      by_number (nat_eq x.number number) x (defined_for number is) h.0 (interrupt_at number is h.1)
 
-entered_at : (frame : Frame) (other : TaskConfig) (ts : List TaskConfig) (i : ℕ) → AllByRecursion (row task_form frame).fits ts → i < length ts
-    → body_of (found other (slice_get ts i)).entry < length frame.heads
-entered_at frame other [] i h lt = absurd (omega (arith, lt))
-entered_at frame other (t ∷ ts) zero h lt = entered_row frame t h.0
-entered_at frame other (t ∷ ts) (suc i) h lt = entered_at frame other ts i h.1 (omega (arith, lt))
+handler_at : (i : ImageTables) → IsImage i → (h : Handler) → BeginsIn (λ b. b < length i.code) (handler_start i.system h)
+handler_at i lawful (handler.Interrupt k) = interrupt_at (length i.code) (k + 1) i.system.interrupts (interrupt_bodies i lawful)
+handler_at i lawful (handler.Cyclic c) = cyclic_at (length i.code) i.system.cyclics c (cyclic_bodies i lawful)
 
 pub entered : (i : ImageTables) → IsImage i → Entered (λ (bodies : List BodyTables) (body : ℕ). body < length bodies) i.code i.system
-entered i h =
+entered i lawful =
     record {
-      each = λ t lt. subst (λ (n : ℕ). task_body i.system t < n) (same_length IsBody i.heads i.code h.bodies)
-          (entered_at (frame_of i.system.processors i.heads) _ i.system.tasks t h.tasks.each lt);
+      tasks = λ t lt. task_at (length i.code) _ i.system.tasks t (task_bodies i lawful) lt;
+      handlers = λ h. handler_at i lawful h;
     }

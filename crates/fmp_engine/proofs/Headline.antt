@@ -20,6 +20,7 @@ prints_texts i bodies image steps n before after s spelled law =
       events = s.events;
       read = subst (λ (j : ImageTables). steps_of j.system.processors steps ≡ Ok s.events) same s.read;
       finished = like.finished;
+      are_done = like.are_done;
       trace = like.trace;
       finishes = like.finishes;
       text = subst (λ (j : ImageTables). after ≡ before ++ whole_text j.system (code_meaning j.code) n s.events) same s.text

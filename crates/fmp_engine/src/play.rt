@@ -1,6 +1,7 @@
 //! A run of a system on the kernel, and its text.
 
 ghost use Rattle.std.specs.Prelude.{◌≡◌, ℕ, ◌+◌, ◌++◌, ◌<◌, ◌≤◌, ◌^◌, length, map, OnOk, OnErr, IfOk};
+ghost use Rattle.fmp_base.specs.Ranges.{IsInRange};
 ghost use Rattle.fmp_base.specs.Runs.{task_state};
 ghost use Rattle.fmp_base.specs.Setups.{setup};
 ghost use Rattle.fmp_base.specs.States.{places_from};
@@ -8,7 +9,6 @@ ghost use Rattle.fmp_base.specs.Systems.{tables_of};
 ghost use Rattle.fmp_base.specs.Texts.{whole_text};
 ghost use Rattle.fmp_kernel.specs.Contexts.{Entered};
 ghost use Rattle.fmp_kernel.specs.KernelViews.{view_of_setup};
-ghost use Rattle.fmp_kernel.specs.Stages.{IsInStage};
 ghost use Rattle.fmp_engine.specs.Plays.{HasTaken};
 
 use fmp_base::{Effect, Event, System, TaskState};
@@ -88,7 +88,7 @@ fn text_of_run<B: Body + Drop>(
     requires low { 1 ≤ n }
     requires high { n ≤ 2 ^ 48 }
     requires entries { Entered B.has_entry body (tables_of sys.now) }
-    requires stage { IsInStage (tables_of sys.now) }
+    requires range { IsInRange (tables_of sys.now) }
     requires few { length events.now ≤ 2 ^ 20 }
     ensures { IfOk result (λ text. text.items ≡ whole_text (tables_of sys.now) (B.meaning body) n events.now) }
 {
@@ -111,7 +111,7 @@ pub fn play<B: Body + Drop>(
     requires low { 1 ≤ n }
     requires high { n ≤ 2 ^ 48 }
     requires entries { Entered B.has_entry body (tables_of sys.now) }
-    requires stage { IsInStage (tables_of sys.now) }
+    requires range { IsInRange (tables_of sys.now) }
     requires few { length events.now ≤ 2 ^ 20 }
     ensures ok { OnOk result (out.new.items ≡ out.old.items ++ whole_text (tables_of sys.now) (B.meaning body) n events.now) }
     ensures err { OnErr result (out.new.items ≡ out.old.items) }

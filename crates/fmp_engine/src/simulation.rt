@@ -9,7 +9,6 @@ use crate::fault::SimFault;
 use crate::play::play;
 use fmp_build::laws::built_image_prints_text;
 use fmp_image::{LoadFault, load};
-use fmp_kernel::is_in_stage;
 use fmp_trace::{StepsFault, read_steps};
 use std::alloc::Global;
 
@@ -29,13 +28,10 @@ fn simulate(
 {
     let image = match load(alloc, image) {
         Ok(image) => image,
-        Err(LoadFault::Image(fault)) => return Err(SimFault::Load(fault)),
         Err(LoadFault::Memory) => return Err(SimFault::Memory),
+        Err(fault) => return Err(SimFault::Load(fault)),
     };
     let system = image.system();
-    if !is_in_stage(system) {
-        return Err(SimFault::NotYet);
-    }
     let events = match read_steps(alloc, steps, system.processors) {
         Ok(events) => events,
         Err(StepsFault::Memory) => return Err(SimFault::Memory),
@@ -50,8 +46,7 @@ fn simulate(
 /// Loads an image, runs it over the events of a steps text within n instructions a stretch, and appends the trace and
 /// the states of the tasks at the end.
 ///
-/// The image is judged first, then whether the kernel takes its system, then the steps. After an error nothing has been
-/// appended.
+/// The image is judged first, then the steps. After an error nothing has been appended.
 pub fn sim(
     alloc: Global,
     image: &[u8],

@@ -4,7 +4,7 @@ use Rattle.fmp_engine.proofs.simulation.simulate.Goals as goal
 
 pub play-requires-clause-entries : goal.play-requires-clause-entries
 play-requires-clause-entries c =
-    rw c.vm.ensures (rw c.system-system.ensures (entered c.in-Ok.image c.in-Ok.ensures.found.lawful))
+    rw c.vm.ensures (rw c.system-system.ensures.tables (entered c.in-Ok.image c.in-Ok.ensures.found.lawful))
 
 pub play-requires-clause-few : goal.play-requires-clause-few
 play-requires-clause-few c =
