@@ -1,5 +1,7 @@
 -- What the tables hold, what is true of them, and what the calls on them leave alone.
 use Rattle.std.specs.Prelude.{◌≡◌, ℕ, ◌*◌, ◌≤◌, ◌<◌, ◌^◌, List, Option, map, length}
+use Rattle.std.specs.Global.{Vec}
+use Rattle.std.specs.Vec.{vec_capacity}
 use Rattle.fmp_base.specs.declared.calls.Answer.{Answer}
 use Rattle.fmp_base.specs.declared.events.Line.{Line}
 use Rattle.fmp_base.specs.declared.states.Handler.{Handler}
@@ -91,3 +93,8 @@ outcome answer h lines = record { answer = answer; progress = progress h lines }
 pub record SameShape (old new : TablesView) : Type 0 where
   pub system : new.system ≡ old.system
   pub clock : new.state.clock ≡ old.state.clock
+
+-- what every call that adds lines leaves alone: that, and the room that the list of lines has
+pub record SameShapeAndRoom (old new : TablesView) (before after : Vec Line) : Type 0 where
+  pub shape : SameShape old new
+  pub room : vec_capacity after ≡ vec_capacity before
