@@ -3,7 +3,7 @@ ghost use Rattle.std.specs.Prelude.{◌≡◌, ◌<◌, [], length, vec_len, vec
 ghost use Rattle.fmp_base.specs.States.{task_at};
 ghost use Rattle.fmp_base.specs.TaskCalls as calls;
 ghost use Rattle.fmp_tasks.specs.Homes.{Fits};
-ghost use Rattle.fmp_tasks.specs.Tables.{outcome, SameShape};
+ghost use Rattle.fmp_tasks.specs.Tables.{outcome, SameShape, SameShapeAndRoom};
 
 use crate::targets::{by_number, self_or};
 use fmp_base::{Answer, Er, Line, Phase, TaskBlock};
@@ -34,8 +34,7 @@ fn activate(tables: &mut Tables, lines: &mut Vec<Line>, t: u8) -> Answer
     requires empty { lines.old.items ≡ [] }
     requires room { vec_len lines.old < vec_capacity lines.old }
     ensures outcome { outcome result tables.new lines.new.items ≡ calls.activated tables.old.system tables.old.state t (task_at tables.old.state.tasks t) }
-    ensures shape { SameShape tables.old tables.new }
-    ensures capacity { vec_capacity lines.new ≡ vec_capacity lines.old }
+    ensures kept { SameShapeAndRoom tables.old tables.new lines.old lines.new }
 {
     let x = tables.task(t);
     match x.phase {
@@ -55,8 +54,7 @@ pub fn act_tsk(tables: &mut Tables, lines: &mut Vec<Line>, me: u8, task: i32) ->
     requires empty { lines.old.items ≡ [] }
     requires room { vec_len lines.old < vec_capacity lines.old }
     ensures outcome { outcome result tables.new lines.new.items ≡ calls.act_tsk tables.old.system tables.old.state me task }
-    ensures shape { SameShape tables.old tables.new }
-    ensures capacity { vec_capacity lines.new ≡ vec_capacity lines.old }
+    ensures kept { SameShapeAndRoom tables.old tables.new lines.old lines.new }
 {
     match self_or(tables, me, task) {
         Some(t) => activate(tables, lines, t),
@@ -70,8 +68,7 @@ pub fn iact_tsk(tables: &mut Tables, lines: &mut Vec<Line>, task: i32) -> Answer
     requires empty { lines.old.items ≡ [] }
     requires room { vec_len lines.old < vec_capacity lines.old }
     ensures outcome { outcome result tables.new lines.new.items ≡ calls.iact_tsk tables.old.system tables.old.state task }
-    ensures shape { SameShape tables.old tables.new }
-    ensures capacity { vec_capacity lines.new ≡ vec_capacity lines.old }
+    ensures kept { SameShapeAndRoom tables.old tables.new lines.old lines.new }
 {
     match by_number(tables, task) {
         Some(t) => activate(tables, lines, t),

@@ -3,7 +3,7 @@ ghost use Rattle.std.specs.Prelude.{◌≡◌, ◌<◌, [], length, vec_len, vec
 ghost use Rattle.fmp_base.specs.States.{task_at};
 ghost use Rattle.fmp_base.specs.TaskCalls as calls;
 ghost use Rattle.fmp_tasks.specs.Homes.{Fits};
-ghost use Rattle.fmp_tasks.specs.Tables.{outcome, SameShape};
+ghost use Rattle.fmp_tasks.specs.Tables.{outcome, SameShape, SameShapeAndRoom};
 
 use crate::targets::{allowed_processor, is_dormant, is_ready, self_or};
 use fmp_base::{Answer, Er, Line, Phase, TaskBlock};
@@ -52,8 +52,7 @@ pub fn mact_tsk(
     requires empty { lines.old.items ≡ [] }
     requires room { vec_len lines.old < vec_capacity lines.old }
     ensures outcome { outcome result tables.new lines.new.items ≡ calls.mact_tsk tables.old.system tables.old.state me task processor }
-    ensures shape { SameShape tables.old tables.new }
-    ensures capacity { vec_capacity lines.new ≡ vec_capacity lines.old }
+    ensures kept { SameShapeAndRoom tables.old tables.new lines.old lines.new }
 {
     let Some(t) = self_or(tables, me, task) else {
         return replied(Er::Id);

@@ -5,7 +5,7 @@ ghost use Rattle.fmp_base.specs.TaskCalls as calls;
 ghost use Rattle.fmp_tasks.specs.Homes.{Fits};
 ghost use Rattle.fmp_tasks.specs.Tables.{outcome, SameShape};
 
-use crate::targets::{or_if_zero, is_dormant, self_or};
+use crate::targets::{is_dormant, or_if_zero, self_or};
 use fmp_base::arguments::ranged;
 use fmp_base::{Answer, Er, TaskBlock};
 use fmp_tasks::Tables;

@@ -4,7 +4,7 @@ ghost use Rattle.fmp_base.specs.Arguments.{IsInRange};
 ghost use Rattle.fmp_base.specs.States.{task_at};
 ghost use Rattle.fmp_base.specs.TaskCalls as calls;
 ghost use Rattle.fmp_tasks.specs.Homes.{Fits};
-ghost use Rattle.fmp_tasks.specs.Tables.{outcome, SameShape};
+ghost use Rattle.fmp_tasks.specs.Tables.{outcome, SameShape, SameShapeAndRoom};
 
 use crate::targets::{by_number, delay_of, is_dormant, self_or};
 use fmp_base::arguments::limit_of;
@@ -76,8 +76,7 @@ fn wake(tables: &mut Tables, lines: &mut Vec<Line>, t: u8) -> Answer
     requires empty { lines.old.items ≡ [] }
     requires room { vec_len lines.old < vec_capacity lines.old }
     ensures outcome { outcome result tables.new lines.new.items ≡ calls.woken tables.old.system tables.old.state t (task_at tables.old.state.tasks t) }
-    ensures shape { SameShape tables.old tables.new }
-    ensures capacity { vec_capacity lines.new ≡ vec_capacity lines.old }
+    ensures kept { SameShapeAndRoom tables.old tables.new lines.old lines.new }
 {
     let x = tables.task(t);
     match x.phase {
@@ -98,8 +97,7 @@ pub fn wup_tsk(tables: &mut Tables, lines: &mut Vec<Line>, me: u8, task: i32) ->
     requires empty { lines.old.items ≡ [] }
     requires room { vec_len lines.old < vec_capacity lines.old }
     ensures outcome { outcome result tables.new lines.new.items ≡ calls.wup_tsk tables.old.system tables.old.state me task }
-    ensures shape { SameShape tables.old tables.new }
-    ensures capacity { vec_capacity lines.new ≡ vec_capacity lines.old }
+    ensures kept { SameShapeAndRoom tables.old tables.new lines.old lines.new }
 {
     match self_or(tables, me, task) {
         Some(t) => wake(tables, lines, t),
@@ -113,8 +111,7 @@ pub fn iwup_tsk(tables: &mut Tables, lines: &mut Vec<Line>, task: i32) -> Answer
     requires empty { lines.old.items ≡ [] }
     requires room { vec_len lines.old < vec_capacity lines.old }
     ensures outcome { outcome result tables.new lines.new.items ≡ calls.iwup_tsk tables.old.system tables.old.state task }
-    ensures shape { SameShape tables.old tables.new }
-    ensures capacity { vec_capacity lines.new ≡ vec_capacity lines.old }
+    ensures kept { SameShapeAndRoom tables.old tables.new lines.old lines.new }
 {
     match by_number(tables, task) {
         Some(t) => wake(tables, lines, t),
@@ -146,8 +143,7 @@ pub fn rel_wai(tables: &mut Tables, lines: &mut Vec<Line>, task: i32) -> Answer
     requires empty { lines.old.items ≡ [] }
     requires room { vec_len lines.old < vec_capacity lines.old }
     ensures outcome { outcome result tables.new lines.new.items ≡ calls.rel_wai tables.old.state task }
-    ensures shape { SameShape tables.old tables.new }
-    ensures capacity { vec_capacity lines.new ≡ vec_capacity lines.old }
+    ensures kept { SameShapeAndRoom tables.old tables.new lines.old lines.new }
 {
     let Some(t) = by_number(tables, task) else {
         return replied(Er::Id);

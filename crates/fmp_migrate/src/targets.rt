@@ -41,11 +41,11 @@ pub fn allowed_processor(tables: &Tables, t: u8, number: i32) -> Option<u8>
     Some(p)
 }
 
-/// A priority, or the initial one for 0.
-pub fn or_if_zero(initial: u8, priority: u8) -> u8
-    ensures { result ≡ calls.or_if_zero initial priority }
+/// A priority, or another one for 0.
+pub fn or_if_zero(other: u8, priority: u8) -> u8
+    ensures { result ≡ calls.or_if_zero other priority }
 {
-    if priority == 0 { initial } else { priority }
+    if priority == 0 { other } else { priority }
 }
 
 /// A delay from 0 to 2^30 ticks, or none.

@@ -3,7 +3,7 @@ ghost use Rattle.std.specs.Prelude.{◌≡◌, ◌<◌, [], length, vec_len, vec
 ghost use Rattle.fmp_base.specs.Changes.{ended_itself};
 ghost use Rattle.fmp_base.specs.States.{task_at};
 ghost use Rattle.fmp_base.specs.TaskCalls as calls;
-ghost use Rattle.fmp_tasks.specs.Tables.{progress, outcome, SameShape};
+ghost use Rattle.fmp_tasks.specs.Tables.{progress, outcome, SameShapeAndRoom};
 
 use crate::targets::{by_number, is_dormant};
 use fmp_base::{Answer, Er, Line, Lock, Processor};
@@ -20,8 +20,7 @@ pub fn end_itself(tables: &mut Tables, lines: &mut Vec<Line>, p: u8, t: u8)
     requires empty { lines.old.items ≡ [] }
     requires room { vec_len lines.old < vec_capacity lines.old }
     ensures progress { progress tables.new lines.new.items ≡ ended_itself tables.old.system tables.old.state p t (task_at tables.old.state.tasks t) }
-    ensures shape { SameShape tables.old tables.new }
-    ensures capacity { vec_capacity lines.new ≡ vec_capacity lines.old }
+    ensures kept { SameShapeAndRoom tables.old tables.new lines.old lines.new }
 {
     let x = tables.task(t);
     let processor = tables.processor(p);
@@ -45,8 +44,7 @@ pub fn ext_tsk(tables: &mut Tables, lines: &mut Vec<Line>, p: u8, me: u8) -> Ans
     requires empty { lines.old.items ≡ [] }
     requires room { vec_len lines.old < vec_capacity lines.old }
     ensures outcome { outcome result tables.new lines.new.items ≡ record { answer = Answer.Ends; progress = ended_itself tables.old.system tables.old.state p me (task_at tables.old.state.tasks me) } }
-    ensures shape { SameShape tables.old tables.new }
-    ensures capacity { vec_capacity lines.new ≡ vec_capacity lines.old }
+    ensures kept { SameShapeAndRoom tables.old tables.new lines.old lines.new }
 {
     end_itself(tables, lines, p, me);
     Answer::Ends
@@ -59,8 +57,7 @@ pub fn ter_tsk(tables: &mut Tables, lines: &mut Vec<Line>, p: u8, me: u8, task: 
     requires empty { lines.old.items ≡ [] }
     requires room { vec_len lines.old < vec_capacity lines.old }
     ensures outcome { outcome result tables.new lines.new.items ≡ calls.ter_tsk tables.old.system tables.old.state p me task }
-    ensures shape { SameShape tables.old tables.new }
-    ensures capacity { vec_capacity lines.new ≡ vec_capacity lines.old }
+    ensures kept { SameShapeAndRoom tables.old tables.new lines.old lines.new }
 {
     let Some(t) = by_number(tables, task) else {
         return replied(Er::Id);

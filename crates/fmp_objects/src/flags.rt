@@ -4,7 +4,7 @@ ghost use Rattle.fmp_base.specs.Arguments.{IsInRange};
 ghost use Rattle.fmp_base.specs.FlagCalls.{mode_of as mode_from, awaited, set_flg as set_flg_case, clr_flg as clr_flg_case, wai_flg as wai_flg_case, twai_flg as twai_flg_case};
 ghost use Rattle.fmp_base.specs.Outcomes.{numbered as place_of};
 ghost use Rattle.fmp_base.specs.States.{task_at};
-ghost use Rattle.fmp_tasks.specs.Tables.{outcome, SameShape};
+ghost use Rattle.fmp_tasks.specs.Tables.{outcome, SameShape, SameShapeAndRoom};
 
 use crate::walking::{satisfies, walk};
 use fmp_base::arguments::{limit_of, numbered, ranged};
@@ -39,8 +39,7 @@ pub fn set_flg(tables: &mut Tables, lines: &mut Vec<Line>, flag: i32, bits: i32)
     requires empty { lines.old.items ≡ [] }
     requires room { length tables.old.system.tasks ≤ vec_capacity lines.old }
     ensures outcome { outcome result tables.new lines.new.items ≡ set_flg_case tables.old.system tables.old.state flag bits }
-    ensures shape { SameShape tables.old tables.new }
-    ensures capacity { vec_capacity lines.new ≡ vec_capacity lines.old }
+    ensures kept { SameShapeAndRoom tables.old tables.new lines.old lines.new }
 {
     let Some(f) = flag_of(tables, flag) else {
         return replied(Er::Id);

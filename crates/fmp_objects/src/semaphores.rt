@@ -4,7 +4,7 @@ ghost use Rattle.fmp_base.specs.Arguments.{IsInRange};
 ghost use Rattle.fmp_base.specs.Outcomes.{numbered as place_of};
 ghost use Rattle.fmp_base.specs.SemaphoreCalls.{signalled, acquired, sig_sem as sig_sem_case, wai_sem as wai_sem_case, twai_sem as twai_sem_case};
 ghost use Rattle.fmp_base.specs.States.{task_at};
-ghost use Rattle.fmp_tasks.specs.Tables.{outcome, SameShape};
+ghost use Rattle.fmp_tasks.specs.Tables.{outcome, SameShape, SameShapeAndRoom};
 
 use fmp_base::arguments::{limit_of, numbered};
 use fmp_base::{Answer, Er, Line, TimeLimit, WaitCause, WaitQueue};
@@ -26,8 +26,7 @@ fn signal(tables: &mut Tables, lines: &mut Vec<Line>, s: u8) -> Answer
     requires empty { lines.old.items ≡ [] }
     requires room { 1 ≤ vec_capacity lines.old }
     ensures outcome { outcome result tables.new lines.new.items ≡ signalled tables.old.system tables.old.state s }
-    ensures shape { SameShape tables.old tables.new }
-    ensures capacity { vec_capacity lines.new ≡ vec_capacity lines.old }
+    ensures kept { SameShapeAndRoom tables.old tables.new lines.old lines.new }
 {
     if let Some(t) = tables.first_waiting(WaitQueue::Semaphore(s)) {
         let x = tables.task(t);
@@ -50,8 +49,7 @@ pub fn sig_sem(tables: &mut Tables, lines: &mut Vec<Line>, semaphore: i32) -> An
     requires empty { lines.old.items ≡ [] }
     requires room { 1 ≤ vec_capacity lines.old }
     ensures outcome { outcome result tables.new lines.new.items ≡ sig_sem_case tables.old.system tables.old.state semaphore }
-    ensures shape { SameShape tables.old tables.new }
-    ensures capacity { vec_capacity lines.new ≡ vec_capacity lines.old }
+    ensures kept { SameShapeAndRoom tables.old tables.new lines.old lines.new }
 {
     match semaphore_of(tables, semaphore) {
         Some(s) => signal(tables, lines, s),

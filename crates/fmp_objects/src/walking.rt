@@ -4,7 +4,7 @@ ghost use Rattle.fmp_base.specs.FlagCalls.{satisfies as satisfies_case, is_satis
 ghost use Rattle.fmp_base.specs.Outcomes.{given as given_value};
 ghost use Rattle.fmp_base.specs.Queues.{wait_queue};
 ghost use Rattle.fmp_base.specs.Systems.{flag_config};
-ghost use Rattle.fmp_tasks.specs.Tables.{progress, SameShape};
+ghost use Rattle.fmp_tasks.specs.Tables.{progress, SameShapeAndRoom};
 
 use fmp_base::{FlagMode, Line, Phase, Reply, WaitCause, WaitQueue};
 use fmp_tasks::Tables;
@@ -45,8 +45,7 @@ pub fn walk(tables: &mut Tables, lines: &mut Vec<Line>, f: u8, bits: u16)
     requires empty { lines.old.items ≡ [] }
     requires room { length tables.old.system.tasks ≤ vec_capacity lines.old }
     ensures progress { progress tables.new lines.new.items ≡ walk_case (flag_config tables.old.system f).clears f bits (wait_queue tables.old.system tables.old.state (WaitQueue.Flag f)) (progress tables.old []) }
-    ensures shape { SameShape tables.old tables.new }
-    ensures capacity { vec_capacity lines.new ≡ vec_capacity lines.old }
+    ensures kept { SameShapeAndRoom tables.old tables.new lines.old lines.new }
 {
     let clears = tables.flag_config(f).clears;
     let mut place = 0;

@@ -6,7 +6,7 @@ ghost use Rattle.fmp_base.specs.DataQueueCalls.{words_at, offered_word as offere
 ghost use Rattle.fmp_base.specs.Outcomes.{numbered as place_of};
 ghost use Rattle.fmp_base.specs.Queues.{first_waiting};
 ghost use Rattle.fmp_base.specs.States.{task_at};
-ghost use Rattle.fmp_tasks.specs.Tables.{outcome, SameShape};
+ghost use Rattle.fmp_tasks.specs.Tables.{outcome, SameShapeAndRoom};
 
 use fmp_base::arguments::{limit_of, numbered};
 use fmp_base::{Answer, Er, Line, Phase, TimeLimit, WaitCause, WaitQueue};
@@ -48,8 +48,7 @@ fn send(
     requires empty { lines.old.items ≡ [] }
     requires room { 1 ≤ vec_capacity lines.old }
     ensures outcome { outcome result tables.new lines.new.items ≡ word_sent tables.old.system tables.old.state me (task_at tables.old.state.tasks me) word limit d }
-    ensures shape { SameShape tables.old tables.new }
-    ensures capacity { vec_capacity lines.new ≡ vec_capacity lines.old }
+    ensures kept { SameShapeAndRoom tables.old tables.new lines.old lines.new }
 {
     if let Some(t) = tables.first_waiting(WaitQueue::Receivers(d)) {
         let x = tables.task(t);
@@ -81,8 +80,7 @@ pub fn snd_dtq(
     requires empty { lines.old.items ≡ [] }
     requires room { 1 ≤ vec_capacity lines.old }
     ensures outcome { outcome result tables.new lines.new.items ≡ snd_dtq_case tables.old.system tables.old.state me (task_at tables.old.state.tasks me) limit queue word }
-    ensures shape { SameShape tables.old tables.new }
-    ensures capacity { vec_capacity lines.new ≡ vec_capacity lines.old }
+    ensures kept { SameShapeAndRoom tables.old tables.new lines.old lines.new }
 {
     match data_queue_of(tables, queue) {
         Some(d) => send(tables, lines, me, limit, d, word),
@@ -105,8 +103,7 @@ pub fn tsnd_dtq(
     requires empty { lines.old.items ≡ [] }
     requires room { 1 ≤ vec_capacity lines.old }
     ensures outcome { outcome result tables.new lines.new.items ≡ tsnd_dtq_case tables.old.system tables.old.state me (task_at tables.old.state.tasks me) queue word limit }
-    ensures shape { SameShape tables.old tables.new }
-    ensures capacity { vec_capacity lines.new ≡ vec_capacity lines.old }
+    ensures kept { SameShapeAndRoom tables.old tables.new lines.old lines.new }
 {
     let Some(d) = data_queue_of(tables, queue) else {
         return replied(Er::Id);
@@ -124,8 +121,7 @@ pub fn psnd_dtq(tables: &mut Tables, lines: &mut Vec<Line>, queue: i32, word: i3
     requires empty { lines.old.items ≡ [] }
     requires room { 1 ≤ vec_capacity lines.old }
     ensures outcome { (me : ℕ) (x : TaskBlock) → outcome result tables.new lines.new.items ≡ snd_dtq_case tables.old.system tables.old.state me x TimeLimit.Poll queue word }
-    ensures shape { SameShape tables.old tables.new }
-    ensures capacity { vec_capacity lines.new ≡ vec_capacity lines.old }
+    ensures kept { SameShapeAndRoom tables.old tables.new lines.old lines.new }
 {
     let Some(d) = data_queue_of(tables, queue) else {
         return replied(Er::Id);
@@ -149,8 +145,7 @@ fn force(tables: &mut Tables, lines: &mut Vec<Line>, d: u8, word: i32) -> Answer
     requires empty { lines.old.items ≡ [] }
     requires room { 1 ≤ vec_capacity lines.old }
     ensures outcome { outcome result tables.new lines.new.items ≡ forced_to (first_waiting tables.old.system tables.old.state (WaitQueue.Receivers d)) tables.old.system tables.old.state d word }
-    ensures shape { SameShape tables.old tables.new }
-    ensures capacity { vec_capacity lines.new ≡ vec_capacity lines.old }
+    ensures kept { SameShapeAndRoom tables.old tables.new lines.old lines.new }
 {
     if let Some(t) = tables.first_waiting(WaitQueue::Receivers(d)) {
         let x = tables.task(t);
@@ -170,8 +165,7 @@ pub fn fsnd_dtq(tables: &mut Tables, lines: &mut Vec<Line>, queue: i32, word: i3
     requires empty { lines.old.items ≡ [] }
     requires room { 1 ≤ vec_capacity lines.old }
     ensures outcome { outcome result tables.new lines.new.items ≡ fsnd_dtq_case tables.old.system tables.old.state queue word }
-    ensures shape { SameShape tables.old tables.new }
-    ensures capacity { vec_capacity lines.new ≡ vec_capacity lines.old }
+    ensures kept { SameShapeAndRoom tables.old tables.new lines.old lines.new }
 {
     let Some(d) = data_queue_of(tables, queue) else {
         return replied(Er::Id);
@@ -190,8 +184,7 @@ fn take_oldest(tables: &mut Tables, lines: &mut Vec<Line>, d: u8, word: i32) -> 
     requires empty { lines.old.items ≡ [] }
     requires room { 1 ≤ vec_capacity lines.old }
     ensures outcome { (me : ℕ) (x : TaskBlock) (limit : TimeLimit) → outcome result tables.new lines.new.items ≡ word_received tables.old.system tables.old.state me x limit d }
-    ensures shape { SameShape tables.old tables.new }
-    ensures capacity { vec_capacity lines.new ≡ vec_capacity lines.old }
+    ensures kept { SameShapeAndRoom tables.old tables.new lines.old lines.new }
 {
     match tables.first_waiting(WaitQueue::Senders(d)) {
         Some(t) => {
@@ -212,8 +205,7 @@ fn receive(tables: &mut Tables, lines: &mut Vec<Line>, me: u8, limit: TimeLimit,
     requires empty { lines.old.items ≡ [] }
     requires room { 1 ≤ vec_capacity lines.old }
     ensures outcome { outcome result tables.new lines.new.items ≡ word_received tables.old.system tables.old.state me (task_at tables.old.state.tasks me) limit d }
-    ensures shape { SameShape tables.old tables.new }
-    ensures capacity { vec_capacity lines.new ≡ vec_capacity lines.old }
+    ensures kept { SameShapeAndRoom tables.old tables.new lines.old lines.new }
 {
     if let Some(word) = tables.oldest_word(d) {
         return take_oldest(tables, lines, d, word);
@@ -243,8 +235,7 @@ pub fn rcv_dtq(
     requires empty { lines.old.items ≡ [] }
     requires room { 1 ≤ vec_capacity lines.old }
     ensures outcome { outcome result tables.new lines.new.items ≡ rcv_dtq_case tables.old.system tables.old.state me (task_at tables.old.state.tasks me) limit queue }
-    ensures shape { SameShape tables.old tables.new }
-    ensures capacity { vec_capacity lines.new ≡ vec_capacity lines.old }
+    ensures kept { SameShapeAndRoom tables.old tables.new lines.old lines.new }
 {
     match data_queue_of(tables, queue) {
         Some(d) => receive(tables, lines, me, limit, d),
@@ -266,8 +257,7 @@ pub fn trcv_dtq(
     requires empty { lines.old.items ≡ [] }
     requires room { 1 ≤ vec_capacity lines.old }
     ensures outcome { outcome result tables.new lines.new.items ≡ trcv_dtq_case tables.old.system tables.old.state me (task_at tables.old.state.tasks me) queue limit }
-    ensures shape { SameShape tables.old tables.new }
-    ensures capacity { vec_capacity lines.new ≡ vec_capacity lines.old }
+    ensures kept { SameShapeAndRoom tables.old tables.new lines.old lines.new }
 {
     let Some(d) = data_queue_of(tables, queue) else {
         return replied(Er::Id);

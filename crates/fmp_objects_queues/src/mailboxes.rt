@@ -4,7 +4,7 @@ ghost use Rattle.fmp_base.specs.Arguments.{IsInRange};
 ghost use Rattle.fmp_base.specs.MailboxCalls.{message_sent, message_received, snd_mbx as snd_mbx_case, rcv_mbx as rcv_mbx_case, trcv_mbx as trcv_mbx_case};
 ghost use Rattle.fmp_base.specs.Outcomes.{numbered as place_of};
 ghost use Rattle.fmp_base.specs.States.{task_at};
-ghost use Rattle.fmp_tasks.specs.Tables.{outcome, SameShape};
+ghost use Rattle.fmp_tasks.specs.Tables.{outcome, SameShape, SameShapeAndRoom};
 
 use fmp_base::arguments::{limit_of, numbered};
 use fmp_base::{Answer, Er, Line, QueueOrder, TimeLimit, WaitCause, WaitQueue};
@@ -36,8 +36,7 @@ fn send(tables: &mut Tables, lines: &mut Vec<Line>, m: u8, g: u8) -> Answer
     requires empty { lines.old.items ≡ [] }
     requires room { 1 ≤ vec_capacity lines.old }
     ensures outcome { outcome result tables.new lines.new.items ≡ message_sent tables.old.system tables.old.state m g }
-    ensures shape { SameShape tables.old tables.new }
-    ensures capacity { vec_capacity lines.new ≡ vec_capacity lines.old }
+    ensures kept { SameShapeAndRoom tables.old tables.new lines.old lines.new }
 {
     let config = tables.mailbox_config(m);
     let by_priority = matches!(config.message_order, QueueOrder::Priority);
@@ -65,8 +64,7 @@ pub fn snd_mbx(tables: &mut Tables, lines: &mut Vec<Line>, mailbox: i32, message
     requires empty { lines.old.items ≡ [] }
     requires room { 1 ≤ vec_capacity lines.old }
     ensures outcome { outcome result tables.new lines.new.items ≡ snd_mbx_case tables.old.system tables.old.state mailbox message }
-    ensures shape { SameShape tables.old tables.new }
-    ensures capacity { vec_capacity lines.new ≡ vec_capacity lines.old }
+    ensures kept { SameShapeAndRoom tables.old tables.new lines.old lines.new }
 {
     let Some(m) = mailbox_of(tables, mailbox) else {
         return replied(Er::Id);

@@ -1,1 +1,4 @@
+pub mod Bits
+pub mod Pending
+pub mod PendingLaws
 pub mod Processors

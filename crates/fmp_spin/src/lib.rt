@@ -2,6 +2,9 @@
 //! disabled (uITRON 4.0, section 4.8; FMP kernel, spin locks).
 #![tactic(auto)]
 
+mod bits;
+pub mod pending;
 pub mod processors;
 
+pub use pending::PendingHandlers;
 pub use processors::Processors;

@@ -1,5 +1,7 @@
 -- What the tables hold, what is true of them, and what the calls on them leave alone.
 use Rattle.std.specs.Prelude.{◌≡◌, ℕ, ◌*◌, ◌≤◌, ◌<◌, ◌^◌, List, Option, map, length}
+use Rattle.std.specs.Global.{Vec}
+use Rattle.std.specs.Vec.{vec_capacity}
 use Rattle.fmp_base.specs.declared.calls.Answer.{Answer}
 use Rattle.fmp_base.specs.declared.events.Line.{Line}
 use Rattle.fmp_base.specs.declared.states.Handler.{Handler}
@@ -13,6 +15,7 @@ use Rattle.fmp_base.specs.States.{KernelState, Progress}
 use Rattle.fmp_base.specs.Systems.{SystemTables, tables_of}
 use Rattle.fmp_lists.specs.Orders.{IsOrder}
 use Rattle.fmp_ready.specs.ReadyLists.{ReadyLists}
+use Rattle.fmp_spin.specs.Pending.{handler_processors}
 use Rattle.fmp_waitq.specs.WaitLists.{WaitLists, count_of_lists}
 use Rattle.fmp_tasks.specs.declared.tables.Tables.TheInside.{Inside}
 use Rattle.fmp_tasks.specs.Homes.{Kept, BlocksFit, Standing, ready_home, wait_home, always_fifo, order_with_head, counts_of}
@@ -36,8 +39,8 @@ tables_view a =
         shared_words = a.shared_words.items;
         processors = a.processors;
         due_times = a.cyclics;
-        pending_cyclics = a.pending_cyclics.items;
-        pending_interrupts = a.pending_interrupts.items;
+        pending_cyclics = a.pending.cyclics;
+        pending_interrupts = a.pending.interrupts;
         clock = a.clock;
       };
     }
@@ -75,8 +78,9 @@ pub record IsWhole (a : Inside) : Type 0 where
   pub shared_words : length a.shared_words.items ≡ length a.system.shared_words.items
   pub processors : length a.processors ≡ a.system.processors
   pub cyclics : length a.cyclics ≡ length a.system.cyclics.items
-  pub pending_cyclics : length a.pending_cyclics.items ≡ length a.system.cyclics.items
-  pub pending_interrupts : length a.pending_interrupts.items ≡ 32
+  pub handlers : a.pending.processors ≡ handler_processors (tables_of a.system)
+  pub pending_cyclics : length a.pending.cyclics ≡ length a.system.cyclics.items
+  pub pending_interrupts : length a.pending.interrupts ≡ 32
   pub clock : a.clock ≤ 2 ^ 20
 
 -- the state, and the lines of what happened on the way to it
@@ -91,3 +95,8 @@ outcome answer h lines = record { answer = answer; progress = progress h lines }
 pub record SameShape (old new : TablesView) : Type 0 where
   pub system : new.system ≡ old.system
   pub clock : new.state.clock ≡ old.state.clock
+
+-- what every call that adds lines leaves alone: that, and the room that the list of lines has
+pub record SameShapeAndRoom (old new : TablesView) (before after : Vec Line) : Type 0 where
+  pub shape : SameShape old new
+  pub room : vec_capacity after ≡ vec_capacity before

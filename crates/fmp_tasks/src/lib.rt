@@ -7,7 +7,6 @@ pub mod answers;
 mod config;
 mod messages;
 pub mod order;
-mod pending;
 mod queues;
 mod setup;
 pub mod tables;

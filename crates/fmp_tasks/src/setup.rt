@@ -1,17 +1,18 @@
 //! The parts of the state in which a system starts.
-ghost use Rattle.std.specs.Prelude.{◌≡◌, false, replicate, IfOk, map};
+ghost use Rattle.std.specs.Prelude.{◌≡◌, IfOk, map};
 ghost use Rattle.fmp_base.specs.Ranges.{IsInRange};
 ghost use Rattle.fmp_base.specs.Setups.{created as created_block, created_state};
 ghost use Rattle.fmp_base.specs.Systems.{tables_of};
+ghost use Rattle.fmp_spin.specs.Pending.{none_pending};
 ghost use Rattle.fmp_tasks.specs.Empties.{empty_ready, empty_waits, empty_mailboxes, no_deadlines};
 
-use crate::config::filled;
 use crate::words::Words;
 use fmp_base::{
     FlagConfig, Phase, SemaphoreConfig, SharedWordConfig, System, TaskBlock, TaskConfig,
 };
 use fmp_lists::Lists;
 use fmp_ready::ReadyQueues;
+use fmp_spin::PendingHandlers;
 use fmp_ticks::{Cyclics, TickQueue};
 use fmp_waitq::{ObjectCounts, WaitQueues};
 use std::alloc::{AllocError, Global};
@@ -124,18 +125,16 @@ pub fn empty_contents(alloc: Global, sys: &System) -> Result<(Words, Lists), All
     Ok((words, mailboxes))
 }
 
-/// The cyclic handlers, and the marks of pending handlers, which are not set.
+/// The cyclic handlers, and no pending handler.
 pub fn idle_handlers(
     alloc: Global,
     sys: &System,
-) -> Result<(Cyclics, Vec<bool>, Vec<bool>), AllocError>
+) -> Result<(Cyclics, PendingHandlers), AllocError>
     requires { IsInRange (tables_of sys.now) }
     ensures due_times { IfOk result (λ v. v.0 ≡ (created_state (tables_of sys.now)).due_times) }
-    ensures cyclics { IfOk result (λ v. v.1.items ≡ (created_state (tables_of sys.now)).pending_cyclics) }
-    ensures interrupts { IfOk result (λ v. v.2.items ≡ replicate 32 false) }
+    ensures pending { IfOk result (λ v. v.1 ≡ none_pending (tables_of sys.now)) }
 {
     let cyclics = Cyclics::new(alloc, sys)?;
-    let pending_cyclics = filled(alloc, false, sys.cyclics.len())?;
-    let pending_interrupts = filled(alloc, false, 32)?;
-    Ok((cyclics, pending_cyclics, pending_interrupts))
+    let pending = PendingHandlers::new(alloc, sys)?;
+    Ok((cyclics, pending))
 }

@@ -11,7 +11,7 @@ use crate::words::Words;
 use fmp_base::{System, TaskBlock};
 use fmp_lists::Lists;
 use fmp_ready::ReadyQueues;
-use fmp_spin::Processors;
+use fmp_spin::{PendingHandlers, Processors};
 use fmp_ticks::{Cyclics, TickQueue};
 use fmp_waitq::WaitQueues;
 use std::alloc::{AllocError, Global};
@@ -42,8 +42,7 @@ pub struct Tables {
     shared_words: Vec<i32>,
     processors: Processors,
     cyclics: Cyclics,
-    pending_cyclics: Vec<bool>,
-    pending_interrupts: Vec<bool>,
+    pending: PendingHandlers,
     clock: u32,
 }
 
@@ -70,7 +69,7 @@ impl Tables {
         let (semaphores, flags, shared_words) = initial_values(alloc, sys)?;
         let (words, mailboxes) = empty_contents(alloc, sys)?;
         let processors = Processors::new(alloc, sys.processors)?;
-        let (cyclics, pending_cyclics, pending_interrupts) = idle_handlers(alloc, sys)?;
+        let (cyclics, pending) = idle_handlers(alloc, sys)?;
         Ok(Tables {
             system,
             blocks,
@@ -85,8 +84,7 @@ impl Tables {
             shared_words,
             processors,
             cyclics,
-            pending_cyclics,
-            pending_interrupts,
+            pending,
             clock: 0,
         })
     }

@@ -8,7 +8,7 @@ ghost use Rattle.fmp_base.specs.States.{task_at};
 ghost use Rattle.fmp_base.specs.TaskCalls.{is_dormant};
 ghost use Rattle.fmp_tasks.specs.Homes.{Fits, IsSomeThere, counts_of};
 ghost use Rattle.fmp_base.specs.Arguments.{IsInRange};
-ghost use Rattle.fmp_tasks.specs.Tables.{progress, outcome, SameShape};
+ghost use Rattle.fmp_tasks.specs.Tables.{progress, outcome, SameShape, SameShapeAndRoom};
 
 use crate::tables::Tables;
 use fmp_base::{Answer, Er, Line, Phase, Reply, TaskBlock, TimeLimit, WaitCause};
@@ -19,9 +19,8 @@ pub fn start(tables: &mut Tables, lines: &mut Vec<Line>, t: u8, x: TaskBlock)
     requires fits { Fits tables.old.system x }
     requires room { vec_len lines.old < vec_capacity lines.old }
     ensures progress { progress tables.new lines.new.items ≡ started tables.old.system (progress tables.old lines.old.items) t x }
-    ensures shape { SameShape tables.old tables.new }
+    ensures kept { SameShapeAndRoom tables.old tables.new lines.old lines.new }
     ensures one_more { vec_len lines.new ≡ vec_len lines.old + 1 }
-    ensures capacity { vec_capacity lines.new ≡ vec_capacity lines.old }
 {
     let processor = match x.next_processor {
         Some(p) => p,
@@ -48,9 +47,8 @@ pub fn release(tables: &mut Tables, lines: &mut Vec<Line>, t: u8, x: TaskBlock, 
     requires fits { Fits tables.old.system x }
     requires room { vec_len lines.old < vec_capacity lines.old }
     ensures progress { progress tables.new lines.new.items ≡ released (progress tables.old lines.old.items) t x reply }
-    ensures shape { SameShape tables.old tables.new }
+    ensures kept { SameShapeAndRoom tables.old tables.new lines.old lines.new }
     ensures one_more { vec_len lines.new ≡ vec_len lines.old + 1 }
-    ensures capacity { vec_capacity lines.new ≡ vec_capacity lines.old }
 {
     let y = TaskBlock {
         phase: Phase::Ready,
@@ -75,9 +73,8 @@ pub fn end(tables: &mut Tables, lines: &mut Vec<Line>, t: u8, x: TaskBlock)
     requires fits { Fits tables.old.system x }
     requires room { vec_len lines.old < vec_capacity lines.old }
     ensures progress { progress tables.new lines.new.items ≡ ended tables.old.system (progress tables.old lines.old.items) t x }
-    ensures shape { SameShape tables.old tables.new }
+    ensures kept { SameShapeAndRoom tables.old tables.new lines.old lines.new }
     ensures few { vec_len lines.new ≤ vec_len lines.old + 1 }
-    ensures capacity { vec_capacity lines.new ≡ vec_capacity lines.old }
 {
     let priority = tables.task_config(t).priority;
     let y = TaskBlock {

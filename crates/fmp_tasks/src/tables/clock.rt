@@ -7,7 +7,6 @@ ghost use Rattle.fmp_base.specs.Ticks.{with_clock_advanced, with_cyclic_pending,
 ghost use Rattle.fmp_tasks.specs.Tables.{HasHandler};
 ghost use Rattle.fmp_ticks.specs.Times.{first_due};
 
-use crate::pending::{first_cyclic, first_interrupt};
 use crate::tables::Tables;
 use fmp_base::Handler;
 
@@ -43,7 +42,7 @@ impl Tables {
         ensures system { result ≡ length self.now.system.cyclics }
         ensures few { result ≤ 255 }
     {
-        self.pending_cyclics.len()
+        self.pending.cyclic_count()
     }
 
     /// Of the cyclic handlers that are due now the first by number, if any.
@@ -78,7 +77,7 @@ impl Tables {
         requires { c < length self.now.system.cyclics }
         ensures { result ≡ is_pending self.now.state.pending_cyclics c }
     {
-        self.pending_cyclics[c as usize]
+        self.pending.is_cyclic_pending(c)
     }
 
     /// A cyclic handler becomes pending.
@@ -86,7 +85,7 @@ impl Tables {
         requires { c < length self.old.system.cyclics }
         ensures { self.new ≡ record self.old { state = with_cyclic_pending self.old.state c } }
     {
-        self.pending_cyclics[c as usize] = true;
+        self.pending.pend_cyclic(c);
     }
 
     /// Whether the interrupt at a place, 0 to 31, is pending.
@@ -94,7 +93,7 @@ impl Tables {
         requires { i < 32 }
         ensures { result ≡ is_pending self.now.state.pending_interrupts i }
     {
-        self.pending_interrupts[i as usize]
+        self.pending.is_interrupt_pending(i)
     }
 
     /// The interrupt at a place, 0 to 31, becomes pending.
@@ -102,7 +101,7 @@ impl Tables {
         requires { i < 32 }
         ensures { self.new ≡ record self.old { state = with_interrupt_pending self.old.state i } }
     {
-        self.pending_interrupts[i as usize] = true;
+        self.pending.pend_interrupt(i);
     }
 
     /// The first pending handler of a processor, if any: interrupts by number, then cyclic handlers by number.
@@ -111,13 +110,7 @@ impl Tables {
         ensures value { result ≡ pending_handler self.now.system self.now.state p }
         ensures valid { IfSome result (λ h. HasHandler self.now.system h) }
     {
-        match first_interrupt(&self.system, self.pending_interrupts.as_slice(), p) {
-            Some(i) => Some(Handler::Interrupt(i)),
-            None => match first_cyclic(&self.system, self.pending_cyclics.as_slice(), p) {
-                Some(c) => Some(Handler::Cyclic(c)),
-                None => None,
-            },
-        }
+        self.pending.first(p)
     }
 
     /// A handler is pending no more.
@@ -125,9 +118,6 @@ impl Tables {
         requires there { HasHandler self.old.system h }
         ensures { self.new ≡ record self.old { state = without_pending self.old.state h } }
     {
-        match h {
-            Handler::Interrupt(i) => self.pending_interrupts[i as usize] = false,
-            Handler::Cyclic(c) => self.pending_cyclics[c as usize] = false,
-        }
+        self.pending.clear(h);
     }
 }

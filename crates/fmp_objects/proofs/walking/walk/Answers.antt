@@ -67,7 +67,7 @@ loop-t-smaller c =
     ∙ ap (λ (x : TaskBlock). released (progress c.loop-t.tables c.loop-t.lines.items) c.in-Some.t x c.with_bits.result) c.task-x.ensures.value
     ∙ ap (λ (r : Reply). released (progress c.loop-t.tables c.loop-t.lines.items) c.in-Some.t (task_at c.loop-t.tables.state.tasks c.in-Some.t) r) c.with_bits.ensures in
     let gone : waiting_after ≡ without waiting c.in-Some.t =
-    ap (λ (s : SystemTables). wait_queue s c.release.new.tables.state (Flag c.args.f)) c.release.ensures.shape.system
+    ap (λ (s : SystemTables). wait_queue s c.release.new.tables.state (Flag c.args.f)) c.release.ensures.kept.shape.system
     ∙ queue-released c.loop-t.tables.system (Flag c.args.f) (progress c.loop-t.tables c.loop-t.lines.items) (progress c.release.new.tables c.release.new.lines.items) c.in-Some.t c.args.bits (given (pos c.args.bits)) leaves after in
     let rest : drop c.loop-t.place waiting_after ≡ drop (c.loop-t.place + 1) waiting = ap (drop c.loop-t.place) gone ∙ c.in-Some.ensures.once in
     let fewer : length (drop c.loop-t.place waiting_after) < length (drop c.loop-t.place waiting) =
@@ -86,7 +86,7 @@ loop-t-preserved c =
     ∙ ap (λ (x : TaskBlock). released (progress c.loop-t.tables c.loop-t.lines.items) c.in-Some.t x c.with_bits.result) c.task-x.ensures.value
     ∙ ap (λ (r : Reply). released (progress c.loop-t.tables c.loop-t.lines.items) c.in-Some.t (task_at c.loop-t.tables.state.tasks c.in-Some.t) r) c.with_bits.ensures in
     let gone : waiting_after ≡ without waiting c.in-Some.t =
-    ap (λ (s : SystemTables). wait_queue s c.release.new.tables.state (Flag c.args.f)) c.release.ensures.shape.system
+    ap (λ (s : SystemTables). wait_queue s c.release.new.tables.state (Flag c.args.f)) c.release.ensures.kept.shape.system
     ∙ queue-released c.loop-t.tables.system (Flag c.args.f) (progress c.loop-t.tables c.loop-t.lines.items) (progress c.release.new.tables c.release.new.lines.items) c.in-Some.t c.args.bits (given (pos c.args.bits)) leaves after in
     let rest : drop c.loop-t.place waiting_after ≡ drop (c.loop-t.place + 1) waiting = ap (drop c.loop-t.place) gone ∙ c.in-Some.ensures.once in
     let same : length c.loop-t.tables.system.tasks ≡ length c.args.tables.now.system.tasks = ap (λ (s : SystemTables). length s.tasks) c.loop-t.invariant.shape.system in
@@ -100,11 +100,11 @@ loop-t-preserved c =
           ∙ sym (walk-released c.flag_config-clears.result.clears c.args.f c.args.bits c.loop-t.place c.in-Some.t waiting (progress c.loop-t.tables c.loop-t.lines.items) c.if-clears.false here leaves)
           ∙ c.loop-t.invariant.progress;
       shape = record {
-        system = c.release.ensures.shape.system ∙ c.loop-t.invariant.shape.system;
-        clock = c.release.ensures.shape.clock ∙ c.loop-t.invariant.shape.clock;
+        system = c.release.ensures.kept.shape.system ∙ c.loop-t.invariant.shape.system;
+        clock = c.release.ensures.kept.shape.clock ∙ c.loop-t.invariant.shape.clock;
       };
-      room = λ some. omega (arith, ap length rest, c.release.ensures.one_more, c.release.ensures.capacity);
-      capacity = c.release.ensures.capacity ∙ c.loop-t.invariant.capacity;
+      room = λ some. omega (arith, ap length rest, c.release.ensures.one_more, c.release.ensures.kept.room);
+      capacity = c.release.ensures.kept.room ∙ c.loop-t.invariant.capacity;
     }
 
 pub returns-clause-progress : goal.returns-clause-progress

@@ -4,6 +4,7 @@ use Rattle.fmp_base.specs.declared.states.Processor.{Processor}
 use Rattle.fmp_base.specs.Ranges.{IsInRange}
 use Rattle.fmp_base.specs.Systems.{SystemTables, tables_of}
 use Rattle.fmp_lists.specs.Heads.{Heads}
+use Rattle.fmp_spin.specs.Pending.{PendingMarks, handler_processors}
 use Rattle.fmp_tasks.specs.Tables.{Sound}
 use Rattle.fmp_tasks.proofs.NewLemmas.{Sound-new}
 use Rattle.fmp_tasks.proofs.tables.Tables.new.Goals as goal
@@ -24,7 +25,8 @@ invariant_of-result c =
       shared_words = ap (λ (l : List ℤ). length l) c.in_ok-semaphores.ensures.shared_words ∙ length-map _ _ ∙ ap (λ (s : SystemTables). length s.shared_words) (sym e);
       processors = ap (λ (l : List Processor). length l) c.in_ok-processors.ensures ∙ length-replicate _ _ ∙ ap (λ (s : SystemTables). s.processors) (sym e);
       cyclics = ap (λ (l : List (Option ℕ)). length l) c.in_ok-cyclics.ensures.due_times ∙ length-map _ _ ∙ ap (λ (s : SystemTables). length s.cyclics) (sym e);
-      pending_cyclics = ap (λ (l : List Bool). length l) c.in_ok-cyclics.ensures.cyclics ∙ length-replicate _ _ ∙ ap (λ (s : SystemTables). length s.cyclics) (sym e);
-      pending_interrupts = ap (λ (l : List Bool). length l) c.in_ok-cyclics.ensures.interrupts ∙ length-replicate 32 false;
+      handlers = ap (λ (h : PendingMarks). h.processors) c.in_ok-cyclics.ensures.pending ∙ ap handler_processors (sym e);
+      pending_cyclics = ap (λ (h : PendingMarks). length h.cyclics) c.in_ok-cyclics.ensures.pending ∙ length-replicate _ _ ∙ ap (λ (s : SystemTables). length s.cyclics) (sym e);
+      pending_interrupts = ap (λ (h : PendingMarks). length h.interrupts) c.in_ok-cyclics.ensures.pending ∙ length-replicate 32 false;
       clock = omega arith;
     }

@@ -24,6 +24,7 @@ invariant_of-self c =
       shared_words = c.self.invariant.shared_words;
       processors = c.self.invariant.processors;
       cyclics = c.self.invariant.cyclics;
+      handlers = c.self.invariant.handlers;
       pending_cyclics = c.self.invariant.pending_cyclics;
       pending_interrupts = c.self.invariant.pending_interrupts;
       clock = c.self.invariant.clock;

@@ -1,0 +1,2 @@
+pub mod NewLemmas
+pub mod PendingLemmas
