@@ -5,9 +5,8 @@ use Rattle.std.proofs.Math.Bool.{and-true}
 use Rattle.std.proofs.Math.ListN.{drop_of_length-le}
 use Rattle.std.proofs.Math.Seq.{take-length}
 use Rattle.std.proofs.lemmas.Bool.Decides.{nat_tests}
-use Rattle.fmp_base.specs.declared.states.Handler.{Handler}
 use Rattle.fmp_base.specs.declared.states.Handler.TheVariants as handler
-use Rattle.fmp_base.specs.Settles.{first_pending, first_or, cyclic_handler, interrupt_or}
+use Rattle.fmp_base.specs.Settles.{first_pending, cyclic_handler, interrupt_or}
 use Rattle.fmp_base.specs.Systems.{found}
 use Rattle.fmp_base.specs.Ticks.{is_pending}
 use Rattle.fmp_spin.specs.Bits.{bit_in, as_bit, IsFirst}

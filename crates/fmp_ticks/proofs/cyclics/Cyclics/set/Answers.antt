@@ -1,5 +1,4 @@
-use Rattle.std.proofs.Common.{◌≡◌, ◌≢◌, ◌<◌, ◌∙◌, ℕ, List, Option, length, ap, sym, refl, arith}
-use Rattle.std.specs.Prelude.{slice_get, Some}
+use Rattle.std.proofs.Common.{◌<◌, ◌∙◌, ℕ, length, ap, sym, refl}
 use Rattle.std.proofs.Math.ListN.{length-set}
 use Rattle.std.proofs.lemmas.Option.{slice_get_read}
 use Rattle.fmp_ticks.specs.Times.{least_time, lowered}
@@ -14,9 +13,9 @@ invariant_of-self c =
       few = rw (length-set c.self.inside.due_times.items c.args.c c.args.due) c.self.invariant.few;
       earliest =
           elim c.if-was_first.branch [
-            then-was_first w ↦ w.self-is ∙ w.earliest-self-inside.ensures ∙ ap least_time w.as_slice.ensures.value
-          | else-was_first w ↦
-              w.self-is ∙ w.lower-self-inside.ensures ∙ ap (λ (n : ℕ). lowered n c.args.due) c.self.invariant.earliest
-              ∙ sym (least-set c.self.inside.due_times.items c.args.c c.index.result.now c.args.due (slice_get_read _ _ _ _ refl there c.index.ensures) (other-time _ _ _ c.self.invariant.earliest w.if-was_first.ensures) there)
+            | then-was_first w ↦ w.self-is ∙ w.earliest-self-inside.ensures ∙ ap least_time w.as_slice.ensures.value
+            | else-was_first w ↦
+                w.self-is ∙ w.lower-self-inside.ensures ∙ ap (λ (n : ℕ). lowered n c.args.due) c.self.invariant.earliest
+                ∙ sym (least-set c.self.inside.due_times.items c.args.c c.index.result.now c.args.due (slice_get_read _ _ _ _ refl there c.index.ensures) (other-time _ _ _ c.self.invariant.earliest w.if-was_first.ensures) there)
           ];
     }
