@@ -1,7 +1,6 @@
 -- The rows of bits of a system in which no handler is pending.
-use Rattle.std.proofs.Common.{◌≡◌, ℕ, zero, suc, ◌+◌, ◌*◌, ◌-◌, ◌/◌, ◌%◌, ◌<◌, ◌≤◌, List, [], ◌∷◌, length, Option, Some, None, Bool, true, false, ◌&&◌, nat_eq, nat_lt, refl, ap, ◌∙◌, sym, subst, arith, map, replicate, ◌++◌, append_assoc}
-use Rattle.std.specs.Prelude.{slice_get, slice_index_or, if◌then◌else◌}
-use Rattle.std.specs.Int.{bit_at}
+use Rattle.std.proofs.Common.{◌≡◌, ℕ, zero, suc, ◌+◌, ◌*◌, ◌-◌, ◌/◌, ◌%◌, ◌<◌, List, [], ◌∷◌, length, Option, Some, None, Bool, true, false, nat_eq, nat_lt, refl, ap, ◌∙◌, subst, arith, map, replicate, ◌++◌, append_assoc}
+use Rattle.std.specs.Prelude.{slice_get, slice_index_or}
 use Rattle.std.specs.List.{AllByRecursion}
 use Rattle.std.proofs.lemmas.List.{length-map}
 use Rattle.std.proofs.lemmas.Nat.Bits.{bit_at-zero}
@@ -11,8 +10,7 @@ use Rattle.fmp_base.specs.Ranges.{IsInRange, CyclicInRange, InterruptInRange}
 use Rattle.fmp_base.specs.States.{places_from}
 use Rattle.fmp_base.specs.Systems.{SystemTables, defined_for, found, interrupt_config}
 use Rattle.fmp_base.specs.Ticks.{is_pending}
-use Rattle.fmp_spin.specs.Bits.{bit_in, as_bit}
-use Rattle.fmp_spin.specs.Pending.{HandlerProcessors, AreRows, handler_processors, is_on, mark_at_slot, processor_at_slot, processor_of}
+use Rattle.fmp_spin.specs.Pending.{AreRows, handler_processors, mark_at_slot, processor_at_slot, processor_of}
 
 zeros : (n k : ℕ) → ◌≡◌ {A = ℕ} (slice_index_or (replicate n 0) k 0) 0
 zeros zero k = refl

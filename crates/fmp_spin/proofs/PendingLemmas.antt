@@ -5,9 +5,8 @@ use Rattle.std.proofs.Math.Bool.{and-true}
 use Rattle.std.proofs.Math.ListN.{drop_of_length-le}
 use Rattle.std.proofs.Math.Seq.{take-length}
 use Rattle.std.proofs.lemmas.Bool.Decides.{nat_tests}
-use Rattle.fmp_base.specs.declared.states.Handler.{Handler}
 use Rattle.fmp_base.specs.declared.states.Handler.TheVariants as handler
-use Rattle.fmp_base.specs.Settles.{first_pending, first_or, cyclic_handler, interrupt_or}
+use Rattle.fmp_base.specs.Settles.{first_pending, cyclic_handler, interrupt_or}
 use Rattle.fmp_base.specs.Systems.{found}
 use Rattle.fmp_base.specs.Ticks.{is_pending}
 use Rattle.fmp_spin.specs.Bits.{bit_in, as_bit, IsFirst}
@@ -174,13 +173,15 @@ pub first-is_interrupt : (count : ℕ) (words : List ℕ) (marks : PendingMarks)
     → AreRows count words (processor_at_slot marks.processors) (mark_at_slot marks.interrupts marks.cyclics) → p < count
     → IsFirst (λ i. bit_in words (p * 5 * 64 + i)) 320 (Some k) → k < 64
     → (Some (handler.Interrupt k) ≡ first_handler marks p) × (k < length marks.interrupts)
-first-is_interrupt count words marks p k rows l first low =
-    (ap (λ (o : Option ℕ). interrupt_or o (cyclic_handler (first_pending (cycles_there marks.processors p) 0 marks.cyclics))) (sym (first-at_start (interrupts_there marks.processors p) marks.interrupts k set clear)),
-     pending-there marks.interrupts k (left-true _ _ set)) where
-      set : (is_pending marks.interrupts k && interrupts_there marks.processors p k) ≡ true
-      set = set-bit _ (ap as_bit (sym (slot-interrupt marks.processors marks.interrupts marks.cyclics p k low)) ∙ sym (bit-of count words _ _ p k rows l first.0) ∙ first.1)
-      clear : (j : ℕ) → j < k → (is_pending marks.interrupts j && interrupts_there marks.processors p j) ≡ false
-      clear j m = clear-bit _ (ap as_bit (sym (slot-interrupt marks.processors marks.interrupts marks.cyclics p j (omega arith))) ∙ sym (bit-of count words _ _ p j rows l (omega (arith, first.0))) ∙ first.2 j m)
+first-is_interrupt count words marks p k rows l first low = (
+  ap (λ (o : Option ℕ). interrupt_or o (cyclic_handler (first_pending (cycles_there marks.processors p) 0 marks.cyclics))) (sym (first-at_start (interrupts_there marks.processors p) marks.interrupts k set clear)),
+  pending-there marks.interrupts k (left-true _ _ set),
+) where
+  set : (is_pending marks.interrupts k && interrupts_there marks.processors p k) ≡ true
+  set = set-bit _ (ap as_bit (sym (slot-interrupt marks.processors marks.interrupts marks.cyclics p k low)) ∙ sym (bit-of count words _ _ p k rows l first.0) ∙ first.1)
+
+  clear : (j : ℕ) → j < k → (is_pending marks.interrupts j && interrupts_there marks.processors p j) ≡ false
+  clear j m = clear-bit _ (ap as_bit (sym (slot-interrupt marks.processors marks.interrupts marks.cyclics p j (omega arith))) ∙ sym (bit-of count words _ _ p j rows l (omega (arith, first.0))) ∙ first.2 j m)
 
 -- no interrupt, where no bit below 64 is set
 no_interrupt : (count : ℕ) (words : List ℕ) (marks : PendingMarks) (p : ℕ)
@@ -195,16 +196,19 @@ pub first-is_cyclic : (count : ℕ) (words : List ℕ) (marks : PendingMarks) (p
     → AreRows count words (processor_at_slot marks.processors) (mark_at_slot marks.interrupts marks.cyclics) → p < count
     → length marks.interrupts ≤ 64 → IsFirst (λ i. bit_in words (p * 5 * 64 + i)) 320 (Some k) → k ≡ 64 + c
     → (Some (handler.Cyclic c) ≡ first_handler marks p) × (c < length marks.cyclics)
-first-is_cyclic count words marks p k c rows l few first is =
-    (sym (ap (λ (o : Option ℕ). interrupt_or o (cyclic_handler (first_pending (cycles_there marks.processors p) 0 marks.cyclics))) (no_interrupt count words marks p rows l (λ i m. first.2 i (omega (arith, is))) few)
-     ∙ ap cyclic_handler (first-at_start (cycles_there marks.processors p) marks.cyclics c set clear)),
-     pending-there marks.cyclics c (left-true _ _ set)) where
-      bit : (j : ℕ) → 64 + j < 320 → bit_in words (p * 5 * 64 + (64 + j)) ≡ as_bit (is_pending marks.cyclics j && cycles_there marks.processors p j)
-      bit j m = bit-of count words _ _ p (64 + j) rows l m ∙ ap as_bit (slot-cyclic marks.processors marks.interrupts marks.cyclics p j)
-      set : (is_pending marks.cyclics c && cycles_there marks.processors p c) ≡ true
-      set = set-bit _ (sym (bit c (omega (arith, is, first.0))) ∙ rw is at first.1)
-      clear : (j : ℕ) → j < c → (is_pending marks.cyclics j && cycles_there marks.processors p j) ≡ false
-      clear j m = clear-bit _ (sym (bit j (omega (arith, is, first.0))) ∙ first.2 (64 + j) (omega (arith, is)))
+first-is_cyclic count words marks p k c rows l few first is = (
+  sym (ap (λ (o : Option ℕ). interrupt_or o (cyclic_handler (first_pending (cycles_there marks.processors p) 0 marks.cyclics))) (no_interrupt count words marks p rows l (λ i m. first.2 i (omega (arith, is))) few)
+      ∙ ap cyclic_handler (first-at_start (cycles_there marks.processors p) marks.cyclics c set clear)),
+  pending-there marks.cyclics c (left-true _ _ set),
+) where
+  bit : (j : ℕ) → 64 + j < 320 → bit_in words (p * 5 * 64 + (64 + j)) ≡ as_bit (is_pending marks.cyclics j && cycles_there marks.processors p j)
+  bit j m = bit-of count words _ _ p (64 + j) rows l m ∙ ap as_bit (slot-cyclic marks.processors marks.interrupts marks.cyclics p j)
+
+  set : (is_pending marks.cyclics c && cycles_there marks.processors p c) ≡ true
+  set = set-bit _ (sym (bit c (omega (arith, is, first.0))) ∙ rw is at first.1)
+
+  clear : (j : ℕ) → j < c → (is_pending marks.cyclics j && cycles_there marks.processors p j) ≡ false
+  clear j m = clear-bit _ (sym (bit j (omega (arith, is, first.0))) ∙ first.2 (64 + j) (omega (arith, is)))
 
 pub first-is_none : (count : ℕ) (words : List ℕ) (marks : PendingMarks) (p : ℕ)
     → AreRows count words (processor_at_slot marks.processors) (mark_at_slot marks.interrupts marks.cyclics) → p < count

@@ -4,7 +4,7 @@ use Rattle.fmp_base.specs.declared.calls.Answer.{Answer}
 use Rattle.fmp_base.specs.declared.states.Processor.{Processor}
 use Rattle.fmp_base.specs.declared.codes.Er.TheVariants as er
 use Rattle.fmp_base.specs.declared.states.Lock.TheVariants.{Free, Spin}
-use Rattle.fmp_base.specs.Outcomes.{Outcome, refused, succeeds_in, refused_if}
+use Rattle.fmp_base.specs.Outcomes.{Outcome, succeeds_in, refused_if}
 use Rattle.fmp_base.specs.ProcessorCalls.{with_lock}
 use Rattle.fmp_base.specs.States.{KernelState, unchanged, idle}
 use Rattle.fmp_base.specs.Systems.{found}

@@ -155,12 +155,7 @@ impl PendingHandlers {
     {
         let processor = self.interrupt_processors[i as usize];
         self.interrupts[i as usize] = pending;
-        set_slot(
-            self.words.as_mut_slice(),
-            processor,
-            i as usize,
-            pending,
-        );
+        set_slot(self.words.as_mut_slice(), processor, i as usize, pending);
     }
 
     /// A cyclic handler is pending, or no more.

@@ -7,8 +7,6 @@ use Rattle.fmp_base.specs.declared.events.Line.{Line}
 use Rattle.fmp_base.specs.declared.states.Handler.{Handler}
 use Rattle.fmp_base.specs.declared.states.Handler.TheVariants as handler
 use Rattle.fmp_base.specs.declared.states.TaskBlock.{TaskBlock}
-use Rattle.fmp_base.specs.declared.states.TimeLimit.{TimeLimit}
-use Rattle.fmp_base.specs.declared.states.TimeLimit.TheVariants as limit
 use Rattle.fmp_base.specs.Outcomes.{Outcome}
 use Rattle.fmp_base.specs.Ranges.{IsInRange}
 use Rattle.fmp_base.specs.States.{KernelState, Progress}

@@ -1,21 +1,10 @@
 //! Copies of the tables of a system, and attributes in them.
-ghost use Rattle.std.specs.Prelude.{◌≡◌, IfOk, replicate};
+ghost use Rattle.std.specs.Prelude.{◌≡◌, IfOk};
 ghost use Rattle.fmp_base.specs.Queues.{order_of as order_of_queue};
 ghost use Rattle.fmp_base.specs.Systems.{tables_of, defined_for};
 
 use fmp_base::{InterruptConfig, QueueOrder, System, WaitQueue};
 use std::alloc::{AllocError, Global};
-
-/// A vector of n copies.
-pub fn filled<T: Copy>(alloc: Global, x: T, n: usize) -> Result<Vec<T>, AllocError>
-    ensures { IfOk result (λ v. v.items ≡ replicate n x) }
-{
-    let mut v = Vec::with_capacity(alloc, n)?;
-    for _ in 0..n {
-        v.push_reserved(x);
-    }
-    Ok(v)
-}
 
 /// The rows of a table again.
 fn copied<T: Copy>(alloc: Global, rows: &[T]) -> Result<Vec<T>, AllocError>

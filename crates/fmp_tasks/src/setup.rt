@@ -126,10 +126,7 @@ pub fn empty_contents(alloc: Global, sys: &System) -> Result<(Words, Lists), All
 }
 
 /// The cyclic handlers, and no pending handler.
-pub fn idle_handlers(
-    alloc: Global,
-    sys: &System,
-) -> Result<(Cyclics, PendingHandlers), AllocError>
+pub fn idle_handlers(alloc: Global, sys: &System) -> Result<(Cyclics, PendingHandlers), AllocError>
     requires { IsInRange (tables_of sys.now) }
     ensures due_times { IfOk result (λ v. v.0 ≡ (created_state (tables_of sys.now)).due_times) }
     ensures pending { IfOk result (λ v. v.1 ≡ none_pending (tables_of sys.now)) }

@@ -1,6 +1,7 @@
 -- Tables of times, and who is due.
-use Rattle.std.specs.Prelude.{◌≡◌, ℕ, ◌+◌, ◌≤◌, List, [], ◌∷◌, Option, Some, None, length, slice_get, if◌then◌else◌}
+use Rattle.std.specs.Prelude.{◌≡◌, ℕ, ◌+◌, ◌-◌, ◌^◌, ◌≤◌, min, List, [], ◌∷◌, Option, Some, None, length, if◌then◌else◌}
 use Rattle.fmp_base.specs.Ticks.{is_due}
+use Rattle.fmp_ticks.specs.declared.cyclics.Cyclics.TheInside.{Inside}
 
 abbrev pub first_due_from : ℕ → ℕ → List (Option ℕ) → Option ℕ
 first_due_from now i [] = None
@@ -13,3 +14,18 @@ first_due now times = first_due_from now 0 times
 -- at most 255 places
 abbrev pub IsShort : List (Option ℕ) → Type 0
 IsShort times = length times ≤ 255
+
+-- the lower of a time and another one, if there is one
+abbrev pub lowered : ℕ → Option ℕ → ℕ
+lowered least None = least
+lowered least (Some time) = min time least
+
+-- the least of these times, or the greatest number of 32 bits where there is none
+abbrev pub least_time : List (Option ℕ) → ℕ
+least_time [] = 2 ^ 32 - 1
+least_time (time ∷ times) = lowered (least_time times) time
+
+-- the due times of at most 255 handlers, with the least of them
+pub record AreDueTimes (a : Inside) : Type 0 where
+  pub few : IsShort a.due_times.items
+  pub earliest : a.earliest ≡ least_time a.due_times.items

@@ -1,5 +1,4 @@
-use Rattle.std.proofs.Common.{◌≡◌, ◌<◌, ◌+◌, ◌-◌, ℕ, ◌∙◌, sym, arith}
-use Rattle.std.specs.Prelude.{Some}
+use Rattle.std.proofs.Common.{◌<◌, ◌-◌, arith}
 use Rattle.fmp_spin.specs.Pending.{marks_view}
 use Rattle.fmp_spin.proofs.PendingLemmas.{first-is_interrupt, first-is_cyclic, first-is_none}
 use Rattle.fmp_spin.proofs.pending.PendingHandlers.first.Goals as goal

@@ -1,5 +1,5 @@
 use Rattle.std.proofs.Common.{◌≡◌, ◌<◌, ℕ, length, ◌∙◌, sym, arith, subst, ap, List, vec_len}
-use Rattle.std.specs.Prelude.{slice_set, Option, Some}
+use Rattle.std.specs.Prelude.{slice_set, Option}
 use Rattle.std.proofs.Math.ListN.{length-set}
 use Rattle.fmp_spin.specs.Pending.{marks_view, processor_at_slot, mark_at_slot, AreRows, IsSetAt}
 use Rattle.fmp_spin.proofs.PendingLemmas.{AreRows-set, mark-interrupt_same, mark-interrupt_other, processor-interrupt, row-there, written_whole}

@@ -1,8 +1,7 @@
-use Rattle.std.proofs.Common.{◌≡◌, ◌*◌, ℕ, List, Bool, Option, length, map, ap, ◌∙◌, sym, arith, false, replicate}
+use Rattle.std.proofs.Common.{◌≡◌, ◌*◌, length, ap, ◌∙◌, sym, arith, false}
 use Rattle.std.proofs.lemmas.List.{length-map, length-replicate}
-use Rattle.fmp_base.specs.States.{places_from}
 use Rattle.fmp_base.specs.Systems.{tables_of}
-use Rattle.fmp_spin.specs.Pending.{AreRows, HandlerProcessors, handler_processors, marks_view, mark_at_slot, processor_at_slot}
+use Rattle.fmp_spin.specs.Pending.{handler_processors, processor_at_slot}
 use Rattle.fmp_spin.proofs.NewLemmas.{AreRows-none, length-interrupts, processor-below}
 use Rattle.fmp_spin.proofs.pending.PendingHandlers.new.Goals as goal
 

@@ -1,4 +1,4 @@
-use Rattle.std.proofs.Common.{◌≡◌, ◌≤◌, length, ap, ◌∙◌, arith}
+use Rattle.std.proofs.Common.{ap, ◌∙◌, arith}
 use Rattle.fmp_base.specs.Systems.{tables_of}
 use Rattle.fmp_spin.specs.Pending.{HandlerProcessors, first_handler}
 use Rattle.fmp_spin.specs.PendingLaws.{first_handler-is}

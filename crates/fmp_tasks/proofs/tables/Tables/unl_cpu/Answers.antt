@@ -1,4 +1,4 @@
-use Rattle.std.proofs.Common.{◌≡◌, [], sym}
+use Rattle.std.proofs.Common.{sym}
 use Rattle.fmp_tasks.specs.Tables.{tables_view}
 use Rattle.fmp_tasks.proofs.tables.Tables.unl_cpu.Goals as goal
 
