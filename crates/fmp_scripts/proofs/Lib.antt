@@ -1,1 +1,3 @@
+mod Entries
+mod RangeLemmas
 pub mod Views

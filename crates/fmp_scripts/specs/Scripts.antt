@@ -1,13 +1,21 @@
 -- Bodies that make the calls of a list, one after the other, and end: the context is the place in the list.
-use Rattle.std.specs.Prelude.{ℕ, ◌+◌, ◌<◌, List, [], Option, Some, None, Bool, true, false, length, nat_lt, slice_get, if◌then◌else◌}
+use Rattle.std.specs.Prelude.{◌≡◌, ℕ, ◌+◌, ◌<◌, List, [], Option, Some, None, Bool, true, false, length, nat_lt, slice_get, if◌then◌else◌}
+use Rattle.std.specs.List.{AllByRecursion}
 use Rattle.fmp_base.specs.declared.calls.Call.{Call}
 use Rattle.fmp_base.specs.Meanings.{Meaning}
 use Rattle.fmp_base.specs.Stretches.{Ending}
 use Rattle.fmp_base.specs.Stretches as ends
+use Rattle.fmp_base.specs.Systems.{SystemTables, body_of}
 
 -- a body of this number is there
 abbrev pub IsBody : List (List Call) → ℕ → Type 0
 IsBody bodies body = body < length bodies
+
+-- bodies of a system without handlers: that of each task is there
+pub record AreBodiesOf (bodies : List (List Call)) (sys : SystemTables) : Type 0 where
+  pub cyclics : sys.cyclics ≡ []
+  pub interrupts : sys.interrupts ≡ []
+  pub tasks : AllByRecursion (λ config. IsBody bodies (body_of config.entry)) sys.tasks
 
 abbrev pub listed : Option (List Call) → List Call
 listed None = []

@@ -1,9 +1,10 @@
 ghost use Rattle.std.specs.Prelude.{◌≡◌, ◌<◌, ◌↔◌, map, IsTrue};
+ghost use Rattle.std.specs.List.{AllByRecursion};
 ghost use Rattle.fmp_base.specs.Systems.{body_of, tables_of};
 ghost use Rattle.fmp_kernel.specs.Contexts.{Entered};
-ghost use Rattle.fmp_scripts.specs.Scripts.{IsBody, calls_of as list_of_calls};
+ghost use Rattle.fmp_scripts.specs.Scripts.{AreBodiesOf, IsBody, calls_of as list_of_calls};
 
-use fmp_base::{Call, Entry, Reply, Stretch, System};
+use fmp_base::{Call, Entry, Reply, Stretch, System, TaskConfig};
 use fmp_body::Body;
 use std::marker::Model;
 
@@ -42,13 +43,24 @@ impl Script {
         Script { bodies }
     }
 
-    /// Whether the body of each task of a system is there.
-    pub fn has_bodies_of(&self, sys: &System) -> bool
-        ensures { IsTrue result ↔ Entered IsBody self.now (tables_of sys.now) }
+    /// Whether the body of each task is there.
+    fn has_bodies_of_tasks(&self, configs: &[TaskConfig]) -> bool
+        ensures { IsTrue result ↔ AllByRecursion (λ config. IsBody self.now (body_of config.entry)) configs.now }
     {
-        sys.tasks
+        configs
             .iter()
             .all(|config| is_there(config.entry, self.bodies.len()))
+    }
+
+    /// Whether these are the bodies of a system: that of each task is there, and the system has no handlers.
+    #[tactic(auto, using(crate::proofs::Entries::entered))]
+    pub fn has_bodies_of(&self, sys: &System) -> bool
+        ensures exact { IsTrue result ↔ AreBodiesOf self.now (tables_of sys.now) }
+        ensures entered { IsTrue result → Entered IsBody self.now (tables_of sys.now) }
+    {
+        sys.cyclics.is_empty()
+            && sys.interrupts.is_empty()
+            && self.has_bodies_of_tasks(sys.tasks.as_slice())
     }
 
     /// The calls of a body.

@@ -1,8 +1,8 @@
 //! What is printed of a system that runs scripts.
 ghost use Rattle.std.specs.Prelude.{◌≡◌, ◌≤◌, ◌^◌, length};
+ghost use Rattle.fmp_base.specs.Ranges.{IsInRange};
 ghost use Rattle.fmp_base.specs.Systems.{tables_of};
 ghost use Rattle.fmp_kernel.specs.Contexts.{Entered};
-ghost use Rattle.fmp_kernel.specs.Stages.{IsInStage};
 ghost use Rattle.fmp_scripts.specs.Scripts.{IsBody};
 
 use crate::Script;
@@ -10,7 +10,7 @@ use crate::tests::reading::{bind, read_scripts, steps_text};
 use fmp_base::{Effect, Event, System};
 use fmp_body::Body;
 use fmp_cfgparse::read_cfg;
-use fmp_kernel::{Kernel, is_in_stage};
+use fmp_kernel::Kernel;
 use fmp_trace::{print, print_states, read_steps};
 use std::alloc::Global;
 use std::process::Abort;
@@ -98,12 +98,12 @@ fn text_of(
     Ok(out)
 }
 
-/// The trace and the states of a system that is in the stage.
+/// The trace and the states of a system in range.
 fn show(alloc: Global, sys: &System, script: Script, events: &str, n: u64) -> Result<Vec<u8>, Fail>
     requires low { 1 ≤ n }
     requires high { n ≤ 2 ^ 48 }
     requires entries { Entered IsBody script (tables_of sys.now) }
-    requires stage { IsInStage (tables_of sys.now) }
+    requires range { IsInRange (tables_of sys.now) }
 {
     let mut kernel = Kernel::new(alloc, script, sys, n)?;
     text_of(alloc, sys, &mut kernel, events)
@@ -118,8 +118,8 @@ fn played(alloc: Global, n: u64, config: &str, scripts: &str, events: &str) -> R
     let bodies = read_scripts(alloc, scripts)?;
     bind(&mut sys, bodies.names.as_slice())?;
     let script = Script::new(bodies.calls);
-    if !is_in_stage(&sys) || !script.has_bodies_of(&sys) {
-        return Err(Fail::new("the kernel does not take this system"));
+    if !script.has_bodies_of(&sys) {
+        return Err(Fail::new("the scripts are not the bodies of this system"));
     }
     show(alloc, &sys, script, events, n)
 }
