@@ -28,6 +28,34 @@ two_tasks() {
     repeated $events 'run 1' > two_tasks.steps
 }
 
+# Eight processors with two tasks each. Task i waits for semaphore i and then signals the next one, and processor by
+# processor the one count goes round. Every tenth event is an interrupt on the processor whose turn it is: of the next
+# two its handler makes a call and ends, and seven are of tasks. No event does nothing.
+eight_processors() {
+    awk 'BEGIN {
+        print "NUM_PRC(8);"
+        for (p = 1; p <= 8; p++) {
+            print "CLASS(TCL_" p ") {"
+            for (i = 2 * p - 1; i <= 2 * p; i++) {
+                printf "CRE_TSK(T%d,{TA_ACT,%d,t,10,256,NULL});\n", i, i
+                printf "CRE_SEM(S%d,{TA_TFIFO,%d,1});\n", i, i == 1
+            }
+            print "DEF_INH(" p ",{TA_NULL,h});"
+            print "}"
+        } }' > eight_processors.cfg
+    cat > eight_processors.src <<'TEXT'
+task t { while (1) { wai_sem(exinf); sig_sem(exinf % 16 + 1); } }
+handler h { irot_rdq(10); }
+TEXT
+    awk -v count=$events 'BEGIN {
+        for (i = 0; i < 16; i++) print "run " int(i / 2) + 1
+        for (i = 16; i < count; i++) {
+            p = int(turn / 4) % 8 + 1
+            if (i % 10 == 6) print "int " p; else print "run " p
+            if (i % 10 < 6 || i % 10 == 9) turn++
+        } }' > eight_processors.steps
+}
+
 # 255 tasks of one priority that take turns.
 rotation() {
     awk 'BEGIN { for (i = 1; i <= 255; i++) printf "CRE_TSK(T%d,{TA_ACT,0,t,10,256,NULL});\n", i }' | configuration > rotation.cfg
@@ -98,10 +126,12 @@ simulate() { "$fmp" sim "$1.img" "$1.steps" --bound 281474976710656; }
 
 echo '| What | Size | Real s | User s | System s | A second of user and system time |'
 echo '|---|---|---|---|---|---|'
-for it in two_tasks rotation delays priorities; do
+declare -A spent
+for it in two_tasks eight_processors rotation delays priorities; do
     $it
     build $it > output
-    row "\`sim\`: ${it//_/ }" events $events "$(best simulate $it)"
+    spent[$it]=$(best simulate $it)
+    row "\`sim\`: ${it//_/ }" events $events "${spent[$it]}"
 done
 arithmetic
 build arithmetic > output
@@ -111,3 +141,9 @@ for bodies in 1 2 4; do
     row '`build`: task text' bytes "$(wc -c < text$bodies.src)" "$(best build text$bodies)"
     row '`sim`: its image, no steps' bytes "$(wc -c < text$bodies.img)" "$(best simulate text$bodies)"
 done
+
+# How an event of several processors compares with one of the simplest row.
+awk -v two="${spent[two_tasks]}" -v eight="${spent[eight_processors]}" 'BEGIN {
+    split(two, t, " ")
+    split(eight, e, " ")
+    printf "\nAn event of eight processors takes %.2f times as long as one of two tasks.\n", (e[2] + e[3]) / (t[2] + t[3]) }'
