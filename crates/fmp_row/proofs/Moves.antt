@@ -1,14 +1,14 @@
 -- Each step keeps the rule.
-use Rattle.std.proofs.Common.{◌≡◌, ◌≢◌, ℕ, zero, suc, ◌+◌, ◌<◌, ◌≤◌, ◌==◌, Bool, true, false, true≢false, cond, Option, Some, None, List, [], ◌∷◌, ◌++◌, length, set, refl, sym, ap, ◌∙◌, subst, arith, ⊎_elim, replicate, length-append}
+use Rattle.std.proofs.Common.{◌≡◌, ◌≢◌, ℕ, zero, suc, ◌+◌, ◌<◌, ◌≤◌, ◌==◌, true, false, true≢false, cond, Option, Some, None, List, [], ◌∷◌, ◌++◌, length, set, refl, sym, ap, ◌∙◌, subst, arith, ⊎_elim, replicate, length-append}
 use Rattle.std.specs.Prelude.{slice_index, slice_get, All, MatchOption}
 use Rattle.std.proofs.Math.ListN.{length-set, length-replicate}
-use Rattle.std.proofs.lemmas.List.{set-get_or, append-nil}
+use Rattle.std.proofs.lemmas.List.{set-get_or}
 use Rattle.std.proofs.lemmas.List.Elements.{All-append}
 use Rattle.std.proofs.lemmas.Bool.Decides.{nat_tests}
 use mathlib.Core.Option.{none, some, some-injective, some-ne-none}
 use mathlib.Core.List.{IsPrefix}
 use lib.ListN.{get_elem?}
-use Rattle.atomic_table.specs.Table.{State, Me, keeps, Allows, Splits, Joins, step, opening}
+use Rattle.atomic_table.specs.Table.{Me, keeps, Allows, Splits, Joins, step, opening}
 use Rattle.atomic_table.proofs.Lists.{at_set}
 use Rattle.fmp_row.specs.declared.entry.JournalEntry.{JournalEntry}
 use Rattle.fmp_row.specs.declared.knowledge.Pen.{Pen}
@@ -104,8 +104,7 @@ writes k m slots id me x at has is lt may s kept homes there room =
         more h x,
         subst (λ a. IsRow k m (h.journal ++ x ∷ []) (set s.words a (word_of x))) n row,
         fits_set k (more h x) s.views id (written me.0 x)
-            (λ j v ne e. let g = kept.2 j v e in ((λ t. absurd (one_pen k h id j me.0.pen v.pen f ne (g.0 t))), (λ t. sight_more k h x j v.sight (g.1 t))))
-            (
+            (λ j v ne e. let g = kept.2 j v e in ((λ t. absurd (one_pen k h id j me.0.pen v.pen f ne (g.0 t))), (λ t. sight_more k h x j v.sight (g.1 t)))) (
               (λ _. record { here = f.here; capacity_is = f.capacity_is; made_is = f.made_is; journal_is = ap (λ l. l ++ x ∷ []) f.journal_is; marks_are = ap (λ l. l ++ x.seat ∷ []) f.marks_are }),
               (λ t. sight_more k h x id me.0.sight ((kept.2 id me.0 there).1 t)),
             ),
@@ -194,8 +193,7 @@ catches_up k m slots id me i sees has s kept homes there room =
                 begins = r.begins;
                 counted = r.counted ∙ ap (λ x. u.sight.mine + x) (sym (times-without_else n u.sight.number h.marks (two_numbers k h id j me.0.sight u.sight g r ne)));
               }),
-            ))
-            (
+            )) (
               (λ _. record { here = p.here; capacity_is = p.capacity_is; made_is = p.made_is; journal_is = journal; marks_are = ap (without n) p.marks_are }),
               (λ _. record {
                 here = g.here;
@@ -223,10 +221,10 @@ lends k m id v other w has idle s kept at ne there =
     let now = with_scribe h id in
     let mine : Fits k now id (lent v w) = ((λ _. pen_moved k h other id w.pen p), (λ t. sight_stays k h id id v.sight (f.1 t))) in
     let all : (j : ℕ) (u : View) → j ≢ other → get_elem? (set s.views id (lent v w)) j ≡ some u → Fits k now j u = λ j u apart e.
-        ⊎_elim
-        (λ (t : (j ≡ id) × (lent v w ≡ u)). subst (λ (y : ℕ × View). Fits k now y.0 y.1) (λ i. (sym t.0 i, t.1 i)) mine)
-        (λ (t : (j ≢ id) × (get_elem? s.views j ≡ some u)). let q = kept.2 j u t.1 in ((λ y. absurd (one_pen k h other j w.pen u.pen p apart (q.0 y))), (λ y. sight_stays k h id j u.sight (q.1 y))))
-        (at_set s.views id j (lent v w) u e) in
+    ⊎_elim
+    (λ (t : (j ≡ id) × (lent v w ≡ u)). subst (λ (y : ℕ × View). Fits k now y.0 y.1) (λ i. (sym t.0 i, t.1 i)) mine)
+    (λ (t : (j ≢ id) × (get_elem? s.views j ≡ some u)). let q = kept.2 j u t.1 in ((λ y. absurd (one_pen k h other j w.pen u.pen p apart (q.0 y))), (λ y. sight_stays k h id j u.sight (q.1 y))))
+    (at_set s.views id j (lent v w) u e) in
     (now, kept.1, fits_set k now (set s.views id (lent v w)) other nobody all ((λ t. absurd (off t)), (λ t. absurd (off t))))
 
 pub parts : (k m id : ℕ) (v : View) → v.has_pen ≡ true → Splits (IsKept k m) id v (seat_part v) (scribe_part v)
@@ -237,11 +235,14 @@ parts k m id v has s kept there =
     let n = length s.views in
     let now = with_scribe h n in
     let all : (j : ℕ) (u : View) → get_elem? (set s.views id (seat_part v)) j ≡ some u → Fits k now j u =
-        fits_set k now s.views id (seat_part v)
-            (λ j u ne e. let q = kept.2 j u e in ((λ y. absurd (one_pen k h id j v.pen u.pen p ne (q.0 y))), (λ y. sight_stays k h n j u.sight (q.1 y))))
-            ((λ t. absurd (off t)), (λ y. sight_stays k h n id v.sight (f.1 y))) in
-    (now, kept.1, fits_snoc k now (set s.views id (seat_part v)) (scribe_part v) n (length-set s.views id (seat_part v)) all
-        ((λ _. pen_moved k h id n v.pen p), (λ t. absurd (off t))))
+    fits_set k now s.views id (seat_part v)
+    (λ j u ne e. let q = kept.2 j u e in ((λ y. absurd (one_pen k h id j v.pen u.pen p ne (q.0 y))), (λ y. sight_stays k h n j u.sight (q.1 y))))
+    ((λ t. absurd (off t)), (λ y. sight_stays k h n id v.sight (f.1 y))) in (
+      now,
+      kept.1,
+      fits_snoc k now (set s.views id (seat_part v)) (scribe_part v) n (length-set s.views id (seat_part v)) all
+          ((λ _. pen_moved k h id n v.pen p), (λ t. absurd (off t))),
+    )
 
 -- the seats are made
 
@@ -273,22 +274,24 @@ deals k m id v has no_journal no_marks s kept there =
       counted = r.counted;
     } in
     let all : (j : ℕ) (u : View) → get_elem? (set s.views id (after_deal v)) j ≡ some u → Fits k now j u =
-        fits_set k now s.views id (after_deal v)
-            (λ j u ne e. let q = kept.2 j u e in ((λ y. absurd (one_pen k h id j v.pen u.pen p ne (q.0 y))), (λ y. old j u.sight (q.1 y))))
-            ((λ _. record { here = p.here; capacity_is = p.capacity_is; made_is = ap (λ x. x + 1) p.made_is; journal_is = p.journal_is; marks_are = p.marks_are }), (λ y. old id v.sight (f.1 y))) in
+    fits_set k now s.views id (after_deal v)
+    (λ j u ne e. let q = kept.2 j u e in ((λ y. absurd (one_pen k h id j v.pen u.pen p ne (q.0 y))), (λ y. old j u.sight (q.1 y))))
+    ((λ _. record { here = p.here; capacity_is = p.capacity_is; made_is = ap (λ x. x + 1) p.made_is; journal_is = p.journal_is; marks_are = p.marks_are }), (λ y. old id v.sight (f.1 y))) in
     let journal : h.journal ≡ [] = sym p.journal_is ∙ no_journal in
-    let marks : h.marks ≡ [] = sym p.marks_are ∙ no_marks in
-    (now, kept.1, fits_snoc k now (set s.views id (after_deal v)) (dealt v) n (length-set s.views id (after_deal v)) all
-        (
-          (λ t. absurd (off t)),
-          (λ _. record {
-            here = sym (ap (λ b. cond b n (h.seat v.pen.made)) (test_true v.pen.made h.made p.made_is));
-            capacity_is = p.capacity_is;
-            was_made = last_one v.pen.made h.made p.made_is;
-            begins = (h.journal, refl);
-            counted = ap (λ l. length (own v.pen.made l)) journal ∙ ap (λ x. 0 + times v.pen.made x) (sym marks);
-          }),
-        ))
+    let marks : h.marks ≡ [] = sym p.marks_are ∙ no_marks in (
+      now,
+      kept.1,
+      fits_snoc k now (set s.views id (after_deal v)) (dealt v) n (length-set s.views id (after_deal v)) all (
+        (λ t. absurd (off t)),
+        (λ _. record {
+          here = sym (ap (λ b. cond b n (h.seat v.pen.made)) (test_true v.pen.made h.made p.made_is));
+          capacity_is = p.capacity_is;
+          was_made = last_one v.pen.made h.made p.made_is;
+          begins = (h.journal, refl);
+          counted = ap (λ l. length (own v.pen.made l)) journal ∙ ap (λ x. 0 + times v.pen.made x) (sym marks);
+        }),
+      ),
+    )
 
 -- the start
 

@@ -1,16 +1,15 @@
 -- Journals and their words.
-use Rattle.std.proofs.Common.{◌≡◌, ℕ, zero, suc, ◌+◌, ◌*◌, ◌/◌, ◌%◌, ◌<◌, ◌≤◌, ◌⊎◌, Option, Some, None, List, [], ◌∷◌, ◌++◌, length, take, set, refl, sym, ap, ◌∙◌, subst, arith, append_assoc, rules, inl, inr, ⊎_elim, add-one}
-use Rattle.std.specs.Prelude.{slice_index, slice_get, All, MatchOption}
+use Rattle.std.proofs.Common.{◌≡◌, ℕ, zero, suc, ◌+◌, ◌<◌, ◌≤◌, ◌⊎◌, Some, None, List, [], ◌∷◌, ◌++◌, length, take, set, refl, sym, ap, ◌∙◌, arith, append_assoc, rules, inl, inr, ⊎_elim, add-one}
+use Rattle.std.specs.Prelude.{slice_index, slice_get, All}
 use Rattle.std.proofs.lemmas.List.{append-nil}
-use Rattle.std.proofs.lemmas.Bool.Decides.{nat_tests}
+use Rattle.std.proofs.lemmas.Option.{get_or_from_slice_get}
 use mathlib.Core.Option.{some, some-injective, some-ne-none}
 use mathlib.Core.List.{IsPrefix}
 use lib.ListN.{get_elem?}
-use Rattle.fmp_base.specs.declared.events.Event.TheVariants.{Run, Tick, Int}
 use Rattle.fmp_row.specs.declared.entry.JournalEntry.{JournalEntry}
-use Rattle.fmp_row.specs.Words.{entry, word_of, entry_of, words_of, IsEntry}
+use Rattle.fmp_row.specs.Words.{word_of, entry_of, words_of, IsEntry}
 use Rattle.fmp_row.specs.Rule.{IsEntryOf}
-use Rattle.fmp_row.specs.Seats.{events}
+use Rattle.fmp_row.specs.Seats.{events, RowId, SeatState, AreFirst}
 
 pub entry_of-word : (x : JournalEntry) → IsEntry x → entry_of (word_of x) ≡ Some x
 entry_of-word x small = search rules
@@ -72,3 +71,6 @@ given_suc (z ∷ old) (y ∷ now) (suc place) x p le e = let same : y ≡ z = cc
 
 pub given_more : (old now : List JournalEntry) (place : ℕ) (x : JournalEntry) → IsPrefix old now → place ≤ length old → slice_get now place ≡ Some x → take (place + 1) (events now) ≡ take place (events old) ++ x.event ∷ []
 given_more old now place x p le e = ap (λ n. take n (events now)) (add-one place) ∙ given_suc old now place x p le e
+
+pub all_here : (row : RowId) (seats : List SeatState) (n : ℕ) → AreFirst row n seats → All (λ seat. seat.row ≡ row) seats
+all_here row seats n new i d lt = ap (λ (s : SeatState). s.row) (get_or_from_slice_get seats i _ d (new.1 i (omega (arith, new.0))))

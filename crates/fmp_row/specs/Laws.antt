@@ -1,5 +1,5 @@
 -- Laws of the words.
-use Rattle.std.specs.Prelude.{◌≡◌, ◌≢◌, ℕ, Option, Some, None}
+use Rattle.std.specs.Prelude.{◌≡◌, ℕ, Some, None}
 use Rattle.fmp_row.specs.declared.entry.JournalEntry.{JournalEntry}
 use Rattle.fmp_row.specs.Words.{word_of, entry_of, IsEntry}
 

@@ -1,6 +1,5 @@
 -- What contracts see of a row, of its scribe and of its seats.
-use Rattle.std.specs.Prelude.{◌≡◌, ℕ, ◌+◌, ◌^◌, ◌<◌, ◌≤◌, true, false, List, [], ◌∷◌, ◌++◌, length, take, map, slice_get, Option, Some}
-use Rattle.std.specs.Option.{option_map}
+use Rattle.std.specs.Prelude.{◌≡◌, ℕ, ◌+◌, ◌^◌, ◌<◌, ◌≤◌, true, false, List, [], ◌∷◌, ◌++◌, length, take, map, slice_get, Some}
 use Rattle.atomic_table.specs.Seated.{TableId}
 use Rattle.fmp_base.specs.declared.events.Event.{Event}
 use Rattle.fmp_row.specs.declared.entry.JournalEntry.{JournalEntry}
@@ -8,8 +7,8 @@ use Rattle.fmp_row.specs.declared.knowledge.Look.{Look}
 use Rattle.fmp_row.specs.declared.knowledge.Limits.{Limits}
 use Rattle.fmp_row.specs.declared.knowledge.Sight.{Sight}
 use Rattle.fmp_row.specs.declared.knowledge.View.{View}
-use Rattle.fmp_row.specs.Words.{entry, entry_of}
-use Rattle.fmp_row.specs.Views.{times, without, no_look, looked_at, nobody}
+use Rattle.fmp_row.specs.Words.{entry}
+use Rattle.fmp_row.specs.Views.{times, without, no_look, nobody}
 
 -- which row it is: its table of words, how many words it has, and how many seats
 pub record RowId : Type 0 where

@@ -39,6 +39,10 @@ event_of kind number =
 abbrev pub entry_of : ℕ → Option JournalEntry
 entry_of word = if nat_lt (word / 65536) 256 then option_map (entry (word / 65536)) (event_of (word / 256 % 256) (word % 256)) else None
 
+-- the event of a word, if it is the word of an entry
+abbrev pub event_in : ℕ → Option Event
+event_in word = option_map (λ x. x.event) (entry_of word)
+
 -- the words of a journal
 abbrev pub words_of : List JournalEntry → List ℕ
 words_of journal = map word_of journal

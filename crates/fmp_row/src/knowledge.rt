@@ -3,7 +3,6 @@ use crate::entry::JournalEntry;
 use std::collections::LinkedList;
 
 /// The reads of `follow`: how many there were, which word the last one read, by its place from 0, and what it found.
-#[derive(Clone, Copy, Debug, PartialEq, Eq)]
 pub struct Look {
     pub reads: u64,
     pub word: u64,
@@ -40,7 +39,7 @@ pub struct View {
 }
 
 /// How many words and seats a row is made for.
-#[derive(Clone, Copy, Debug, PartialEq, Eq)]
+#[derive(Clone, Copy)]
 pub struct Limits {
     pub capacity: u32,
     pub seats: u8,

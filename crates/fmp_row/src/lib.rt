@@ -3,7 +3,7 @@
 #![tactic(auto)]
 
 pub mod entry;
-pub mod knowledge;
+mod knowledge;
 pub mod row;
 mod rule;
 pub mod scribe;
@@ -14,3 +14,6 @@ pub use entry::JournalEntry;
 pub use row::{EmptyRow, Row};
 pub use scribe::Scribe;
 pub use seat::Seat;
+
+#[cfg(test)]
+mod tests;

@@ -76,12 +76,7 @@ fn empty_words(alloc: Global, capacity: u32) -> Result<Vec<u64>, AllocError>
 }
 
 /// All seats of an empty row, one after another.
-fn dealt(
-    words: &Words,
-    scribe: &mut Token,
-    mut seats: Vec<Seat>,
-    count: u8,
-) -> Vec<Seat>
+fn dealt(words: &Words, scribe: &mut Token, mut seats: Vec<Seat>, count: u8) -> Vec<Seat>
     requires table { (scribe.old.table_id ≡ words.now.table_id) × (0 < words.now.table_id.words) }
     requires scribe { scribe.old.me ≡ (scribe_view (new_pen words.now.table_id.words count 0), []) }
     requires seats { (seats.items ≡ []) × (count ≤ vec_capacity seats) }
@@ -101,11 +96,13 @@ impl EmptyRow {
 
     /// A row of so many words, at least one, with its scribe and so many seats, numbered from 0. All the memory that it
     /// ever takes is taken here. `AllocError` for want of memory.
+    #[tactic(auto, using(crate::proofs::Rows::all_here))]
     pub fn new(alloc: Global, capacity: u32, seats: u8) -> Result<EmptyRow, AllocError>
         requires { 0 < capacity }
         ensures row { IfOk result (λ made. (made.row.capacity ≡ capacity) × (made.row.seats ≡ seats)) }
         ensures scribe { IfOk result (λ made. made.scribe ≡ new_scribe made.row) }
         ensures seats { IfOk result (λ made. AreNew made.row made.seats.items) }
+        ensures here { IfOk result (λ made. All (λ seat. seat.row ≡ made.row) made.seats.items) }
     {
         let empty = empty_words(alloc, capacity)?;
         let room = Vec::with_capacity(alloc, seats as usize)?;

@@ -73,8 +73,9 @@ impl Scribe {
         requires seat { seat < self.old.row.seats }
         ensures { self.new ≡ scribe_after self.old seat event }
     {
+        let entry = JournalEntry { seat, event };
         let mut token = mem::replace(&mut self.badge, Badge::blank()).into_seat::<()>();
-        write(self.row.words(), &mut token, self.written as usize, JournalEntry { seat, event });
+        write(self.row.words(), &mut token, self.written as usize, entry);
         self.badge = token.into_badge();
         self.written += 1;
     }

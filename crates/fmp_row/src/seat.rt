@@ -1,6 +1,7 @@
-ghost use Rattle.std.specs.Prelude.{◌≡◌, ◌+◌, ◌<◌, ◌≤◌, ◌⊎◌, ◌++◌, [], ◌∷◌, true, false, length, IfSome, IfNone};
+ghost use Rattle.std.specs.Prelude.{◌≡◌, ◌+◌, ◌<◌, ◌≤◌, ◌⊎◌, ◌++◌, [], ◌∷◌, true, false, length, None, IfSome, IfNone};
 ghost use mathlib.Core.List.{IsPrefix};
-ghost use Rattle.fmp_row.specs.Views.{own, times, new_sight, seat_view, scribe_view, pen_shown};
+ghost use Rattle.fmp_row.specs.Views.{own, times, new_sight, seat_view, scribe_view, pen_shown, looked_at};
+ghost use Rattle.fmp_row.specs.Words.{event_in};
 ghost use Rattle.fmp_row.specs.Seats.{new_seat, given};
 
 use crate::entry::JournalEntry;
@@ -58,18 +59,22 @@ impl Seat {
         self.place
     }
 
-    /// The next event of the row after those that this seat's `follow` gave, by one read of its word. None where the
-    /// whole capacity was given, or where the word was found empty, and then no more was seen before. It waits for nobody.
+    /// The next event of the row after those that this seat's `follow` gave, by one read of its word. None where as many
+    /// events were given as the row has words, or where the word was found empty; never while the seat has seen more
+    /// events than were given. It waits for nobody.
     #[tactic(auto, using(crate::proofs::Rows::given_more))]
     pub fn follow(&mut self, row: &Row) -> Option<Event>
         requires { self.old.row ≡ row.now }
         ensures same { self.new ≡ record self.old { seen = self.new.seen; place = self.new.place; look = self.new.look } }
         ensures grows { IsPrefix self.old.seen self.new.seen }
+
+        // Below the capacity it reads one word, that of its place, and answers what it found there.
+        ensures reads { self.old.place < self.old.row.capacity → (self.new.look ≡ looked_at self.old.look self.old.place self.new.look.found) × (result ≡ event_in self.new.look.found) }
+        ensures end { self.old.place ≡ self.old.row.capacity → (self.new ≡ self.old) × (result ≡ None) }
+
         ensures some { IfSome result (λ event. (self.new.place ≡ self.old.place + 1) × (given self.new ≡ given self.old ++ event ∷ [])) }
         ensures none { IfNone result ((self.new.place ≡ self.old.place) × (self.new.seen ≡ self.old.seen) × (length self.old.seen ≤ self.old.place)) }
-        ensures empty { IfNone result ((self.old.place ≡ self.old.row.capacity) ⊎ ((self.new.look.word ≡ self.old.place) × (self.new.look.found ≡ 0))) }
-        ensures reads { self.old.place < self.old.row.capacity → (self.new.look.reads ≡ self.old.look.reads + 1) × (self.new.look.word ≡ self.old.place) }
-        ensures end { self.old.place ≡ self.old.row.capacity → self.new ≡ self.old }
+        ensures empty { IfNone result ((self.old.place ≡ self.old.row.capacity) ⊎ (self.new.look ≡ looked_at self.old.look self.old.place 0)) }
     {
         if self.place >= row.capacity() {
             return None;

@@ -1,4 +1,4 @@
-use Rattle.std.proofs.Common.{◌≡◌, true, sym, ap, ◌∙◌}
+use Rattle.std.proofs.Common.{ap, ◌∙◌}
 use Rattle.fmp_row.proofs.Moves.{lends, catches_up, parts}
 use Rattle.fmp_row.proofs.steps.show.Goals as goal
 
