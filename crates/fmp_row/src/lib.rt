@@ -10,7 +10,7 @@ pub mod scribe;
 pub mod seat;
 mod steps;
 
-pub use entry::JournalEntry;
+pub use entry::{JournalEntry, words_read_back};
 pub use row::{EmptyRow, Row};
 pub use scribe::Scribe;
 pub use seat::Seat;

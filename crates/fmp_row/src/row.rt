@@ -76,7 +76,7 @@ fn empty_words(alloc: Global, capacity: u32) -> Result<Vec<u64>, AllocError>
 }
 
 /// All seats of an empty row, one after another.
-fn dealt(words: &Words, scribe: &mut Token, mut seats: Vec<Seat>, count: u8) -> Vec<Seat>
+fn dealt_seats(words: &Words, scribe: &mut Token, mut seats: Vec<Seat>, count: u8) -> Vec<Seat>
     requires table { (scribe.old.table_id ≡ words.now.table_id) × (0 < words.now.table_id.words) }
     requires scribe { scribe.old.me ≡ (scribe_view (new_pen words.now.table_id.words count 0), []) }
     requires seats { (seats.items ≡ []) × (count ≤ vec_capacity seats) }
@@ -107,7 +107,7 @@ impl EmptyRow {
         let empty = empty_words(alloc, capacity)?;
         let room = Vec::with_capacity(alloc, seats as usize)?;
         let (table, mut token) = lay(alloc, empty.as_slice(), &Limits { capacity, seats })?;
-        let seats = dealt(&table.shared, &mut token, room, seats);
+        let seats = dealt_seats(&table.shared, &mut token, room, seats);
         let table = Arc::new(alloc, table)?;
         let again = Arc::try_clone(&table)?;
         Ok(EmptyRow {

@@ -1,4 +1,4 @@
-ghost use Rattle.std.specs.Prelude.{◌≡◌, ◌<◌, ◌≤◌, ◌↔◌, [], length, slice_get, IsTrue};
+ghost use Rattle.std.specs.Prelude.{◌≡◌, ◌<◌, ◌≤◌, ◌↔◌, [], length, slice_get, IsTrue, MatchBool};
 ghost use mathlib.Core.List.{IsPrefix};
 ghost use Rattle.fmp_row.specs.Views.{own, new_pen, scribe_view};
 ghost use Rattle.fmp_row.specs.Seats.{new_scribe, scribe_after, scribe_unmarked, seat_shown};
@@ -62,7 +62,7 @@ impl Scribe {
 
     /// Whether every word is written.
     pub fn is_full(&self) -> bool
-        ensures { IsTrue result ↔ (length self.now.journal ≡ self.now.row.capacity) }
+        ensures { MatchBool result (length self.now.journal ≡ self.now.row.capacity) (length self.now.journal < self.now.row.capacity) }
     {
         self.written >= self.row.capacity()
     }

@@ -1,5 +1,4 @@
-use crate::entry::words_read_back;
-use crate::{EmptyRow, JournalEntry};
+use crate::{EmptyRow, JournalEntry, words_read_back};
 use fmp_base::Event;
 use std::test::Fail;
 
