@@ -22,7 +22,7 @@ pub record ScribeState : Type 0 where
   pub journal : List JournalEntry
   pub marks : List ℕ
 
--- the beginning of the journal that a seat has seen, how many entries in it are its own calls', how many events its
+-- the beginning of the journal that a seat has seen, how many entries of its own it has counted, how many events its
 -- `follow` gave, and the reads of `follow`
 pub record SeatState : Type 0 where
   pub row : RowId

@@ -19,8 +19,8 @@ pub struct Pen {
     pub marks: LinkedList<u64>,
 }
 
-/// What a seat knows: its number, the beginning of the journal that it has seen, how many entries of that are its own
-/// calls', and its reads.
+/// What a seat knows: its number, the beginning of the journal that it has seen, how many entries of its own it has
+/// counted, and its reads.
 pub struct Sight {
     pub capacity: u64,
     pub seats: u64,

@@ -10,7 +10,7 @@ use crate::steps::{Token, Words, look, show};
 use fmp_base::Event;
 use std::marker::Model;
 
-/// A caller's seat at a row. It is seen as what it has seen of the journal, how many entries in that are its own calls',
+/// A caller's seat at a row. Contracts see what it has seen of the journal, how many entries of its own it has counted,
 /// how many events its `follow` gave and how it read them.
 #[derive(Drop)]
 pub struct Seat {
