@@ -62,7 +62,7 @@ impl Rings {
         })
     }
 
-    /// The first of the list of a head, if any. At most 1 step.
+    /// The first of the list of a head, if any. No node stands in that list twice. At most 1 step.
     pub fn first(&self, h: u16, steps: &mut Steps) -> Option<u16>
         requires { h < length self.now.lists }
         ensures value { result ≡ first_of (list_at self.now.lists h) }
@@ -158,6 +158,7 @@ impl Rings {
         ensures node { IfSome result (λ x. x < self.old.nodes) }
         ensures steps { AddsAtMost 6 steps.old steps.new }
     {
+        // Only a look at a field tells the proof that the links are rings.
         let _ = &self.nodes;
         let first = self.first(h, steps);
         if let Some(x) = first {
@@ -172,6 +173,7 @@ impl Rings {
         ensures lists { self.new ≡ record self.old { lists = slice_set self.old.lists h (rotated (list_at self.old.lists h)) } }
         ensures steps { AddsAtMost 11 steps.old steps.new }
     {
+        // Only a look at a field tells the proof that the links are rings.
         let _ = &self.nodes;
         if let Some(x) = self.pop_front(h, steps) {
             self.push_back(h, x, steps);
