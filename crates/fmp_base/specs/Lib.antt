@@ -7,6 +7,7 @@ pub mod Deliveries
 pub mod FinishLaws
 pub mod Finishes
 pub mod FlagCalls
+pub mod Links
 pub mod MailboxCalls
 pub mod Meanings
 pub mod Names
@@ -25,6 +26,7 @@ pub mod States
 pub mod Steps
 pub mod Stretches
 pub mod Systems
+pub mod Tallies
 pub mod TaskCalls
 pub mod Texts
 pub mod Ticks

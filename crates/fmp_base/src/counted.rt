@@ -1,0 +1,98 @@
+//! A count of steps, and a row of links of which each read and each write is a step.
+ghost use Rattle.std.specs.Prelude.{◌≡◌, ◌+◌, ◌<◌, length, slice_set, true, IfOk};
+ghost use Rattle.std.specs.List.{range_with_len};
+ghost use Rattle.fmp_base.specs.Links.{link_at};
+
+use crate::tally::Tally;
+use std::alloc::{AllocError, Global};
+use std::marker::Model;
+use std::snapshot::Snapshot;
+
+/// A number of steps. It has no bytes: only the contracts see it.
+#[derive(Drop)]
+pub struct Steps {
+    tally: Snapshot<Tally>,
+}
+
+impl Model for Steps {
+    ghost use Rattle.std.specs.Prelude.{ℕ};
+    ghost use Rattle.fmp_base.specs.Tallies.{count_of};
+
+    ghost Value = { ℕ };
+
+    ghost view = { λ s. count_of s.tally.value };
+}
+
+impl Steps {
+    /// None so far.
+    pub fn new() -> Steps
+        ensures { result ≡ 0 }
+    {
+        let start = Tally::Start;
+        Steps {
+            tally: Snapshot::of(&start),
+        }
+    }
+
+    /// One more.
+    pub fn add_one(&mut self)
+        ensures { self.new ≡ self.old + 1 }
+    {
+        let start = Tally::Start;
+        let before = std::mem::replace(&mut self.tally, Snapshot::of(&start));
+        let next = Tally::Next(before);
+        self.tally = Snapshot::of(&next);
+    }
+}
+
+/// A number of steps has no bytes.
+pub fn steps_are_ghost() -> bool
+    ensures { result ≡ true }
+{
+    const _: () = prove!(size_of::<Steps>() == 0);
+    true
+}
+
+/// A row of links, each from its own place to some place. Nothing else than `get` and `set` reads and writes them.
+#[derive(Drop)]
+pub struct Counted {
+    links: Vec<u32>,
+}
+
+impl Model for Counted {
+    ghost use Rattle.std.specs.Prelude.{ℕ, List};
+
+    ghost Value = { List ℕ };
+
+    ghost view = { λ c. c.links.items };
+}
+
+impl Counted {
+    /// A row of so many links, each to its own place. `AllocError` for want of memory.
+    pub fn new(alloc: Global, length: u32) -> Result<Counted, AllocError>
+        ensures { IfOk result (λ c. c ≡ range_with_len 0 length) }
+    {
+        let links: Vec<u32> = (0..length).collect(alloc)?;
+        Ok(Counted { links })
+    }
+
+    /// The link at a place. One step.
+    pub fn get(&self, place: u32, steps: &mut Steps) -> u32
+        requires { place < length self.now }
+        ensures link { result ≡ link_at self.now place }
+        ensures steps { steps.new ≡ steps.old + 1 }
+    {
+        steps.add_one();
+        self.links[place as usize]
+    }
+
+    /// Writes the link at a place. One step.
+    pub fn set(&mut self, place: u32, link: u32, steps: &mut Steps)
+        requires { place < length self.old }
+        ensures links { self.new ≡ slice_set self.old place link }
+        ensures steps { steps.new ≡ steps.old + 1 }
+    {
+        steps.add_one();
+        self.links[place as usize] = link;
+    }
+}

@@ -1,0 +1,10 @@
+//! How a number of steps came about.
+use std::snapshot::Snapshot;
+
+/// The steps, the last one first. It has bytes only where it is made.
+#[derive(Drop)]
+pub enum Tally {
+    Start,
+    /// One more than the steps before.
+    Next(Snapshot<Tally>),
+}

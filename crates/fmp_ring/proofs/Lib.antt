@@ -1,0 +1,5 @@
+pub mod ChainLemmas
+pub mod ChangeLemmas
+pub mod ListLemmas
+pub mod RingLemmas
+pub mod RowLemmas

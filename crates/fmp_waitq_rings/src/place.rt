@@ -1,0 +1,41 @@
+//! Places in priority order.
+ghost use Rattle.std.specs.Prelude.{◌≡◌, ◌+◌, ◌<◌, length};
+ghost use Rattle.fmp_base.specs.Links.{AddsAtMost};
+ghost use Rattle.fmp_base.specs.Queues.{priority_in};
+ghost use Rattle.fmp_ring.specs.Places.{IsPlace};
+ghost use Rattle.fmp_ring.specs.RingLists.{list_at};
+
+use fmp_base::{Steps, TaskBlock};
+use fmp_ring::Rings;
+
+/// The priority of a task; 1 where there is none.
+fn priority_at(blocks: &[TaskBlock], t: u16) -> u8
+    ensures { result ≡ priority_in blocks.now t }
+{
+    match blocks.get(t as usize) {
+        Some(x) => x.priority,
+        None => 1,
+    }
+}
+
+/// The task before which another comes in a list: the first that is less urgent, if any. Walks from the front.
+pub fn place(
+    rings: &Rings,
+    head: u16,
+    blocks: &[TaskBlock],
+    t: u16,
+    steps: &mut Steps,
+) -> Option<u16>
+    requires { head < length rings.now.lists }
+    ensures place { IsPlace (priority_in blocks.now) t (list_at rings.now.lists head) result }
+    ensures steps { AddsAtMost (length (list_at rings.now.lists head) + 1) steps.old steps.new }
+{
+    let mut at = rings.first(head, steps);
+    while let Some(u) = at {
+        if priority_at(blocks, t) < priority_at(blocks, u) {
+            return Some(u);
+        }
+        at = rings.next(u, steps);
+    }
+    None
+}
