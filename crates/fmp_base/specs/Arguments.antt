@@ -4,7 +4,7 @@ use Rattle.fmp_base.specs.declared.states.TimeLimit.{TimeLimit}
 use Rattle.fmp_base.specs.declared.states.TimeLimit.TheVariants.{Forever, Poll, Ticks}
 
 -- so many ticks are 2^30 at most
-abbrev pub IsInRange : TimeLimit → Type 0
-IsInRange Forever = Unit {0}
-IsInRange Poll = Unit {0}
-IsInRange (Ticks n) = n ≤ 2 ^ 30
+abbrev pub IsTimeLimit : TimeLimit → Type 0
+IsTimeLimit Forever = Unit {0}
+IsTimeLimit Poll = Unit {0}
+IsTimeLimit (Ticks n) = n ≤ 2 ^ 30

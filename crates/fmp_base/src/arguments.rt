@@ -1,6 +1,6 @@
 //! The arguments of service calls: numbers of objects and tasks, ranges and time limits (uITRON 4.0, section 2.1).
 ghost use Rattle.std.specs.Prelude.{◌≡◌, ◌<◌, ◌≤◌, ◌^◌, IfSome};
-ghost use Rattle.fmp_base.specs.Arguments.{IsInRange};
+ghost use Rattle.fmp_base.specs.Arguments.{IsTimeLimit};
 ghost use Rattle.fmp_base.specs.Outcomes.{numbered as place_of, named as task_of, ranged as value_of, limit_of as limit_from};
 
 use crate::states::TimeLimit;
@@ -50,7 +50,7 @@ pub fn ranged(low: u16, high: u16, number: i32) -> Option<u16>
 /// The time limit that a number states: -1 (TMO_FEVR) is none, 0 (TMO_POL) polls, else so many ticks, up to 2^30.
 pub fn limit_of(number: i32) -> Option<TimeLimit>
     ensures value { result ≡ limit_from number }
-    ensures range { IfSome result IsInRange }
+    ensures range { IfSome result IsTimeLimit }
 {
     match number {
         -1 => Some(TimeLimit::Forever),

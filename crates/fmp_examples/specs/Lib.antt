@@ -1,3 +1,4 @@
+pub mod Across
 pub mod Builders
 pub mod DataQueues
 pub mod Delays

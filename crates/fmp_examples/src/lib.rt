@@ -2,6 +2,7 @@
 //! events. Each is proved by computing what the definitions mean.
 #![tactic(auto)]
 
+ghost use Rattle.fmp_examples.specs.Across.{CallsAcrossProcessors, WokenBehindASpinLock};
 ghost use Rattle.fmp_examples.specs.DataQueues.{WordGoesWithoutBuffer, ForcedSendDropsOldest};
 ghost use Rattle.fmp_examples.specs.Delays.{DelaysEndInTaskOrder};
 ghost use Rattle.fmp_examples.specs.Flags.{FlagClearsAfterFirstRelease};
@@ -116,4 +117,15 @@ pub fn interrupt_pends_while_handled()
 /// A cyclic handler is due first one tick after its phase, then after each period.
 pub fn cyclic_handler_starts_at_phase()
     ensures { CyclicHandlerStartsAtPhase }
+{}
+
+/// A handler wakes a task of another processor that holds a spin lock: the task runs once the lock is given up.
+pub fn woken_behind_a_spin_lock()
+    ensures { WokenBehindASpinLock }
+{}
+
+/// `ter_tsk` is refused for a task of another processor, `chg_pri` dispatches there, and a task that has migrated is
+/// terminated where it is.
+pub fn calls_across_processors()
+    ensures { CallsAcrossProcessors }
 {}

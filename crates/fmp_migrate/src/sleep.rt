@@ -1,6 +1,6 @@
 //! Sleep, wakeups, delays and release from waiting (uITRON 4.0, section 4.2).
 ghost use Rattle.std.specs.Prelude.{◌≡◌, ◌<◌, [], length, vec_len, vec_capacity};
-ghost use Rattle.fmp_base.specs.Arguments.{IsInRange};
+ghost use Rattle.fmp_base.specs.Arguments.{IsTimeLimit};
 ghost use Rattle.fmp_base.specs.States.{task_at};
 ghost use Rattle.fmp_base.specs.TaskCalls as calls;
 ghost use Rattle.fmp_tasks.specs.Homes.{Fits};
@@ -16,7 +16,7 @@ use fmp_tasks::tasks::{release, wait, wait_within};
 /// The caller takes a queued wakeup, or else sleeps within a limit.
 fn sleep(tables: &mut Tables, me: u8, limit: TimeLimit) -> Answer
     requires caller { me < length tables.old.system.tasks }
-    requires limit { IsInRange limit }
+    requires limit { IsTimeLimit limit }
     ensures outcome { outcome result tables.new [] ≡ calls.slp_tsk tables.old.state me (task_at tables.old.state.tasks me) limit }
     ensures shape { SameShape tables.old tables.new }
 {

@@ -1,6 +1,6 @@
 //! The service calls on eventflags that set, clear or await bits (uITRON 4.0, section 4.4.2).
 ghost use Rattle.std.specs.Prelude.{◌≡◌, ◌<◌, ◌≤◌, [], length, vec_capacity, IfSome};
-ghost use Rattle.fmp_base.specs.Arguments.{IsInRange};
+ghost use Rattle.fmp_base.specs.Arguments.{IsTimeLimit};
 ghost use Rattle.fmp_base.specs.FlagCalls.{mode_of as mode_from, awaited, set_flg as set_flg_case, clr_flg as clr_flg_case, wai_flg as wai_flg_case, twai_flg as twai_flg_case};
 ghost use Rattle.fmp_base.specs.Outcomes.{numbered as place_of};
 ghost use Rattle.fmp_base.specs.States.{task_at};
@@ -82,7 +82,7 @@ fn await_bits(
 ) -> Answer
     requires there { f < length tables.old.system.flags }
     requires me { me < length tables.old.system.tasks }
-    requires limit { IsInRange limit }
+    requires limit { IsTimeLimit limit }
     ensures outcome { outcome result tables.new [] ≡ awaited tables.old.system tables.old.state me (task_at tables.old.state.tasks me) f pattern mode limit }
     ensures shape { SameShape tables.old tables.new }
 {
@@ -120,7 +120,7 @@ pub fn wai_flg(
     mode: i32,
 ) -> Answer
     requires me { me < length tables.old.system.tasks }
-    requires limit { IsInRange limit }
+    requires limit { IsTimeLimit limit }
     ensures outcome { outcome result tables.new [] ≡ wai_flg_case tables.old.system tables.old.state me (task_at tables.old.state.tasks me) limit flag pattern mode }
     ensures shape { SameShape tables.old tables.new }
 {

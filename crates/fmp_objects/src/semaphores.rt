@@ -1,6 +1,6 @@
 //! The service calls on semaphores (uITRON 4.0, section 4.4.1).
 ghost use Rattle.std.specs.Prelude.{◌≡◌, ◌<◌, ◌≤◌, [], length, vec_capacity, IfSome};
-ghost use Rattle.fmp_base.specs.Arguments.{IsInRange};
+ghost use Rattle.fmp_base.specs.Arguments.{IsTimeLimit};
 ghost use Rattle.fmp_base.specs.Outcomes.{numbered as place_of};
 ghost use Rattle.fmp_base.specs.SemaphoreCalls.{signalled, acquired, sig_sem as sig_sem_case, wai_sem as wai_sem_case, twai_sem as twai_sem_case};
 ghost use Rattle.fmp_base.specs.States.{task_at};
@@ -61,7 +61,7 @@ pub fn sig_sem(tables: &mut Tables, lines: &mut Vec<Line>, semaphore: i32) -> An
 fn acquire(tables: &mut Tables, me: u8, limit: TimeLimit, s: u8) -> Answer
     requires there { s < length tables.old.system.semaphores }
     requires me { me < length tables.old.system.tasks }
-    requires limit { IsInRange limit }
+    requires limit { IsTimeLimit limit }
     ensures outcome { outcome result tables.new [] ≡ acquired tables.old.state me (task_at tables.old.state.tasks me) limit s }
     ensures shape { SameShape tables.old tables.new }
 {
@@ -79,7 +79,7 @@ fn acquire(tables: &mut Tables, me: u8, limit: TimeLimit, s: u8) -> Answer
 /// finds the count 0; nothing changes then.
 pub fn wai_sem(tables: &mut Tables, me: u8, limit: TimeLimit, semaphore: i32) -> Answer
     requires me { me < length tables.old.system.tasks }
-    requires limit { IsInRange limit }
+    requires limit { IsTimeLimit limit }
     ensures outcome { outcome result tables.new [] ≡ wai_sem_case tables.old.state me (task_at tables.old.state.tasks me) limit semaphore }
     ensures shape { SameShape tables.old tables.new }
 {

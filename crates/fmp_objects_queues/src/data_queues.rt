@@ -1,6 +1,6 @@
 //! The service calls on data queues (uITRON 4.0, section 4.4.3).
 ghost use Rattle.std.specs.Prelude.{◌≡◌, ℕ, ◌<◌, ◌≤◌, [], length, vec_capacity, slice_get, Some, IfSome};
-ghost use Rattle.fmp_base.specs.Arguments.{IsInRange};
+ghost use Rattle.fmp_base.specs.Arguments.{IsTimeLimit};
 ghost use Rattle.fmp_base.specs.declared.states.TaskBlock.{TaskBlock};
 ghost use Rattle.fmp_base.specs.DataQueueCalls.{words_at, offered_word as offered_word_case, word_sent, forced_to, word_received, word_received_from, snd_dtq as snd_dtq_case, tsnd_dtq as tsnd_dtq_case, fsnd_dtq as fsnd_dtq_case, rcv_dtq as rcv_dtq_case, trcv_dtq as trcv_dtq_case};
 ghost use Rattle.fmp_base.specs.Outcomes.{numbered as place_of};
@@ -44,7 +44,7 @@ fn send(
 ) -> Answer
     requires there { d < length tables.old.system.data_queues }
     requires me { me < length tables.old.system.tasks }
-    requires limit { IsInRange limit }
+    requires limit { IsTimeLimit limit }
     requires empty { lines.old.items ≡ [] }
     requires room { 1 ≤ vec_capacity lines.old }
     ensures outcome { outcome result tables.new lines.new.items ≡ word_sent tables.old.system tables.old.state me (task_at tables.old.state.tasks me) word limit d }
@@ -76,7 +76,7 @@ pub fn snd_dtq(
     word: i32,
 ) -> Answer
     requires me { me < length tables.old.system.tasks }
-    requires limit { IsInRange limit }
+    requires limit { IsTimeLimit limit }
     requires empty { lines.old.items ≡ [] }
     requires room { 1 ≤ vec_capacity lines.old }
     ensures outcome { outcome result tables.new lines.new.items ≡ snd_dtq_case tables.old.system tables.old.state me (task_at tables.old.state.tasks me) limit queue word }
@@ -201,7 +201,7 @@ fn take_oldest(tables: &mut Tables, lines: &mut Vec<Line>, d: u8, word: i32) -> 
 fn receive(tables: &mut Tables, lines: &mut Vec<Line>, me: u8, limit: TimeLimit, d: u8) -> Answer
     requires there { d < length tables.old.system.data_queues }
     requires me { me < length tables.old.system.tasks }
-    requires limit { IsInRange limit }
+    requires limit { IsTimeLimit limit }
     requires empty { lines.old.items ≡ [] }
     requires room { 1 ≤ vec_capacity lines.old }
     ensures outcome { outcome result tables.new lines.new.items ≡ word_received tables.old.system tables.old.state me (task_at tables.old.state.tasks me) limit d }
@@ -231,7 +231,7 @@ pub fn rcv_dtq(
     queue: i32,
 ) -> Answer
     requires me { me < length tables.old.system.tasks }
-    requires limit { IsInRange limit }
+    requires limit { IsTimeLimit limit }
     requires empty { lines.old.items ≡ [] }
     requires room { 1 ≤ vec_capacity lines.old }
     ensures outcome { outcome result tables.new lines.new.items ≡ rcv_dtq_case tables.old.system tables.old.state me (task_at tables.old.state.tasks me) limit queue }

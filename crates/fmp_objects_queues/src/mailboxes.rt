@@ -1,6 +1,6 @@
 //! The service calls on mailboxes (uITRON 4.0, section 4.4.4). A message is its number and its priority.
 ghost use Rattle.std.specs.Prelude.{◌≡◌, ◌<◌, ◌≤◌, [], length, vec_capacity, IfSome};
-ghost use Rattle.fmp_base.specs.Arguments.{IsInRange};
+ghost use Rattle.fmp_base.specs.Arguments.{IsTimeLimit};
 ghost use Rattle.fmp_base.specs.MailboxCalls.{message_sent, message_received, snd_mbx as snd_mbx_case, rcv_mbx as rcv_mbx_case, trcv_mbx as trcv_mbx_case};
 ghost use Rattle.fmp_base.specs.Outcomes.{numbered as place_of};
 ghost use Rattle.fmp_base.specs.States.{task_at};
@@ -79,7 +79,7 @@ pub fn snd_mbx(tables: &mut Tables, lines: &mut Vec<Line>, mailbox: i32, message
 fn receive(tables: &mut Tables, me: u8, limit: TimeLimit, m: u8) -> Answer
     requires there { m < length tables.old.system.mailboxes }
     requires me { me < length tables.old.system.tasks }
-    requires limit { IsInRange limit }
+    requires limit { IsTimeLimit limit }
     ensures outcome { outcome result tables.new [] ≡ message_received tables.old.state me (task_at tables.old.state.tasks me) limit m }
     ensures shape { SameShape tables.old tables.new }
 {
@@ -100,7 +100,7 @@ fn receive(tables: &mut Tables, me: u8, limit: TimeLimit, m: u8) -> Answer
 /// finds no message; nothing changes then.
 pub fn rcv_mbx(tables: &mut Tables, me: u8, limit: TimeLimit, mailbox: i32) -> Answer
     requires me { me < length tables.old.system.tasks }
-    requires limit { IsInRange limit }
+    requires limit { IsTimeLimit limit }
     ensures outcome { outcome result tables.new [] ≡ rcv_mbx_case tables.old.state me (task_at tables.old.state.tasks me) limit mailbox }
     ensures shape { SameShape tables.old tables.new }
 {

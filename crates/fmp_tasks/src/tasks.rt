@@ -7,7 +7,7 @@ ghost use Rattle.fmp_base.specs.Queues.{queue_of_cause};
 ghost use Rattle.fmp_base.specs.States.{task_at};
 ghost use Rattle.fmp_base.specs.TaskCalls.{is_dormant};
 ghost use Rattle.fmp_tasks.specs.Homes.{Fits, IsSomeThere, counts_of};
-ghost use Rattle.fmp_base.specs.Arguments.{IsInRange};
+ghost use Rattle.fmp_base.specs.Arguments.{IsTimeLimit};
 ghost use Rattle.fmp_tasks.specs.Tables.{progress, outcome, SameShape, SameShapeAndRoom};
 
 use crate::tables::Tables;
@@ -141,7 +141,7 @@ pub fn wait_within(
     requires there { t < length tables.old.system.tasks }
     requires fits { Fits tables.old.system x }
     requires queue { IsSomeThere (counts_of tables.old.system) (queue_of_cause cause) }
-    requires limit { IsInRange limit }
+    requires limit { IsTimeLimit limit }
     ensures outcome { outcome result tables.new [] ≡ waits_within limit tables.old.state t x cause }
     ensures shape { SameShape tables.old tables.new }
 {

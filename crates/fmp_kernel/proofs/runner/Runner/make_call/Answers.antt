@@ -14,7 +14,7 @@ returns-in-Spins-clause-after g c =
     let e = c.call.ensures.outcome in
     let k : o.answer ≡ Spins = sym (ap (λ (o : Outcome). o.answer) e) ∙ c.in-Spins.is in
     let same = ap (λ (o : Outcome). o.progress.state) e
-        ∙ ap (λ (g : Progress). g.state) (called-spins h.system h.state c.args.p c.args.who c.args.made k) in
+    ∙ ap (λ (g : Progress). g.state) (called-spins h.system h.state c.args.p c.args.who c.args.made k) in
     rw (← c.self.view_is, k, same) refl
 
 pub invariant_of-self-2 : goal.invariant_of-self-2
