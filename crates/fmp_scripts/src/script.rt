@@ -1,7 +1,6 @@
 ghost use Rattle.std.specs.Prelude.{◌≡◌, ◌<◌, ◌↔◌, map, IsTrue};
 ghost use Rattle.std.specs.List.{AllByRecursion};
 ghost use Rattle.fmp_base.specs.Systems.{body_of, tables_of};
-ghost use Rattle.fmp_kernel.specs.Contexts.{Entered};
 ghost use Rattle.fmp_scripts.specs.Scripts.{AreBodiesOf, IsBody, calls_of as list_of_calls};
 
 use fmp_base::{Call, Entry, Reply, Stretch, System, TaskConfig};
@@ -53,10 +52,8 @@ impl Script {
     }
 
     /// Whether these are the bodies of a system: that of each task is there, and the system has no handlers.
-    #[tactic(auto, using(crate::proofs::Entries::entered))]
     pub fn has_bodies_of(&self, sys: &System) -> bool
-        ensures exact { IsTrue result ↔ AreBodiesOf self.now (tables_of sys.now) }
-        ensures entered { IsTrue result → Entered IsBody self.now (tables_of sys.now) }
+        ensures { IsTrue result ↔ AreBodiesOf self.now (tables_of sys.now) }
     {
         sys.cyclics.is_empty()
             && sys.interrupts.is_empty()

@@ -2,8 +2,7 @@
 ghost use Rattle.std.specs.Prelude.{◌≡◌, ◌≤◌, ◌^◌, length};
 ghost use Rattle.fmp_base.specs.Ranges.{IsInRange};
 ghost use Rattle.fmp_base.specs.Systems.{tables_of};
-ghost use Rattle.fmp_kernel.specs.Contexts.{Entered};
-ghost use Rattle.fmp_scripts.specs.Scripts.{IsBody};
+ghost use Rattle.fmp_scripts.specs.Scripts.{AreBodiesOf};
 
 use crate::Script;
 use crate::tests::reading::{bind, read_scripts, steps_text};
@@ -99,10 +98,11 @@ fn text_of(
 }
 
 /// The trace and the states of a system in range.
+#[tactic(auto, using(crate::proofs::Entries::entered))]
 fn show(alloc: Global, sys: &System, script: Script, events: &str, n: u64) -> Result<Vec<u8>, Fail>
     requires low { 1 ≤ n }
     requires high { n ≤ 2 ^ 48 }
-    requires entries { Entered IsBody script (tables_of sys.now) }
+    requires entries { AreBodiesOf script (tables_of sys.now) }
     requires range { IsInRange (tables_of sys.now) }
 {
     let mut kernel = Kernel::new(alloc, script, sys, n)?;
