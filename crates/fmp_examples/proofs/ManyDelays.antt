@@ -1,5 +1,6 @@
 -- The run of 255 tasks that all delay themselves, computed in parts.
 use Rattle.std.proofs.Common.{◌≡◌, refl, ap, ℕ, zero, suc, ◌+◌, pos, List, [], ◌∷◌, ◌++◌, ◌∙◌, drop, Option, Some, None, false, replicate}
+use Rattle.fmp_base.specs.declared.bodies.Held.TheVariants.{Goes, Awaits}
 use Rattle.fmp_base.specs.declared.calls.Service.TheVariants as service
 use Rattle.fmp_base.specs.declared.events.Event.{Event}
 use Rattle.fmp_base.specs.declared.events.Event.TheVariants.{Run, Tick}
@@ -76,7 +77,7 @@ world_at k n =
           };
       contexts =
           record {
-            tasks = replicate k (Some called) ++ replicate n (Some (text_start delaying 0 (pos 0)));
+            tasks = replicate k (Some (Awaits called)) ++ replicate n (Some (Goes (text_start delaying 0 (pos 0))));
             handlers = None ∷ [];
           };
     }
