@@ -89,6 +89,12 @@ fn handlers(rt: HostRuntime) -> Result<(), Fail> {
             "0 p1 T starts / 0 p1 > T / 1 p1 T loc_cpu() E_OK / 2 int 3 / 3 p1 T unl_cpu() E_OK / 3 p1 begin #3 / 4 p1 #3 iact_tsk(2) E_OK / 4 p1 U starts / 5 p1 #3 end / 5 p1 > U / 6 p1 U end / 6 p1 > T / T RUNNING p1 10 / U DORMANT p1 5 / ",
         ),
         (
+            "NUM_PRC(1); CLASS(TCL_1) { CRE_TSK(T,{TA_ACT,0,t,10,256,NULL}); CRE_TSK(U,{0,0,u,5,256,NULL}); DEF_INH(3,{0,h}); }",
+            "task t { loc_cpu(); unl_cpu(); put(1); } task u { } handler h { iact_tsk(U); }",
+            "int 3,run 1,int 3,run 1,run 1,run 1,run 1,run 1",
+            "0 p1 T starts / 0 p1 > T / 1 int 3 / 1 p1 begin #3 / 2 p1 #3 iact_tsk(2) E_OK / 2 p1 U starts / 3 int 3 / 4 p1 #3 end / 4 p1 begin #3 / 5 p1 #3 iact_tsk(2) E_OK / 6 p1 #3 end / 6 p1 > U / 7 p1 U end / 7 p1 U starts / 7 p1 > U / 8 p1 U end / 8 p1 > T / T RUNNING p1 10 / U DORMANT p1 5 / ",
+        ),
+        (
             "NUM_PRC(1); CLASS(TCL_1) { CRE_CYC(C,{TA_STA,0,h,2,0}); }",
             "handler h { put(exinf); }",
             "tick,run 1,run 1,tick,tick",
