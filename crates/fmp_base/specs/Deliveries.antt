@@ -1,7 +1,7 @@
 -- Where the reply of a service call goes in the locals of the caller's body.
 use Rattle.std.specs.Prelude.{ℕ, ℤ, pos, List, Option, Some, None, Bool, true, slice_set}
 use Rattle.fmp_base.specs.declared.calls.Reply.{Reply}
-use Rattle.fmp_base.specs.declared.calls.Service.{Service}
+use Rattle.fmp_base.specs.declared.services.Service.{Service}
 use Rattle.fmp_base.specs.declared.codes.Er.{Er}
 use Rattle.fmp_base.specs.declared.codes.Er.TheVariants.{Ok}
 use Rattle.fmp_base.specs.Codes.{code_of}

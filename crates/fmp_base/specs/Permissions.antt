@@ -1,8 +1,8 @@
 -- From where each service may be called, else E_CTX (uITRON 4.0, section 3.5; FMP kernel, spin locks).
 use Rattle.std.specs.Prelude.{ℕ, zero, suc, ℤ, pos, negsuc, Bool, true, false, ◌&&◌, ◌||◌, nat_eq}
 use Rattle.fmp_base.specs.declared.calls.Call.{Call}
-use Rattle.fmp_base.specs.declared.calls.Service.{Service}
-use Rattle.fmp_base.specs.declared.calls.Service.TheVariants as service
+use Rattle.fmp_base.specs.declared.services.Service.{Service}
+use Rattle.fmp_base.specs.declared.services.Service.TheVariants as service
 use Rattle.fmp_base.specs.declared.permissions.Permission.{Permission}
 use Rattle.fmp_base.specs.declared.permissions.Permission.TheVariants.{Anywhere, LockedTasks, Tasks, TasksOnOthers, WaitingTasks, Handlers}
 use Rattle.fmp_base.specs.declared.states.Caller.{Caller}

@@ -1,7 +1,7 @@
 -- The service calls: function codes, names, arguments, and what is given back.
 use Rattle.std.specs.Prelude.{ℕ, ℤ, pos, List, [], ◌∷◌, Option, Some, None, Bool, true, false, codes, get_or}
-use Rattle.fmp_base.specs.declared.calls.Service.{Service}
-use Rattle.fmp_base.specs.declared.calls.Service.TheVariants as service
+use Rattle.fmp_base.specs.declared.services.Service.{Service}
+use Rattle.fmp_base.specs.declared.services.Service.TheVariants as service
 use Rattle.fmp_base.specs.declared.calls.Call.{Call}
 use Rattle.fmp_base.specs.declared.calls.Call.TheVariants as call
 

@@ -11,19 +11,21 @@ pub mod events;
 pub mod names;
 pub mod operators;
 pub mod permissions;
+pub mod services;
 pub mod states;
 pub mod systems;
 pub mod tally;
 pub mod ties;
 
 pub use bodies::{Fault, HandlerContext, HandlerStart, Held, Stretch};
-pub use calls::{Answer, Call, Reply, Service};
+pub use calls::{Answer, Call, Reply};
 pub use codes::Er;
 pub use counted::{Counted, Steps};
 pub use events::{Effect, Event, Line, StateWord, TaskState};
 pub use names::Name;
 pub use operators::{BinaryOperator, UnaryOperator};
 pub use permissions::Permission;
+pub use services::Service;
 pub use states::{
     Caller, FlagMode, Handler, Lock, Phase, Processor, TaskBlock, TimeLimit, WaitCause, WaitQueue,
 };

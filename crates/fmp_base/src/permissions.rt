@@ -2,7 +2,7 @@
 ghost use Rattle.std.specs.Prelude.{◌≡◌};
 ghost use Rattle.fmp_base.specs.Permissions.{permission as permission_of};
 
-use crate::calls::Service;
+use crate::services::Service;
 
 /// From where a service may be called; from elsewhere the call is E_CTX (uITRON 4.0, section 3.5; FMP kernel, spin locks).
 #[derive(Clone, Copy, Debug, PartialEq, Eq)]

@@ -4,8 +4,8 @@ use Rattle.std.specs.Prelude.{IfSome, find}
 use Rattle.std.specs.Int.{w32}
 use Rattle.std.specs.Option.{option_map}
 use Rattle.std.proofs.lemmas.Bool.{ltb-true, lt-ltb, eqb-true, eq-eqb}
-use Rattle.fmp_base.specs.declared.calls.Service.{Service}
-use Rattle.fmp_base.specs.declared.calls.Service.TheVariants as service
+use Rattle.fmp_base.specs.declared.services.Service.{Service}
+use Rattle.fmp_base.specs.declared.services.Service.TheVariants as service
 use Rattle.fmp_base.specs.declared.operators.UnaryOperator.{UnaryOperator}
 use Rattle.fmp_base.specs.declared.operators.UnaryOperator.TheVariants as unary
 use Rattle.fmp_base.specs.declared.operators.BinaryOperator.{BinaryOperator}

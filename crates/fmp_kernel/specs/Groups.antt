@@ -2,8 +2,8 @@
 use Rattle.std.specs.Prelude.{◌<◌, length}
 use Rattle.fmp_base.specs.declared.states.Caller.{Caller}
 use Rattle.fmp_base.specs.declared.states.Caller.TheVariants as caller
-use Rattle.fmp_base.specs.declared.calls.Service.{Service}
-use Rattle.fmp_base.specs.declared.calls.Service.TheVariants as service
+use Rattle.fmp_base.specs.declared.services.Service.{Service}
+use Rattle.fmp_base.specs.declared.services.Service.TheVariants as service
 use Rattle.fmp_base.specs.Systems.{SystemTables}
 use Rattle.fmp_kernel.specs.declared.calls.groups.ServiceGroup.{ServiceGroup}
 use Rattle.fmp_kernel.specs.declared.calls.groups.ServiceGroup.TheVariants as group

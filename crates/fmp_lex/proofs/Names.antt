@@ -4,8 +4,8 @@ use Rattle.std.specs.Option.{option_or}
 use Rattle.std.specs.Str.{bytes_eq}
 use Rattle.std.proofs.lemmas.Slice.Eq.{bytes_eq-Decides}
 use Rattle.fmp_base.specs.declared.codes.Er.TheVariants as er
-use Rattle.fmp_base.specs.declared.calls.Service.{Service}
-use Rattle.fmp_base.specs.declared.calls.Service.TheVariants as service
+use Rattle.fmp_base.specs.declared.services.Service.{Service}
+use Rattle.fmp_base.specs.declared.services.Service.TheVariants as service
 use Rattle.fmp_base.specs.Services.{service_name}
 use Rattle.fmp_lex.specs.declared.words.Constant.{Constant}
 use Rattle.fmp_lex.specs.declared.words.Constant.TheVariants as constant

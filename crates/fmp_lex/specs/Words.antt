@@ -1,7 +1,7 @@
 -- The words of both texts: constants, API names, service names and keywords.
 use Rattle.std.specs.Prelude.{ℤ, pos, negsuc, ℕ, List, Option, codes, find}
 use Rattle.std.specs.Str.{bytes_eq}
-use Rattle.fmp_base.specs.declared.calls.Service.{Service}
+use Rattle.fmp_base.specs.declared.services.Service.{Service}
 use Rattle.fmp_base.specs.Codes.{code_of, code_name}
 use Rattle.fmp_base.specs.Services.{service_name}
 use Rattle.fmp_lex.specs.declared.words.Constant.{Constant}

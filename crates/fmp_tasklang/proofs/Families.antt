@@ -1,6 +1,6 @@
 -- What kind of token a reader's function read something of.
 use Rattle.std.proofs.Common.{◌≡◌, ℕ, ℤ, Bool, true, false, Option, Some, None, option_and_then, refl}
-use Rattle.fmp_base.specs.declared.calls.Service.{Service}
+use Rattle.fmp_base.specs.declared.services.Service.{Service}
 use Rattle.fmp_base.specs.declared.names.Name.{Name}
 use Rattle.fmp_base.specs.declared.operators.UnaryOperator.{UnaryOperator}
 use Rattle.fmp_lex.specs.declared.token.Symbol.TheVariants as symbol

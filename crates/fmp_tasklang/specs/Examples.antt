@@ -1,7 +1,7 @@
 -- Small bodies, and what they do.
 use Rattle.std.specs.Prelude.{◌≡◌, ℕ, ℤ, pos, negsuc, List, [], ◌∷◌, Some, Ok, Err, true, replicate, codes}
 use Rattle.fmp_base.specs.declared.bodies.Fault.TheVariants.{Overflow, Division}
-use Rattle.fmp_base.specs.declared.calls.Service.TheVariants as service
+use Rattle.fmp_base.specs.declared.services.Service.TheVariants as service
 use Rattle.fmp_base.specs.declared.calls.Call.TheVariants as calls
 use Rattle.fmp_base.specs.declared.calls.Reply.{Reply}
 use Rattle.fmp_base.specs.declared.codes.Er.{Er}

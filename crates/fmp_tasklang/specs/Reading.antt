@@ -14,7 +14,7 @@ use Rattle.fmp_lex.specs.declared.token.TokenKind.TheVariants as kind
 use Rattle.fmp_lex.specs.declared.words.Keyword.TheVariants as keyword
 use Rattle.fmp_lex.specs.Faults.{Spells, IsSyntaxFault}
 use Rattle.fmp_lex.specs.Reading.{Rel, At, IsToken, IsItem, Item, Star, Outcome, Right, Anywhere, IsWhole, IsFirstFault}
-use Rattle.fmp_base.specs.declared.calls.Service.{Service}
+use Rattle.fmp_base.specs.declared.services.Service.{Service}
 use Rattle.fmp_tasklang.specs.declared.calls.Argument.{Argument}
 use Rattle.fmp_tasklang.specs.declared.calls.Argument.TheVariants as argument
 use Rattle.fmp_tasklang.specs.declared.forms.Part.{Part}

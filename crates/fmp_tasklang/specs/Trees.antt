@@ -1,6 +1,6 @@
 -- The syntax trees of the task language, as data without memory.
 use Rattle.std.specs.Prelude.{ℕ, ℤ, List, Option}
-use Rattle.fmp_base.specs.declared.calls.Service.{Service}
+use Rattle.fmp_base.specs.declared.services.Service.{Service}
 use Rattle.fmp_base.specs.declared.operators.UnaryOperator.{UnaryOperator}
 use Rattle.fmp_base.specs.declared.operators.BinaryOperator.{BinaryOperator}
 use Rattle.fmp_tasklang.specs.declared.trees.BodyKind.{BodyKind}

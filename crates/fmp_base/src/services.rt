@@ -1,0 +1,267 @@
+//! The service calls by name: function codes, names and numbers of arguments.
+ghost use Rattle.std.specs.Prelude.{◌≡◌, codes};
+ghost use Rattle.fmp_base.specs.Services.{service_number, service_name, arity};
+
+/// A service call without its arguments: its function code.
+///
+/// The calls are those of the uITRON 4.0 specification, chapter 4, and of the FMP kernel; `Put`,
+/// `LdShr` and `StShr` are this kernel's own.
+#[derive(Clone, Copy, Debug, PartialEq, Eq)]
+pub enum Service {
+    Put,
+    LdShr,
+    StShr,
+    ActTsk,
+    CanAct,
+    ExtTsk,
+    TerTsk,
+    ChgPri,
+    GetPri,
+    MactTsk,
+    MigTsk,
+    SlpTsk,
+    TslpTsk,
+    WupTsk,
+    CanWup,
+    RelWai,
+    SusTsk,
+    RsmTsk,
+    DlyTsk,
+    SigSem,
+    WaiSem,
+    PolSem,
+    TwaiSem,
+    SetFlg,
+    ClrFlg,
+    WaiFlg,
+    PolFlg,
+    TwaiFlg,
+    SndDtq,
+    PsndDtq,
+    TsndDtq,
+    FsndDtq,
+    RcvDtq,
+    PrcvDtq,
+    TrcvDtq,
+    SndMbx,
+    RcvMbx,
+    PrcvMbx,
+    TrcvMbx,
+    StaCyc,
+    StpCyc,
+    RotRdq,
+    GetTid,
+    LocCpu,
+    UnlCpu,
+    DisDsp,
+    EnaDsp,
+    LocSpn,
+    TrySpn,
+    UnlSpn,
+    IactTsk,
+    IwupTsk,
+    IrelWai,
+    IsigSem,
+    IsetFlg,
+    IpsndDtq,
+    IfsndDtq,
+    IrotRdq,
+}
+
+impl Service {
+    /// The function code, 1 to 58.
+    pub fn number(self) -> u8
+        ensures { result ≡ service_number self }
+    {
+        match self {
+            Service::Put => 1,
+            Service::LdShr => 2,
+            Service::StShr => 3,
+            Service::ActTsk => 4,
+            Service::CanAct => 5,
+            Service::ExtTsk => 6,
+            Service::TerTsk => 7,
+            Service::ChgPri => 8,
+            Service::GetPri => 9,
+            Service::MactTsk => 10,
+            Service::MigTsk => 11,
+            Service::SlpTsk => 12,
+            Service::TslpTsk => 13,
+            Service::WupTsk => 14,
+            Service::CanWup => 15,
+            Service::RelWai => 16,
+            Service::SusTsk => 17,
+            Service::RsmTsk => 18,
+            Service::DlyTsk => 19,
+            Service::SigSem => 20,
+            Service::WaiSem => 21,
+            Service::PolSem => 22,
+            Service::TwaiSem => 23,
+            Service::SetFlg => 24,
+            Service::ClrFlg => 25,
+            Service::WaiFlg => 26,
+            Service::PolFlg => 27,
+            Service::TwaiFlg => 28,
+            Service::SndDtq => 29,
+            Service::PsndDtq => 30,
+            Service::TsndDtq => 31,
+            Service::FsndDtq => 32,
+            Service::RcvDtq => 33,
+            Service::PrcvDtq => 34,
+            Service::TrcvDtq => 35,
+            Service::SndMbx => 36,
+            Service::RcvMbx => 37,
+            Service::PrcvMbx => 38,
+            Service::TrcvMbx => 39,
+            Service::StaCyc => 40,
+            Service::StpCyc => 41,
+            Service::RotRdq => 42,
+            Service::GetTid => 43,
+            Service::LocCpu => 44,
+            Service::UnlCpu => 45,
+            Service::DisDsp => 46,
+            Service::EnaDsp => 47,
+            Service::LocSpn => 48,
+            Service::TrySpn => 49,
+            Service::UnlSpn => 50,
+            Service::IactTsk => 51,
+            Service::IwupTsk => 52,
+            Service::IrelWai => 53,
+            Service::IsigSem => 54,
+            Service::IsetFlg => 55,
+            Service::IpsndDtq => 56,
+            Service::IfsndDtq => 57,
+            Service::IrotRdq => 58,
+        }
+    }
+
+    /// The name of the call, as both texts and the trace write it.
+    pub fn name(self) -> &'static str
+        ensures { result.now ≡ service_name self }
+    {
+        match self {
+            Service::Put => "put",
+            Service::LdShr => "ld_shr",
+            Service::StShr => "st_shr",
+            Service::ActTsk => "act_tsk",
+            Service::CanAct => "can_act",
+            Service::ExtTsk => "ext_tsk",
+            Service::TerTsk => "ter_tsk",
+            Service::ChgPri => "chg_pri",
+            Service::GetPri => "get_pri",
+            Service::MactTsk => "mact_tsk",
+            Service::MigTsk => "mig_tsk",
+            Service::SlpTsk => "slp_tsk",
+            Service::TslpTsk => "tslp_tsk",
+            Service::WupTsk => "wup_tsk",
+            Service::CanWup => "can_wup",
+            Service::RelWai => "rel_wai",
+            Service::SusTsk => "sus_tsk",
+            Service::RsmTsk => "rsm_tsk",
+            Service::DlyTsk => "dly_tsk",
+            Service::SigSem => "sig_sem",
+            Service::WaiSem => "wai_sem",
+            Service::PolSem => "pol_sem",
+            Service::TwaiSem => "twai_sem",
+            Service::SetFlg => "set_flg",
+            Service::ClrFlg => "clr_flg",
+            Service::WaiFlg => "wai_flg",
+            Service::PolFlg => "pol_flg",
+            Service::TwaiFlg => "twai_flg",
+            Service::SndDtq => "snd_dtq",
+            Service::PsndDtq => "psnd_dtq",
+            Service::TsndDtq => "tsnd_dtq",
+            Service::FsndDtq => "fsnd_dtq",
+            Service::RcvDtq => "rcv_dtq",
+            Service::PrcvDtq => "prcv_dtq",
+            Service::TrcvDtq => "trcv_dtq",
+            Service::SndMbx => "snd_mbx",
+            Service::RcvMbx => "rcv_mbx",
+            Service::PrcvMbx => "prcv_mbx",
+            Service::TrcvMbx => "trcv_mbx",
+            Service::StaCyc => "sta_cyc",
+            Service::StpCyc => "stp_cyc",
+            Service::RotRdq => "rot_rdq",
+            Service::GetTid => "get_tid",
+            Service::LocCpu => "loc_cpu",
+            Service::UnlCpu => "unl_cpu",
+            Service::DisDsp => "dis_dsp",
+            Service::EnaDsp => "ena_dsp",
+            Service::LocSpn => "loc_spn",
+            Service::TrySpn => "try_spn",
+            Service::UnlSpn => "unl_spn",
+            Service::IactTsk => "iact_tsk",
+            Service::IwupTsk => "iwup_tsk",
+            Service::IrelWai => "irel_wai",
+            Service::IsigSem => "isig_sem",
+            Service::IsetFlg => "iset_flg",
+            Service::IpsndDtq => "ipsnd_dtq",
+            Service::IfsndDtq => "ifsnd_dtq",
+            Service::IrotRdq => "irot_rdq",
+        }
+    }
+
+    /// How many arguments the call passes to the kernel, 0 to 4; an out place is none.
+    pub fn arity(self) -> u8
+        ensures { result ≡ arity self }
+    {
+        match self {
+            Service::ExtTsk
+            | Service::SlpTsk
+            | Service::GetTid
+            | Service::LocCpu
+            | Service::UnlCpu
+            | Service::DisDsp
+            | Service::EnaDsp => 0,
+            Service::Put
+            | Service::LdShr
+            | Service::ActTsk
+            | Service::CanAct
+            | Service::TerTsk
+            | Service::GetPri
+            | Service::TslpTsk
+            | Service::WupTsk
+            | Service::CanWup
+            | Service::RelWai
+            | Service::SusTsk
+            | Service::RsmTsk
+            | Service::DlyTsk
+            | Service::SigSem
+            | Service::WaiSem
+            | Service::PolSem
+            | Service::RcvDtq
+            | Service::PrcvDtq
+            | Service::RcvMbx
+            | Service::PrcvMbx
+            | Service::StaCyc
+            | Service::StpCyc
+            | Service::RotRdq
+            | Service::LocSpn
+            | Service::TrySpn
+            | Service::UnlSpn
+            | Service::IactTsk
+            | Service::IwupTsk
+            | Service::IrelWai
+            | Service::IsigSem
+            | Service::IrotRdq => 1,
+            Service::StShr
+            | Service::ChgPri
+            | Service::MactTsk
+            | Service::MigTsk
+            | Service::TwaiSem
+            | Service::SetFlg
+            | Service::ClrFlg
+            | Service::SndDtq
+            | Service::PsndDtq
+            | Service::FsndDtq
+            | Service::TrcvDtq
+            | Service::SndMbx
+            | Service::TrcvMbx
+            | Service::IsetFlg
+            | Service::IpsndDtq
+            | Service::IfsndDtq => 2,
+            Service::WaiFlg | Service::PolFlg | Service::TsndDtq => 3,
+            Service::TwaiFlg => 4,
+        }
+    }
+}

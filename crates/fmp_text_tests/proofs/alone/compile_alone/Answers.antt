@@ -1,0 +1,23 @@
+use Rattle.std.proofs.Common.{arith, refl, subst, sym}
+use Rattle.fmp_base.specs.Ranges.{IsInRange}
+use Rattle.fmp_base.specs.Systems.{SystemTables}
+use Rattle.fmp_cfgparse.proofs.Walks.{nothing_in_range}
+use Rattle.fmp_codegen.specs.Compiling.{IsCompiled}
+use Rattle.fmp_tasklang.specs.Views.{program_view}
+use Rattle.fmp_text_tests.specs.Alone.{of_bodies, of_syntax}
+use Rattle.fmp_text_tests.proofs.alone.compile_alone.Goals as goal
+
+pub compile-requires : goal.compile-requires
+compile-requires c =
+    subst IsInRange (sym c.without_objects-system.ensures) (nothing_in_range 1 (record { least = omega arith; most = omega arith }))
+
+pub returns-in-Err : goal.returns-in-Err
+returns-in-Err c = of_syntax c.in-Err.fault refl c.in-Err.ensures.read
+
+pub returns : goal.returns
+returns c = of_bodies (record {
+  program = c.in-Ok.program;
+  read = c.in-Ok.ensures.read;
+  compiled = subst (λ (t : SystemTables). IsCompiled t (program_view c.in-Ok.program) c.compile.result)
+      c.without_objects-system.ensures c.compile.ensures.compiled;
+})
