@@ -82,8 +82,8 @@ case_of sys s p me x (call.IpsndDtq queue word) = snd_dtq sys s me x Poll queue 
 case_of sys s p me x (call.IfsndDtq queue word) = fsnd_dtq sys s queue word
 case_of sys s p me x (call.IrotRdq priority) = irot_rdq s p priority
 
--- what a call of this caller on processor p comes to where it may be made; a handler is no task, and no call that it may
--- make looks at one that calls
+-- what a call of this caller on processor p comes to where it may be made; a handler is no task, and no call that it
+-- may make looks at one that calls
 abbrev pub case_by : SystemTables → KernelState → ℕ → Caller → Call → Outcome
 case_by sys s p (caller.Task me) c = case_of sys s p me (task_at s.tasks me) c
 case_by sys s p (caller.Handler h) c = case_of sys s p 0 (task_at [] 0) c

@@ -47,7 +47,8 @@ released g t x reply =
 -- the block of a task that has ended; queued activations and a stored processor stay
 abbrev pub ended_block : SystemTables → ℕ → TaskBlock → TaskBlock
 ended_block sys t x =
-    record x { phase = Dormant; suspended = false; priority = (task_config sys t).priority; wakeups = 0; deadline = None }
+    record x
+    { phase = Dormant; suspended = false; priority = (task_config sys t).priority; wakeups = 0; deadline = None }
 
 -- with no activation queued the task, now y, is dormant; else one is taken and it starts
 abbrev pub ended_by : ℕ → SystemTables → Progress → ℕ → TaskBlock → Progress

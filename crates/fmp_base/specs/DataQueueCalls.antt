@@ -46,7 +46,8 @@ snd_dtq sys s me x limit d v = tested s er.Id (numbered (length s.data_queues) d
 
 abbrev pub tsnd_dtq : SystemTables → KernelState → ℕ → TaskBlock → ℤ → ℤ → ℤ → Outcome
 tsnd_dtq sys s me x d v tmout =
-    tested s er.Id (numbered (length s.data_queues) d) (λ i. tested s er.Par (limit_of tmout) (λ limit. word_sent sys s me x v limit i))
+    tested s er.Id (numbered (length s.data_queues) d)
+    (λ i. tested s er.Par (limit_of tmout) (λ limit. word_sent sys s me x v limit i))
 
 abbrev pub without_oldest : List ℤ → List ℤ
 without_oldest [] = []
@@ -64,7 +65,8 @@ forced_to None sys s d v = forced_in (has_room sys s d) s d v
 -- fsnd_dtq and ifsnd_dtq
 abbrev pub fsnd_dtq : SystemTables → KernelState → ℤ → ℤ → Outcome
 fsnd_dtq sys s d v =
-    tested s er.Id (numbered (length s.data_queues) d) (λ i. refused_if (nat_eq (data_queue_config sys i).capacity 0) s er.Iluse (forced_to (first_waiting sys s (queue.Receivers i)) sys s i v))
+    tested s er.Id (numbered (length s.data_queues) d) (λ i. refused_if (nat_eq (data_queue_config sys i).capacity 0) s
+    er.Iluse (forced_to (first_waiting sys s (queue.Receivers i)) sys s i v))
 
 abbrev pub word_of_cause : WaitCause → ℤ
 word_of_cause (cause.Sending d v) = v
@@ -103,4 +105,5 @@ rcv_dtq sys s me x limit d = tested s er.Id (numbered (length s.data_queues) d) 
 
 abbrev pub trcv_dtq : SystemTables → KernelState → ℕ → TaskBlock → ℤ → ℤ → Outcome
 trcv_dtq sys s me x d tmout =
-    tested s er.Id (numbered (length s.data_queues) d) (λ i. tested s er.Par (limit_of tmout) (λ limit. word_received sys s me x limit i))
+    tested s er.Id (numbered (length s.data_queues) d)
+    (λ i. tested s er.Par (limit_of tmout) (λ limit. word_received sys s me x limit i))

@@ -32,7 +32,8 @@ task-turned R body (Some c) (Some d) h = held-turned R body c d h
 task-turned R body None (Some d) h = absurd h
 task-turned R body (Some c) None h = absurd h
 
-tasks-turned : {C D : Type 0} (R : ℕ → C → D → Type 0) (bodies : ℕ → ℕ) (cs : List (Option (Held C))) (ds : List (Option (Held D)))
+tasks-turned : {C D : Type 0} (R : ℕ → C → D → Type 0) (bodies : ℕ → ℕ) (cs : List (Option (Held C)))
+    (ds : List (Option (Held D)))
     → AllTied (λ t. HeldTied R (bodies t)) cs ds → AllTied (λ t. HeldTied (turned R) (bodies t)) ds cs
 tasks-turned R bodies [] [] h = tt
 tasks-turned R bodies (c ∷ cs) (d ∷ ds) h =
@@ -40,7 +41,8 @@ tasks-turned R bodies (c ∷ cs) (d ∷ ds) h =
 tasks-turned R bodies [] (d ∷ ds) h = absurd h
 tasks-turned R bodies (c ∷ cs) [] h = absurd h
 
-handler-turned : {C D : Type 0} (R : ℕ → C → D → Type 0) (c : Option (HandlerContext (Held C))) (d : Option (HandlerContext (Held D)))
+handler-turned : {C D : Type 0} (R : ℕ → C → D → Type 0) (c : Option (HandlerContext (Held C)))
+    (d : Option (HandlerContext (Held D)))
     → OptionTied (HandlerTied (HeldTied R)) c d → OptionTied (HandlerTied (HeldTied (turned R))) d c
 handler-turned R None None h = tt
 handler-turned R (Some c) (Some d) h =
@@ -49,14 +51,16 @@ handler-turned R (Some c) (Some d) h =
 handler-turned R None (Some d) h = absurd h
 handler-turned R (Some c) None h = absurd h
 
-handlers-turned : {C D : Type 0} (R : ℕ → C → D → Type 0) (cs : List (Option (HandlerContext (Held C)))) (ds : List (Option (HandlerContext (Held D))))
+handlers-turned : {C D : Type 0} (R : ℕ → C → D → Type 0) (cs : List (Option (HandlerContext (Held C))))
+    (ds : List (Option (HandlerContext (Held D))))
     → AllTied (λ p. HandlerTied (HeldTied R)) cs ds → AllTied (λ p. HandlerTied (HeldTied (turned R))) ds cs
 handlers-turned R [] [] h = tt
 handlers-turned R (c ∷ cs) (d ∷ ds) h = (handler-turned R c d h.0, handlers-turned R cs ds h.1)
 handlers-turned R [] (d ∷ ds) h = absurd h
 handlers-turned R (c ∷ cs) [] h = absurd h
 
-WorldTied-turned : {C D : Type 0} (sys : SystemTables) (R : ℕ → C → D → Type 0) (v : World C) (w : World D) → WorldTied sys R v w
+WorldTied-turned : {C D : Type 0} (sys : SystemTables) (R : ℕ → C → D → Type 0) (v : World C) (w : World D)
+    → WorldTied sys R v w
     → WorldTied sys (turned R) w v
 WorldTied-turned sys R v w h =
     record {
@@ -73,7 +77,8 @@ none_of sys R Nothing y e h = refl
 none_of {C} {D} sys R (Did a) y e h = absurd (subst (λ (z : Reaction D). DoneTied sys R (Did a) z) e h)
 
 -- what the tied run of the other meaning leaves: the same lines and the same state at the end
-pub record FinishedLike {C D : Type 0} (sys : SystemTables) (M : Meaning C) (n size : ℕ) (v : World C) (es ds : List Event) (s : Trace D) : Type 0 where
+pub record FinishedLike {C D : Type 0} (sys : SystemTables) (M : Meaning C) (n size : ℕ) (v : World C)
+    (es ds : List Event) (s : Trace D) : Type 0 where
   pub trace : Trace C
   pub finishes : Finishes sys M n size v es ds trace
   pub events : trace.events ≡ s.events
@@ -103,7 +108,9 @@ module _ {C D : Type 0} (sys : SystemTables) (R : ℕ → D → C → Type 0) (M
       record {
         trace = after_first d'.lines l.trace;
         finishes = did v e es (ds d.world) d' l.trace q l.finishes;
-        events = ap (λ (ls : List Line). ls ∷ l.trace.events) (sym k.0) ∙ ap (λ (lss : List (List Line)). d.lines ∷ lss) l.events;
+        events =
+            ap (λ (ls : List Line). ls ∷ l.trace.events) (sym k.0) ∙ ap (λ (lss : List (List Line)). d.lines ∷ lss)
+            l.events;
         state = l.state;
       }
 
@@ -128,7 +135,8 @@ done_on-first k w e es (Did d) ds r rest h =
     ap (λ (es' : List Event). e ∷ es') (rest d.world (IsComplete-rest d.lines (r d.world) h))
 
 -- where the first k events alone are a complete run, they are the first that a run does
-pub done_events-first : {C : Type 0} (sys : SystemTables) (M : Meaning C) (n : ℕ) (w : World C) (es : List Event) (k : ℕ)
+pub done_events-first : {C : Type 0} (sys : SystemTables) (M : Meaning C) (n : ℕ) (w : World C) (es : List Event)
+    (k : ℕ)
     → IsComplete (complete_run sys M n w (take k es)) → take k (done_events sys M n w es) ≡ take k es
 done_events-first sys M n w [] zero h = refl
 done_events-first sys M n w (e ∷ es) zero h = refl
@@ -136,19 +144,22 @@ done_events-first sys M n w [] (suc k) h = refl
 done_events-first sys M n w (e ∷ es) (suc k) h =
     done_on-first k w e es (step sys M n w e) _ _ (λ v h'. done_events-first sys M n v es k h') h
 
-IsComplete-agrees : {C D : Type 0} (r : Option (Trace C)) (s : Option (Trace D)) → TraceAgrees r s → IsComplete r → IsComplete s
+IsComplete-agrees : {C D : Type 0} (r : Option (Trace C)) (s : Option (Trace D)) → TraceAgrees r s → IsComplete r
+    → IsComplete s
 IsComplete-agrees None s h k = absurd k
 IsComplete-agrees (Some r) None h k = absurd h
 IsComplete-agrees (Some r) (Some s) h k = tt
 
 -- what finishes is a complete run
-pub complete_run-Finishes : {C : Type 0} (sys : SystemTables) (M : Meaning C) (n size : ℕ) (w : World C) (es ds : List Event) (r : Trace C)
+pub complete_run-Finishes : {C : Type 0} (sys : SystemTables) (M : Meaning C) (n size : ℕ) (w : World C)
+    (es ds : List Event) (r : Trace C)
     → Finishes sys M n size w es ds r → complete_run sys M n w ds ≡ Some r
 complete_run-Finishes sys M n size _ _ _ _ (over w) = refl
 complete_run-Finishes {C} sys M n size _ _ _ _ (did w e es ds d r h f) =
     ap (λ (o : Reaction C). completed_on o (λ v. complete_run sys M n v ds)) h
     ∙ ap (completed_by d.lines) (complete_run-Finishes sys M n size d.world es ds r f)
-complete_run-Finishes sys M n size _ _ _ _ (did_nothing w e es ds r h f) = complete_run-Finishes sys M n size w es ds r f
+complete_run-Finishes sys M n size _ _ _ _ (did_nothing w e es ds r h f) =
+    complete_run-Finishes sys M n size w es ds r f
 
 module _ {C D : Type 0} (sys : SystemTables) (R : ℕ → D → C → Type 0) (M : Meaning C) (N : Meaning D) (n size : ℕ)
     (from : KeepsTie R N n M n) (back : (t : ℕ) → (t + 1) * size ≤ n → KeepsTie (turned R) M t N n) where

@@ -13,7 +13,8 @@ ended_in w = record { world = w; events = [] }
 -- From world w on, of the events in the first list just those in the second are finished at bound n, and they leave
 -- this trace: each of them is done at its place, and an event that is left out does nothing at its place within any
 -- t units of the meaning with (t + 1) * size up to n.
-pub data Finishes {C : Type 0} (sys : SystemTables) (M : Meaning C) (n size : ℕ) : World C → List Event → List Event → Trace C → Type 0 where
+pub data Finishes {C : Type 0} (sys : SystemTables) (M : Meaning C) (n size : ℕ) : World C → List Event → List Event
+    → Trace C → Type 0 where
   over : (w : World C) → Finishes sys M n size w [] [] (ended_in w)
   did : (w : World C) (e : Event) (es ds : List Event) (d : Done C) (r : Trace C) → step sys M n w e ≡ Did d →
       Finishes sys M n size d.world es ds r → Finishes sys M n size w (e ∷ es) (e ∷ ds) (after_first d.lines r)
@@ -29,7 +30,8 @@ IsComplete (Some r) = Unit {0}
 -- What a bounded run over a list of events finishes: these events, with this trace. They are a complete run of their
 -- own; and where the meaning completes the first k events of the list within t units, (t + 1) * size up to n, these are
 -- the first k that are finished.
-pub record IsFinished {C : Type 0} (sys : SystemTables) (M : Meaning C) (n size : ℕ) (w : World C) (es ds : List Event) (r : Trace C) : Type 0 where
+pub record IsFinished {C : Type 0} (sys : SystemTables) (M : Meaning C) (n size : ℕ) (w : World C) (es ds : List Event)
+    (r : Trace C) : Type 0 where
   pub each : Finishes sys M n size w es ds r
   pub complete : complete_run sys M n w ds ≡ Some r
   pub first : (k t : ℕ) → (t + 1) * size ≤ n → IsComplete (complete_run sys M t w (take k es)) → take k ds ≡ take k es

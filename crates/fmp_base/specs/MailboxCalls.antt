@@ -32,7 +32,8 @@ is_queued message (messages ∷ rest) = is_among message messages || is_queued m
 -- a message behind those of its priority or more urgent, where f gives priorities
 abbrev pub behind_equals : (ℕ → ℕ) → ℕ → List ℕ → List ℕ
 behind_equals f message [] = message ∷ []
-behind_equals f message (other ∷ others) = if nat_lt (f message) (f other) then message ∷ other ∷ others else other ∷ behind_equals f message others
+behind_equals f message (other ∷ others) =
+    if nat_lt (f message) (f other) then message ∷ other ∷ others else other ∷ behind_equals f message others
 
 abbrev pub enqueued : QueueOrder → (ℕ → ℕ) → ℕ → List ℕ → List ℕ
 enqueued Fifo f message messages = messages ++ message ∷ []
@@ -43,23 +44,29 @@ message_priority sys message = (message_config sys message).priority
 
 -- the first waiting task, if any, is released with the message; else the message is queued
 abbrev pub message_sent_to : Option ℕ → SystemTables → KernelState → (mailbox message : ℕ) → Outcome
-message_sent_to (Some t) sys s mailbox message = succeeds (released (unchanged s) t (task_at s.tasks t) (given (pos (message + 1))))
+message_sent_to (Some t) sys s mailbox message =
+    succeeds (released (unchanged s) t (task_at s.tasks t) (given (pos (message + 1))))
 message_sent_to None sys s mailbox message =
-    succeeds_in (with_messages s mailbox (enqueued (mailbox_config sys mailbox).message_order (message_priority sys) message (messages_at s mailbox)))
+    succeeds_in (with_messages s mailbox
+    (enqueued (mailbox_config sys mailbox).message_order (message_priority sys) message (messages_at s mailbox)))
 
 -- messages that queue by priority have one up to the mailbox's limit; a message is queued once
 abbrev pub message_sent : SystemTables → KernelState → (mailbox message : ℕ) → Outcome
 message_sent sys s mailbox message =
-    refused_if (is_by_priority (mailbox_config sys mailbox).message_order && nat_lt (mailbox_config sys mailbox).most (message_priority sys message)) s er.Par (refused_if (is_queued message s.mailboxes) s er.Obj (message_sent_to (first_waiting sys s (queue.Mailbox mailbox)) sys s mailbox message))
+    refused_if (is_by_priority (mailbox_config sys mailbox).message_order && nat_lt (mailbox_config sys mailbox).most
+    (message_priority sys message)) s er.Par (refused_if (is_queued message s.mailboxes) s er.Obj
+    (message_sent_to (first_waiting sys s (queue.Mailbox mailbox)) sys s mailbox message))
 
 abbrev pub snd_mbx : SystemTables → KernelState → ℤ → ℤ → Outcome
 snd_mbx sys s mailbox message =
-    tested s er.Id (numbered (length s.mailboxes) mailbox) (λ i. tested s er.Id (numbered (length sys.messages) message) (message_sent sys s i))
+    tested s er.Id (numbered (length s.mailboxes) mailbox)
+    (λ i. tested s er.Id (numbered (length sys.messages) message) (message_sent sys s i))
 
 -- the first message is taken, else the caller waits
 abbrev pub message_taken_from : List ℕ → KernelState → ℕ → TaskBlock → TimeLimit → ℕ → Outcome
 message_taken_from [] s me x limit mailbox = waits_within limit s me x (cause.Mailbox mailbox)
-message_taken_from (message ∷ rest) s me x limit mailbox = gives (pos (message + 1)) (unchanged (with_messages s mailbox rest))
+message_taken_from (message ∷ rest) s me x limit mailbox =
+    gives (pos (message + 1)) (unchanged (with_messages s mailbox rest))
 
 abbrev pub message_received : KernelState → ℕ → TaskBlock → TimeLimit → ℕ → Outcome
 message_received s me x limit mailbox = message_taken_from (messages_at s mailbox) s me x limit mailbox
@@ -70,4 +77,5 @@ rcv_mbx s me x limit mailbox = tested s er.Id (numbered (length s.mailboxes) mai
 
 abbrev pub trcv_mbx : KernelState → ℕ → TaskBlock → ℤ → ℤ → Outcome
 trcv_mbx s me x mailbox tmout =
-    tested s er.Id (numbered (length s.mailboxes) mailbox) (λ i. tested s er.Par (limit_of tmout) (λ limit. message_received s me x limit i))
+    tested s er.Id (numbered (length s.mailboxes) mailbox)
+    (λ i. tested s er.Par (limit_of tmout) (λ limit. message_received s me x limit i))

@@ -95,11 +95,13 @@ told M body reply (Some (Goes c)) = Some (Goes c)
 told M body reply (Some (Awaits c)) = Some (Goes (M.deliver body c reply))
 
 -- the caller on processor p is told a reply
-abbrev pub delivered_to : {C : Type 0} → SystemTables → Meaning C → Contexts (Held C) → ℕ → Caller → Reply → Contexts (Held C)
+abbrev pub delivered_to : {C : Type 0} → SystemTables → Meaning C → Contexts (Held C) → ℕ → Caller → Reply
+    → Contexts (Held C)
 delivered_to sys M cs p who reply =
     with_context cs p who (told M (caller_body sys cs p who) reply (context_of cs p who))
 
-abbrev pub called_back : {C : Type 0} → SystemTables → Meaning C → Contexts (Held C) → ℕ → Caller → Option Reply → Contexts (Held C)
+abbrev pub called_back : {C : Type 0} → SystemTables → Meaning C → Contexts (Held C) → ℕ → Caller → Option Reply
+    → Contexts (Held C)
 called_back sys M cs p who None = cs
 called_back sys M cs p who (Some reply) = delivered_to sys M cs p who reply
 
@@ -125,6 +127,7 @@ contexts_after sys M cs (line.Begins p h) = handler_begun sys M cs p h
 contexts_after sys M cs (line.Call p who c reply) = called_back sys M cs p who reply
 contexts_after sys M cs _ = cs
 
-abbrev pub contexts_after_all : {C : Type 0} → SystemTables → Meaning C → Contexts (Held C) → List Line → Contexts (Held C)
+abbrev pub contexts_after_all : {C : Type 0} → SystemTables → Meaning C → Contexts (Held C) → List Line
+    → Contexts (Held C)
 contexts_after_all sys M cs [] = cs
 contexts_after_all sys M cs (l ∷ ls) = contexts_after_all sys M (contexts_after sys M cs l) ls

@@ -44,7 +44,8 @@ gives v g = record { answer = Replies (given v); progress = g }
 -- the caller, task t, which is x, waits at the end of the order
 abbrev pub waits : KernelState → ℕ → TaskBlock → WaitCause → Option ℕ → Outcome
 waits s t x c deadline =
-    record { answer = Waits; progress = unchanged (with_last s t (record x { phase = Waiting c; deadline = deadline })) }
+    record
+    { answer = Waits; progress = unchanged (with_last s t (record x { phase = Waiting c; deadline = deadline })) }
 
 -- the caller waits within a limit; a poll fails and changes nothing
 abbrev pub waits_within : TimeLimit → KernelState → ℕ → TaskBlock → WaitCause → Outcome

@@ -82,8 +82,8 @@ is_caller me (negsuc n) = false
 abbrev pub is_on_caller : ℕ → Call → Bool
 is_on_caller me c = is_caller me (argument (arguments_of c) 0)
 
--- whether a call with this permission is refused to its caller, on the processor cpu: by a task what it may not do while
--- the CPU is locked, or while dispatching is disabled, and what is for handlers; by a handler what is for tasks
+-- whether a call with this permission is refused to its caller, on the processor cpu: by a task what it may not do
+-- while the CPU is locked, or while dispatching is disabled, and what is for handlers; by a handler what is for tasks
 abbrev pub is_barred : Permission → Processor → Caller → Call → Bool
 is_barred Anywhere cpu who c = false
 is_barred LockedTasks cpu (caller.Task me) c = false

@@ -16,7 +16,8 @@ with_due s c due = record s { due_times = slice_set s.due_times c due }
 -- the handler is due anew, one period and a tick from now
 abbrev pub sta_cyc : SystemTables → KernelState → ℤ → Outcome
 sta_cyc sys s c =
-    tested s er.Id (numbered (length s.due_times) c) (λ i. succeeds_in (with_due s i (Some (clock_after s (cyclic_config sys i).period))))
+    tested s er.Id (numbered (length s.due_times) c)
+    (λ i. succeeds_in (with_due s i (Some (clock_after s (cyclic_config sys i).period))))
 
 -- a pending handler stays pending
 abbrev pub stp_cyc : KernelState → ℤ → Outcome
@@ -54,7 +55,8 @@ unl_cpu s p = cpu_unlocked_from (processor_at s p).lock s p
 
 -- dis_dsp and ena_dsp
 abbrev pub dispatch_set : KernelState → ℕ → Bool → Outcome
-dispatch_set s p disabled = succeeds_in (with_processor s p (record (processor_at s p) { dispatch_disabled = disabled }))
+dispatch_set s p disabled =
+    succeeds_in (with_processor s p (record (processor_at s p) { dispatch_disabled = disabled }))
 
 abbrev pub is_spin : ℕ → Lock → Bool
 is_spin l Free = false
@@ -77,8 +79,10 @@ loc_spn sys s p l =
 
 abbrev pub try_spn : SystemTables → KernelState → ℕ → ℤ → Outcome
 try_spn sys s p l =
-    tested s er.Id (numbered (length sys.spin_locks) l) (λ i. refused_if (is_held i s.processors) s er.Obj (succeeds_in (with_lock s p (Spin i))))
+    tested s er.Id (numbered (length sys.spin_locks) l)
+    (λ i. refused_if (is_held i s.processors) s er.Obj (succeeds_in (with_lock s p (Spin i))))
 
 abbrev pub unl_spn : SystemTables → KernelState → ℕ → ℤ → Outcome
 unl_spn sys s p l =
-    tested s er.Id (numbered (length sys.spin_locks) l) (λ i. refused_if (not (is_spin i (processor_at s p).lock)) s er.Iluse (succeeds_in (with_lock s p Free)))
+    tested s er.Id (numbered (length sys.spin_locks) l)
+    (λ i. refused_if (not (is_spin i (processor_at s p).lock)) s er.Iluse (succeeds_in (with_lock s p Free)))

@@ -109,7 +109,8 @@ order_of sys (queue.Mailbox mailbox) = (mailbox_config sys mailbox).order
 
 -- the tasks that wait in a queue, those to be released first in front
 abbrev pub wait_queue : SystemTables → KernelState → WaitQueue → List ℕ
-wait_queue sys s q = arranged (order_of sys q) (priority_in s.tasks) (filter (λ t. waits_in q (task_at s.tasks t)) s.order)
+wait_queue sys s q =
+    arranged (order_of sys q) (priority_in s.tasks) (filter (λ t. waits_in q (task_at s.tasks t)) s.order)
 
 abbrev pub first_waiting : SystemTables → KernelState → WaitQueue → Option ℕ
 first_waiting sys s q = first_of (wait_queue sys s q)

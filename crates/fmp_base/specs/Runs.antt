@@ -49,7 +49,8 @@ completed_on Nothing rest = None
 completed_on (Did d) rest = completed_by d.lines (rest d.world)
 
 -- a run in which every event does something, if it is one
-abbrev pub complete_run : {C : Type 0} → SystemTables → Meaning C → (bound : ℕ) → World C → List Event → Option (Trace C)
+abbrev pub complete_run : {C : Type 0} → SystemTables → Meaning C → (bound : ℕ) → World C → List Event
+    → Option (Trace C)
 complete_run sys M bound w [] = Some (record { world = w; events = [] })
 complete_run sys M bound w (e ∷ es) = completed_on (step sys M bound w e) (λ v. complete_run sys M bound v es)
 

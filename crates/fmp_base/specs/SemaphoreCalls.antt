@@ -42,7 +42,8 @@ wai_sem s me x limit i = tested s er.Id (numbered (length s.semaphores) i) (acqu
 
 abbrev pub twai_sem : KernelState → ℕ → TaskBlock → ℤ → ℤ → Outcome
 twai_sem s me x i tmout =
-    tested s er.Id (numbered (length s.semaphores) i) (λ n. tested s er.Par (limit_of tmout) (λ limit. acquired s me x limit n))
+    tested s er.Id (numbered (length s.semaphores) i)
+    (λ n. tested s er.Par (limit_of tmout) (λ limit. acquired s me x limit n))
 
 abbrev pub ld_shr : KernelState → ℤ → Outcome
 ld_shr s w =
@@ -50,4 +51,5 @@ ld_shr s w =
 
 abbrev pub st_shr : KernelState → ℤ → ℤ → Outcome
 st_shr s w v =
-    tested s er.Id (numbered (length s.shared_words) w) (λ n. succeeds_in (record s { shared_words = slice_set s.shared_words n v }))
+    tested s er.Id (numbered (length s.shared_words) w)
+    (λ n. succeeds_in (record s { shared_words = slice_set s.shared_words n v }))

@@ -44,7 +44,8 @@ interrupt_or (Some i) other = Some (handler.Interrupt i)
 -- the first pending handler of p: interrupts by number, then cyclic handlers by number
 abbrev pub pending_handler : SystemTables → KernelState → ℕ → Option Handler
 pending_handler sys s p =
-    interrupt_or (first_pending (interrupts_on sys p) 0 s.pending_interrupts) (cyclic_handler (first_pending (cycles_on sys p) 0 s.pending_cyclics))
+    interrupt_or (first_pending (interrupts_on sys p) 0 s.pending_interrupts)
+    (cyclic_handler (first_pending (cycles_on sys p) 0 s.pending_cyclics))
 
 -- a handler is pending no more
 abbrev pub without_pending : KernelState → Handler → KernelState

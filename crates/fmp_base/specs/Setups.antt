@@ -1,8 +1,8 @@
--- The state in which a system starts: its static APIs have been carried out, in order, on a system without
--- objects at clock 0 (uITRON 4.0, section 3.12). Of all static APIs only CRE_TSK does more than make its object: with
--- TA_ACT it starts the task. A start looks at no other object, and no object is changed once it is made, so the APIs of one
--- table may be carried out before those of another: setup is said over the tables, the tasks in order of number, which is
--- the order of the text.
+-- The state in which a system starts: its static APIs have been carried out, in order, on a system without objects at
+-- clock 0 (uITRON 4.0, section 3.12). Of all static APIs only CRE_TSK does more than make its object: with TA_ACT it
+-- starts the task. A start looks at no other object, and no object is changed once it is made, so the APIs of one table
+-- may be carried out before those of another: setup is said over the tables, the tasks in order of number, which is the
+-- order of the text.
 use Rattle.std.specs.Prelude.{ℕ, ◌+◌, List, [], ◌∷◌, Option, Some, None, Bool, true, false, replicate, length, map, if◌then◌else◌}
 use Rattle.fmp_base.specs.declared.states.Phase.TheVariants.{Dormant}
 use Rattle.fmp_base.specs.declared.states.TaskBlock.{TaskBlock}
@@ -17,7 +17,16 @@ use Rattle.fmp_base.specs.Systems.{SystemTables, task_config}
 -- a task that has been created and not started
 abbrev pub created : TaskConfig → TaskBlock
 created c =
-    record { phase = Dormant; suspended = false; priority = c.priority; processor = c.processor; activations = 0; next_processor = None; wakeups = 0; deadline = None }
+    record {
+      phase = Dormant;
+      suspended = false;
+      priority = c.priority;
+      processor = c.processor;
+      activations = 0;
+      next_processor = None;
+      wakeups = 0;
+      deadline = None;
+    }
 
 -- a cyclic handler with TA_STA is due first one tick after its phase
 abbrev pub first_due : CyclicConfig → Option ℕ
@@ -57,4 +66,5 @@ no_contexts sys = record { tasks = replicate (length sys.tasks) None; handlers =
 -- setup: the objects are made, the tasks with TA_ACT start, and all processors settle
 abbrev pub setup : {C : Type 0} → SystemTables → Meaning C → Done C
 setup sys M =
-    finished sys M (no_contexts sys) [] (all_started sys (unchanged (created_state sys)) (places_from 0 (length sys.tasks)))
+    finished sys M (no_contexts sys) []
+    (all_started sys (unchanged (created_state sys)) (places_from 0 (length sys.tasks)))

@@ -40,7 +40,18 @@ unchanged s = record { state = s; lines = [] }
 -- task t, or a dormant one where there is none
 abbrev pub task_at : List TaskBlock → ℕ → TaskBlock
 task_at tasks t =
-    found (record { phase = Dormant; suspended = false; priority = 1; processor = 0; activations = 0; next_processor = None; wakeups = 0; deadline = None }) (slice_get tasks t)
+    found
+    (record {
+      phase = Dormant;
+      suspended = false;
+      priority = 1;
+      processor = 0;
+      activations = 0;
+      next_processor = None;
+      wakeups = 0;
+      deadline = None;
+    })
+    (slice_get tasks t)
 
 -- the clock at which a time of so many ticks that begins now has passed
 abbrev pub clock_after : KernelState → ℕ → ℕ

@@ -68,13 +68,15 @@ actor_ended sys s p (caller.Task t) = ended_itself sys s p t (task_at s.tasks t)
 actor_ended sys s p (caller.Handler h) = unchanged (handler_ended s p)
 
 -- what a call comes to, where this was its answer; a caller that asks for a held spin lock has done nothing
-abbrev pub answered : {C : Type 0} → Answer → SystemTables → Meaning C → Contexts (Held C) → ℕ → Caller → Call → Progress → Reaction C
+abbrev pub answered : {C : Type 0} → Answer → SystemTables → Meaning C → Contexts (Held C) → ℕ → Caller → Call
+    → Progress → Reaction C
 answered (Replies reply) sys M cs p who c g = Did (finished sys M cs (line.Call p who c (Some reply) ∷ []) g)
 answered Waits sys M cs p who c g = Did (finished sys M cs (line.Call p who c None ∷ []) g)
 answered Ends sys M cs p who c g = Did (finished sys M cs (line.End p who ∷ []) g)
 answered Spins sys M cs p who c g = Nothing
 
-abbrev pub call_made : {C : Type 0} → SystemTables → Meaning C → Contexts (Held C) → ℕ → Caller → Call → Outcome → Reaction C
+abbrev pub call_made : {C : Type 0} → SystemTables → Meaning C → Contexts (Held C) → ℕ → Caller → Call → Outcome
+    → Reaction C
 call_made sys M cs p who c o = answered o.answer sys M cs p who c o.progress
 
 -- the actor of p has made this stretch: its context is taken, and the call, end or fault is carried out
@@ -91,7 +93,8 @@ stretched sys M w p who (ends.Over kept) = Nothing
 abbrev pub run_in : {C : Type 0} → SystemTables → Meaning C → ℕ → World C → ℕ → Caller → Option (Held C) → Reaction C
 run_in sys M bound w p who None = Nothing
 run_in sys M bound w p who (Some (Awaits c)) = Nothing
-run_in sys M bound w p who (Some (Goes c)) = stretched sys M w p who (M.stretch (caller_body sys w.contexts p who) bound c)
+run_in sys M bound w p who (Some (Goes c)) =
+    stretched sys M w p who (M.stretch (caller_body sys w.contexts p who) bound c)
 
 abbrev pub run_by : {C : Type 0} → SystemTables → Meaning C → ℕ → World C → ℕ → Option Caller → Reaction C
 run_by sys M bound w p None = Nothing

@@ -5,8 +5,8 @@ use Rattle.fmp_base.specs.declared.bodies.Stretch.{Stretch}
 use Rattle.fmp_base.specs.declared.bodies.Stretch.TheVariants as made
 use Rattle.fmp_base.specs.declared.calls.Call as calls
 
--- with a call, its end or a fault, and the context that it leaves; or over its bound, where it may hand over the context
--- that it has come to
+-- with a call, its end or a fault, and the context that it leaves; or over its bound, where it may hand over the
+-- context that it has come to
 pub data Ending (C : Type 0) : Type 0 where
   Call : C → calls.Call → Ending C
   End : C → Ending C

@@ -49,6 +49,24 @@ tables_of s =
       interrupts = s.interrupts.items;
     }
 
+-- so many processors and no object yet; activations and wakeups are queued once at most
+abbrev pub without_objects : ℕ → SystemTables
+without_objects processors =
+    record {
+      processors = processors;
+      queue_limit = 1;
+      tasks = [];
+      semaphores = [];
+      flags = [];
+      data_queues = [];
+      mailboxes = [];
+      messages = [];
+      shared_words = [];
+      spin_locks = [];
+      cyclics = [];
+      interrupts = [];
+    }
+
 -- The number of the body of an entry. An entry is a name only until the bodies are known: in a system that runs, as in
 -- every image, each is a number, so that what a name gives is never looked at.
 abbrev pub body_of : Entry → ℕ
@@ -65,14 +83,27 @@ found a None = a
 
 abbrev pub task_config : SystemTables → ℕ → TaskConfig
 task_config sys t =
-    found (record { name = no_name; activated = false; exinf = pos 0; entry = entry.Body 0; priority = 1; stack = 1; processor = 0; only = false }) (slice_get sys.tasks t)
+    found
+    (record {
+      name = no_name;
+      activated = false;
+      exinf = pos 0;
+      entry = entry.Body 0;
+      priority = 1;
+      stack = 1;
+      processor = 0;
+      only = false;
+    })
+    (slice_get sys.tasks t)
 
 abbrev pub semaphore_config : SystemTables → ℕ → SemaphoreConfig
-semaphore_config sys s = found (record { name = no_name; order = Fifo; initial = 0; most = 1 }) (slice_get sys.semaphores s)
+semaphore_config sys s =
+    found (record { name = no_name; order = Fifo; initial = 0; most = 1 }) (slice_get sys.semaphores s)
 
 abbrev pub flag_config : SystemTables → ℕ → FlagConfig
 flag_config sys f =
-    found (record { name = no_name; order = Fifo; multiple = false; clears = false; initial = 0 }) (slice_get sys.flags f)
+    found (record { name = no_name; order = Fifo; multiple = false; clears = false; initial = 0 })
+    (slice_get sys.flags f)
 
 abbrev pub data_queue_config : SystemTables → ℕ → DataQueueConfig
 data_queue_config sys d = found (record { name = no_name; order = Fifo; capacity = 0 }) (slice_get sys.data_queues d)
@@ -86,7 +117,17 @@ message_config sys message = found (record { name = no_name; priority = 1 }) (sl
 
 abbrev pub cyclic_config : SystemTables → ℕ → CyclicConfig
 cyclic_config sys c =
-    found (record { name = no_name; started = false; exinf = pos 0; entry = entry.Body 0; period = 1; phase = 0; processor = 0 }) (slice_get sys.cyclics c)
+    found
+    (record {
+      name = no_name;
+      started = false;
+      exinf = pos 0;
+      entry = entry.Body 0;
+      period = 1;
+      phase = 0;
+      processor = 0;
+    })
+    (slice_get sys.cyclics c)
 
 -- the handler that is defined for an interrupt number, if any
 abbrev pub defined_for : ℕ → List InterruptConfig → Option InterruptConfig

@@ -30,7 +30,8 @@ by_number s t = numbered (length s.tasks) t
 -- one more activation is queued
 abbrev pub activation_queued : SystemTables → KernelState → ℕ → TaskBlock → Outcome
 activation_queued sys s t x =
-    if nat_lt x.activations sys.queue_limit then succeeds_in (with_task s t (record x { activations = x.activations + 1 })) else refused s er.Qovr
+    if nat_lt x.activations sys.queue_limit then succeeds_in
+    (with_task s t (record x { activations = x.activations + 1 })) else refused s er.Qovr
 
 abbrev pub activated_by : Phase → SystemTables → KernelState → ℕ → TaskBlock → Outcome
 activated_by Dormant sys s t x = succeeds (started sys (unchanged s) t x)
@@ -57,7 +58,8 @@ can_act s me t = on_task s (self_or s me t) (activations_cancelled s)
 
 abbrev pub terminated : SystemTables → KernelState → ℕ → ℕ → ℕ → TaskBlock → Outcome
 terminated sys s p me t x =
-    refused_if (nat_eq t me) s er.Iluse (refused_if (is_dormant x.phase || not (nat_eq x.processor p)) s er.Obj (succeeds (ended sys (unchanged s) t x)))
+    refused_if (nat_eq t me) s er.Iluse (refused_if (is_dormant x.phase || not (nat_eq x.processor p)) s er.Obj
+    (succeeds (ended sys (unchanged s) t x)))
 
 abbrev pub ter_tsk : SystemTables → KernelState → (p me : ℕ) → ℤ → Outcome
 ter_tsk sys s p me t = on_task s (by_number s t) (terminated sys s p me)
@@ -78,7 +80,8 @@ or_if_zero other (suc n) = suc n
 -- priority 0 (TPRI_INI) is the initial one
 abbrev pub priority_changed : SystemTables → KernelState → ℕ → TaskBlock → ℕ → Outcome
 priority_changed sys s t x priority =
-    refused_if (is_dormant x.phase) s er.Obj (succeeds_in (moved_by (goes_last sys x) s t (record x { priority = or_if_zero (task_config sys t).priority priority })))
+    refused_if (is_dormant x.phase) s er.Obj (succeeds_in
+    (moved_by (goes_last sys x) s t (record x { priority = or_if_zero (task_config sys t).priority priority })))
 
 abbrev pub chg_pri : SystemTables → KernelState → ℕ → ℤ → ℤ → Outcome
 chg_pri sys s me t priority =
@@ -103,7 +106,8 @@ allowed_processor sys t c = allowed sys t (numbered sys.processors c)
 -- one more activation is queued, for a start on processor c
 abbrev pub activation_queued_on : SystemTables → KernelState → ℕ → TaskBlock → ℕ → Outcome
 activation_queued_on sys s t x c =
-    if nat_lt x.activations sys.queue_limit then succeeds_in (with_task s t (record x { activations = x.activations + 1; next_processor = Some c })) else refused s er.Qovr
+    if nat_lt x.activations sys.queue_limit then succeeds_in
+    (with_task s t (record x { activations = x.activations + 1; next_processor = Some c })) else refused s er.Qovr
 
 abbrev pub activated_on_by : Phase → SystemTables → KernelState → ℕ → TaskBlock → ℕ → Outcome
 activated_on_by Dormant sys s t x c = succeeds (started sys (unchanged s) t (record x { processor = c }))
@@ -121,7 +125,8 @@ assigned_by false s t x c = moved_by (is_ready x) s t (record x { processor = c 
 
 abbrev pub migrated : KernelState → ℕ → ℕ → TaskBlock → ℕ → Outcome
 migrated s p t x c =
-    refused_if (is_dormant x.phase || not (nat_eq x.processor p)) s er.Obj (succeeds_in (assigned_by (nat_eq x.processor c) s t x c))
+    refused_if (is_dormant x.phase || not (nat_eq x.processor p)) s er.Obj
+    (succeeds_in (assigned_by (nat_eq x.processor c) s t x c))
 
 abbrev pub mig_tsk : SystemTables → KernelState → (p me : ℕ) → ℤ → ℤ → Outcome
 mig_tsk sys s p me t c =
@@ -141,7 +146,8 @@ tslp_tsk s me x tmout = tested s er.Par (limit_of tmout) (slp_tsk s me x)
 -- one more wakeup is queued
 abbrev pub wakeup_queued : SystemTables → KernelState → ℕ → TaskBlock → Outcome
 wakeup_queued sys s t x =
-    if nat_lt x.wakeups sys.queue_limit then succeeds_in (with_task s t (record x { wakeups = x.wakeups + 1 })) else refused s er.Qovr
+    if nat_lt x.wakeups sys.queue_limit then succeeds_in (with_task s t (record x { wakeups = x.wakeups + 1 })) else
+    refused s er.Qovr
 
 -- a sleeping task is released, for another that is not dormant a wakeup is queued
 abbrev pub woken_from : WaitCause → SystemTables → KernelState → ℕ → TaskBlock → Outcome
@@ -164,7 +170,8 @@ iwup_tsk sys s t = on_task s (by_number s t) (woken sys s)
 
 abbrev pub can_wup : KernelState → ℕ → ℤ → Outcome
 can_wup s me t =
-    on_task s (self_or s me t) (λ u x. refused_if (is_dormant x.phase) s er.Obj (gives (pos x.wakeups) (unchanged (with_task s u (record x { wakeups = 0 })))))
+    on_task s (self_or s me t) (λ u x. refused_if (is_dormant x.phase) s er.Obj
+    (gives (pos x.wakeups) (unchanged (with_task s u (record x { wakeups = 0 })))))
 
 abbrev pub released_by : Phase → KernelState → ℕ → TaskBlock → Outcome
 released_by Dormant s t x = refused s er.Obj
@@ -177,7 +184,8 @@ rel_wai s t = on_task s (by_number s t) (λ u x. released_by x.phase s u x)
 
 abbrev pub sus_tsk : KernelState → ℕ → ℤ → Outcome
 sus_tsk s me t =
-    on_task s (self_or s me t) (λ u x. refused_if (is_dormant x.phase) s er.Obj (refused_if x.suspended s er.Qovr (succeeds_in (suspended s u x))))
+    on_task s (self_or s me t) (λ u x. refused_if (is_dormant x.phase) s er.Obj
+    (refused_if x.suspended s er.Qovr (succeeds_in (suspended s u x))))
 
 -- a waiting task waits on in its place, another is ready, at the end
 abbrev pub resumed_by : Phase → KernelState → ℕ → TaskBlock → KernelState
@@ -187,7 +195,8 @@ resumed_by (Waiting c) s t y = with_task s t y
 
 abbrev pub rsm_tsk : KernelState → ℤ → Outcome
 rsm_tsk s t =
-    on_task s (by_number s t) (λ u x. refused_if (not x.suspended) s er.Obj (succeeds_in (resumed_by x.phase s u (record x { suspended = false }))))
+    on_task s (by_number s t) (λ u x. refused_if (not x.suspended) s er.Obj
+    (succeeds_in (resumed_by x.phase s u (record x { suspended = false }))))
 
 -- the caller waits until the clock has advanced by more than d
 abbrev pub dly_tsk : KernelState → ℕ → TaskBlock → ℤ → Outcome

@@ -110,7 +110,8 @@ word_text word.Dormant = codes "DORMANT"
 -- the line of task t at the end, where x is shown of it
 abbrev pub state_text : SystemTables → ℕ → TaskState → List ℕ
 state_text sys t x =
-    task_name sys t ++ (codes " " ++ (word_text x.word ++ (processor_text x.processor ++ (decimal x.priority ++ 10 ∷ []))))
+    task_name sys t ++
+    (codes " " ++ (word_text x.word ++ (processor_text x.processor ++ (decimal x.priority ++ 10 ∷ []))))
 
 abbrev pub states_of : SystemTables → KernelState → List ℕ → List ℕ
 states_of sys s [] = []

@@ -51,7 +51,8 @@ with_cyclic_pending s c = record s { pending_cyclics = slice_set s.pending_cycli
 abbrev pub pended_by : Bool → SystemTables → Progress → ℕ → Progress
 pended_by true sys g c = g
 pended_by false sys g c =
-    record { state = with_cyclic_pending g.state c; lines = g.lines ++ line.Pends (cyclic_config sys c).processor c ∷ [] }
+    record
+    { state = with_cyclic_pending g.state c; lines = g.lines ++ line.Pends (cyclic_config sys c).processor c ∷ [] }
 
 abbrev pub pended : SystemTables → Progress → ℕ → Progress
 pended sys g c = pended_by (is_pending g.state.pending_cyclics c) sys g c

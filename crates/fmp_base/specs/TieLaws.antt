@@ -30,7 +30,8 @@ use Rattle.fmp_base.specs.Systems.{SystemTables, task_config, interrupt_config}
 use Rattle.fmp_base.specs.Ticks.{ticked, with_interrupt_pending}
 use Rattle.fmp_base.specs.Ties.{OptionTied, AllTied, StretchTied, over, call, end_, fault, Any, KeepsTie, HandlerTied, HeldTied, ContextsTied, WorldTied, BothDone, DoneTied, TraceAgrees}
 
-pub AllTied-slice_set : {C D : Type 0} (R : ℕ → C → D → Type 0) (cs : List (Option C)) (ds : List (Option D)) (i : ℕ) (c : Option C) (d : Option D)
+pub AllTied-slice_set : {C D : Type 0} (R : ℕ → C → D → Type 0) (cs : List (Option C)) (ds : List (Option D)) (i : ℕ)
+    (c : Option C) (d : Option D)
     → AllTied R cs ds → OptionTied (R i) c d → AllTied R (slice_set cs i c) (slice_set ds i d)
 AllTied-slice_set R [] [] i c d h k = tt
 AllTied-slice_set R [] (y ∷ ds) i c d h k = absurd h
@@ -46,19 +47,22 @@ AllTied-context_at R (x ∷ cs) [] i h = absurd h
 AllTied-context_at R (x ∷ cs) (y ∷ ds) zero h = h.0
 AllTied-context_at R (x ∷ cs) (y ∷ ds) (suc i) h = AllTied-context_at (λ j. R (suc j)) cs ds i h.1
 
-pub AllTied-replicate : {C D : Type 0} (R : ℕ → C → D → Type 0) (n : ℕ) → AllTied R (replicate n None) (replicate n None)
+pub AllTied-replicate : {C D : Type 0} (R : ℕ → C → D → Type 0) (n : ℕ)
+    → AllTied R (replicate n None) (replicate n None)
 AllTied-replicate R zero = tt
 AllTied-replicate R (suc n) = (tt, AllTied-replicate (λ i. R (suc i)) n)
 
 -- handlers' contexts that are tied are of one body
-pub body_in-tied : {C D : Type 0} (R : ℕ → C → D → Type 0) (c : Option (HandlerContext C)) (d : Option (HandlerContext D))
+pub body_in-tied : {C D : Type 0} (R : ℕ → C → D → Type 0) (c : Option (HandlerContext C))
+    (d : Option (HandlerContext D))
     → OptionTied (HandlerTied R) c d → body_in c ≡ body_in d
 body_in-tied R None None h = refl
 body_in-tied R None (Some d) h = absurd h
 body_in-tied R (Some c) None h = absurd h
 body_in-tied R (Some c) (Some d) h = h.bodies
 
-pub context_in-tied : {C D : Type 0} (R : ℕ → C → D → Type 0) (c : Option (HandlerContext C)) (d : Option (HandlerContext D))
+pub context_in-tied : {C D : Type 0} (R : ℕ → C → D → Type 0) (c : Option (HandlerContext C))
+    (d : Option (HandlerContext D))
     → OptionTied (HandlerTied R) c d → OptionTied (R (body_in c)) (context_in c) (context_in d)
 context_in-tied R None None h = tt
 context_in-tied R None (Some d) h = absurd h
@@ -72,7 +76,8 @@ context_for-tied R a b None (Some d) e h = absurd h
 context_for-tied R a b (Some c) None e h = absurd h
 context_for-tied R a b (Some c) (Some d) e h = record { bodies = e; contexts = h }
 
-pub told-tied : {C D : Type 0} (R : ℕ → C → D → Type 0) (M : Meaning C) (m : ℕ) (N : Meaning D) (n : ℕ) → KeepsTie R M m N n
+pub told-tied : {C D : Type 0} (R : ℕ → C → D → Type 0) (M : Meaning C) (m : ℕ) (N : Meaning D) (n : ℕ)
+    → KeepsTie R M m N n
     → (body : ℕ) (reply : Reply) (c : Option (Held C)) (d : Option (Held D)) → OptionTied (HeldTied R body) c d
     → OptionTied (HeldTied R body) (told M body reply c) (told N body reply d)
 told-tied R M m N n k body reply None None h = tt
@@ -84,57 +89,75 @@ told-tied R M m N n k body reply (Some (Goes c)) (Some (Awaits d)) h = absurd h
 told-tied R M m N n k body reply (Some (Awaits c)) (Some (Goes d)) h = absurd h
 
 -- where the caller's body is one in both, a tied context keeps the contexts tied
-pub caller_body-tied : {C D : Type 0} (sys : SystemTables) (R : ℕ → C → D → Type 0) (a : Contexts C) (b : Contexts D) (p : ℕ) (who : Caller)
+pub caller_body-tied : {C D : Type 0} (sys : SystemTables) (R : ℕ → C → D → Type 0) (a : Contexts C) (b : Contexts D)
+    (p : ℕ) (who : Caller)
     → ContextsTied sys R a b → caller_body sys a p who ≡ caller_body sys b p who
 caller_body-tied sys R a b p (caller.Task t) h = refl
 caller_body-tied sys R a b p (caller.Handler i) h =
     body_in-tied R _ _ (AllTied-context_at (λ q. HandlerTied R) a.handlers b.handlers p h.handlers)
 
-pub context_of-tied : {C D : Type 0} (sys : SystemTables) (R : ℕ → C → D → Type 0) (a : Contexts C) (b : Contexts D) (p : ℕ) (who : Caller)
+pub context_of-tied : {C D : Type 0} (sys : SystemTables) (R : ℕ → C → D → Type 0) (a : Contexts C) (b : Contexts D)
+    (p : ℕ) (who : Caller)
     → ContextsTied sys R a b → OptionTied (R (caller_body sys a p who)) (context_of a p who) (context_of b p who)
 context_of-tied sys R a b p (caller.Task t) h = AllTied-context_at (λ u. R (task_body sys u)) a.tasks b.tasks t h.tasks
 context_of-tied sys R a b p (caller.Handler i) h =
     context_in-tied R _ _ (AllTied-context_at (λ q. HandlerTied R) a.handlers b.handlers p h.handlers)
 
-pub with_context-tied : {C D : Type 0} (sys : SystemTables) (R : ℕ → C → D → Type 0) (a : Contexts C) (b : Contexts D) (p : ℕ) (who : Caller)
+pub with_context-tied : {C D : Type 0} (sys : SystemTables) (R : ℕ → C → D → Type 0) (a : Contexts C) (b : Contexts D)
+    (p : ℕ) (who : Caller)
     (c : Option C) (d : Option D) → ContextsTied sys R a b → OptionTied (R (caller_body sys a p who)) c d
     → ContextsTied sys R (with_context a p who c) (with_context b p who d)
 with_context-tied sys R a b p (caller.Task t) c d h k =
-    record { tasks = AllTied-slice_set (λ u. R (task_body sys u)) a.tasks b.tasks t c d h.tasks k; handlers = h.handlers }
+    record
+    { tasks = AllTied-slice_set (λ u. R (task_body sys u)) a.tasks b.tasks t c d h.tasks k; handlers = h.handlers }
 with_context-tied sys R a b p (caller.Handler i) c d h k =
     record {
       tasks = h.tasks;
       handlers = AllTied-slice_set (λ q. HandlerTied R) a.handlers b.handlers p _ _ h.handlers
-          (context_for-tied R _ _ c d (body_in-tied R _ _ (AllTied-context_at (λ q. HandlerTied R) a.handlers b.handlers p h.handlers)) k);
+          (context_for-tied R _ _ c d
+          (body_in-tied R _ _ (AllTied-context_at (λ q. HandlerTied R) a.handlers b.handlers p h.handlers)) k);
     }
 
-pub delivered_to-tied : {C D : Type 0} (sys : SystemTables) (R : ℕ → C → D → Type 0) (M : Meaning C) (m : ℕ) (N : Meaning D) (n : ℕ) → KeepsTie R M m N n
-    → (a : Contexts (Held C)) (b : Contexts (Held D)) (p : ℕ) (who : Caller) (reply : Reply) → ContextsTied sys (HeldTied R) a b
+pub delivered_to-tied : {C D : Type 0} (sys : SystemTables) (R : ℕ → C → D → Type 0) (M : Meaning C) (m : ℕ)
+    (N : Meaning D) (n : ℕ) → KeepsTie R M m N n
+    → (a : Contexts (Held C)) (b : Contexts (Held D)) (p : ℕ) (who : Caller) (reply : Reply)
+    → ContextsTied sys (HeldTied R) a b
     → ContextsTied sys (HeldTied R) (delivered_to sys M a p who reply) (delivered_to sys N b p who reply)
 delivered_to-tied {C} {D} sys R M m N n k a b p who reply h =
     with_context-tied sys (HeldTied R) a b p who _ _ h
-    (subst (λ (body : ℕ). OptionTied (HeldTied R (caller_body sys a p who)) (told M (caller_body sys a p who) reply (context_of a p who)) (told N body reply (context_of b p who)))
+    (subst (λ (body : ℕ). OptionTied (HeldTied R (caller_body sys a p who))
+    (told M (caller_body sys a p who) reply (context_of a p who)) (told N body reply (context_of b p who)))
     (caller_body-tied sys (HeldTied R) a b p who h)
-    (told-tied R M m N n k (caller_body sys a p who) reply (context_of a p who) (context_of b p who) (context_of-tied sys (HeldTied R) a b p who h)))
+    (told-tied R M m N n k (caller_body sys a p who) reply (context_of a p who) (context_of b p who)
+    (context_of-tied sys (HeldTied R) a b p who h)))
 
-pub called_back-tied : {C D : Type 0} (sys : SystemTables) (R : ℕ → C → D → Type 0) (M : Meaning C) (m : ℕ) (N : Meaning D) (n : ℕ) → KeepsTie R M m N n
-    → (a : Contexts (Held C)) (b : Contexts (Held D)) (p : ℕ) (who : Caller) (reply : Option Reply) → ContextsTied sys (HeldTied R) a b
+pub called_back-tied : {C D : Type 0} (sys : SystemTables) (R : ℕ → C → D → Type 0) (M : Meaning C) (m : ℕ)
+    (N : Meaning D) (n : ℕ) → KeepsTie R M m N n
+    → (a : Contexts (Held C)) (b : Contexts (Held D)) (p : ℕ) (who : Caller) (reply : Option Reply)
+    → ContextsTied sys (HeldTied R) a b
     → ContextsTied sys (HeldTied R) (called_back sys M a p who reply) (called_back sys N b p who reply)
 called_back-tied sys R M m N n k a b p who None h = h
 called_back-tied sys R M m N n k a b p who (Some reply) h = delivered_to-tied sys R M m N n k a b p who reply h
 
-pub task_begun-tied : {C D : Type 0} (sys : SystemTables) (R : ℕ → C → D → Type 0) (M : Meaning C) (m : ℕ) (N : Meaning D) (n : ℕ) → KeepsTie R M m N n
+pub task_begun-tied : {C D : Type 0} (sys : SystemTables) (R : ℕ → C → D → Type 0) (M : Meaning C) (m : ℕ)
+    (N : Meaning D) (n : ℕ) → KeepsTie R M m N n
     → (a : Contexts (Held C)) (b : Contexts (Held D)) (t : ℕ) → ContextsTied sys (HeldTied R) a b
     → ContextsTied sys (HeldTied R) (task_begun sys M a t) (task_begun sys N b t)
 task_begun-tied sys R M m N n k a b t h =
-    record { tasks = AllTied-slice_set (λ u. HeldTied R (task_body sys u)) a.tasks b.tasks t _ _ h.tasks (k.starts (task_body sys t) (task_config sys t).exinf); handlers = h.handlers }
+    record {
+      tasks = AllTied-slice_set (λ u. HeldTied R (task_body sys u)) a.tasks b.tasks t _ _ h.tasks
+          (k.starts (task_body sys t) (task_config sys t).exinf);
+      handlers = h.handlers;
+    }
 
-fresh_context-tied : {C D : Type 0} (R : ℕ → C → D → Type 0) (M : Meaning C) (m : ℕ) (N : Meaning D) (n : ℕ) → KeepsTie R M m N n
+fresh_context-tied : {C D : Type 0} (R : ℕ → C → D → Type 0) (M : Meaning C) (m : ℕ) (N : Meaning D) (n : ℕ)
+    → KeepsTie R M m N n
     → (h : Option HandlerStart) → OptionTied (HandlerTied (HeldTied R)) (fresh_context M h) (fresh_context N h)
 fresh_context-tied R M m N n k None = tt
 fresh_context-tied R M m N n k (Some h) = record { bodies = refl; contexts = k.starts h.body h.exinf }
 
-pub handler_begun-tied : {C D : Type 0} (sys : SystemTables) (R : ℕ → C → D → Type 0) (M : Meaning C) (m : ℕ) (N : Meaning D) (n : ℕ) → KeepsTie R M m N n
+pub handler_begun-tied : {C D : Type 0} (sys : SystemTables) (R : ℕ → C → D → Type 0) (M : Meaning C) (m : ℕ)
+    (N : Meaning D) (n : ℕ) → KeepsTie R M m N n
     → (a : Contexts (Held C)) (b : Contexts (Held D)) (p : ℕ) (i : Handler) → ContextsTied sys (HeldTied R) a b
     → ContextsTied sys (HeldTied R) (handler_begun sys M a p i) (handler_begun sys N b p i)
 handler_begun-tied sys R M m N n k a b p i h =
@@ -144,11 +167,13 @@ handler_begun-tied sys R M m N n k a b p i h =
           (fresh_context-tied R M m N n k (handler_start sys i));
     }
 
-pub contexts_after-tied : {C D : Type 0} (sys : SystemTables) (R : ℕ → C → D → Type 0) (M : Meaning C) (m : ℕ) (N : Meaning D) (n : ℕ) → KeepsTie R M m N n
+pub contexts_after-tied : {C D : Type 0} (sys : SystemTables) (R : ℕ → C → D → Type 0) (M : Meaning C) (m : ℕ)
+    (N : Meaning D) (n : ℕ) → KeepsTie R M m N n
     → (a : Contexts (Held C)) (b : Contexts (Held D)) (l : Line) → ContextsTied sys (HeldTied R) a b
     → ContextsTied sys (HeldTied R) (contexts_after sys M a l) (contexts_after sys N b l)
 contexts_after-tied sys R M m N n k a b (line.Starts p t) h = task_begun-tied sys R M m N n k a b t h
-contexts_after-tied sys R M m N n k a b (line.Gets p t reply) h = delivered_to-tied sys R M m N n k a b p (caller.Task t) reply h
+contexts_after-tied sys R M m N n k a b (line.Gets p t reply) h =
+    delivered_to-tied sys R M m N n k a b p (caller.Task t) reply h
 contexts_after-tied sys R M m N n k a b (line.Begins p i) h = handler_begun-tied sys R M m N n k a b p i h
 contexts_after-tied sys R M m N n k a b (line.Call p who c reply) h = called_back-tied sys R M m N n k a b p who reply h
 contexts_after-tied sys R M m N n k a b (line.Tick c) h = h
@@ -158,31 +183,48 @@ contexts_after-tied sys R M m N n k a b (line.Fault p who f) h = h
 contexts_after-tied sys R M m N n k a b (line.Pends p c) h = h
 contexts_after-tied sys R M m N n k a b (line.Runs p t) h = h
 
-pub contexts_after_all-tied : {C D : Type 0} (sys : SystemTables) (R : ℕ → C → D → Type 0) (M : Meaning C) (m : ℕ) (N : Meaning D) (n : ℕ) → KeepsTie R M m N n
+pub contexts_after_all-tied : {C D : Type 0} (sys : SystemTables) (R : ℕ → C → D → Type 0) (M : Meaning C) (m : ℕ)
+    (N : Meaning D) (n : ℕ) → KeepsTie R M m N n
     → (a : Contexts (Held C)) (b : Contexts (Held D)) (ls : List Line) → ContextsTied sys (HeldTied R) a b
     → ContextsTied sys (HeldTied R) (contexts_after_all sys M a ls) (contexts_after_all sys N b ls)
 contexts_after_all-tied sys R M m N n k a b [] h = h
 contexts_after_all-tied sys R M m N n k a b (l ∷ ls) h =
-    contexts_after_all-tied sys R M m N n k (contexts_after sys M a l) (contexts_after sys N b l) ls (contexts_after-tied sys R M m N n k a b l h)
+    contexts_after_all-tied sys R M m N n k (contexts_after sys M a l) (contexts_after sys N b l) ls
+    (contexts_after-tied sys R M m N n k a b l h)
 
-pub finished-tied : {C D : Type 0} (sys : SystemTables) (R : ℕ → C → D → Type 0) (M : Meaning C) (m : ℕ) (N : Meaning D) (n : ℕ) → KeepsTie R M m N n
-    → (a : Contexts (Held C)) (b : Contexts (Held D)) (own : List Line) (g : Progress) → ContextsTied sys (HeldTied R) a b
+pub finished-tied : {C D : Type 0} (sys : SystemTables) (R : ℕ → C → D → Type 0) (M : Meaning C) (m : ℕ) (N : Meaning D)
+    (n : ℕ) → KeepsTie R M m N n
+    → (a : Contexts (Held C)) (b : Contexts (Held D)) (own : List Line) (g : Progress)
+    → ContextsTied sys (HeldTied R) a b
     → BothDone sys R (finished sys M a own g) (finished sys N b own g)
-finished-tied sys R M m N n k a b own g h =
-    (refl, record { states = refl; contexts = contexts_after_all-tied sys R M m N n k a b (settled sys (record g { lines = own ++ g.lines })).lines h })
+finished-tied sys R M m N n k a b own g h = (
+  refl,
+  record {
+    states = refl;
+    contexts =
+        contexts_after_all-tied sys R M m N n k a b (settled sys (record g { lines = own ++ g.lines })).lines h;
+  },
+)
 
-pub answered-tied : {C D : Type 0} (sys : SystemTables) (R : ℕ → C → D → Type 0) (M : Meaning C) (m : ℕ) (N : Meaning D) (n : ℕ) → KeepsTie R M m N n
-    → (answer : Answer) (a : Contexts (Held C)) (b : Contexts (Held D)) (p : ℕ) (who : Caller) (c : Call) (g : Progress) → ContextsTied sys (HeldTied R) a b
+pub answered-tied : {C D : Type 0} (sys : SystemTables) (R : ℕ → C → D → Type 0) (M : Meaning C) (m : ℕ) (N : Meaning D)
+    (n : ℕ) → KeepsTie R M m N n
+    → (answer : Answer) (a : Contexts (Held C)) (b : Contexts (Held D)) (p : ℕ) (who : Caller) (c : Call) (g : Progress)
+    → ContextsTied sys (HeldTied R) a b
     → DoneTied sys R (answered answer sys M a p who c g) (answered answer sys N b p who c g)
-answered-tied sys R M m N n k (Replies reply) a b p who c g h = finished-tied sys R M m N n k a b (line.Call p who c (Some reply) ∷ []) g h
-answered-tied sys R M m N n k Waits a b p who c g h = finished-tied sys R M m N n k a b (line.Call p who c None ∷ []) g h
+answered-tied sys R M m N n k (Replies reply) a b p who c g h =
+    finished-tied sys R M m N n k a b (line.Call p who c (Some reply) ∷ []) g h
+answered-tied sys R M m N n k Waits a b p who c g h =
+    finished-tied sys R M m N n k a b (line.Call p who c None ∷ []) g h
 answered-tied sys R M m N n k Ends a b p who c g h = finished-tied sys R M m N n k a b (line.End p who ∷ []) g h
 answered-tied sys R M m N n k Spins a b p who c g h = tt
 
-pub stretched-tied : {C D : Type 0} (sys : SystemTables) (R : ℕ → C → D → Type 0) (M : Meaning C) (m : ℕ) (N : Meaning D) (n : ℕ) → KeepsTie R M m N n
-    → (s : KernelState) (a : Contexts (Held C)) (b : Contexts (Held D)) (p : ℕ) (who : Caller) (x : Ending C) (y : Ending D)
+pub stretched-tied : {C D : Type 0} (sys : SystemTables) (R : ℕ → C → D → Type 0) (M : Meaning C) (m : ℕ)
+    (N : Meaning D) (n : ℕ) → KeepsTie R M m N n
+    → (s : KernelState) (a : Contexts (Held C)) (b : Contexts (Held D)) (p : ℕ) (who : Caller) (x : Ending C)
+    (y : Ending D)
     → ContextsTied sys (HeldTied R) a b → StretchTied (R (caller_body sys a p who)) Any x y
-    → DoneTied sys R (stretched sys M (record { state = s; contexts = a }) p who x) (stretched sys N (record { state = s; contexts = b }) p who y)
+    → DoneTied sys R (stretched sys M (record { state = s; contexts = a }) p who x)
+    (stretched sys N (record { state = s; contexts = b }) p who y)
 stretched-tied sys R M m N n k s a b p who _ _ h (over kept y) = tt
 stretched-tied sys R M m N n k s a b p who _ _ h (call c d made e) =
     answered-tied sys R M m N n k (called sys s p who made).answer _ _ p who made (called sys s p who made).progress
@@ -193,16 +235,20 @@ stretched-tied sys R M m N n k s a b p who _ _ h (fault c d f e) =
     finished-tied sys R M m N n k a b (line.Fault p who f ∷ []) (actor_ended sys s p who) h
 
 -- what ties an end or a fault is not needed for what follows
-pub any_end : {C D : Type 0} (R S : C → D → Type 0) (x : Ending C) (y : Ending D) → StretchTied R S x y → StretchTied R Any x y
+pub any_end : {C D : Type 0} (R S : C → D → Type 0) (x : Ending C) (y : Ending D) → StretchTied R S x y
+    → StretchTied R Any x y
 any_end R S _ _ (over kept y) = over kept y
 any_end R S _ _ (call c d made h) = call c d made h
 any_end R S _ _ (end_ c d h) = end_ c d tt
 any_end R S _ _ (fault c d f h) = fault c d f tt
 
-pub run_in-tied : {C D : Type 0} (sys : SystemTables) (R : ℕ → C → D → Type 0) (M : Meaning C) (m : ℕ) (N : Meaning D) (n : ℕ) → KeepsTie R M m N n
-    → (s : KernelState) (a : Contexts (Held C)) (b : Contexts (Held D)) (p : ℕ) (who : Caller) (c : Option (Held C)) (d : Option (Held D))
+pub run_in-tied : {C D : Type 0} (sys : SystemTables) (R : ℕ → C → D → Type 0) (M : Meaning C) (m : ℕ) (N : Meaning D)
+    (n : ℕ) → KeepsTie R M m N n
+    → (s : KernelState) (a : Contexts (Held C)) (b : Contexts (Held D)) (p : ℕ) (who : Caller) (c : Option (Held C))
+    (d : Option (Held D))
     → ContextsTied sys (HeldTied R) a b → OptionTied (HeldTied R (caller_body sys a p who)) c d
-    → DoneTied sys R (run_in sys M m (record { state = s; contexts = a }) p who c) (run_in sys N n (record { state = s; contexts = b }) p who d)
+    → DoneTied sys R (run_in sys M m (record { state = s; contexts = a }) p who c)
+    (run_in sys N n (record { state = s; contexts = b }) p who d)
 run_in-tied sys R M m N n k s a b p who None d h e = tt
 run_in-tied sys R M m N n k s a b p who (Some c) None h e = absurd e
 run_in-tied sys R M m N n k s a b p who (Some (Awaits c)) (Some (Awaits d)) h e = tt
@@ -210,53 +256,76 @@ run_in-tied sys R M m N n k s a b p who (Some (Awaits c)) (Some (Goes d)) h e = 
 run_in-tied sys R M m N n k s a b p who (Some (Goes c)) (Some (Awaits d)) h e = absurd e
 run_in-tied {C} {D} sys R M m N n k s a b p who (Some (Goes c)) (Some (Goes d)) h e =
     stretched-tied sys R M m N n k s a b p who _ _ h
-    (subst (λ (body : ℕ). StretchTied (R (caller_body sys a p who)) Any (M.stretch (caller_body sys a p who) m c) (N.stretch body n d))
+    (subst (λ (body : ℕ). StretchTied (R (caller_body sys a p who)) Any
+    (M.stretch (caller_body sys a p who) m c) (N.stretch body n d))
     (caller_body-tied sys (HeldTied R) a b p who h) (k.stretches (caller_body sys a p who) c d e))
 
-pub run_by-tied : {C D : Type 0} (sys : SystemTables) (R : ℕ → C → D → Type 0) (M : Meaning C) (m : ℕ) (N : Meaning D) (n : ℕ) → KeepsTie R M m N n
-    → (s : KernelState) (a : Contexts (Held C)) (b : Contexts (Held D)) (p : ℕ) (who : Option Caller) → ContextsTied sys (HeldTied R) a b
-    → DoneTied sys R (run_by sys M m (record { state = s; contexts = a }) p who) (run_by sys N n (record { state = s; contexts = b }) p who)
+pub run_by-tied : {C D : Type 0} (sys : SystemTables) (R : ℕ → C → D → Type 0) (M : Meaning C) (m : ℕ) (N : Meaning D)
+    (n : ℕ) → KeepsTie R M m N n
+    → (s : KernelState) (a : Contexts (Held C)) (b : Contexts (Held D)) (p : ℕ) (who : Option Caller)
+    → ContextsTied sys (HeldTied R) a b
+    → DoneTied sys R (run_by sys M m (record { state = s; contexts = a }) p who)
+    (run_by sys N n (record { state = s; contexts = b }) p who)
 run_by-tied sys R M m N n k s a b p None h = tt
 run_by-tied sys R M m N n k s a b p (Some who) h =
-    run_in-tied sys R M m N n k s a b p who (context_of a p who) (context_of b p who) h (context_of-tied sys (HeldTied R) a b p who h)
+    run_in-tied sys R M m N n k s a b p who (context_of a p who) (context_of b p who) h
+    (context_of-tied sys (HeldTied R) a b p who h)
 
-pub interrupted_by-tied : {C D : Type 0} (sys : SystemTables) (R : ℕ → C → D → Type 0) (M : Meaning C) (m : ℕ) (N : Meaning D) (n : ℕ) → KeepsTie R M m N n
-    → (pending : Bool) (s : KernelState) (a : Contexts (Held C)) (b : Contexts (Held D)) (i : ℕ) → ContextsTied sys (HeldTied R) a b
-    → DoneTied sys R (interrupted_by pending sys M (record { state = s; contexts = a }) i) (interrupted_by pending sys N (record { state = s; contexts = b }) i)
+pub interrupted_by-tied : {C D : Type 0} (sys : SystemTables) (R : ℕ → C → D → Type 0) (M : Meaning C) (m : ℕ)
+    (N : Meaning D) (n : ℕ) → KeepsTie R M m N n
+    → (pending : Bool) (s : KernelState) (a : Contexts (Held C)) (b : Contexts (Held D)) (i : ℕ)
+    → ContextsTied sys (HeldTied R) a b
+    → DoneTied sys R (interrupted_by pending sys M (record { state = s; contexts = a }) i)
+    (interrupted_by pending sys N (record { state = s; contexts = b }) i)
 interrupted_by-tied sys R M m N n k true s a b i h = tt
 interrupted_by-tied sys R M m N n k false s a b i h =
     finished-tied sys R M m N n k a b (line.Int i ∷ []) (unchanged (with_interrupt_pending s i)) h
 
-pub interrupted-tied : {C D : Type 0} (sys : SystemTables) (R : ℕ → C → D → Type 0) (M : Meaning C) (m : ℕ) (N : Meaning D) (n : ℕ) → KeepsTie R M m N n
-    → (config : Option InterruptConfig) (s : KernelState) (a : Contexts (Held C)) (b : Contexts (Held D)) (i : ℕ) → ContextsTied sys (HeldTied R) a b
-    → DoneTied sys R (interrupted config sys M (record { state = s; contexts = a }) i) (interrupted config sys N (record { state = s; contexts = b }) i)
+pub interrupted-tied : {C D : Type 0} (sys : SystemTables) (R : ℕ → C → D → Type 0) (M : Meaning C) (m : ℕ)
+    (N : Meaning D) (n : ℕ) → KeepsTie R M m N n
+    → (config : Option InterruptConfig) (s : KernelState) (a : Contexts (Held C)) (b : Contexts (Held D)) (i : ℕ)
+    → ContextsTied sys (HeldTied R) a b
+    → DoneTied sys R (interrupted config sys M (record { state = s; contexts = a }) i)
+    (interrupted config sys N (record { state = s; contexts = b }) i)
 interrupted-tied sys R M m N n k None s a b i h = tt
 interrupted-tied sys R M m N n k (Some config) s a b i h = interrupted_by-tied sys R M m N n k _ s a b i h
 
-step-tied_in : {C D : Type 0} (sys : SystemTables) (R : ℕ → C → D → Type 0) (M : Meaning C) (m : ℕ) (N : Meaning D) (n : ℕ) → KeepsTie R M m N n
+step-tied_in : {C D : Type 0} (sys : SystemTables) (R : ℕ → C → D → Type 0) (M : Meaning C) (m : ℕ) (N : Meaning D)
+    (n : ℕ) → KeepsTie R M m N n
     → (s : KernelState) (a : Contexts (Held C)) (b : Contexts (Held D)) (e : Event) → ContextsTied sys (HeldTied R) a b
-    → DoneTied sys R (step sys M m (record { state = s; contexts = a }) e) (step sys N n (record { state = s; contexts = b }) e)
+    → DoneTied sys R (step sys M m (record { state = s; contexts = a }) e)
+    (step sys N n (record { state = s; contexts = b }) e)
 step-tied_in sys R M m N n k s a b (Run zero) h = tt
 step-tied_in sys R M m N n k s a b (Run (suc p)) h = run_by-tied sys R M m N n k s a b p (actor_of (processor_at s p)) h
-step-tied_in sys R M m N n k s a b Tick h = finished-tied sys R M m N n k a b (line.Tick (s.clock + 1) ∷ []) (ticked sys s) h
+step-tied_in sys R M m N n k s a b Tick h =
+    finished-tied sys R M m N n k a b (line.Tick (s.clock + 1) ∷ []) (ticked sys s) h
 step-tied_in sys R M m N n k s a b (Int zero) h = tt
 step-tied_in sys R M m N n k s a b (Int (suc i)) h = interrupted-tied sys R M m N n k (interrupt_config sys i) s a b i h
 
 -- where the first does something at an event, the second does it too, with the same lines, and they stay tied
-pub step-tied : {C D : Type 0} (sys : SystemTables) (R : ℕ → C → D → Type 0) (M : Meaning C) (m : ℕ) (N : Meaning D) (n : ℕ) → KeepsTie R M m N n
-    → (v : World C) (w : World D) (e : Event) → WorldTied sys R v w → DoneTied sys R (step sys M m v e) (step sys N n w e)
+pub step-tied : {C D : Type 0} (sys : SystemTables) (R : ℕ → C → D → Type 0) (M : Meaning C) (m : ℕ) (N : Meaning D)
+    (n : ℕ) → KeepsTie R M m N n
+    → (v : World C) (w : World D) (e : Event) → WorldTied sys R v w
+    → DoneTied sys R (step sys M m v e) (step sys N n w e)
 step-tied {C} {D} sys R M m N n k v w e h =
-    subst (λ (s : KernelState). DoneTied sys R (step sys M m v e) (step sys N n (record { state = s; contexts = w.contexts }) e)) h.states
+    subst (λ (s : KernelState). DoneTied sys R (step sys M m v e)
+    (step sys N n (record { state = s; contexts = w.contexts }) e)) h.states
     (step-tied_in sys R M m N n k v.state v.contexts w.contexts e h.contexts)
 
 -- setup gives both the same lines and ties them
-pub setup-tied : {C D : Type 0} (sys : SystemTables) (R : ℕ → C → D → Type 0) (M : Meaning C) (m : ℕ) (N : Meaning D) (n : ℕ) → KeepsTie R M m N n
+pub setup-tied : {C D : Type 0} (sys : SystemTables) (R : ℕ → C → D → Type 0) (M : Meaning C) (m : ℕ) (N : Meaning D)
+    (n : ℕ) → KeepsTie R M m N n
     → BothDone sys R (setup sys M) (setup sys N)
 setup-tied sys R M m N n k =
-    finished-tied sys R M m N n k (no_contexts sys) (no_contexts sys) [] (all_started sys (unchanged (created_state sys)) (places_from 0 (length sys.tasks)))
-    (record { tasks = AllTied-replicate (λ t. HeldTied R (task_body sys t)) (length sys.tasks); handlers = AllTied-replicate (λ p. HandlerTied (HeldTied R)) sys.processors })
+    finished-tied sys R M m N n k (no_contexts sys) (no_contexts sys) []
+    (all_started sys (unchanged (created_state sys)) (places_from 0 (length sys.tasks)))
+    (record {
+      tasks = AllTied-replicate (λ t. HeldTied R (task_body sys t)) (length sys.tasks);
+      handlers = AllTied-replicate (λ p. HandlerTied (HeldTied R)) sys.processors;
+    })
 
-completed_by-agrees : {C D : Type 0} (ls ms : List Line) (r : Option (Trace C)) (s : Option (Trace D)) → ls ≡ ms → TraceAgrees r s
+completed_by-agrees : {C D : Type 0} (ls ms : List Line) (r : Option (Trace C)) (s : Option (Trace D)) → ls ≡ ms
+    → TraceAgrees r s
     → TraceAgrees (completed_by ls r) (completed_by ms s)
 completed_by-agrees ls ms None s e h = tt
 completed_by-agrees ls ms (Some r) None e h = absurd h
@@ -273,7 +342,8 @@ completed_on-agrees sys R (Did x) (Did y) f g h rest =
     completed_by-agrees x.lines y.lines _ _ h.0 (rest x.world y.world h.1)
 
 -- tied worlds have the same lines and the same state at the end of every run that the first completes
-pub complete_run-tied : {C D : Type 0} (sys : SystemTables) (R : ℕ → C → D → Type 0) (M : Meaning C) (m : ℕ) (N : Meaning D) (n : ℕ) → KeepsTie R M m N n
+pub complete_run-tied : {C D : Type 0} (sys : SystemTables) (R : ℕ → C → D → Type 0) (M : Meaning C) (m : ℕ)
+    (N : Meaning D) (n : ℕ) → KeepsTie R M m N n
     → (v : World C) (w : World D) (es : List Event) → WorldTied sys R v w
     → TraceAgrees (complete_run sys M m v es) (complete_run sys N n w es)
 complete_run-tied sys R M m N n k v w [] h = (refl, h.states)
@@ -287,7 +357,8 @@ done_on-completes : {C : Type 0} (sys : SystemTables) (M : Meaning C) (m : ℕ) 
     → complete_run sys M m w (done_on w e o f) ≡ Some (run_on w o g)
 done_on-completes sys M m w e Nothing f g h rest = rest w
 done_on-completes {C} sys M m w e (Did d) f g h rest =
-    ap (λ (o : Reaction C). completed_on o (λ v. complete_run sys M m v (f d.world))) h ∙ ap (completed_by d.lines) (rest d.world)
+    ap (λ (o : Reaction C). completed_on o (λ v. complete_run sys M m v (f d.world))) h ∙ ap (completed_by d.lines)
+    (rest d.world)
 
 -- the events of a run that did something are a complete run of their own, with the same lines and the same end
 pub complete_run-done_events : {C : Type 0} (sys : SystemTables) (M : Meaning C) (m : ℕ) (w : World C) (es : List Event)
@@ -297,7 +368,8 @@ complete_run-done_events sys M m w (e ∷ es) =
     done_on-completes sys M m w e (step sys M m w e) _ _ refl (λ v. complete_run-done_events sys M m v es)
 
 -- the same from setup on
-pub setup_run-tied : {C D : Type 0} (sys : SystemTables) (R : ℕ → C → D → Type 0) (M : Meaning C) (m : ℕ) (N : Meaning D) (n : ℕ) → KeepsTie R M m N n
+pub setup_run-tied : {C D : Type 0} (sys : SystemTables) (R : ℕ → C → D → Type 0) (M : Meaning C) (m : ℕ)
+    (N : Meaning D) (n : ℕ) → KeepsTie R M m N n
     → (es : List Event)
     → TraceAgrees (complete_run sys M m (setup sys M).world es) (complete_run sys N n (setup sys N).world es)
 setup_run-tied sys R M m N n k es =

@@ -28,8 +28,8 @@ AllTied R (c ∷ cs) (d ∷ ds) = OptionTied (R zero) c d × AllTied (λ i. R (s
 AllTied R [] (d ∷ ds) = ⊥
 AllTied R (c ∷ cs) [] = ⊥
 
--- where the first is not over, the second ends in the same way; the contexts of a call are tied by R, those of an end or
--- a fault by S
+-- where the first is not over, the second ends in the same way; the contexts of a call are tied by R, those of an end
+-- or a fault by S
 pub data StretchTied {C D : Type 0} (R S : C → D → Type 0) : Ending C → Ending D → Type 0 where
   over : (kept : Option C) (other : Ending D) → StretchTied R S (ends.Over kept) other
   call : (c : C) (d : D) (made : Call) → R c d → StretchTied R S (ends.Call c made) (ends.Call d made)
@@ -41,10 +41,13 @@ abbrev pub Any : {C D : Type 0} → C → D → Type 0
 Any c d = Unit {0}
 
 -- start, stretch (at m and at n) and deliver keep the tie R, which is given for each body
-pub record KeepsTie {C D : Type 0} (R : ℕ → C → D → Type 0) (M : Meaning C) (m : ℕ) (N : Meaning D) (n : ℕ) : Type 0 where
-  pub starts : (body : ℕ) (exinf : ℤ) → R body (M.start body exinf) (N.start body exinf)
-  pub delivers : (body : ℕ) (c : C) (d : D) (reply : Reply) → R body c d → R body (M.deliver body c reply) (N.deliver body d reply)
-  pub stretches : (body : ℕ) (c : C) (d : D) → R body c d → StretchTied (R body) Any (M.stretch body m c) (N.stretch body n d)
+pub record KeepsTie {C D : Type 0} (R : ℕ → C → D → Type 0) (M : Meaning C) (m : ℕ) (N : Meaning D) (n : ℕ) : Type 0
+  where
+    pub starts : (body : ℕ) (exinf : ℤ) → R body (M.start body exinf) (N.start body exinf)
+    pub delivers : (body : ℕ) (c : C) (d : D) (reply : Reply) → R body c d
+        → R body (M.deliver body c reply) (N.deliver body d reply)
+    pub stretches : (body : ℕ) (c : C) (d : D) → R body c d
+        → StretchTied (R body) Any (M.stretch body m c) (N.stretch body n d)
 
 -- contexts that both go on, or both await a reply, tied by R
 abbrev pub HeldTied : {C D : Type 0} → (ℕ → C → D → Type 0) → ℕ → Held C → Held D → Type 0
@@ -54,18 +57,21 @@ HeldTied R body (Goes c) (Awaits d) = ⊥
 HeldTied R body (Awaits c) (Goes d) = ⊥
 
 -- contexts of one body, tied
-pub record HandlerTied {C D : Type 0} (R : ℕ → C → D → Type 0) (c : HandlerContext C) (d : HandlerContext D) : Type 0 where
-  pub bodies : c.body ≡ d.body
-  pub contexts : R c.body c.context d.context
+pub record HandlerTied {C D : Type 0} (R : ℕ → C → D → Type 0) (c : HandlerContext C) (d : HandlerContext D) : Type 0
+  where
+    pub bodies : c.body ≡ d.body
+    pub contexts : R c.body c.context d.context
 
-pub record ContextsTied {C D : Type 0} (sys : SystemTables) (R : ℕ → C → D → Type 0) (a : Contexts C) (b : Contexts D) : Type 0 where
+pub record ContextsTied {C D : Type 0} (sys : SystemTables) (R : ℕ → C → D → Type 0) (a : Contexts C) (b : Contexts D) :
+    Type 0 where
   pub tasks : AllTied (λ t. R (task_body sys t)) a.tasks b.tasks
   pub handlers : AllTied (λ p. HandlerTied R) a.handlers b.handlers
 
 -- one state, and tied contexts
-pub record WorldTied {C D : Type 0} (sys : SystemTables) (R : ℕ → C → D → Type 0) (v : World C) (w : World D) : Type 0 where
-  pub states : v.state ≡ w.state
-  pub contexts : ContextsTied sys (HeldTied R) v.contexts w.contexts
+pub record WorldTied {C D : Type 0} (sys : SystemTables) (R : ℕ → C → D → Type 0) (v : World C) (w : World D) : Type 0
+  where
+    pub states : v.state ≡ w.state
+    pub contexts : ContextsTied sys (HeldTied R) v.contexts w.contexts
 
 -- two events were done, with the same lines, and leave tied worlds
 abbrev pub BothDone : {C D : Type 0} → SystemTables → (ℕ → C → D → Type 0) → Done C → Done D → Type 0

@@ -1,3 +1,4 @@
+//! Error codes and their numbers.
 ghost use Rattle.std.specs.Prelude.{◌≡◌};
 ghost use Rattle.fmp_base.specs.Codes.{code_of, code_name};
 

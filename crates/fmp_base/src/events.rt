@@ -1,3 +1,4 @@
+//! What the kernel is told, and the lines that it answers with.
 use crate::bodies::Fault;
 use crate::calls::{Call, Reply};
 use crate::states::{Caller, Handler};

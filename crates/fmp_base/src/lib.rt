@@ -1,5 +1,5 @@
-//! The words of the kernel: codes, service calls and their arguments, events, lines of the trace, the tables of a system and
-//! the records of its state. The definitions of what they mean stand in `specs/`.
+//! The words of the kernel: codes, service calls and their arguments, events, lines of the trace, the tables of a
+//! system and the records of its state. The definitions of what they mean stand in `specs/`.
 #![tactic(auto)]
 
 pub mod arguments;
@@ -11,6 +11,7 @@ pub mod events;
 pub mod names;
 pub mod operators;
 pub mod permissions;
+pub mod requests;
 pub mod services;
 pub mod states;
 pub mod systems;
@@ -25,6 +26,7 @@ pub use events::{Effect, Event, Line, StateWord, TaskState};
 pub use names::Name;
 pub use operators::{BinaryOperator, UnaryOperator};
 pub use permissions::Permission;
+pub use requests::Arguments;
 pub use services::Service;
 pub use states::{
     Caller, FlagMode, Handler, Lock, Phase, Processor, TaskBlock, TimeLimit, WaitCause, WaitQueue,

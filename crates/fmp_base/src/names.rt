@@ -1,3 +1,4 @@
+//! Names of objects and bodies.
 ghost use Rattle.std.specs.Prelude.{◌≡◌, ◌↔◌, ◌<◌, ◌≤◌, ◌++◌, ◌-◌, length, replicate, take, IsSome, IfSome};
 ghost use Rattle.fmp_base.specs.Names.{name_text, name_from};
 

@@ -1,3 +1,4 @@
+//! The operators of the task language.
 /// A unary operator of the task language.
 #[derive(Clone, Copy, Debug, PartialEq, Eq)]
 pub enum UnaryOperator {

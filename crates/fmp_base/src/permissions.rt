@@ -4,7 +4,8 @@ ghost use Rattle.fmp_base.specs.Permissions.{permission as permission_of};
 
 use crate::services::Service;
 
-/// From where a service may be called; from elsewhere the call is E_CTX (uITRON 4.0, section 3.5; FMP kernel, spin locks).
+/// From where a service may be called; from elsewhere the call is E_CTX (uITRON 4.0, section 3.5; FMP kernel, spin
+/// locks).
 #[derive(Clone, Copy, Debug, PartialEq, Eq)]
 pub enum Permission {
     /// From tasks and handlers, also while the CPU is locked.

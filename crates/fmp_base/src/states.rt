@@ -1,3 +1,4 @@
+//! The records of the kernel's state: tasks, processors, waits and locks.
 /// How far a task is from running (uITRON 4.0, section 3.2.1), its suspension aside.
 #[derive(Clone, Copy, Debug, PartialEq, Eq)]
 pub enum Phase {

@@ -1,4 +1,9 @@
+//! The tables of a system: what its configuration makes.
+ghost use Rattle.std.specs.Prelude.{◌≡◌};
+ghost use Rattle.fmp_base.specs.Systems.{tables_of, without_objects};
+
 use crate::names::Name;
+use std::alloc::Global;
 
 /// The order of a queue of tasks or messages.
 #[derive(Clone, Copy, Debug, PartialEq, Eq)]
@@ -143,4 +148,26 @@ pub struct System {
     pub spin_locks: Vec<SpinLockConfig>,
     pub cyclics: Vec<CyclicConfig>,
     pub interrupts: Vec<InterruptConfig>,
+}
+
+impl System {
+    /// A system of so many processors, 1 to 8, without objects. Activations and wakeups are queued once at most.
+    pub fn empty(alloc: Global, processors: u8) -> System
+        ensures { tables_of result ≡ without_objects processors }
+    {
+        System {
+            processors,
+            queue_limit: 1,
+            tasks: Vec::new(alloc),
+            semaphores: Vec::new(alloc),
+            flags: Vec::new(alloc),
+            data_queues: Vec::new(alloc),
+            mailboxes: Vec::new(alloc),
+            messages: Vec::new(alloc),
+            shared_words: Vec::new(alloc),
+            spin_locks: Vec::new(alloc),
+            cyclics: Vec::new(alloc),
+            interrupts: Vec::new(alloc),
+        }
+    }
 }

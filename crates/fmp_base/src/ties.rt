@@ -1,3 +1,4 @@
+//! Two meanings of bodies side by side.
 ghost use Rattle.std.specs.Prelude.{ℕ, List};
 ghost use Rattle.fmp_base.specs.declared.events.Event.{Event};
 ghost use Rattle.fmp_base.specs.Meanings.{Meaning};

@@ -1,3 +1,4 @@
+//! What the kernel is given to run: bodies as a trait.
 ghost use Rattle.std.specs.Prelude.{◌≡◌, ℕ, ◌≤◌, false};
 ghost use Rattle.fmp_base.specs.Meanings.{Meaning};
 ghost use Rattle.fmp_base.specs.Stretches.{ending, is_over};
@@ -40,5 +41,7 @@ pub trait Body {
         ensures context { is_context self.now entry result };
 
     /// A stretch that is not over its bound is the same at every greater bound.
-    ghost stays: { (body : Self) (entry low high : ℕ) (c : Self.Ctx) → low ≤ high → is_over ((meaning body).stretch entry low c) ≡ false → (meaning body).stretch entry high c ≡ (meaning body).stretch entry low c };
+    ghost stays: { (body : Self) (entry low high : ℕ) (c : Self.Ctx) → low ≤ high
+        → is_over ((meaning body).stretch entry low c) ≡ false
+        → (meaning body).stretch entry high c ≡ (meaning body).stretch entry low c };
 }

@@ -1,3 +1,4 @@
+//! Two texts are read, compiled and put together to an image.
 ghost use Rattle.std.specs.Prelude.{◌≡◌, ◌≤◌, length, Err, IfOk, IfErr, slice_get};
 ghost use Rattle.std.specs.List.{AllByRecursion};
 ghost use Rattle.fmp_base.specs.Systems.{tables_of};

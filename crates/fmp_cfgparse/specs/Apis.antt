@@ -29,8 +29,10 @@ only_name digit = codes "TCL_" ++ digit ∷ codes "_ONLY"
 abbrev pub class_of : ℕ → List ℕ → Option ClassPlace
 class_of processors text =
     if nat_le 49 (slice_index text 4) && nat_le (slice_index text 4) (48 + processors)
-    then (if bytes_eq text (class_name (slice_index text 4)) then Some (record { processor = slice_index text 4 - 49; only = false })
-    else (if bytes_eq text (only_name (slice_index text 4)) then Some (record { processor = slice_index text 4 - 49; only = true }) else None))
+    then (if bytes_eq text (class_name (slice_index text 4)) then Some
+    (record { processor = slice_index text 4 - 49; only = false })
+    else (if bytes_eq text (only_name (slice_index text 4)) then Some
+    (record { processor = slice_index text 4 - 49; only = true }) else None))
     else None
 
 -- what has been made so far: the tables, and the names of all objects
@@ -170,8 +172,10 @@ with_object c api.CreMbx f t =
         most = held 255 (number_at f 2);
       } ∷ [];
     }
-with_object c api.CreMsg f t = record t { messages = t.messages ++ record { name = name_at f 0; priority = held 255 (number_at f 1) } ∷ [] }
-with_object c api.CreShr f t = record t { shared_words = t.shared_words ++ record { name = name_at f 0; initial = number_at f 1 } ∷ [] }
+with_object c api.CreMsg f t =
+    record t { messages = t.messages ++ record { name = name_at f 0; priority = held 255 (number_at f 1) } ∷ [] }
+with_object c api.CreShr f t =
+    record t { shared_words = t.shared_words ++ record { name = name_at f 0; initial = number_at f 1 } ∷ [] }
 with_object c api.CreSpn f t = record t { spin_locks = t.spin_locks ++ record { name = name_at f 0 } ∷ [] }
 with_object c api.CreCyc f t =
     record t {
@@ -201,4 +205,9 @@ with_name false name names = names
 
 -- what an API of a class makes
 abbrev pub made : ClassPlace → ApiTree → Making → Making
-made c a g = record { tables = with_object c a.kind a.fields g.tables; names = with_name (gives_name a.kind) (name_at a.fields 0) g.names }
+made c a g =
+    record {
+      tables = with_object c a.kind a.fields g.tables;
+      names = with_name (gives_name a.kind) (name_at a.fields 0)
+          g.names;
+    }

@@ -25,12 +25,16 @@ offence_fault token why = build.At file.Configuration (line_of token) why
 -- the text spells a tree that makes these tables
 abbrev pub Describes : List ℕ → System → Type 0
 Describes text system =
-    (ts : List Token) × (tree : ConfigurationTree) × Spells (λ us. Config) text ts tree × (g : Making) × (configured tree ≡ Ok g) × (tables_of system ≡ g.tables)
+    (ts : List Token)
+    × (tree : ConfigurationTree)
+    × Spells (λ us. Config) text ts tree
+    × (g : Making) × (configured tree ≡ Ok g) × (tables_of system ≡ g.tables)
 
 -- the text spells a tree whose first offence is this fault
 abbrev pub IsOffence : List ℕ → BuildFault → Type 0
 IsOffence text f =
-    (ts : List Token) × (tree : ConfigurationTree) × Spells (λ us. Config) text ts tree × (o : Offence) × (configured tree ≡ Err o) ×
+    (ts : List Token)
+    × (tree : ConfigurationTree) × Spells (λ us. Config) text ts tree × (o : Offence) × (configured tree ≡ Err o) ×
     (f ≡ offence_fault (slice_get ts o.at) o.why)
 
 -- the first fault of a text: of its syntax, else of what it makes

@@ -1,6 +1,7 @@
 -- The second pass: the static APIs are carried out in order of text. A fault stands at the place of a token.
 use Rattle.std.specs.Prelude.{◌≡◌, ℕ, List, [], ◌∷◌, Option, Some, None, Result, Ok, Err, if◌then◌else◌}
 use Rattle.fmp_base.specs.Names.{name_text}
+use Rattle.fmp_base.specs.Systems.{without_objects}
 use Rattle.fmp_lex.specs.declared.fault.FaultKind.{FaultKind}
 use Rattle.fmp_lex.specs.declared.fault.FaultKind.TheVariants as fault
 use Rattle.fmp_cfgparse.specs.declared.objects.Stop.{Stop}
@@ -42,31 +43,15 @@ walk_classes processors [] g = Ok g
 walk_classes processors (c ∷ more) g =
     and_then (walk_class c.at (class_of processors (name_text c.name)) c.apis g) (walk_classes processors more)
 
--- no object yet. Activations and wakeups are queued once at most.
+-- no object yet, and no name
 abbrev pub nothing_made : ℕ → Making
-nothing_made processors =
-    record {
-      tables = record {
-        processors = processors;
-        queue_limit = 1;
-        tasks = [];
-        semaphores = [];
-        flags = [];
-        data_queues = [];
-        mailboxes = [];
-        messages = [];
-        shared_words = [];
-        spin_locks = [];
-        cyclics = [];
-        interrupts = [];
-      };
-      names = [];
-    }
+nothing_made processors = record { tables = without_objects processors; names = [] }
 
 -- what a configuration makes, or its first offence: there are 1 to 8 processors, and no API has a fault
 abbrev pub configured : ConfigurationTree → Result Making Offence
 configured t =
-    if between 1 8 t.processors then walk_classes (held 255 t.processors) t.classes (nothing_made (held 255 t.processors))
+    if between 1 8 t.processors then walk_classes (held 255 t.processors) t.classes
+    (nothing_made (held 255 t.processors))
     else Err (record { at = t.at; why = fault.Limit })
 
 -- what the code answers is what the walk gives, unless memory ran out

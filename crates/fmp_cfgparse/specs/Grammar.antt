@@ -74,7 +74,9 @@ put (Some f) more = f ∷ more
 abbrev pub Parts : List Part → Rel (List FieldTree)
 Parts [] ts limit i fields j = (fields ≡ []) × (j ≡ i)
 Parts (p ∷ ps) ts limit i fields j =
-    (f : Option FieldTree) × (more : List FieldTree) × (fields ≡ put f more) × (k : ℕ) × OnePart p ts limit i f k × Parts ps ts limit k more j
+    (f : Option FieldTree)
+    × (more : List FieldTree)
+    × (fields ≡ put f more) × (k : ℕ) × OnePart p ts limit i f k × Parts ps ts limit k more j
 
 -- the rest of a packet: a comma before each part, and what closes the API
 abbrev pub packet_rest : List Part → List Part
@@ -119,5 +121,6 @@ OneClass ts limit i c j =
 abbrev pub Config : Rel ConfigurationTree
 Config ts limit i c j =
     (k : ℕ) × IsToken ts (kind.Keyword keyword.NumPrc) i k × (l : ℕ) × IsToken ts (kind.Symbol symbol.LeftParen) k l ×
-    (c.at ≡ l) × (m : ℕ) × IsItem number_of ts l c.processors m × (n : ℕ) × IsToken ts (kind.Symbol symbol.RightParen) m n ×
+    (c.at ≡ l)
+    × (m : ℕ) × IsItem number_of ts l c.processors m × (n : ℕ) × IsToken ts (kind.Symbol symbol.RightParen) m n ×
     (o : ℕ) × IsToken ts (kind.Symbol symbol.Semicolon) n o × Star OneClass ts limit o c.classes j

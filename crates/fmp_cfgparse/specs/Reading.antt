@@ -65,6 +65,7 @@ RightConfig ts i = Right (At Config i) EndsClasses ts i
 -- The tokens are a configuration that spells this tree and no other one, or else the first fault stands at this place.
 abbrev pub IsVerdict : List TokenKind → Result Configuration ReadError → Type 0
 IsVerdict ts (Ok c) =
-    IsWhole Config ts (configuration_view c) × ((other : ConfigurationTree) → IsWhole Config ts other → other ≡ configuration_view c)
+    IsWhole Config ts (configuration_view c)
+    × ((other : ConfigurationTree) → IsWhole Config ts other → other ≡ configuration_view c)
 IsVerdict ts (Err errors.Memory) = Unit {0}
 IsVerdict ts (Err (errors.Fault at why)) = IsFirstFault Config ts at why

@@ -27,7 +27,8 @@ abbrev pub is_identifier : List ℕ → Bool
 is_identifier [] = false
 is_identifier (b ∷ bs) = is_letter b && list_all is_word bs
 
--- An object's name: its text is an identifier of at most 31 bytes and no word of the texts, and the bytes behind it are 0.
+-- An object's name: its text is an identifier of at most 31 bytes and no word of the texts, and the bytes behind it are
+-- 0.
 pub record IsObjectName (n : Name) : Type 0 where
   pub canonical : name_from (name_text n) ≡ n
   pub short : length (name_text n) ≤ 31

@@ -1,3 +1,4 @@
+//! The static APIs of a tree are carried out, in order of text.
 ghost use Rattle.std.specs.Prelude.{◌≡◌, ◌≤◌, map, None, IfOk, IfErr};
 ghost use Rattle.fmp_cfgparse.specs.Apis.{made, api_fault};
 ghost use Rattle.fmp_cfgparse.specs.Making.{making_of};
@@ -42,7 +43,8 @@ fn add_apis(making: &mut Making, class: ClassPlace, apis: &[StaticApi]) -> Resul
 
 fn add_classes(making: &mut Making, processors: u8, classes: &[Class]) -> Result<(), Stop>
     requires { processors ≤ 8 }
-    ensures { IsWalk (walk_classes processors (map class_view classes.now) (making_of making.old)) result (making_of making.new) }
+    ensures { IsWalk (walk_classes processors (map class_view classes.now) (making_of making.old)) result
+        (making_of making.new) }
 {
     for class in classes {
         let Some(place) = find_class(processors, class.name.as_bytes()) else {
@@ -57,20 +59,7 @@ fn start(alloc: Global, processors: u8) -> Making
     ensures { making_of result ≡ nothing_made processors }
 {
     Making {
-        system: System {
-            processors,
-            queue_limit: 1,
-            tasks: Vec::new(alloc),
-            semaphores: Vec::new(alloc),
-            flags: Vec::new(alloc),
-            data_queues: Vec::new(alloc),
-            mailboxes: Vec::new(alloc),
-            messages: Vec::new(alloc),
-            shared_words: Vec::new(alloc),
-            spin_locks: Vec::new(alloc),
-            cyclics: Vec::new(alloc),
-            interrupts: Vec::new(alloc),
-        },
+        system: System::empty(alloc, processors),
         names: IndexSet::new(alloc),
     }
 }

@@ -1,3 +1,4 @@
+//! The forms of the static APIs: which parts each one has.
 ghost use Rattle.std.specs.Prelude.{◌≡◌};
 ghost use Rattle.fmp_cfgparse.specs.Grammar.{api_parts};
 

@@ -1,3 +1,4 @@
+//! Laws of configurations, which the crates above take by name.
 ghost use Rattle.std.specs.Prelude.{List, ℕ};
 ghost use Rattle.fmp_cfgparse.specs.Laws.{SpellsOneTree, HasOneAnswer, DescribesInRange};
 
@@ -13,7 +14,8 @@ pub fn a_text_has_one_answer()
 {}
 
 /// The tables of a system that a text describes keep the rules of a configuration: they are in range, each name is an
-/// identifier that is no word of the texts, entries are given by names, and no name and no interrupt number stands twice.
+/// identifier that is no word of the texts, entries are given by names, and no name and no interrupt number stands
+/// twice.
 pub fn what_is_described_is_in_range()
     ensures { DescribesInRange }
 {}

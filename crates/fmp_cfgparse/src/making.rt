@@ -1,3 +1,4 @@
+//! A system while it is made: its tables, the names in use, and the tests of a static API.
 ghost use Rattle.std.specs.Prelude.{◌≡◌, map};
 ghost use Rattle.fmp_base.specs.Systems.{tables_of};
 ghost use Rattle.fmp_cfgparse.specs.Apis as spec;

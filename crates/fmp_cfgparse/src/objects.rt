@@ -1,3 +1,4 @@
+//! Each static API makes its object.
 ghost use Rattle.std.specs.Prelude.{◌≡◌, ◌<◌, map, IfOk, IfErr};
 ghost use Rattle.fmp_base.specs.Systems.{tables_of};
 ghost use Rattle.fmp_cfgparse.specs.Apis as spec;
@@ -53,7 +54,8 @@ fn order_by(priority: bool) -> QueueOrder
 }
 
 fn create_task(system: &mut System, class: ClassPlace, fields: &[Field]) -> Result<(), Stop>
-    ensures made { IfOk result (λ _. tables_of system.new ≡ with_object class api.CreTsk (map field_view fields.now) (tables_of system.old)) }
+    ensures made { IfOk result (λ _. tables_of system.new
+        ≡ with_object class api.CreTsk (map field_view fields.now) (tables_of system.old)) }
     ensures memory { IfErr result (λ e. e ≡ Memory) }
 {
     system.tasks.push(TaskConfig {
@@ -70,7 +72,9 @@ fn create_task(system: &mut System, class: ClassPlace, fields: &[Field]) -> Resu
 }
 
 fn create_semaphore(system: &mut System, fields: &[Field]) -> Result<(), Stop>
-    ensures made { (c : ClassPlace) → IfOk result (λ _. tables_of system.new ≡ with_object c api.CreSem (map field_view fields.now) (tables_of system.old)) }
+    ensures made { (c : ClassPlace)
+        → IfOk result (λ _. tables_of system.new
+        ≡ with_object c api.CreSem (map field_view fields.now) (tables_of system.old)) }
     ensures memory { IfErr result (λ e. e ≡ Memory) }
 {
     system.semaphores.push(SemaphoreConfig {
@@ -83,7 +87,9 @@ fn create_semaphore(system: &mut System, fields: &[Field]) -> Result<(), Stop>
 }
 
 fn create_flag(system: &mut System, fields: &[Field]) -> Result<(), Stop>
-    ensures made { (c : ClassPlace) → IfOk result (λ _. tables_of system.new ≡ with_object c api.CreFlg (map field_view fields.now) (tables_of system.old)) }
+    ensures made { (c : ClassPlace)
+        → IfOk result (λ _. tables_of system.new
+        ≡ with_object c api.CreFlg (map field_view fields.now) (tables_of system.old)) }
     ensures memory { IfErr result (λ e. e ≡ Memory) }
 {
     system.flags.push(FlagConfig {
@@ -97,7 +103,9 @@ fn create_flag(system: &mut System, fields: &[Field]) -> Result<(), Stop>
 }
 
 fn create_data_queue(system: &mut System, fields: &[Field]) -> Result<(), Stop>
-    ensures made { (c : ClassPlace) → IfOk result (λ _. tables_of system.new ≡ with_object c api.CreDtq (map field_view fields.now) (tables_of system.old)) }
+    ensures made { (c : ClassPlace)
+        → IfOk result (λ _. tables_of system.new
+        ≡ with_object c api.CreDtq (map field_view fields.now) (tables_of system.old)) }
     ensures memory { IfErr result (λ e. e ≡ Memory) }
 {
     system.data_queues.push(DataQueueConfig {
@@ -109,7 +117,9 @@ fn create_data_queue(system: &mut System, fields: &[Field]) -> Result<(), Stop>
 }
 
 fn create_mailbox(system: &mut System, fields: &[Field]) -> Result<(), Stop>
-    ensures made { (c : ClassPlace) → IfOk result (λ _. tables_of system.new ≡ with_object c api.CreMbx (map field_view fields.now) (tables_of system.old)) }
+    ensures made { (c : ClassPlace)
+        → IfOk result (λ _. tables_of system.new
+        ≡ with_object c api.CreMbx (map field_view fields.now) (tables_of system.old)) }
     ensures memory { IfErr result (λ e. e ≡ Memory) }
 {
     system.mailboxes.push(MailboxConfig {
@@ -122,7 +132,9 @@ fn create_mailbox(system: &mut System, fields: &[Field]) -> Result<(), Stop>
 }
 
 fn create_message(system: &mut System, fields: &[Field]) -> Result<(), Stop>
-    ensures made { (c : ClassPlace) → IfOk result (λ _. tables_of system.new ≡ with_object c api.CreMsg (map field_view fields.now) (tables_of system.old)) }
+    ensures made { (c : ClassPlace)
+        → IfOk result (λ _. tables_of system.new
+        ≡ with_object c api.CreMsg (map field_view fields.now) (tables_of system.old)) }
     ensures memory { IfErr result (λ e. e ≡ Memory) }
 {
     system.messages.push(MessageConfig {
@@ -133,7 +145,9 @@ fn create_message(system: &mut System, fields: &[Field]) -> Result<(), Stop>
 }
 
 fn create_shared_word(system: &mut System, fields: &[Field]) -> Result<(), Stop>
-    ensures made { (c : ClassPlace) → IfOk result (λ _. tables_of system.new ≡ with_object c api.CreShr (map field_view fields.now) (tables_of system.old)) }
+    ensures made { (c : ClassPlace)
+        → IfOk result (λ _. tables_of system.new
+        ≡ with_object c api.CreShr (map field_view fields.now) (tables_of system.old)) }
     ensures memory { IfErr result (λ e. e ≡ Memory) }
 {
     system.shared_words.push(SharedWordConfig {
@@ -144,7 +158,9 @@ fn create_shared_word(system: &mut System, fields: &[Field]) -> Result<(), Stop>
 }
 
 fn create_spin_lock(system: &mut System, fields: &[Field]) -> Result<(), Stop>
-    ensures made { (c : ClassPlace) → IfOk result (λ _. tables_of system.new ≡ with_object c api.CreSpn (map field_view fields.now) (tables_of system.old)) }
+    ensures made { (c : ClassPlace)
+        → IfOk result (λ _. tables_of system.new
+        ≡ with_object c api.CreSpn (map field_view fields.now) (tables_of system.old)) }
     ensures memory { IfErr result (λ e. e ≡ Memory) }
 {
     system.spin_locks.push(SpinLockConfig {
@@ -154,7 +170,8 @@ fn create_spin_lock(system: &mut System, fields: &[Field]) -> Result<(), Stop>
 }
 
 fn create_cyclic(system: &mut System, class: ClassPlace, fields: &[Field]) -> Result<(), Stop>
-    ensures made { IfOk result (λ _. tables_of system.new ≡ with_object class api.CreCyc (map field_view fields.now) (tables_of system.old)) }
+    ensures made { IfOk result (λ _. tables_of system.new
+        ≡ with_object class api.CreCyc (map field_view fields.now) (tables_of system.old)) }
     ensures memory { IfErr result (λ e. e ≡ Memory) }
 {
     system.cyclics.push(CyclicConfig {
@@ -170,7 +187,8 @@ fn create_cyclic(system: &mut System, class: ClassPlace, fields: &[Field]) -> Re
 }
 
 fn create_interrupt(system: &mut System, class: ClassPlace, fields: &[Field]) -> Result<(), Stop>
-    ensures made { IfOk result (λ _. tables_of system.new ≡ with_object class api.DefInh (map field_view fields.now) (tables_of system.old)) }
+    ensures made { IfOk result (λ _. tables_of system.new
+        ≡ with_object class api.DefInh (map field_view fields.now) (tables_of system.old)) }
     ensures memory { IfErr result (λ e. e ≡ Memory) }
 {
     system.interrupts.push(InterruptConfig {
@@ -188,7 +206,8 @@ pub(crate) fn create(
     api: Api,
     fields: &[Field],
 ) -> Result<(), Stop>
-    ensures made { IfOk result (λ _. tables_of system.new ≡ with_object class api (map field_view fields.now) (tables_of system.old)) }
+    ensures made { IfOk result
+        (λ _. tables_of system.new ≡ with_object class api (map field_view fields.now) (tables_of system.old)) }
     ensures memory { IfErr result (λ e. e ≡ Memory) }
 {
     match api {

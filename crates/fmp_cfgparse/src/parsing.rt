@@ -1,3 +1,4 @@
+//! From the bytes of a configuration to its tree.
 ghost use Rattle.fmp_cfgparse.specs.Parsing.{IsParse};
 
 use crate::syntax::read_tree;
@@ -12,8 +13,9 @@ pub struct Parsed {
     pub tree: Configuration,
 }
 
-/// The syntax tree of a configuration with its tokens, or the first fault of its syntax: B5 for a text of more than 1,048,576
-/// bytes, a name of more than 31 bytes or a number above 2147483647, else B1. `Memory` where an allocation is refused.
+/// The syntax tree of a configuration with its tokens, or the first fault of its syntax: B5 for a text of more than
+/// 1,048,576 bytes, a name of more than 31 bytes or a number above 2147483647, else B1. `Memory` where an allocation is
+/// refused.
 pub fn parse(alloc: Global, text: &[u8]) -> Result<Parsed, BuildFault>
     ensures { IsParse text.now result }
 {

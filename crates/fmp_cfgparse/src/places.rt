@@ -1,3 +1,4 @@
+//! The processors that a class stands for.
 ghost use Rattle.std.specs.Prelude.{◌≡◌, ◌≤◌};
 ghost use Rattle.fmp_base.specs.Names.{name_text};
 ghost use Rattle.fmp_cfgparse.specs.Apis.{class_of};

@@ -1,3 +1,4 @@
+//! From the bytes of a configuration to its system.
 ghost use Rattle.std.specs.Prelude.{◌≡◌, slice_get, IfOk};
 ghost use Rattle.fmp_base.specs.Systems.{tables_of};
 ghost use Rattle.fmp_cfgparse.specs.Configurations.{IsRead, line_of, offence_fault};
@@ -28,10 +29,10 @@ fn fault_at(tokens: &[Token], at: usize, why: FaultKind) -> BuildFault
 /// The system that a configuration describes (uITRON 4.0, static APIs), or its first fault.
 ///
 /// The text has at most 1,048,576 bytes. Faults of syntax come first: B1 or B5 at the first token that no configuration
-/// has in its place, or B1 at the end of the text. Then, in order of text, B5 for a number of processors other than 1 to 8,
-/// B3 for an unknown class, and at each static API, with the line of its word, B5 for the 256th of its kind, B2 for a name
-/// that is used, B3 for an unknown constant, and B4 with the code that it answers. `Memory` where an allocation is refused.
-/// The tables of the system are in range, and no name and no interrupt number stands twice.
+/// has in its place, or B1 at the end of the text. Then, in order of text, B5 for a number of processors other than 1
+/// to 8, B3 for an unknown class, and at each static API, with the line of its word, B5 for the 256th of its kind, B2
+/// for a name that is used, B3 for an unknown constant, and B4 with the code that it answers. `Memory` where an
+/// allocation is refused. The tables of the system are in range, and no name and no interrupt number stands twice.
 pub fn read_cfg(alloc: Global, text: &[u8]) -> Result<System, BuildFault>
     ensures read { IsRead text.now result }
     ensures rules { IfOk result (λ system. IsConfiguration (tables_of system)) }

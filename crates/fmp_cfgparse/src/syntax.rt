@@ -1,3 +1,4 @@
+//! From the tokens of a configuration to its tree.
 ghost use Rattle.std.specs.Prelude.{◌≡◌, ◌≤◌, ◌<◌, ◌++◌, Some, length, slice_get, option_and_then, IfSome, IfOk, IfErr, []};
 ghost use Rattle.fmp_lex.specs.Reading.{kinds_of, Answers, Steps, RightToken};
 ghost use Rattle.fmp_cfgparse.specs.Grammar as grammar;
@@ -169,7 +170,8 @@ fn part(
 }
 
 fn put(fields: &mut Vec<Field>, field: Option<Field>) -> Result<(), ReadError>
-    ensures fields { IfOk result (λ _. fields_view fields.new ≡ fields_view fields.old ++ grammar.put (part_view field) []) }
+    ensures fields { IfOk result
+        (λ _. fields_view fields.new ≡ fields_view fields.old ++ grammar.put (part_view field) []) }
     ensures memory { IfErr result (λ e. e ≡ ReadError.Memory) }
 {
     if let Some(field) = field {

@@ -1,3 +1,4 @@
+//! The syntax tree of a configuration.
 use fmp_base::Name;
 use fmp_lex::{Api, Constant};
 

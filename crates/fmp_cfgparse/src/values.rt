@@ -1,3 +1,4 @@
+//! The values of fields, and which of their constants are unknown.
 ghost use Rattle.std.specs.Prelude.{◌≡◌, map, Some, slice_get};
 ghost use Rattle.fmp_cfgparse.specs.Trees.{field_view};
 ghost use Rattle.fmp_cfgparse.specs.Values as spec;

@@ -1,3 +1,4 @@
+//! A body is told the reply to its call.
 ghost use Rattle.std.specs.Prelude.{◌≡◌, ◌≤◌, true, slice_get};
 ghost use Rattle.fmp_base.specs.Deliveries.{delivered, written};
 ghost use Rattle.fmp_base.specs.Services.{gives_count};

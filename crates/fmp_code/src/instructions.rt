@@ -1,3 +1,4 @@
+//! The instructions of the stack machine, and contexts.
 use fmp_base::{BinaryOperator, Service, UnaryOperator};
 
 /// An instruction of the stack machine. Places in a body count from 0, and so do its locals.

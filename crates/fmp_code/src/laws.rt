@@ -1,3 +1,4 @@
+//! Laws of the stack machine, which the crates above take by name.
 ghost use Rattle.fmp_code.specs.Laws.{StaysAtGreaterBounds, MakesOnlyItsCalls, LastStops};
 
 /// More instructions do not change how a stretch ends.

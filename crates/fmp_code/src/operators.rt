@@ -1,3 +1,4 @@
+//! What the operators give, and their faults.
 ghost use Rattle.std.specs.Prelude.{◌≡◌, false, OnOk, int_rem};
 ghost use Rattle.fmp_base.specs.Operators.{fit, unary_value, binary_value, quotient, is_zero};
 

@@ -1,3 +1,4 @@
+//! Code is verified before it runs: depths, locals and jumps.
 ghost use Rattle.std.specs.Prelude.{◌≡◌, ◌+◌, ◌<◌, ◌≤◌, ◌↔◌, ◌^◌, IsTrue, Some, is_some, length, slice_get};
 ghost use Rattle.fmp_base.specs.Services.{out_place};
 ghost use Rattle.fmp_code.specs.Instructions.{body_tables, code_tables};

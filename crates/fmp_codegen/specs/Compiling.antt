@@ -32,7 +32,10 @@ abbrev pub variables_offence : SystemTables → List Name → List Word → Opti
 variables_offence tables locals [] = None
 variables_offence tables locals (w ∷ ws) =
     if nat_le 64 (length locals) then Some (record { line = w.line; why = fault.Limit })
-    else (if is_among w.name locals || is_object tables w.name then Some (record { line = w.line; why = fault.TwiceNamed })
+    else (if is_among w.name locals || is_object tables w.name then Some (record {
+      line = w.line;
+      why = fault.TwiceNamed;
+    })
     else variables_offence tables (locals ++ w.name ∷ []) ws)
 
 -- more than 65535 instructions, or more than 64 operands

@@ -14,10 +14,11 @@ use Rattle.fmp_code.specs.Machine.{code_meaning}
 use Rattle.fmp_codegen.specs.Tie.{longest}
 
 -- The code, run over these events within n instructions a stretch, prints what the texts mean over the events that it
--- did. An event that it left out does nothing in the texts either, within any t turns of loops with (t + 1) * L up to n,
--- L being the instructions of the longest body; and where the texts finish the first k events within such a t, these are
--- the first k that it did.
-pub record PrintsText (sys : SystemTables) (bodies : List BodyTree) (code : List BodyTables) (n : ℕ) (es : List Event) : Type 0 where
+-- did. An event that it left out does nothing in the texts either, within any t turns of loops with (t + 1) * L up to
+-- n, L being the instructions of the longest body; and where the texts finish the first k events within such a t, these
+-- are the first k that it did.
+pub record PrintsText (sys : SystemTables) (bodies : List BodyTree) (code : List BodyTables) (n : ℕ) (es : List Event) :
+    Type 0 where
   pub finished : List Event
   pub are_done :
       let machine = code_meaning code in

@@ -77,4 +77,5 @@ abbrev mutual
 -- a whole body, with its end; outside of loops, where no accepted body has one, `break` and `continue` lead to the end
 abbrev pub body_code : SystemTables → BodyTree → List Instruction
 body_code tables body =
-    block_code (scope_of tables body) body.statements 0 (block_size body.statements) (block_size body.statements) ++ End ∷ []
+    block_code (scope_of tables body) body.statements 0 (block_size body.statements) (block_size body.statements) ++ End
+    ∷ []

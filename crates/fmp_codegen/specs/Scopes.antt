@@ -8,7 +8,9 @@ use Rattle.fmp_codegen.specs.declared.names.Meaning.TheVariants as meaning
 use Rattle.fmp_codegen.specs.declared.names.Names.{Names}
 
 abbrev pub scope_view : Names → Scope
-scope_view n = record { objects = object_names (tables_of n.system.now); variables = exinf_name ∷ map (λ w. w.name) n.variables.now }
+scope_view n =
+    record
+    { objects = object_names (tables_of n.system.now); variables = exinf_name ∷ map (λ w. w.name) n.variables.now }
 
 abbrev pub meaning_view : Meaning → NameMeaning
 meaning_view (meaning.Variable v) = Variable v

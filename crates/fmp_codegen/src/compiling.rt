@@ -89,7 +89,8 @@ fn size_offence(body: &Body) -> Option<Offence>
 /// The first fault of a body, after these bodies.
 fn body_offence(system: &System, earlier: &[Body], body: &Body) -> Option<Offence>
     requires { IsInRange (tables_of system.now) }
-    ensures first { result ≡ spec.body_offence (tables_of system.now) (map (λ b. b.name.name) earlier.now) (body_view body.now) }
+    ensures first { result
+        ≡ spec.body_offence (tables_of system.now) (map (λ b. b.name.name) earlier.now) (body_view body.now) }
     ensures variables { IfNone result (length body.now.variables.items ≤ 63) }
     ensures small { IfNone result (body_size (body_view body.now) ≤ 65535) }
     ensures low { IfNone result (body_depth (body_view body.now) ≤ 64) }

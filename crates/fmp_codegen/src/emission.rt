@@ -111,7 +111,8 @@ fn emit_expression(
     requires room { length out.old.instructions.items + expression_size (expression_view e.now) ≤ 65535 }
     requires low { depth + expression_depth (expression_view e.now) ≤ 64 }
     ensures code { OnOk result (out.new.instructions.items ≡
-        out.old.instructions.items ++ expression_code (scope_view names.now) (expression_view e.now) (length out.old.instructions.items)) }
+        out.old.instructions.items ++ expression_code (scope_view names.now) (expression_view e.now)
+        (length out.old.instructions.items)) }
     ensures len { OnOk result (length out.new.instructions.items ≡
         length out.old.instructions.items + expression_size (expression_view e.now)) }
     ensures depths { OnOk result (out.new.depths.items ≡
@@ -151,7 +152,8 @@ fn emit_links(
     requires room { length out.old.instructions.items + links_size (map link_view links.now) ≤ 65535 }
     requires low { depth + links_depth (map link_view links.now) ≤ 64 }
     ensures code { OnOk result (out.new.instructions.items ≡
-        out.old.instructions.items ++ links_code (scope_view names.now) (map link_view links.now) (length out.old.instructions.items)) }
+        out.old.instructions.items ++ links_code (scope_view names.now) (map link_view links.now)
+        (length out.old.instructions.items)) }
     ensures len { OnOk result (length out.new.instructions.items ≡
         length out.old.instructions.items + links_size (map link_view links.now)) }
     ensures depths { OnOk result (out.new.depths.items ≡
@@ -180,7 +182,8 @@ fn emit_binary(
     requires room { length out.old.instructions.items + expression_size (expression_view operand.now) + 1 ≤ 65535 }
     requires low { depth + expression_depth (expression_view operand.now) + 1 ≤ 64 }
     ensures code { OnOk result (out.new.instructions.items ≡ out.old.instructions.items ++
-        operator_code (scope_view names.now) (operator.Binary op) (expression_view operand.now) (length out.old.instructions.items)) }
+        operator_code (scope_view names.now) (operator.Binary op) (expression_view operand.now)
+        (length out.old.instructions.items)) }
     ensures len { OnOk result (length out.new.instructions.items ≡
         length out.old.instructions.items + expression_size (expression_view operand.now) + 1) }
     ensures depths { OnOk result (out.new.depths.items ≡
@@ -203,7 +206,8 @@ fn emit_both(
     requires room { length out.old.instructions.items + expression_size (expression_view operand.now) + 4 ≤ 65535 }
     requires low { depth + expression_depth (expression_view operand.now) ≤ 64 }
     ensures code { OnOk result (out.new.instructions.items ≡ out.old.instructions.items ++
-        operator_code (scope_view names.now) operator.Both (expression_view operand.now) (length out.old.instructions.items)) }
+        operator_code (scope_view names.now) operator.Both (expression_view operand.now)
+        (length out.old.instructions.items)) }
     ensures len { OnOk result (length out.new.instructions.items ≡
         length out.old.instructions.items + expression_size (expression_view operand.now) + 4) }
     ensures depths { OnOk result (out.new.depths.items ≡
@@ -230,7 +234,8 @@ fn emit_either(
     requires room { length out.old.instructions.items + expression_size (expression_view operand.now) + 4 ≤ 65535 }
     requires low { depth + expression_depth (expression_view operand.now) ≤ 64 }
     ensures code { OnOk result (out.new.instructions.items ≡ out.old.instructions.items ++
-        operator_code (scope_view names.now) operator.Either (expression_view operand.now) (length out.old.instructions.items)) }
+        operator_code (scope_view names.now) operator.Either (expression_view operand.now)
+        (length out.old.instructions.items)) }
     ensures len { OnOk result (length out.new.instructions.items ≡
         length out.old.instructions.items + expression_size (expression_view operand.now) + 4) }
     ensures depths { OnOk result (out.new.depths.items ≡
@@ -309,7 +314,8 @@ fn emit_test(
     over: usize,
 ) -> Result<(), AllocError>
     requires held { IsHeld names.now }
-    requires room { length out.old.instructions.items + expression_size (expression_view condition.now) + 1 + over ≤ 65535 }
+    requires room { length out.old.instructions.items + expression_size (expression_view condition.now) + 1 + over ≤
+        65535 }
     requires low { expression_depth (expression_view condition.now) ≤ 64 }
     ensures code { OnOk result (out.new.instructions.items ≡ out.old.instructions.items ++
         test_code (scope_view names.now) (expression_view condition.now) (length out.old.instructions.items) over) }
@@ -339,7 +345,8 @@ fn emit_statement(
         statement_code (scope_view names.now) (statement_view s.now) (length out.old.instructions.items) again exit) }
     ensures len { OnOk result (length out.new.instructions.items ≡
         length out.old.instructions.items + statement_size (statement_view s.now)) }
-    ensures depths { OnOk result (out.new.depths.items ≡ out.old.depths.items ++ statement_depths (statement_view s.now)) }
+    ensures depths { OnOk result
+        (out.new.depths.items ≡ out.old.depths.items ++ statement_depths (statement_view s.now)) }
 {
     match s {
         Statement::Assign { target, value } => {
@@ -409,7 +416,8 @@ pub fn emit_block(
         block_code (scope_view names.now) (block_view statements.now) (length out.old.instructions.items) again exit) }
     ensures len { OnOk result (length out.new.instructions.items ≡
         length out.old.instructions.items + block_size (block_view statements.now)) }
-    ensures depths { OnOk result (out.new.depths.items ≡ out.old.depths.items ++ block_depths (block_view statements.now)) }
+    ensures depths { OnOk result
+        (out.new.depths.items ≡ out.old.depths.items ++ block_depths (block_view statements.now)) }
 {
     for s in statements {
         emit_statement(out, names, s, again, exit)?;

@@ -67,7 +67,9 @@ pub fn body_place(program: &Program, name: &Name) -> Option<usize>
 /// The fault of an entry, if it has one.
 fn entry_fault(bodies: &[Body], depths: &[usize], entry: &EntryUse) -> Option<FaultKind>
     requires { depths.now ≡ map (λ b. min (spec_depth (body_view b)) 1073741824) bodies.now }
-    ensures { result ≡ spec.entry_fault (map body_view bodies.now) entry.now (spec.body_place (map body_view bodies.now) entry.now.name) }
+    ensures { result
+        ≡ spec.entry_fault (map body_view bodies.now) entry.now
+        (spec.body_place (map body_view bodies.now) entry.now.name) }
 {
     match place_in(bodies, &entry.name) {
         None => Some(FaultKind::UnknownName),

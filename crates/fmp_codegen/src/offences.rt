@@ -1,3 +1,4 @@
+//! A fault of a task text beside its line.
 use fmp_lex::FaultKind;
 
 /// A fault of the task text and its line, from 1.

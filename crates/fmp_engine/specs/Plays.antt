@@ -9,14 +9,16 @@ use Rattle.fmp_kernel.specs.KernelViews.{KernelView}
 
 -- the text of the lines of the events that a kernel does of a list, numbered on
 abbrev pub text_of_events : {B C : Type 0} → (B → Meaning C) → KernelView B C → List Event → List ℕ
-text_of_events meaning k es = events_text k.system (k.done + 1) (run k.system (meaning k.body) k.bound k.world es).events
+text_of_events meaning k es =
+    events_text k.system (k.done + 1) (run k.system (meaning k.body) k.bound k.world es).events
 
 -- the state that it then has
 abbrev pub state_after : {B C : Type 0} → (B → Meaning C) → KernelView B C → List Event → KernelState
 state_after meaning k es = (run k.system (meaning k.body) k.bound k.world es).world.state
 
 -- A kernel has taken some events: what was to print has been printed, and it ends in the state in which it was to end.
-pub record HasTaken {B C : Type 0} (meaning : B → Meaning C) (before after : KernelView B C) (es : List Event) (out text : List ℕ) : Type 0 where
+pub record HasTaken {B C : Type 0} (meaning : B → Meaning C) (before after : KernelView B C) (es : List Event)
+    (out text : List ℕ) : Type 0 where
   pub printed : text ≡ out ++ text_of_events meaning before es
   pub state : after.world.state ≡ state_after meaning before es
   pub system : after.system ≡ before.system

@@ -26,11 +26,12 @@ pub record Simulates (image steps : List ℕ) (n : ℕ) (before after : List ℕ
   pub read : steps_of loaded.system.processors steps ≡ Ok events
   pub text : after ≡ before ++ whole_text loaded.system (code_meaning loaded.code) n events
 
--- The steps read as events, and what was appended is what the bodies of a task text mean over those that the run of their
--- image did, within n instructions a stretch. An event that it left out does nothing in the text either, within any t turns
--- of loops with (t + 1) * L up to n, L being the instructions of the longest body; and where the text finishes the first k
--- events within such a t, these are the first k that the run did.
-pub record PrintsTexts (i : ImageTables) (bodies : List BodyTree) (steps : List ℕ) (n : ℕ) (before after : List ℕ) : Type 0 where
+-- The steps read as events, and what was appended is what the bodies of a task text mean over those that the run of
+-- their image did, within n instructions a stretch. An event that it left out does nothing in the text either, within
+-- any t turns of loops with (t + 1) * L up to n, L being the instructions of the longest body; and where the text
+-- finishes the first k events within such a t, these are the first k that the run did.
+pub record PrintsTexts (i : ImageTables) (bodies : List BodyTree) (steps : List ℕ) (n : ℕ) (before after : List ℕ) :
+    Type 0 where
   pub events : List Event
   pub read : steps_of i.system.processors steps ≡ Ok events
   pub finished : List Event
@@ -49,8 +50,8 @@ pub record IsWhySteps (f : StepsFault) (image steps : List ℕ) : Type 0 where
   pub spelled : Spells loaded image
   pub fault : steps_of loaded.system.processors steps ≡ Err f
 
--- Why a simulation is refused: the first fault of the image, else the first fault of the steps. Or memory ran out, which
--- is a fault of neither.
+-- Why a simulation is refused: the first fault of the image, else the first fault of the steps. Or memory ran out,
+-- which is a fault of neither.
 abbrev pub IsWhySim : SimFault → (image steps : List ℕ) → Type 0
 IsWhySim (fault.Load (load.Image f)) image steps = image_at image ≡ Err f
 IsWhySim (fault.Load load.Memory) image steps = ⊥

@@ -1,3 +1,4 @@
+//! Why a simulation prints nothing.
 use fmp_image::LoadFault;
 use fmp_trace::StepsFault;
 use thiserror::Error;

@@ -53,7 +53,8 @@ fn states<B: Body>(
     Ok(xs)
 }
 
-/// The text of a run of a kernel after setup: its lines, those of the events that did something, and the states at the end.
+/// The text of a run of a kernel after setup: its lines, those of the events that did something, and the states at the
+/// end.
 fn text_from_setup<B: Body>(
     alloc: Global,
     sys: &System,
@@ -113,7 +114,8 @@ pub fn play<B: Body + Drop>(
     requires entries { Entered B.has_entry body (tables_of sys.now) }
     requires range { IsInRange (tables_of sys.now) }
     requires few { length events.now ≤ 2 ^ 20 }
-    ensures ok { OnOk result (out.new.items ≡ out.old.items ++ whole_text (tables_of sys.now) (B.meaning body) n events.now) }
+    ensures ok { OnOk result
+        (out.new.items ≡ out.old.items ++ whole_text (tables_of sys.now) (B.meaning body) n events.now) }
     ensures err { OnErr result (out.new.items ≡ out.old.items) }
 {
     let text = text_of_run(alloc, sys, body, n, events)?;

@@ -53,7 +53,8 @@ code_at size bytes = if nat_lt (length bytes) (6 * size) then Err fault.Short el
 unfoldable pub keeps_table : BodyTables → Bool
 keeps_table b =
     depth_is (slice_get b.depths 0) 0 && nat_le (length b.instructions) 65535
-    && nat_eq (length b.depths) (length b.instructions) && pairs_pass (λ place i d. fits b.locals b.depths place d i) 0 b.instructions b.depths
+    && nat_eq (length b.depths) (length b.instructions) && pairs_pass (λ place i d. fits b.locals b.depths place d i) 0
+    b.instructions b.depths
 
 -- kind, locals, depth, number of instructions
 abbrev pub body_head : Field (ℕ × (ℕ × (ℕ × ℕ)))
@@ -69,10 +70,12 @@ abbrev pub tables_of_code : (locals : ℕ) → List Instruction × List ℕ → 
 tables_of_code locals code = record { locals = locals; instructions = code.0; depths = code.1 }
 
 -- a body whose fields are read: its code is judged first, by its own number of locals
-abbrev pub judged : (kind locals depth : ℕ) → List Instruction × List ℕ → List ℕ → Result ((BodyHead × BodyTables) × List ℕ) ImageFault
+abbrev pub judged : (kind locals depth : ℕ) → List Instruction × List ℕ → List ℕ
+    → Result ((BodyHead × BodyTables) × List ℕ) ImageFault
 judged kind locals depth code rest =
     if keeps_table (tables_of_code locals code) then
-    (if body_numbers kind locals depth code.1 then Ok ((head_of kind depth, tables_of_code locals code), rest) else Err fault.Table)
+    (if body_numbers kind locals depth code.1 then Ok ((head_of kind depth, tables_of_code locals code), rest) else Err
+    fault.Table)
     else Err fault.Code
 
 unfoldable pub body_at : List ℕ → Result ((BodyHead × BodyTables) × List ℕ) ImageFault

@@ -25,7 +25,8 @@ use Rattle.fmp_image.specs.Tables.{table}
 use Rattle.fmp_image.specs.Bodies.{bodies, IsBody}
 use Rattle.fmp_image.specs.Pairs.{AllPairs}
 
--- what an image holds, as data without memory: the tables of the system, and of each body what is said of it and its code
+-- what an image holds, as data without memory: the tables of the system, and of each body what is said of it and its
+-- code
 pub record ImageTables : Type 0 where
   pub system : SystemTables
   pub heads : List BodyHead
@@ -49,7 +50,9 @@ is_version v = v == 1
 
 -- `FMPI`, the version, and the number of processors
 abbrev pub header : Field (List ℕ × (ℕ × ℕ))
-header = tested is_magic fault.Magic (plain 4) ⊗ tested is_version fault.Version short ⊗ tested (in_range 1 8) fault.Table byte
+header =
+    tested is_magic fault.Magic (plain 4) ⊗ tested is_version fault.Version short ⊗ tested (in_range 1 8) fault.Table
+    byte
 
 -- the table of a kind of rows, behind which these keys stand
 abbrev pub table_of : {F A : Type 0} → RowForm F A → Frame → List Key → Field (List A)
@@ -57,11 +60,13 @@ table_of form frame taken = table (row form frame) form.key_of taken
 
 -- a table, and what stands behind it with its keys taken too
 abbrev pub also : {F A B : Type 0} → RowForm F A → (Frame → List Key → Field B) → Frame → List Key → Field (List A × B)
-also form behind frame taken = chained (table_of form frame taken) (λ rows. behind frame (taken ++ map form.key_of rows))
+also form behind frame taken =
+    chained (table_of form frame taken) (λ rows. behind frame (taken ++ map form.key_of rows))
 
 abbrev pub TheTables : Type 0
 TheTables = List TaskConfig × (List SemaphoreConfig × (List FlagConfig × (List DataQueueConfig × (List MailboxConfig
-    × (List MessageConfig × (List SharedWordConfig × (List SpinLockConfig × (List CyclicConfig × List InterruptConfig))))))))
+    × (List MessageConfig
+    × (List SharedWordConfig × (List SpinLockConfig × (List CyclicConfig × List InterruptConfig))))))))
 
 -- all tables in order
 abbrev pub tables : Frame → List Key → Field TheTables
@@ -76,14 +81,53 @@ abbrev pub layout : Field Parts
 layout = chained header (λ h. chained bodies (λ b. tables (frame_of h.1.1 b.0) []))
 
 abbrev pub tables_in : SystemTables → TheTables
-tables_in s = (s.tasks, (s.semaphores, (s.flags, (s.data_queues, (s.mailboxes, (s.messages, (s.shared_words, (s.spin_locks, (s.cyclics, s.interrupts)))))))))
+tables_in s = (
+  s.tasks,
+  (
+    s.semaphores,
+    (
+      s.flags,
+      (
+        s.data_queues,
+        (
+          s.mailboxes,
+          (s.messages, (s.shared_words, (s.spin_locks, (s.cyclics, s.interrupts)))),
+        ),
+      ),
+    ),
+  ),
+)
 
 abbrev pub parts_of : ImageTables → Parts
 parts_of i = ((magic, (1, i.system.processors)), ((i.heads, i.code), tables_in i.system))
 
 -- the image of parts: each queue of activations and of wakeups of a task holds one
 abbrev pub image_of : Parts → ImageTables
-image_of ((m, (version, processors)), ((heads, code), (tasks, (semaphores, (flags, (data_queues, (mailboxes, (messages, (shared_words, (spin_locks, (cyclics, interrupts))))))))))) = record {
+image_of (
+  (m, (version, processors)),
+  (
+    (heads, code),
+    (
+      tasks,
+      (
+        semaphores,
+        (
+          flags,
+          (
+            data_queues,
+            (
+              mailboxes,
+              (
+                messages,
+                (shared_words, (spin_locks, (cyclics, interrupts))),
+              ),
+            ),
+          ),
+        ),
+      ),
+    ),
+  ),
+) = record {
   system = record {
     processors = processors;
     queue_limit = 1;

@@ -4,7 +4,8 @@ use Rattle.fmp_image.specs.declared.fault.ImageFault.{ImageFault}
 use Rattle.fmp_image.specs.Fields.{◌>>=◌}
 
 -- so many pairs from the front of bytes
-unfoldable pub pairs_at : {A B : Type 0} → (List ℕ → Result ((A × B) × List ℕ) ImageFault) → ℕ → List ℕ → Result ((List A × List B) × List ℕ) ImageFault
+unfoldable pub pairs_at : {A B : Type 0} → (List ℕ → Result ((A × B) × List ℕ) ImageFault) → ℕ → List ℕ
+    → Result ((List A × List B) × List ℕ) ImageFault
 pairs_at pair_at zero bytes = Ok (([], []), bytes)
 pairs_at pair_at (suc n) bytes = do
   first ← pair_at bytes

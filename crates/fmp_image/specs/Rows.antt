@@ -44,9 +44,13 @@ pub record RowForm (F A : Type 0) : Type 1 where
 -- a row: what it is made of are its own fields
 abbrev pub row : {F A : Type 0} → RowForm F A → Frame → Field A
 row form frame = record {
-  fits = λ a. form.layout.fits (form.fields a) × (form.keeps frame (form.fields a) ≡ true) × (form.make (form.fields a) ≡ a);
+  fits =
+      λ a. form.layout.fits (form.fields a)
+      × (form.keeps frame (form.fields a) ≡ true) × (form.make (form.fields a) ≡ a);
   spell = λ a. form.layout.spell (form.fields a);
-  read = λ bytes. form.layout.read bytes >>= λ f. if form.keeps frame f.0 then Ok (form.make f.0, f.1) else Err fault.Table;
+  read =
+      λ bytes. form.layout.read bytes >>= λ f. if form.keeps frame f.0 then Ok (form.make f.0, f.1) else Err
+      fault.Table;
 }
 
 abbrev pub in_range : (least most : ℕ) → ℕ → Bool
@@ -104,7 +108,16 @@ task_rules frame attributes body priority stack processor only =
 abbrev pub task_form : RowForm TaskFields TaskConfig
 task_form = record {
   layout = text ⊗ byte ⊗ word ⊗ byte ⊗ byte ⊗ long ⊗ byte ⊗ byte;
-  fields = λ t. (name_text t.name, (bit t.activated 2, (t.exinf, (body_of t.entry, (t.priority, (t.stack, (t.processor + 1, bit t.only 1)))))));
+  fields = λ t. (
+    name_text t.name,
+    (
+      bit t.activated 2,
+      (
+        t.exinf,
+        (body_of t.entry, (t.priority, (t.stack, (t.processor + 1, bit t.only 1)))),
+      ),
+    ),
+  );
   keeps = λ frame. λ (name, (attributes, (exinf, (body, (priority, (stack, (processor, only))))))).
       is_name name && task_rules frame attributes body priority stack processor only;
   make = λ (name, (attributes, (exinf, (body, (priority, (stack, (processor, only))))))). record {
@@ -252,7 +265,8 @@ cyclic_rules frame attributes body period phase processor =
 abbrev pub cyclic_form : RowForm CyclicFields CyclicConfig
 cyclic_form = record {
   layout = text ⊗ byte ⊗ word ⊗ byte ⊗ long ⊗ long ⊗ byte;
-  fields = λ c. (name_text c.name, (bit c.started 2, (c.exinf, (body_of c.entry, (c.period, (c.phase, c.processor + 1))))));
+  fields =
+      λ c. (name_text c.name, (bit c.started 2, (c.exinf, (body_of c.entry, (c.period, (c.phase, c.processor + 1))))));
   keeps = λ frame. λ (name, (attributes, (exinf, (body, (period, (phase, processor)))))).
       is_name name && cyclic_rules frame attributes body period phase processor;
   make = λ (name, (attributes, (exinf, (body, (period, (phase, processor)))))). record {

@@ -174,7 +174,8 @@ fn read_some_bodies<'a>(
     count: u8,
     bytes: &'a [u8],
 ) -> Result<((Vec<BodyHead>, Vec<BodyCode>), &'a [u8]), LoadFault>
-    ensures { Gives (λ x. ((x.0.0.items, map body_tables x.0.1.items), x.1.now)) result (pairs_at body_at count bytes.now) }
+    ensures { Gives (λ x. ((x.0.0.items, map body_tables x.0.1.items), x.1.now)) result
+        (pairs_at body_at count bytes.now) }
 {
     let mut heads = Vec::new(alloc);
     let mut bodies = Vec::new(alloc);

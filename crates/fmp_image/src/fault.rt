@@ -1,3 +1,4 @@
+//! Faults of images.
 ghost use Rattle.std.specs.Prelude.{◌≡◌};
 ghost use Rattle.fmp_image.specs.declared.fault.LoadFault.TheVariants.{Memory};
 

@@ -64,7 +64,8 @@ pub fn is_name(text: &[u8]) -> bool
 /// The name of this text, if an object can have it.
 #[tactic(auto, using(crate::proofs::Names::name_fits))]
 pub fn name_of(text: &[u8]) -> Option<Name>
-    ensures { MatchOption result (is_name text.now ≡ false) (λ name. (is_name text.now ≡ true) × (name ≡ name_from text.now)) }
+    ensures { MatchOption result (is_name text.now ≡ false)
+        (λ name. (is_name text.now ≡ true) × (name ≡ name_from text.now)) }
 {
     if is_name(text) { Name::new(text) } else { None }
 }

@@ -49,7 +49,8 @@ fn read_tables<'a>(
     heads: &[BodyHead],
     bytes: &'a [u8],
 ) -> Result<(System, &'a [u8]), LoadFault>
-    ensures read { Gives (λ x. (tables_in (tables_of x.0), x.1.now)) result ((tables (frame_of processors heads.now) []).read bytes.now) }
+    ensures read { Gives (λ x. (tables_in (tables_of x.0), x.1.now)) result
+        ((tables (frame_of processors heads.now) []).read bytes.now) }
     ensures numbers { IfOk result (λ x. (x.0.processors ≡ processors) × (x.0.queue_limit ≡ 1)) }
 {
     let mut taken = Vec::new(alloc);
@@ -94,8 +95,8 @@ fn read_image(alloc: Global, bytes: &[u8]) -> Result<(System, Code, Vec<BodyHead
     Ok((system, Code { bodies }, heads))
 }
 
-/// The image that the bytes spell, all of the bytes; else the first fault, in the order of the fields. The rules of a row
-/// are judged once all of its fields are there; of a body its code (L5) is judged before its other values (L4).
+/// The image that the bytes spell, all of the bytes; else the first fault, in the order of the fields. The rules of a
+/// row are judged once all of its fields are there; of a body its code (L5) is judged before its other values (L4).
 pub fn load(alloc: Global, bytes: &[u8]) -> Result<Image, LoadFault>
     // What is loaded is spelled so.
     ensures found { IfOk result (λ image. Spells image bytes.now) }

@@ -1,4 +1,5 @@
 mod ContextLemmas
+mod CyclicLemmas
 mod GroupLemmas
 mod PlaceLemmas
 mod RangeLemmas

@@ -6,8 +6,8 @@ use Rattle.fmp_base.specs.States.{Progress}
 use Rattle.fmp_base.specs.Steps.{Done, Reaction, Nothing, Did}
 use Rattle.fmp_base.specs.Systems.{SystemTables}
 
--- what carries events out: the bodies and their bound, the tables of the system, the state with the bodies' contexts, the
--- lines of what the event has caused so far, and those of the last event that did something (or of setup)
+-- what carries events out: the bodies and their bound, the tables of the system, the state with the bodies' contexts,
+-- the lines of what the event has caused so far, and those of the last event that did something (or of setup)
 pub record RunnerView (B C : Type 0) : Type 0 where
   pub body : B
   pub bound : ℕ

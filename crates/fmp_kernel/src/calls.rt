@@ -39,7 +39,8 @@ fn case_of_task(tables: &mut Tables, lines: &mut Vec<Line>, p: u8, me: u8, made:
     requires range { IsInRange tables.old.system }
     requires empty { lines.old.items ≡ [] }
     requires room { 255 ≤ vec_capacity lines.old }
-    ensures outcome { outcome result tables.new lines.new.items ≡ case_of tables.old.system tables.old.state p me (task_at tables.old.state.tasks me) made }
+    ensures outcome { outcome result tables.new lines.new.items
+        ≡ case_of tables.old.system tables.old.state p me (task_at tables.old.state.tasks me) made }
     ensures shape { SameShape tables.old tables.new }
     ensures capacity { vec_capacity lines.new ≡ vec_capacity lines.old }
 {
@@ -61,7 +62,8 @@ fn case_of_handler(tables: &mut Tables, lines: &mut Vec<Line>, p: u8, made: Call
     requires range { IsInRange tables.old.system }
     requires empty { lines.old.items ≡ [] }
     requires room { 255 ≤ vec_capacity lines.old }
-    ensures outcome { outcome result tables.new lines.new.items ≡ case_of tables.old.system tables.old.state p 0 (task_at [] 0) made }
+    ensures outcome { outcome result tables.new lines.new.items
+        ≡ case_of tables.old.system tables.old.state p 0 (task_at [] 0) made }
     ensures shape { SameShape tables.old tables.new }
     ensures capacity { vec_capacity lines.new ≡ vec_capacity lines.old }
 {
@@ -87,7 +89,8 @@ fn permitted_call(
     requires range { IsInRange tables.old.system }
     requires empty { lines.old.items ≡ [] }
     requires room { 255 ≤ vec_capacity lines.old }
-    ensures outcome { outcome result tables.new lines.new.items ≡ case_by tables.old.system tables.old.state p who made }
+    ensures outcome { outcome result tables.new lines.new.items
+        ≡ case_by tables.old.system tables.old.state p who made }
     ensures shape { SameShape tables.old tables.new }
     ensures capacity { vec_capacity lines.new ≡ vec_capacity lines.old }
 {

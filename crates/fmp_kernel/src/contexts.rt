@@ -7,7 +7,8 @@ use fmp_base::{Caller, Entry, HandlerContext, Held};
 use std::alloc::{AllocError, Global};
 use std::marker::Model;
 
-/// What is kept of the bodies of tasks, by their places, and of the handlers that run, by the places of their processors.
+/// What is kept of the bodies of tasks, by their places, and of the handlers that run, by the places of their
+/// processors.
 #[derive(Drop)]
 pub struct BodyContexts<C: Copy> {
     tasks: Vec<Option<Held<C>>>,
@@ -47,7 +48,8 @@ pub fn body_number(entry: Entry) -> u8
 impl<C: Copy> BodyContexts<C> {
     /// Nothing kept yet, of so many tasks and processors. `AllocError` for want of memory.
     pub fn new(alloc: Global, tasks: usize, processors: usize) -> Result<Self, AllocError>
-        ensures { IfOk result (λ cs. cs ≡ record { tasks = replicate tasks None; handlers = replicate processors None }) }
+        ensures { IfOk result
+            (λ cs. cs ≡ record { tasks = replicate tasks None; handlers = replicate processors None }) }
     {
         let tasks = empty_places(alloc, tasks)?;
         let handlers = empty_places(alloc, processors)?;

@@ -191,7 +191,8 @@ pub fn carry_out<B: Body>(
     requires places { HasPlaces tables.now.system contexts.old }
     requires entries { Entered B.has_entry body.now tables.now.system }
     requires contexts { Fitting B.has_entry B.is_context body.now tables.now.system contexts.old }
-    ensures contexts { contexts.new ≡ contexts_after_all tables.now.system (B.meaning body.now) contexts.old lines.now.items }
+    ensures contexts { contexts.new
+        ≡ contexts_after_all tables.now.system (B.meaning body.now) contexts.old lines.now.items }
     ensures places { HasPlaces tables.now.system contexts.new }
     ensures fitting { Fitting B.has_entry B.is_context body.now tables.now.system contexts.new }
 {

@@ -40,7 +40,9 @@ impl<B: Body> Runner<B> {
     fn end_actor(&mut self, p: u8, who: Caller, own: Line)
         requires there { p < self.old.system.processors }
         requires caller { IsTaskOf self.old.system who }
-        ensures after { done_of self.new ≡ finished self.old.system (B.meaning self.old.body) self.old.world.contexts (own ∷ []) (actor_ended self.old.system self.old.world.state p who) }
+        ensures after { done_of self.new
+            ≡ finished self.old.system (B.meaning self.old.body) self.old.world.contexts (own ∷ [])
+            (actor_ended self.old.system self.old.world.state p who) }
         ensures bodies { SameBodies self.old self.new }
         ensures clock { self.new.world.state.clock ≡ self.old.world.state.clock }
     {
@@ -57,9 +59,16 @@ impl<B: Body> Runner<B> {
         requires there { p < self.old.system.processors }
         requires caller { IsTaskOf self.old.system who }
         requires kept { HasContext self.old.world.contexts p who }
-        requires context { B.is_context self.old.body (caller_body self.old.system self.old.world.contexts p who) context }
-        ensures effect { result ≡ effect_of (call_made self.old.system (B.meaning self.old.body) (with_context self.old.world.contexts p who (Some (Held.Awaits context))) p who made (called self.old.system self.old.world.state p who made)) }
-        ensures after { done_of self.new ≡ done_or (done_of self.old) (call_made self.old.system (B.meaning self.old.body) (with_context self.old.world.contexts p who (Some (Held.Awaits context))) p who made (called self.old.system self.old.world.state p who made)) }
+        requires context { B.is_context self.old.body (caller_body self.old.system self.old.world.contexts p who)
+            context }
+        ensures effect { result
+            ≡ effect_of (call_made self.old.system (B.meaning self.old.body)
+            (with_context self.old.world.contexts p who (Some (Held.Awaits context))) p who made
+            (called self.old.system self.old.world.state p who made)) }
+        ensures after { done_of self.new
+            ≡ done_or (done_of self.old) (call_made self.old.system (B.meaning self.old.body)
+            (with_context self.old.world.contexts p who (Some (Held.Awaits context))) p who made
+            (called self.old.system self.old.world.state p who made)) }
         ensures bodies { SameBodies self.old self.new }
         ensures clock { self.new.world.state.clock ≡ self.old.world.state.clock }
     {
@@ -93,9 +102,14 @@ impl<B: Body> Runner<B> {
         requires there { p < self.old.system.processors }
         requires caller { IsTaskOf self.old.system who }
         requires kept { HasContext self.old.world.contexts p who }
-        requires context { OfCall (B.is_context self.old.body (caller_body self.old.system self.old.world.contexts p who)) (ending stretch) }
-        ensures effect { result ≡ effect_of (stretched self.old.system (B.meaning self.old.body) self.old.world p who (ending stretch)) }
-        ensures after { done_of self.new ≡ done_or (done_of self.old) (stretched self.old.system (B.meaning self.old.body) self.old.world p who (ending stretch)) }
+        requires context { OfCall
+            (B.is_context self.old.body (caller_body self.old.system self.old.world.contexts p who))
+            (ending stretch) }
+        ensures effect { result
+            ≡ effect_of (stretched self.old.system (B.meaning self.old.body) self.old.world p who (ending stretch)) }
+        ensures after { done_of self.new
+            ≡ done_or (done_of self.old)
+            (stretched self.old.system (B.meaning self.old.body) self.old.world p who (ending stretch)) }
         ensures bodies { SameBodies self.old self.new }
         ensures clock { self.new.world.state.clock ≡ self.old.world.state.clock }
     {
@@ -125,8 +139,12 @@ impl<B: Body> Runner<B> {
     /// Processor p runs its actor for a stretch.
     #[tactic(auto, using(crate::proofs::ContextLemmas::has_context, crate::proofs::ContextLemmas::task_of, crate::proofs::ContextLemmas::entry_of, crate::proofs::ContextLemmas::goes_fits))]
     fn run(&mut self, p: u8) -> Effect
-        ensures effect { result ≡ effect_of (run_by self.old.system (B.meaning self.old.body) self.old.bound self.old.world p (actor_of (processor_at self.old.world.state p))) }
-        ensures after { done_of self.new ≡ done_or (done_of self.old) (run_by self.old.system (B.meaning self.old.body) self.old.bound self.old.world p (actor_of (processor_at self.old.world.state p))) }
+        ensures effect { result
+            ≡ effect_of (run_by self.old.system (B.meaning self.old.body) self.old.bound self.old.world p
+            (actor_of (processor_at self.old.world.state p))) }
+        ensures after { done_of self.new
+            ≡ done_or (done_of self.old) (run_by self.old.system (B.meaning self.old.body) self.old.bound
+            self.old.world p (actor_of (processor_at self.old.world.state p))) }
         ensures bodies { SameBodies self.old self.new }
         ensures clock { self.new.world.state.clock ≡ self.old.world.state.clock }
     {
@@ -144,7 +162,8 @@ impl<B: Body> Runner<B> {
     /// The clock advances by one.
     fn tick(&mut self)
         requires { self.old.world.state.clock < 2 ^ 20 }
-        ensures after { Did (done_of self.new) ≡ step self.old.system (B.meaning self.old.body) self.old.bound self.old.world Event.Tick }
+        ensures after { Did (done_of self.new)
+            ≡ step self.old.system (B.meaning self.old.body) self.old.bound self.old.world Event.Tick }
         ensures bodies { SameBodies self.old self.new }
         ensures clock { self.new.world.state.clock ≡ self.old.world.state.clock + 1 }
     {
@@ -158,8 +177,12 @@ impl<B: Body> Runner<B> {
     /// pending already.
     #[tactic(auto, using(crate::proofs::RangeLemmas::no_interrupt_beyond))]
     fn interrupt(&mut self, number: u8) -> Effect
-        ensures effect { result ≡ effect_of (step self.old.system (B.meaning self.old.body) self.old.bound self.old.world (Event.Int number)) }
-        ensures after { done_of self.new ≡ done_or (done_of self.old) (step self.old.system (B.meaning self.old.body) self.old.bound self.old.world (Event.Int number)) }
+        ensures effect { result
+            ≡ effect_of
+            (step self.old.system (B.meaning self.old.body) self.old.bound self.old.world (Event.Int number)) }
+        ensures after { done_of self.new
+            ≡ done_or (done_of self.old)
+            (step self.old.system (B.meaning self.old.body) self.old.bound self.old.world (Event.Int number)) }
         ensures bodies { SameBodies self.old self.new }
         ensures clock { self.new.world.state.clock ≡ self.old.world.state.clock }
     {
@@ -183,8 +206,11 @@ impl<B: Body> Runner<B> {
     /// One event.
     pub fn react(&mut self, e: Event) -> Effect
         requires { self.old.world.state.clock < 2 ^ 20 }
-        ensures effect { result ≡ effect_of (step self.old.system (B.meaning self.old.body) self.old.bound self.old.world e) }
-        ensures after { done_of self.new ≡ done_or (done_of self.old) (step self.old.system (B.meaning self.old.body) self.old.bound self.old.world e) }
+        ensures effect { result
+            ≡ effect_of (step self.old.system (B.meaning self.old.body) self.old.bound self.old.world e) }
+        ensures after { done_of self.new
+            ≡ done_or (done_of self.old)
+            (step self.old.system (B.meaning self.old.body) self.old.bound self.old.world e) }
         ensures bodies { SameBodies self.old self.new }
         ensures clock { self.new.world.state.clock ≤ self.old.world.state.clock + 1 }
     {

@@ -46,19 +46,21 @@ impl<B: Body> Model for Kernel<B> {
 
     ghost view = { λ k. kernel_of k.runner k.done };
 
-    ghost invariant = { λ k. IsEarly k.runner.world.state.clock k.done × IsSettled k.runner.system k.runner.world.state };
+    ghost invariant = { λ k. IsEarly k.runner.world.state.clock k.done
+        × IsSettled k.runner.system k.runner.world.state };
 }
 
 impl<B: Body + Drop> Kernel<B> {
-    /// A kernel after setup (uITRON 4.0, section 3.12): all objects are made, the tasks with TA_ACT are started, in order
-    /// of number, and all processors settle. A stretch of a body takes at most n units, 1 to 2^48; a longer one does
-    /// nothing. `KernelFault::Memory` for want of memory: no call after this one takes any.
+    /// A kernel after setup (uITRON 4.0, section 3.12): all objects are made, the tasks with TA_ACT are started, in
+    /// order of number, and all processors settle. A stretch of a body takes at most n units, 1 to 2^48; a longer one
+    /// does nothing. `KernelFault::Memory` for want of memory: no call after this one takes any.
     pub fn new(alloc: Global, body: B, sys: &System, n: u64) -> Result<Self, KernelFault>
         requires low { 1 ≤ n }
         requires high { n ≤ 2 ^ 48 }
         requires entries { Entered B.has_entry body (tables_of sys.now) }
         requires range { IsInRange (tables_of sys.now) }
-        ensures { IfOk result (λ k. k ≡ view_of_setup body n (tables_of sys.now) (setup (tables_of sys.now) (B.meaning body))) }
+        ensures { IfOk result
+            (λ k. k ≡ view_of_setup body n (tables_of sys.now) (setup (tables_of sys.now) (B.meaning body))) }
     {
         let mut runner = Runner::new(alloc, body, sys, n)?;
         runner.set_up();
@@ -107,8 +109,10 @@ impl<B: Body> Kernel<B> {
     /// after it stand here then; if it does not, nothing has changed. It takes no memory.
     pub fn step(&mut self, e: Event) -> Effect
         requires { self.old.done < 2 ^ 20 }
-        ensures effect { result ≡ effect_of (step self.old.system (B.meaning self.old.body) self.old.bound self.old.world e) }
-        ensures state { self.new ≡ view_after self.old (step self.old.system (B.meaning self.old.body) self.old.bound self.old.world e) }
+        ensures effect { result
+            ≡ effect_of (step self.old.system (B.meaning self.old.body) self.old.bound self.old.world e) }
+        ensures state { self.new
+            ≡ view_after self.old (step self.old.system (B.meaning self.old.body) self.old.bound self.old.world e) }
     {
         let effect = self.runner.react(e);
         if matches!(&effect, Effect::Done) {

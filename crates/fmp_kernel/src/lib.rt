@@ -1,6 +1,6 @@
-//! The kernel over bodies that are given by a trait: one event is one step of its state. It takes every system in range, and
-//! serves every service call of the uITRON 4.0 standard profile and of the FMP kernel that this kernel has, from tasks and
-//! from handlers.
+//! The kernel over bodies that are given by a trait: one event is one step of its state. It takes every system in
+//! range, and serves every service call of the uITRON 4.0 standard profile and of the FMP kernel that this kernel has,
+//! from tasks and from handlers.
 #![tactic(auto)]
 
 mod calls;

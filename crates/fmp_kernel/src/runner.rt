@@ -19,8 +19,8 @@ use fmp_tasks::Tables;
 use std::alloc::{AllocError, Global};
 use std::marker::Model;
 
-/// The bodies with their contexts over the tables of a system, and the lines of an event: those that it has caused so far,
-/// and all of the last event that did something, or of setup.
+/// The bodies with their contexts over the tables of a system, and the lines of an event: those that it has caused so
+/// far, and all of the last event that did something, or of setup.
 #[derive(Drop)]
 pub struct Runner<B: Body> {
     pub body: B,
@@ -39,9 +39,20 @@ impl<B: Body> Model for Runner<B> {
 
     ghost Value = { RunnerView B B.Ctx };
 
-    ghost view = { λ r. record { body = r.body; bound = r.bound; system = r.tables.system; world = record { state = r.tables.state; contexts = r.contexts }; caused = r.caused.items; lines = r.lines.items } };
+    ghost view = { λ r. record {
+      body = r.body;
+      bound = r.bound;
+      system = r.tables.system;
+      world = record
+          { state = r.tables.state; contexts = r.contexts };
+      caused = r.caused.items;
+      lines = r.lines.items;
+    } };
 
-    ghost invariant = { λ r. HasRoom r.tables.system (vec_capacity r.caused) (vec_capacity r.lines) × HasPlaces r.tables.system r.contexts × Entered B.has_entry r.body r.tables.system × Fitting B.has_entry B.is_context r.body r.tables.system r.contexts };
+    ghost invariant = { λ r. HasRoom r.tables.system (vec_capacity r.caused) (vec_capacity r.lines)
+        × HasPlaces r.tables.system r.contexts
+        × Entered B.has_entry r.body r.tables.system
+        × Fitting B.has_entry B.is_context r.body r.tables.system r.contexts };
 }
 
 /// Adds lines to others.
@@ -75,11 +86,21 @@ fn state_word(phase: Phase, suspended: bool, runs: bool) -> StateWord
 }
 
 impl<B: Body + Drop> Runner<B> {
-    /// The bodies on a system whose objects have just been made. `AllocError` for want of memory: nothing else takes any.
+    /// The bodies on a system whose objects have just been made. `AllocError` for want of memory: nothing else takes
+    /// any.
     pub fn new(alloc: Global, body: B, sys: &System, n: u64) -> Result<Self, AllocError>
         requires entries { Entered B.has_entry body (tables_of sys.now) }
         requires range { IsInRange (tables_of sys.now) }
-        ensures { IfOk result (λ r. r ≡ record { body = body; bound = n; system = tables_of sys.now; world = record { state = created_state (tables_of sys.now); contexts = no_contexts (tables_of sys.now) }; caused = []; lines = [] }) }
+        ensures { IfOk result (λ r. r
+            ≡ record {
+              body = body;
+              bound = n;
+              system = tables_of sys.now;
+              world = record
+                  { state = created_state (tables_of sys.now); contexts = no_contexts (tables_of sys.now) };
+              caused = [];
+              lines = [];
+            }) }
     {
         let tables = Tables::new(alloc, sys)?;
         let contexts = BodyContexts::new(alloc, tables.task_count(), tables.processor_count())?;
@@ -135,11 +156,13 @@ impl<B: Body> Runner<B> {
         }
     }
 
-    /// Ends an event or setup, of which the first lines are there: those of what it caused follow, all processors settle,
-    /// and the contexts follow the lines.
+    /// Ends an event or setup, of which the first lines are there: those of what it caused follow, all processors
+    /// settle, and the contexts follow the lines.
     fn conclude(&mut self)
         requires few { length self.old.lines ≤ 1 }
-        ensures after { done_of self.new ≡ finished self.old.system (B.meaning self.old.body) self.old.world.contexts self.old.lines (progress_of self.old) }
+        ensures after { done_of self.new
+            ≡ finished self.old.system (B.meaning self.old.body) self.old.world.contexts self.old.lines
+            (progress_of self.old) }
         ensures bodies { SameBodies self.old self.new }
         ensures clock { self.new.world.state.clock ≡ self.old.world.state.clock }
     {
@@ -150,7 +173,9 @@ impl<B: Body> Runner<B> {
 
     /// Ends an event: its own line, the lines of what it caused, and settling.
     pub fn finish(&mut self, own: Line)
-        ensures after { done_of self.new ≡ finished self.old.system (B.meaning self.old.body) self.old.world.contexts (own ∷ []) (progress_of self.old) }
+        ensures after { done_of self.new
+            ≡ finished self.old.system (B.meaning self.old.body) self.old.world.contexts (own ∷ [])
+            (progress_of self.old) }
         ensures bodies { SameBodies self.old self.new }
         ensures clock { self.new.world.state.clock ≡ self.old.world.state.clock }
     {
@@ -159,8 +184,8 @@ impl<B: Body> Runner<B> {
         self.conclude();
     }
 
-    /// Setup, where all objects have just been made: the tasks with TA_ACT start, in order of number, and all processors
-    /// settle (uITRON 4.0, section 3.12).
+    /// Setup, where all objects have just been made: the tasks with TA_ACT start, in order of number, and all
+    /// processors settle (uITRON 4.0, section 3.12).
     pub fn set_up(&mut self)
         requires state { self.old.world.state ≡ created_state self.old.system }
         requires contexts { self.old.world.contexts ≡ no_contexts self.old.system }

@@ -1,5 +1,5 @@
-//! What ends every event: on each processor a pending handler begins, or the dispatcher gives it its most urgent ready task
-//! (uITRON 4.0, sections 3.2 and 3.5; FMP kernel, dispatching).
+//! What ends every event: on each processor a pending handler begins, or the dispatcher gives it its most urgent ready
+//! task (uITRON 4.0, sections 3.2 and 3.5; FMP kernel, dispatching).
 ghost use Rattle.std.specs.Prelude.{◌≡◌, ◌+◌, ◌≤◌, ◌<◌, vec_len, vec_capacity, IfSome};
 ghost use Rattle.fmp_base.specs.Settles.{dispatched, settled, settled_on, handler_to_begin as handler_that_begins, is_dispatch_held as holds_dispatch, is_same_task as is_same};
 ghost use Rattle.fmp_base.specs.Queues.{top};
@@ -44,7 +44,8 @@ fn handler_to_begin(tables: &Tables, p: u8, cpu: &Processor) -> Option<Handler>
 fn dispatch(tables: &mut Tables, lines: &mut Vec<Line>, p: u8, cpu: Processor)
     requires there { p < tables.old.system.processors }
     requires room { vec_len lines.old < vec_capacity lines.old }
-    ensures progress { progress tables.new lines.new.items ≡ dispatched (progress tables.old lines.old.items) p cpu (top tables.old.state p) }
+    ensures progress { progress tables.new lines.new.items
+        ≡ dispatched (progress tables.old lines.old.items) p cpu (top tables.old.state p) }
     ensures shape { SameShape tables.old tables.new }
     ensures few { vec_len lines.new ≤ vec_len lines.old + 1 }
     ensures capacity { vec_capacity lines.new ≡ vec_capacity lines.old }
@@ -63,7 +64,8 @@ fn dispatch(tables: &mut Tables, lines: &mut Vec<Line>, p: u8, cpu: Processor)
 fn settle_on(tables: &mut Tables, lines: &mut Vec<Line>, p: u8)
     requires there { p < tables.old.system.processors }
     requires room { vec_len lines.old < vec_capacity lines.old }
-    ensures progress { progress tables.new lines.new.items ≡ settled_on tables.old.system (progress tables.old lines.old.items) p (processor_at tables.old.state p) }
+    ensures progress { progress tables.new lines.new.items
+        ≡ settled_on tables.old.system (progress tables.old lines.old.items) p (processor_at tables.old.state p) }
     ensures shape { SameShape tables.old tables.new }
     ensures few { vec_len lines.new ≤ vec_len lines.old + 1 }
     ensures capacity { vec_capacity lines.new ≡ vec_capacity lines.old }
@@ -96,7 +98,8 @@ fn settle_on(tables: &mut Tables, lines: &mut Vec<Line>, p: u8)
 #[tactic(auto, using(crate::proofs::PlaceLemmas::places_next))]
 pub fn settle(tables: &mut Tables, lines: &mut Vec<Line>)
     requires room { vec_len lines.old + 8 ≤ vec_capacity lines.old }
-    ensures progress { progress tables.new lines.new.items ≡ settled tables.old.system (progress tables.old lines.old.items) }
+    ensures progress { progress tables.new lines.new.items
+        ≡ settled tables.old.system (progress tables.old lines.old.items) }
     ensures shape { SameShape tables.old tables.new }
     ensures capacity { vec_capacity lines.new ≡ vec_capacity lines.old }
 {

@@ -13,7 +13,9 @@ use fmp_tasks::tasks::start;
 fn start_if_active(tables: &mut Tables, caused: &mut Vec<Line>, t: u8)
     requires there { t < length tables.old.system.tasks }
     requires room { vec_len caused.old < vec_capacity caused.old }
-    ensures progress { progress tables.new caused.new.items ≡ started_if (task_config tables.old.system t).activated tables.old.system (progress tables.old caused.old.items) t }
+    ensures progress { progress tables.new caused.new.items
+        ≡ started_if (task_config tables.old.system t).activated tables.old.system
+        (progress tables.old caused.old.items) t }
     ensures shape { SameShape tables.old tables.new }
     ensures few { vec_len caused.new ≤ vec_len caused.old + 1 }
     ensures capacity { vec_capacity caused.new ≡ vec_capacity caused.old }
@@ -29,7 +31,9 @@ fn start_if_active(tables: &mut Tables, caused: &mut Vec<Line>, t: u8)
 pub fn start_active(tables: &mut Tables, caused: &mut Vec<Line>)
     requires empty { caused.old.items ≡ [] }
     requires room { length tables.old.system.tasks ≤ vec_capacity caused.old }
-    ensures progress { progress tables.new caused.new.items ≡ all_started tables.old.system (unchanged tables.old.state) (places_from 0 (length tables.old.system.tasks)) }
+    ensures progress { progress tables.new caused.new.items
+        ≡ all_started tables.old.system (unchanged tables.old.state)
+        (places_from 0 (length tables.old.system.tasks)) }
     ensures shape { SameShape tables.old tables.new }
     ensures few { vec_len caused.new ≤ length tables.old.system.tasks }
     ensures capacity { vec_capacity caused.new ≡ vec_capacity caused.old }

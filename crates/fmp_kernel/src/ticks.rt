@@ -26,7 +26,8 @@ fn timeout_code(phase: Phase) -> Er
 fn time_out(tables: &mut Tables, caused: &mut Vec<Line>, t: u8)
     requires there { t < length tables.old.system.tasks }
     requires room { vec_len caused.old < vec_capacity caused.old }
-    ensures progress { let x = task_at tables.old.state.tasks t in progress tables.new caused.new.items ≡ released (progress tables.old caused.old.items) t x (code_of (code_at_timeout x.phase)) }
+    ensures progress { let x = task_at tables.old.state.tasks t in progress tables.new caused.new.items
+        ≡ released (progress tables.old caused.old.items) t x (code_of (code_at_timeout x.phase)) }
     ensures shape { SameShape tables.old tables.new }
     ensures one_more { vec_len caused.new ≡ vec_len caused.old + 1 }
     ensures capacity { vec_capacity caused.new ≡ vec_capacity caused.old }
@@ -39,7 +40,8 @@ fn time_out(tables: &mut Tables, caused: &mut Vec<Line>, t: u8)
 fn time_out_all(tables: &mut Tables, caused: &mut Vec<Line>)
     requires empty { caused.old.items ≡ [] }
     requires room { length tables.old.system.tasks ≤ vec_capacity caused.old }
-    ensures progress { progress tables.new caused.new.items ≡ all_timed_out (unchanged tables.old.state) (places_from 0 (length tables.old.state.tasks)) }
+    ensures progress { progress tables.new caused.new.items
+        ≡ all_timed_out (unchanged tables.old.state) (places_from 0 (length tables.old.state.tasks)) }
     ensures shape { SameShape tables.old tables.new }
     ensures few { vec_len caused.new ≤ length tables.old.system.tasks }
     ensures capacity { vec_capacity caused.new ≡ vec_capacity caused.old }
@@ -55,7 +57,8 @@ fn time_out_all(tables: &mut Tables, caused: &mut Vec<Line>)
 fn pend(tables: &mut Tables, caused: &mut Vec<Line>, c: u8)
     requires there { c < length tables.old.system.cyclics }
     requires room { vec_len caused.old < vec_capacity caused.old }
-    ensures progress { progress tables.new caused.new.items ≡ pended tables.old.system (progress tables.old caused.old.items) c }
+    ensures progress { progress tables.new caused.new.items
+        ≡ pended tables.old.system (progress tables.old caused.old.items) c }
     ensures shape { SameShape tables.old tables.new }
     ensures few { vec_len caused.new ≤ vec_len caused.old + 1 }
     ensures capacity { vec_capacity caused.new ≡ vec_capacity caused.old }
@@ -74,7 +77,8 @@ fn pend(tables: &mut Tables, caused: &mut Vec<Line>, c: u8)
 fn cycle(tables: &mut Tables, caused: &mut Vec<Line>, c: u8)
     requires there { c < length tables.old.system.cyclics }
     requires room { vec_len caused.old < vec_capacity caused.old }
-    ensures progress { progress tables.new caused.new.items ≡ cycled tables.old.system (progress tables.old caused.old.items) c }
+    ensures progress { progress tables.new caused.new.items
+        ≡ cycled tables.old.system (progress tables.old caused.old.items) c }
     ensures shape { SameShape tables.old tables.new }
     ensures few { vec_len caused.new ≤ vec_len caused.old + 1 }
     ensures capacity { vec_capacity caused.new ≡ vec_capacity caused.old }
@@ -86,22 +90,27 @@ fn cycle(tables: &mut Tables, caused: &mut Vec<Line>, c: u8)
     }
 }
 
-/// Of all cyclic handlers, of which there are so many, in order of number, those that are due now become pending.
+/// Of all cyclic handlers, of which there are so many, in order of number, those that are due now become pending. Where
+/// none is due it looks at none.
 #[tactic(auto, using(crate::proofs::PlaceLemmas::places_next))]
 fn cycle_all(tables: &mut Tables, caused: &mut Vec<Line>, count: u8)
     requires count { count ≡ length tables.old.system.cyclics }
     requires room { vec_len caused.old + count ≤ vec_capacity caused.old }
-    ensures progress { progress tables.new caused.new.items ≡ all_cycled tables.old.system (progress tables.old caused.old.items) (places_from 0 count) }
+    ensures progress { progress tables.new caused.new.items
+        ≡ all_cycled tables.old.system (progress tables.old caused.old.items) (places_from 0 count) }
     ensures shape { SameShape tables.old tables.new }
     ensures capacity { vec_capacity caused.new ≡ vec_capacity caused.old }
 {
+    if tables.due_cyclic().is_none() {
+        return;
+    }
     for c in 0..count {
         cycle(tables, caused, c);
     }
 }
 
-/// The clock advances by one, the tasks whose deadline that is are released, and the cyclic handlers that are due become
-/// pending.
+/// The clock advances by one, the tasks whose deadline that is are released, and the cyclic handlers that are due
+/// become pending.
 pub fn advance(tables: &mut Tables, caused: &mut Vec<Line>)
     requires time { tables.old.state.clock < 2 ^ 20 }
     requires empty { caused.old.items ≡ [] }

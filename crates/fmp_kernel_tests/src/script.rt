@@ -1,3 +1,4 @@
+//! Bodies that are lists of service calls.
 ghost use Rattle.std.specs.Prelude.{◌≡◌, ◌<◌, ◌↔◌, map, IsTrue};
 ghost use Rattle.std.specs.List.{AllByRecursion};
 ghost use Rattle.fmp_base.specs.Systems.{body_of, tables_of};
@@ -7,9 +8,9 @@ use fmp_base::{Call, Entry, Reply, Stretch, System, TaskConfig};
 use fmp_body::Body;
 use std::marker::Model;
 
-/// Bodies that are lists of service calls. Body n, from 0, makes the calls of list n, one after the other, whatever they
-/// are replied, and ends. Its context is the place of the next call. A stretch up to a call takes two units, one to the end
-/// takes one.
+/// Bodies that are lists of service calls. Body n, from 0, makes the calls of list n, one after the other, whatever
+/// they are replied, and ends. Its context is the place of the next call. A stretch up to a call takes two units, one
+/// to the end takes one.
 #[derive(Drop)]
 pub struct Script {
     bodies: Vec<Vec<Call>>,

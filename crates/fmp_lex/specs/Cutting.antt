@@ -118,7 +118,9 @@ IsPieceOf text i start.Word p =
 IsPieceOf text i start.Zero p = p ≡ number_piece text (i + 1) true 0
 IsPieceOf text i start.Hex p = (j : ℕ) × IsRun (in_class class.Hex) text (i + 2) j × (p ≡ hex_piece text (i + 2) j)
 IsPieceOf text i start.Decimal p =
-    (j : ℕ) × IsRun (in_class class.Digit) text (i + 1) j × (p ≡ number_piece text j true (value_from 10 0 (slice_range text i j)))
+    (j : ℕ)
+    × IsRun (in_class class.Digit) text (i + 1) j
+    × (p ≡ number_piece text j true (value_from 10 0 (slice_range text i j)))
 IsPieceOf text i start.Other p = p ≡ symbol_piece i (slice_index text i) (slice_index text (i + 1))
 
 -- the piece that begins at i

@@ -76,7 +76,8 @@ abbrev pub map_outcome : {A B : Type 0} → (A → B) → Outcome A → Outcome 
 map_outcome f (found a j) = found (f a) j
 map_outcome f (stopped j why) = stopped j why
 
--- how many tokens begin some list of the grammar: a token that opens a level too many does, one that is out of place does not
+-- how many tokens begin some list of the grammar: a token that opens a level too many does, one that is out of place
+-- does not
 abbrev pub covered : ℕ → GrammarFault → ℕ
 covered j Syntax = j
 covered j Depth = j + 1
@@ -95,12 +96,13 @@ abbrev pub Same : ℕ → List TokenKind → List TokenKind → Type 0
 Same n ts us = (k : ℕ) → k < n → slice_get ts k ≡ slice_get us k
 
 -- some list with the first n tokens of this one reads to its end
-pub record Completes {A : Type 0} (X : List TokenKind → ℕ → A → ℕ → Type 0) (ts : List TokenKind) (n limit : ℕ) : Type 0 where
-  pub other : List TokenKind
-  pub same : Same n ts other
-  pub long : n ≤ length other
-  pub tree : A
-  pub reads : X other limit tree (length other)
+pub record Completes {A : Type 0} (X : List TokenKind → ℕ → A → ℕ → Type 0) (ts : List TokenKind) (n limit : ℕ) : Type 0
+  where
+    pub other : List TokenKind
+    pub same : Same n ts other
+    pub long : n ≤ length other
+    pub tree : A
+    pub reads : X other limit tree (length other)
 
 -- what was found is read there at any limit; up to a fault the tokens begin something
 abbrev pub Reads : {A : Type 0} → (List TokenKind → ℕ → A → ℕ → Type 0) → List TokenKind → Outcome A → Type 0
@@ -114,7 +116,8 @@ Matches (stopped j why) a' j' = ⊥
 
 -- The outcome of reading an X from i on. Every list that has the same tokens up to the place of the outcome, that one
 -- too, reads alike, where no token follows that the reader would go on with.
-pub record Right {A : Type 0} (X : List TokenKind → ℕ → A → ℕ → Type 0) (Ends : List TokenKind → ℕ → Type 0) (ts : List TokenKind) (i : ℕ) (o : Outcome A) : Type 0 where
+pub record Right {A : Type 0} (X : List TokenKind → ℕ → A → ℕ → Type 0) (Ends : List TokenKind → ℕ → Type 0)
+    (ts : List TokenKind) (i : ℕ) (o : Outcome A) : Type 0 where
   pub from : i ≤ place o
   pub within : place o ≤ length ts
   pub reads : Reads X ts o
@@ -152,6 +155,8 @@ Begins {A} X limit front = (rest : List TokenKind) × (a : A) × X (front ++ res
 -- token at j, or the text ends there. At a fault of depth they do, but this token opens a level too many.
 abbrev pub IsFirstFault : {A : Type 0} → Rel A → List TokenKind → ℕ → GrammarFault → Type 0
 IsFirstFault {A} X ts j Syntax =
-    (j ≤ length ts) × Begins X j (take j ts) × (j < length ts → Begins X 0 (take (j + 1) ts) → ⊥) × ((a : A) → IsWhole X ts a → ⊥)
+    (j ≤ length ts)
+    × Begins X j (take j ts) × (j < length ts → Begins X 0 (take (j + 1) ts) → ⊥) × ((a : A) → IsWhole X ts a → ⊥)
 IsFirstFault {A} X ts j Depth =
-    (j < length ts) × Begins X j (take (j + 1) ts) × (Begins X (j + 1) (take (j + 1) ts) → ⊥) × ((a : A) → IsWhole X ts a → ⊥)
+    (j < length ts)
+    × Begins X j (take (j + 1) ts) × (Begins X (j + 1) (take (j + 1) ts) → ⊥) × ((a : A) → IsWhole X ts a → ⊥)

@@ -1,3 +1,4 @@
+//! A text is cut into tokens, spaces and comments.
 ghost use Rattle.std.specs.Prelude.{◌≡◌, List, ℕ, ◌+◌, ◌-◌, ◌^◌, ◌<◌, ◌≤◌, ◌↔◌, length, slice_index, slice_range, IfOk};
 ghost use Rattle.fmp_lex.specs.Scanning.{Saturated, IsRun, in_class};
 ghost use Rattle.fmp_lex.specs.declared.scanning.Class.TheVariants as class;

@@ -1,3 +1,4 @@
+//! Faults of texts: the file, the line and what is wrong there.
 ghost use Rattle.std.specs.Prelude.{◌≡◌, slice_get};
 ghost use Rattle.fmp_lex.specs.Faults.{token_fault, fault_of};
 ghost use Rattle.fmp_lex.specs.declared.fault.BuildFault.TheVariants.{Memory};

@@ -1,3 +1,4 @@
+//! Laws of texts, which the crates above take by name.
 ghost use Rattle.std.specs.Prelude.{ℕ, List};
 ghost use Rattle.fmp_lex.specs.Laws.{ReadsWords, HasOneCut};
 

@@ -1,3 +1,4 @@
+//! What the grammars read of tokens, and how reading ends.
 ghost use Rattle.std.specs.Prelude.{◌≡◌, ◌<◌, ◌≤◌, IsTrue, Some, false, length, slice_get, IfSome};
 ghost use Rattle.fmp_lex.specs.Reading.{kinds_of, Steps, RightToken};
 ghost use Rattle.fmp_lex.specs.declared.reading.ReadError.TheVariants.{Memory};

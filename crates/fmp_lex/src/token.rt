@@ -1,3 +1,4 @@
+//! Tokens.
 ghost use Rattle.std.specs.Prelude.{◌≡◌};
 ghost use Rattle.fmp_lex.specs.declared.token.TextFault.TheVariants.{Memory};
 

@@ -1,3 +1,4 @@
+//! The words of both texts: constants, static APIs, service calls and keywords.
 ghost use Rattle.std.specs.Prelude.{◌≡◌};
 ghost use Rattle.fmp_lex.specs.Words.{constant_name, constant_value, api_name, keyword_name, constant_named, api_named, service_named, keyword_named};
 

@@ -48,8 +48,12 @@ pub record SightFits (capacity : ℕ) (h : Whole) (id : ℕ) (s : Sight) : Type 
   pub counted : length (own s.number h.journal) ≡ s.mine + times s.number h.marks
 
 abbrev pub Fits : (capacity : ℕ) → Whole → ℕ → View → Type 0
-Fits capacity h id v = (v.has_pen ≡ true → PenFits capacity h id v.pen) × (v.has_sight ≡ true → SightFits capacity h id v.sight)
+Fits capacity h id v =
+    (v.has_pen ≡ true → PenFits capacity h id v.pen) × (v.has_sight ≡ true → SightFits capacity h id v.sight)
 
 -- the words are those of one journal, and every view fits it
 abbrev pub IsKept : (capacity seats : ℕ) → State (Unit {0}) View → Type 0
-IsKept capacity seats s = (h : Whole) × IsRow capacity seats h.journal s.words × ((id : ℕ) (v : View) → get_elem? s.views id ≡ some v → Fits capacity h id v)
+IsKept capacity seats s =
+    (h : Whole)
+    × IsRow capacity seats h.journal s.words
+    × ((id : ℕ) (v : View) → get_elem? s.views id ≡ some v → Fits capacity h id v)

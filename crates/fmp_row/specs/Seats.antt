@@ -80,7 +80,15 @@ pub record IsTable (table : TableId) (limits : Limits) : Type 0 where
   pub fits : limits.capacity < 2 ^ 32
 
 abbrev pub seat_state : TableId → Sight → ℕ → SeatState
-seat_state table s place = record { row = record { table = table; capacity = s.capacity; seats = s.seats }; number = s.number; seen = s.seen; mine = s.mine; place = place; look = s.look }
+seat_state table s place =
+    record {
+      row = record { table = table; capacity = s.capacity; seats = s.seats };
+      number = s.number;
+      seen = s.seen;
+      mine = s.mine;
+      place = place;
+      look = s.look;
+    }
 
 pub record IsSeat (table : TableId) (v : View) (number place : ℕ) : Type 0 where
   pub has_sight : v.has_sight ≡ true

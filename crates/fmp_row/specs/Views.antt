@@ -34,7 +34,8 @@ new_pen capacity seats made = record { capacity = capacity; seats = seats; made 
 
 -- the sight of seat n, which has seen nothing
 abbrev pub new_sight : (capacity seats n : ℕ) → Sight
-new_sight capacity seats n = record { capacity = capacity; seats = seats; number = n; seen = []; mine = 0; look = no_look }
+new_sight capacity seats n =
+    record { capacity = capacity; seats = seats; number = n; seen = []; mine = 0; look = no_look }
 
 abbrev pub no_pen : Pen
 no_pen = new_pen 0 0 0
@@ -104,13 +105,17 @@ Wrote s v n w = IfSome (entry_of n) (λ x. w ≡ (written v.0 x, v.1))
 abbrev pub Read : Step (Unit {0}) → Me (Unit {0}) View → ℕ → Me (Unit {0}) View → Type 0
 Read s v n w = (w ≡ v) × (entry_of n ≡ slice_get v.0.pen.journal s.word)
 
--- the seat has seen no less than before; an entry that it found stands in that at its place, and an empty word lies behind it
+-- the seat has seen no less than before; an entry that it found stands in that at its place, and an empty word lies
+-- behind it
 abbrev pub Looked : Step (Unit {0}) → Me (Unit {0}) View → ℕ → Me (Unit {0}) View → Type 0
 Looked s v n w =
-    (seen : List JournalEntry) × (w ≡ (looked v.0 seen s.word n, v.1)) × IsPrefix v.0.sight.seen seen × (length seen ≤ v.0.sight.capacity)
-    × MatchOption (entry_of n) ((n ≡ 0) × (seen ≡ v.0.sight.seen) × (length seen ≤ s.word)) (λ x. slice_get seen s.word ≡ Some x)
+    (seen : List JournalEntry)
+    × (w ≡ (looked v.0 seen s.word n, v.1)) × IsPrefix v.0.sight.seen seen × (length seen ≤ v.0.sight.capacity)
+    × MatchOption (entry_of n) ((n ≡ 0) × (seen ≡ v.0.sight.seen) × (length seen ≤ s.word))
+    (λ x. slice_get seen s.word ≡ Some x)
 
--- the seat sees the whole journal, which begins with all that it had seen; with its marks it has counted all its entries
+-- the seat sees the whole journal, which begins with all that it had seen; with its marks it has counted all its
+-- entries
 abbrev pub CaughtUp : Step (Unit {0}) → Me (Unit {0}) View → ℕ → Me (Unit {0}) View → Type 0
 CaughtUp s v n w =
     (w ≡ (shown v.0, v.1)) × IsPrefix v.0.sight.seen v.0.pen.journal × (length v.0.pen.journal ≤ v.0.sight.capacity)

@@ -37,7 +37,9 @@ event_of kind number =
 
 -- the entry of a word, if it is the word of one
 abbrev pub entry_of : ℕ → Option JournalEntry
-entry_of word = if nat_lt (word / 65536) 256 then option_map (entry (word / 65536)) (event_of (word / 256 % 256) (word % 256)) else None
+entry_of word =
+    if nat_lt (word / 65536) 256 then option_map (entry (word / 65536)) (event_of (word / 256 % 256) (word % 256)) else
+    None
 
 -- the event of a word, if it is the word of an entry
 abbrev pub event_in : ℕ → Option Event

@@ -14,7 +14,8 @@ pub struct JournalEntry {
 impl JournalEntry {
     ghost use Rattle.fmp_row.specs.Words.{word_of, entry_of, IsEntry};
 
-    /// Its word: `seat * 65536 + kind * 256 + number`, of kind 1 for `Run`, 2 for `Tick`, whose number is 0, and 3 for `Int`.
+    /// Its word: `seat * 65536 + kind * 256 + number`, of kind 1 for `Run`, 2 for `Tick`, whose number is 0, and 3 for
+    /// `Int`.
     pub fn word(self) -> u64
         ensures word { result ≡ word_of self }
         ensures bytes { IsEntry self }

@@ -1,3 +1,4 @@
+//! A row of words that many read and one writes.
 ghost use Rattle.std.specs.Prelude.{◌≡◌, ◌<◌, ◌≤◌, [], IfOk, replicate, vec_capacity};
 ghost use Rattle.fmp_row.specs.Views.{scribe_view, new_pen};
 ghost use Rattle.fmp_row.specs.Seats.{AreNew};
@@ -10,8 +11,8 @@ use std::alloc::{AllocError, Global};
 use std::marker::Model;
 use std::sync::Arc;
 
-/// A row of words, which the scribe writes one after another, and whoever has a seat reads. It is seen as its name: which
-/// table it is, its capacity in words, and its number of seats.
+/// A row of words, which the scribe writes one after another, and whoever has a seat reads. It is seen as its name:
+/// which table it is, its capacity in words, and its number of seats.
 #[derive(Drop)]
 pub struct Row {
     table: Arc<RowTable, Global>,
@@ -27,7 +28,8 @@ impl Model for Row {
 
     ghost view = { λ r. row_id (arc_value r.table).shared.table_id (arc_value r.table).shared.key };
 
-    ghost invariant = { λ r. IsTable (arc_value r.table).shared.table_id (arc_value r.table).shared.key × (r.capacity ≡ (arc_value r.table).shared.key.capacity) };
+    ghost invariant = { λ r. IsTable (arc_value r.table).shared.table_id (arc_value r.table).shared.key
+        × (r.capacity ≡ (arc_value r.table).shared.key.capacity) };
 }
 
 impl Row {
@@ -53,8 +55,10 @@ impl Row {
     }
 
     pub(crate) fn words(&self) -> &Words
-        ensures table { (result.now.table_id ≡ self.now.table) × (self.now.table.words ≡ self.now.capacity) × (0 < self.now.capacity) }
-        ensures limits { (result.now.key.capacity ≡ self.now.capacity) × (result.now.key.seats ≡ self.now.seats) × (self.now.capacity < 2 ^ 32) }
+        ensures table { (result.now.table_id ≡ self.now.table)
+            × (self.now.table.words ≡ self.now.capacity) × (0 < self.now.capacity) }
+        ensures limits { (result.now.key.capacity ≡ self.now.capacity)
+            × (result.now.key.seats ≡ self.now.seats) × (self.now.capacity < 2 ^ 32) }
     {
         &self.table.shared
     }
@@ -80,8 +84,10 @@ fn dealt_seats(words: &Words, scribe: &mut Token, mut seats: Vec<Seat>, count: u
     requires table { (scribe.old.table_id ≡ words.now.table_id) × (0 < words.now.table_id.words) }
     requires scribe { scribe.old.me ≡ (scribe_view (new_pen words.now.table_id.words count 0), []) }
     requires seats { (seats.items ≡ []) × (count ≤ vec_capacity seats) }
-    ensures scribe { (scribe.new.table_id ≡ words.now.table_id) × (scribe.new.me ≡ (scribe_view (new_pen words.now.table_id.words count count), [])) }
-    ensures seats { AreNew (record { table = words.now.table_id; capacity = words.now.table_id.words; seats = count }) result.items }
+    ensures scribe { (scribe.new.table_id ≡ words.now.table_id)
+        × (scribe.new.me ≡ (scribe_view (new_pen words.now.table_id.words count count), [])) }
+    ensures seats { AreNew (record { table = words.now.table_id; capacity = words.now.table_id.words; seats = count })
+        result.items }
 {
     for number in 0..count {
         let token = deal(words, scribe);

@@ -2,8 +2,8 @@
 use crate::knowledge::{Limits, View};
 use atomic_table::{Join, Play, Split, TableRule};
 
-/// The written words are those of the journal and stand at the front, the scribe knows all of it, and each seat has seen
-/// a beginning of it.
+/// The written words are those of the journal and stand at the front, the scribe knows all of it, and each seat has
+/// seen a beginning of it.
 pub struct RowRule;
 
 impl TableRule<(), View, Limits> for RowRule {

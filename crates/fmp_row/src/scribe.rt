@@ -1,3 +1,4 @@
+//! The one who writes a row.
 ghost use Rattle.std.specs.Prelude.{◌≡◌, ◌<◌, ◌≤◌, ◌↔◌, [], length, slice_get, IsTrue, MatchBool};
 ghost use mathlib.Core.List.{IsPrefix};
 ghost use Rattle.fmp_row.specs.Views.{own, new_pen, scribe_view};
@@ -62,7 +63,8 @@ impl Scribe {
 
     /// Whether every word is written.
     pub fn is_full(&self) -> bool
-        ensures { MatchBool result (length self.now.journal ≡ self.now.row.capacity) (length self.now.journal < self.now.row.capacity) }
+        ensures { MatchBool result (length self.now.journal ≡ self.now.row.capacity)
+            (length self.now.journal < self.now.row.capacity) }
     {
         self.written >= self.row.capacity()
     }

@@ -1,3 +1,4 @@
+//! A row in use.
 use crate::{EmptyRow, JournalEntry, words_read_back};
 use fmp_base::Event;
 use std::test::Fail;

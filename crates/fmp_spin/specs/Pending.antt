@@ -37,7 +37,12 @@ handler_processors sys =
 -- no handler of a system is pending
 abbrev pub none_pending : SystemTables → PendingMarks
 none_pending sys =
-    record { processors = handler_processors sys; interrupts = replicate 32 false; cyclics = replicate (length sys.cyclics) false }
+    record {
+      processors = handler_processors sys;
+      interrupts = replicate 32 false;
+      cyclics = replicate
+          (length sys.cyclics) false;
+    }
 
 abbrev pub is_on : Option ℕ → ℕ → Bool
 is_on None p = false
@@ -69,7 +74,9 @@ without_mark marks (handler.Cyclic c) = record marks { cyclics = slice_set marks
 abbrev pub marks_view : Inside → PendingMarks
 marks_view a =
     record {
-      processors = record { count = a.processors; interrupts = a.interrupt_processors.items; cyclics = a.cyclic_processors.items };
+      processors =
+          record
+          { count = a.processors; interrupts = a.interrupt_processors.items; cyclics = a.cyclic_processors.items };
       interrupts = a.interrupts.items;
       cyclics = a.cyclics.items;
     }
@@ -93,9 +100,11 @@ pub record IsExact (a : Inside) : Type 0 where
   pub few : length a.cyclics.items ≤ 255
   pub there : (n q : ℕ) → processor_at_slot (marks_view a).processors n ≡ Some q → q < a.processors
   pub words : length a.words.items ≡ a.processors * 5
-  pub rows : AreRows a.processors a.words.items (processor_at_slot (marks_view a).processors) (mark_at_slot a.interrupts.items a.cyclics.items)
+  pub rows : AreRows a.processors a.words.items (processor_at_slot (marks_view a).processors)
+      (mark_at_slot a.interrupts.items a.cyclics.items)
 
 -- the bit of a slot is set or cleared in the row of the processor, if any; all others stay
 abbrev pub IsSetAt : List ℕ → List ℕ → Option ℕ → ℕ → Bool → Type 0
 IsSetAt old new on slot pending =
-    (p n : ℕ) → n < 320 → bit_in new (p * 320 + n) ≡ (if nat_eq n slot && is_on on p then as_bit pending else bit_in old (p * 320 + n))
+    (p n : ℕ) → n < 320
+    → bit_in new (p * 320 + n) ≡ (if nat_eq n slot && is_on on p then as_bit pending else bit_in old (p * 320 + n))

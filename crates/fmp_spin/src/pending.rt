@@ -18,8 +18,8 @@ const ROW: usize = 5;
 const CYCLICS: usize = 64;
 
 /// For each handler whether it is pending (uITRON 4.0, sections 4.7.2 and 4.9). Interrupts go by their places, their
-/// numbers less 1, and cyclic handlers by theirs. Each processor has a row of bits, in which its first pending handler is
-/// found at once. It is seen as the marks, with the processor of each handler, which never changes.
+/// numbers less 1, and cyclic handlers by theirs. Each processor has a row of bits, in which its first pending handler
+/// is found at once. It is seen as the marks, with the processor of each handler, which never changes.
 #[derive(Drop)]
 pub struct PendingHandlers {
     processors: u8,
@@ -69,7 +69,8 @@ fn interrupt_processors(
     alloc: Global,
     configs: &[InterruptConfig],
 ) -> Result<Vec<Option<u8>>, AllocError>
-    ensures { IfOk result (λ v. v.items ≡ map (λ i. processor_of (defined_for (i + 1) configs.now)) (places_from 0 32)) }
+    ensures { IfOk result
+        (λ v. v.items ≡ map (λ i. processor_of (defined_for (i + 1) configs.now)) (places_from 0 32)) }
 {
     let mut processors = Vec::with_capacity(alloc, 32)?;
     for i in 0..32 {

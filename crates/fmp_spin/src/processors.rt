@@ -1,3 +1,4 @@
+//! The processors: who runs, CPU locks, disabled dispatching and spin locks.
 ghost use Rattle.std.specs.Prelude.{◌≡◌, ◌<◌, length, replicate, slice_set, IfOk};
 ghost use Rattle.fmp_base.specs.ProcessorCalls.{loc_cpu, unl_cpu, dispatch_set, is_held as is_held_in, is_cpu_locked as is_locked, is_spin as is_lock, spin_lock_taken};
 ghost use Rattle.fmp_base.specs.Outcomes.{code};
@@ -114,7 +115,8 @@ impl Processors {
 
     /// `loc_cpu` on processor p: a free CPU is locked, a locked one stays as it is.
     pub fn lock_cpu(&mut self, p: u8) -> Answer
-        ensures outcome { (s : KernelState) → loc_cpu (with_processors s self.old) p ≡ answered_in (with_processors s self.new) result }
+        ensures outcome { (s : KernelState)
+            → loc_cpu (with_processors s self.old) p ≡ answered_in (with_processors s self.new) result }
         ensures count { length self.new ≡ length self.old }
     {
         let x = self.processor(p);
@@ -132,7 +134,8 @@ impl Processors {
 
     /// `unl_cpu` on processor p: E_CTX while it holds a spin lock, and then nothing changes; else its CPU is free.
     pub fn unlock_cpu(&mut self, p: u8) -> Answer
-        ensures outcome { (s : KernelState) → unl_cpu (with_processors s self.old) p ≡ answered_in (with_processors s self.new) result }
+        ensures outcome { (s : KernelState)
+            → unl_cpu (with_processors s self.old) p ≡ answered_in (with_processors s self.new) result }
         ensures count { length self.new ≡ length self.old }
     {
         let x = self.processor(p);
@@ -154,7 +157,8 @@ impl Processors {
 
     /// `dis_dsp` and `ena_dsp` on processor p.
     pub fn set_dispatch(&mut self, p: u8, disabled: bool) -> Answer
-        ensures outcome { (s : KernelState) → dispatch_set (with_processors s self.old) p disabled ≡ answered_in (with_processors s self.new) result }
+        ensures outcome { (s : KernelState)
+            → dispatch_set (with_processors s self.old) p disabled ≡ answered_in (with_processors s self.new) result }
         ensures count { length self.new ≡ length self.old }
     {
         let x = self.processor(p);
@@ -192,7 +196,9 @@ impl Processors {
     /// `loc_spn` of spin lock l on processor p: a free lock is taken, and the CPU is locked by it; for a held one the
     /// caller goes on asking, and nothing changes.
     pub fn acquire(&mut self, p: u8, l: u8) -> Answer
-        ensures outcome { (s : KernelState) → spin_lock_taken (is_held_in l self.old) (with_processors s self.old) p l ≡ answered_in (with_processors s self.new) result }
+        ensures outcome { (s : KernelState)
+            → spin_lock_taken (is_held_in l self.old) (with_processors s self.old) p l
+            ≡ answered_in (with_processors s self.new) result }
         ensures count { length self.new ≡ length self.old }
     {
         if self.is_held(l) {
@@ -204,7 +210,9 @@ impl Processors {
 
     /// `try_spn` of spin lock l on processor p: E_OBJ for a held lock, and then nothing changes; a free one is taken.
     pub fn try_acquire(&mut self, p: u8, l: u8) -> Answer
-        ensures outcome { (s : KernelState) → tried_by (is_held_in l self.old) (with_processors s self.old) p l ≡ answered_in (with_processors s self.new) result }
+        ensures outcome { (s : KernelState)
+            → tried_by (is_held_in l self.old) (with_processors s self.old) p l
+            ≡ answered_in (with_processors s self.new) result }
         ensures count { length self.new ≡ length self.old }
     {
         if self.is_held(l) {
@@ -214,10 +222,12 @@ impl Processors {
         replied(Er::Ok)
     }
 
-    /// `unl_spn` of spin lock l on processor p: E_ILUSE where it does not hold this lock, and then nothing changes; else
-    /// its CPU is free.
+    /// `unl_spn` of spin lock l on processor p: E_ILUSE where it does not hold this lock, and then nothing changes;
+    /// else its CPU is free.
     pub fn release(&mut self, p: u8, l: u8) -> Answer
-        ensures outcome { (s : KernelState) → released_by (is_lock l (processor_in self.old p).lock) (with_processors s self.old) p ≡ answered_in (with_processors s self.new) result }
+        ensures outcome { (s : KernelState)
+            → released_by (is_lock l (processor_in self.old p).lock) (with_processors s self.old) p
+            ≡ answered_in (with_processors s self.new) result }
         ensures count { length self.new ≡ length self.old }
     {
         let x = self.processor(p);

@@ -81,16 +81,20 @@ module _ (line : ℕ → ℕ) (d : ℕ) where
   -- a mark; a value and the mark behind it; `&`, a variable and the mark behind it
   abbrev pub OnePart : Part → Rel (Option ArgumentTree)
   OnePart (part.Mark m) ts limit i None j = IsToken ts (mark_kind m) i j
-  OnePart (part.Value m) ts limit i (Some (value e)) j = (a : ℕ) × IsExpression line ts limit d loosest i e a × IsToken ts (mark_kind m) a j
+  OnePart (part.Value m) ts limit i (Some (value e)) j =
+      (a : ℕ) × IsExpression line ts limit d loosest i e a × IsToken ts (mark_kind m) a j
   OnePart (part.Out m) ts limit i (Some (out w)) j =
-      (a : ℕ) × IsToken ts (kind.Symbol symbol.And) i a × ((b : ℕ) × IsWord line ts a w b × IsToken ts (mark_kind m) b j)
+      (a : ℕ)
+      × IsToken ts (kind.Symbol symbol.And) i a × ((b : ℕ) × IsWord line ts a w b × IsToken ts (mark_kind m) b j)
   OnePart _ ts limit i _ j = ⊥
 
   -- parts one after another, and their arguments
   abbrev pub Parts : List Part → Rel (List ArgumentTree)
   Parts [] ts limit i args j = (args ≡ []) × (j ≡ i)
   Parts (p ∷ ps) ts limit i args j =
-      (a : Option ArgumentTree) × (more : List ArgumentTree) × (args ≡ put a more) × (k : ℕ) × OnePart p ts limit i a k × Parts ps ts limit k more j
+      (a : Option ArgumentTree)
+      × (more : List ArgumentTree)
+      × (args ≡ put a more) × (k : ℕ) × OnePart p ts limit i a k × Parts ps ts limit k more j
 
   -- call = callname ( args )
   abbrev pub OneCall : Rel Called

@@ -79,15 +79,18 @@ module _ (line : ℕ → ℕ) where
       pub data IsOperand : ℕ → ℕ → ExpressionTree → ℕ → Type 0 where
         a_number : {d i j : ℕ} {n : ℤ} → IsItem number_of ts i n j → IsOperand d i (number n) j
         a_name : {d i j : ℕ} {w : Word} → IsWord ts i w j → IsOperand d i (named w) j
-        a_group : {d i a b j : ℕ} {e : ExpressionTree} → Allows limit i d → IsToken ts (kind.Symbol symbol.LeftParen) i a →
+        a_group : {d i a b j : ℕ} {e : ExpressionTree} → Allows limit i d
+            → IsToken ts (kind.Symbol symbol.LeftParen) i a →
             IsExpression (d + 1) loosest a e b → IsToken ts (kind.Symbol symbol.RightParen) b j → IsOperand d i e j
-        a_unary : {d i a j : ℕ} {op : UnaryOperator} {e : ExpressionTree} → Allows limit i d → IsItem unary_of ts i op a →
+        a_unary : {d i a j : ℕ} {op : UnaryOperator} {e : ExpressionTree} → Allows limit i d → IsItem unary_of ts i op a
+            →
             IsOperand (d + 1) a e j → IsOperand d i (unary op e) j
 
       -- operands with operators between them whose levels are below l; those of one level are grouped to the left
       pub data IsExpression : ℕ → ℕ → ℕ → ExpressionTree → ℕ → Type 0 where
         an_operand : {d l i j : ℕ} {e : ExpressionTree} → l ≡ 0 → IsOperand d i e j → IsExpression d l i e j
-        a_chain : {d l m i a j : ℕ} {first e : ExpressionTree} {links : List LinkTree} → l ≡ m + 1 → IsExpression d m i first a →
+        a_chain : {d l m i a j : ℕ} {first e : ExpressionTree} {links : List LinkTree} → l ≡ m + 1
+            → IsExpression d m i first a →
             AreLinks d m a links j → e ≡ chain_tree first links → IsExpression d l i e j
 
       -- operators of the level m, each with an operand behind it

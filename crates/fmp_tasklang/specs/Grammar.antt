@@ -24,7 +24,9 @@ module _ (line : ℕ → ℕ) where
   -- var name ;
   abbrev pub OneVariable : Rel Word
   OneVariable ts limit i w j =
-      (a : ℕ) × IsToken ts (kind.Keyword keyword.Var) i a × ((b : ℕ) × IsWord line ts a w b × IsToken ts (kind.Symbol symbol.Semicolon) b j)
+      (a : ℕ)
+      × IsToken ts (kind.Keyword keyword.Var) i a
+      × ((b : ℕ) × IsWord line ts a w b × IsToken ts (kind.Symbol symbol.Semicolon) b j)
 
   -- body = (task | handler) name { {var name ;} {stmt} }; its braces are no nesting
   abbrev pub OneBody : Rel BodyTree

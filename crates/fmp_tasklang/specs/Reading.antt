@@ -107,13 +107,18 @@ module _ (line : ℕ → ℕ) where
     -- name = source ;
     abbrev pub Assignment : Rel StatementTree
     Assignment ts limit i s j =
-        (w : Word) × (r : SourceTree) × (s ≡ assigned w r) × (a : ℕ) × IsWord line ts i w a × (b : ℕ) × IsToken ts (kind.Symbol symbol.Assign) a b ×
+        (w : Word)
+        × (r : SourceTree)
+        × (s ≡ assigned w r)
+        × (a : ℕ) × IsWord line ts i w a × (b : ℕ) × IsToken ts (kind.Symbol symbol.Assign) a b ×
         (c : ℕ) × OneSource ts limit b r c × IsToken ts (kind.Symbol symbol.Semicolon) c j
 
     -- call ;
     abbrev pub PlainCall : Rel StatementTree
     PlainCall ts limit i s j =
-        (c : Called) × (s ≡ service_call (call_tree None c)) × (a : ℕ) × OneCall line d ts limit i c a × IsToken ts (kind.Symbol symbol.Semicolon) a j
+        (c : Called)
+        × (s ≡ service_call (call_tree None c))
+        × (a : ℕ) × OneCall line d ts limit i c a × IsToken ts (kind.Symbol symbol.Semicolon) a j
 
     module _ (loop : Bool) where
       abbrev pub OneStatement : Rel StatementTree
@@ -237,7 +242,9 @@ source_view (given.Call c) = by_call (called_view c)
 
 -- the tokens are bodies that spell this program and no other one, or else the first fault stands at this place
 abbrev pub IsVerdict : (ℕ → ℕ) → List TokenKind → Result Program ReadError → Type 0
-IsVerdict line ts (Ok p) = IsWhole (Bodies line) ts (program_view p) × ((other : List BodyTree) → IsWhole (Bodies line) ts other → other ≡ program_view p)
+IsVerdict line ts (Ok p) =
+    IsWhole (Bodies line) ts (program_view p)
+    × ((other : List BodyTree) → IsWhole (Bodies line) ts other → other ≡ program_view p)
 IsVerdict line ts (Err errors.Memory) = Unit {0}
 IsVerdict line ts (Err (errors.Fault at why)) = IsFirstFault (Bodies line) ts at why
 

@@ -60,4 +60,5 @@ exinf_name = name_from (codes "exinf")
 
 -- `exinf`, and then the declared variables in order
 abbrev pub scope_of : SystemTables → BodyTree → Scope
-scope_of tables body = record { objects = object_names tables; variables = exinf_name ∷ map (λ w. w.name) body.variables }
+scope_of tables body =
+    record { objects = object_names tables; variables = exinf_name ∷ map (λ w. w.name) body.variables }

@@ -35,32 +35,40 @@ module _ (line : ℕ → ℕ) (ts : List TokenKind) (limit : ℕ) where
     -- name = expr ; | [name =] call ; | return ; | in a loop break ; and continue ; | if | while ( expr ) block
     pub data IsStatement : ℕ → Bool → ℕ → StatementTree → ℕ → Type 0 where
       an_assignment : {d i b j : ℕ} {loop : Bool} {w : Word} {e : ExpressionTree} (a : ℕ) → IsResult i (Some w) a →
-          IsExpression line ts limit d loosest a e b → IsToken ts (kind.Symbol symbol.Semicolon) b j → IsStatement d loop i (assign w e) j
-      a_call : {d i j : ℕ} {loop : Bool} {s : StatementTree} (r : Option Word) (a : ℕ) (c : Called) (b : ℕ) → IsResult i r a →
-          OneCall line d ts limit a c b → IsToken ts (kind.Symbol symbol.Semicolon) b j → s ≡ service_call (call_tree r c) →
+          IsExpression line ts limit d loosest a e b → IsToken ts (kind.Symbol symbol.Semicolon) b j
+          → IsStatement d loop i (assign w e) j
+      a_call : {d i j : ℕ} {loop : Bool} {s : StatementTree} (r : Option Word) (a : ℕ) (c : Called) (b : ℕ)
+          → IsResult i r a →
+          OneCall line d ts limit a c b → IsToken ts (kind.Symbol symbol.Semicolon) b j
+          → s ≡ service_call (call_tree r c) →
           IsStatement d loop i s j
       a_jump : {d i a j : ℕ} {loop : Bool} {s : StatementTree} → IsItem (jump_of loop) ts i s a →
           IsToken ts (kind.Symbol symbol.Semicolon) a j → IsStatement d loop i s j
       an_if : {d i j : ℕ} {loop : Bool} {s : StatementTree} → IsIf d loop i s j → IsStatement d loop i s j
-      a_while : {d i a b j : ℕ} {loop : Bool} {e : ExpressionTree} {body : Block} → IsToken ts (kind.Keyword keyword.While) i a →
+      a_while : {d i a b j : ℕ} {loop : Bool} {e : ExpressionTree} {body : Block}
+          → IsToken ts (kind.Keyword keyword.While) i a →
           IsCondition d a e b → IsBlock d true b body j → IsStatement d loop i (while e body) j
 
     -- if ( expr ) block [else]
     pub data IsIf : ℕ → Bool → ℕ → StatementTree → ℕ → Type 0 where
-      if_chosen : {d i a b c j : ℕ} {loop : Bool} {e : ExpressionTree} {body : Block} {other : Option Block} {s : StatementTree} →
-          IsToken ts (kind.Keyword keyword.If) i a → IsCondition d a e b → IsBlock d loop b body c → IsElse d loop c other j →
+      if_chosen : {d i a b c j : ℕ} {loop : Bool} {e : ExpressionTree} {body : Block} {other : Option Block}
+          {s : StatementTree} →
+          IsToken ts (kind.Keyword keyword.If) i a → IsCondition d a e b → IsBlock d loop b body c
+          → IsElse d loop c other j →
           s ≡ choice e body other → IsIf d loop i s j
 
     -- nothing, or `else` with a block or another `if`
     pub data IsElse : ℕ → Bool → ℕ → Option Block → ℕ → Type 0 where
       no_else : {d i : ℕ} {loop : Bool} → IsElse d loop i None i
-      an_else : {d i a j : ℕ} {loop : Bool} {body : Block} → IsToken ts (kind.Keyword keyword.Else) i a → IsOther d loop a body j →
+      an_else : {d i a j : ℕ} {loop : Bool} {body : Block} → IsToken ts (kind.Keyword keyword.Else) i a
+          → IsOther d loop a body j →
           IsElse d loop i (Some body) j
 
     -- block | if; the `if` opens a level that is open to its end
     pub data IsOther : ℕ → Bool → ℕ → Block → ℕ → Type 0 where
       a_block : {d i j : ℕ} {loop : Bool} {body : Block} → IsBlock d loop i body j → IsOther d loop i body j
-      another_if : {d i j : ℕ} {loop : Bool} {s : StatementTree} {body : Block} → Allows limit i d → IsIf (d + 1) loop i s j →
+      another_if : {d i j : ℕ} {loop : Bool} {s : StatementTree} {body : Block} → Allows limit i d
+          → IsIf (d + 1) loop i s j →
           body ≡ block_of (s ∷ []) → IsOther d loop i body j
 
     -- { {stmt} }
@@ -72,5 +80,6 @@ module _ (line : ℕ → ℕ) (ts : List TokenKind) (limit : ℕ) where
     -- {stmt}
     pub data AreStatements : ℕ → Bool → ℕ → List StatementTree → ℕ → Type 0 where
       no_statement : {d i : ℕ} {loop : Bool} → AreStatements d loop i [] i
-      a_statement : {d i a j : ℕ} {loop : Bool} {s : StatementTree} {ss : List StatementTree} → IsStatement d loop i s a →
+      a_statement : {d i a j : ℕ} {loop : Bool} {s : StatementTree} {ss : List StatementTree} → IsStatement d loop i s a
+          →
           AreStatements d loop a ss j → AreStatements d loop i (s ∷ ss) j

@@ -1,3 +1,4 @@
+//! Bodies and whole programs of the task language.
 ghost use Rattle.std.specs.Prelude.{◌≡◌, ◌≤◌, ◌<◌, Some, length, slice_get, option_and_then};
 ghost use Rattle.fmp_lex.specs.Reading.{kinds_of, Answers};
 ghost use Rattle.fmp_tasklang.specs.Expressions.{lines_of};

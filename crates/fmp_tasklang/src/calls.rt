@@ -1,3 +1,4 @@
+//! Service calls of the task language.
 ghost use Rattle.std.specs.Prelude.{◌≡◌, ◌≤◌, ◌<◌, ◌++◌, Some, [], length, map, slice_get, option_and_then, IfOk, IfErr};
 ghost use Rattle.fmp_lex.specs.Reading.{kinds_of, max_depth, Answers, Steps, RightToken};
 ghost use Rattle.fmp_tasklang.specs.Calls as calls;
@@ -89,7 +90,8 @@ fn arguments(
 ) -> Result<(ServiceCall, usize), ReadError>
     requires depth { depth ≤ max_depth }
     requires at { at ≤ length tokens.now }
-    ensures { Answers called_view result (RightArguments (lines_of tokens.now) (kinds_of tokens.now) depth service parts.now at) }
+    ensures { Answers called_view result
+        (RightArguments (lines_of tokens.now) (kinds_of tokens.now) depth service parts.now at) }
 {
     let mut call = ServiceCall {
         service,

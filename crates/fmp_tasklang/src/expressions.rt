@@ -1,3 +1,4 @@
+//! Expressions of the task language.
 ghost use Rattle.std.specs.Prelude.{◌≡◌, ◌≤◌, ◌<◌, ◌+◌, Some, length, slice_get, option_and_then};
 ghost use Rattle.fmp_lex.specs.Reading.{kinds_of, max_depth, Answers};
 ghost use Rattle.fmp_lex.specs.declared.token.Symbol.TheVariants as symbol;
@@ -97,7 +98,8 @@ pub fn expression(
     requires depth { depth ≤ max_depth }
     requires level { level ≤ loosest }
     requires at { at ≤ length tokens.now }
-    ensures { Answers expression_view result (RightExpression (lines_of tokens.now) (kinds_of tokens.now) depth level at) }
+    ensures { Answers expression_view result
+        (RightExpression (lines_of tokens.now) (kinds_of tokens.now) depth level at) }
 {
     if level == 0 {
         return operand(alloc, tokens, depth, at);

@@ -1,3 +1,4 @@
+//! The forms of the service calls: which parts each one has.
 ghost use Rattle.std.specs.Prelude.{◌≡◌};
 ghost use Rattle.fmp_tasklang.specs.Calls.{call_parts};
 

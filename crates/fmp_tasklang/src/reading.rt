@@ -1,3 +1,4 @@
+//! From the bytes of a task text to its program.
 ghost use Rattle.std.specs.Prelude.{IfOk};
 ghost use Rattle.fmp_tasklang.specs.CallForms.{CallsFit};
 ghost use Rattle.fmp_tasklang.specs.Reading.{IsRead};

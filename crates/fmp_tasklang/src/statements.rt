@@ -1,3 +1,4 @@
+//! Statements of the task language.
 ghost use Rattle.std.specs.Prelude.{◌≡◌, ◌≤◌, ◌<◌, ◌+◌, Some, true, length, slice_get, option_and_then};
 ghost use Rattle.fmp_lex.specs.Reading.{kinds_of, max_depth, Answers};
 ghost use Rattle.fmp_lex.specs.declared.words.Keyword.TheVariants as keyword;
@@ -120,7 +121,8 @@ fn jump(
     at: usize,
 ) -> Result<(Statement, usize), ReadError>
     requires at { at < length tokens.now }
-    requires first { option_and_then (jump_of looped) (slice_get (kinds_of tokens.now) at) ≡ Some (statement_view statement) }
+    requires first { option_and_then (jump_of looped) (slice_get (kinds_of tokens.now) at)
+        ≡ Some (statement_view statement) }
     ensures { Answers statement_view result (RightJump (kinds_of tokens.now) looped at) }
 {
     let next = expect_symbol(tokens, at + 1, Symbol::Semicolon)?;
@@ -137,7 +139,8 @@ fn statement(
 ) -> Result<(Statement, usize), ReadError>
     requires depth { depth ≤ max_depth }
     requires at { at ≤ length tokens.now }
-    ensures { Answers statement_view result (RightStatement (lines_of tokens.now) (kinds_of tokens.now) depth looped at) }
+    ensures { Answers statement_view result
+        (RightStatement (lines_of tokens.now) (kinds_of tokens.now) depth looped at) }
 {
     if let Some(service) = service_at(tokens, at) {
         return plain_call(alloc, tokens, depth, service, at);
@@ -165,7 +168,8 @@ fn while_statement(
     requires depth { depth ≤ max_depth }
     requires at { at < length tokens.now }
     requires first { slice_get (kinds_of tokens.now) at ≡ Some (TokenKind.Keyword keyword.While) }
-    ensures { Answers statement_view result (RightStatement (lines_of tokens.now) (kinds_of tokens.now) depth looped at) }
+    ensures { Answers statement_view result
+        (RightStatement (lines_of tokens.now) (kinds_of tokens.now) depth looped at) }
 {
     let (condition, next) = condition(alloc, tokens, depth, at + 1)?;
     let (body, next) = block(alloc, tokens, depth, true, next)?;
@@ -287,7 +291,8 @@ pub fn statements(
 ) -> Result<(Vec<Statement>, usize), ReadError>
     requires depth { depth ≤ max_depth }
     requires at { at ≤ length tokens.now }
-    ensures { Answers statements_view result (RightStatements (lines_of tokens.now) (kinds_of tokens.now) depth looped at) }
+    ensures { Answers statements_view result
+        (RightStatements (lines_of tokens.now) (kinds_of tokens.now) depth looped at) }
 {
     let mut found = Vec::new(alloc);
     let mut i = at;

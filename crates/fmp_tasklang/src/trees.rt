@@ -1,3 +1,4 @@
+//! The syntax tree of a task text.
 use fmp_base::{BinaryOperator, Name, Service, UnaryOperator};
 
 /// A name in a text.

@@ -1,3 +1,4 @@
+//! What tokens are worth in the task language: numbers, names, operators and their levels.
 ghost use Rattle.std.specs.Prelude.{◌≡◌, ◌≤◌, ◌<◌, ℕ, None, Some, length, slice_get, option_and_then, option_map, IfSome, MatchOption};
 ghost use Rattle.fmp_lex.specs.Reading.{kinds_of, Answers};
 ghost use Rattle.fmp_tasklang.specs.Calls as calls;
@@ -148,8 +149,11 @@ pub fn unary_at(tokens: &[Token], at: usize) -> Option<UnaryOperator>
 /// The operator at a place, if it is one of this level.
 pub fn operator_at(tokens: &[Token], level: usize, at: usize) -> Option<Operator>
     ensures { MatchOption result
-        ((op : Operator) → option_and_then expressions.operator_of (slice_get (kinds_of tokens.now) at) ≡ Some (level, op) → ⊥)
-        (λ op. (option_and_then expressions.operator_of (slice_get (kinds_of tokens.now) at) ≡ Some (level, op)) × (at < length tokens.now)) }
+        ((op : Operator)
+        → option_and_then expressions.operator_of (slice_get (kinds_of tokens.now) at) ≡ Some (level, op)
+        → ⊥)
+        (λ op. (option_and_then expressions.operator_of (slice_get (kinds_of tokens.now) at) ≡ Some (level, op))
+        × (at < length tokens.now)) }
 {
     match operator_of(kind_at(tokens, at)?) {
         Some((found, operator)) if usize::from(found) == level => Some(operator),
@@ -167,7 +171,8 @@ pub fn service_at(tokens: &[Token], at: usize) -> Option<Service>
 
 /// The jump at a place, in a loop or outside.
 pub fn jump_at(tokens: &[Token], looped: bool, at: usize) -> Option<Statement>
-    ensures value { option_map statement_view result ≡ option_and_then (statements.jump_of looped) (slice_get (kinds_of tokens.now) at) }
+    ensures value { option_map statement_view result
+        ≡ option_and_then (statements.jump_of looped) (slice_get (kinds_of tokens.now) at) }
     ensures within { IfSome result (λ _. at < length tokens.now) }
 {
     jump_of(kind_at(tokens, at)?, looped)

@@ -1,7 +1,6 @@
 -- What compiling a text beside no objects answers.
 use Rattle.std.specs.Prelude.{◌≡◌, ℕ, List, Result, Ok, Err}
-use Rattle.fmp_base.specs.Systems.{SystemTables}
-use Rattle.fmp_cfgparse.specs.Configuring.{nothing_made}
+use Rattle.fmp_base.specs.Systems.{SystemTables, without_objects}
 use Rattle.fmp_code.specs.declared.instructions.Code.{Code}
 use Rattle.fmp_codegen.specs.Compiling.{IsCompiled}
 use Rattle.fmp_lex.specs.declared.fault.BuildFault.{BuildFault}
@@ -11,7 +10,7 @@ use Rattle.fmp_tasklang.specs.Views.{program_view}
 
 -- the tables of one processor without objects
 abbrev pub no_objects : SystemTables
-no_objects = (nothing_made 1).tables
+no_objects = without_objects 1
 
 -- the text spells this program, of which this is the code or the first fault
 pub record IsProgramCompiled (text : List ℕ) (answer : Result Code BuildFault) : Type 0 where

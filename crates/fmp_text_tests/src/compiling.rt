@@ -1,3 +1,4 @@
+//! The code of task texts.
 use crate::compile_alone;
 use crate::texts::text_of;
 use fmp_base::Name;

@@ -1,3 +1,4 @@
+//! Configurations and what reading them answers.
 use crate::texts::text_of;
 use fmp_base::{Entry, QueueOrder};
 use fmp_cfgparse::read_cfg;

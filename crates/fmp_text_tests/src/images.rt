@@ -1,3 +1,4 @@
+//! Images, changed ones too, and what loading them answers.
 use fmp_base::Entry;
 use fmp_image::{LoadFault, load, one_spelling, store};
 use std::alloc::Global;

@@ -1,3 +1,4 @@
+//! Texts and their tokens.
 use crate::texts::text_of;
 use fmp_lex::{TextFault, TokenKind, tokens};
 use std::alloc::Global;

@@ -1,3 +1,4 @@
+//! What code computes.
 use crate::compile_alone;
 use fmp_base::{Call, Er, Fault, Reply, Stretch, UnaryOperator};
 use fmp_body::Body;

@@ -1,3 +1,4 @@
+//! Steps that are read and lines that are printed.
 use crate::texts::system_of;
 use fmp_base::{
     Call, Caller, Er, Event, Fault, Handler, Line, Reply, StateWord, System, TaskState,

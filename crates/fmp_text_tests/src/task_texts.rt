@@ -1,3 +1,4 @@
+//! Task texts and what reading them answers.
 use crate::texts::text_of;
 use fmp_tasklang::{Statement, read_tasks};
 use std::alloc::Global;

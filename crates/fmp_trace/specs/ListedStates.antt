@@ -14,4 +14,5 @@ listed_states_text sys k (x ∷ xs) = state_text sys k x ++ listed_states_text s
 -- the list of the states of all tasks gives the text of the states of a system
 abbrev pub ListedStatesAreStates : Type 0
 ListedStatesAreStates =
-    (sys : SystemTables) (s : KernelState) → listed_states_text sys 0 (map (task_state s) (places_from 0 (length sys.tasks))) ≡ states_text sys s
+    (sys : SystemTables) (s : KernelState)
+    → listed_states_text sys 0 (map (task_state s) (places_from 0 (length sys.tasks))) ≡ states_text sys s

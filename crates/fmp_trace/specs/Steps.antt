@@ -58,7 +58,8 @@ behind (c ∷ cs) (b ∷ bs) = if_same (nat_eq b c) (behind cs bs)
 
 -- the event of a line by what stands in it behind `run `, behind `int ` and behind `tick`
 abbrev pub meaning_by : (processors : ℕ) → (run int tick : Option (List ℕ)) → Result Event Flaw
-meaning_by processors (Some text) int tick = numbered_event (λ p. event.Run p) (ranged_number processors (number_of text))
+meaning_by processors (Some text) int tick =
+    numbered_event (λ p. event.Run p) (ranged_number processors (number_of text))
 meaning_by processors None (Some text) tick = numbered_event (λ i. event.Int i) (ranged_number 32 (number_of text))
 meaning_by processors None None (Some []) = Ok event.Tick
 meaning_by processors None None (Some (b ∷ bs)) = Err flaw.Form

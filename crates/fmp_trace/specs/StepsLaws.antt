@@ -14,4 +14,5 @@ IsStep processors (event.Int i) = (1 ≤ i) × (i ≤ 32)
 -- what is written of events, at most 2^20, is read as these events
 abbrev pub PrintedStepsReadBack : Type 0
 PrintedStepsReadBack =
-    (processors : ℕ) (events : List Event) → processors < 256 → AllByRecursion (IsStep processors) events → length events ≤ 1048576 → steps_of processors (steps_text events) ≡ Ok events
+    (processors : ℕ) (events : List Event) → processors < 256 → AllByRecursion (IsStep processors) events
+    → length events ≤ 1048576 → steps_of processors (steps_text events) ≡ Ok events

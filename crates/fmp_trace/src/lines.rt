@@ -79,7 +79,8 @@ fn append_called(
     out: &mut Vec<u8>,
 ) -> Result<(), AllocError>
     ensures ok { OnOk result (out.new.items ≡ out.old.items ++ (processor_text processor
-        ++ (caller_name (tables_of sys.now) caller ++ (codes " " ++ (call_text call ++ (codes " " ++ answer_text reply)))))) }
+        ++ (caller_name (tables_of sys.now) caller
+        ++ (codes " " ++ (call_text call ++ (codes " " ++ answer_text reply)))))) }
     ensures err { OnErr result (Begins out.old.items out.new.items) }
 {
     append_request(sys, processor, caller, call, out)?;

@@ -15,7 +15,8 @@ const MOST_INTERRUPTS: u8 = 32;
 
 /// What stands behind this front of a text, if it begins with it.
 fn text_behind<'a>(front: &[u8], text: &'a [u8]) -> Option<&'a [u8]>
-    ensures { MatchOption result (behind front.now text.now ≡ None) (λ rest. behind front.now text.now ≡ Some rest.now) }
+    ensures { MatchOption result (behind front.now text.now ≡ None)
+        (λ rest. behind front.now text.now ≡ Some rest.now) }
 {
     text.strip_prefix(front)
 }

@@ -11,7 +11,8 @@ use Rattle.fmp_worked_traces.specs.Builders.{active_task, in_second_class, syste
 -- a task of the first processor, two of the second, a spin lock, and a handler of interrupt 3 on the first processor
 abbrev pub lock_and_interrupt : SystemTables
 lock_and_interrupt =
-    record (system 2 (active_task "A" 0 10 ∷ in_second_class (active_task "B" 1 10) ∷ in_second_class (active_task "W" 2 5) ∷ [])) {
+    record (system 2
+    (active_task "A" 0 10 ∷ in_second_class (active_task "B" 1 10) ∷ in_second_class (active_task "W" 2 5) ∷ [])) {
       spin_locks = spin_lock "L" ∷ [];
       interrupts = record { number = 3; entry = entry.Body 3; processor = 0 } ∷ [];
     }
@@ -60,9 +61,11 @@ WokenBehindASpinLock =
 -- a task of the first processor, and two of the second
 abbrev pub one_and_two : SystemTables
 one_and_two =
-    system 2 (active_task "M" 0 10 ∷ in_second_class (active_task "A" 1 10) ∷ in_second_class (active_task "B" 2 10) ∷ [])
+    system 2
+    (active_task "M" 0 10 ∷ in_second_class (active_task "A" 1 10) ∷ in_second_class (active_task "B" 2 10) ∷ [])
 
--- m terminates A, changes the priorities of B and A, activates B and terminates it; b migrates to processor 1 and sleeps
+-- m terminates A, changes the priorities of B and A, activates B and terminates it; b migrates to processor 1 and
+-- sleeps
 abbrev pub reaching_over : List BodyTree
 reaching_over =
     task "m" []
@@ -79,8 +82,8 @@ reaching_over =
 abbrev pub reaching_events : List Event
 reaching_events = replicate 3 (Run 1) ++ Run 2 ∷ replicate 3 (Run 1) ++ Run 2 ∷ Run 1 ∷ []
 
--- ter_tsk is refused for a task of another processor; chg_pri dispatches on the other processor; a task that has migrated
--- is terminated where it is, and a queued activation starts it there
+-- ter_tsk is refused for a task of another processor; chg_pri dispatches on the other processor; a task that has
+-- migrated is terminated where it is, and a queued activation starts it there
 abbrev pub CallsAcrossProcessors : Type 0
 CallsAcrossProcessors =
     printed one_and_two reaching_over usual_bound reaching_events ≡

@@ -63,7 +63,8 @@ abbrev pub EndlessLoopIsNothing : Type 0
 EndlessLoopIsNothing =
     (printed_from 1 (one_on_each "A" "B") looping 1000 looping_events ≡
     lines_of ("1 p2 B put(1) E_OK" ∷ "2 p2 B put(2) E_OK" ∷ "3 p2 B end" ∷ [])) ×
-    (states_after (one_on_each "A" "B") looping 1000 looping_events ≡ lines_of ("A RUNNING p1 10" ∷ "B DORMANT p2 10" ∷ []))
+    (states_after (one_on_each "A" "B") looping 1000 looping_events
+    ≡ lines_of ("A RUNNING p1 10" ∷ "B DORMANT p2 10" ∷ []))
 
 -- t disables dispatching, prints and enables it; s suspends T
 abbrev pub suspending : List BodyTree

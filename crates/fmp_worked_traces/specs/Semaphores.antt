@@ -10,7 +10,8 @@ use Rattle.fmp_worked_traces.specs.Builders.{called, active_task, dormant_task, 
 -- a main task, three tasks of priorities 10, 5 and 5, and a semaphore with TA_TPRI, the count 0 and the limit 3
 abbrev pub main_and_three : SystemTables
 main_and_three =
-    record (system 1 (active_task "M" 1 16 ∷ dormant_task "A" 0 10 ∷ dormant_task "B" 0 5 ∷ dormant_task "C" 0 5 ∷ [])) {
+    record (system 1
+    (active_task "M" 1 16 ∷ dormant_task "A" 0 10 ∷ dormant_task "B" 0 5 ∷ dormant_task "C" 0 5 ∷ [])) {
       semaphores = record { name = called "S"; order = Priority; initial = 0; most = 3 } ∷ [];
     }
 

@@ -10,8 +10,8 @@ use Rattle.fmp_base.specs.TaskCalls.{is_dormant}
 pub record RunOnce (s : KernelState) : Type 0 where
   pub each : (t p q : ℕ) → (processor_at s p).run ≡ Some t → (processor_at s q).run ≡ Some t → p ≡ q
 
--- What the state is between events: the task that a processor runs is assigned to it and is not dormant, and a processor
--- on which no handler runs, and whose CPU is not locked, has no pending handler.
+-- What the state is between events: the task that a processor runs is assigned to it and is not dormant, and a
+-- processor on which no handler runs, and whose CPU is not locked, has no pending handler.
 pub record IsSettled (sys : SystemTables) (s : KernelState) : Type 0 where
   pub assigned : (p t : ℕ) → (processor_at s p).run ≡ Some t → (task_at s.tasks t).processor ≡ p
   pub started : (p t : ℕ) → (processor_at s p).run ≡ Some t → is_dormant (task_at s.tasks t).phase ≡ false

@@ -21,7 +21,8 @@ pub fn handler_call(tables: &mut Tables, lines: &mut Vec<Line>, p: u8, made: Cal
     requires range { IsInRange tables.old.system }
     requires empty { lines.old.items ≡ [] }
     requires room { 255 ≤ vec_capacity lines.old }
-    ensures outcome { (me : ℕ) (x : TaskBlock) → outcome result tables.new lines.new.items ≡ case_of tables.old.system tables.old.state p me x made }
+    ensures outcome { (me : ℕ) (x : TaskBlock)
+        → outcome result tables.new lines.new.items ≡ case_of tables.old.system tables.old.state p me x made }
     ensures shape { SameShape tables.old tables.new }
     ensures capacity { vec_capacity lines.new ≡ vec_capacity lines.old }
 {

@@ -27,7 +27,8 @@ pub fn management_call(
     requires processor { p < tables.old.system.processors }
     requires empty { lines.old.items ≡ [] }
     requires room { 1 ≤ vec_capacity lines.old }
-    ensures outcome { outcome result tables.new lines.new.items ≡ case_of tables.old.system tables.old.state p me (task_at tables.old.state.tasks me) made }
+    ensures outcome { outcome result tables.new lines.new.items
+        ≡ case_of tables.old.system tables.old.state p me (task_at tables.old.state.tasks me) made }
     ensures shape { SameShape tables.old tables.new }
     ensures capacity { vec_capacity lines.new ≡ vec_capacity lines.old }
 {

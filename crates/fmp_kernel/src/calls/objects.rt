@@ -18,7 +18,9 @@ pub fn object_call(tables: &mut Tables, lines: &mut Vec<Line>, me: u8, made: Cal
     requires empty { lines.old.items ≡ [] }
     requires room { 1 ≤ vec_capacity lines.old }
     requires room_for_all { length tables.old.system.tasks ≤ vec_capacity lines.old }
-    ensures outcome { (p : ℕ) → outcome result tables.new lines.new.items ≡ case_of tables.old.system tables.old.state p me (task_at tables.old.state.tasks me) made }
+    ensures outcome { (p : ℕ)
+        → outcome result tables.new lines.new.items
+        ≡ case_of tables.old.system tables.old.state p me (task_at tables.old.state.tasks me) made }
     ensures shape { SameShape tables.old tables.new }
     ensures capacity { vec_capacity lines.new ≡ vec_capacity lines.old }
 {

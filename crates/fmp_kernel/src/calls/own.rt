@@ -15,7 +15,8 @@ use fmp_tasks::answers::replied;
 /// A call of this kernel's own.
 pub fn own_call(tables: &mut Tables, made: Call) -> Answer
     requires { group_of (service_of made) ≡ ServiceGroup.Own }
-    ensures outcome { (p me : ℕ) (x : TaskBlock) → outcome result tables.new [] ≡ case_of tables.old.system tables.old.state p me x made }
+    ensures outcome { (p me : ℕ) (x : TaskBlock)
+        → outcome result tables.new [] ≡ case_of tables.old.system tables.old.state p me x made }
     ensures shape { SameShape tables.old tables.new }
 {
     match made {

@@ -1,5 +1,5 @@
-//! The calls on cyclic handlers and on the state of the caller's processor (uITRON 4.0, sections 4.7 and 4.8; FMP kernel,
-//! spin locks).
+//! The calls on cyclic handlers and on the state of the caller's processor (uITRON 4.0, sections 4.7 and 4.8; FMP
+//! kernel, spin locks).
 ghost use Rattle.std.specs.Prelude.{◌≡◌, ℕ, []};
 ghost use Rattle.fmp_base.specs.declared.states.TaskBlock.{TaskBlock};
 ghost use Rattle.fmp_base.specs.Calls.{case_of};
@@ -44,7 +44,8 @@ fn stp_cyc(tables: &mut Tables, cyclic: i32) -> Answer
 /// A call on a cyclic handler or on the state of processor p.
 pub fn processor_call(tables: &mut Tables, p: u8, made: Call) -> Answer
     requires group { group_of (service_of made) ≡ ServiceGroup.Processors }
-    ensures outcome { (me : ℕ) (x : TaskBlock) → outcome result tables.new [] ≡ case_of tables.old.system tables.old.state p me x made }
+    ensures outcome { (me : ℕ) (x : TaskBlock)
+        → outcome result tables.new [] ≡ case_of tables.old.system tables.old.state p me x made }
     ensures shape { SameShape tables.old tables.new }
 {
     match made {

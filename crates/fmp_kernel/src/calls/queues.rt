@@ -19,7 +19,9 @@ pub fn queue_call(tables: &mut Tables, lines: &mut Vec<Line>, me: u8, made: Call
     requires caller { me < length tables.old.system.tasks }
     requires empty { lines.old.items ≡ [] }
     requires room { 1 ≤ vec_capacity lines.old }
-    ensures outcome { (p : ℕ) → outcome result tables.new lines.new.items ≡ case_of tables.old.system tables.old.state p me (task_at tables.old.state.tasks me) made }
+    ensures outcome { (p : ℕ)
+        → outcome result tables.new lines.new.items
+        ≡ case_of tables.old.system tables.old.state p me (task_at tables.old.state.tasks me) made }
     ensures shape { SameShape tables.old tables.new }
     ensures capacity { vec_capacity lines.new ≡ vec_capacity lines.old }
 {

@@ -1,4 +1,5 @@
-//! The calls on the caller's processor, what a locked CPU and disabled dispatching bar, and the calls that are no task's.
+//! The calls on the caller's processor, what a locked CPU and disabled dispatching bar, and the calls that are no
+//! task's.
 use crate::tests::play::shows;
 use std::test::Fail;
 
