@@ -7,6 +7,7 @@ use Rattle.fmp_lex.specs.declared.fault.BuildFault.{BuildFault}
 use Rattle.fmp_lex.specs.declared.fault.BuildFault.TheVariants as build
 use Rattle.fmp_lex.specs.declared.fault.TextFile.{TextFile}
 use Rattle.fmp_lex.specs.declared.token.Token.{Token}
+use Rattle.fmp_cfgparse.specs.Configured.{ReadConfiguration, Reads}
 use Rattle.fmp_cfgparse.specs.Configurations as configuration
 use Rattle.fmp_cfgparse.specs.Tables.{IsConfiguration}
 use Rattle.fmp_cfgparse.specs.Trees.{configuration_view}
@@ -19,10 +20,9 @@ use Rattle.fmp_codegen.specs.declared.entries.EntryUse.{EntryUse}
 use Rattle.fmp_codegen.specs.Compiling.{bodies_offence, IsAccepted, IsCompiled}
 use Rattle.fmp_codegen.specs.Entries.{entries_offence, IsChecked}
 use Rattle.fmp_image.specs.Images.{ImageTables}
-use Rattle.fmp_build.specs.declared.building.Configured.{Configured}
-use Rattle.fmp_build.specs.Building.{ReadConfiguration, ReadTasks, built_image, Builds, IsBuildFault, of_memory, of_configuration, of_tasks, of_bodies, of_entries}
+use Rattle.fmp_cfgparse.specs.declared.reading.Configured.{Configured}
+use Rattle.fmp_build.specs.Building.{ReadTasks, built_image, Builds, IsBuildFault, of_memory, of_configuration, of_tasks, of_bodies, of_entries}
 use Rattle.fmp_build.specs.Entries.{entry_uses}
-use Rattle.fmp_build.specs.Reading.{Reads}
 
 -- what `?` hands on is the fault itself
 pub err_is : {T E : Type 0} (P : E → Type 0) (r : Result T E) (x : E) → IsErrAnd r (λ y. y ≡ x) → P x → IfErr r P

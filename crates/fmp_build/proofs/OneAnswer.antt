@@ -11,6 +11,7 @@ use Rattle.fmp_lex.proofs.Repetitions.{star_framed}
 use Rattle.fmp_lex.proofs.Sequences.{Framed}
 use Rattle.fmp_lex.proofs.Unique.{cuts_unique}
 use Rattle.fmp_cfgparse.specs.Apis.{Making}
+use Rattle.fmp_cfgparse.specs.Configured.{ReadConfiguration}
 use Rattle.fmp_cfgparse.specs.Configurations.{IsFault}
 use Rattle.fmp_cfgparse.specs.Configuring as walk
 use Rattle.fmp_cfgparse.specs.Configuring.{configured}
@@ -24,7 +25,7 @@ use Rattle.fmp_codegen.specs.declared.offences.Offence.{Offence}
 use Rattle.fmp_codegen.specs.Compiling.{bodies_offence}
 use Rattle.fmp_codegen.specs.Entries.{entries_offence}
 use Rattle.fmp_image.specs.Images.{ImageTables}
-use Rattle.fmp_build.specs.Building.{ReadConfiguration, ReadTasks, built_image, Builds, IsBuildFault, of_memory, of_configuration, of_tasks, of_bodies, of_entries}
+use Rattle.fmp_build.specs.Building.{ReadTasks, built_image, Builds, IsBuildFault, of_memory, of_configuration, of_tasks, of_bodies, of_entries}
 use Rattle.fmp_build.specs.Entries.{entry_uses}
 use Rattle.fmp_build.specs.Laws.{HaveOneAnswer}
 

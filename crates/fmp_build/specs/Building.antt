@@ -11,11 +11,8 @@ use Rattle.fmp_lex.specs.declared.fault.BuildFault.TheVariants as build
 use Rattle.fmp_lex.specs.declared.fault.TextFile.TheVariants as file
 use Rattle.fmp_lex.specs.declared.token.Token.{Token}
 use Rattle.fmp_lex.specs.Faults.{Spells, IsSyntaxFault}
-use Rattle.fmp_cfgparse.specs.Apis.{Making}
 use Rattle.fmp_cfgparse.specs.Configurations.{IsFault}
-use Rattle.fmp_cfgparse.specs.Configuring.{configured}
-use Rattle.fmp_cfgparse.specs.Grammar.{Config}
-use Rattle.fmp_cfgparse.specs.Trees.{ConfigurationTree}
+use Rattle.fmp_cfgparse.specs.Configured.{ReadConfiguration}
 use Rattle.fmp_tasklang.specs.declared.trees.BodyKind as language
 use Rattle.fmp_tasklang.specs.declared.trees.BodyKind.TheVariants as written
 use Rattle.fmp_tasklang.specs.Reading.{Tasks}
@@ -64,14 +61,6 @@ built_head b = record { kind = built_kind b.kind; depth = body_depth b }
 
 abbrev pub built_heads : List BodyTree → List BodyHead
 built_heads bodies = map built_head bodies
-
--- a configuration without a fault: its tokens, the tree that they spell, and what the tree makes
-pub record ReadConfiguration (cfg : List ℕ) : Type 0 where
-  pub tokens : List Token
-  pub tree : ConfigurationTree
-  pub spelled : Spells (λ ts. Config) cfg tokens tree
-  pub making : Making
-  pub makes : configured tree ≡ Ok making
 
 -- a task text without a fault of syntax: its tokens, and the bodies that they spell
 pub record ReadTasks (src : List ℕ) : Type 0 where

@@ -1,62 +1,26 @@
 //! Two texts are read, compiled and put together to an image.
-ghost use Rattle.std.specs.Prelude.{◌≡◌, ◌≤◌, length, Err, IfOk, IfErr, slice_get};
+ghost use Rattle.std.specs.Prelude.{◌≡◌, ◌≤◌, length, IfOk, IfErr};
 ghost use Rattle.std.specs.List.{AllByRecursion};
 ghost use Rattle.fmp_base.specs.Systems.{tables_of};
-ghost use Rattle.fmp_cfgparse.specs.Configurations.{offence_fault};
-ghost use Rattle.fmp_cfgparse.specs.Configurations as configuration;
-ghost use Rattle.fmp_cfgparse.specs.Tables.{IsConfiguration};
 ghost use Rattle.fmp_tasklang.specs.Views.{body_view, program_view};
 ghost use Rattle.fmp_code.specs.Instructions.{code_tables};
 ghost use Rattle.fmp_codegen.specs.Compiling.{compiled};
 ghost use Rattle.fmp_codegen.specs.Depths.{body_depth};
 ghost use Rattle.fmp_image.specs.Images.{IsImage};
 ghost use Rattle.fmp_build.specs.Building.{Builds, IsBuildFault, built_image};
-ghost use Rattle.fmp_build.specs.Reading.{Reads};
 
-use crate::entries::{entry_uses, line_at};
+use crate::entries::entry_uses;
 use crate::heads::built_heads;
 use crate::laws::what_is_built_is_an_image;
 use crate::tables::build_tables;
 use fmp_base::System;
-use fmp_cfgparse::{Parsed, Stop, configure, parse};
+use fmp_cfgparse::read_configuration;
 use fmp_code::Code;
 use fmp_codegen::{check_entries, compile};
 use fmp_image::Image;
-use fmp_lex::{BuildFault, FaultKind, TextFile, Token};
+use fmp_lex::BuildFault;
 use fmp_tasklang::{Program, read_tasks};
 use std::alloc::{AllocError, Global};
-
-/// A configuration that is read: its tokens, its tree, and the system that it makes.
-#[derive(Drop)]
-pub struct Configured {
-    pub parsed: Parsed,
-    pub system: System,
-}
-
-fn fault_at(tokens: &[Token], at: usize, why: FaultKind) -> BuildFault
-    ensures { result ≡ offence_fault (slice_get tokens.now at) why }
-{
-    BuildFault::At(TextFile::Configuration, line_at(tokens, at), why)
-}
-
-/// Reads a configuration, and carries out its static APIs.
-fn read_configuration(alloc: Global, cfg: &[u8]) -> Result<Configured, BuildFault>
-    ensures reads { IfOk result (Reads cfg.now) }
-    ensures rules { IfOk result (λ c. IsConfiguration (tables_of c.system)) }
-    ensures refuses { IfErr result (λ f. configuration.IsRead cfg.now (Err f)) }
-{
-    match parse(alloc, cfg) {
-        Ok(parsed) => match configure(alloc, &parsed.tree) {
-            Ok(making) => Ok(Configured {
-                parsed,
-                system: making.system,
-            }),
-            Err(Stop::Memory) => Err(BuildFault::Memory),
-            Err(Stop::Fault(at, why)) => Err(fault_at(&parsed.list.tokens, at, why)),
-        },
-        Err(fault) => Err(fault),
-    }
-}
 
 /// The image of a system and of the code of its bodies.
 fn image_of(

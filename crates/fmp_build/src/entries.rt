@@ -1,11 +1,10 @@
 //! The bodies that the static APIs of a configuration name.
 
-ghost use Rattle.std.specs.Prelude.{◌≡◌, ◌++◌, map, IfOk, OnOk, slice_get};
-ghost use Rattle.fmp_cfgparse.specs.Configurations.{line_of};
+ghost use Rattle.std.specs.Prelude.{◌≡◌, ◌++◌, map, IfOk, OnOk};
 ghost use Rattle.fmp_cfgparse.specs.Trees.{field_view, api_view, class_view, configuration_view};
 ghost use Rattle.fmp_build.specs.Entries as spec;
 
-use fmp_cfgparse::{Class, Configuration, StaticApi, name_at, number_at, word_of};
+use fmp_cfgparse::{Class, Configuration, StaticApi, line_at, name_at, number_at, word_of};
 use fmp_codegen::EntryUse;
 use fmp_lex::{Api, Token};
 use fmp_tasklang::BodyKind;
@@ -35,16 +34,6 @@ fn entry_of(line: u32, api: &StaticApi) -> Option<EntryUse>
             stack: None,
         }),
         _ => None,
-    }
-}
-
-/// The line of the token at a place.
-pub fn line_at(tokens: &[Token], at: usize) -> u32
-    ensures { result ≡ line_of (slice_get tokens.now at) }
-{
-    match tokens.get(at) {
-        Some(token) => token.line,
-        None => 1,
     }
 }
 

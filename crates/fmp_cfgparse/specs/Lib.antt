@@ -1,5 +1,6 @@
 pub mod Apis
 pub mod Configurations
+pub mod Configured
 pub mod Configuring
 pub mod Grammar
 pub mod Laws

@@ -5,7 +5,7 @@ use Rattle.fmp_cfgparse.specs.Configurations.{IsOffence, IsRead}
 use Rattle.fmp_cfgparse.specs.Making.{making_of}
 use Rattle.fmp_cfgparse.specs.Trees.{configuration_view}
 use Rattle.fmp_cfgparse.proofs.Tables.{made_keeps}
-use Rattle.fmp_build.proofs.building.read_configuration.Goals as goal
+use Rattle.fmp_cfgparse.proofs.reading.read_configuration.Goals as goal
 
 is_read : (text : List ℕ) (f : BuildFault) → IsOffence text f → IsRead text (Err f)
 is_read text build.Memory x = tt
@@ -29,7 +29,7 @@ pub returns-in-Ok-clause-refuses : goal.returns-in-Ok-clause-refuses
 returns-in-Ok-clause-refuses c =
     let stopped = rw c.in-Err-Fault.field-0-is at c.in-Err-Fault.ensures in
     let is = rw c.deref.ensures.value at c.fault_at.ensures in
-    is_read c.args.cfg.now c.fault_at.result (
+    is_read c.args.text.now c.fault_at.result (
       c.in-Ok.parsed.list.tokens.items,
       configuration_view c.in-Ok.parsed.tree,
       c.in-Ok.ensures,
@@ -40,5 +40,5 @@ returns-in-Ok-clause-refuses c =
 
 pub returns-in-Ok-configure-clause-rules : goal.returns-in-Ok-configure-clause-rules
 returns-in-Ok-configure-clause-rules c =
-    made_keeps c.args.cfg.now c.in-Ok.parsed.list.tokens.items (configuration_view c.in-Ok.parsed.tree) (making_of c.in-Ok-configure.making)
+    made_keeps c.args.text.now c.in-Ok.parsed.list.tokens.items (configuration_view c.in-Ok.parsed.tree) (making_of c.in-Ok-configure.making)
     c.in-Ok.ensures c.in-Ok-configure.ensures
