@@ -52,7 +52,9 @@ task_fits frame t body few (h, (name, given)) low fits =
     let inside : t.processor < frame.processors = h.processor in
     let small = start_small t.activated in
     let single = only_small t.only in
-    let numbers = both_true _ _ (both_true _ _ (both_true _ _ (start_bit t.activated) (lies_in_range 1 16 t.priority h.priority)) (lies_in_range 1 65536 t.stack h.stack)) (le-leb (bit t.only 1) 1 single) in (
+    let numbers =
+    both_true _ _ (both_true _ _ (both_true _ _ (start_bit t.activated) (lies_in_range 1 16 t.priority h.priority))
+    (lies_in_range 1 65536 t.stack h.stack)) (le-leb (bit t.only 1) 1 single) in (
       (name_room t.name name, (omega arith, (given.exinf, (low, (omega arith, (omega arith, (omega arith, omega arith))))))),
       both_true _ _ (object_is_name t.name name) (both_true _ _ (both_true _ _ numbers fits) (from_one t.processor frame.processors inside)),
       ap₂ (λ n (x : Bool × (Bool × ℕ)). record { name = n; activated = x.0; exinf = t.exinf; entry = entry.Body body; priority = t.priority; stack = t.stack; processor = x.1.1; only = x.1.0 })

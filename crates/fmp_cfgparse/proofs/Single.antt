@@ -86,7 +86,8 @@ name_part part.Name us l i n j None k x y = absurd y
 name_part part.Name us l i n j (Some (value v)) k x y = absurd y
 name_part part.Name us l i n j (Some (name o)) k x y = let e = item_one name_of us i i n j o k refl x y in (ap (λ z. Some (name z)) e.0, e.1)
 
-value_part : (p : Part) (us : List TokenKind) (l i : ℕ) (v : List Item) (j : ℕ) (b : Option FieldTree) (k : ℕ) → OnePart p us l i (Some (value v)) j → EndsValue us j → OnePart p us l i b k → EndsValue us k →
+value_part : (p : Part) (us : List TokenKind) (l i : ℕ) (v : List Item) (j : ℕ) (b : Option FieldTree) (k : ℕ)
+    → OnePart p us l i (Some (value v)) j → EndsValue us j → OnePart p us l i b k → EndsValue us k →
     (b ≡ Some (value v)) × (k ≡ j)
 value_part (part.Mark m) us l i v j b k x ends y more = absurd x
 value_part part.Name us l i v j b k x ends y more = absurd x

@@ -121,7 +121,9 @@ module _ (processors : ℕ) where
       omega arith
 
   digit_inside : (digit : ℕ) (c : ClassPlace) (a b x y : Bool) → nat_le 49 digit ≡ a → nat_le digit (48 + processors) ≡ b →
-      (if a && b then (if x then Some (record { processor = digit - 49; only = false }) else (if y then Some (record { processor = digit - 49; only = true }) else None)) else None) ≡ Some c → c.processor < processors
+      (if a && b then (if x then Some (record { processor = digit - 49; only = false }) else
+      (if y then Some (record { processor = digit - 49; only = true }) else None)) else None)
+      ≡ Some c → c.processor < processors
   digit_inside digit c true true true y low high is = place_inside digit false c low high is
   digit_inside digit c true true false true low high is = place_inside digit true c low high is
   digit_inside digit c true true false false low high is = cc

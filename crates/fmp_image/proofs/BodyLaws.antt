@@ -77,7 +77,9 @@ step_takes bytes a rest h e =
     let t = step_layout.takes bytes f.0.0 f.0.1 h f.1 in
     let i = instruction_named f.0.0.0 f.0.0.1.0 n.0 t.0.1.0 (named_is _ n.0 n.1) in
     let made : (Instruction × ℕ) × List ℕ = ((n.0, d), f.0.1) in
-    let whole : bytes ≡ step_spelled n.0 d ++ f.0.1 = subst (λ (z : ℤ). bytes ≡ step.spell (opcode_of n.0, (z, d)) ++ f.0.1) i.1 (subst (λ (o : ℕ). bytes ≡ step.spell (o, (f.0.0.1.0, d)) ++ f.0.1) i.0 t.1) in
+    let whole : bytes ≡ step_spelled n.0 d ++ f.0.1 =
+    subst (λ (z : ℤ). bytes ≡ step.spell (opcode_of n.0, (z, d)) ++ f.0.1) i.1
+    (subst (λ (o : ℕ). bytes ≡ step.spell (o, (f.0.0.1.0, d)) ++ f.0.1) i.0 t.1) in
     subst (λ (y : (Instruction × ℕ) × List ℕ). (HasRoom y.0.0 × (y.0.1 < 256)) × (bytes ≡ step_spelled y.0.0 y.0.1 ++ y.1)) (ok_is made (a, rest) n.2) ((i.2, t.0.1.1), whole)
 
 step_again : (a : Instruction × ℕ) (rest : List ℕ) → HasRoom a.0 × (a.1 < 256) → step_at (step_spelled a.0 a.1 ++ rest) ≡ Ok (a, rest)
@@ -219,7 +221,9 @@ body_takes bytes x rest h e =
     } in
     let steps = pairs_spelled step_spelled c.0.0.0 c.0.0.1 in
     let size-is : size ≡ length c.0.0.0 = sym p.count ∙ table.long in
-    let both : bytes ≡ (body_head.spell (kind, (locals, (depth, size))) ++ steps) ++ c.0.1 = t.1 ∙ ap (λ r. body_head.spell (kind, (locals, (depth, size))) ++ r) p.parts ∙ sym (append_assoc (body_head.spell (kind, (locals, (depth, size)))) steps c.0.1) in
+    let both : bytes ≡ (body_head.spell (kind, (locals, (depth, size))) ++ steps) ++ c.0.1 =
+    t.1 ∙ ap (λ r. body_head.spell (kind, (locals, (depth, size))) ++ r) p.parts ∙ sym
+    (append_assoc (body_head.spell (kind, (locals, (depth, size)))) steps c.0.1) in
     let whole : bytes ≡ body_spelled (head_of kind depth) b ++ c.0.1 =
     subst (λ (k : ℕ). bytes ≡ (body_head.spell (k, (locals, (depth, length c.0.0.0))) ++ steps) ++ c.0.1) (sym (kind_back kind low.0))
     (subst (λ (n : ℕ). bytes ≡ (body_head.spell (kind, (locals, (depth, n))) ++ steps) ++ c.0.1) size-is both) in
@@ -241,7 +245,9 @@ body_again x rest body =
     let head_read = head_layout.again head (steps ++ rest) ((omega arith), ((omega (arith, body.verified.locals)), (depth-lt, size-lt))) in
     let regrouped : body_spelled h b ++ rest ≡ body_head.spell head ++ (steps ++ rest) = append_assoc (body_head.spell head) steps rest in
     let long : ltb (length (steps ++ rest)) (6 * length b.instructions) ≡ false = le-ltb _ _ (omega (arith, length-append steps rest, six_each b.instructions b.depths table.long)) in
-    let code_read : pairs_at step_at (length b.instructions) (steps ++ rest) ≡ Ok ((b.instructions, b.depths), rest) = subst (λ (n : ℕ). pairs_at step_at n (steps ++ rest) ≡ Ok ((b.instructions, b.depths), rest)) table.long (pairs_again step_field step_exact b.instructions b.depths rest room.0) in
+    let code_read : pairs_at step_at (length b.instructions) (steps ++ rest) ≡ Ok ((b.instructions, b.depths), rest) =
+    subst (λ (n : ℕ). pairs_at step_at n (steps ++ rest) ≡ Ok ((b.instructions, b.depths), rest)) table.long
+    (pairs_again step_field step_exact b.instructions b.depths rest room.0) in
     let numbers : body_numbers (kind_number h.kind) b.locals h.depth b.depths ≡ true =
     both_true _ _ (both_true _ _ (kind_small h.kind) (both_true _ _ (le-leb _ _ body.locals) (le-leb _ _ body.verified.locals))) (eq-eqb _ _ body.depth) in
     ap body_at regrouped ∙ rw (head_read, long, code_read, kept, numbers, head_back h) refl

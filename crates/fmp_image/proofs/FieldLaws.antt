@@ -78,10 +78,20 @@ pub record IsSize (size : ℕ) : Type 0 where
   pub back : (bytes : List ℕ) → size ≤ length bytes → IsBytes bytes → little_bytes size (little_number size bytes) ≡ take size bytes
 
 pub size_2 : IsSize 2
-size_2 = record { back = λ bytes long h. le_bytes_2 (take 2 bytes) (little_number 2 bytes) (omega (arith, length-take 2 bytes)) (IsBytes-take 2 bytes h) (omega (arith, get_or-take 2 bytes 0 0 (omega arith), get_or-take 2 bytes 1 0 (omega arith))) }
+size_2 =
+    record {
+      back = λ bytes long h. le_bytes_2 (take 2 bytes) (little_number 2 bytes)
+          (omega (arith, length-take 2 bytes)) (IsBytes-take 2 bytes h)
+          (omega (arith, get_or-take 2 bytes 0 0 (omega arith), get_or-take 2 bytes 1 0 (omega arith)));
+    }
 
 pub size_4 : IsSize 4
-size_4 = record { back = λ bytes long h. le_bytes_4 (take 4 bytes) (little_number 4 bytes) (omega (arith, length-take 4 bytes)) (IsBytes-take 4 bytes h) (omega (arith, get_or-take 4 bytes 0 0 (omega arith), get_or-take 4 bytes 1 0 (omega arith), get_or-take 4 bytes 2 0 (omega arith), get_or-take 4 bytes 3 0 (omega arith))) }
+size_4 =
+    record {
+      back = λ bytes long h. le_bytes_4 (take 4 bytes) (little_number 4 bytes)
+          (omega (arith, length-take 4 bytes)) (IsBytes-take 4 bytes h) (omega
+          (arith, get_or-take 4 bytes 0 0 (omega arith), get_or-take 4 bytes 1 0 (omega arith), get_or-take 4 bytes 2 0 (omega arith), get_or-take 4 bytes 3 0 (omega arith)));
+    }
 
 pub number_takes : (size : ℕ) → IsSize size → (bytes : List ℕ) (a : ℕ) (rest : List ℕ) → IsBytes bytes → number_at size bytes ≡ Ok (a, rest) → (a < 256 ^ size) × (bytes ≡ little_bytes size a ++ rest)
 number_takes size is bytes a rest h e =

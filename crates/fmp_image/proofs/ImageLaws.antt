@@ -37,7 +37,9 @@ tables_exact = also_exact _ _ task_back (also_exact _ _ semaphore_back (also_exa
     (also_exact _ _ message_back (also_exact _ _ shared_word_back (also_exact _ _ spin_lock_back (also_exact _ _ cyclic_back (one_table _ interrupt_back)))))))))
 
 layout_exact : Exact layout
-layout_exact = chained_exact header (λ h. chained bodies (λ b. tables (frame_of h.1.1 b.0) [])) header_exact (λ h. chained_exact bodies (λ b. tables (frame_of h.1.1 b.0) []) bodies_exact (λ b. tables_exact (frame_of h.1.1 b.0) []))
+layout_exact =
+    chained_exact header (λ h. chained bodies (λ b. tables (frame_of h.1.1 b.0) [])) header_exact (λ h. chained_exact
+    bodies (λ b. tables (frame_of h.1.1 b.0) []) bodies_exact (λ b. tables_exact (frame_of h.1.1 b.0) []))
 
 magic_is : (m : List ℕ) → is_magic m ≡ true → m ≡ magic
 magic_is m e = (bytes_eq-Decides m magic).0 e

@@ -21,7 +21,9 @@ module _ {A B : Type 0} (pair : Field (A × B)) (exact : Exact pair) where
       let one = exact.takes bytes a.0.0 a.0.1 h a.1 in
       let more = pairs_take n a.0.1 b.0 (rest_is_bytes bytes (pair.spell a.0.0) a.0.1 one.1 h) b.1 in
       let made : (List A × List B) × List ℕ = ((a.0.0.0 ∷ b.0.0.0, a.0.0.1 ∷ b.0.0.1), b.0.1) in
-      let whole : bytes ≡ (pair.spell a.0.0 ++ pairs_spelled (λ a b. pair.spell (a, b)) b.0.0.0 b.0.0.1) ++ b.0.1 = one.1 ∙ ap (λ r. pair.spell a.0.0 ++ r) more.parts ∙ sym (append_assoc (pair.spell a.0.0) (pairs_spelled (λ a b. pair.spell (a, b)) b.0.0.0 b.0.0.1) b.0.1) in
+      let whole : bytes ≡ (pair.spell a.0.0 ++ pairs_spelled (λ a b. pair.spell (a, b)) b.0.0.0 b.0.0.1) ++ b.0.1 =
+      one.1 ∙ ap (λ r. pair.spell a.0.0 ++ r) more.parts ∙ sym
+      (append_assoc (pair.spell a.0.0) (pairs_spelled (λ a b. pair.spell (a, b)) b.0.0.0 b.0.0.1) b.0.1) in
       subst (λ (y : (List A × List B) × List ℕ). PairsTaken pair (suc n) bytes y.0.0 y.0.1 y.1) (ok_is made x b.2)
       (record { count = ap suc more.count; each = (one.0, more.each); parts = whole })
 

@@ -26,5 +26,8 @@ pub put_one : {A B C : Type 0} (f : C → B) (spell : A → B → List ℕ) (xs 
 put_one f spell xs zs k dx dz out total lx lz so_far =
     let x : drop k xs ≡ get_or xs k dx ∷ drop (k + 1) xs = rw add-one (drop-cons xs k dx lx) in
     let z : drop k zs ≡ get_or zs k dz ∷ drop (k + 1) zs = rw add-one (drop-cons zs k dz lz) in
-    let here : out ++ pairs_spelled spell (drop k xs) (map f (drop k zs)) ≡ out ++ (spell (get_or xs k dx) (f (get_or zs k dz)) ++ pairs_spelled spell (drop (k + 1) xs) (map f (drop (k + 1) zs))) = rw (x, z) refl in
+    let here : out ++ pairs_spelled spell (drop k xs) (map f (drop k zs))
+    ≡ out ++ (spell (get_or xs k dx) (f (get_or zs k dz)) ++ pairs_spelled spell (drop (k + 1) xs)
+    (map f (drop (k + 1) zs))) =
+    rw (x, z) refl in
     append_assoc out (spell (get_or xs k dx) (f (get_or zs k dz))) (pairs_spelled spell (drop (k + 1) xs) (map f (drop (k + 1) zs))) ∙ sym here ∙ so_far

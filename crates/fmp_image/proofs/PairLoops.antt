@@ -24,7 +24,9 @@ module _ {A B : Type 0} where
     unfolding pairs_at
     goes_on a b after lt h so_far =
         let k : count - i ≡ suc (count - (i + 1)) = omega arith in
-        let one : with_fronts xs ys (pairs_at pair_at (count - i) bytes) ≡ with_fronts (xs ++ a ∷ []) (ys ++ b ∷ []) (pairs_at pair_at (count - (i + 1)) after) = rw (k, h) (regroup xs ys a b (pairs_at pair_at (count - (i + 1)) after)) in
+        let one : with_fronts xs ys (pairs_at pair_at (count - i) bytes)
+        ≡ with_fronts (xs ++ a ∷ []) (ys ++ b ∷ []) (pairs_at pair_at (count - (i + 1)) after) =
+        rw (k, h) (regroup xs ys a b (pairs_at pair_at (count - (i + 1)) after)) in
         sym one ∙ so_far
 
     pub ends : (e : LoadFault) → i < count → Fails e (pair_at bytes)

@@ -25,7 +25,9 @@ module _ {A : Type 0} (row : Field A) (key_of : A → Key) (front : List A) (cou
   unfolding rows_at
   goes_on a after lt h free so_far =
       let k : count - i ≡ suc (count - (i + 1)) = omega arith in
-      let one : with_front front (rows_at row key_of (count - i) taken bytes) ≡ with_front (front ++ a ∷ []) (rows_at row key_of (count - (i + 1)) (taken ++ key_of a ∷ []) after) = rw (k, h, free) (regroup front a (rows_at row key_of (count - (i + 1)) (taken ++ key_of a ∷ []) after)) in
+      let one : with_front front (rows_at row key_of (count - i) taken bytes)
+      ≡ with_front (front ++ a ∷ []) (rows_at row key_of (count - (i + 1)) (taken ++ key_of a ∷ []) after) =
+      rw (k, h, free) (regroup front a (rows_at row key_of (count - (i + 1)) (taken ++ key_of a ∷ []) after)) in
       sym one ∙ so_far
 
   pub ends : (e : LoadFault) → i < count → Fails e (row.read bytes)

@@ -33,7 +33,10 @@ module _ {A : Type 0} (row : Field A) (key_of : A → Key) (exact : Exact row) w
       let one = (new_exact taken).takes bytes a.0.0 a.0.1 h a.1 in
       let more = rows_take n (taken ++ key_of a.0.0 ∷ []) a.0.1 b.0 (rest_is_bytes bytes (row.spell a.0.0) a.0.1 one.1 h) b.1 in
       let made : List A × List ℕ = (a.0.0 ∷ b.0.0, b.0.1) in
-      let whole : bytes ≡ flat_map row.spell (a.0.0 ∷ b.0.0) ++ b.0.1 = one.1 ∙ ap (λ r. row.spell a.0.0 ++ r) more.parts ∙ sym (append_assoc (row.spell a.0.0) (flat_map row.spell b.0.0) b.0.1) ∙ ap (λ f. f ++ b.0.1) (sym (flat_map-cons row.spell a.0.0 b.0.0)) in
+      let whole : bytes ≡ flat_map row.spell (a.0.0 ∷ b.0.0) ++ b.0.1 =
+      one.1 ∙ ap (λ r. row.spell a.0.0 ++ r) more.parts ∙ sym
+      (append_assoc (row.spell a.0.0) (flat_map row.spell b.0.0) b.0.1) ∙ ap (λ f. f ++ b.0.1)
+      (sym (flat_map-cons row.spell a.0.0 b.0.0)) in
       subst (λ (y : List A × List ℕ). Taken row key_of (suc n) taken bytes y.0 y.1) (ok_is made x b.2)
       (record { count = ap suc more.count; each = (one.0.0, more.each); once = both_true _ _ one.0.1 more.once; parts = whole })
 
@@ -43,7 +46,9 @@ module _ {A : Type 0} (row : Field A) (key_of : A → Key) (exact : Exact row) w
   rows_again taken [] rest fits once = refl
   rows_again taken (a ∷ rows) rest fits once =
       let new = and_true _ _ once in
-      let regrouped : flat_map row.spell (a ∷ rows) ++ rest ≡ row.spell a ++ (flat_map row.spell rows ++ rest) = ap (λ f. f ++ rest) (flat_map-cons row.spell a rows) ∙ append_assoc (row.spell a) (flat_map row.spell rows) rest in
+      let regrouped : flat_map row.spell (a ∷ rows) ++ rest ≡ row.spell a ++ (flat_map row.spell rows ++ rest) =
+      ap (λ f. f ++ rest) (flat_map-cons row.spell a rows) ∙ append_assoc (row.spell a) (flat_map row.spell rows)
+      rest in
       let one = (new_exact taken).again a (flat_map row.spell rows ++ rest) (fits.0, new.0) in
       let more = rows_again (taken ++ key_of a ∷ []) rows rest fits.1 new.1 in
       ap (rows_at row key_of (suc (length rows)) taken) regrouped ∙ rw (one, more) refl

@@ -51,7 +51,11 @@ table_kept b h =
     let one = and_true _ _ h in
     let two = and_true _ _ one.0 in
     let three = and_true _ _ two.0 in
-    let passes : (k : ℕ) (i : Instruction) (d : ℕ) → slice_get b.instructions k ≡ Some i → slice_get b.depths k ≡ Some d → fits b.locals b.depths (0 + k) d i ≡ true = each_passes (λ place i d. fits b.locals b.depths place d i) 0 b.instructions b.depths one.1 in
+    let passes : (k : ℕ) (i : Instruction) (d : ℕ)
+    → slice_get b.instructions k ≡ Some i
+    → slice_get b.depths k ≡ Some d
+    → fits b.locals b.depths (0 + k) d i ≡ true =
+    each_passes (λ place i d. fits b.locals b.depths place d i) 0 b.instructions b.depths one.1 in
     record {
       first = first_is (slice_get b.depths 0) three.0;
       size = leb-true _ _ three.1;
@@ -65,7 +69,9 @@ table_keeps b h =
     let first : depth_is (slice_get b.depths 0) 0 ≡ true = rw h.first refl in
     let size : nat_le (length b.instructions) 65535 ≡ true = le-leb _ _ h.size in
     let long : nat_eq (length b.depths) (length b.instructions) ≡ true = eq-eqb _ _ h.long in
-    let each = all_pass (λ place i d. fits b.locals b.depths place d i) 0 b.instructions b.depths h.long (λ k i d p q. subst (λ m. fits b.locals b.depths m d i ≡ true) (sym (from_zero k)) (h.each k i d p q)) in
+    let each =
+    all_pass (λ place i d. fits b.locals b.depths place d i) 0 b.instructions b.depths h.long
+    (λ k i d p q. subst (λ m. fits b.locals b.depths m d i ≡ true) (sym (from_zero k)) (h.each k i d p q)) in
     both_true _ _ (both_true _ _ (both_true _ _ first size) long) each
 
 pub test_is : (r : Bool) (b : BodyTables) → (IsTrue r ↔ KeepsTable b) → r ≡ keeps_table b

@@ -41,7 +41,8 @@ fits_in : {B C : Type 0} (has_entry : B → ℕ → Type 0) (is_context : B → 
 fits_in has_entry is_context body None h = tt
 fits_in has_entry is_context body (Some c) h = h.context
 
-entry_in : {B C : Type 0} (has_entry : B → ℕ → Type 0) (is_context : B → ℕ → C → Type 0) (body : B) (o : Option (HandlerContext (Held C))) → IsThere (context_in o) → OfOption (HandlerFits has_entry is_context body) o
+entry_in : {B C : Type 0} (has_entry : B → ℕ → Type 0) (is_context : B → ℕ → C → Type 0) (body : B)
+    (o : Option (HandlerContext (Held C))) → IsThere (context_in o) → OfOption (HandlerFits has_entry is_context body) o
     → has_entry body (body_in o)
 entry_in has_entry is_context body None k h = absurd k
 entry_in has_entry is_context body (Some c) k h = h.entry

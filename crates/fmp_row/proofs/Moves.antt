@@ -25,7 +25,9 @@ off : false ≡ true → ⊥
 off e = true≢false (sym e)
 
 -- all views fit after one has changed
-fits_set : (k : ℕ) (now : Whole) (views : List View) (id : ℕ) (w : View) → ((j : ℕ) (u : View) → j ≢ id → get_elem? views j ≡ some u → Fits k now j u) → Fits k now id w → (j : ℕ) (u : View) → get_elem? (set views id w) j ≡ some u → Fits k now j u
+fits_set : (k : ℕ) (now : Whole) (views : List View) (id : ℕ) (w : View)
+    → ((j : ℕ) (u : View) → j ≢ id → get_elem? views j ≡ some u → Fits k now j u) → Fits k now id w → (j : ℕ) (u : View)
+    → get_elem? (set views id w) j ≡ some u → Fits k now j u
 fits_set k now views id w others mine j u e =
     ⊎_elim
     (λ (x : (j ≡ id) × (w ≡ u)). subst (λ (y : ℕ × View). Fits k now y.0 y.1) (λ i. (sym x.0 i, x.1 i)) mine)
@@ -33,7 +35,9 @@ fits_set k now views id w others mine j u e =
     (at_set views id j w u e)
 
 -- all views fit after one has come
-fits_snoc : (k : ℕ) (now : Whole) (views : List View) (w : View) (n : ℕ) → length views ≡ n → ((j : ℕ) (u : View) → get_elem? views j ≡ some u → Fits k now j u) → Fits k now n w → (j : ℕ) (u : View) → get_elem? (views ++ w ∷ []) j ≡ some u → Fits k now j u
+fits_snoc : (k : ℕ) (now : Whole) (views : List View) (w : View) (n : ℕ) → length views ≡ n
+    → ((j : ℕ) (u : View) → get_elem? views j ≡ some u → Fits k now j u) → Fits k now n w → (j : ℕ) (u : View)
+    → get_elem? (views ++ w ∷ []) j ≡ some u → Fits k now j u
 fits_snoc k now views w n is others mine j u e =
     ⊎_elim (others j u)
     (λ (t : (j ≡ n) × (w ≡ u)). subst (λ (y : ℕ × View). Fits k now y.0 y.1) (λ i. (sym t.0 i, t.1 i)) mine)
@@ -67,7 +71,8 @@ all_one : (m : ℕ) (x : JournalEntry) → IsEntryOf m x → All (IsEntryOf m) (
 all_one m x may zero d lt = may
 all_one m x may (suc j) d lt = absurd (omega arith)
 
-row_more : (k m : ℕ) (journal : List JournalEntry) (x : JournalEntry) (words : List ℕ) → IsRow k m journal words → length journal < k → IsEntryOf m x → IsRow k m (journal ++ x ∷ []) (set words (length journal) (word_of x))
+row_more : (k m : ℕ) (journal : List JournalEntry) (x : JournalEntry) (words : List ℕ) → IsRow k m journal words
+    → length journal < k → IsEntryOf m x → IsRow k m (journal ++ x ∷ []) (set words (length journal) (word_of x))
 row_more k m journal x words r lt may = record {
   size = length-set words (length journal) (word_of x) ∙ r.size;
   room = omega (arith, length-append journal (x ∷ []));
@@ -78,7 +83,9 @@ row_more k m journal x words r lt may = record {
 abbrev more : Whole → JournalEntry → Whole
 more h x = record { journal = h.journal ++ x ∷ []; marks = h.marks ++ x.seat ∷ []; made = h.made; scribe = h.scribe; seat = h.seat }
 
-counted_more : (n mine : ℕ) (journal : List JournalEntry) (marks : List ℕ) (x : JournalEntry) → length (own n journal) ≡ mine + times n marks → length (own n (journal ++ x ∷ [])) ≡ mine + times n (marks ++ x.seat ∷ [])
+counted_more : (n mine : ℕ) (journal : List JournalEntry) (marks : List ℕ) (x : JournalEntry)
+    → length (own n journal) ≡ mine + times n marks
+    → length (own n (journal ++ x ∷ [])) ≡ mine + times n (marks ++ x.seat ∷ [])
 counted_more n mine journal marks x e = omega (arith, length-own n journal x, times-snoc n marks x.seat)
 
 sight_more : (k : ℕ) (h : Whole) (x : JournalEntry) (j : ℕ) (s : Sight) → SightFits k h j s → SightFits k (more h x) j s
@@ -120,7 +127,9 @@ Adds journal seen k i n found =
     (now : List JournalEntry) × IsPrefix now journal × IsPrefix seen now × (length now ≤ k)
     × MatchOption found ((n ≡ 0) × (now ≡ seen) × (length now ≤ i)) (λ x. slice_get now i ≡ Some x)
 
-seen_more : (journal seen : List JournalEntry) (k i : ℕ) → IsPrefix seen journal → length journal ≤ k → (found : Option JournalEntry) → slice_get journal i ≡ found → Adds journal seen k i (slice_index (words_of journal) i) found
+seen_more : (journal seen : List JournalEntry) (k i : ℕ) → IsPrefix seen journal → length journal ≤ k
+    → (found : Option JournalEntry) → slice_get journal i ≡ found
+    → Adds journal seen k i (slice_index (words_of journal) i) found
 seen_more journal seen k i p room None e =
     let past = past_of-none journal i e in
     let short = prefix_length seen journal p in
@@ -216,7 +225,10 @@ pub lends : (k m id : ℕ) (v : View) (other : ℕ) (w : View) → w.has_pen ≡
 lends k m id v other w has idle s kept at ne there =
     let h = kept.0 in
     let f = kept.2 id v at in
-    let was = ⊎_elim (λ (t : (other ≡ id) × (lent v w ≡ w)). absurd (ne t.0)) (λ (t : (other ≢ id) × (get_elem? s.views other ≡ some w)). kept.2 other w t.1) (at_set s.views id other (lent v w) w there) in
+    let was =
+    ⊎_elim (λ (t : (other ≡ id) × (lent v w ≡ w)). absurd (ne t.0))
+    (λ (t : (other ≢ id) × (get_elem? s.views other ≡ some w)). kept.2 other w t.1)
+    (at_set s.views id other (lent v w) w there) in
     let p = was.0 has in
     let now = with_scribe h id in
     let mine : Fits k now id (lent v w) = ((λ _. pen_moved k h other id w.pen p), (λ t. sight_stays k h id id v.sight (f.1 t))) in
@@ -304,7 +316,11 @@ abbrev first_whole : Whole
 first_whole = record { journal = []; marks = []; made = 0; scribe = 0; seat = λ _. 0 }
 
 first_fits : (k m id : ℕ) (v : View) → get_elem? (first_view k m ∷ []) id ≡ some v → Fits k first_whole id v
-first_fits k m zero v e = subst (Fits k first_whole 0) (some-injective _ _ e) ((λ _. record { here = refl; capacity_is = refl; made_is = refl; journal_is = refl; marks_are = refl }), (λ t. absurd (off t)))
+first_fits k m zero v e =
+    subst (Fits k first_whole 0) (some-injective _ _ e) (
+      (λ _. record { here = refl; capacity_is = refl; made_is = refl; journal_is = refl; marks_are = refl }),
+      (λ t. absurd (off t)),
+    )
 first_fits k m (suc id) v e = absurd (some-ne-none v (sym e))
 
 pub begins : (k m : ℕ) (words : List ℕ) → words ≡ replicate k 0 → IsKept k m (opening words [] (first_view k m))

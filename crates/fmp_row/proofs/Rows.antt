@@ -63,13 +63,15 @@ snoc_at (x ∷ xs) a b (suc j) zero is e = absurd (omega arith)
 snoc_at (x ∷ xs) a b (suc j) (suc n) is e = ⊎_elim (λ t. inl t) (λ (t : (j ≡ n) × (a ≡ b)). inr (ap suc t.0, t.1)) (snoc_at xs a b j n (omega arith) e)
 
 -- the first events of a journal, and one more, where only a beginning of the journal was known before
-given_suc : (old now : List JournalEntry) (place : ℕ) (x : JournalEntry) → IsPrefix old now → place ≤ length old → slice_get now place ≡ Some x → take (suc place) (events now) ≡ take place (events old) ++ x.event ∷ []
+given_suc : (old now : List JournalEntry) (place : ℕ) (x : JournalEntry) → IsPrefix old now → place ≤ length old
+    → slice_get now place ≡ Some x → take (suc place) (events now) ≡ take place (events old) ++ x.event ∷ []
 given_suc old [] place x p le e = absurd (cc)
 given_suc old (y ∷ now) zero x p le e = cc
 given_suc [] (y ∷ now) (suc place) x p le e = absurd (omega arith)
 given_suc (z ∷ old) (y ∷ now) (suc place) x p le e = let same : y ≡ z = cc (p.1) in let rest = given_suc old now place x (p.0, cc (p.1)) (omega arith) e in λ i. (same i).event ∷ rest i
 
-pub given_more : (old now : List JournalEntry) (place : ℕ) (x : JournalEntry) → IsPrefix old now → place ≤ length old → slice_get now place ≡ Some x → take (place + 1) (events now) ≡ take place (events old) ++ x.event ∷ []
+pub given_more : (old now : List JournalEntry) (place : ℕ) (x : JournalEntry) → IsPrefix old now → place ≤ length old
+    → slice_get now place ≡ Some x → take (place + 1) (events now) ≡ take place (events old) ++ x.event ∷ []
 given_more old now place x p le e = ap (λ n. take n (events now)) (add-one place) ∙ given_suc old now place x p le e
 
 pub all_here : (row : RowId) (seats : List SeatState) (n : ℕ) → AreFirst row n seats → All (λ seat. seat.row ≡ row) seats

@@ -174,14 +174,17 @@ pub first-is_interrupt : (count : ℕ) (words : List ℕ) (marks : PendingMarks)
     → IsFirst (λ i. bit_in words (p * 5 * 64 + i)) 320 (Some k) → k < 64
     → (Some (handler.Interrupt k) ≡ first_handler marks p) × (k < length marks.interrupts)
 first-is_interrupt count words marks p k rows l first low = (
-  ap (λ (o : Option ℕ). interrupt_or o (cyclic_handler (first_pending (cycles_there marks.processors p) 0 marks.cyclics))) (sym (first-at_start (interrupts_there marks.processors p) marks.interrupts k set clear)),
+  ap (λ (o : Option ℕ). interrupt_or o (cyclic_handler (first_pending (cycles_there marks.processors p) 0 marks.cyclics
+      ))) (sym (first-at_start (interrupts_there marks.processors p) marks.interrupts k set clear)),
   pending-there marks.interrupts k (left-true _ _ set),
 ) where
   set : (is_pending marks.interrupts k && interrupts_there marks.processors p k) ≡ true
   set = set-bit _ (ap as_bit (sym (slot-interrupt marks.processors marks.interrupts marks.cyclics p k low)) ∙ sym (bit-of count words _ _ p k rows l first.0) ∙ first.1)
 
   clear : (j : ℕ) → j < k → (is_pending marks.interrupts j && interrupts_there marks.processors p j) ≡ false
-  clear j m = clear-bit _ (ap as_bit (sym (slot-interrupt marks.processors marks.interrupts marks.cyclics p j (omega arith))) ∙ sym (bit-of count words _ _ p j rows l (omega (arith, first.0))) ∙ first.2 j m)
+  clear j m =
+      clear-bit _ (ap as_bit (sym (slot-interrupt marks.processors marks.interrupts marks.cyclics p j (omega arith))) ∙
+      sym (bit-of count words _ _ p j rows l (omega (arith, first.0))) ∙ first.2 j m)
 
 -- no interrupt, where no bit below 64 is set
 no_interrupt : (count : ℕ) (words : List ℕ) (marks : PendingMarks) (p : ℕ)
@@ -190,14 +193,19 @@ no_interrupt : (count : ℕ) (words : List ℕ) (marks : PendingMarks) (p : ℕ)
     → first_pending (interrupts_there marks.processors p) 0 marks.interrupts ≡ None
 no_interrupt count words marks p rows l none few = first-none_start (interrupts_there marks.processors p) marks.interrupts clear where
   clear : (j : ℕ) → j < length marks.interrupts → (is_pending marks.interrupts j && interrupts_there marks.processors p j) ≡ false
-  clear j m = clear-bit _ (ap as_bit (sym (slot-interrupt marks.processors marks.interrupts marks.cyclics p j (omega arith))) ∙ sym (bit-of count words _ _ p j rows l (omega arith)) ∙ none j (omega arith))
+  clear j m =
+      clear-bit _ (ap as_bit (sym (slot-interrupt marks.processors marks.interrupts marks.cyclics p j (omega arith))) ∙
+      sym (bit-of count words _ _ p j rows l (omega arith)) ∙ none j (omega arith))
 
 pub first-is_cyclic : (count : ℕ) (words : List ℕ) (marks : PendingMarks) (p k c : ℕ)
     → AreRows count words (processor_at_slot marks.processors) (mark_at_slot marks.interrupts marks.cyclics) → p < count
     → length marks.interrupts ≤ 64 → IsFirst (λ i. bit_in words (p * 5 * 64 + i)) 320 (Some k) → k ≡ 64 + c
     → (Some (handler.Cyclic c) ≡ first_handler marks p) × (c < length marks.cyclics)
 first-is_cyclic count words marks p k c rows l few first is = (
-  sym (ap (λ (o : Option ℕ). interrupt_or o (cyclic_handler (first_pending (cycles_there marks.processors p) 0 marks.cyclics))) (no_interrupt count words marks p rows l (λ i m. first.2 i (omega (arith, is))) few)
+  sym (ap
+      (λ (o : Option ℕ). interrupt_or o
+      (cyclic_handler (first_pending (cycles_there marks.processors p) 0 marks.cyclics)))
+      (no_interrupt count words marks p rows l (λ i m. first.2 i (omega (arith, is))) few)
       ∙ ap cyclic_handler (first-at_start (cycles_there marks.processors p) marks.cyclics c set clear)),
   pending-there marks.cyclics c (left-true _ _ set),
 ) where
@@ -215,7 +223,10 @@ pub first-is_none : (count : ℕ) (words : List ℕ) (marks : PendingMarks) (p :
     → length marks.interrupts ≤ 64 → length marks.cyclics ≤ 255 → IsFirst (λ i. bit_in words (p * 5 * 64 + i)) 320 None
     → None ≡ first_handler marks p
 first-is_none count words marks p rows l few short none =
-    sym (ap (λ (o : Option ℕ). interrupt_or o (cyclic_handler (first_pending (cycles_there marks.processors p) 0 marks.cyclics))) (no_interrupt count words marks p rows l (λ i m. none i (omega arith)) few)
+    sym (ap
+    (λ (o : Option ℕ). interrupt_or o
+    (cyclic_handler (first_pending (cycles_there marks.processors p) 0 marks.cyclics)))
+    (no_interrupt count words marks p rows l (λ i m. none i (omega arith)) few)
     ∙ ap cyclic_handler (first-none_start (cycles_there marks.processors p) marks.cyclics clear)) where
       clear : (j : ℕ) → j < length marks.cyclics → (is_pending marks.cyclics j && cycles_there marks.processors p j) ≡ false
       clear j m =

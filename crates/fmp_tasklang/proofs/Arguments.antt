@@ -56,7 +56,8 @@ module _ (line : ℕ → ℕ) (d : ℕ) where
   part_up (part.Out m) us limit i (Some (value e)) j x = absurd x
   part_up (part.Out m) us limit i (Some (out w)) j x = (outs_framed m).up us limit i w j x
 
-  part_same : (p : Part) (ts us : List TokenKind) (limit lower i : ℕ) (a : Option ArgumentTree) (j : ℕ) → lower ≤ limit → OnePart line d p ts limit i a j → Same j ts us → OnePart line d p us lower i a j
+  part_same : (p : Part) (ts us : List TokenKind) (limit lower i : ℕ) (a : Option ArgumentTree) (j : ℕ) → lower ≤ limit
+      → OnePart line d p ts limit i a j → Same j ts us → OnePart line d p us lower i a j
   part_same (part.Mark m) ts us limit lower i None j low x same = (token_framed (mark_kind m)).same ts us limit lower i tt j low x same
   part_same (part.Mark m) ts us limit lower i (Some (value e)) j low x same = absurd x
   part_same (part.Mark m) ts us limit lower i (Some (out w)) j low x same = absurd x
@@ -145,7 +146,8 @@ module _ (line : ℕ → ℕ) (d : ℕ) where
       let rest = parts_up ps us limit x.3 x.1 j x.5 in
       omega arith
 
-  parts_same : (ps : List Part) (ts us : List TokenKind) (limit lower i : ℕ) (args : List ArgumentTree) (j : ℕ) → lower ≤ limit → Parts line d ps ts limit i args j → Same j ts us → Parts line d ps us lower i args j
+  parts_same : (ps : List Part) (ts us : List TokenKind) (limit lower i : ℕ) (args : List ArgumentTree) (j : ℕ)
+      → lower ≤ limit → Parts line d ps ts limit i args j → Same j ts us → Parts line d ps us lower i args j
   parts_same [] ts us limit lower i args j low x same = x
   parts_same (p ∷ ps) ts us limit lower i args j low x same =
       let rest = parts_up ps ts limit x.3 x.1 j x.5 in

@@ -178,7 +178,9 @@ module _ (line : ℕ → ℕ) (ts : List TokenKind) where
         (block_found line d loop ts i x.0 (fits lt) ss b
         (subst (λ n. RightStatements line ts (d + 1) loop n (found ss b)) x.1 (statements_right inner y.0 (omega arith))) j (token_right close_brace b j y))
 
-    statements_right : {d : ℕ} {loop : Bool} {i : ℕ} {ss : List StatementTree} {j : ℕ} → AreStatements line ts l d loop i ss j → EndsStatements ts j → j ≤ l → RightStatements line ts d loop i (found ss j)
+    statements_right : {d : ℕ} {loop : Bool} {i : ℕ} {ss : List StatementTree} {j : ℕ}
+        → AreStatements line ts l d loop i ss j → EndsStatements ts j → j ≤ l
+        → RightStatements line ts d loop i (found ss j)
     statements_right {d = d} {loop = loop} {i = i} no_statement ends within = statements_none line d loop ts i ends within
     statements_right {d = d} {loop = loop} {i = i} {j = j} (a_statement {a = a} {s = s} {ss = ss} x more) ends within =
         let up = statements_up line ts l more in

@@ -167,7 +167,9 @@ module _ (line : ℕ → ℕ) where
 
         pub if_otherwise : (body : Block) (l : ℕ) → RightBlock line ts d loop k (found body l) → (o : Outcome (Option Block)) → RightElse line ts d loop l o →
             RightIf line ts d loop i (map_outcome (choice e body) o)
-        if_otherwise body l y (found other j) z = if_as (found (e, (body, other)) j) (seq_then (Condition line d) Branches (condition_framed line d) (λ us limit n b m y ends. tt) x (found (body, other) j)
+        if_otherwise body l y (found other j) z =
+            if_as (found (e, (body, other)) j) (seq_then (Condition line d) Branches (condition_framed line d)
+            (λ us limit n b m y ends. tt) x (found (body, other) j)
             (seq_then (OneBlock line d loop) (Else line d loop) (block_framed line d loop) (λ us limit n b m y ends. tt) y (found other j) z))
         if_otherwise body l y (stopped j why) z = if_as (stopped j why) (seq_then (Condition line d) Branches (condition_framed line d) (λ us limit n b m y ends. tt) x (stopped j why)
             (seq_then (OneBlock line d loop) (Else line d loop) (block_framed line d loop) (λ us limit n b m y ends. tt) y (stopped j why) z))

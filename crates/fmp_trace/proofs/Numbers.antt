@@ -23,7 +23,9 @@ all_digits_more text i h a d =
 pub capped_more : (v n b : ℕ) → v ≡ min n 1000 → digit_value b < 10 → min (v * 10 + (b - 48)) 1000 ≡ min (n * 10 + digit_value b) 1000
 capped_more v n b e h = let d = digit_value_digit b (digit_from_value b h) in omega (arith, d, e)
 
-pub value_more : (text : List ℕ) (i v : ℕ) → i < length text → v ≡ min (digits_value 10 (take i text)) 1000 → digit_value (get_or text i 0) < 10 → min (v * 10 + (get_or text i 0 - 48)) 1000 ≡ min (digits_value 10 (take (i + 1) text)) 1000
+pub value_more : (text : List ℕ) (i v : ℕ) → i < length text → v ≡ min (digits_value 10 (take i text)) 1000
+    → digit_value (get_or text i 0) < 10
+    → min (v * 10 + (get_or text i 0 - 48)) 1000 ≡ min (digits_value 10 (take (i + 1) text)) 1000
 value_more text i v h e d =
     capped_more v (digits_value 10 (take i text)) (get_or text i 0) e d
     ∙ ap (λ n. min n 1000) (sym (digits_value_more 10 text i h))

@@ -49,7 +49,8 @@ event_of_line-event_text processors n e small h few =
     ap (λ t. cond t (fault_at n (line_meaning processors (event_text e))) (Err (fault.TooMany n))) (le-leb n 1048576 few)
     ∙ ap (fault_at n) (line_meaning-event_text processors e small h)
 
-events_of-steps_text : (processors n : ℕ) (es : List Event) → processors < 256 → AllByRecursion (IsStep processors) es → n + length es ≤ 1048577 → events_of processors n (lines_of (steps_text es)) ≡ Ok es
+events_of-steps_text : (processors n : ℕ) (es : List Event) → processors < 256 → AllByRecursion (IsStep processors) es
+    → n + length es ≤ 1048577 → events_of processors n (lines_of (steps_text es)) ≡ Ok es
 events_of-steps_text processors n [] small h few = refl
 events_of-steps_text processors n (e ∷ es) small h few =
     ap (events_of processors n) (lines_of-ended (event_text e) (steps_text es) (event_in_line processors e small h.0))

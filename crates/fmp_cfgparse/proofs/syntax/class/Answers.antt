@@ -17,14 +17,18 @@ returns-in_err-next c =
     let ts = kinds_of c.args.tokens.now in
     let e = err_from_is_err_and c.from_residual.result c.from_residual.ensures.1 in
     rw (e.1, e.2) (step_as class_view c.in_err-next.field-0.0 (RightToken ts class_word c.args.at) (RightClass ts c.args.at)
-    (λ j why x. class_as ts c.args.at (stopped j why) (word_stop class_word open_brace (reading.Item name_of) Block (item_framed name_of) name_fills block_fills Anywhere ts c.args.at j why x)) c.in_err-next.ensures)
+    (λ j why x. class_as ts c.args.at (stopped j why)
+    (word_stop class_word open_brace (reading.Item name_of) Block (item_framed name_of) name_fills block_fills Anywhere ts c.args.at j why x))
+    c.in_err-next.ensures)
 
 pub returns-in_err-place : goal.returns-in_err-place
 returns-in_err-place c =
     let ts = kinds_of c.args.tokens.now in
     let e = err_from_is_err_and c.from_residual-in_err-place.result c.from_residual-in_err-place.ensures.1 in
     rw (e.1, e.2) (step_as class_view c.in_err-place.field-0.0 (RightToken ts left c.in_ok-next.next) (RightClass ts c.args.at)
-    (λ j why x. class_as ts c.args.at (stopped j why) (left_stop class_word open_brace (reading.Item name_of) Block (item_framed name_of) name_fills block_fills Anywhere ts c.args.at c.in_ok-next.next c.in_ok-next.ensures j why x)) c.in_err-place.ensures)
+    (λ j why x. class_as ts c.args.at (stopped j why)
+    (left_stop class_word open_brace (reading.Item name_of) Block (item_framed name_of) name_fills block_fills Anywhere ts c.args.at c.in_ok-next.next c.in_ok-next.ensures j why x))
+    c.in_err-place.ensures)
 
 pub returns-in_err-name : goal.returns-in_err-name
 returns-in_err-name c =
@@ -64,5 +68,10 @@ returns-in_err-next-4 c =
 pub returns : goal.returns
 returns c =
     let ts = kinds_of c.args.tokens.now in
-    class_as ts c.args.at (found ((c.in_ok-place.place, c.in_ok-name.name), apis_view c.in_ok-apis.apis) c.in_ok-next-4.next) (rest_then class_word open_brace (reading.Item name_of) Block (item_framed name_of) name_fills block_fills Anywhere ts c.args.at c.in_ok-next.next c.in_ok-next.ensures c.in_ok-place.place c.in_ok-place.ensures c.in_ok-name.name c.in_ok-name.next c.in_ok-name.ensures c.in_ok-next-2.next c.in_ok-next-2.ensures c.in_ok-next-3.next c.in_ok-next-3.ensures (found (apis_view c.in_ok-apis.apis) c.in_ok-next-4.next)
+    class_as ts c.args.at
+    (found ((c.in_ok-place.place, c.in_ok-name.name), apis_view c.in_ok-apis.apis) c.in_ok-next-4.next) (rest_then
+    class_word open_brace (reading.Item name_of) Block (item_framed name_of) name_fills block_fills Anywhere ts
+    c.args.at c.in_ok-next.next c.in_ok-next.ensures c.in_ok-place.place c.in_ok-place.ensures
+    c.in_ok-name.name c.in_ok-name.next c.in_ok-name.ensures c.in_ok-next-2.next c.in_ok-next-2.ensures
+    c.in_ok-next-3.next c.in_ok-next-3.ensures (found (apis_view c.in_ok-apis.apis) c.in_ok-next-4.next)
     (closed_found (Star OneApi) close_brace (star_framed OneApi api_framed) brace_follows c.in_ok-apis.ensures c.in_ok-next-4.ensures))

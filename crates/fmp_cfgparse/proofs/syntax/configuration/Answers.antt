@@ -21,7 +21,9 @@ returns-in_err-next c =
     let ts = kinds_of c.args.tokens.now in
     let e = err_from_is_err_and c.from_residual.result c.from_residual.ensures.1 in
     rw (e.1, e.2) (step_as configuration_view c.in_err-next.field-0.0 (RightToken ts processors_word 0) (RightConfig ts 0)
-    (λ j why x. config_as ts (stopped j why) (word_stop processors_word semicolon (reading.Item number_of) (Star OneClass) (item_framed number_of) number_fills (star_fills OneClass) EndsClasses ts 0 j why x)) c.in_err-next.ensures)
+    (λ j why x. config_as ts (stopped j why)
+    (word_stop processors_word semicolon (reading.Item number_of) (Star OneClass) (item_framed number_of) number_fills (star_fills OneClass) EndsClasses ts 0 j why x))
+    c.in_err-next.ensures)
 
 pub returns-in_err-at : goal.returns-in_err-at
 returns-in_err-at c =
@@ -63,5 +65,11 @@ returns c =
     let ts = kinds_of c.args.tokens.now in
     let n = c.in_ok-processors.processors in
     let fits : SFits w32 n = search rules in
-    let x = config_as ts (found ((c.in_ok-at.at, n), classes_view c.in_ok-classes.classes) c.in_ok-classes.next) (rest_then processors_word semicolon (reading.Item number_of) (Star OneClass) (item_framed number_of) number_fills (star_fills OneClass) EndsClasses ts 0 c.in_ok-next.next c.in_ok-next.ensures c.in_ok-at.at c.in_ok-at.ensures c.in_ok-processors.processors c.in_ok-processors.next c.in_ok-processors.ensures c.in_ok-next-2.next c.in_ok-next-2.ensures c.in_ok-next-3.next c.in_ok-next-3.ensures (found (classes_view c.in_ok-classes.classes) c.in_ok-classes.next) c.in_ok-classes.ensures) in
+    let x =
+    config_as ts (found ((c.in_ok-at.at, n), classes_view c.in_ok-classes.classes) c.in_ok-classes.next) (rest_then
+    processors_word semicolon (reading.Item number_of) (Star OneClass) (item_framed number_of) number_fills
+    (star_fills OneClass) EndsClasses ts 0 c.in_ok-next.next c.in_ok-next.ensures c.in_ok-at.at
+    c.in_ok-at.ensures c.in_ok-processors.processors c.in_ok-processors.next c.in_ok-processors.ensures
+    c.in_ok-next-2.next c.in_ok-next-2.ensures c.in_ok-next-3.next c.in_ok-next-3.ensures
+    (found (classes_view c.in_ok-classes.classes) c.in_ok-classes.next) c.in_ok-classes.ensures) in
     subst (λ m. RightConfig ts 0 (found (record { processors = m; at = c.in_ok-at.at; classes = classes_view c.in_ok-classes.classes }) c.in_ok-classes.next)) (sym (to_z-of_z w32 n fits)) x

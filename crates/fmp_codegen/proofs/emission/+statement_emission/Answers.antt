@@ -31,51 +31,93 @@ emit_statement-emit_block-requires t c =
 
 pub emit_statement-size_of_block-requires-in-IfElse : goal.emit_statement-size_of_block-requires-in-IfElse
 emit_statement-size_of_block-requires-in-IfElse t c =
-    let view = view-IfElse c.args.s.now c.in-IfElse.condition c.in-IfElse.then c.in-IfElse.otherwise c.deref-in-IfElse.result.now c.in-IfElse.otherwise.items c.in-IfElse.is c.deref-in-IfElse.ensures.value refl in
+    let view =
+    view-IfElse c.args.s.now c.in-IfElse.condition c.in-IfElse.then c.in-IfElse.otherwise
+    c.deref-in-IfElse.result.now c.in-IfElse.otherwise.items c.in-IfElse.is c.deref-in-IfElse.ensures.value refl
+    in
     let size = ap statement_size view in
     omega (arith, size, c.requires.room)
 
 pub emit_statement-overflow_add-size_of_block : goal.emit_statement-overflow_add-size_of_block
 emit_statement-overflow_add-size_of_block t c =
-    let view = view-IfElse c.args.s.now c.in-IfElse.condition c.in-IfElse.then c.in-IfElse.otherwise c.deref-in-IfElse.result.now c.in-IfElse.otherwise.items c.in-IfElse.is c.deref-in-IfElse.ensures.value refl in
+    let view =
+    view-IfElse c.args.s.now c.in-IfElse.condition c.in-IfElse.then c.in-IfElse.otherwise
+    c.deref-in-IfElse.result.now c.in-IfElse.otherwise.items c.in-IfElse.is c.deref-in-IfElse.ensures.value refl
+    in
     let size = ap statement_size view in
     omega (arith, size, c.size_of_block-in-IfElse.ensures, c.requires.room)
 
 pub emit_statement-emit_test-requires-in-IfElse-clause-room :
     goal.emit_statement-emit_test-requires-in-IfElse-clause-room
 emit_statement-emit_test-requires-in-IfElse-clause-room t c =
-    let view = view-IfElse c.args.s.now c.in-IfElse.condition c.in-IfElse.then c.in-IfElse.otherwise c.deref-in-IfElse.result.now c.in-IfElse.otherwise.items c.in-IfElse.is c.deref-in-IfElse.ensures.value refl in
+    let view =
+    view-IfElse c.args.s.now c.in-IfElse.condition c.in-IfElse.then c.in-IfElse.otherwise
+    c.deref-in-IfElse.result.now c.in-IfElse.otherwise.items c.in-IfElse.is c.deref-in-IfElse.ensures.value refl
+    in
     let size = ap statement_size view in
     omega (arith, size, c.size_of_block-in-IfElse.ensures, c.requires.room)
 
 pub emit_statement-emit_block-requires-in-IfElse : goal.emit_statement-emit_block-requires-in-IfElse
 emit_statement-emit_block-requires-in-IfElse t c =
-    let view = view-IfElse c.args.s.now c.in-IfElse.condition c.in-IfElse.then c.in-IfElse.otherwise c.deref-in-IfElse-2.result.now c.in-IfElse.otherwise.items c.in-IfElse.is c.deref-in-IfElse-2.ensures.value refl in
+    let view =
+    view-IfElse c.args.s.now c.in-IfElse.condition c.in-IfElse.then c.in-IfElse.otherwise
+    c.deref-in-IfElse-2.result.now c.in-IfElse.otherwise.items c.in-IfElse.is c.deref-in-IfElse-2.ensures.value
+    refl in
     let size = ap statement_size view in
     let depth = ap statement_depth view in
     (search (rules, the_lemmas), (c.requires.held, (omega (arith, size, c.in_ok-emit_test-in-IfElse.ensures.len, c.requires.room), omega (arith, depth, c.requires.low))))
 
 pub emit_statement-size_of_block-requires-in-IfElse-2 : goal.emit_statement-size_of_block-requires-in-IfElse-2
 emit_statement-size_of_block-requires-in-IfElse-2 t c =
-    let view = view-IfElse c.args.s.now c.in-IfElse.condition c.in-IfElse.then c.in-IfElse.otherwise c.deref-in-IfElse-2.result.now c.deref-in-IfElse-3.result.now c.in-IfElse.is c.deref-in-IfElse-2.ensures.value c.deref-in-IfElse-3.ensures.value in
+    let view =
+    view-IfElse c.args.s.now c.in-IfElse.condition c.in-IfElse.then c.in-IfElse.otherwise
+    c.deref-in-IfElse-2.result.now c.deref-in-IfElse-3.result.now c.in-IfElse.is
+    c.deref-in-IfElse-2.ensures.value c.deref-in-IfElse-3.ensures.value in
     let size = ap statement_size view in
     omega (arith, size, c.requires.room)
 
 pub emit_statement-overflow_add-over-in-IfElse : goal.emit_statement-overflow_add-over-in-IfElse
 emit_statement-overflow_add-over-in-IfElse t c =
-    let view = view-IfElse c.args.s.now c.in-IfElse.condition c.in-IfElse.then c.in-IfElse.otherwise c.deref-in-IfElse-2.result.now c.deref-in-IfElse-3.result.now c.in-IfElse.is c.deref-in-IfElse-2.ensures.value c.deref-in-IfElse-3.ensures.value in
+    let view =
+    view-IfElse c.args.s.now c.in-IfElse.condition c.in-IfElse.then c.in-IfElse.otherwise
+    c.deref-in-IfElse-2.result.now c.deref-in-IfElse-3.result.now c.in-IfElse.is
+    c.deref-in-IfElse-2.ensures.value c.deref-in-IfElse-3.ensures.value in
     let size = ap statement_size view in
-    omega (arith, size, c.in_ok-emit_test-in-IfElse.ensures.len, c.in_ok-emit_block-in-IfElse.ensures.len, c.len.ensures, c.emit_block-in-IfElse.new.out.instructions.ok.0, c.size_of_block-in-IfElse-2.ensures, c.requires.room)
+    omega (
+      arith,
+      size,
+      c.in_ok-emit_test-in-IfElse.ensures.len,
+      c.in_ok-emit_block-in-IfElse.ensures.len,
+      c.len.ensures,
+      c.emit_block-in-IfElse.new.out.instructions.ok.0,
+      c.size_of_block-in-IfElse-2.ensures,
+      c.requires.room,
+    )
 
 pub emit_statement-place-requires : goal.emit_statement-place-requires
 emit_statement-place-requires t c =
-    let view = view-IfElse c.args.s.now c.in-IfElse.condition c.in-IfElse.then c.in-IfElse.otherwise c.deref-in-IfElse-2.result.now c.deref-in-IfElse-3.result.now c.in-IfElse.is c.deref-in-IfElse-2.ensures.value c.deref-in-IfElse-3.ensures.value in
+    let view =
+    view-IfElse c.args.s.now c.in-IfElse.condition c.in-IfElse.then c.in-IfElse.otherwise
+    c.deref-in-IfElse-2.result.now c.deref-in-IfElse-3.result.now c.in-IfElse.is
+    c.deref-in-IfElse-2.ensures.value c.deref-in-IfElse-3.ensures.value in
     let size = ap statement_size view in
-    omega (arith, size, c.in_ok-emit_test-in-IfElse.ensures.len, c.in_ok-emit_block-in-IfElse.ensures.len, c.len.ensures, c.emit_block-in-IfElse.new.out.instructions.ok.0, c.size_of_block-in-IfElse-2.ensures, c.requires.room)
+    omega (
+      arith,
+      size,
+      c.in_ok-emit_test-in-IfElse.ensures.len,
+      c.in_ok-emit_block-in-IfElse.ensures.len,
+      c.len.ensures,
+      c.emit_block-in-IfElse.new.out.instructions.ok.0,
+      c.size_of_block-in-IfElse-2.ensures,
+      c.requires.room,
+    )
 
 pub emit_statement-emit_block-requires-in-IfElse-2 : goal.emit_statement-emit_block-requires-in-IfElse-2
 emit_statement-emit_block-requires-in-IfElse-2 t c =
-    let view = view-IfElse c.args.s.now c.in-IfElse.condition c.in-IfElse.then c.in-IfElse.otherwise c.deref-in-IfElse-2.result.now c.deref-in-IfElse-4.result.now c.in-IfElse.is c.deref-in-IfElse-2.ensures.value c.deref-in-IfElse-4.ensures.value in
+    let view =
+    view-IfElse c.args.s.now c.in-IfElse.condition c.in-IfElse.then c.in-IfElse.otherwise
+    c.deref-in-IfElse-2.result.now c.deref-in-IfElse-4.result.now c.in-IfElse.is
+    c.deref-in-IfElse-2.ensures.value c.deref-in-IfElse-4.ensures.value in
     let size = ap statement_size view in
     let depth = ap statement_depth view in
     (search (rules, the_lemmas), (c.requires.held, (omega (arith, size, c.in_ok-emit_test-in-IfElse.ensures.len, c.in_ok-emit_block-in-IfElse.ensures.len, c.in_ok-put-in-IfElse.ensures.len, c.requires.room), omega (arith, depth, c.requires.low))))
@@ -149,7 +191,10 @@ emit_statement-returns-in_ok-emit_block-in-If-clause-depths t c =
 pub emit_statement-returns-in_ok-emit_block-in-IfElse-2-clause-code :
     goal.emit_statement-returns-in_ok-emit_block-in-IfElse-2-clause-code
 emit_statement-returns-in_ok-emit_block-in-IfElse-2-clause-code t c =
-    let view = view-IfElse c.args.s.now c.in-IfElse.condition c.in-IfElse.then c.in-IfElse.otherwise c.deref-in-IfElse-2.result.now c.deref-in-IfElse-4.result.now c.in-IfElse.is c.deref-in-IfElse-2.ensures.value c.deref-in-IfElse-4.ensures.value in
+    let view =
+    view-IfElse c.args.s.now c.in-IfElse.condition c.in-IfElse.then c.in-IfElse.otherwise
+    c.deref-in-IfElse-2.result.now c.deref-in-IfElse-4.result.now c.in-IfElse.is
+    c.deref-in-IfElse-2.ensures.value c.deref-in-IfElse-4.ensures.value in
     let scope = scope_view c.args.names.now in
     let begun = c.args.out.now.instructions.items in
     let first = ap (λ xs. block_size (block_view xs)) (c.deref-in-IfElse.ensures.value ∙ sym c.deref-in-IfElse-2.ensures.value) in
@@ -169,14 +214,20 @@ emit_statement-returns-in_ok-emit_block-in-IfElse-2-clause-code t c =
 pub emit_statement-returns-in_ok-emit_block-in-IfElse-2-clause-len :
     goal.emit_statement-returns-in_ok-emit_block-in-IfElse-2-clause-len
 emit_statement-returns-in_ok-emit_block-in-IfElse-2-clause-len t c =
-    let view = view-IfElse c.args.s.now c.in-IfElse.condition c.in-IfElse.then c.in-IfElse.otherwise c.deref-in-IfElse-2.result.now c.deref-in-IfElse-4.result.now c.in-IfElse.is c.deref-in-IfElse-2.ensures.value c.deref-in-IfElse-4.ensures.value in
+    let view =
+    view-IfElse c.args.s.now c.in-IfElse.condition c.in-IfElse.then c.in-IfElse.otherwise
+    c.deref-in-IfElse-2.result.now c.deref-in-IfElse-4.result.now c.in-IfElse.is
+    c.deref-in-IfElse-2.ensures.value c.deref-in-IfElse-4.ensures.value in
     let size = ap statement_size view in
     omega (arith, size, c.in_ok-emit_test-in-IfElse.ensures.len, c.in_ok-emit_block-in-IfElse.ensures.len, c.in_ok-put-in-IfElse.ensures.len, c.in_ok-emit_block-in-IfElse-2.ensures.len)
 
 pub emit_statement-returns-in_ok-emit_block-in-IfElse-2-clause-depths :
     goal.emit_statement-returns-in_ok-emit_block-in-IfElse-2-clause-depths
 emit_statement-returns-in_ok-emit_block-in-IfElse-2-clause-depths t c =
-    let view = view-IfElse c.args.s.now c.in-IfElse.condition c.in-IfElse.then c.in-IfElse.otherwise c.deref-in-IfElse-2.result.now c.deref-in-IfElse-4.result.now c.in-IfElse.is c.deref-in-IfElse-2.ensures.value c.deref-in-IfElse-4.ensures.value in
+    let view =
+    view-IfElse c.args.s.now c.in-IfElse.condition c.in-IfElse.then c.in-IfElse.otherwise
+    c.deref-in-IfElse-2.result.now c.deref-in-IfElse-4.result.now c.in-IfElse.is
+    c.deref-in-IfElse-2.ensures.value c.deref-in-IfElse-4.ensures.value in
     let begun = c.args.out.now.depths.items in
     else-deep (expression_view c.in-IfElse.condition) (block_view c.deref-in-IfElse-2.result.now) begun
     c.emit_test-in-IfElse.new.out.depths.items c.emit_block-in-IfElse.new.out.depths.items

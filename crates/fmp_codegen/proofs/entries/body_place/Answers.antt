@@ -7,4 +7,7 @@ use Rattle.fmp_codegen.proofs.entries.body_place.Goals as goal
 
 pub returns-clause-place : goal.returns-clause-place
 returns-clause-place c =
-    c.place_in.ensures.place ∙ ap (λ (bs : List Body). place_of (name_text c.args.name.now) (map (λ (b : Body). b.name.name) bs)) c.deref.ensures.value ∙ ap (place_of (name_text c.args.name.now)) (sym (names-viewed c.args.program.now.bodies.items))
+    c.place_in.ensures.place ∙ ap
+    (λ (bs : List Body). place_of (name_text c.args.name.now) (map (λ (b : Body). b.name.name) bs))
+    c.deref.ensures.value ∙ ap (place_of (name_text c.args.name.now))
+    (sym (names-viewed c.args.program.now.bodies.items))

@@ -11,13 +11,17 @@ pub returns-in_err-row-clause-read : goal.returns-in_err-row-clause-read
 returns-in_err-row-clause-read g c =
     let p = err_from_is_err_and c.from_residual.result c.from_residual.ensures.1 in
     let row = g.R.Row.field (frame_of c.args.processors c.args.heads.now) in
-    rw (p.1, p.2) (ends row g.R.Row.key_of c.loop.rows.items c.args.count c.loop.counter c.loop.taken.items c.loop.rest.now (rows_at row g.R.Row.key_of c.args.count c.args.taken.now.items c.args.bytes.now) c.in_err-row.field-0.0 c.loop-test.true c.in_err-row.ensures c.loop.invariant.so_far)
+    rw (p.1, p.2) (ends row g.R.Row.key_of c.loop.rows.items c.args.count c.loop.counter c.loop.taken.items
+    c.loop.rest.now (rows_at row g.R.Row.key_of c.args.count c.args.taken.now.items c.args.bytes.now)
+    c.in_err-row.field-0.0 c.loop-test.true c.in_err-row.ensures c.loop.invariant.so_far)
 
 pub returns-then-is_taken-clause-read : goal.returns-then-is_taken-clause-read
 returns-then-is_taken-clause-read g c =
     let row = g.R.Row.field (frame_of c.args.processors c.args.heads.now) in
     let there : is_taken (g.R.Row.key_of c.in_ok-row.row) c.loop.taken.items ≡ true = search rules in
-    stands row g.R.Row.key_of c.loop.rows.items c.args.count c.loop.counter c.loop.taken.items c.loop.rest.now (rows_at row g.R.Row.key_of c.args.count c.args.taken.now.items c.args.bytes.now) c.in_ok-row.row c.in_ok-row.after.now c.loop-test.true c.in_ok-row.ensures there c.loop.invariant.so_far
+    stands row g.R.Row.key_of c.loop.rows.items c.args.count c.loop.counter c.loop.taken.items c.loop.rest.now
+    (rows_at row g.R.Row.key_of c.args.count c.args.taken.now.items c.args.bytes.now) c.in_ok-row.row
+    c.in_ok-row.after.now c.loop-test.true c.in_ok-row.ensures there c.loop.invariant.so_far
 
 pub loop-preserved : goal.loop-preserved
 loop-preserved g c =
@@ -35,4 +39,6 @@ loop-preserved g c =
 pub returns-clause-read : goal.returns-clause-read
 returns-clause-read g c =
     let row = g.R.Row.field (frame_of c.args.processors c.args.heads.now) in
-    is_done row g.R.Row.key_of c.loop.rows.items c.args.count c.loop.counter c.loop.taken.items c.loop.rest.now (rows_at row g.R.Row.key_of c.args.count c.args.taken.now.items c.args.bytes.now) c.loop-test.false c.loop.invariant.so_far
+    is_done row g.R.Row.key_of c.loop.rows.items c.args.count c.loop.counter c.loop.taken.items c.loop.rest.now
+    (rows_at row g.R.Row.key_of c.args.count c.args.taken.now.items c.args.bytes.now) c.loop-test.false
+    c.loop.invariant.so_far

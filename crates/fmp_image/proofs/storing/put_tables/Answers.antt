@@ -18,4 +18,13 @@ returns c =
     let e9 : c.put_table-9.new.out.items ≡ c.put_table-8.new.out.items ++ (table_of cyclic_form (frame_of 0 []) []).spell s.cyclics.items = search rules in
     let e10 : c.put_table-10.new.out.items ≡ c.put_table-9.new.out.items ++ (table_of interrupt_form (frame_of 0 []) []).spell s.interrupts.items = search rules in
     rw (e10, e9, e8, e7, e6, e5, e4, e3, e2, e1)
-    (chain_10 c.args.out.now.items ((table_of task_form (frame_of 0 []) []).spell s.tasks.items) ((table_of semaphore_form (frame_of 0 []) []).spell s.semaphores.items) ((table_of flag_form (frame_of 0 []) []).spell s.flags.items) ((table_of data_queue_form (frame_of 0 []) []).spell s.data_queues.items) ((table_of mailbox_form (frame_of 0 []) []).spell s.mailboxes.items) ((table_of message_form (frame_of 0 []) []).spell s.messages.items) ((table_of shared_word_form (frame_of 0 []) []).spell s.shared_words.items) ((table_of spin_lock_form (frame_of 0 []) []).spell s.spin_locks.items) ((table_of cyclic_form (frame_of 0 []) []).spell s.cyclics.items) ((table_of interrupt_form (frame_of 0 []) []).spell s.interrupts.items))
+    (chain_10 c.args.out.now.items ((table_of task_form (frame_of 0 []) []).spell s.tasks.items)
+    ((table_of semaphore_form (frame_of 0 []) []).spell s.semaphores.items)
+    ((table_of flag_form (frame_of 0 []) []).spell s.flags.items)
+    ((table_of data_queue_form (frame_of 0 []) []).spell s.data_queues.items)
+    ((table_of mailbox_form (frame_of 0 []) []).spell s.mailboxes.items)
+    ((table_of message_form (frame_of 0 []) []).spell s.messages.items)
+    ((table_of shared_word_form (frame_of 0 []) []).spell s.shared_words.items)
+    ((table_of spin_lock_form (frame_of 0 []) []).spell s.spin_locks.items)
+    ((table_of cyclic_form (frame_of 0 []) []).spell s.cyclics.items)
+    ((table_of interrupt_form (frame_of 0 []) []).spell s.interrupts.items))

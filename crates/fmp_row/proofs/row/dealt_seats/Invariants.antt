@@ -4,4 +4,9 @@ use Rattle.fmp_row.specs.Seats.{AreFirst}
 use Rattle.fmp_row.proofs.row.dealt_seats.Given as goal
 
 abbrev pub invariant-loop-number : goal.invariant-loop-number
-invariant-loop-number l = (l.scribe.table_id ≡ l.words.table_id) × (l.scribe.me ≡ (scribe_view (new_pen l.words.table_id.words l.count l.number), [])) × AreFirst (record { table = l.words.table_id; capacity = l.words.table_id.words; seats = l.count }) l.number l.seats.items × (l.count ≤ vec_capacity l.seats)
+invariant-loop-number l =
+    (l.scribe.table_id ≡ l.words.table_id)
+    × (l.scribe.me ≡ (scribe_view (new_pen l.words.table_id.words l.count l.number), []))
+    × AreFirst (record { table = l.words.table_id; capacity = l.words.table_id.words; seats = l.count })
+    l.number l.seats.items
+    × (l.count ≤ vec_capacity l.seats)

@@ -9,7 +9,8 @@ use Rattle.fmp_tasklang.proofs.bodies.bodies.Given as goal
 abbrev pub invariant-bodies : goal.invariant-bodies
 invariant-bodies l = record {
   within : l.i ≤ length l.tokens;
-  goes : (o : Outcome (List BodyTree)) → RightBodies (lines_of l.tokens) (kinds_of l.tokens) l.i o → RightBodies (lines_of l.tokens) (kinds_of l.tokens) l.at (map_outcome (put_before (bodies_view l.found)) o);
+  goes : (o : Outcome (List BodyTree)) → RightBodies (lines_of l.tokens) (kinds_of l.tokens) l.i o
+      → RightBodies (lines_of l.tokens) (kinds_of l.tokens) l.at (map_outcome (put_before (bodies_view l.found)) o);
 }
 
 abbrev pub decreases-bodies : goal.decreases-bodies

@@ -35,7 +35,8 @@ returns-in_err-variables c =
     let i = c.args.at in
     let p = err_from_is_err_and c.from_residual-in_err-variables.result c.from_residual-in_err-variables.ensures.1 in
     rw (p.1, p.2) (err_as words_view body_view c.in_err-variables.field-0.0 (RightVariables line ts c.in_ok-next.next) (RightBody line ts i)
-    (λ j why x. body_variables line ts i c.args.kind c.requires.first c.in_ok-name.name c.in_ok-name.next c.in_ok-name.ensures c.in_ok-next.next c.in_ok-next.ensures j why x) c.in_err-variables.ensures)
+    (λ j why x. body_variables line ts i c.args.kind c.requires.first c.in_ok-name.name c.in_ok-name.next
+    c.in_ok-name.ensures c.in_ok-next.next c.in_ok-next.ensures j why x) c.in_err-variables.ensures)
 
 pub returns-in_err-statements : goal.returns-in_err-statements
 returns-in_err-statements c =
@@ -44,7 +45,9 @@ returns-in_err-statements c =
     let i = c.args.at in
     let p = err_from_is_err_and c.from_residual-in_err-statements.result c.from_residual-in_err-statements.ensures.1 in
     rw (p.1, p.2) (err_as statements_view body_view c.in_err-statements.field-0.0 (RightStatements line ts 0 false c.in_ok-variables.next) (RightBody line ts i)
-    (λ j why x. body_statements line ts i c.args.kind c.requires.first c.in_ok-name.name c.in_ok-name.next c.in_ok-name.ensures c.in_ok-next.next c.in_ok-next.ensures (words_view c.in_ok-variables.variables) c.in_ok-variables.next c.in_ok-variables.ensures j why x) c.in_err-statements.ensures)
+    (λ j why x. body_statements line ts i c.args.kind c.requires.first c.in_ok-name.name c.in_ok-name.next
+    c.in_ok-name.ensures c.in_ok-next.next c.in_ok-next.ensures (words_view c.in_ok-variables.variables)
+    c.in_ok-variables.next c.in_ok-variables.ensures j why x) c.in_err-statements.ensures)
 
 pub returns-in_err-next-2 : goal.returns-in_err-next-2
 returns-in_err-next-2 c =
@@ -53,11 +56,18 @@ returns-in_err-next-2 c =
     let i = c.args.at in
     let p = err_from_is_err_and c.from_residual-in_err-next-2.result c.from_residual-in_err-next-2.ensures.1 in
     rw (p.1, p.2) (step_as body_view c.in_err-next-2.field-0.0 (RightToken ts close_brace c.in_ok-statements.next) (RightBody line ts i)
-    (λ j why x. body_closed line ts i c.args.kind c.requires.first c.in_ok-name.name c.in_ok-name.next c.in_ok-name.ensures c.in_ok-next.next c.in_ok-next.ensures (words_view c.in_ok-variables.variables) c.in_ok-variables.next c.in_ok-variables.ensures (statements_view c.in_ok-statements.statements) c.in_ok-statements.next c.in_ok-statements.ensures j why x) c.in_err-next-2.ensures)
+    (λ j why x. body_closed line ts i c.args.kind c.requires.first c.in_ok-name.name c.in_ok-name.next
+    c.in_ok-name.ensures c.in_ok-next.next c.in_ok-next.ensures (words_view c.in_ok-variables.variables)
+    c.in_ok-variables.next c.in_ok-variables.ensures (statements_view c.in_ok-statements.statements)
+    c.in_ok-statements.next c.in_ok-statements.ensures j why x) c.in_err-next-2.ensures)
 
 pub returns : goal.returns
 returns c =
     let line = lines_of c.args.tokens.now in
     let ts = kinds_of c.args.tokens.now in
     let i = c.args.at in
-    rw (block_view-is c.in_ok-statements.statements.items, c.line_at-line.ensures) (body_found line ts i c.args.kind c.requires.first c.in_ok-name.name c.in_ok-name.next c.in_ok-name.ensures c.in_ok-next.next c.in_ok-next.ensures (words_view c.in_ok-variables.variables) c.in_ok-variables.next c.in_ok-variables.ensures (statements_view c.in_ok-statements.statements) c.in_ok-statements.next c.in_ok-statements.ensures c.in_ok-next-2.next c.in_ok-next-2.ensures)
+    rw (block_view-is c.in_ok-statements.statements.items, c.line_at-line.ensures) (body_found line ts i c.args.kind
+    c.requires.first c.in_ok-name.name c.in_ok-name.next c.in_ok-name.ensures c.in_ok-next.next
+    c.in_ok-next.ensures (words_view c.in_ok-variables.variables) c.in_ok-variables.next
+    c.in_ok-variables.ensures (statements_view c.in_ok-statements.statements) c.in_ok-statements.next
+    c.in_ok-statements.ensures c.in_ok-next-2.next c.in_ok-next-2.ensures)

@@ -9,7 +9,8 @@ use Rattle.fmp_tasklang.proofs.bodies.variables.Given as goal
 abbrev pub invariant-variables : goal.invariant-variables
 invariant-variables l = record {
   within : l.i ≤ length l.tokens;
-  goes : (o : Outcome (List Word)) → RightVariables (lines_of l.tokens) (kinds_of l.tokens) l.i o → RightVariables (lines_of l.tokens) (kinds_of l.tokens) l.at (map_outcome (put_before (words_view l.found)) o);
+  goes : (o : Outcome (List Word)) → RightVariables (lines_of l.tokens) (kinds_of l.tokens) l.i o
+      → RightVariables (lines_of l.tokens) (kinds_of l.tokens) l.at (map_outcome (put_before (words_view l.found)) o);
 }
 
 abbrev pub decreases-variables : goal.decreases-variables

@@ -44,7 +44,9 @@ returns-in_err-argument c =
     let split : drop n ps ≡ row ∷ drop (n + 1) ps = rw add-one (drop-cons ps n (part.Mark mark.Open) c.loop-one-test.true) in
     let p = err_from_is_err_and c.from_residual.result c.from_residual.ensures.1 in
     rw (p.1, p.2) (err_as argument_view called_view c.in_err-argument.field-0.0 (RightPart line ts d row k) (RightArguments line ts d s ps i)
-    (λ j why x. arguments_as line d s ps ts i (stopped j why) (c.loop-one.invariant.goes (stopped j why) (subst (λ rows. RightParts line ts d rows k (stopped j why)) (sym split) (parts_stop line d row (drop (n + 1) ps) ts k j why x)))) c.in_err-argument.ensures)
+    (λ j why x. arguments_as line d s ps ts i (stopped j why)
+    (c.loop-one.invariant.goes (stopped j why) (subst (λ rows. RightParts line ts d rows k (stopped j why)) (sym split) (parts_stop line d row (drop (n + 1) ps) ts k j why x))))
+    c.in_err-argument.ensures)
 
 pub loop-one-preserved : goal.loop-one-preserved
 loop-one-preserved c =

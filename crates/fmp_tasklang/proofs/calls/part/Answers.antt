@@ -36,8 +36,11 @@ returns-in_err-next-in-Value c =
     let d = c.args.depth in
     let i = c.args.at in
     let p = err_from_is_err_and c.from_residual-in_err-next-in-Value.result c.from_residual-in_err-next-in-Value.ensures.1 in
-    rw (p.1, p.2, c.in-Value.is) (step_as argument_view c.in_err-next-in-Value.field-0.0 (RightToken ts (mark_kind c.in-Value.mark) c.in_ok-value-in-Value.next) (RightPart line ts d (part.Value c.in-Value.mark) i)
-    (λ j why x. value_unmarked line d ts i c.in-Value.mark (expression_view c.in_ok-value-in-Value.value) c.in_ok-value-in-Value.next c.in_ok-value-in-Value.ensures j why x) c.in_err-next-in-Value.ensures)
+    rw (p.1, p.2, c.in-Value.is) (step_as argument_view c.in_err-next-in-Value.field-0.0
+    (RightToken ts (mark_kind c.in-Value.mark) c.in_ok-value-in-Value.next)
+    (RightPart line ts d (part.Value c.in-Value.mark) i)
+    (λ j why x. value_unmarked line d ts i c.in-Value.mark (expression_view c.in_ok-value-in-Value.value)
+    c.in_ok-value-in-Value.next c.in_ok-value-in-Value.ensures j why x) c.in_err-next-in-Value.ensures)
 
 pub returns-in_err-next-in-Out : goal.returns-in_err-next-in-Out
 returns-in_err-next-in-Out c =
@@ -66,8 +69,12 @@ returns-in_err-next-in-Out-2 c =
     let d = c.args.depth in
     let i = c.args.at in
     let p = err_from_is_err_and c.from_residual-in_err-next-in-Out-2.result c.from_residual-in_err-next-in-Out-2.ensures.1 in
-    rw (p.1, p.2, c.in-Out.is) (step_as argument_view c.in_err-next-in-Out-2.field-0.0 (RightToken ts (mark_kind c.in-Out.mark) c.in_ok-word-in-Out.next) (RightPart line ts d (part.Out c.in-Out.mark) i)
-    (λ j why x. out_unmarked line d ts i c.in-Out.mark c.in_ok-next-in-Out.next c.in_ok-next-in-Out.ensures c.in_ok-word-in-Out.word c.in_ok-word-in-Out.next c.in_ok-word-in-Out.ensures j why x) c.in_err-next-in-Out-2.ensures)
+    rw (p.1, p.2, c.in-Out.is) (step_as argument_view c.in_err-next-in-Out-2.field-0.0
+    (RightToken ts (mark_kind c.in-Out.mark) c.in_ok-word-in-Out.next)
+    (RightPart line ts d (part.Out c.in-Out.mark) i)
+    (λ j why x. out_unmarked line d ts i c.in-Out.mark c.in_ok-next-in-Out.next c.in_ok-next-in-Out.ensures
+    c.in_ok-word-in-Out.word c.in_ok-word-in-Out.next c.in_ok-word-in-Out.ensures j why x)
+    c.in_err-next-in-Out-2.ensures)
 
 pub returns-in_ok-next-in-Mark : goal.returns-in_ok-next-in-Mark
 returns-in_ok-next-in-Mark c =
@@ -83,7 +90,9 @@ returns-in_ok-next-in-Value c =
     let ts = kinds_of c.args.tokens.now in
     let d = c.args.depth in
     let i = c.args.at in
-    rw c.in-Value.is (value_found line d ts i c.in-Value.mark (expression_view c.in_ok-value-in-Value.value) c.in_ok-value-in-Value.next c.in_ok-value-in-Value.ensures c.in_ok-next-in-Value.next c.in_ok-next-in-Value.ensures)
+    rw c.in-Value.is (value_found line d ts i c.in-Value.mark (expression_view c.in_ok-value-in-Value.value)
+    c.in_ok-value-in-Value.next c.in_ok-value-in-Value.ensures c.in_ok-next-in-Value.next
+    c.in_ok-next-in-Value.ensures)
 
 pub returns-in_ok-next-in-Out-2 : goal.returns-in_ok-next-in-Out-2
 returns-in_ok-next-in-Out-2 c =
@@ -91,4 +100,6 @@ returns-in_ok-next-in-Out-2 c =
     let ts = kinds_of c.args.tokens.now in
     let d = c.args.depth in
     let i = c.args.at in
-    rw c.in-Out.is (out_found line d ts i c.in-Out.mark c.in_ok-next-in-Out.next c.in_ok-next-in-Out.ensures c.in_ok-word-in-Out.word c.in_ok-word-in-Out.next c.in_ok-word-in-Out.ensures c.in_ok-next-in-Out-2.next c.in_ok-next-in-Out-2.ensures)
+    rw c.in-Out.is (out_found line d ts i c.in-Out.mark c.in_ok-next-in-Out.next c.in_ok-next-in-Out.ensures
+    c.in_ok-word-in-Out.word c.in_ok-word-in-Out.next c.in_ok-word-in-Out.ensures c.in_ok-next-in-Out-2.next
+    c.in_ok-next-in-Out-2.ensures)

@@ -64,7 +64,8 @@ expression-returns m0 c =
     let i = c.args.at in
     let m = c.args.level - 1 in
     rw (expression_view-Chain c.in_ok-first-2.first c.in_ok-rest.rest, c.in_ok-first-2.ensures.ok)
-    (chain_then line d m ts c.args.level i (omega arith) (expression_view c.in_ok-first.first) c.in_ok-first.next c.in_ok-first.ensures (found (links_view c.in_ok-rest.rest) c.in_ok-rest.next) c.in_ok-rest.ensures)
+    (chain_then line d m ts c.args.level i (omega arith) (expression_view c.in_ok-first.first) c.in_ok-first.next
+    c.in_ok-first.ensures (found (links_view c.in_ok-rest.rest) c.in_ok-rest.next) c.in_ok-rest.ensures)
 
 pub group-returns-then-depth-eq-MAX_DEPTH : goal.group-returns-then-depth-eq-MAX_DEPTH
 group-returns-then-depth-eq-MAX_DEPTH m0 c =
@@ -92,7 +93,9 @@ group-returns-in_err-next m0 c =
     let i = c.args.at in
     let p = err_from_is_err_and c.from_residual-in_err-next.result c.from_residual-in_err-next.ensures.1 in
     rw (p.1, p.2) (step_as expression_view c.in_err-next.field-0.0 (RightToken ts right c.in_ok-inner.next) (RightOperand line ts d i)
-    (λ j why x. group_then line ts d i c.requires.first (omega arith) (stopped j why) (ended_then line (d + 1) right refl ts (i + 1) (expression_view c.in_ok-inner.inner) c.in_ok-inner.next c.in_ok-inner.ensures (stopped j why) x)) c.in_err-next.ensures)
+    (λ j why x. group_then line ts d i c.requires.first (omega arith) (stopped j why)
+    (ended_then line (d + 1) right refl ts (i + 1) (expression_view c.in_ok-inner.inner) c.in_ok-inner.next c.in_ok-inner.ensures (stopped j why) x))
+    c.in_err-next.ensures)
 
 pub group-returns : goal.group-returns
 group-returns m0 c =
@@ -165,7 +168,8 @@ operand-returns-in_err-word m0 c =
     let i = c.args.at in
     let p = err_from_is_err_and c.from_residual.result c.from_residual.ensures.1 in
     rw (p.1, p.2) (err_as itself expression_view c.in_err-word.field-0.0 (RightWord line ts i) (RightOperand line ts d i)
-    (λ j why x. name_as line ts d i (sym c.in_default.ensures.value) (sym c.in_default-unary_at.ensures.value) (c.is_symbol_at.ensures.no c.if-is_symbol_at.false) (stopped j why) x) c.in_err-word.ensures)
+    (λ j why x. name_as line ts d i (sym c.in_default.ensures.value) (sym c.in_default-unary_at.ensures.value)
+    (c.is_symbol_at.ensures.no c.if-is_symbol_at.false) (stopped j why) x) c.in_err-word.ensures)
 
 pub operand-returns : goal.operand-returns
 operand-returns m0 c =
@@ -173,7 +177,9 @@ operand-returns m0 c =
     let ts = kinds_of c.args.tokens.now in
     let d = c.args.depth in
     let i = c.args.at in
-    rw (expression_view-Name c.in_ok-word.word) (name_as line ts d i (sym c.in_default.ensures.value) (sym c.in_default-unary_at.ensures.value) (c.is_symbol_at.ensures.no c.if-is_symbol_at.false) (found c.in_ok-word.word c.in_ok-word.next) c.in_ok-word.ensures)
+    rw (expression_view-Name c.in_ok-word.word) (name_as line ts d i (sym c.in_default.ensures.value)
+    (sym c.in_default-unary_at.ensures.value) (c.is_symbol_at.ensures.no c.if-is_symbol_at.false)
+    (found c.in_ok-word.word c.in_ok-word.next) c.in_ok-word.ensures)
 
 pub unary-returns-then-depth-eq-MAX_DEPTH : goal.unary-returns-then-depth-eq-MAX_DEPTH
 unary-returns-then-depth-eq-MAX_DEPTH m0 c =
@@ -199,4 +205,6 @@ unary-returns m0 c =
     let ts = kinds_of c.args.tokens.now in
     let d = c.args.depth in
     let i = c.args.at in
-    rw (expression_view-Unary c.args.operator c.in_ok-operand.operand, c.in_ok-operand.ensures.ok) (unary_then line ts d i c.args.operator c.requires.first (omega arith) (found (expression_view c.in_ok-inner.inner) c.in_ok-inner.next) c.in_ok-inner.ensures)
+    rw (expression_view-Unary c.args.operator c.in_ok-operand.operand, c.in_ok-operand.ensures.ok) (unary_then line ts d
+    i c.args.operator c.requires.first (omega arith)
+    (found (expression_view c.in_ok-inner.inner) c.in_ok-inner.next) c.in_ok-inner.ensures)

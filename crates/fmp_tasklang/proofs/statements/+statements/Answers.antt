@@ -86,7 +86,9 @@ while_statement-returns m0 c =
     let d = c.args.depth in
     let i = c.args.at in
     let loop = c.args.looped in
-    rw (while_view c.in_ok-condition.condition c.in_ok-body.body) (while_body line ts d loop i c.requires.first (expression_view c.in_ok-condition.condition) c.in_ok-condition.next c.in_ok-condition.ensures (found (block_view c.in_ok-body.body) c.in_ok-body.next) c.in_ok-body.ensures)
+    rw (while_view c.in_ok-condition.condition c.in_ok-body.body) (while_body line ts d loop i c.requires.first
+    (expression_view c.in_ok-condition.condition) c.in_ok-condition.next c.in_ok-condition.ensures
+    (found (block_view c.in_ok-body.body) c.in_ok-body.next) c.in_ok-body.ensures)
 
 pub if_statement-returns-in_err-condition : goal.if_statement-returns-in_err-condition
 if_statement-returns-in_err-condition m0 c =
@@ -119,7 +121,9 @@ if_statement-returns-in_err-otherwise m0 c =
     let loop = c.args.looped in
     let p = err_from_is_err_and c.from_residual-in_err-otherwise.result c.from_residual-in_err-otherwise.ensures.1 in
     rw (p.1, p.2) (err_as else_view statement_view c.in_err-otherwise.field-0.0 (RightElse line ts d loop c.in_ok-then.next) (RightIf line ts d loop i)
-    (λ j why x. if_otherwise line d loop ts i c.requires.first (expression_view c.in_ok-condition.condition) c.in_ok-condition.next c.in_ok-condition.ensures (block_view c.in_ok-then.then) c.in_ok-then.next c.in_ok-then.ensures (stopped j why) x) c.in_err-otherwise.ensures)
+    (λ j why x. if_otherwise line d loop ts i c.requires.first (expression_view c.in_ok-condition.condition)
+    c.in_ok-condition.next c.in_ok-condition.ensures (block_view c.in_ok-then.then) c.in_ok-then.next
+    c.in_ok-then.ensures (stopped j why) x) c.in_err-otherwise.ensures)
 
 pub if_statement-returns : goal.if_statement-returns
 if_statement-returns m0 c =
@@ -128,7 +132,10 @@ if_statement-returns m0 c =
     let d = c.args.depth in
     let i = c.args.at in
     let loop = c.args.looped in
-    rw c.choose.ensures (if_otherwise line d loop ts i c.requires.first (expression_view c.in_ok-condition.condition) c.in_ok-condition.next c.in_ok-condition.ensures (block_view c.in_ok-then.then) c.in_ok-then.next c.in_ok-then.ensures (found (else_view c.in_ok-otherwise.otherwise) c.in_ok-otherwise.next) c.in_ok-otherwise.ensures)
+    rw c.choose.ensures (if_otherwise line d loop ts i c.requires.first (expression_view c.in_ok-condition.condition)
+    c.in_ok-condition.next c.in_ok-condition.ensures (block_view c.in_ok-then.then) c.in_ok-then.next
+    c.in_ok-then.ensures (found (else_view c.in_ok-otherwise.otherwise) c.in_ok-otherwise.next)
+    c.in_ok-otherwise.ensures)
 
 pub else_part-returns-then-not-is_keyword_at : goal.else_part-returns-then-not-is_keyword_at
 else_part-returns-then-not-is_keyword_at m0 c =
@@ -239,7 +246,8 @@ block-returns-in_err-next m0 c =
     let loop = c.args.looped in
     let p = err_from_is_err_and c.from_residual-in_err-next.result c.from_residual-in_err-next.ensures.1 in
     rw (p.1, p.2) (step_as block_view c.in_err-next.field-0.0 (RightToken ts close_brace c.in_ok-body.next) (RightBlock line ts d loop i)
-    (λ j why x. block_open line d loop ts i (c.is_symbol_at.ensures.yes (search rules)) (omega arith) (statements_view c.in_ok-body.body) c.in_ok-body.next c.in_ok-body.ensures j why x) c.in_err-next.ensures)
+    (λ j why x. block_open line d loop ts i (c.is_symbol_at.ensures.yes (search rules)) (omega arith)
+    (statements_view c.in_ok-body.body) c.in_ok-body.next c.in_ok-body.ensures j why x) c.in_err-next.ensures)
 
 pub block-returns : goal.block-returns
 block-returns m0 c =
@@ -248,7 +256,9 @@ block-returns m0 c =
     let d = c.args.depth in
     let i = c.args.at in
     let loop = c.args.looped in
-    block_found line d loop ts i (c.is_symbol_at.ensures.yes (search rules)) (omega arith) (statements_view c.in_ok-body.body) c.in_ok-body.next c.in_ok-body.ensures c.in_ok-next.next c.in_ok-next.ensures
+    block_found line d loop ts i (c.is_symbol_at.ensures.yes (search rules)) (omega arith)
+    (statements_view c.in_ok-body.body) c.in_ok-body.next c.in_ok-body.ensures c.in_ok-next.next
+    c.in_ok-next.ensures
 
 pub statements-returns-in_err-one : goal.statements-returns-in_err-one
 statements-returns-in_err-one m0 c =

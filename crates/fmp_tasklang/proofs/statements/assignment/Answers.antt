@@ -46,7 +46,9 @@ returns-in_err-next-2 c =
     let i = c.args.at in
     let p = err_from_is_err_and c.from_residual-in_err-next-2.result c.from_residual-in_err-next-2.ensures.1 in
     rw (p.1, p.2) (step_as statement_view c.in_err-next-2.field-0.0 (RightToken ts semicolon c.in_ok-source.next) (RightAssignment line ts d i)
-    (λ j why x. assignment_open line ts d i c.in_ok-target.target c.in_ok-target.next c.in_ok-target.ensures c.in_ok-next.next c.in_ok-next.ensures (source_view c.in_ok-source.source) c.in_ok-source.next c.in_ok-source.ensures j why x) c.in_err-next-2.ensures)
+    (λ j why x. assignment_open line ts d i c.in_ok-target.target c.in_ok-target.next c.in_ok-target.ensures
+    c.in_ok-next.next c.in_ok-next.ensures (source_view c.in_ok-source.source) c.in_ok-source.next
+    c.in_ok-source.ensures j why x) c.in_err-next-2.ensures)
 
 pub returns : goal.returns
 returns c =
@@ -54,4 +56,6 @@ returns c =
     let ts = kinds_of c.args.tokens.now in
     let d = c.args.depth in
     let i = c.args.at in
-    rw c.assign.ensures (assignment_found line ts d i c.in_ok-target.target c.in_ok-target.next c.in_ok-target.ensures c.in_ok-next.next c.in_ok-next.ensures (source_view c.in_ok-source.source) c.in_ok-source.next c.in_ok-source.ensures c.in_ok-next-2.next c.in_ok-next-2.ensures)
+    rw c.assign.ensures (assignment_found line ts d i c.in_ok-target.target c.in_ok-target.next c.in_ok-target.ensures
+    c.in_ok-next.next c.in_ok-next.ensures (source_view c.in_ok-source.source) c.in_ok-source.next
+    c.in_ok-source.ensures c.in_ok-next-2.next c.in_ok-next-2.ensures)

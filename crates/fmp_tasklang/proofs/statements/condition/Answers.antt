@@ -36,7 +36,9 @@ returns-in_err-next-2 c =
     let i = c.args.at in
     let p = err_from_is_err_and c.from_residual-in_err-next-2.result c.from_residual-in_err-next-2.ensures.1 in
     rw (p.1, p.2) (step_as expression_view c.in_err-next-2.field-0.0 (RightToken ts right c.in_ok-condition.next) (RightCondition line ts d i)
-    (λ j why x. condition_open line ts d i c.in_ok-next.next c.in_ok-next.ensures (expression_view c.in_ok-condition.condition) c.in_ok-condition.next c.in_ok-condition.ensures j why x) c.in_err-next-2.ensures)
+    (λ j why x. condition_open line ts d i c.in_ok-next.next c.in_ok-next.ensures
+    (expression_view c.in_ok-condition.condition) c.in_ok-condition.next c.in_ok-condition.ensures j why x)
+    c.in_err-next-2.ensures)
 
 pub returns : goal.returns
 returns c =
@@ -44,4 +46,5 @@ returns c =
     let ts = kinds_of c.args.tokens.now in
     let d = c.args.depth in
     let i = c.args.at in
-    condition_found line ts d i c.in_ok-next.next c.in_ok-next.ensures (expression_view c.in_ok-condition.condition) c.in_ok-condition.next c.in_ok-condition.ensures c.in_ok-next-2.next c.in_ok-next-2.ensures
+    condition_found line ts d i c.in_ok-next.next c.in_ok-next.ensures (expression_view c.in_ok-condition.condition)
+    c.in_ok-condition.next c.in_ok-condition.ensures c.in_ok-next-2.next c.in_ok-next-2.ensures

@@ -28,7 +28,10 @@ invariant_of-self c =
       there = c.self.invariant.there;
       words = ap length whole ∙ same ∙ c.self.invariant.words;
       rows =
-          subst (λ (ws : List ℕ). AreRows c.self.inside.processors ws (processor_at_slot (marks_view c.self.inside).processors) (mark_at_slot c.self.inside.interrupts.items (slice_set c.self.inside.cyclics.items c.args.c c.args.pending))) (sym whole)
+          subst (λ (ws : List ℕ). AreRows c.self.inside.processors ws
+          (processor_at_slot (marks_view c.self.inside).processors)
+          (mark_at_slot c.self.inside.interrupts.items (slice_set c.self.inside.cyclics.items c.args.c c.args.pending)))
+          (sym whole)
           (AreRows-set _ _ _ _ _ _ (64 + c.args.c) c.args.pending c.self.invariant.rows
           (subst (λ (x : Option ℕ). IsSetAt c.self.inside.words.items c.set_slot.new.words x (64 + c.args.c) c.args.pending) (sym is) (rw c.as_mut_slice.ensures.value at c.set_slot.ensures.bits))
           (mark-cyclic_same c.self.inside.interrupts.items c.self.inside.cyclics.items c.args.c c.args.pending there)

@@ -9,7 +9,9 @@ pub set_slot-requires-clause-there : goal.set_slot-requires-clause-there
 set_slot-requires-clause-there c =
     let there : c.args.i < length c.self.inside.interrupts.items = rw (← c.self.view_is) at c.requires in
     let is : processor_at_slot (marks_view c.self.inside).processors c.args.i ≡ c.index-processor.result.now =
-    processor-interrupt c.self.inside.processors _ _ c.args.i _ (omega (arith, c.self.invariant.interrupts, c.self.invariant.interrupt_processors)) (omega (arith, c.self.invariant.interrupts)) c.index-processor.ensures in
+    processor-interrupt c.self.inside.processors _ _ c.args.i _
+    (omega (arith, c.self.invariant.interrupts, c.self.invariant.interrupt_processors))
+    (omega (arith, c.self.invariant.interrupts)) c.index-processor.ensures in
     row-there c.self.inside.processors _ _ (rw c.as_mut_slice.ensures.value c.self.invariant.words) (λ q e. c.self.invariant.there c.args.i q (is ∙ e))
 
 pub invariant_of-self : goal.invariant_of-self
@@ -19,7 +21,9 @@ invariant_of-self c =
     let whole = written_whole c.self.inside.words.items c.set_slot.new.words (vec_len c.self.inside.words) same all in
     let there : c.args.i < length c.self.inside.interrupts.items = rw (← c.self.view_is) at c.requires in
     let is : processor_at_slot (marks_view c.self.inside).processors c.args.i ≡ c.index-processor.result.now =
-    processor-interrupt c.self.inside.processors _ _ c.args.i _ (omega (arith, c.self.invariant.interrupts, c.self.invariant.interrupt_processors)) (omega (arith, c.self.invariant.interrupts)) c.index-processor.ensures in
+    processor-interrupt c.self.inside.processors _ _ c.args.i _
+    (omega (arith, c.self.invariant.interrupts, c.self.invariant.interrupt_processors))
+    (omega (arith, c.self.invariant.interrupts)) c.index-processor.ensures in
     record {
       interrupt_processors = c.self.invariant.interrupt_processors;
       interrupts = length-set c.self.inside.interrupts.items c.args.i c.args.pending ∙ c.self.invariant.interrupts;
@@ -28,7 +32,10 @@ invariant_of-self c =
       there = c.self.invariant.there;
       words = ap length whole ∙ same ∙ c.self.invariant.words;
       rows =
-          subst (λ (ws : List ℕ). AreRows c.self.inside.processors ws (processor_at_slot (marks_view c.self.inside).processors) (mark_at_slot (slice_set c.self.inside.interrupts.items c.args.i c.args.pending) c.self.inside.cyclics.items)) (sym whole)
+          subst (λ (ws : List ℕ). AreRows c.self.inside.processors ws
+          (processor_at_slot (marks_view c.self.inside).processors)
+          (mark_at_slot (slice_set c.self.inside.interrupts.items c.args.i c.args.pending) c.self.inside.cyclics.items))
+          (sym whole)
           (AreRows-set _ _ _ _ _ _ c.args.i c.args.pending c.self.invariant.rows
           (subst (λ (x : Option ℕ). IsSetAt c.self.inside.words.items c.set_slot.new.words x c.args.i c.args.pending) (sym is) (rw c.as_mut_slice.ensures.value at c.set_slot.ensures.bits))
           (mark-interrupt_same c.self.inside.interrupts.items c.self.inside.cyclics.items c.args.i c.args.pending there (omega (arith, c.self.invariant.interrupts)))

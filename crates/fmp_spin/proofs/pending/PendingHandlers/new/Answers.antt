@@ -10,7 +10,9 @@ invariant_of-result c =
     let sys = tables_of c.args.sys.now in
     let is : c.in_ok-interrupt_processors.interrupt_processors.items ≡ (handler_processors sys).interrupts = rw c.as_slice.ensures.value at c.in_ok-interrupt_processors.ensures in
     let cs : c.in_ok-cyclic_processors.cyclic_processors.items ≡ (handler_processors sys).cyclics = rw c.as_slice-2.ensures.value at c.in_ok-cyclic_processors.ensures in
-    let few : length c.in_ok-cyclics.cyclics.items ≡ length sys.cyclics = ap length c.in_ok-cyclics.ensures ∙ length-replicate _ _ ∙ c.len.ensures ∙ sym c.as_slice-2.ensures.len ∙ ap length c.as_slice-2.ensures.value in
+    let few : length c.in_ok-cyclics.cyclics.items ≡ length sys.cyclics =
+    ap length c.in_ok-cyclics.ensures ∙ length-replicate _ _ ∙ c.len.ensures ∙ sym c.as_slice-2.ensures.len ∙ ap
+    length c.as_slice-2.ensures.value in
     record {
       interrupt_processors = ap length is ∙ length-interrupts sys;
       interrupts = ap length c.in_ok-interrupts.ensures ∙ length-replicate 32 false;
