@@ -7,7 +7,9 @@ use Rattle.fmp_base.specs.declared.states.TaskBlock.{TaskBlock}
 use Rattle.fmp_base.specs.Changes.{released, released_state}
 use Rattle.fmp_base.specs.Outcomes.{code}
 use Rattle.fmp_base.specs.States.{KernelState, Progress, task_at, places_from}
-use Rattle.fmp_base.specs.Ticks.{is_due, timed_out, all_timed_out, timeout_code}
+use Rattle.fmp_base.specs.Ticks.{is_due, timed_out, all_timed_out, timeout_code, with_clock_advanced}
+use Rattle.fmp_base.specs.declared.calls.Reply.{Reply}
+use Rattle.fmp_kernel.specs.NextTicks.{at_tick}
 use Rattle.fmp_ticks.specs.Times.{first_due, first_due_from}
 
 -- whether task t is due
@@ -186,3 +188,12 @@ passed-next g h t k passed f e =
     let low : k ≤ t = late g k t passed f in
     let after : Passed (release_first g t) (suc t) = passed-release g t f in
     subst (λ (p : Progress). Passed p (k + 1)) (sym e) (record { each = λ u l. after.each u (omega (arith, l, low)) })
+
+tick-state : (b : Bool) (s : KernelState) (t : ℕ) (y : TaskBlock) → with_clock_advanced (released_state b s t y) ≡ released_state b (with_clock_advanced s) t y
+tick-state true s t y = refl
+tick-state false s t y = refl
+
+-- a release before the tick is one after it
+pub tick-released : (g : Progress) (t : ℕ) (x : TaskBlock) (r : Reply) → at_tick (released g t x r) ≡ released (at_tick g) t x r
+tick-released g t x r =
+    ap (λ (s : KernelState). record { state = s; lines = (released g t x r).lines }) (tick-state x.suspended g.state t (record x { phase = Ready; deadline = None }))

@@ -1,4 +1,5 @@
 pub mod Contexts
 pub mod Groups
 pub mod KernelViews
+pub mod NextTicks
 pub mod Rooms

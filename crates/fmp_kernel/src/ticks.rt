@@ -1,11 +1,13 @@
 //! What the clock does: the ends of limited waits, and cyclic handlers that become pending (uITRON 4.0, section 4.7).
-ghost use Rattle.std.specs.Prelude.{◌≡◌, ◌+◌, ◌<◌, ◌≤◌, ◌^◌, length, vec_len, vec_capacity, []};
+ghost use Rattle.std.specs.Prelude.{◌≡◌, ◌+◌, ◌<◌, ◌≤◌, ◌^◌, length, vec_len, vec_capacity, [], map, None};
 ghost use Rattle.fmp_base.specs.Changes.{released};
 ghost use Rattle.fmp_base.specs.Outcomes.{code as code_of};
 ghost use Rattle.fmp_base.specs.Ranges.{IsInRange};
 ghost use Rattle.fmp_base.specs.States.{task_at, unchanged, places_from};
 ghost use Rattle.fmp_base.specs.Ticks.{timeout_code as code_at_timeout, all_timed_out, all_cycled, cycled, pended, ticked, with_clock_advanced};
+ghost use Rattle.fmp_kernel.specs.NextTicks.{at_tick};
 ghost use Rattle.fmp_tasks.specs.Tables.{progress, SameShape};
+ghost use Rattle.fmp_ticks.specs.Times.{first_due};
 
 use fmp_base::{Er, Line, Phase, WaitCause};
 use fmp_tasks::Tables;
@@ -22,7 +24,7 @@ fn timeout_code(phase: Phase) -> Er
     }
 }
 
-/// Waiting task t is released, since its deadline is now.
+/// Waiting task t is released, since its deadline is the next tick.
 fn time_out(tables: &mut Tables, caused: &mut Vec<Line>, t: u8)
     requires there { t < length tables.old.system.tasks }
     requires room { vec_len caused.old < vec_capacity caused.old }
@@ -36,12 +38,14 @@ fn time_out(tables: &mut Tables, caused: &mut Vec<Line>, t: u8)
     release(tables, caused, t, x, code(timeout_code(x.phase)));
 }
 
-/// Of all tasks, in order of number, those whose deadline is now are released.
+/// Of all tasks, in order of number, those whose deadline is the next tick are released.
 fn time_out_all(tables: &mut Tables, caused: &mut Vec<Line>)
     requires empty { caused.old.items ≡ [] }
     requires room { length tables.old.system.tasks ≤ vec_capacity caused.old }
-    ensures progress { progress tables.new caused.new.items
-        ≡ all_timed_out (unchanged tables.old.state) (places_from 0 (length tables.old.state.tasks)) }
+    ensures progress { at_tick (progress tables.new caused.new.items)
+        ≡ all_timed_out (unchanged (with_clock_advanced tables.old.state))
+        (places_from 0 (length tables.old.state.tasks)) }
+    ensures none_due { first_due (tables.new.state.clock + 1) (map (λ x. x.deadline) tables.new.state.tasks) ≡ None }
     ensures shape { SameShape tables.old tables.new }
     ensures few { vec_len caused.new ≤ length tables.old.system.tasks }
     ensures capacity { vec_capacity caused.new ≡ vec_capacity caused.old }
@@ -109,8 +113,8 @@ fn cycle_all(tables: &mut Tables, caused: &mut Vec<Line>, count: u8)
     }
 }
 
-/// The clock advances by one, the tasks whose deadline that is are released, and the cyclic handlers that are due
-/// become pending.
+/// The tasks whose deadline is the next tick are released, the clock advances by one to it, and the cyclic handlers
+/// that are due become pending.
 pub fn advance(tables: &mut Tables, caused: &mut Vec<Line>)
     requires time { tables.old.state.clock < 2 ^ 20 }
     requires empty { caused.old.items ≡ [] }
@@ -121,7 +125,7 @@ pub fn advance(tables: &mut Tables, caused: &mut Vec<Line>)
     ensures capacity { vec_capacity caused.new ≡ vec_capacity caused.old }
 {
     let cyclics = tables.cyclic_count() as u8;
-    tables.advance();
     time_out_all(tables, caused);
+    tables.advance();
     cycle_all(tables, caused, cyclics);
 }

@@ -1,5 +1,5 @@
 //! The processor of tasks (FMP kernel, task management).
-ghost use Rattle.std.specs.Prelude.{◌≡◌, ◌<◌, [], length, vec_len, vec_capacity, nat_eq};
+ghost use Rattle.std.specs.Prelude.{◌≡◌, ◌<◌, [], length, vec_len, vec_capacity, nat_eq, IfSome, ◌+◌, ◌≤◌};
 ghost use Rattle.fmp_base.specs.States.{task_at};
 ghost use Rattle.fmp_base.specs.TaskCalls as calls;
 ghost use Rattle.fmp_tasks.specs.Homes.{Fits};
@@ -16,6 +16,7 @@ fn queue_activation_on(tables: &mut Tables, t: u8, x: TaskBlock, c: u8) -> Answe
     requires there { t < length tables.old.system.tasks }
     requires is { x ≡ task_at tables.old.state.tasks t }
     requires fits { Fits tables.old.system x }
+    requires later { IfSome x.deadline (λ w. tables.old.state.clock + 1 ≤ w) }
     requires processor { c < tables.old.system.processors }
     ensures outcome { outcome result tables.new [] ≡ calls.activation_queued_on tables.old.system tables.old.state t x c }
     ensures shape { SameShape tables.old tables.new }
@@ -76,6 +77,7 @@ fn assign(tables: &mut Tables, t: u8, x: TaskBlock, c: u8)
     requires there { t < length tables.old.system.tasks }
     requires is { x ≡ task_at tables.old.state.tasks t }
     requires fits { Fits tables.old.system x }
+    requires later { IfSome x.deadline (λ w. tables.old.state.clock + 1 ≤ w) }
     requires processor { c < tables.old.system.processors }
     ensures state { tables.new ≡ record tables.old { state = calls.assigned_by (nat_eq x.processor c) tables.old.state t x c } }
     ensures shape { SameShape tables.old tables.new }

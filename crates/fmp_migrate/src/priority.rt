@@ -1,5 +1,5 @@
 //! The current priority of tasks (uITRON 4.0, section 4.1).
-ghost use Rattle.std.specs.Prelude.{◌≡◌, ◌<◌, ◌≤◌, [], length};
+ghost use Rattle.std.specs.Prelude.{◌≡◌, ◌<◌, ◌≤◌, [], length, IfSome, ◌+◌};
 ghost use Rattle.fmp_base.specs.States.{task_at};
 ghost use Rattle.fmp_base.specs.TaskCalls as calls;
 ghost use Rattle.fmp_tasks.specs.Homes.{Fits};
@@ -16,6 +16,7 @@ fn set_priority(tables: &mut Tables, t: u8, x: TaskBlock, priority: u8)
     requires there { t < length tables.old.system.tasks }
     requires is { x ≡ task_at tables.old.state.tasks t }
     requires fits { Fits tables.old.system x }
+    requires later { IfSome x.deadline (λ w. tables.old.state.clock + 1 ≤ w) }
     requires urgent { 1 ≤ priority }
     requires least { priority ≤ 16 }
     ensures state { tables.new ≡ record tables.old { state = calls.moved_by (calls.goes_last tables.old.system x) tables.old.state t (record x { priority = priority }) } }

@@ -1,5 +1,5 @@
 //! Sleep, wakeups, delays and release from waiting (uITRON 4.0, section 4.2).
-ghost use Rattle.std.specs.Prelude.{◌≡◌, ◌<◌, [], length, vec_len, vec_capacity};
+ghost use Rattle.std.specs.Prelude.{◌≡◌, ◌+◌, ◌<◌, ◌≤◌, [], length, vec_len, vec_capacity, IfSome};
 ghost use Rattle.fmp_base.specs.Arguments.{IsTimeLimit};
 ghost use Rattle.fmp_base.specs.States.{task_at};
 ghost use Rattle.fmp_base.specs.TaskCalls as calls;
@@ -58,6 +58,7 @@ fn queue_wakeup(tables: &mut Tables, t: u8, x: TaskBlock) -> Answer
     requires there { t < length tables.old.system.tasks }
     requires is { x ≡ task_at tables.old.state.tasks t }
     requires fits { Fits tables.old.system x }
+    requires later { IfSome x.deadline (λ w. tables.old.state.clock + 1 ≤ w) }
     ensures outcome { outcome result tables.new [] ≡ calls.wakeup_queued tables.old.system tables.old.state t x }
     ensures shape { SameShape tables.old tables.new }
 {

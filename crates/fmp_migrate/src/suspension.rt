@@ -1,5 +1,5 @@
 //! Suspension of tasks (uITRON 4.0, section 4.2).
-ghost use Rattle.std.specs.Prelude.{◌≡◌, ◌<◌, [], length, true, false};
+ghost use Rattle.std.specs.Prelude.{◌≡◌, ◌<◌, [], length, true, false, IfSome, ◌+◌, ◌≤◌};
 ghost use Rattle.fmp_base.specs.States.{task_at};
 ghost use Rattle.fmp_base.specs.TaskCalls as calls;
 ghost use Rattle.fmp_tasks.specs.Homes.{Fits};
@@ -38,6 +38,7 @@ fn resume(tables: &mut Tables, t: u8, x: TaskBlock)
     requires there { t < length tables.old.system.tasks }
     requires is { x ≡ task_at tables.old.state.tasks t }
     requires fits { Fits tables.old.system x }
+    requires later { IfSome x.deadline (λ w. tables.old.state.clock + 1 ≤ w) }
     requires suspended { x.suspended ≡ true }
     ensures state { tables.new ≡ record tables.old { state = calls.resumed_by x.phase tables.old.state t (record x { suspended = false }) } }
     ensures shape { SameShape tables.old tables.new }

@@ -1,5 +1,5 @@
 -- What the tables hold, what is true of them, and what the calls on them leave alone.
-use Rattle.std.specs.Prelude.{◌≡◌, ℕ, ◌*◌, ◌≤◌, ◌<◌, ◌^◌, List, Option, map, length}
+use Rattle.std.specs.Prelude.{◌≡◌, ℕ, ◌+◌, ◌*◌, ◌≤◌, ◌<◌, ◌^◌, List, Option, map, length}
 use Rattle.std.specs.Global.{Vec}
 use Rattle.std.specs.Vec.{vec_capacity}
 use Rattle.fmp_base.specs.declared.calls.Answer.{Answer}
@@ -14,6 +14,7 @@ use Rattle.fmp_base.specs.Systems.{SystemTables, tables_of}
 use Rattle.fmp_lists.specs.Orders.{IsOrder}
 use Rattle.fmp_ready.specs.ReadyLists.{ReadyLists}
 use Rattle.fmp_spin.specs.Pending.{handler_processors}
+use Rattle.fmp_ticks.specs.Times.{NoneBefore}
 use Rattle.fmp_waitq.specs.WaitLists.{WaitLists, count_of_lists}
 use Rattle.fmp_tasks.specs.declared.tables.Tables.TheInside.{Inside}
 use Rattle.fmp_tasks.specs.Homes.{Kept, BlocksFit, Standing, ready_home, wait_home, always_fifo, order_with_head, counts_of}
@@ -64,9 +65,11 @@ pub record Sound (sys : SystemTables) (tasks : List TaskBlock) (order : List ℕ
   pub waits_kept : Kept (wait_home (counts_of sys)) (order_with_head sys) tasks order waits.lists
   pub deadlines_kept : deadlines ≡ map (λ x. x.deadline) tasks
 
--- the system is in range, the tasks and queues agree, and there is a value for each object
+-- the system is in range, the tasks and queues agree, each deadline lies after the clock, and there is a value for each
+-- object
 pub record IsWhole (a : Inside) : Type 0 where
   pub system : IsInRange (tables_of a.system)
+  pub later : NoneBefore (a.clock + 1) a.deadlines
   pub tasks : Sound (tables_of a.system) a.blocks.items a.order a.ready a.waits a.deadlines
   pub semaphores : length a.semaphores.items ≡ length a.system.semaphores.items
   pub flags : length a.flags.items ≡ length a.system.flags.items

@@ -5,7 +5,7 @@ ghost use Rattle.fmp_base.specs.Systems.{tables_of};
 ghost use Rattle.fmp_tasks.specs.Homes.{ready_home, wait_home, counts_of, always_fifo, order_with_head, left_from, joined_to, IsAmong, IsFree, IsSomeThere};
 
 use crate::config::order_of;
-use fmp_base::{Phase, System, TaskBlock, WaitCause, WaitQueue};
+use fmp_base::{Phase, Steps, System, TaskBlock, WaitCause, WaitQueue};
 use fmp_ready::ReadyQueues;
 use fmp_ticks::TickQueue;
 use fmp_waitq::WaitQueues;
@@ -89,8 +89,9 @@ pub fn set_deadline(deadlines: &mut TickQueue, t: u8, deadline: Option<u32>)
     requires { t < length deadlines.old }
     ensures { deadlines.new ≡ slice_set deadlines.old t deadline }
 {
+    let mut steps = Steps::new();
     match deadline {
-        Some(when) => deadlines.set(t, when),
-        None => deadlines.cancel(t),
+        Some(when) => deadlines.set(t, when, &mut steps),
+        None => deadlines.cancel(t, &mut steps),
     }
 }

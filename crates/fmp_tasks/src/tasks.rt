@@ -1,6 +1,6 @@
 //! What the service calls share (uITRON 4.0, section 3.2): a task starts, ends, waits, is released or suspended. Task t is
 //! given with its block x, as it is before the change. The lines of what happens are added to a list that has room.
-ghost use Rattle.std.specs.Prelude.{◌≡◌, ◌+◌, ◌≤◌, ◌<◌, length, vec_len, vec_capacity, false, []};
+ghost use Rattle.std.specs.Prelude.{◌≡◌, ◌+◌, ◌≤◌, ◌<◌, length, vec_len, vec_capacity, false, [], IfSome};
 ghost use Rattle.fmp_base.specs.Changes.{started, released, ended, suspended};
 ghost use Rattle.fmp_base.specs.Outcomes.{waits, waits_within};
 ghost use Rattle.fmp_base.specs.Queues.{queue_of_cause};
@@ -98,6 +98,7 @@ pub fn suspend(tables: &mut Tables, t: u8, x: TaskBlock)
     requires there { t < length tables.old.system.tasks }
     requires is { x ≡ task_at tables.old.state.tasks t }
     requires fits { Fits tables.old.system x }
+    requires later { IfSome x.deadline (λ w. tables.old.state.clock + 1 ≤ w) }
     requires awake { is_dormant x.phase ≡ false }
     ensures state { tables.new ≡ record tables.old { state = suspended tables.old.state t x } }
     ensures shape { SameShape tables.old tables.new }
@@ -117,6 +118,7 @@ pub fn wait(tables: &mut Tables, t: u8, x: TaskBlock, cause: WaitCause, deadline
     requires there { t < length tables.old.system.tasks }
     requires fits { Fits tables.old.system x }
     requires queue { IsSomeThere (counts_of tables.old.system) (queue_of_cause cause) }
+    requires later { IfSome deadline (λ w. tables.old.state.clock + 1 ≤ w) }
     ensures state { tables.new ≡ record tables.old { state = (waits tables.old.state t x cause deadline).progress.state } }
     ensures shape { SameShape tables.old tables.new }
 {

@@ -1,1 +1,6 @@
+pub mod DepthLemmas
+pub mod HeapLemmas
 pub mod LeastLemmas
+pub mod QueueLemmas
+pub mod RankLemmas
+pub mod SlotLemmas

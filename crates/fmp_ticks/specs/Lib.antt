@@ -1,1 +1,4 @@
+pub mod ClockLaws
+pub mod Ranks
+pub mod Slots
 pub mod Times

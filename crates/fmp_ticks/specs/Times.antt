@@ -1,5 +1,5 @@
 -- Tables of times, and who is due.
-use Rattle.std.specs.Prelude.{◌≡◌, ℕ, ◌+◌, ◌-◌, ◌^◌, ◌≤◌, min, List, [], ◌∷◌, Option, Some, None, length, if◌then◌else◌}
+use Rattle.std.specs.Prelude.{◌≡◌, ℕ, ◌+◌, ◌-◌, ◌^◌, ◌≤◌, min, List, [], ◌∷◌, Option, Some, None, IfSome, length, slice_index_or, if◌then◌else◌}
 use Rattle.fmp_base.specs.Ticks.{is_due}
 use Rattle.fmp_ticks.specs.declared.cyclics.Cyclics.TheInside.{Inside}
 
@@ -29,3 +29,7 @@ least_time (time ∷ times) = lowered (least_time times) time
 pub record AreDueTimes (a : Inside) : Type 0 where
   pub few : IsShort a.due_times.items
   pub earliest : a.earliest ≡ least_time a.due_times.items
+
+-- no time lies before now
+abbrev pub NoneBefore : ℕ → List (Option ℕ) → Type 0
+NoneBefore now times = (t : ℕ) → IfSome (slice_index_or times t None) (λ time. now ≤ time)

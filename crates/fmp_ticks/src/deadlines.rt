@@ -1,27 +1,32 @@
 //! The deadlines of tasks.
-ghost use Rattle.std.specs.Prelude.{◌≡◌, ◌<◌, length, slice_set, IfOk, IfSome, replicate, Some, None};
-ghost use Rattle.fmp_ticks.specs.Times.{first_due as first_due_of};
+ghost use Rattle.std.specs.Prelude.{◌≡◌, ◌+◌, ◌<◌, ◌≤◌, length, slice_set, IfOk, IfSome, replicate, Some, None};
+ghost use Rattle.fmp_ticks.specs.Times.{first_due as first_due_of, NoneBefore};
 
-use crate::times::{first_due, unset};
+use crate::heap::{Moment, is_before, mend, moment_at};
+use crate::places::Places;
+use crate::times::unset;
+use fmp_base::Steps;
 use std::alloc::{AllocError, Global};
 use std::marker::Model;
 
 /// For each task the clock at which its wait or delay ends, if it is limited (uITRON 4.0, sections 2.1.7 and 4.2). Tasks
-/// go by their places, from 0. It is seen as the list of these times.
+/// go by their places, from 0. It is seen as the list of these times. The tasks that have one stand in a heap, the first
+/// of them at its top; the last argument of each call counts how often tasks are compared.
 #[derive(Drop)]
 pub struct TickQueue {
     deadlines: Vec<Option<u32>>,
+    places: Places,
 }
 
 impl Model for TickQueue {
     ghost use Rattle.std.specs.Prelude.{ℕ, List, Option};
-    ghost use Rattle.fmp_ticks.specs.Times.{IsShort};
+    ghost use Rattle.fmp_ticks.specs.Ranks.{IsTickHeap};
 
     ghost Value = { List (Option ℕ) };
 
     ghost view = { λ a. a.deadlines.items };
 
-    ghost invariant = { λ a. IsShort a.deadlines.items };
+    ghost invariant = { λ a. IsTickHeap a.deadlines.items a.places };
 }
 
 impl TickQueue {
@@ -30,30 +35,59 @@ impl TickQueue {
         ensures { IfOk result (λ q. q ≡ replicate tasks None) }
     {
         let deadlines = unset(alloc, tasks)?;
-        Ok(TickQueue { deadlines })
+        let places = Places::new(alloc, tasks)?;
+        Ok(TickQueue { deadlines, places })
     }
 
     /// A task's wait ends when the clock is `when`.
-    pub fn set(&mut self, t: u8, when: u32)
+    pub fn set(&mut self, t: u8, when: u32, steps: &mut Steps)
         requires { t < length self.old }
-        ensures { self.new ≡ slice_set self.old t (Some when) }
+        ensures value { self.new ≡ slice_set self.old t (Some when) }
+        ensures counted { (steps.old ≤ steps.new) × (steps.new ≤ steps.old + 22) }
     {
+        let slot = self.places.slot_of(t);
+        let stood = self.deadlines[t as usize].is_some();
         self.deadlines[t as usize] = Some(when);
+        let slot = if stood { slot } else { self.places.enter(slot) };
+        mend(&mut self.places, self.deadlines.as_slice(), slot, steps);
     }
 
     /// A task has no deadline any more.
-    pub fn cancel(&mut self, t: u8)
+    pub fn cancel(&mut self, t: u8, steps: &mut Steps)
         requires { t < length self.old }
-        ensures { self.new ≡ slice_set self.old t None }
+        ensures value { self.new ≡ slice_set self.old t None }
+        ensures counted { (steps.old ≤ steps.new) × (steps.new ≤ steps.old + 22) }
     {
+        if self.deadlines[t as usize].is_none() {
+            return;
+        }
+        let slot = self.places.slot_of(t);
         self.deadlines[t as usize] = None;
+        self.places.leave(slot);
+        if slot < self.places.count() {
+            mend(&mut self.places, self.deadlines.as_slice(), slot, steps);
+        }
     }
 
-    /// Of the tasks whose deadline is now the first by number, if any. Nothing changes.
-    pub fn due(&self, now: u32) -> Option<u8>
+    /// Of the tasks whose deadline is now the first by number, if any. No deadline lies before now. Nothing changes.
+    pub fn due(&self, now: u32, steps: &mut Steps) -> Option<u8>
+        requires { NoneBefore now self.now }
         ensures value { result ≡ first_due_of now self.now }
         ensures there { IfSome result (λ t. t < length self.now) }
+        ensures counted { (steps.old ≤ steps.new) × (steps.new ≤ steps.old + 1) }
     {
-        first_due(self.deadlines.as_slice(), now)
+        if self.places.count() == 0 {
+            return None;
+        }
+        let first = moment_at(&self.places, self.deadlines.as_slice(), 0);
+        let clock = Moment {
+            when: now,
+            task: first.task,
+        };
+        if is_before(clock, first, steps) {
+            None
+        } else {
+            Some(first.task)
+        }
     }
 }

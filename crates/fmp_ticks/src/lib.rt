@@ -4,6 +4,10 @@
 
 pub mod cyclics;
 pub mod deadlines;
+mod heap;
+mod places;
+#[cfg(test)]
+mod tests;
 mod times;
 
 pub use cyclics::Cyclics;

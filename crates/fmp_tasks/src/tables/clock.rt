@@ -1,5 +1,5 @@
 //! The clock, and the handlers that are due or pending.
-ghost use Rattle.std.specs.Prelude.{◌≡◌, ◌<◌, ◌≤◌, ◌^◌, length, map, slice_get, IfSome, None};
+ghost use Rattle.std.specs.Prelude.{◌≡◌, ◌+◌, ◌<◌, ◌≤◌, ◌^◌, length, map, slice_get, IfSome, None};
 ghost use Rattle.fmp_base.specs.ProcessorCalls.{with_due};
 ghost use Rattle.fmp_base.specs.Settles.{pending_handler, without_pending};
 ghost use Rattle.fmp_base.specs.Systems.{found};
@@ -8,7 +8,7 @@ ghost use Rattle.fmp_tasks.specs.Tables.{HasHandler};
 ghost use Rattle.fmp_ticks.specs.Times.{first_due};
 
 use crate::tables::Tables;
-use fmp_base::Handler;
+use fmp_base::{Handler, Steps};
 
 impl Tables {
     /// The system clock.
@@ -21,18 +21,19 @@ impl Tables {
 
     /// Advances the clock by one.
     pub fn advance(&mut self)
-        requires { self.old.state.clock < 2 ^ 20 }
+        requires time { self.old.state.clock < 2 ^ 20 }
+        requires none_due { first_due (self.old.state.clock + 1) (map (λ x. x.deadline) self.old.state.tasks) ≡ None }
         ensures { self.new ≡ record self.old { state = with_clock_advanced self.old.state } }
     {
         self.clock += 1;
     }
 
-    /// Of the tasks whose deadline is now the first by number, if any.
+    /// Of the tasks whose deadline is the next tick the first by number, if any.
     pub fn due(&self) -> Option<u8>
-        ensures value { result ≡ first_due self.now.state.clock (map (λ x. x.deadline) self.now.state.tasks) }
+        ensures value { result ≡ first_due (self.now.state.clock + 1) (map (λ x. x.deadline) self.now.state.tasks) }
         ensures there { IfSome result (λ t. t < length self.now.system.tasks) }
     {
-        self.deadlines.due(self.clock)
+        self.deadlines.due(self.clock + 1, &mut Steps::new())
     }
 
     /// How many cyclic handlers there are.

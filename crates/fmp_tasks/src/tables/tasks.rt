@@ -33,6 +33,7 @@ impl Tables {
         requires { t < length self.now.system.tasks }
         ensures value { result ≡ task_at self.now.state.tasks t }
         ensures fits { Fits self.now.system result }
+        ensures later { IfSome result.deadline (λ w. self.now.state.clock + 1 ≤ w) }
     {
         self.blocks[t as usize]
     }
@@ -102,6 +103,7 @@ impl Tables {
     pub fn set_task(&mut self, t: u8, x: TaskBlock)
         requires there { t < length self.old.system.tasks }
         requires fits { Fits self.old.system x }
+        requires later { IfSome x.deadline (λ w. self.old.state.clock + 1 ≤ w) }
         requires stays { Stays self.old.system (task_at self.old.state.tasks t) x }
         ensures { self.new ≡ record self.old { state = with_task self.old.state t x } }
     {
@@ -113,6 +115,7 @@ impl Tables {
     pub fn set_last(&mut self, t: u8, x: TaskBlock)
         requires there { t < length self.old.system.tasks }
         requires fits { Fits self.old.system x }
+        requires later { IfSome x.deadline (λ w. self.old.state.clock + 1 ≤ w) }
         requires in_order { is_in_order x ≡ true }
         ensures { self.new ≡ record self.old { state = with_last self.old.state t x } }
     {
@@ -135,6 +138,7 @@ impl Tables {
     pub fn set_removed(&mut self, t: u8, x: TaskBlock)
         requires there { t < length self.old.system.tasks }
         requires fits { Fits self.old.system x }
+        requires later { IfSome x.deadline (λ w. self.old.state.clock + 1 ≤ w) }
         requires in_order { is_in_order x ≡ false }
         ensures { self.new ≡ record self.old { state = with_removed self.old.state t x } }
     {

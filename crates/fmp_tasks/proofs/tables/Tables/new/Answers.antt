@@ -6,6 +6,7 @@ use Rattle.fmp_base.specs.Systems.{SystemTables, tables_of}
 use Rattle.fmp_lists.specs.Heads.{Heads}
 use Rattle.fmp_spin.specs.Pending.{PendingMarks, handler_processors}
 use Rattle.fmp_tasks.specs.Tables.{Sound}
+use Rattle.fmp_ticks.specs.ClockLaws.{NoneBefore-new}
 use Rattle.fmp_tasks.proofs.NewLemmas.{Sound-new}
 use Rattle.fmp_tasks.proofs.tables.Tables.new.Goals as goal
 
@@ -17,6 +18,7 @@ invariant_of-result c =
       tasks =
           subst (λ (s : SystemTables). Sound s c.in_ok-blocks.blocks.items c.new-2.result c.in_ok-ready.ready c.in_ok-ready.waits c.in_ok-ready.deadlines) (sym e)
           (rw (c.in_ok-blocks.ensures, c.as_slice.ensures.value, c.new-2.ensures, c.in_ok-ready.ensures.ready, c.in_ok-ready.ensures.waits, c.in_ok-ready.ensures.deadlines) (Sound-new (tables_of c.args.sys.now) c.requires));
+      later = rw c.in_ok-ready.ensures.deadlines (NoneBefore-new _ _);
       semaphores = ap (λ (l : List ℕ). length l) c.in_ok-semaphores.ensures.semaphores ∙ length-map _ _ ∙ ap (λ (s : SystemTables). length s.semaphores) (sym e);
       flags = ap (λ (l : List ℕ). length l) c.in_ok-semaphores.ensures.flags ∙ length-map _ _ ∙ ap (λ (s : SystemTables). length s.flags) (sym e);
       data_queues = ap (λ (l : List (List ℤ)). length l) c.in_ok-words.ensures.words ∙ length-replicate _ _ ∙ ap (λ (s : SystemTables). length s.data_queues) (sym e);

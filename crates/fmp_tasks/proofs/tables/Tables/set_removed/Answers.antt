@@ -1,4 +1,6 @@
 use Rattle.std.proofs.Common.{◌≡◌, ◌<◌, length, subst, sym, ℕ}
+use Rattle.std.specs.Prelude.{IfSome, ◌+◌, ◌≤◌}
+use Rattle.fmp_ticks.specs.ClockLaws.{NoneBefore-set}
 use Rattle.fmp_base.specs.declared.states.TaskBlock.{TaskBlock}
 use Rattle.fmp_base.specs.Queues.{queue_of}
 use Rattle.fmp_base.specs.States.{task_at}
@@ -64,8 +66,10 @@ invariant_of-self c =
     let l : c.args.t < length c.self.inside.blocks.items = subst (λ (n : ℕ). c.args.t < n) c.self.invariant.tasks.configs there in
     let f : Fits (tables_of c.self.inside.system) c.args.x = rw (← c.self.view_is) at c.requires.fits in
     let is : task_at c.self.inside.blocks.items c.args.t ≡ c.index.result.now = read-at _ _ _ l c.index.ensures in
+    let after : IfSome c.args.x.deadline (λ w. c.self.inside.clock + 1 ≤ w) = rw (← c.self.view_is) at c.requires.later in
     record {
       system = c.self.invariant.system;
+      later = rw c.set_deadline.ensures (NoneBefore-set _ _ _ _ after c.self.invariant.later);
       tasks =
           rw (c.leave-2.ensures, c.set_deadline.ensures, c.leave.ensures.ready, c.leave.ensures.waits)
           (Sound-taken _ _ _ _ _ _ _ _ _ c.self.invariant.tasks l f c.requires.in_order is);

@@ -1,4 +1,6 @@
 use Rattle.std.proofs.Common.{◌<◌, length, subst, ℕ}
+use Rattle.std.specs.Prelude.{IfSome, ◌+◌, ◌≤◌}
+use Rattle.fmp_ticks.specs.ClockLaws.{NoneBefore-set}
 use Rattle.fmp_base.specs.States.{task_at}
 use Rattle.fmp_base.specs.Systems.{tables_of}
 use Rattle.fmp_tasks.specs.Homes.{Fits, Stays}
@@ -11,8 +13,10 @@ invariant_of-self c =
     let l : c.args.t < length c.self.inside.blocks.items = subst (λ (n : ℕ). c.args.t < n) c.self.invariant.tasks.configs there in
     let f : Fits (tables_of c.self.inside.system) c.args.x = rw (← c.self.view_is) at c.requires.fits in
     let s : Stays (tables_of c.self.inside.system) (task_at c.self.inside.blocks.items c.args.t) c.args.x = rw (← c.self.view_is) at c.requires.stays in
+    let after : IfSome c.args.x.deadline (λ w. c.self.inside.clock + 1 ≤ w) = rw (← c.self.view_is) at c.requires.later in
     record {
       system = c.self.invariant.system;
+      later = rw c.set_deadline.ensures (NoneBefore-set _ _ _ _ after c.self.invariant.later);
       tasks =
           rw (c.set_deadline.ensures)
           (Sound-stays _ _ _ _ _ _ _ _ c.self.invariant.tasks l f s);

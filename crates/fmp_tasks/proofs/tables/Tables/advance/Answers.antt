@@ -1,0 +1,26 @@
+use Rattle.std.proofs.Common.{◌≡◌, ◌+◌, ◌≤◌, List, Option, ℕ, None, ap, ◌∙◌, arith}
+use Rattle.fmp_ticks.specs.Times.{first_due}
+use Rattle.fmp_ticks.specs.ClockLaws.{NoneBefore-next}
+use Rattle.fmp_tasks.proofs.tables.Tables.advance.Goals as goal
+
+pub invariant_of-self : goal.invariant_of-self
+invariant_of-self c =
+    let time = rw (← c.self.view_is) at c.requires.time in
+    let none = rw (← c.self.view_is) at c.requires.none_due in
+    record {
+      system = c.self.invariant.system;
+      later = NoneBefore-next _ _ (ap (λ (ds : List (Option ℕ)). first_due (c.self.inside.clock + 1) ds) c.self.invariant.tasks.deadlines_kept ∙ none) c.self.invariant.later;
+      tasks = c.self.invariant.tasks;
+      semaphores = c.self.invariant.semaphores;
+      flags = c.self.invariant.flags;
+      data_queues = c.self.invariant.data_queues;
+      mailboxes = c.self.invariant.mailboxes;
+      messages = c.self.invariant.messages;
+      shared_words = c.self.invariant.shared_words;
+      processors = c.self.invariant.processors;
+      cyclics = c.self.invariant.cyclics;
+      handlers = c.self.invariant.handlers;
+      pending_cyclics = c.self.invariant.pending_cyclics;
+      pending_interrupts = c.self.invariant.pending_interrupts;
+      clock = omega arith;
+    }
