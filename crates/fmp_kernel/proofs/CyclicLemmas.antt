@@ -1,6 +1,6 @@
 -- Where no cyclic handler is due, none becomes pending.
 use Rattle.std.proofs.Common.{◌≡◌, ℕ, zero, suc, ◌+◌, List, [], ◌∷◌, Option, Some, None, Bool, true, false, refl, ap, ◌∙◌, if◌then◌else◌}
-use Rattle.std.specs.Prelude.{slice_get}
+use Rattle.std.specs.Prelude.{slice_get, is_some}
 use Rattle.fmp_base.specs.States.{Progress, places_from}
 use Rattle.fmp_base.specs.Systems.{SystemTables, found}
 use Rattle.fmp_base.specs.Ticks.{is_due, cycled, all_cycled}
@@ -25,3 +25,7 @@ pub none_cycled : (sys : SystemTables) (g : Progress) (k n : ℕ) → first_due 
 none_cycled sys g k zero h = refl
 none_cycled sys g k (suc n) h =
     ap (λ (x : Progress). all_cycled sys x (places_from (k + 1) n)) (stays sys g k h) ∙ none_cycled sys g (k + 1) n h
+
+pub none_of : (o : Option ℕ) → is_some o ≡ false → o ≡ None
+none_of None h = refl
+none_of (Some t) h = cc
