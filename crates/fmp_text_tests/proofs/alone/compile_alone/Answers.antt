@@ -9,7 +9,7 @@ use Rattle.fmp_text_tests.proofs.alone.compile_alone.Goals as goal
 
 pub compile-requires : goal.compile-requires
 compile-requires c =
-    subst IsInRange (sym c.without_objects-system.ensures) (nothing_in_range 1 (record { least = omega arith; most = omega arith }))
+    subst IsInRange (sym c.empty-system.ensures) (nothing_in_range 1 (record { least = omega arith; most = omega arith }))
 
 pub returns-in-Err : goal.returns-in-Err
 returns-in-Err c = of_syntax c.in-Err.fault refl c.in-Err.ensures.read
@@ -19,5 +19,5 @@ returns c = of_bodies (record {
   program = c.in-Ok.program;
   read = c.in-Ok.ensures.read;
   compiled = subst (λ (t : SystemTables). IsCompiled t (program_view c.in-Ok.program) c.compile.result)
-      c.without_objects-system.ensures c.compile.ensures.compiled;
+      c.empty-system.ensures c.compile.ensures.compiled;
 })
