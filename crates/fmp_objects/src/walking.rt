@@ -48,14 +48,14 @@ pub fn walk(tables: &mut Tables, lines: &mut Vec<Line>, f: u8, bits: u16)
     ensures kept { SameShapeAndRoom tables.old tables.new lines.old lines.new }
 {
     let clears = tables.flag_config(f).clears;
-    let mut place = 0;
-    while let Some(t) = tables.waiting_at(WaitQueue::Flag(f), place) {
+    let mut at = tables.first_waiting(WaitQueue::Flag(f));
+    while let Some(t) = at {
+        // A release takes t out of the queue, so who follows it is read first.
+        at = tables.waiting_behind(WaitQueue::Flag(f), t);
         let x = tables.task(t);
         if !is_satisfied(x.phase, bits) {
-            place += 1;
             continue;
         }
-        // The next task now stands at this place.
         release(tables, lines, t, x, with_bits(bits));
         if clears {
             tables.set_pattern(f, 0);

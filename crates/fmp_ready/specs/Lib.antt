@@ -1,1 +1,3 @@
+pub mod Bits
+pub mod ReadyLaws
 pub mod ReadyLists

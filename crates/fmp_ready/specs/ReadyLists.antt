@@ -1,22 +1,17 @@
--- The ready queues: a list for each processor and priority.
-use Rattle.std.specs.Prelude.{◌≡◌, ℕ, zero, suc, ◌+◌, ◌-◌, ◌*◌, List, [], ◌∷◌, Option, Some, None, length, slice_set}
-use Rattle.fmp_lists.specs.Heads.{list_at}
-use Rattle.fmp_ready.specs.declared.queues.ReadyQueues.TheInside.{Inside}
+-- The ready queues among lent lists: sixteen a processor, from head 0 on.
+use Rattle.std.specs.Prelude.{◌≡◌, ℕ, zero, suc, ◌+◌, ◌-◌, ◌*◌, ◌<◌, ◌≤◌, ◌^◌, List, [], ◌∷◌, Option, Some, None, length, slice_set, slice_index_or}
+use Rattle.std.specs.Int.{bit_at}
+use Rattle.fmp_ring.specs.RingLists.{RingLists, list_at}
 
--- for so many processors and tasks, sixteen lists a processor
-pub record ReadyLists : Type 0 where
-  pub processors : ℕ
-  pub tasks : ℕ
-  pub lists : List (List ℕ)
-
--- the place of the list of a priority, from 1, on processor p
+-- the head of the list of a priority, from 1, on processor p
 abbrev pub head : ℕ → ℕ → ℕ
 head p priority = p * 16 + (priority - 1)
 
-abbrev pub queue_at : ReadyLists → ℕ → ℕ → List ℕ
+abbrev pub queue_at : RingLists → ℕ → ℕ → List ℕ
 queue_at r p priority = list_at r.lists (head p priority)
 
-abbrev pub with_queue : ReadyLists → ℕ → ℕ → List ℕ → ReadyLists
+-- one queue becomes another; the other lists stay
+abbrev pub with_queue : RingLists → ℕ → ℕ → List ℕ → RingLists
 with_queue r p priority ts = record r { lists = slice_set r.lists (head p priority) ts }
 
 abbrev pub first_or : List ℕ → Option ℕ → Option ℕ
@@ -29,11 +24,17 @@ first_from queue from zero = None
 first_from queue from (suc n) = first_or (queue from) (first_from queue (from + 1) n)
 
 -- the first task of the most urgent queue of p that is not empty
-unfoldable pub most_urgent : ReadyLists → ℕ → Option ℕ
+unfoldable pub most_urgent : RingLists → ℕ → Option ℕ
 most_urgent r p = first_from (queue_at r p) 1 16
 
-abbrev pub ready_lists : Inside → ReadyLists
-ready_lists a = record { processors = a.processors; tasks = a.lists.tasks; lists = a.lists.lists }
+-- 1 for a list that is not empty
+abbrev pub bit_for : List ℕ → ℕ
+bit_for [] = 0
+bit_for (t ∷ ts) = 1
 
-abbrev pub HasSixteen : Inside → Type 0
-HasSixteen a = length a.lists.lists ≡ a.processors * 16
+-- the lists have those of each processor, of tasks with numbers of one byte, and a bit of a processor's bitmap is set exactly
+-- where its queue is not empty
+pub record AreExact (bitmaps : List ℕ) (r : RingLists) : Type 0 where
+  pub few : r.nodes ≤ 2 ^ 8
+  pub heads : length bitmaps * 16 ≤ length r.lists
+  pub bits : (p k : ℕ) → p < length bitmaps → k < 16 → bit_at (slice_index_or bitmaps p 0) k ≡ bit_for (list_at r.lists (p * 16 + k))

@@ -1,7 +1,8 @@
-//! The ready queues: for each processor and priority a list of the tasks that are able to run there, in order. No call
-//! but `new` takes memory.
+//! The ready queues over lent rings: for each processor and priority a list of the tasks that are able to run there, in
+//! order, and for each processor a bitmap of the lists that are not empty. No call but `new` takes memory.
 #![tactic(auto)]
 
+pub mod bits;
 pub mod queues;
 
 pub use queues::ReadyQueues;

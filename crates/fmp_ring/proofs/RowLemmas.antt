@@ -251,3 +251,13 @@ AreRings-is_linked n heads next previous x r low = decide (is_linked x (lists_of
   decide false e true f = refl
   decide false e false f = absurd (nat_apart (link_at next x) x f (r.marked.each x low e))
   decide true e true f = absurd (AreChains-moves n (link_at next) (link_at previous) (lists_of n heads next) x r.chains e (nat_same (link_at next x) x f))
+
+-- and a number that is none of a node stands in no list
+pub AreRings-outside : (n heads : ℕ) (next previous : List ℕ) (x : ℕ) → AreRings n heads next previous → n ≤ x
+    → false ≡ is_linked x (lists_of n heads next)
+AreRings-outside n heads next previous x r past = decide (is_linked x (lists_of n heads next)) refl where
+  decide : (b : Bool) → is_linked x (lists_of n heads next) ≡ b → false ≡ b
+  decide false e = refl
+  decide true e =
+      let low : x < n = AreChains-node n (link_at next) (link_at previous) (lists_of n heads next) x r.chains e in
+      absurd (omega arith)

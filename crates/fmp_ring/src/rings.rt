@@ -93,12 +93,14 @@ impl Rings {
         }
     }
 
-    /// Whether a node stands in a list. At most 1 step.
+    /// Whether a number is that of a node that stands in a list. At most 1 step.
     pub fn is_linked(&self, x: u16, steps: &mut Steps) -> bool
-        requires { x < self.now.nodes }
         ensures value { result ≡ is_linked x self.now.lists }
         ensures steps { AddsAtMost 1 steps.old steps.new }
     {
+        if self.nodes <= x {
+            return false;
+        }
         self.next.get(x as u32, steps) != x as u32
     }
 

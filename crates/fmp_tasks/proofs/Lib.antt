@@ -1,4 +1,3 @@
-pub mod MessageLemmas
 pub mod NewLemmas
 pub mod OnceLemmas
 pub mod SoundLemmas

@@ -1,5 +1,5 @@
 -- The tables of a system in which no task has started are sound.
-use Rattle.std.proofs.Common.{◌≡◌, ℕ, zero, suc, ◌*◌, List, [], ◌∷◌, length, Option, None, false, refl, ap, ◌∙◌, sym, replicate, map}
+use Rattle.std.proofs.Common.{◌≡◌, ℕ, zero, suc, ◌+◌, ◌*◌, ◌≤◌, ◌^◌, List, [], ◌∷◌, length, Option, None, false, refl, ap, ◌∙◌, sym, replicate, map, arith}
 use Rattle.std.specs.List.{AllByRecursion}
 use Rattle.fmp_base.specs.declared.states.TaskBlock.{TaskBlock}
 use Rattle.fmp_base.specs.declared.systems.QueueOrder.{QueueOrder}
@@ -10,10 +10,11 @@ use Rattle.fmp_base.specs.Ranges.{IsInRange, TaskInRange}
 use Rattle.fmp_base.specs.Setups.{created}
 use Rattle.fmp_base.specs.States.{task_at}
 use Rattle.fmp_base.specs.Systems.{SystemTables}
-use Rattle.fmp_lists.specs.Heads.{list_at}
+use Rattle.fmp_ready.specs.ReadyLaws.{AreExact-new}
+use Rattle.fmp_ring.specs.RingLists.{list_at}
 use Rattle.fmp_waitq.specs.WaitLists.{count_of_lists}
-use Rattle.fmp_tasks.specs.Empties.{empty_ready, empty_waits, no_deadlines}
-use Rattle.fmp_tasks.specs.Homes.{AllFit, Fits, Kept, is_in_order, ready_home, wait_home, always_fifo, order_with_head, counts_of}
+use Rattle.fmp_tasks.specs.Empties.{no_tasks, no_bits, no_deadlines}
+use Rattle.fmp_tasks.specs.Homes.{AllFit, Fits, Kept, is_in_order, home, order_with_head, counts_of, waits_of}
 use Rattle.fmp_tasks.specs.Tables.{Sound}
 
 empty-list : (n h : ℕ) → list_at (replicate n []) h ≡ []
@@ -53,19 +54,19 @@ length-copies zero x = refl
 length-copies (suc n) x = ap (λ k. suc k) (length-copies n x)
 
 pub Sound-new : (sys : SystemTables) → IsInRange sys
-    → Sound sys (map created sys.tasks) [] (empty_ready sys) (empty_waits sys) (no_deadlines sys)
-Sound-new sys f = record {
-  configs = sym (length-map sys.tasks);
-  blocks = record { each = all-created sys sys.tasks f.tasks.each };
-  distinct = tt;
-  standing = record { each = λ t l. sym (none-stands sys.tasks t) };
-  ready_processors = refl;
-  ready_tasks = sym (length-map sys.tasks);
-  ready_lists = length-copies (sys.processors * 16) [];
-  wait_counts = refl;
-  wait_tasks = sym (length-map sys.tasks);
-  wait_lists = length-copies (count_of_lists (counts_of sys)) [];
-  ready_kept = Kept-nothing ready_home always_fifo (map created sys.tasks) (sys.processors * 16);
-  waits_kept = Kept-nothing (wait_home (counts_of sys)) (order_with_head sys) (map created sys.tasks) (count_of_lists (counts_of sys));
-  deadlines_kept = none-due sys.tasks;
-}
+    → Sound sys (map created sys.tasks) [] (no_bits sys) (waits_of sys) (no_tasks sys) (no_deadlines sys)
+Sound-new sys f =
+    let few : length sys.tasks ≤ 2 ^ 8 = omega (arith, f.tasks.count) in
+    record {
+      configs = sym (length-map sys.tasks);
+      blocks = record { each = all-created sys sys.tasks f.tasks.each };
+      distinct = tt;
+      standing = record { each = λ t l. sym (none-stands sys.tasks t) };
+      processors = length-copies sys.processors 0;
+      exact = AreExact-new sys.processors (sys.processors * 16 + count_of_lists (counts_of sys)) (length sys.tasks) few (omega arith);
+      own_waits = refl;
+      nodes = sym (length-map sys.tasks);
+      heads = length-copies (sys.processors * 16 + count_of_lists (counts_of sys)) [];
+      kept = Kept-nothing (home (waits_of sys)) (order_with_head (waits_of sys) sys) (map created sys.tasks) (sys.processors * 16 + count_of_lists (counts_of sys));
+      deadlines_kept = none-due sys.tasks;
+    }

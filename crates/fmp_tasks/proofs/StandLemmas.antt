@@ -1,7 +1,6 @@
 -- Who is in the order, and so in the list of its home.
 use Rattle.std.proofs.Common.{◌≡◌, ℕ, ◌<◌, List, [], ◌∷◌, ◌++◌, Option, Some, None, Bool, true, false, cond, not, nat_eq, nat_le, refl, ap, ◌∙◌, sym, subst, arith, length}
-use Rattle.std.specs.Prelude.{slice_set, ◌&&◌, ◌||◌}
-use Rattle.std.specs.Cmp.{nat_eq_equiv}
+use Rattle.std.specs.Prelude.{slice_set, ◌&&◌, ◌||◌, if◌then◌else◌}
 use Rattle.std.specs.List.{filter, list_any}
 use Rattle.std.proofs.Math.ListN.{length-set}
 use Rattle.std.proofs.lemmas.Bool.Decides.{nat_tests}
@@ -10,19 +9,13 @@ use Rattle.fmp_base.specs.declared.states.Phase.TheVariants.{Dormant, Ready, Wai
 use Rattle.fmp_base.specs.declared.states.TaskBlock.{TaskBlock}
 use Rattle.fmp_base.specs.declared.systems.QueueOrder.{QueueOrder}
 use Rattle.fmp_base.specs.declared.systems.QueueOrder.TheVariants.{Fifo, Priority}
-use Rattle.fmp_base.specs.Queues.{placed, sorted, arranged, priority_in, is_ready, is_ready_phase, queue_of}
+use Rattle.fmp_base.specs.Queues.{placed, sorted, arranged, priority_in, is_ready, queue_of}
 use Rattle.fmp_base.specs.States.{without, to_end, task_at}
-use Rattle.fmp_lists.specs.OrderLaws.{without-gone}
-use Rattle.fmp_waitq.specs.declared.queues.ObjectCounts.{ObjectCounts}
 use Rattle.fmp_ready.specs.ReadyLists.{head}
-use Rattle.fmp_tasks.specs.Homes.{Standing, Kept, IsAmong, is_in_order, is_waiting, is_at, ready_home, wait_home, head_of_some, some_if}
-use Rattle.fmp_tasks.specs.KeptLaws.{nat_same, task-other, task-same}
-
-pub nat_eq-self : (t : ℕ) → nat_eq t t ≡ true
-nat_eq-self t = grind (arith, nat_tests)
-
-pub nat_eq-flip : (a b : ℕ) → nat_eq a b ≡ nat_eq b a
-nat_eq-flip a b = nat_eq_equiv.symm a b
+use Rattle.fmp_ring.specs.OrderLaws.{nat_same, nat_eq-same, without-gone}
+use Rattle.fmp_waitq.specs.declared.queues.WaitQueues.{WaitQueues}
+use Rattle.fmp_tasks.specs.Homes.{Standing, Kept, IsAmong, is_in_order, is_waiting, is_at, home, wait_home}
+use Rattle.fmp_tasks.specs.KeptLaws.{task-other, task-same}
 
 nat_eq-none : (u y t : ℕ) → nat_eq u t ≡ false → nat_eq y t ≡ true → nat_eq u y ≡ false
 nat_eq-none u y t h k = grind (arith, nat_tests)
@@ -55,7 +48,7 @@ or_true false = refl
 at_end : (t : ℕ) (l : List ℕ) → list_any (nat_eq t) (to_end l t) ≡ true
 at_end t l =
     any-append (nat_eq t) (without l t) (t ∷ [])
-    ∙ ap (λ (b : Bool). list_any (nat_eq t) (without l t) || (b || false)) (nat_eq-self t)
+    ∙ ap (λ (b : Bool). list_any (nat_eq t) (without l t) || (b || false)) (nat_eq-same t)
     ∙ or_true (list_any (nat_eq t) (without l t))
 
 others_at_end : (u t : ℕ) (l : List ℕ) → nat_eq u t ≡ false → list_any (nat_eq u) (to_end l t) ≡ list_any (nat_eq u) l
@@ -148,7 +141,7 @@ among home by tasks order lists t kept k l below stays = by_home (home (task_at 
   by_home : (o : Option ℕ) → home (task_at tasks t) ≡ o → IsBelow (length lists) o → IsAmong t lists o
   by_home None e b = tt
   by_home (Some h) e b =
-      let here : is_at h (home (task_at tasks t)) ≡ true = ap (is_at h) e ∙ nat_eq-self h in
+      let here : is_at h (home (task_at tasks t)) ≡ true = ap (is_at h) e ∙ nat_eq-same h in
       let there : list_any (nat_eq t) order ≡ true = k.each t l ∙ stays h e in
       ap (list_any (nat_eq t)) (kept.each h b)
       ∙ any-arranged (by h) (nat_eq t) (priority_in tasks) (filter (λ u. is_at h (home (task_at tasks u))) order)
@@ -156,18 +149,14 @@ among home by tasks order lists t kept k l below stays = by_home (home (task_at 
       ∙ ap (λ (b : Bool). b && list_any (nat_eq t) order) here
       ∙ there
 
--- who has a ready queue, or a wait queue, stands in the order
-pub ready_stands : (x : TaskBlock) (h : ℕ) → ready_home x ≡ Some h → is_in_order x ≡ true
-ready_stands x h e = by_test (is_ready x) e where
-  by_test : (b : Bool) → some_if b (head x.processor x.priority) ≡ Some h → (b || is_waiting x.phase) ≡ true
+-- who has a queue stands in the order
+waiting_stands : (w : WaitQueues) (phase : Phase) (h : ℕ) → wait_home w (queue_of phase) ≡ Some h → is_waiting phase ≡ true
+waiting_stands w Dormant h e = cc
+waiting_stands w Ready h e = cc
+waiting_stands w (Waiting c) h e = refl
+
+pub home_stands : (w : WaitQueues) (x : TaskBlock) (h : ℕ) → home w x ≡ Some h → is_in_order x ≡ true
+home_stands w x h e = by_test (is_ready x) e where
+  by_test : (b : Bool) → (if b then Some (head x.processor x.priority) else wait_home w (queue_of x.phase)) ≡ Some h → (b || is_waiting x.phase) ≡ true
   by_test true d = refl
-  by_test false d = cc
-
-waiting_stands : (n : ObjectCounts) (phase : Phase) (suspended : Bool) (h : ℕ) → head_of_some n (queue_of phase) ≡ Some h
-    → ((is_ready_phase phase && not suspended) || is_waiting phase) ≡ true
-waiting_stands n Dormant s h e = cc
-waiting_stands n Ready s h e = cc
-waiting_stands n (Waiting c) s h e = refl
-
-pub wait_stands : (n : ObjectCounts) (x : TaskBlock) (h : ℕ) → wait_home n x ≡ Some h → is_in_order x ≡ true
-wait_stands n x h e = waiting_stands n x.phase x.suspended h e
+  by_test false d = waiting_stands w x.phase h d

@@ -1,17 +1,22 @@
 -- The first of the most urgent of some tasks is the first of the first priority that one of them has.
 use Rattle.std.proofs.Common.{◌≡◌, ℕ, zero, suc, ◌+◌, ◌-◌, ◌*◌, ◌<◌, ◌≤◌, List, [], ◌∷◌, Option, Some, None, Bool, true, false, cond, nat_eq, nat_lt, refl, ap, ◌∙◌, sym, subst, arith, length}
-use Rattle.std.specs.Prelude.{slice_set, ◌&&◌, IfSome}
+use Rattle.std.specs.Prelude.{slice_set, ◌&&◌, IfSome, if◌then◌else◌}
 use Rattle.std.specs.List.{filter}
 use Rattle.std.proofs.lemmas.Bool.Decides.{nat_tests}
 use Rattle.std.proofs.lemmas.List.Elements.{filter_agree}
 use Rattle.fmp_base.specs.declared.states.TaskBlock.{TaskBlock}
-use Rattle.fmp_base.specs.Queues.{first_urgent, more_urgent, priority_in, is_ready, is_ready_on, first_of}
+use Rattle.fmp_base.specs.Queues.{arranged, first_urgent, more_urgent, priority_in, is_ready, is_ready_on, queue_of, first_of}
 use Rattle.fmp_base.specs.States.{task_at}
 use Rattle.fmp_base.specs.Systems.{SystemTables}
-use Rattle.fmp_lists.specs.Heads.{list_at}
-use Rattle.fmp_ready.specs.ReadyLists.{ReadyLists, first_from, first_or, most_urgent, head}
-use Rattle.fmp_tasks.specs.Homes.{AllFit, BlocksFit, Fits, Kept, always_fifo, is_at, ready_home, some_if}
-use Rattle.fmp_tasks.specs.KeptLaws.{nat_same}
+use Rattle.fmp_base.specs.declared.states.WaitQueue.{WaitQueue}
+use Rattle.fmp_base.specs.declared.systems.QueueOrder.{QueueOrder}
+use Rattle.fmp_base.specs.declared.systems.QueueOrder.TheVariants.{Fifo}
+use Rattle.fmp_ready.specs.ReadyLists.{first_from, first_or, most_urgent, head, queue_at}
+use Rattle.fmp_ring.specs.OrderLaws.{nat_same}
+use Rattle.fmp_ring.specs.RingLists.{RingLists, list_at}
+use Rattle.fmp_waitq.specs.declared.queues.WaitQueues.{WaitQueues}
+use Rattle.fmp_waitq.specs.WaitLists.{head as wait_head}
+use Rattle.fmp_tasks.specs.Homes.{AllFit, BlocksFit, Fits, Kept, home, is_at, order_with_head, wait_home}
 
 filter-head : (p : ℕ → Bool) (l : List ℕ) (u : ℕ) (us : List ℕ) → filter p l ≡ u ∷ us → p u ≡ true
 filter-head p [] u us h = cc
@@ -88,12 +93,23 @@ filter-filter p q (t ∷ ts) = by_test (p t) refl (filter-filter p q ts) where
 same_head : (a b c d : ℕ) → 1 ≤ b → b ≤ 16 → 1 ≤ d → d ≤ 16 → (nat_eq a c && nat_eq b d) ≡ nat_eq (a * 16 + (b - 1)) (c * 16 + (d - 1))
 same_head a b c d e f g h = grind (arith, nat_tests)
 
+-- the lists of the ready queues come before those of the wait queues
+ready_first : (w : WaitQueues) (h : ℕ) (o : Option WaitQueue) → h < w.processors * 16 → is_at h (wait_home w o) ≡ false
+ready_first w h None l = refl
+ready_first w h (Some q) l = apart (wait_head w q) h (omega arith) where
+  apart : (a b : ℕ) → b < a → nat_eq a b ≡ false
+  apart a b k = grind (arith, nat_tests)
+
+-- and their order is FIFO
+pub ready_fifo : (w : WaitQueues) (sys : SystemTables) (h : ℕ) → h < w.processors * 16 → order_with_head w sys h ≡ Fifo
+ready_fifo w sys h l = rw (lt_true h (w.processors * 16) l) refl
+
 -- a ready queue of p: those ready there, of its priority
-ready_test : (sys : SystemTables) (x : TaskBlock) (p k : ℕ) → Fits sys x → 1 ≤ k → k ≤ 16
-    → (is_ready_on p x && nat_eq x.priority k) ≡ is_at (head p k) (ready_home x)
-ready_test sys x p k f a b = by_test (is_ready x) where
-  by_test : (c : Bool) → ((c && nat_eq x.processor p) && nat_eq x.priority k) ≡ is_at (head p k) (some_if c (head x.processor x.priority))
-  by_test false = refl
+ready_test : (w : WaitQueues) (sys : SystemTables) (x : TaskBlock) (p k : ℕ) → Fits sys x → p < w.processors → 1 ≤ k → k ≤ 16
+    → (is_ready_on p x && nat_eq x.priority k) ≡ is_at (head p k) (home w x)
+ready_test w sys x p k f there a b = by_test (is_ready x) where
+  by_test : (c : Bool) → ((c && nat_eq x.processor p) && nat_eq x.priority k) ≡ is_at (head p k) (if c then Some (head x.processor x.priority) else wait_home w (queue_of x.phase))
+  by_test false = sym (ready_first w (head p k) (queue_of x.phase) (omega arith))
   by_test true = same_head x.processor x.priority p k f.urgent f.least a b
 
 -- so it is where there is no such task
@@ -101,6 +117,11 @@ no_task : (xs : List TaskBlock) (t : ℕ) → length xs ≤ t → is_ready (task
 no_task [] t l = refl
 no_task (x ∷ xs) zero l = absurd (omega arith)
 no_task (x ∷ xs) (suc t) l = no_task xs t (omega arith)
+
+pub no_home : (w : WaitQueues) (xs : List TaskBlock) (t : ℕ) → length xs ≤ t → home w (task_at xs t) ≡ None
+no_home w [] t l = refl
+no_home w (x ∷ xs) zero l = absurd (omega arith)
+no_home w (x ∷ xs) (suc t) l = no_home w xs t (omega arith)
 
 AllFit-at : (sys : SystemTables) (xs : List TaskBlock) (t : ℕ) → AllFit sys xs → t < length xs → Fits sys (task_at xs t)
 AllFit-at sys [] t h l = absurd (omega arith)
@@ -119,13 +140,15 @@ pub BlocksFit-set : {sys : SystemTables} {xs : List TaskBlock} (t : ℕ) (x : Ta
 BlocksFit-set {sys} {xs} t x h k = record { each = AllFit-set sys xs t x h.each k }
 
 -- what stands there by the lists stands there by the definition
-ready_at : (sys : SystemTables) (xs : List TaskBlock) (p k t : ℕ) → BlocksFit sys xs → 1 ≤ k → k ≤ 16
-    → (is_ready_on p (task_at xs t) && nat_eq (priority_in xs t) k) ≡ is_at (head p k) (ready_home (task_at xs t))
-ready_at sys xs p k t h a b = by_test (nat_lt t (length xs)) refl where
+ready_at : (w : WaitQueues) (sys : SystemTables) (xs : List TaskBlock) (p k t : ℕ) → BlocksFit sys xs → p < w.processors → 1 ≤ k → k ≤ 16
+    → (is_ready_on p (task_at xs t) && nat_eq (priority_in xs t) k) ≡ is_at (head p k) (home w (task_at xs t))
+ready_at w sys xs p k t h there a b = by_test (nat_lt t (length xs)) refl where
   by_test : (c : Bool) → nat_lt t (length xs) ≡ c
-      → (is_ready_on p (task_at xs t) && nat_eq (priority_in xs t) k) ≡ is_at (head p k) (ready_home (task_at xs t))
-  by_test true e = ready_test sys (task_at xs t) p k (Fits-at t h (lt_of t (length xs) e)) a b
-  by_test false e = rw (no_task xs t (le_of t (length xs) e)) refl
+      → (is_ready_on p (task_at xs t) && nat_eq (priority_in xs t) k) ≡ is_at (head p k) (home w (task_at xs t))
+  by_test true e = ready_test w sys (task_at xs t) p k (Fits-at t h (lt_of t (length xs) e)) there a b
+  by_test false e =
+      let l : length xs ≤ t = le_of t (length xs) e in
+      ap (λ (c : Bool). (c && nat_eq (task_at xs t).processor p) && nat_eq (priority_in xs t) k) (no_task xs t l) ∙ sym (ap (is_at (head p k)) (no_home w xs t l))
 
 ready_within : (sys : SystemTables) (xs : List TaskBlock) (l : List ℕ) (p : ℕ) → BlocksFit sys xs
     → AllWithin xs 1 16 (filter (λ t. is_ready_on p (task_at xs t)) l)
@@ -151,23 +174,24 @@ queues-same f g k (suc n) h = ap (λ (q : List ℕ). first_or q (first_from f (k
     ∙ ap (first_or (g k)) (queues-same f g (k + 1) n (λ j a b. h j (omega arith) (omega arith)))
 
 -- the list of a priority on p is the ready queue of p, those of that priority
-pub ready_list : (sys : SystemTables) (xs : List TaskBlock) (order : List ℕ) (lists : List (List ℕ)) (p k : ℕ) → BlocksFit sys xs
-    → Kept ready_home always_fifo xs order lists → 1 ≤ k → k ≤ 16 → p * 16 + 16 ≤ length lists
+pub ready_list : (w : WaitQueues) (sys : SystemTables) (xs : List TaskBlock) (order : List ℕ) (lists : List (List ℕ)) (p k : ℕ) → BlocksFit sys xs
+    → Kept (home w) (order_with_head w sys) xs order lists → p < w.processors → 1 ≤ k → k ≤ 16 → w.processors * 16 ≤ length lists
     → list_at lists (head p k) ≡ filter (λ u. nat_eq (priority_in xs u) k) (filter (λ t. is_ready_on p (task_at xs t)) order)
-ready_list sys xs order lists p k h kept a b l =
+ready_list w sys xs order lists p k h kept there a b l =
     kept.each (head p k) (omega arith)
+    ∙ ap (λ (by : QueueOrder). arranged by (priority_in xs) (filter (λ u. is_at (head p k) (home w (task_at xs u))) order)) (ready_fifo w sys (head p k) (omega arith))
     ∙ sym (filter-filter (λ t. is_ready_on p (task_at xs t)) (λ u. nat_eq (priority_in xs u) k) order
-    ∙ filter_agree (λ u. is_ready_on p (task_at xs u) && nat_eq (priority_in xs u) k) (λ u. is_at (head p k) (ready_home (task_at xs u)))
-    (λ u. ready_at sys xs p k u h a b) order)
+    ∙ filter_agree (λ u. is_ready_on p (task_at xs u) && nat_eq (priority_in xs u) k) (λ u. is_at (head p k) (home w (task_at xs u)))
+    (λ u. ready_at w sys xs p k u h there a b) order)
 
 -- the first of the first list that is not empty is the first of the most urgent
-pub most_urgent-is : (sys : SystemTables) (xs : List TaskBlock) (order : List ℕ) (r : ReadyLists) (p : ℕ) → BlocksFit sys xs
-    → Kept ready_home always_fifo xs order r.lists → p * 16 + 16 ≤ length r.lists
+pub most_urgent-is : (w : WaitQueues) (sys : SystemTables) (xs : List TaskBlock) (order : List ℕ) (r : RingLists) (p : ℕ) → BlocksFit sys xs
+    → Kept (home w) (order_with_head w sys) xs order r.lists → p < w.processors → w.processors * 16 ≤ length r.lists
     → most_urgent r p ≡ first_urgent xs (filter (λ t. is_ready_on p (task_at xs t)) order)
 unfolding most_urgent
-most_urgent-is sys xs order r p h kept l =
-    queues-same (λ k. list_at r.lists (head p k)) (of_priority xs (filter (λ t. is_ready_on p (task_at xs t)) order)) 1 16
-    (λ j a b. ready_list sys xs order r.lists p j h kept a (omega arith) l)
+most_urgent-is w sys xs order r p h kept there l =
+    queues-same (queue_at r p) (of_priority xs (filter (λ t. is_ready_on p (task_at xs t)) order)) 1 16
+    (λ j a b. ready_list w sys xs order r.lists p j h kept there a (omega arith) l)
     ∙ first_of_priorities xs (filter (λ t. is_ready_on p (task_at xs t)) order) 1 16 (ready_within sys xs order p h)
 
 -- the first of those of a priority is ready

@@ -1,5 +1,6 @@
--- Where a task stands: by its block it has a place among the ready queues, or among the wait queues, or none.
-use Rattle.std.specs.Prelude.{◌≡◌, ℕ, ◌∷◌, [], ◌+◌, ◌-◌, ◌<◌, ◌≤◌, List, Option, Some, None, Bool, true, false, ◌&&◌, ◌||◌, length, slice_set, filter, nat_eq, nat_lt, IfSome, if◌then◌else◌}
+-- Where a task stands: by its block it has a place among the lists, of the ready queues first and then of the wait queues,
+-- or none.
+use Rattle.std.specs.Prelude.{◌≡◌, ℕ, ◌∷◌, [], ◌+◌, ◌-◌, ◌*◌, ◌<◌, ◌≤◌, List, Option, Some, None, Bool, true, false, ◌&&◌, ◌||◌, length, slice_set, filter, nat_eq, nat_lt, IfSome, if◌then◌else◌}
 use Rattle.std.specs.List.{list_any}
 use Rattle.fmp_base.specs.declared.states.Phase.{Phase}
 use Rattle.fmp_base.specs.declared.states.Phase.TheVariants.{Dormant, Ready, Waiting}
@@ -13,9 +14,10 @@ use Rattle.fmp_base.specs.MailboxCalls.{enqueued}
 use Rattle.fmp_base.specs.States.{task_at, without}
 use Rattle.fmp_base.specs.Systems.{SystemTables}
 use Rattle.fmp_base.specs.TaskCalls.{is_dormant}
-use Rattle.fmp_lists.specs.Heads.{list_at}
 use Rattle.fmp_ready.specs.ReadyLists.{head as ready_head}
+use Rattle.fmp_ring.specs.RingLists.{list_at}
 use Rattle.fmp_waitq.specs.declared.queues.ObjectCounts.{ObjectCounts}
+use Rattle.fmp_waitq.specs.declared.queues.WaitQueues.{WaitQueues}
 use Rattle.fmp_waitq.specs.WaitLists.{head as wait_head, IsThere}
 
 abbrev pub is_waiting : Phase → Bool
@@ -35,17 +37,18 @@ some_if false h = None
 abbrev pub ready_home : TaskBlock → Option ℕ
 ready_home x = some_if (is_ready x) (ready_head x.processor x.priority)
 
-abbrev pub head_of_some : ObjectCounts → Option WaitQueue → Option ℕ
-head_of_some n None = None
-head_of_some n (Some q) = Some (wait_head n q)
+-- the place of a wait queue, if there is one
+abbrev pub wait_home : WaitQueues → Option WaitQueue → Option ℕ
+wait_home w None = None
+wait_home w (Some q) = Some (wait_head w q)
 
--- the place of the wait queue of a task, if it waits in one
-abbrev pub wait_home : ObjectCounts → TaskBlock → Option ℕ
-wait_home n x = head_of_some n (queue_of x.phase)
+-- the place of the queue of a task, if it stands in one: it is ready and not suspended, or it waits
+abbrev pub home : WaitQueues → TaskBlock → Option ℕ
+home w x = if is_ready x then Some (ready_head x.processor x.priority) else wait_home w (queue_of x.phase)
 
--- the queue whose list has this place
-abbrev pub queue_with_head : ObjectCounts → ℕ → WaitQueue
-queue_with_head n h =
+-- the wait queue whose list has this place among those of the wait queues
+abbrev pub queue_with_place : ObjectCounts → ℕ → WaitQueue
+queue_with_place n h =
     if nat_lt h n.semaphores then queue.Semaphore h else (if nat_lt h (n.semaphores + n.flags) then queue.Flag (h - n.semaphores) else (if nat_lt h (n.semaphores + n.flags + n.data_queues) then queue.Senders (h - (n.semaphores + n.flags)) else (if nat_lt h (n.semaphores + n.flags + n.data_queues + n.data_queues) then queue.Receivers (h - (n.semaphores + n.flags + n.data_queues)) else queue.Mailbox (h - (n.semaphores + n.flags + n.data_queues + n.data_queues)))))
 
 -- the objects of a system that have wait queues
@@ -53,12 +56,14 @@ abbrev pub counts_of : SystemTables → ObjectCounts
 counts_of sys =
     record { semaphores = length sys.semaphores; flags = length sys.flags; data_queues = length sys.data_queues; mailboxes = length sys.mailboxes }
 
--- the order of the wait queue at a place
-abbrev pub order_with_head : SystemTables → ℕ → QueueOrder
-order_with_head sys h = order_of sys (queue_with_head (counts_of sys) h)
+-- the wait queues of a system
+abbrev pub waits_of : SystemTables → WaitQueues
+waits_of sys = record { processors = sys.processors; counts = counts_of sys }
 
-abbrev pub always_fifo : ℕ → QueueOrder
-always_fifo h = Fifo
+-- the order of the list at a place: of a ready queue always FIFO
+abbrev pub order_with_head : WaitQueues → SystemTables → ℕ → QueueOrder
+order_with_head w sys h =
+    if nat_lt h (w.processors * 16) then Fifo else order_of sys (queue_with_place w.counts (h - w.processors * 16))
 
 abbrev pub is_at : ℕ → Option ℕ → Bool
 is_at h None = false
@@ -76,10 +81,6 @@ pub record Kept (home : TaskBlock → Option ℕ) (by : ℕ → QueueOrder) (tas
 abbrev pub IsAmong : ℕ → List (List ℕ) → Option ℕ → Type 0
 IsAmong t lists None = Unit {0}
 IsAmong t lists (Some h) = list_any (nat_eq t) (list_at lists h) ≡ true
-
--- t is in none of the lists
-pub record IsFree (t : ℕ) (lists : List (List ℕ)) : Type 0 where
-  pub each : (h : ℕ) → list_any (nat_eq t) (list_at lists h) ≡ false
 
 -- the lists after t left the one of its home
 abbrev pub left_from : List (List ℕ) → Option ℕ → ℕ → List (List ℕ)

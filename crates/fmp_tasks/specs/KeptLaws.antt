@@ -12,16 +12,11 @@ use Rattle.fmp_base.specs.declared.systems.QueueOrder.TheVariants.{Fifo, Priorit
 use Rattle.fmp_base.specs.MailboxCalls.{enqueued}
 use Rattle.fmp_base.specs.Queues.{placed, sorted, arranged, priority_in, is_by_priority}
 use Rattle.fmp_base.specs.States.{without, to_end, task_at}
-use Rattle.fmp_lists.specs.Heads.{list_at}
-use Rattle.fmp_lists.specs.OrderLaws.{without-gone}
-use Rattle.fmp_tasks.specs.Homes.{is_at, queue_at_home, left_from, joined_to, Kept, IsFree}
+use Rattle.fmp_ring.specs.LinkedLaws.{is_linked-from_none}
+use Rattle.fmp_ring.specs.OrderLaws.{nat_same, without-gone}
+use Rattle.fmp_ring.specs.RingLists.{is_linked, list_at}
+use Rattle.fmp_tasks.specs.Homes.{is_at, queue_at_home, left_from, joined_to, Kept}
 use Rattle.fmp_tasks.specs.SortLaws.{sorted-push, filter-sorted, filter-swap}
-
-pub nat_same : (a b : ℕ) → nat_eq a b ≡ true → a ≡ b
-nat_same a b h = grind (arith, nat_tests)
-
-pub nat_apart_back : (a b : ℕ) → nat_eq a b ≡ false → a ≢ b
-nat_apart_back a b h = grind (arith, nat_tests)
 
 nat_apart : (a b : ℕ) → nat_eq a b ≡ false → b ≢ a
 nat_apart a b h = grind (arith, nat_tests)
@@ -239,13 +234,14 @@ out-of-range (q ∷ qs) (suc h) l = out-of-range qs h (omega arith)
 
 -- after t left its home it is in none of the lists
 pub free-after : (home : TaskBlock → Option ℕ) (by : ℕ → QueueOrder) (xs : List TaskBlock) (order : List ℕ) (qs : List (List ℕ)) (t : ℕ) → Kept home by xs order qs
-    → IsFree t (left_from qs (home (task_at xs t)) t)
-free-after home by xs order qs t k = record { each = λ h. by_test h (nat_lt h (length qs)) refl } where
-  by_test : (h : ℕ) (b : Bool) → nat_lt h (length qs) ≡ b → list_any (nat_eq t) (list_at (left_from qs (home (task_at xs t)) t) h) ≡ false
-  by_test h true e =
-      let l : h < length qs = lt_of h (length qs) e in
-      rw (left_each home by xs order qs t h l k) (without-gone t (queue_at_home home by xs order h))
-  by_test h false e =
-      let m : length (left_from qs (home (task_at xs t)) t) ≡ length qs = length-left_from qs (home (task_at xs t)) t in
-      let l : length qs ≤ h = le_of h (length qs) e in
-      rw (out-of-range (left_from qs (home (task_at xs t)) t) h (omega arith)) refl
+    → is_linked t (left_from qs (home (task_at xs t)) t) ≡ false
+free-after home by xs order qs t k =
+    is_linked-from_none t (left_from qs (home (task_at xs t)) t) (λ h. by_test h (nat_lt h (length qs)) refl) where
+      by_test : (h : ℕ) (b : Bool) → nat_lt h (length qs) ≡ b → list_any (nat_eq t) (list_at (left_from qs (home (task_at xs t)) t) h) ≡ false
+      by_test h true e =
+          let l : h < length qs = lt_of h (length qs) e in
+          rw (left_each home by xs order qs t h l k) (without-gone t (queue_at_home home by xs order h))
+      by_test h false e =
+          let m : length (left_from qs (home (task_at xs t)) t) ≡ length qs = length-left_from qs (home (task_at xs t)) t in
+          let l : length qs ≤ h = le_of h (length qs) e in
+          rw (out-of-range (left_from qs (home (task_at xs t)) t) h (omega arith)) refl

@@ -5,4 +5,3 @@ pub mod SortLaws
 pub mod Tables
 pub mod Trails
 pub mod WaitLaws
-pub mod WordQueues

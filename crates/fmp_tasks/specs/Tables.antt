@@ -11,13 +11,15 @@ use Rattle.fmp_base.specs.Outcomes.{Outcome}
 use Rattle.fmp_base.specs.Ranges.{IsInRange}
 use Rattle.fmp_base.specs.States.{KernelState, Progress}
 use Rattle.fmp_base.specs.Systems.{SystemTables, tables_of}
-use Rattle.fmp_lists.specs.Orders.{IsOrder}
-use Rattle.fmp_ready.specs.ReadyLists.{ReadyLists}
+use Rattle.fmp_ready.specs.ReadyLists.{AreExact}
+use Rattle.fmp_ring.specs.Orders.{IsOrder}
+use Rattle.fmp_ring.specs.RingLists.{RingLists}
 use Rattle.fmp_spin.specs.Pending.{handler_processors}
 use Rattle.fmp_ticks.specs.Times.{NoneBefore}
-use Rattle.fmp_waitq.specs.WaitLists.{WaitLists, count_of_lists}
+use Rattle.fmp_waitq.specs.declared.queues.WaitQueues.{WaitQueues}
+use Rattle.fmp_waitq.specs.WaitLists.{count_of_lists}
 use Rattle.fmp_tasks.specs.declared.tables.Tables.TheInside.{Inside}
-use Rattle.fmp_tasks.specs.Homes.{Kept, BlocksFit, Standing, ready_home, wait_home, always_fifo, order_with_head, counts_of}
+use Rattle.fmp_tasks.specs.Homes.{Kept, BlocksFit, Standing, home, order_with_head, counts_of, waits_of}
 
 -- the tables of the system, which never change, and the state of the kernel
 pub record TablesView : Type 0 where
@@ -33,7 +35,7 @@ tables_view a =
         order = a.order;
         semaphores = a.semaphores.items;
         flags = a.flags.items;
-        data_queues = a.words;
+        data_queues = a.words.items;
         mailboxes = a.mailboxes.lists;
         shared_words = a.shared_words.items;
         processors = a.processors;
@@ -49,20 +51,19 @@ abbrev pub HasHandler : SystemTables → Handler → Type 0
 HasHandler sys (handler.Interrupt i) = i < 32
 HasHandler sys (handler.Cyclic c) = c < length sys.cyclics
 
--- the queues are parts of the order, and the deadlines those of the blocks
-pub record Sound (sys : SystemTables) (tasks : List TaskBlock) (order : List ℕ) (ready : ReadyLists) (waits : WaitLists) (deadlines : List (Option ℕ)) : Type 0 where
+-- the queues are parts of the order, with a bit for each ready queue that is not empty, and the deadlines are those of the
+-- blocks
+pub record Sound (sys : SystemTables) (tasks : List TaskBlock) (order ready : List ℕ) (waits : WaitQueues) (rings : RingLists) (deadlines : List (Option ℕ)) : Type 0 where
   pub configs : length sys.tasks ≡ length tasks
   pub blocks : BlocksFit sys tasks
   pub distinct : IsOrder (length tasks) order
   pub standing : Standing tasks order
-  pub ready_processors : ready.processors ≡ sys.processors
-  pub ready_tasks : ready.tasks ≡ length tasks
-  pub ready_lists : length ready.lists ≡ sys.processors * 16
-  pub wait_counts : waits.counts ≡ counts_of sys
-  pub wait_tasks : waits.tasks ≡ length tasks
-  pub wait_lists : length waits.lists ≡ count_of_lists (counts_of sys)
-  pub ready_kept : Kept ready_home always_fifo tasks order ready.lists
-  pub waits_kept : Kept (wait_home (counts_of sys)) (order_with_head sys) tasks order waits.lists
+  pub processors : length ready ≡ sys.processors
+  pub exact : AreExact ready rings
+  pub own_waits : waits ≡ waits_of sys
+  pub nodes : rings.nodes ≡ length tasks
+  pub heads : length rings.lists ≡ sys.processors * 16 + count_of_lists (counts_of sys)
+  pub kept : Kept (home waits) (order_with_head waits sys) tasks order rings.lists
   pub deadlines_kept : deadlines ≡ map (λ x. x.deadline) tasks
 
 -- the system is in range, the tasks and queues agree, each deadline lies after the clock, and there is a value for each
@@ -70,12 +71,12 @@ pub record Sound (sys : SystemTables) (tasks : List TaskBlock) (order : List ℕ
 pub record IsWhole (a : Inside) : Type 0 where
   pub system : IsInRange (tables_of a.system)
   pub later : NoneBefore (a.clock + 1) a.deadlines
-  pub tasks : Sound (tables_of a.system) a.blocks.items a.order a.ready a.waits a.deadlines
+  pub tasks : Sound (tables_of a.system) a.blocks.items a.order a.ready a.waits a.rings a.deadlines
   pub semaphores : length a.semaphores.items ≡ length a.system.semaphores.items
   pub flags : length a.flags.items ≡ length a.system.flags.items
-  pub data_queues : length a.words ≡ length a.system.data_queues.items
+  pub data_queues : length a.words.items ≡ length a.system.data_queues.items
   pub mailboxes : length a.mailboxes.lists ≡ length a.system.mailboxes.items
-  pub messages : a.mailboxes.tasks ≡ length a.system.messages.items
+  pub messages : a.mailboxes.nodes ≡ length a.system.messages.items
   pub shared_words : length a.shared_words.items ≡ length a.system.shared_words.items
   pub processors : length a.processors ≡ a.system.processors
   pub cyclics : length a.cyclics ≡ length a.system.cyclics.items

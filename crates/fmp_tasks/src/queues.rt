@@ -1,12 +1,16 @@
 //! Where a task stands by its block: the moves into its queue and out of it.
-ghost use Rattle.std.specs.Prelude.{◌≡◌, ◌<◌, ◌≤◌, length, slice_set};
+ghost use Rattle.std.specs.Prelude.{◌≡◌, ◌<◌, ◌≤◌, length, false, slice_set};
 ghost use Rattle.fmp_base.specs.Queues.{is_ready as is_ready_block, priority_in, queue_of as queue_of_phase};
 ghost use Rattle.fmp_base.specs.Systems.{tables_of};
-ghost use Rattle.fmp_tasks.specs.Homes.{ready_home, wait_home, counts_of, always_fifo, order_with_head, left_from, joined_to, IsAmong, IsFree, IsSomeThere};
+ghost use Rattle.fmp_ring.specs.RingLists.{is_linked};
+ghost use Rattle.fmp_ready.specs.ReadyLists.{AreExact};
+ghost use Rattle.fmp_waitq.specs.WaitLists.{AreLent};
+ghost use Rattle.fmp_tasks.specs.Homes.{home, counts_of, order_with_head, left_from, joined_to, IsAmong, IsSomeThere};
 
 use crate::config::order_of;
 use fmp_base::{Phase, Steps, System, TaskBlock, WaitCause, WaitQueue};
 use fmp_ready::ReadyQueues;
+use fmp_ring::Rings;
 use fmp_ticks::TickQueue;
 use fmp_waitq::WaitQueues;
 
@@ -37,28 +41,33 @@ pub fn queue_of(phase: Phase) -> Option<WaitQueue>
 }
 
 /// Takes task t, which is x, out of its queue, if it stands in one.
-pub fn leave(ready: &mut ReadyQueues, waits: &mut WaitQueues, x: &TaskBlock, t: u8)
+pub fn leave(ready: &mut ReadyQueues, waits: WaitQueues, rings: &mut Rings, x: &TaskBlock, t: u8)
     requires urgent { 1 ≤ x.now.priority }
     requires least { x.now.priority ≤ 16 }
-    requires processor { x.now.processor < ready.old.processors }
-    requires queue { IsSomeThere waits.old.counts (queue_of_phase x.now.phase) }
-    requires ready_there { IsAmong t ready.old.lists (ready_home x.now) }
-    requires wait_there { IsAmong t waits.old.lists (wait_home waits.old.counts x.now) }
-    ensures ready { ready.new ≡ record ready.old { lists = left_from ready.old.lists (ready_home x.now) t } }
-    ensures waits { waits.new ≡ record waits.old { lists = left_from waits.old.lists (wait_home waits.old.counts x.now) t } }
+    requires processor { x.now.processor < length ready.old }
+    requires processors { waits.processors ≡ length ready.old }
+    requires exact { AreExact ready.old rings.old }
+    requires lent { AreLent waits rings.old }
+    requires queue { IsSomeThere waits.counts (queue_of_phase x.now.phase) }
+    requires there { IsAmong t rings.old.lists (home waits x.now) }
+    ensures rings { rings.new ≡ record rings.old { lists = left_from rings.old.lists (home waits x.now) t } }
+    ensures processors { length ready.new ≡ length ready.old }
+    ensures exact { AreExact ready.new rings.new }
+    ensures lent { AreLent waits rings.new }
 {
+    let mut steps = Steps::new();
     if is_ready(x) {
-        ready.dequeue(x.processor, x.priority, t);
-    }
-    if let Some(queue) = queue_of(x.phase) {
-        waits.leave(queue, t);
+        ready.dequeue(rings, x.processor, x.priority, t, &mut steps);
+    } else if let Some(queue) = queue_of(x.phase) {
+        waits.leave(rings, queue, t, &mut steps);
     }
 }
 
 /// Puts task t, which is x, into its queue, if it is to stand in one.
 pub fn join(
     ready: &mut ReadyQueues,
-    waits: &mut WaitQueues,
+    waits: WaitQueues,
+    rings: &mut Rings,
     sys: &System,
     blocks: &[TaskBlock],
     x: &TaskBlock,
@@ -66,21 +75,24 @@ pub fn join(
 )
     requires urgent { 1 ≤ x.now.priority }
     requires least { x.now.priority ≤ 16 }
-    requires processor { x.now.processor < ready.old.processors }
-    requires counts { waits.old.counts ≡ counts_of (tables_of sys.now) }
-    requires queue { IsSomeThere waits.old.counts (queue_of_phase x.now.phase) }
-    requires ready_task { t < ready.old.tasks }
-    requires wait_task { t < waits.old.tasks }
-    requires ready_free { IsFree t ready.old.lists }
-    requires wait_free { IsFree t waits.old.lists }
-    ensures ready { ready.new ≡ record ready.old { lists = joined_to always_fifo (priority_in blocks.now) ready.old.lists (ready_home x.now) t } }
-    ensures waits { waits.new ≡ record waits.old { lists = joined_to (order_with_head (tables_of sys.now)) (priority_in blocks.now) waits.old.lists (wait_home waits.old.counts x.now) t } }
+    requires processor { x.now.processor < length ready.old }
+    requires processors { waits.processors ≡ length ready.old }
+    requires exact { AreExact ready.old rings.old }
+    requires lent { AreLent waits rings.old }
+    requires counts { waits.counts ≡ counts_of (tables_of sys.now) }
+    requires queue { IsSomeThere waits.counts (queue_of_phase x.now.phase) }
+    requires task { t < rings.old.nodes }
+    requires free { is_linked t rings.old.lists ≡ false }
+    ensures rings { rings.new ≡ record rings.old { lists = joined_to (order_with_head waits (tables_of sys.now)) (priority_in blocks.now) rings.old.lists (home waits x.now) t } }
+    ensures processors { length ready.new ≡ length ready.old }
+    ensures exact { AreExact ready.new rings.new }
+    ensures lent { AreLent waits rings.new }
 {
+    let mut steps = Steps::new();
     if is_ready(x) {
-        ready.enqueue(x.processor, x.priority, t);
-    }
-    if let Some(queue) = queue_of(x.phase) {
-        waits.join(queue, order_of(sys, queue), blocks, t);
+        ready.enqueue(rings, x.processor, x.priority, t, &mut steps);
+    } else if let Some(queue) = queue_of(x.phase) {
+        waits.join(rings, queue, order_of(sys, queue), blocks, t, &mut steps);
     }
 }
 

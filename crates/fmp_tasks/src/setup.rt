@@ -1,17 +1,19 @@
 //! The parts of the state in which a system starts.
-ghost use Rattle.std.specs.Prelude.{◌≡◌, IfOk, map};
+ghost use Rattle.std.specs.Prelude.{◌≡◌, ◌+◌, ◌*◌, [], IfOk, map, replicate};
 ghost use Rattle.fmp_base.specs.Ranges.{IsInRange};
 ghost use Rattle.fmp_base.specs.Setups.{created as created_block, created_state};
 ghost use Rattle.fmp_base.specs.Systems.{tables_of};
 ghost use Rattle.fmp_spin.specs.Pending.{none_pending};
-ghost use Rattle.fmp_tasks.specs.Empties.{empty_ready, empty_waits, empty_mailboxes, no_deadlines};
+ghost use Rattle.fmp_tasks.specs.Empties.{empty_mailboxes, no_bits, no_deadlines, no_tasks};
+ghost use Rattle.fmp_tasks.specs.Homes.{waits_of};
+ghost use Rattle.fmp_waitq.specs.WaitLists.{count_of_lists};
 
 use crate::words::Words;
 use fmp_base::{
     FlagConfig, Phase, SemaphoreConfig, SharedWordConfig, System, TaskBlock, TaskConfig,
 };
-use fmp_lists::Lists;
 use fmp_ready::ReadyQueues;
+use fmp_ring::Rings;
 use fmp_spin::PendingHandlers;
 use fmp_ticks::{Cyclics, TickQueue};
 use fmp_waitq::{ObjectCounts, WaitQueues};
@@ -77,27 +79,48 @@ fn initial_words(alloc: Global, configs: &[SharedWordConfig]) -> Result<Vec<i32>
     Ok(words)
 }
 
-/// Empty ready queues and wait queues, and no deadlines.
+/// The wait queues of a system.
+pub fn wait_queues(sys: &System) -> WaitQueues
+    requires { IsInRange (tables_of sys.now) }
+    ensures { result ≡ waits_of (tables_of sys.now) }
+{
+    WaitQueues {
+        processors: sys.processors,
+        counts: ObjectCounts {
+            semaphores: sys.semaphores.len() as u8,
+            flags: sys.flags.len() as u8,
+            data_queues: sys.data_queues.len() as u8,
+            mailboxes: sys.mailboxes.len() as u8,
+        },
+    }
+}
+
+/// How many lists tasks stand in: sixteen ready queues a processor, and the wait queues.
+fn list_count(waits: WaitQueues) -> u16
+    ensures { result ≡ waits.processors * 16 + count_of_lists waits.counts }
+{
+    let counts = waits.counts;
+    let data_queues = counts.data_queues as u16;
+    let single = counts.semaphores as u16 + counts.flags as u16 + counts.mailboxes as u16;
+    waits.processors as u16 * 16 + single + data_queues + data_queues
+}
+
+/// No ready queue with a task, empty lists, and no deadlines.
 pub fn empty_queues(
     alloc: Global,
     sys: &System,
-) -> Result<(ReadyQueues, WaitQueues, TickQueue), AllocError>
-    requires { IsInRange (tables_of sys.now) }
-    ensures ready { IfOk result (λ q. q.0 ≡ empty_ready (tables_of sys.now)) }
-    ensures waits { IfOk result (λ q. q.1 ≡ empty_waits (tables_of sys.now)) }
+    waits: WaitQueues,
+) -> Result<(ReadyQueues, Rings, TickQueue), AllocError>
+    requires range { IsInRange (tables_of sys.now) }
+    requires waits { waits ≡ waits_of (tables_of sys.now) }
+    ensures ready { IfOk result (λ q. q.0 ≡ no_bits (tables_of sys.now)) }
+    ensures rings { IfOk result (λ q. q.1 ≡ no_tasks (tables_of sys.now)) }
     ensures deadlines { IfOk result (λ q. q.2 ≡ no_deadlines (tables_of sys.now)) }
 {
-    let tasks = sys.tasks.len() as u8;
-    let counts = ObjectCounts {
-        semaphores: sys.semaphores.len() as u8,
-        flags: sys.flags.len() as u8,
-        data_queues: sys.data_queues.len() as u8,
-        mailboxes: sys.mailboxes.len() as u8,
-    };
-    let ready = ReadyQueues::new(alloc, sys.processors, tasks)?;
-    let waits = WaitQueues::new(alloc, counts, tasks)?;
-    let deadlines = TickQueue::new(alloc, tasks)?;
-    Ok((ready, waits, deadlines))
+    let ready = ReadyQueues::new(alloc, sys.processors)?;
+    let rings = Rings::new(alloc, list_count(waits), sys.tasks.len() as u16)?;
+    let deadlines = TickQueue::new(alloc, sys.tasks.len() as u8)?;
+    Ok((ready, rings, deadlines))
 }
 
 /// The initial values of semaphores, eventflags and shared words.
@@ -115,13 +138,25 @@ pub fn initial_values(
     Ok((semaphores, flags, shared_words))
 }
 
+/// So many data queues with no word.
+fn empty_words(alloc: Global, queues: usize) -> Result<Vec<Words>, AllocError>
+    ensures { IfOk result (λ v. v.items ≡ replicate queues []) }
+{
+    let mut words = Vec::with_capacity(alloc, queues)?;
+    for _ in 0..queues {
+        words.push_reserved(Words::new(alloc)?);
+    }
+    Ok(words)
+}
+
 /// Empty data queues and mailboxes.
-pub fn empty_contents(alloc: Global, sys: &System) -> Result<(Words, Lists), AllocError>
-    ensures words { IfOk result (λ v. v.0 ≡ (created_state (tables_of sys.now)).data_queues) }
+pub fn empty_contents(alloc: Global, sys: &System) -> Result<(Vec<Words>, Rings), AllocError>
+    requires { IsInRange (tables_of sys.now) }
+    ensures words { IfOk result (λ v. v.0.items ≡ (created_state (tables_of sys.now)).data_queues) }
     ensures mailboxes { IfOk result (λ v. v.1 ≡ empty_mailboxes (tables_of sys.now)) }
 {
-    let words = Words::new(alloc, sys.data_queues.len())?;
-    let mailboxes = Lists::new(alloc, sys.mailboxes.len(), sys.messages.len())?;
+    let words = empty_words(alloc, sys.data_queues.len())?;
+    let mailboxes = Rings::new(alloc, sys.mailboxes.len() as u16, sys.messages.len() as u16)?;
     Ok((words, mailboxes))
 }
 

@@ -6,11 +6,13 @@ ghost use Rattle.fmp_base.specs.Systems.{tables_of};
 
 use crate::config::copied_system;
 use crate::order::Order;
-use crate::setup::{created_blocks, empty_contents, empty_queues, idle_handlers, initial_values};
+use crate::setup::{
+    created_blocks, empty_contents, empty_queues, idle_handlers, initial_values, wait_queues,
+};
 use crate::words::Words;
 use fmp_base::{System, TaskBlock};
-use fmp_lists::Lists;
 use fmp_ready::ReadyQueues;
+use fmp_ring::Rings;
 use fmp_spin::{PendingHandlers, Processors};
 use fmp_ticks::{Cyclics, TickQueue};
 use fmp_waitq::WaitQueues;
@@ -26,19 +28,21 @@ mod values;
 
 /// The tables of the system, which never change, and the state of the kernel: the task blocks with the queues and
 /// deadlines that belong to them, and the values of the objects, the processors and the handlers. Everything goes by
-/// its place, from 0. Each call that changes it says the whole state that it leaves.
+/// its place, from 0. The tasks stand in the lists of `rings`, of ready queues and wait queues; the messages stand in
+/// those of `mailboxes`. Each call that changes it says the whole state that it leaves.
 #[derive(Drop)]
 pub struct Tables {
     system: System,
     blocks: Vec<TaskBlock>,
     order: Order,
+    rings: Rings,
     ready: ReadyQueues,
     waits: WaitQueues,
     deadlines: TickQueue,
     semaphores: Vec<u16>,
     flags: Vec<u16>,
-    words: Words,
-    mailboxes: Lists,
+    words: Vec<Words>,
+    mailboxes: Rings,
     shared_words: Vec<i32>,
     processors: Processors,
     cyclics: Cyclics,
@@ -65,7 +69,8 @@ impl Tables {
     {
         let system = copied_system(alloc, sys)?;
         let blocks = created_blocks(alloc, sys.tasks.as_slice())?;
-        let (ready, waits, deadlines) = empty_queues(alloc, sys)?;
+        let waits = wait_queues(sys);
+        let (ready, rings, deadlines) = empty_queues(alloc, sys, waits)?;
         let (semaphores, flags, shared_words) = initial_values(alloc, sys)?;
         let (words, mailboxes) = empty_contents(alloc, sys)?;
         let processors = Processors::new(alloc, sys.processors)?;
@@ -74,6 +79,7 @@ impl Tables {
             system,
             blocks,
             order: Order::new(),
+            rings,
             ready,
             waits,
             deadlines,

@@ -1,5 +1,6 @@
 //! The deadlines of tasks.
 ghost use Rattle.std.specs.Prelude.{◌≡◌, ◌+◌, ◌<◌, ◌≤◌, length, slice_set, IfOk, IfSome, replicate, Some, None};
+ghost use Rattle.fmp_base.specs.Links.{AddsAtMost};
 ghost use Rattle.fmp_ticks.specs.Times.{first_due as first_due_of, NoneBefore};
 
 use crate::heap::{Moment, is_before, mend, moment_at};
@@ -43,7 +44,7 @@ impl TickQueue {
     pub fn set(&mut self, t: u8, when: u32, steps: &mut Steps)
         requires { t < length self.old }
         ensures value { self.new ≡ slice_set self.old t (Some when) }
-        ensures counted { (steps.old ≤ steps.new) × (steps.new ≤ steps.old + 22) }
+        ensures steps { AddsAtMost 22 steps.old steps.new }
     {
         let slot = self.places.slot_of(t);
         let stood = self.deadlines[t as usize].is_some();
@@ -56,7 +57,7 @@ impl TickQueue {
     pub fn cancel(&mut self, t: u8, steps: &mut Steps)
         requires { t < length self.old }
         ensures value { self.new ≡ slice_set self.old t None }
-        ensures counted { (steps.old ≤ steps.new) × (steps.new ≤ steps.old + 22) }
+        ensures steps { AddsAtMost 22 steps.old steps.new }
     {
         if self.deadlines[t as usize].is_none() {
             return;
@@ -74,7 +75,7 @@ impl TickQueue {
         requires { NoneBefore now self.now }
         ensures value { result ≡ first_due_of now self.now }
         ensures there { IfSome result (λ t. t < length self.now) }
-        ensures counted { (steps.old ≤ steps.new) × (steps.new ≤ steps.old + 1) }
+        ensures steps { AddsAtMost 1 steps.old steps.new }
     {
         if self.places.count() == 0 {
             return None;

@@ -1,5 +1,6 @@
 //! A heap of the tasks that have deadlines.
 ghost use Rattle.std.specs.Prelude.{◌≡◌, ◌+◌, ◌<◌, ◌≤◌, ◌*◌, length, nat_lt, Some, None, slice_index, slice_index_or};
+ghost use Rattle.fmp_base.specs.Links.{AddsAtMost};
 ghost use Rattle.fmp_ticks.specs.Ranks.{rank, rank_at, IsHeap, IsOpenAt, IsHeapAbove, IsFirstChild};
 
 use crate::places::Places;
@@ -15,7 +16,7 @@ pub struct Moment {
 /// Whether a moment is before another: earlier, or at the same time for a task of lower number. This is one step.
 pub fn is_before(a: Moment, b: Moment, steps: &mut Steps) -> bool
     ensures value { result ≡ nat_lt (rank (Some a.when) a.task) (rank (Some b.when) b.task) }
-    ensures counted { steps.new ≡ steps.old + 1 }
+    ensures steps { steps.new ≡ steps.old + 1 }
 {
     steps.add_one();
     a.when < b.when || (a.when == b.when && a.task < b.task)
@@ -52,7 +53,7 @@ fn slot_is_before(
     requires first_inside { 1 ≤ rank_at deadlines.now places.now.tasks i }
     requires second_inside { 1 ≤ rank_at deadlines.now places.now.tasks j }
     ensures value { result ≡ nat_lt (rank_at deadlines.now places.now.tasks i) (rank_at deadlines.now places.now.tasks j) }
-    ensures counted { steps.new ≡ steps.old + 1 }
+    ensures steps { steps.new ≡ steps.old + 1 }
 {
     let a = moment_at(places, deadlines, i);
     let b = moment_at(places, deadlines, j);
@@ -68,7 +69,7 @@ fn rise(places: &mut Places, deadlines: &[Option<u32>], from: usize, steps: &mut
     ensures count { places.new.count ≡ places.old.count }
     ensures long { length places.new.tasks ≡ length places.old.tasks }
     ensures rests { IsHeapAbove (rank_at deadlines.now places.new.tasks) places.new.count (length deadlines.now) result }
-    ensures counted { (steps.old ≤ steps.new) × (steps.new ≤ steps.old + 7) }
+    ensures steps { AddsAtMost 7 steps.old steps.new }
 {
     let mut slot = from;
     while slot > 0 {
@@ -88,7 +89,7 @@ fn first_child(places: &Places, deadlines: &[Option<u32>], slot: usize, steps: &
     requires above { IsHeapAbove (rank_at deadlines.now places.now.tasks) places.now.count (length deadlines.now) slot }
     requires parent { slot * 2 + 1 < places.now.count }
     ensures first { IsFirstChild (rank_at deadlines.now places.now.tasks) places.now.count slot result }
-    ensures counted { (steps.old ≤ steps.new) × (steps.new ≤ steps.old + 1) }
+    ensures steps { AddsAtMost 1 steps.old steps.new }
 {
     let left = slot * 2 + 1;
     let right = left + 1;
@@ -107,7 +108,7 @@ fn sink(places: &mut Places, deadlines: &[Option<u32>], from: usize, steps: &mut
     ensures count { places.new.count ≡ places.old.count }
     ensures long { length places.new.tasks ≡ length places.old.tasks }
     ensures heap { IsHeap (rank_at deadlines.now places.new.tasks) places.new.count (length deadlines.now) }
-    ensures counted { (steps.old ≤ steps.new) × (steps.new ≤ steps.old + 14) }
+    ensures steps { AddsAtMost 14 steps.old steps.new }
 {
     let mut slot = from;
     while slot * 2 + 1 < places.count() {
@@ -129,7 +130,7 @@ pub fn mend(places: &mut Places, deadlines: &[Option<u32>], slot: usize, steps: 
     ensures count { places.new.count ≡ places.old.count }
     ensures long { length places.new.tasks ≡ length places.old.tasks }
     ensures heap { IsHeap (rank_at deadlines.now places.new.tasks) places.new.count (length deadlines.now) }
-    ensures counted { (steps.old ≤ steps.new) × (steps.new ≤ steps.old + 21) }
+    ensures steps { AddsAtMost 21 steps.old steps.new }
 {
     let slot = rise(places, deadlines, slot, steps);
     sink(places, deadlines, slot, steps);

@@ -4,10 +4,12 @@ ghost use Rattle.fmp_base.specs.DataQueueCalls.{words_at, with_words, has_room, 
 ghost use Rattle.fmp_base.specs.MailboxCalls.{messages_at, with_messages, enqueued, message_priority, is_queued};
 ghost use Rattle.fmp_base.specs.Queues.{first_of};
 ghost use Rattle.fmp_base.specs.Systems.{mailbox_config};
-ghost use Rattle.fmp_lists.specs.Heads.{behind_first};
+ghost use Rattle.fmp_ring.specs.RingLists.{behind_first};
 
-use crate::messages::{is_in_some, put};
+use crate::messages::put;
 use crate::tables::Tables;
+use fmp_base::Steps;
+use fmp_ring::as_byte;
 
 impl Tables {
     /// How many data queues there are.
@@ -16,7 +18,7 @@ impl Tables {
         ensures system { result ≡ length self.now.system.data_queues }
         ensures few { result ≤ 255 }
     {
-        self.words.count()
+        self.words.len()
     }
 
     /// Whether a data queue has room for a word.
@@ -24,7 +26,7 @@ impl Tables {
         requires { d < length self.now.system.data_queues }
         ensures { result ≡ has_room self.now.system self.now.state d }
     {
-        self.words.queue(d).len() < self.system.data_queues[d as usize].capacity as usize
+        self.words[d as usize].len() < self.system.data_queues[d as usize].capacity as usize
     }
 
     /// The oldest word of a data queue, if any.
@@ -32,7 +34,7 @@ impl Tables {
         requires { d < length self.now.system.data_queues }
         ensures { result ≡ slice_get (words_at self.now.state d) 0 }
     {
-        self.words.queue(d).first().copied()
+        self.words[d as usize].oldest()
     }
 
     /// Puts a word last in a data queue that has room.
@@ -41,8 +43,7 @@ impl Tables {
         requires room { has_room self.old.system self.old.state d ≡ true }
         ensures { self.new ≡ record self.old { state = appended self.old.state d word } }
     {
-        let capacity = self.system.data_queues[d as usize].capacity;
-        self.words.append(d, capacity, word);
+        self.words[d as usize].append(word);
     }
 
     /// Puts a word last in a data queue; its oldest word, if it has one, makes room.
@@ -50,7 +51,7 @@ impl Tables {
         requires { d < length self.old.system.data_queues }
         ensures { self.new ≡ record self.old { state = with_words self.old.state d (without_oldest (words_at self.old.state d) ++ word ∷ []) } }
     {
-        self.words.force(d, word);
+        self.words[d as usize].force(word);
     }
 
     /// Takes the oldest word out of a data queue, if it has one.
@@ -58,7 +59,7 @@ impl Tables {
         requires { d < length self.old.system.data_queues }
         ensures { self.new ≡ record self.old { state = with_words self.old.state d (without_oldest (words_at self.old.state d)) } }
     {
-        self.words.drop_oldest(d);
+        self.words[d as usize].drop_oldest();
     }
 
     /// How many mailboxes there are.
@@ -82,7 +83,7 @@ impl Tables {
     pub fn is_queued(&self, g: u8) -> bool
         ensures { result ≡ is_queued g self.now.state.mailboxes }
     {
-        is_in_some(&self.mailboxes, self.system.mailboxes.len(), g)
+        self.mailboxes.is_linked(g as u16, &mut Steps::new())
     }
 
     /// The first message in a mailbox, if any.
@@ -90,7 +91,7 @@ impl Tables {
         requires { x < length self.now.system.mailboxes }
         ensures { result ≡ first_of (messages_at self.now.state x) }
     {
-        self.mailboxes.first(x as usize)
+        as_byte(self.mailboxes.first(x as u16, &mut Steps::new()))
     }
 
     /// Queues a message, which is queued nowhere, in a mailbox: last in FIFO order (TA_MFIFO), after those that are at
@@ -110,6 +111,6 @@ impl Tables {
         requires { x < length self.old.system.mailboxes }
         ensures { self.new ≡ record self.old { state = with_messages self.old.state x (behind_first (messages_at self.old.state x)) } }
     {
-        let _ = self.mailboxes.pop_front(x as usize);
+        let _ = self.mailboxes.pop_front(x as u16, &mut Steps::new());
     }
 }

@@ -1,22 +1,18 @@
 //! The task blocks and the queues in which the tasks stand.
-ghost use Rattle.std.specs.Prelude.{◌≡◌, ◌<◌, ◌≤◌, length, true, false, IfSome, ◌+◌, slice_get, drop};
+ghost use Rattle.std.specs.Prelude.{◌≡◌, ◌+◌, ◌<◌, ◌≤◌, length, nat_eq, true, false, IfSome};
+ghost use Rattle.std.specs.List.{list_any};
 ghost use Rattle.fmp_base.specs.Queues.{is_ready, top, first_ready, first_waiting, wait_queue};
-ghost use Rattle.fmp_base.specs.States.{task_at, without, with_task, with_last, with_removed};
+ghost use Rattle.fmp_base.specs.States.{task_at, with_task, with_last, with_removed};
 ghost use Rattle.fmp_base.specs.TaskCalls.{goes_last, rotated};
+ghost use Rattle.fmp_ring.specs.Orders.{IsOrder};
+ghost use Rattle.fmp_ring.specs.RingLists.{follower};
 ghost use Rattle.fmp_tasks.specs.Homes.{Fits, Stays, is_in_order, counts_of};
 ghost use Rattle.fmp_waitq.specs.WaitLists.{IsThere};
 
 use crate::config::order_of;
 use crate::queues::{is_ready as is_able, join, leave, queue_of, set_deadline};
 use crate::tables::Tables;
-use fmp_base::{QueueOrder, TaskBlock, WaitQueue};
-
-/// What stands at a place of a list, if anything does.
-fn at(list: &[u8], i: usize) -> Option<u8>
-    ensures { result ≡ slice_get list.now i }
-{
-    list.get(i).copied()
-}
+use fmp_base::{QueueOrder, Steps, TaskBlock, WaitQueue};
 
 impl Tables {
     /// How many tasks there are.
@@ -44,7 +40,7 @@ impl Tables {
         ensures value { result ≡ top self.now.state p }
         ensures there { IfSome result (λ t. t < length self.now.system.tasks) }
     {
-        self.ready.top(p)
+        self.ready.top(&self.rings, p, &mut Steps::new())
     }
 
     /// The first ready task of a priority, 1 to 16, on a processor, if any.
@@ -56,7 +52,8 @@ impl Tables {
         ensures there { IfSome result (λ t. t < length self.now.system.tasks) }
         ensures ready { IfSome result (λ t. is_ready (task_at self.now.state.tasks t) ≡ true) }
     {
-        self.ready.first(p, priority)
+        self.ready
+            .first(&self.rings, p, priority, &mut Steps::new())
     }
 
     /// The first task that waits in a queue, if any.
@@ -65,27 +62,18 @@ impl Tables {
         ensures value { result ≡ first_waiting self.now.system self.now.state queue }
         ensures there { IfSome result (λ t. t < length self.now.system.tasks) }
     {
-        self.waits.first(queue)
+        self.waits.first(&self.rings, queue, &mut Steps::new())
     }
 
-    /// The tasks that wait in a queue, those to be released first in front.
-    pub fn wait_queue(&self, queue: WaitQueue) -> &[u8]
-        requires { IsThere (counts_of self.now.system) queue }
-        ensures { result.now ≡ wait_queue self.now.system self.now.state queue }
+    /// The task that waits in a queue right behind another one, if any. No task stands in a queue twice.
+    pub fn waiting_behind(&self, queue: WaitQueue, t: u8) -> Option<u8>
+        requires queue { IsThere (counts_of self.now.system) queue }
+        requires waits { list_any (nat_eq t) (wait_queue self.now.system self.now.state queue) ≡ true }
+        ensures value { result ≡ follower t (wait_queue self.now.system self.now.state queue) }
+        ensures there { IfSome result (λ u. u < length self.now.system.tasks) }
+        ensures order { IsOrder (length self.now.system.tasks) (wait_queue self.now.system self.now.state queue) }
     {
-        self.waits.list(queue)
-    }
-
-    /// The task at a place in a wait queue, if there is one. It stands there once: without it the rest of the queue follows
-    /// at its place.
-    pub fn waiting_at(&self, queue: WaitQueue, i: usize) -> Option<u8>
-        requires { IsThere (counts_of self.now.system) queue }
-        ensures value { result ≡ slice_get (wait_queue self.now.system self.now.state queue) i }
-        ensures there { IfSome result (λ t. t < length self.now.system.tasks) }
-        ensures few { length (wait_queue self.now.system self.now.state queue) ≤ length self.now.system.tasks }
-        ensures once { IfSome result (λ t. drop i (without (wait_queue self.now.system self.now.state queue) t) ≡ drop (i + 1) (wait_queue self.now.system self.now.state queue)) }
-    {
-        at(self.waits.list(queue), i)
+        self.waits.next(&self.rings, queue, t, &mut Steps::new())
     }
 
     /// Whether a task goes to the end when its priority changes: a ready one, and one in a queue of priority order.
@@ -120,11 +108,12 @@ impl Tables {
         ensures { self.new ≡ record self.old { state = with_last self.old.state t x } }
     {
         let old = self.blocks[t as usize];
-        leave(&mut self.ready, &mut self.waits, &old, t);
+        leave(&mut self.ready, self.waits, &mut self.rings, &old, t);
         self.blocks[t as usize] = x;
         join(
             &mut self.ready,
-            &mut self.waits,
+            self.waits,
+            &mut self.rings,
             &self.system,
             self.blocks.as_slice(),
             &x,
@@ -143,7 +132,7 @@ impl Tables {
         ensures { self.new ≡ record self.old { state = with_removed self.old.state t x } }
     {
         let old = self.blocks[t as usize];
-        leave(&mut self.ready, &mut self.waits, &old, t);
+        leave(&mut self.ready, self.waits, &mut self.rings, &old, t);
         self.blocks[t as usize] = x;
         set_deadline(&mut self.deadlines, t, x.deadline);
         self.order.leave(t);

@@ -1,4 +1,4 @@
-use Rattle.std.proofs.Common.{◌≡◌, ◌+◌, ◌≤◌, List, Option, ℕ, None, ap, ◌∙◌, arith}
+use Rattle.std.proofs.Common.{◌+◌, List, Option, ℕ, ap, ◌∙◌, arith}
 use Rattle.fmp_ticks.specs.Times.{first_due}
 use Rattle.fmp_ticks.specs.ClockLaws.{NoneBefore-next}
 use Rattle.fmp_tasks.proofs.tables.Tables.advance.Goals as goal

@@ -1,96 +1,72 @@
-use Rattle.std.proofs.Common.{◌≡◌, ◌<◌, length, subst, sym, ℕ}
-use Rattle.std.specs.Prelude.{IfSome, ◌+◌, ◌≤◌}
-use Rattle.fmp_ticks.specs.ClockLaws.{NoneBefore-set}
+use Rattle.std.proofs.Common.{◌≡◌, ◌<◌, ◌∙◌, length, subst, sym, ℕ}
+use Rattle.std.specs.Prelude.{false, IfSome, ◌+◌, ◌≤◌}
 use Rattle.fmp_base.specs.declared.states.TaskBlock.{TaskBlock}
 use Rattle.fmp_base.specs.Queues.{queue_of}
 use Rattle.fmp_base.specs.States.{task_at}
 use Rattle.fmp_base.specs.Systems.{tables_of}
+use Rattle.fmp_ring.specs.RingLists.{is_linked}
+use Rattle.fmp_ticks.specs.ClockLaws.{NoneBefore-set}
 use Rattle.fmp_waitq.specs.declared.queues.ObjectCounts.{ObjectCounts}
-use Rattle.fmp_tasks.specs.Homes.{Fits, IsAmong, IsFree, IsSomeThere, counts_of, ready_home, wait_home, left_from}
-use Rattle.fmp_tasks.proofs.SoundLemmas.{read-at, ready-among, wait-among, ready-free, wait-free, Sound-moved}
+use Rattle.fmp_tasks.specs.Homes.{Fits, IsAmong, IsSomeThere, home, left_from}
+use Rattle.fmp_tasks.proofs.SoundLemmas.{Sound-last, home-among, home-free, lent, own_counts, own_processors, read-at}
 use Rattle.fmp_tasks.proofs.TopLemmas.{Fits-at}
 use Rattle.fmp_tasks.proofs.tables.Tables.set_last.Goals as goal
 
-pub leave-requires-clause-urgent : goal.leave-requires-clause-urgent
-leave-requires-clause-urgent c =
+pub leave-requires : goal.leave-requires
+leave-requires c =
+    let tasks = c.self.invariant.tasks in
     let there : c.args.t < length c.self.inside.system.tasks.items = rw (← c.self.view_is) at c.requires.there in
-    let l : c.args.t < length c.self.inside.blocks.items = subst (λ (n : ℕ). c.args.t < n) c.self.invariant.tasks.configs there in
+    let l : c.args.t < length c.self.inside.blocks.items = subst (λ (n : ℕ). c.args.t < n) tasks.configs there in
     let is : task_at c.self.inside.blocks.items c.args.t ≡ c.index.result.now = read-at _ _ _ l c.index.ensures in
-    let old : Fits (tables_of c.self.inside.system) c.index.result.now = subst (Fits (tables_of c.self.inside.system)) is (Fits-at c.args.t c.self.invariant.tasks.blocks l) in
-    old.urgent
+    let old : Fits (tables_of c.self.inside.system) c.index.result.now = subst (Fits (tables_of c.self.inside.system)) is (Fits-at c.args.t tasks.blocks l) in
+    record {
+      urgent = old.urgent;
+      least = old.least;
+      processor = subst (λ (n : ℕ). c.index.result.now.processor < n) (sym tasks.processors) old.processor;
+      processors = own_processors tasks;
+      exact = tasks.exact;
+      lent = lent tasks;
+      queue = subst (λ (n : ObjectCounts). IsSomeThere n (queue_of c.index.result.now.phase)) (sym (own_counts tasks)) old.queue;
+      there = subst (λ (x : TaskBlock). IsAmong c.args.t c.self.inside.rings.lists (home c.self.inside.waits x)) is (home-among tasks c.args.t l);
+    }
 
-pub leave-requires-clause-least : goal.leave-requires-clause-least
-leave-requires-clause-least c =
+pub join-requires : goal.join-requires
+join-requires c =
+    let tasks = c.self.invariant.tasks in
     let there : c.args.t < length c.self.inside.system.tasks.items = rw (← c.self.view_is) at c.requires.there in
-    let l : c.args.t < length c.self.inside.blocks.items = subst (λ (n : ℕ). c.args.t < n) c.self.invariant.tasks.configs there in
+    let l : c.args.t < length c.self.inside.blocks.items = subst (λ (n : ℕ). c.args.t < n) tasks.configs there in
+    let f : Fits (tables_of c.self.inside.system) c.args.x = rw (← c.self.view_is) at c.requires.fits in
     let is : task_at c.self.inside.blocks.items c.args.t ≡ c.index.result.now = read-at _ _ _ l c.index.ensures in
-    let old : Fits (tables_of c.self.inside.system) c.index.result.now = subst (Fits (tables_of c.self.inside.system)) is (Fits-at c.args.t c.self.invariant.tasks.blocks l) in
-    old.least
-
-pub leave-requires-clause-processor : goal.leave-requires-clause-processor
-leave-requires-clause-processor c =
-    let there : c.args.t < length c.self.inside.system.tasks.items = rw (← c.self.view_is) at c.requires.there in
-    let l : c.args.t < length c.self.inside.blocks.items = subst (λ (n : ℕ). c.args.t < n) c.self.invariant.tasks.configs there in
-    let is : task_at c.self.inside.blocks.items c.args.t ≡ c.index.result.now = read-at _ _ _ l c.index.ensures in
-    let old : Fits (tables_of c.self.inside.system) c.index.result.now = subst (Fits (tables_of c.self.inside.system)) is (Fits-at c.args.t c.self.invariant.tasks.blocks l) in
-    subst (λ (n : ℕ). c.index.result.now.processor < n) (sym c.self.invariant.tasks.ready_processors) old.processor
-
-pub leave-requires-clause-queue : goal.leave-requires-clause-queue
-leave-requires-clause-queue c =
-    let there : c.args.t < length c.self.inside.system.tasks.items = rw (← c.self.view_is) at c.requires.there in
-    let l : c.args.t < length c.self.inside.blocks.items = subst (λ (n : ℕ). c.args.t < n) c.self.invariant.tasks.configs there in
-    let is : task_at c.self.inside.blocks.items c.args.t ≡ c.index.result.now = read-at _ _ _ l c.index.ensures in
-    let old : Fits (tables_of c.self.inside.system) c.index.result.now = subst (Fits (tables_of c.self.inside.system)) is (Fits-at c.args.t c.self.invariant.tasks.blocks l) in
-    subst (λ (n : ObjectCounts). IsSomeThere n (queue_of c.index.result.now.phase)) (sym c.self.invariant.tasks.wait_counts) old.queue
-
-pub leave-requires-clause-ready_there : goal.leave-requires-clause-ready_there
-leave-requires-clause-ready_there c =
-    let there : c.args.t < length c.self.inside.system.tasks.items = rw (← c.self.view_is) at c.requires.there in
-    let l : c.args.t < length c.self.inside.blocks.items = subst (λ (n : ℕ). c.args.t < n) c.self.invariant.tasks.configs there in
-    let is : task_at c.self.inside.blocks.items c.args.t ≡ c.index.result.now = read-at _ _ _ l c.index.ensures in
-    let old : Fits (tables_of c.self.inside.system) c.index.result.now = subst (Fits (tables_of c.self.inside.system)) is (Fits-at c.args.t c.self.invariant.tasks.blocks l) in
-    subst (λ (x : TaskBlock). IsAmong c.args.t c.self.inside.ready.lists (ready_home x)) is (ready-among c.args.t c.self.invariant.tasks l)
-
-pub leave-requires-clause-wait_there : goal.leave-requires-clause-wait_there
-leave-requires-clause-wait_there c =
-    let there : c.args.t < length c.self.inside.system.tasks.items = rw (← c.self.view_is) at c.requires.there in
-    let l : c.args.t < length c.self.inside.blocks.items = subst (λ (n : ℕ). c.args.t < n) c.self.invariant.tasks.configs there in
-    let is : task_at c.self.inside.blocks.items c.args.t ≡ c.index.result.now = read-at _ _ _ l c.index.ensures in
-    let old : Fits (tables_of c.self.inside.system) c.index.result.now = subst (Fits (tables_of c.self.inside.system)) is (Fits-at c.args.t c.self.invariant.tasks.blocks l) in
-    let among : IsAmong c.args.t c.self.inside.waits.lists (wait_home (counts_of (tables_of c.self.inside.system)) c.index.result.now) = subst (λ (x : TaskBlock). IsAmong c.args.t c.self.inside.waits.lists (wait_home (counts_of (tables_of c.self.inside.system)) x)) is (wait-among c.args.t c.self.invariant.tasks l) in
-    subst (λ (n : ObjectCounts). IsAmong c.args.t c.self.inside.waits.lists (wait_home n c.index.result.now)) (sym c.self.invariant.tasks.wait_counts) among
-
-pub join-requires-clause-ready_free : goal.join-requires-clause-ready_free
-join-requires-clause-ready_free c =
-    let there : c.args.t < length c.self.inside.system.tasks.items = rw (← c.self.view_is) at c.requires.there in
-    let l : c.args.t < length c.self.inside.blocks.items = subst (λ (n : ℕ). c.args.t < n) c.self.invariant.tasks.configs there in
-    let is : task_at c.self.inside.blocks.items c.args.t ≡ c.index.result.now = read-at _ _ _ l c.index.ensures in
-    let old : Fits (tables_of c.self.inside.system) c.index.result.now = subst (Fits (tables_of c.self.inside.system)) is (Fits-at c.args.t c.self.invariant.tasks.blocks l) in
-    let free : IsFree c.args.t (left_from c.self.inside.ready.lists (ready_home c.index.result.now) c.args.t) = subst (λ (x : TaskBlock). IsFree c.args.t (left_from c.self.inside.ready.lists (ready_home x) c.args.t)) is (ready-free c.args.t c.self.invariant.tasks) in
-    rw c.leave.ensures.ready free
-
-pub join-requires-clause-wait_free : goal.join-requires-clause-wait_free
-join-requires-clause-wait_free c =
-    let there : c.args.t < length c.self.inside.system.tasks.items = rw (← c.self.view_is) at c.requires.there in
-    let l : c.args.t < length c.self.inside.blocks.items = subst (λ (n : ℕ). c.args.t < n) c.self.invariant.tasks.configs there in
-    let is : task_at c.self.inside.blocks.items c.args.t ≡ c.index.result.now = read-at _ _ _ l c.index.ensures in
-    let old : Fits (tables_of c.self.inside.system) c.index.result.now = subst (Fits (tables_of c.self.inside.system)) is (Fits-at c.args.t c.self.invariant.tasks.blocks l) in
-    let free : IsFree c.args.t (left_from c.self.inside.waits.lists (wait_home (counts_of (tables_of c.self.inside.system)) c.index.result.now) c.args.t) = subst (λ (x : TaskBlock). IsFree c.args.t (left_from c.self.inside.waits.lists (wait_home (counts_of (tables_of c.self.inside.system)) x) c.args.t)) is (wait-free c.args.t c.self.invariant.tasks) in
-    rw (c.leave.ensures.waits, c.self.invariant.tasks.wait_counts) free
+    let free : is_linked c.args.t (left_from c.self.inside.rings.lists (home c.self.inside.waits c.index.result.now) c.args.t) ≡ false =
+    subst (λ (x : TaskBlock). is_linked c.args.t (left_from c.self.inside.rings.lists (home c.self.inside.waits x) c.args.t) ≡ false) is (home-free tasks c.args.t) in
+    record {
+      urgent = f.urgent;
+      least = f.least;
+      processor = subst (λ (n : ℕ). c.args.x.processor < n) (sym (c.leave.ensures.processors ∙ tasks.processors)) f.processor;
+      processors = own_processors tasks ∙ sym c.leave.ensures.processors;
+      exact = c.leave.ensures.exact;
+      lent = c.leave.ensures.lent;
+      counts = own_counts tasks;
+      queue = subst (λ (n : ObjectCounts). IsSomeThere n (queue_of c.args.x.phase)) (sym (own_counts tasks)) f.queue;
+      task = rw (c.leave.ensures.rings, tasks.nodes) l;
+      free = rw c.leave.ensures.rings free;
+    }
 
 pub invariant_of-self : goal.invariant_of-self
 invariant_of-self c =
+    let tasks = c.self.invariant.tasks in
     let there : c.args.t < length c.self.inside.system.tasks.items = rw (← c.self.view_is) at c.requires.there in
-    let l : c.args.t < length c.self.inside.blocks.items = subst (λ (n : ℕ). c.args.t < n) c.self.invariant.tasks.configs there in
+    let l : c.args.t < length c.self.inside.blocks.items = subst (λ (n : ℕ). c.args.t < n) tasks.configs there in
     let f : Fits (tables_of c.self.inside.system) c.args.x = rw (← c.self.view_is) at c.requires.fits in
     let is : task_at c.self.inside.blocks.items c.args.t ≡ c.index.result.now = read-at _ _ _ l c.index.ensures in
     let after : IfSome c.args.x.deadline (λ w. c.self.inside.clock + 1 ≤ w) = rw (← c.self.view_is) at c.requires.later in
+    let moved = rw (c.leave.ensures.rings, c.as_slice.ensures.value) at c.join.ensures.rings in
     record {
       system = c.self.invariant.system;
       later = rw c.set_deadline.ensures (NoneBefore-set _ _ _ _ after c.self.invariant.later);
       tasks =
-          rw (c.to_end.ensures, c.set_deadline.ensures, c.join.ensures.ready, c.join.ensures.waits, c.as_slice.ensures.value, c.leave.ensures.ready, c.leave.ensures.waits)
-          (Sound-moved _ _ _ _ _ _ _ _ _ c.self.invariant.tasks l f c.requires.in_order is);
+          rw (c.to_end.ensures, c.set_deadline.ensures)
+          (Sound-last tasks c.args.t c.args.x l f c.index.result.now c.join.new.ready c.join.new.rings c.requires.in_order is (c.join.ensures.processors ∙ c.leave.ensures.processors) c.join.ensures.exact moved);
       semaphores = c.self.invariant.semaphores;
       flags = c.self.invariant.flags;
       data_queues = c.self.invariant.data_queues;

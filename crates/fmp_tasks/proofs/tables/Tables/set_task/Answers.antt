@@ -19,7 +19,7 @@ invariant_of-self c =
       later = rw c.set_deadline.ensures (NoneBefore-set _ _ _ _ after c.self.invariant.later);
       tasks =
           rw (c.set_deadline.ensures)
-          (Sound-stays _ _ _ _ _ _ _ _ c.self.invariant.tasks l f s);
+          (Sound-stays c.self.invariant.tasks c.args.t c.args.x l f s);
       semaphores = c.self.invariant.semaphores;
       flags = c.self.invariant.flags;
       data_queues = c.self.invariant.data_queues;

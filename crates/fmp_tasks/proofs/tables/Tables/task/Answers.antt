@@ -1,4 +1,4 @@
-use Rattle.std.proofs.Common.{◌≡◌, ◌<◌, ◌≤◌, ◌+◌, length, subst, ℕ, zero, suc, List, [], ◌∷◌, Option, None, get_or, map, refl, ap, ◌∙◌, sym, arith}
+use Rattle.std.proofs.Common.{◌≡◌, ◌<◌, ◌≤◌, ◌+◌, length, subst, ℕ, zero, suc, List, [], ◌∷◌, Option, None, get_or, map, ap, ◌∙◌, sym, arith}
 use Rattle.std.specs.Prelude.{IfSome}
 use Rattle.fmp_base.specs.declared.states.TaskBlock.{TaskBlock}
 use Rattle.fmp_base.specs.Systems.{tables_of}

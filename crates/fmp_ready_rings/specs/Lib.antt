@@ -1,3 +1,0 @@
-pub mod Bits
-pub mod ReadyLaws
-pub mod ReadyLists
