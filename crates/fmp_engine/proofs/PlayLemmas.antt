@@ -1,5 +1,5 @@
 -- One event of a run on a kernel, between what is printed and what is still to come.
-use Rattle.std.proofs.Common.{◌≡◌, refl, ℕ, ◌+◌, ◌<◌, ◌≤◌, List, ◌∷◌, ◌++◌, subst, sym, arith, ap, ◌∙◌, append_assoc, map, get_or, drop, length, add-one}
+use Rattle.std.proofs.Common.{◌≡◌, refl, ℕ, ◌+◌, ◌<◌, ◌≤◌, List, ◌∷◌, ◌++◌, subst, sym, arith, ap, ◌∙◌, append_assoc, map, get_or, drop, length, add-one, Result, Ok, Err, OnOk, OnErr}
 use Rattle.std.proofs.Math.Seq.{drop-cons}
 use Rattle.fmp_base.specs.declared.events.Effect.TheVariants as effect
 use Rattle.fmp_base.specs.declared.events.Event.{Event}
@@ -12,9 +12,25 @@ use Rattle.fmp_base.specs.Steps.{Reaction, Nothing, Did, effect_of, step}
 use Rattle.fmp_base.specs.Systems.{SystemTables}
 use Rattle.fmp_base.specs.Texts.{lines_text, events_text, states_text, whole_text}
 use Rattle.fmp_kernel.specs.KernelViews.{KernelView, view_of_setup, view_after}
+use Rattle.fmp_trace.specs.Fronts.{Begins}
 use Rattle.fmp_trace.specs.ListedStates.{listed_states_text}
 use Rattle.fmp_trace.proofs.ListedStates.{listed_states_are_states}
 use Rattle.fmp_engine.specs.Plays.{text_of_events, state_after, HasTaken}
+
+-- a fact holds on success where one that implies it does
+pub on_ok_then : {T E P Q : Type 0} (r : Result T E) → (P → Q) → OnOk r P → OnOk r Q
+on_ok_then (Ok x) f p = f p
+on_ok_then (Err e) f p = tt
+
+-- the same on an error
+pub on_err_then : {T E P Q : Type 0} (r : Result T E) → (P → Q) → OnErr r P → OnErr r Q
+on_err_then (Ok x) f p = tt
+on_err_then (Err e) f p = f p
+
+-- what is written behind a text that begins with another begins with that one
+pub begins_more : {front text : List ℕ} (whole more : List ℕ) → Begins front text → whole ≡ text ++ more → Begins front whole
+begins_more {front = front} whole more b e =
+    record { rest = b.rest ++ more; whole_is = e ∙ ap (λ (xs : List ℕ). xs ++ more) b.whole_is ∙ append_assoc front b.rest more }
 
 module _ {B C : Type 0} (meaning : B → Meaning C) where
   abbrev step_of : KernelView B C → Event → Reaction C
@@ -90,13 +106,14 @@ module _ {B C : Type 0} (meaning : B → Meaning C) where
       ap (λ (v : KernelView B C). out ++ text_of_events meaning v (drop (i + 1) events)) h
       ∙ ap (λ (q : List ℕ). out ++ q) (sym here) ∙ so_far
 
-  whole_here : (body : B) (n : ℕ) (sys : SystemTables) (k' : KernelView B C) (es : List Event) (first middle last : List ℕ) (xs : List TaskState)
-      → first ≡ lines_text sys 0 (setup sys (meaning body)).lines
+  whole_here : (body : B) (n : ℕ) (sys : SystemTables) (k' : KernelView B C) (es : List Event) (out first middle last : List ℕ) (xs : List TaskState)
+      → first ≡ out ++ lines_text sys 0 (setup sys (meaning body)).lines
       → HasTaken meaning (view_of_setup body n sys (setup sys (meaning body))) k' es first middle
       → xs ≡ map (task_state k'.world.state) (places_from 0 (length sys.tasks)) → last ≡ middle ++ listed_states_text sys 0 xs
-      → last ≡ whole_text sys (meaning body) n es
-  whole_here body n sys k' es first middle last xs p t q r =
+      → last ≡ out ++ whole_text sys (meaning body) n es
+  whole_here body n sys k' es out first middle last xs p t q r =
       let d = setup sys (meaning body) in
+      let lines : List ℕ = lines_text sys 0 d.lines in
       let events : List ℕ = events_text sys 1 (run sys (meaning body) n d.world es).events in
       let end : KernelState = (run sys (meaning body) n d.world es).world.state in
       r ∙ ap (λ (ys : List TaskState). middle ++ listed_states_text sys 0 ys) q
@@ -104,14 +121,15 @@ module _ {B C : Type 0} (meaning : B → Meaning C) where
       ∙ ap (λ (s : KernelState). middle ++ states_text sys s) t.state
       ∙ ap (λ (text : List ℕ). text ++ states_text sys end) t.printed
       ∙ ap (λ (text : List ℕ). (text ++ events) ++ states_text sys end) p
-      ∙ append_assoc (lines_text sys 0 d.lines) events (states_text sys end)
+      ∙ append_assoc (out ++ lines) events (states_text sys end)
+      ∙ append_assoc out lines (events ++ states_text sys end)
 
-  -- setup's lines, the events and the states at the end are the whole text
-  pub whole : (body : B) (n : ℕ) (sys : SystemTables) (k k' : KernelView B C) (es : List Event) (first middle last : List ℕ) (xs : List TaskState)
-      → k ≡ view_of_setup body n sys (setup sys (meaning body)) → first ≡ lines_text sys 0 k.lines
+  -- behind what stood before, setup's lines, the events and the states at the end are the whole text
+  pub whole : (body : B) (n : ℕ) (sys : SystemTables) (k k' : KernelView B C) (es : List Event) (out first middle last : List ℕ) (xs : List TaskState)
+      → k ≡ view_of_setup body n sys (setup sys (meaning body)) → first ≡ out ++ lines_text sys 0 k.lines
       → HasTaken meaning k k' es first middle → xs ≡ map (task_state k'.world.state) (places_from 0 (length sys.tasks))
-      → last ≡ middle ++ listed_states_text sys 0 xs → last ≡ whole_text sys (meaning body) n es
-  whole body n sys k k' es first middle last xs h p t q r =
-      whole_here body n sys k' es first middle last xs
-      (p ∙ ap (λ (v : KernelView B C). lines_text sys 0 v.lines) h)
+      → last ≡ middle ++ listed_states_text sys 0 xs → last ≡ out ++ whole_text sys (meaning body) n es
+  whole body n sys k k' es out first middle last xs h p t q r =
+      whole_here body n sys k' es out first middle last xs
+      (p ∙ ap (λ (v : KernelView B C). out ++ lines_text sys 0 v.lines) h)
       (subst (λ (v : KernelView B C). HasTaken meaning v k' es first middle) h t) q r

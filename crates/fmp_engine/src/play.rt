@@ -9,6 +9,7 @@ ghost use Rattle.fmp_base.specs.Systems.{tables_of};
 ghost use Rattle.fmp_base.specs.Texts.{whole_text};
 ghost use Rattle.fmp_kernel.specs.Contexts.{Entered};
 ghost use Rattle.fmp_kernel.specs.KernelViews.{view_of_setup};
+ghost use Rattle.fmp_trace.specs.Fronts.{Begins};
 ghost use Rattle.fmp_engine.specs.Plays.{HasTaken};
 
 use fmp_base::{Effect, Event, System, TaskState};
@@ -17,7 +18,8 @@ use fmp_kernel::Kernel;
 use fmp_trace::{print, print_states};
 use std::alloc::{AllocError, Global};
 
-/// Takes events on a kernel, and appends the text of their lines.
+/// Takes events on a kernel, and appends the text of their lines. Where memory runs out, what stood before is still the
+/// front of the text.
 fn take<B: Body>(
     sys: &System,
     kernel: &mut Kernel<B>,
@@ -26,7 +28,8 @@ fn take<B: Body>(
 ) -> Result<(), AllocError>
     requires system { kernel.old.system ≡ tables_of sys.now }
     requires few { kernel.old.done + length events.now ≤ 2 ^ 20 }
-    ensures { OnOk result (HasTaken B.meaning kernel.old kernel.new events.now out.old.items out.new.items) }
+    ensures ok { OnOk result (HasTaken B.meaning kernel.old kernel.new events.now out.old.items out.new.items) }
+    ensures err { OnErr result (Begins out.old.items out.new.items) }
 {
     for e in events {
         match kernel.step(*e) {
@@ -53,48 +56,53 @@ fn states<B: Body>(
     Ok(xs)
 }
 
-/// The text of a run of a kernel after setup: its lines, those of the events that did something, and the states at the
-/// end.
-fn text_from_setup<B: Body>(
+/// Appends the text of a run of a kernel after setup: its lines, those of the events that did something, and the states
+/// at the end. Where memory runs out, what stood before is still the front of the text.
+fn append_from_setup<B: Body>(
     alloc: Global,
     sys: &System,
     kernel: &mut Kernel<B>,
     events: &[Event],
-) -> Result<Vec<u8>, AllocError>
+    out: &mut Vec<u8>,
+) -> Result<(), AllocError>
     requires system { kernel.old.system ≡ tables_of sys.now }
     requires fresh { kernel.old.done ≡ 0 }
     requires tasks { length sys.now.tasks.items ≤ 255 }
     requires few { length events.now ≤ 2 ^ 20 }
-    ensures { (body : B) (n : ℕ) →
+    ensures ok { (body : B) (n : ℕ) →
         kernel.old ≡ view_of_setup body n (tables_of sys.now) (setup (tables_of sys.now) (B.meaning body)) →
-        IfOk result (λ text. text.items ≡ whole_text (tables_of sys.now) (B.meaning body) n events.now) }
+        OnOk result (out.new.items ≡
+        out.old.items ++ whole_text (tables_of sys.now) (B.meaning body) n events.now) }
+    ensures err { OnErr result (Begins out.old.items out.new.items) }
 {
-    let mut text = Vec::new(alloc);
     let count = sys.tasks.len() as u8;
-    print(sys, 0, kernel.lines(), &mut text)?;
-    take(sys, kernel, events, &mut text)?;
+    print(sys, 0, kernel.lines(), out)?;
+    take(sys, kernel, events, out)?;
     let states = states(alloc, kernel, count)?;
-    print_states(sys, states.as_slice(), &mut text)?;
-    Ok(text)
+    print_states(sys, states.as_slice(), out)
 }
 
-/// The text of a run of a system over events.
-fn text_of_run<B: Body + Drop>(
+/// Appends the text of a run of a system over events. Where memory runs out, what stood before is still the front of the
+/// text.
+fn append_run<B: Body + Drop>(
     alloc: Global,
     sys: &System,
     body: B,
     n: u64,
     events: &[Event],
-) -> Result<Vec<u8>, AllocError>
+    out: &mut Vec<u8>,
+) -> Result<(), AllocError>
     requires low { 1 ≤ n }
     requires high { n ≤ 2 ^ 48 }
     requires entries { Entered B.has_entry body (tables_of sys.now) }
     requires range { IsInRange (tables_of sys.now) }
     requires few { length events.now ≤ 2 ^ 20 }
-    ensures { IfOk result (λ text. text.items ≡ whole_text (tables_of sys.now) (B.meaning body) n events.now) }
+    ensures ok { OnOk result
+        (out.new.items ≡ out.old.items ++ whole_text (tables_of sys.now) (B.meaning body) n events.now) }
+    ensures err { OnErr result (Begins out.old.items out.new.items) }
 {
     match Kernel::new(alloc, body, sys, n) {
-        Ok(mut kernel) => text_from_setup(alloc, sys, &mut kernel, events),
+        Ok(mut kernel) => append_from_setup(alloc, sys, &mut kernel, events, out),
         Err(_) => Err(AllocError),
     }
 }
@@ -118,7 +126,10 @@ pub fn play<B: Body + Drop>(
         (out.new.items ≡ out.old.items ++ whole_text (tables_of sys.now) (B.meaning body) n events.now) }
     ensures err { OnErr result (out.new.items ≡ out.old.items) }
 {
-    let text = text_of_run(alloc, sys, body, n, events)?;
-    out.extend_from_slice(text.as_slice())?;
-    Ok(())
+    let before = out.len();
+    let played = append_run(alloc, sys, body, n, events, out);
+    if played.is_err() {
+        out.truncate(before);
+    }
+    played
 }

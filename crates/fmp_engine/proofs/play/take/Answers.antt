@@ -2,7 +2,7 @@ use Rattle.std.proofs.Common.{arith, sym, ◌∙◌, ap, ◌≤◌, ◌+◌, ◌
 use Rattle.fmp_base.specs.declared.events.Line.{Line}
 use Rattle.fmp_base.specs.Systems.{tables_of}
 use Rattle.fmp_base.specs.Texts.{lines_text}
-use Rattle.fmp_engine.proofs.PlayLemmas.{system-step, done-step, state-step, text-done, text-nothing}
+use Rattle.fmp_engine.proofs.PlayLemmas.{begins_more, system-step, done-step, state-step, text-done, text-nothing}
 use Rattle.fmp_engine.proofs.play.take.Goals as goal
 use Rattle.fmp_engine.proofs.play.take.Goals.{in-Done+in_ok-print-in-Done, in-Nothing}
 
@@ -24,5 +24,10 @@ loop-e-preserved g c =
       ];
       state = state-step g.B.Body.meaning c.loop-e.kernel c.step.new.self c.args.events.now c.loop-e.e-index _ c.loop-e-test.true c.step.ensures.state ∙ c.loop-e.invariant.state;
       system = system-step g.B.Body.meaning c.loop-e.kernel c.step.new.self _ c.step.ensures.state ∙ c.loop-e.invariant.system;
+      kept = elim c.match-step.branch [
+        | in-Done+in_ok-print-in-Done w ↦
+            rw w.out-is (begins_more _ _ c.loop-e.invariant.kept w.in_ok-print-in-Done.ensures.ok)
+        | in-Nothing w ↦ rw w.out-is c.loop-e.invariant.kept
+      ];
       few = omega arith;
     }
