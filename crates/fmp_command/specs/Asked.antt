@@ -14,22 +14,28 @@ HasWord rows id word = first_of id rows ≡ Some word
 
 -- the number that the word for this argument spells, in decimal digits
 abbrev pub HasNumber : List Row → Text → ℕ → Type 0
-HasNumber rows id number = (word : Text) × (one_of id rows ≡ Some word) × (number ≡ digits_value 10 (without_leading_plus word))
+HasNumber rows id number =
+    (word : Text) × (one_of id rows ≡ Some word) × (number ≡ digits_value 10 (without_leading_plus word))
 
 -- what a subcommand asks for, by its name and the words for its arguments
 abbrev pub IsAsked : Text → List Row → Cmd → Type 0
-IsAsked name rows (Check config tasks) = (name ≡ codes "check") × HasWord rows (codes "CFG") (string_bytes config) × HasWord rows (codes "SRC") (string_bytes tasks)
+IsAsked name rows (Check config tasks) =
+    (name ≡ codes "check") × HasWord rows (codes "CFG") (string_bytes config)
+    × HasWord rows (codes "SRC") (string_bytes tasks)
 IsAsked name rows (Build config tasks image) =
-    (name ≡ codes "build") × HasWord rows (codes "CFG") (string_bytes config) × HasWord rows (codes "SRC") (string_bytes tasks) × HasWord rows (codes "OUT") (string_bytes image)
+    (name ≡ codes "build") × HasWord rows (codes "CFG") (string_bytes config)
+    × HasWord rows (codes "SRC") (string_bytes tasks) × HasWord rows (codes "OUT") (string_bytes image)
 IsAsked name rows (Sim image steps bound) =
-    (name ≡ codes "sim") × HasWord rows (codes "IMAGE") (string_bytes image) × HasWord rows (codes "STEPS") (string_bytes steps) × HasNumber rows (codes "bound") bound
+    (name ≡ codes "sim") × HasWord rows (codes "IMAGE") (string_bytes image)
+    × HasWord rows (codes "STEPS") (string_bytes steps) × HasNumber rows (codes "bound") bound
 IsAsked name rows Stored = ⊥
 
--- what words ask for, of which the first is the program's name: they fit the form, and a parse of them enters a subcommand
+-- what words ask for, of which the first is the program's name: they fit the form, and their parse enters a subcommand
 abbrev pub AsksFor : List Text → Cmd → Type 0
 AsksFor words Stored = length words ≤ 1
 AsksFor words cmd =
-    (1 < length words) × (fault_of fmp words ≡ []) × ((name : Text) × (rows : List Row) × (subcommand_of fmp words ≡ Some (name, rows)) × IsAsked name rows cmd)
+    (1 < length words) × (fault_of fmp words ≡ [])
+    × ((name : Text) × (rows : List Row) × (subcommand_of fmp words ≡ Some (name, rows)) × IsAsked name rows cmd)
 
 -- a bound out of its range is refused behind the parse, and so is a word that the form has found
 abbrev pub IsRefusedLater : ErrorKind → Type 0

@@ -22,15 +22,21 @@ check = with_rule (with_rule (new_app (codes "check")) (file (codes "CFG"))) (fi
 
 -- `build CFG SRC OUT`
 abbrev pub build : App
-build = with_rule (with_rule (with_rule (new_app (codes "build")) (file (codes "CFG"))) (file (codes "SRC"))) (file (codes "OUT"))
+build =
+    with_rule (with_rule (with_rule (new_app (codes "build")) (file (codes "CFG"))) (file (codes "SRC")))
+    (file (codes "OUT"))
 
 -- `sim IMAGE STEPS [--bound N]`
 abbrev pub sim : App
-sim = with_rule (with_rule (with_rule (new_app (codes "sim")) (file (codes "IMAGE"))) (file (codes "STEPS"))) bound
+sim =
+    with_rule (with_rule (with_rule (new_app (codes "sim")) (file (codes "IMAGE"))) (file (codes "STEPS")))
+    bound
 
 -- a version, and a command that has to be there
 abbrev pub bare_fmp : App
-bare_fmp = record (new_app (codes "fmp")) { top = record (new_app (codes "fmp")).top { has_version = true; subcommand_required = true } }
+bare_fmp = record (new_app (codes "fmp")) {
+  top = record (new_app (codes "fmp")).top { has_version = true; subcommand_required = true };
+}
 
 -- the whole command line
 abbrev pub fmp : App

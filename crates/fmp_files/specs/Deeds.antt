@@ -1,7 +1,7 @@
 -- What a program does outside of itself.
 use Rattle.std.specs.Prelude.{ℕ, ◌≡◌, ◌++◌, ◌⊎◌, List, [], ◌∷◌, Option, None, Some, take, ⊤}
 
--- the file of this name has gained these bytes and has no others; bytes stand on standard output; a text on standard error
+-- the file of this name has these bytes and no others; bytes stand on standard output; a text on standard error
 pub data Deed : Type 0 where
   wrote : (name bytes : List ℕ) → Deed
   printed : (bytes : List ℕ) → Deed

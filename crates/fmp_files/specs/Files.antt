@@ -36,7 +36,8 @@ abbrev pub LosesWithin : Option ℕ → (old new : Option (List ℕ)) → Type 0
 LosesWithin limit old new = (bytes : List ℕ) × Consumes old new bytes × IsWithin limit (length bytes)
 
 -- one read, of at most this many bytes, has taken bytes from what is left to what was read; none only at the end
-pub record ReadsMore (most : ℕ) (left left_after : Option (List ℕ)) (bytes bytes_after : List ℕ) (count : ℕ) : Type 0 where
+pub record ReadsMore (most : ℕ) (left left_after : Option (List ℕ)) (bytes bytes_after : List ℕ) (count : ℕ)
+    : Type 0 where
   pub more : List ℕ
   pub appended : bytes_after ≡ bytes ++ more
   pub counted : length more ≡ count

@@ -2,6 +2,7 @@
 ghost use Rattle.std.specs.Prelude.{◌≡◌, ℕ, List, [], ◌∷◌, Bool, Option, None, Some, IfOk, IfSome, IsTrue, OnErr, OnOk, true};
 ghost use Rattle.fmp_files.specs.Deeds.{Begins, Deed, Does, Says, printed, wrote};
 ghost use Rattle.fmp_files.specs.Files.{front};
+ghost use Rattle.fmp_files.specs.Outside.{Files as KnownFiles, unknown_files};
 
 use crate::device::Device;
 use crate::reading::{ReadFault, read_in};
@@ -15,25 +16,23 @@ use std::{fs, io};
 
 /// What a program reaches outside of itself.
 pub trait Outside {
-    // The bytes of the file of this name, where they are known.
-    ghost file: { Self → List ℕ → Option (List ℕ) };
-
-    // Whether a call on the file of this name can fail.
-    ghost can_fail: { Self → List ℕ → Bool };
+    // What is known of the files.
+    ghost files: { Self → KnownFiles };
 
     // What was done so far, where it is known.
     ghost done: { Self → Option (List Deed) };
 
     /// The bytes of a file, or with a limit the first of them, up to one past it.
     fn read(&self, alloc: Global, name: &str, limit: Option<usize>) -> Result<Vec<u8>, ReadFault>
-        ensures bytes { IfOk result (λ bytes. IfSome (file self.now name.now) (λ all. bytes.items ≡ front limit all)) }
-        ensures device { result ≡ Err ReadFault.Device → IsTrue (can_fail self.now name.now) };
+        ensures bytes { IfOk result (λ bytes.
+            IfSome ((files self.now).bytes name.now) (λ all. bytes.items ≡ front limit all)) }
+        ensures device { result ≡ Err ReadFault.Device → IsTrue ((files self.now).can_fail name.now) };
 
     /// Writes a file: it has these bytes then, and no others. After an error it may have a beginning of them.
     fn write(&mut self, name: &str, bytes: &[u8]) -> Result<(), WriteFault>
         ensures ok { OnOk result (Does (done self.old) (wrote name.now bytes.now ∷ []) (done self.new)) }
         ensures err { OnErr result (Begins (wrote name.now) bytes.now (done self.old) (done self.new)) }
-        ensures device { OnErr result (IsTrue (can_fail self.old name.now)) };
+        ensures device { OnErr result (IsTrue ((files self.old).can_fail name.now)) };
 
     /// Writes bytes to standard output. After an error it may have a beginning of them.
     fn print(&mut self, bytes: &[u8]) -> Result<(), WriteFault>
@@ -46,10 +45,12 @@ pub trait Outside {
 
     /// Whether two names lead to one file. Equal names do.
     fn is_one_file(&self, name: &str, other: &str) -> bool
-        ensures { name.now ≡ other.now → IsTrue result };
+        ensures same { name.now ≡ other.now → IsTrue result }
+        ensures one { IsTrue result → IsTrue ((files self.now).can_be_one name.now other.now) };
 }
 
 /// The files, standard output and standard error of the system that the program runs on.
+#[derive(Drop)]
 pub struct Host<'a, R> {
     rt: &'a R,
 }
@@ -62,9 +63,7 @@ impl<'a, R> Host<'a, R> {
 
 impl<R: Files + Print + Eprint> Outside for Host<'_, R> {
     // What a file of the system has, and what was done to it, no contract can say.
-    ghost file = { λ _ _. None };
-
-    ghost can_fail = { λ _ _. true };
+    ghost files = { λ _. unknown_files };
 
     ghost done = { λ _. None };
 

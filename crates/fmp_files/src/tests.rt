@@ -1,4 +1,5 @@
-//! Reading and writing where the Nth call fails: the answer is a fault exactly where a call failed, and never other bytes.
+//! Reading and writing where the Nth call fails: the answer is a fault exactly where a call failed, and never other
+//! bytes.
 ghost use Rattle.std.specs.Prelude.{IfOk, ◌≤◌};
 
 use crate::{Device, ReadFault, WriteFault, read_in, write_out};
