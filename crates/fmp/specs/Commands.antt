@@ -1,18 +1,8 @@
--- What the clauses say of a command.
-use Rattle.std.specs.Prelude.{ℕ, ◌≤◌, ◌^◌, ⊤}
-use Rattle.fmp.specs.declared.command.Cmd.{Cmd}
-use Rattle.fmp.specs.declared.command.Cmd.TheVariants.{Check, Build, Sim, Stored}
-
--- the bound lies from 1 to 2^48
-abbrev pub IsBound : ℕ → Type 0
-IsBound bound = (1 ≤ bound) × (bound ≤ 2 ^ 48)
-
--- a command with a bound has one in its range
-abbrev pub HasBound : Cmd → Type 0
-HasBound (Check _ _) = ⊤
-HasBound (Build _ _ _) = ⊤
-HasBound (Sim _ _ bound) = IsBound bound
-HasBound Stored = ⊤
+-- The files of a command.
+use Rattle.std.specs.Prelude.{ℕ, List, [], ◌∷◌, Option, None, Some, string_bytes}
+use Rattle.fmp_lex.specs.Faults.{text_max}
+use Rattle.fmp_command.specs.declared.asking.Cmd.{Cmd}
+use Rattle.fmp_command.specs.declared.asking.Cmd.TheVariants.{Check, Build, Sim, Stored}
 
 -- how many files a command reads
 abbrev pub input_count : Cmd → ℕ
@@ -20,3 +10,24 @@ input_count (Check _ _) = 2
 input_count (Build _ _ _) = 2
 input_count (Sim _ _ _) = 2
 input_count Stored = 0
+
+-- the names of the files that a command reads, in order of its words
+abbrev pub inputs_of : Cmd → List (List ℕ)
+inputs_of (Check config tasks) = string_bytes config ∷ string_bytes tasks ∷ []
+inputs_of (Build config tasks _) = string_bytes config ∷ string_bytes tasks ∷ []
+inputs_of (Sim image steps _) = string_bytes image ∷ string_bytes steps ∷ []
+inputs_of Stored = []
+
+-- texts are read up to one byte past the limit of a text, images and steps to their end
+abbrev pub limit_of : Cmd → Option ℕ
+limit_of (Check _ _) = Some text_max
+limit_of (Build _ _ _) = Some text_max
+limit_of (Sim _ _ _) = None
+limit_of Stored = None
+
+-- the name of the file that a command writes
+abbrev pub output_of : Cmd → Option (List ℕ)
+output_of (Check _ _) = None
+output_of (Build _ _ image) = Some (string_bytes image)
+output_of (Sim _ _ _) = None
+output_of Stored = None

@@ -6,8 +6,8 @@ use Rattle.fmp_engine.specs.declared.fault.SimFault.TheVariants as sim
 use Rattle.fmp_engine.specs.Simulations.{IsWhySim, PrintsTexts, Simulates}
 use Rattle.fmp_image.specs.Images.{ImageTables, Spells}
 use Rattle.fmp_lex.specs.declared.fault.BuildFault.TheVariants as build
-use Rattle.fmp.specs.declared.command.Cmd.{Cmd}
-use Rattle.fmp.specs.declared.command.Cmd.TheVariants as cmd
+use Rattle.fmp_command.specs.declared.asking.Cmd.{Cmd}
+use Rattle.fmp_command.specs.declared.asking.Cmd.TheVariants as cmd
 use Rattle.fmp.specs.declared.perform.Exit.{Exit}
 use Rattle.fmp.specs.declared.perform.Exit.TheVariants.{Build, Sim, File, Memory}
 use Rattle.fmp.specs.declared.perform.TheConstants.{STORED_CONFIG, STORED_TASKS, STORED_STEPS, STORED_BOUND}

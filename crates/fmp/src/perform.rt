@@ -2,10 +2,11 @@
 ghost use Rattle.std.specs.Prelude.{◌≡◌, ◌++◌, ℕ, List, OnOk, OnErr, IfErr, codes, decimal, length, map};
 ghost use Rattle.fmp_build.specs.Building.{IsBuildFault};
 ghost use Rattle.fmp_engine.specs.Simulations.{IsWhySim};
-ghost use Rattle.fmp.specs.Commands.{HasBound, IsBound, input_count};
+ghost use Rattle.fmp_command.specs.Commands.{HasBound, IsBound};
+ghost use Rattle.fmp.specs.Commands.{input_count};
 ghost use Rattle.fmp.specs.Performed.{BuildsFile, CarriesOut, Checks, IsWhyNoImage, IsWhyNoRun, IsWhyNot, IsWhyNotRun, RunsImage, RunsTexts, status_of};
 
-use crate::command::Cmd;
+use fmp_command::Cmd;
 use fmp_engine::{SimFault, build_image, check, sim};
 use fmp_lex::BuildFault;
 use std::alloc::{AllocError, Global};

@@ -1,10 +1,12 @@
 //! What the tests share, and the command line.
 ghost use Rattle.std.specs.Prelude.{◌≡◌, IfOk};
-ghost use Rattle.fmp.specs.Commands.{HasBound, IsBound, input_count};
+ghost use Rattle.fmp_command.specs.Commands.{HasBound, IsBound};
+ghost use Rattle.fmp.specs.Commands.{input_count};
 
-use crate::command::{Cmd, command, status_of};
-use crate::files::read_inputs;
+use crate::carrying::read_inputs;
 use crate::perform::{Exit, perform};
+use fmp_command::{Cmd, command, status_of};
+use fmp_files::Host;
 use std::alloc::{AllocError, Global};
 use std::test::Fail;
 
@@ -149,7 +151,7 @@ fn ends(rt: HostRuntime) -> Result<(), Fail> {
     let nothing: [&[u8]; 2] = [b"", b""];
     let text = perform(alloc, &check_of(alloc)?, &nothing, &mut file, &mut out);
     let image = perform(alloc, &sim_of(alloc, 1)?, &nothing, &mut file, &mut out);
-    let missing = read_inputs(&rt, &build_of(alloc)?);
+    let missing = read_inputs(alloc, &Host::new(&rt), &build_of(alloc)?);
     let ends = [
         (text.err(), "cfg:1: B1", 1),
         (image.err(), "image: L1", 1),

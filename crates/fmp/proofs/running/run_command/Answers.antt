@@ -1,0 +1,15 @@
+use Rattle.std.proofs.Common.{rules, subst}
+use Rattle.fmp.specs.Runs.{EndsPrinting, KeepsInputs, done, failed}
+use Rattle.fmp.proofs.running.run_command.Goals as goal
+
+pub returns-in-Ok : goal.returns-in-Ok
+returns-in-Ok g c =
+    let kept : KeepsInputs c.args.cmd.now = search rules in
+    let between = g.O.Outside.done c.carry_out.new.outside in
+    let printed = subst (λ bytes. EndsPrinting bytes between (g.O.Outside.done c.print.new.outside) c.print.result) c.deref.ensures.value c.print.ensures in
+    done c.in-Ok.out.items between kept c.in-Ok.ensures.ok printed
+
+pub returns-in-Err : goal.returns-in-Err
+returns-in-Err g c =
+    let kept : KeepsInputs c.args.cmd.now = search rules in
+    failed c.in-Err.exit (g.O.Outside.done c.carry_out.new.outside) kept c.in-Err.ensures.err c.end.ensures.said c.end.ensures.status

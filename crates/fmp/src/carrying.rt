@@ -1,0 +1,142 @@
+//! Carrying out a command over files: what it reads is judged, and then its file is written.
+ghost use Rattle.std.specs.Prelude.{◌≡◌, ◌∷◌, [], IfErr, IfOk, IfSome, OnErr, OnOk, length, map};
+ghost use Rattle.fmp_command.specs.Commands.{HasBound};
+ghost use Rattle.fmp_files.specs.Deeds.{Does};
+ghost use Rattle.fmp_files.specs.Files.{front};
+ghost use Rattle.fmp.specs.Commands.{input_count, inputs_of, output_of};
+ghost use Rattle.fmp.specs.Performed.{CarriesOut, IsFor, IsWhyNot};
+ghost use Rattle.fmp.specs.Runs.{AreFronts, AreInputs, BeginsFile, CarriedOut, Fails, IsFailureAt, IsFailureOf, writes_to};
+
+use crate::perform::{Exit, perform};
+use fmp_command::Cmd;
+use fmp_files::{Outside, ReadFault, WriteFault};
+use std::alloc::{AllocError, Global};
+
+/// The limit of a text, in bytes. So much and one byte more is read of it.
+const TEXT_MAX: usize = 1_048_576;
+
+/// The end of a program that could not read or write this file.
+pub fn failed(alloc: Global, name: &str) -> Exit
+    ensures { IsFor name.now result }
+{
+    match String::from_str(alloc, name) {
+        Ok(name) => Exit::File(name),
+        Err(error) => Exit::Memory(error),
+    }
+}
+
+/// The front of a file, as far as its limit goes.
+fn read<O: Outside>(
+    alloc: Global,
+    outside: &O,
+    name: &str,
+    limit: Option<usize>,
+) -> Result<Vec<u8>, Exit>
+    ensures bytes { IfOk result (λ bytes.
+        IfSome ((O.files outside.now).bytes name.now) (λ all. bytes.items ≡ front limit all)) }
+    ensures failure { IfErr result (IsFailureOf (O.files outside.now) (name.now ∷ [])) }
+{
+    match outside.read(alloc, name, limit) {
+        Ok(bytes) => Ok(bytes),
+        Err(ReadFault::Device) => Err(failed(alloc, name)),
+        Err(ReadFault::Memory) => Err(Exit::Memory(AllocError)),
+    }
+}
+
+/// The fronts of two files.
+fn read_two<O: Outside>(
+    alloc: Global,
+    outside: &O,
+    first: &str,
+    second: &str,
+    limit: Option<usize>,
+) -> Result<Vec<Vec<u8>>, Exit>
+    ensures texts { IfOk result (λ texts.
+        AreFronts (O.files outside.now) limit (first.now ∷ second.now ∷ []) (map (λ t. t.items) texts.items)) }
+    ensures failure { IfErr result (IsFailureOf (O.files outside.now) (first.now ∷ second.now ∷ [])) }
+{
+    let texts = [
+        read(alloc, outside, first, limit)?,
+        read(alloc, outside, second, limit)?,
+    ];
+    Vec::from_array(alloc, texts).map_err(|_| Exit::Memory(AllocError))
+}
+
+/// Reads the files that a command names, in order of its words.
+pub fn read_inputs<O: Outside>(alloc: Global, outside: &O, cmd: &Cmd) -> Result<Vec<Vec<u8>>, Exit>
+    ensures texts { IfOk result (λ texts. AreInputs (O.files outside.now) cmd.now (map (λ t. t.items) texts.items)) }
+    ensures failure { IfErr result (IsFailureOf (O.files outside.now) (inputs_of cmd.now)) }
+{
+    match cmd {
+        Cmd::Check { config, tasks } | Cmd::Build { config, tasks, .. } => {
+            read_two(alloc, outside, config, tasks, Some(TEXT_MAX))
+        }
+        Cmd::Sim { image, steps, .. } => read_two(alloc, outside, image, steps, None),
+        Cmd::Stored => Ok(Vec::new(alloc)),
+    }
+}
+
+/// The same texts, borrowed.
+fn borrowed<'a>(alloc: Global, texts: &'a [Vec<u8>]) -> Result<Vec<&'a [u8]>, AllocError>
+    ensures { IfOk result (λ inputs. map (λ s. s.now) inputs.items ≡ map (λ t. t.items) texts.now) }
+{
+    let mut inputs = Vec::new(alloc);
+    for text in texts {
+        inputs.push(text.as_slice())?;
+    }
+    Ok(inputs)
+}
+
+/// What a command writes to its file, and what it prints, given what was read.
+fn performed(alloc: Global, cmd: &Cmd, texts: &[Vec<u8>]) -> Result<(Vec<u8>, Vec<u8>), Exit>
+    requires inputs { length texts.now ≡ input_count cmd.now }
+    requires bound { HasBound cmd.now }
+    ensures ok { IfOk result (λ made.
+        CarriesOut cmd.now (map (λ t. t.items) texts.now) [] made.0.items [] made.1.items) }
+    ensures err { IfErr result (IsWhyNot cmd.now (map (λ t. t.items) texts.now)) }
+{
+    let inputs = match borrowed(alloc, texts) {
+        Ok(inputs) => inputs,
+        Err(error) => return Err(Exit::Memory(error)),
+    };
+    let mut file = Vec::new(alloc);
+    let mut out = Vec::new(alloc);
+    match perform(alloc, cmd, &inputs, &mut file, &mut out) {
+        Ok(()) => Ok((file, out)),
+        Err(exit) => Err(exit),
+    }
+}
+
+/// Writes the file that a command names for it.
+pub fn write_output<O: Outside>(
+    alloc: Global,
+    outside: &mut O,
+    cmd: &Cmd,
+    bytes: &[u8],
+) -> Result<(), Exit>
+    ensures ok { OnOk result
+        (Does (O.done outside.old) (writes_to (output_of cmd.now) bytes.now) (O.done outside.new)) }
+    ensures begun { OnErr result (BeginsFile (output_of cmd.now) bytes.now (O.done outside.old) (O.done outside.new)) }
+    ensures failure { IfErr result (IsFailureAt (O.files outside.old) (output_of cmd.now)) }
+{
+    let Cmd::Build { image, .. } = cmd else {
+        return Ok(());
+    };
+    match outside.write(image, bytes) {
+        Ok(()) => Ok(()),
+        Err(WriteFault::Device) => Err(failed(alloc, image)),
+    }
+}
+
+/// Reads the files of a command, carries it out, writes its file, and gives what is to be printed.
+pub fn carry_out<O: Outside>(alloc: Global, outside: &mut O, cmd: &Cmd) -> Result<Vec<u8>, Exit>
+    requires { HasBound cmd.now }
+    ensures ok { IfOk result (λ out.
+        CarriedOut (O.files outside.old) cmd.now (O.done outside.old) (O.done outside.new) out.items) }
+    ensures err { IfErr result (Fails (O.files outside.old) cmd.now (O.done outside.old) (O.done outside.new)) }
+{
+    let texts = read_inputs(alloc, outside, cmd)?;
+    let (file, out) = performed(alloc, cmd, &texts)?;
+    write_output(alloc, outside, cmd, &file)?;
+    Ok(out)
+}

@@ -1,0 +1,121 @@
+//! A run of the program, from the words of its command line to its status.
+ghost use Rattle.std.specs.Prelude.{◌≡◌, ◌⊎◌, IsTrue, IsFalse, IfOk, map, string_bytes};
+ghost use Rattle.clap.specs.Words.{kind_of};
+ghost use Rattle.fmp_command.specs.Commands.{HasBound};
+ghost use Rattle.fmp_files.specs.Deeds.{Says};
+ghost use Rattle.fmp.specs.Performed.{status_of};
+ghost use Rattle.fmp.specs.Runs.{CanBeOver, Ends, EndsCommand, EndsPrinting, EndsRefused, KeepsInputs};
+
+use crate::carrying::{carry_out, failed};
+use crate::perform::Exit;
+use clap::Error;
+use clap::error::ErrorKind;
+use fmp_command::{Cmd, command, image_over_text};
+use fmp_files::{Outside, WriteFault};
+use std::alloc::{AllocError, Global};
+
+/// Says why the program ends, and gives its status.
+pub fn end<O: Outside>(outside: &mut O, exit: &Exit) -> u8
+    ensures said { Says (O.done outside.old) (O.done outside.new) }
+    ensures status { result ≡ status_of exit.now }
+{
+    outside.say(format_args!("{exit}\n"));
+    exit.status()
+}
+
+/// Prints all that there is to print, and gives the status.
+fn print<O: Outside>(alloc: Global, outside: &mut O, bytes: &[u8]) -> u8
+    ensures { EndsPrinting bytes.now (O.done outside.old) (O.done outside.new) result }
+{
+    match outside.print(bytes) {
+        Ok(()) => 0,
+        Err(WriteFault::Device) => end(outside, &failed(alloc, "-")),
+    }
+}
+
+/// Says what is wrong with the words of the command line, or prints what they ask to be shown.
+pub fn refuse<O: Outside>(alloc: Global, outside: &mut O, error: &Error) -> u8
+    ensures { EndsRefused (kind_of error.now) (O.done outside.old) (O.done outside.new) result }
+{
+    match error.kind() {
+        ErrorKind::OutOfMemory => end(outside, &Exit::Memory(AllocError)),
+        ErrorKind::DisplayHelp | ErrorKind::DisplayVersion => match error.to_string(alloc) {
+            Ok(text) => print(alloc, outside, text.as_bytes()),
+            Err(_) => end(outside, &Exit::Memory(AllocError)),
+        },
+        _ => {
+            outside.say(format_args!("{error}"));
+            2
+        }
+    }
+}
+
+/// Whether the file that a command writes is one that it reads.
+fn is_over_input<O: Outside>(outside: &O, cmd: &Cmd) -> bool
+    ensures kept { IsFalse result → KeepsInputs cmd.now }
+    ensures over { IsTrue result → CanBeOver (O.files outside.now) cmd.now }
+{
+    match cmd {
+        Cmd::Build {
+            config,
+            tasks,
+            image,
+        } => outside.is_one_file(image, config) || outside.is_one_file(image, tasks),
+        _ => false,
+    }
+}
+
+/// Says that the image would take the place of a text that it is built of.
+fn refuse_over_input<O: Outside>(alloc: Global, outside: &mut O) -> u8
+    ensures said { Says (O.done outside.old) (O.done outside.new) }
+    ensures status { (result ≡ 2) ⊎ (result ≡ 3) }
+{
+    match image_over_text(alloc) {
+        Ok(error) => {
+            outside.say(format_args!("{error}"));
+            2
+        }
+        Err(error) => end(outside, &Exit::Memory(error)),
+    }
+}
+
+/// Carries out a command, writes its file and then prints, and gives the status.
+fn run_command<O: Outside>(alloc: Global, outside: &mut O, cmd: &Cmd) -> u8
+    requires { HasBound cmd.now }
+    ensures { EndsCommand (O.files outside.old) cmd.now
+        (O.done outside.old) (O.done outside.new) result }
+{
+    if is_over_input(outside, cmd) {
+        return refuse_over_input(alloc, outside);
+    }
+    match carry_out(alloc, outside, cmd) {
+        Ok(out) => print(alloc, outside, &out),
+        Err(exit) => end(outside, &exit),
+    }
+}
+
+/// The same words, borrowed.
+fn borrowed<'a>(alloc: Global, words: &'a [String]) -> Result<Vec<&'a str>, AllocError>
+    ensures { IfOk result (λ texts. map (λ text. text.now) texts.items ≡ map string_bytes words.now) }
+{
+    let mut texts = Vec::new(alloc);
+    for word in words {
+        texts.push(word.as_str())?;
+    }
+    Ok(texts)
+}
+
+/// Does what the words of a command line ask for, of which the first is the program's name, and gives the status.
+pub fn run<O: Outside>(alloc: Global, outside: &mut O, words: &[String]) -> u8
+    ensures { Ends (O.files outside.old) (map string_bytes words.now)
+        (O.done outside.old) (O.done outside.new) result }
+{
+    let texts = match borrowed(alloc, words) {
+        Ok(texts) => texts,
+        Err(error) => return end(outside, &Exit::Memory(error)),
+    };
+    match command(alloc, &texts) {
+        Ok(cmd) => run_command(alloc, outside, &cmd),
+        Err(error) => refuse(alloc, outside, &error),
+    }
+}

@@ -1,0 +1,43 @@
+-- The form of the command line.
+use Rattle.std.specs.Prelude.{List, [], ◌∷◌, Some, true, codes}
+use Rattle.clap.specs.Words.{App, Rule, Text, new_app, new_rule, with_rule, with_subcommand}
+use Rattle.clap.specs.declared.builder.value_parser.ValueParser.TheVariants.{Unsigned}
+
+-- a word that names a file, and has to be there
+abbrev pub file : Text → Rule
+file id = record (new_rule id) { required = true }
+
+-- `--bound N`: a number below 2^64, and 100000 where it is not given
+abbrev pub bound : Rule
+bound = record (new_rule (codes "bound")) {
+  long = Some (codes "bound");
+  value_names = 1;
+  parser = Some (Unsigned 0 18446744073709551615);
+  defaults = codes "100000" ∷ [];
+}
+
+-- `check CFG SRC`
+abbrev pub check : App
+check = with_rule (with_rule (new_app (codes "check")) (file (codes "CFG"))) (file (codes "SRC"))
+
+-- `build CFG SRC OUT`
+abbrev pub build : App
+build =
+    with_rule (with_rule (with_rule (new_app (codes "build")) (file (codes "CFG"))) (file (codes "SRC")))
+    (file (codes "OUT"))
+
+-- `sim IMAGE STEPS [--bound N]`
+abbrev pub sim : App
+sim =
+    with_rule (with_rule (with_rule (new_app (codes "sim")) (file (codes "IMAGE"))) (file (codes "STEPS")))
+    bound
+
+-- a version, and a command that has to be there
+abbrev pub bare_fmp : App
+bare_fmp = record (new_app (codes "fmp")) {
+  top = record (new_app (codes "fmp")).top { has_version = true; subcommand_required = true };
+}
+
+-- the whole command line
+abbrev pub fmp : App
+fmp = with_subcommand (with_subcommand (with_subcommand bare_fmp check.top) build.top) sim.top

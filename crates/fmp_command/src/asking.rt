@@ -1,0 +1,92 @@
+//! What the program is asked to do, and the words that say so.
+ghost use Rattle.std.specs.Prelude.{◌≡◌, ◌≢◌, ◌≤◌, ◌⊎◌, ◌↔◌, IfErr, IfOk, length, map};
+ghost use Rattle.clap.specs.Words.{kind_of};
+ghost use Rattle.fmp_command.specs.Asked.{AsksFor, IsRefused};
+ghost use Rattle.fmp_command.specs.Commands.{HasBound};
+
+use crate::form::{build_command, program};
+use crate::reading::{asked, entered};
+use clap::Error;
+use clap::error::ErrorKind;
+use std::alloc::{AllocError, Global};
+
+/// What is said of words that are no text.
+const NOT_TEXT: &str = "invalid UTF-8 was detected in one or more arguments";
+
+/// What is said of an image that would take the place of a text that it is built of.
+const IMAGE_OVER_TEXT: &str = "the file OUT is one of the two that are read";
+
+/// What the program is asked to do. Each word is the name of a file.
+#[derive(Debug, Drop, PartialEq, Eq)]
+pub enum Cmd {
+    /// Check that a configuration and the bodies of its tasks have no fault.
+    Check {
+        config: String,
+        tasks: String,
+    },
+    /// Build the image of a configuration and the bodies of its tasks.
+    Build {
+        config: String,
+        tasks: String,
+        image: String,
+    },
+    /// Run an image over the events of a steps text. `bound` limits how many instructions a task computes between two
+    /// service calls.
+    Sim {
+        image: String,
+        steps: String,
+        bound: u64,
+    },
+    /// Build and run the texts that the program holds.
+    Stored,
+}
+
+/// The error for words that are not UTF-8.
+pub fn not_text(alloc: Global) -> Result<Error, AllocError>
+    ensures { IfOk result (λ e. kind_of e ≡ ErrorKind.ValueValidation) }
+{
+    program(alloc)?.error(ErrorKind::ValueValidation, NOT_TEXT)
+}
+
+/// The error for an image that would take the place of a text that it is built of.
+pub fn image_over_text(alloc: Global) -> Result<Error, AllocError>
+    ensures { IfOk result (λ e. kind_of e ≡ ErrorKind.ValueValidation) }
+{
+    build_command(alloc)?
+        .bin_name("fmp build")?
+        .error(ErrorKind::ValueValidation, IMAGE_OVER_TEXT)
+}
+
+/// What the words of a command line ask for, of which the first is the program's name. With no more than that it is the
+/// run of the texts that the program holds.
+pub fn command<'a>(alloc: Global, words: &'a [&'a str]) -> Result<Cmd, Error>
+    ensures asked { IfOk result (AsksFor (map (λ word. word.now) words.entry.now)) }
+    ensures refused { IfErr result (λ e. IsRefused (map (λ word. word.now) words.entry.now) (kind_of e)) }
+    ensures bound { IfOk result HasBound }
+    ensures stored { (result ≡ Ok Cmd.Stored) ↔ (length words.entry.now ≤ 1) }
+{
+    if words.len() <= 1 {
+        return Ok(Cmd::Stored);
+    }
+    let matches = program(alloc)?.try_get_matches_from(words)?;
+    match entered(&matches) {
+        Some((name, words)) => asked(alloc, name, words),
+        None => Err(program(alloc)?.error(ErrorKind::MissingSubcommand, "a command is missing")?),
+    }
+}
+
+/// The status that the program ends with after an error of the command line: 2 for a mistake, 0 where help or the
+/// version was asked for, and 3 for want of memory.
+pub fn status_of(error: &Error) -> u8
+    ensures memory { kind_of error.now ≡ ErrorKind.OutOfMemory → result ≡ 3 }
+    ensures shown { (kind_of error.now ≡ ErrorKind.DisplayHelp)
+        ⊎ (kind_of error.now ≡ ErrorKind.DisplayVersion) → result ≡ 0 }
+    ensures mistake { kind_of error.now ≢ ErrorKind.OutOfMemory → kind_of error.now ≢ ErrorKind.DisplayHelp
+        → kind_of error.now ≢ ErrorKind.DisplayVersion → result ≡ 2 }
+{
+    match error.kind() {
+        ErrorKind::OutOfMemory => 3,
+        ErrorKind::DisplayHelp | ErrorKind::DisplayVersion => 0,
+        _ => 2,
+    }
+}

@@ -1,0 +1,7 @@
+-- Files and streams.
+use Rattle.std.specs.Prelude.{false}
+use Rattle.fmp_files.specs.declared.device.Device.{Device}
+
+-- one on which no call has failed
+abbrev pub device_of : {T : Type 0} → T → Device T
+device_of inner = record { inner = inner; failed = false }

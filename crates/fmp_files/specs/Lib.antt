@@ -1,0 +1,4 @@
+pub mod Deeds
+pub mod Devices
+pub mod Files
+pub mod Outside

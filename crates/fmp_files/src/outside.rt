@@ -1,0 +1,101 @@
+//! What a program reaches outside of itself: files by their names, standard output and standard error.
+ghost use Rattle.std.specs.Prelude.{◌≡◌, ℕ, List, [], ◌∷◌, Bool, Option, None, Some, IfOk, IfSome, IsTrue, OnErr, OnOk, true};
+ghost use Rattle.fmp_files.specs.Deeds.{Begins, Deed, Does, Says, printed, wrote};
+ghost use Rattle.fmp_files.specs.Files.{front};
+ghost use Rattle.fmp_files.specs.Outside.{Files as KnownFiles, unknown_files};
+
+use crate::device::Device;
+use crate::reading::{ReadFault, read_in};
+use crate::writing::{WriteFault, write_out};
+use std::alloc::Global;
+use std::fmt::Display;
+use std::io::{Eprint, Print};
+use std::os::unix::fs::MetadataExt;
+use std::rt::Files;
+use std::{fs, io};
+
+/// What a program reaches outside of itself.
+pub trait Outside {
+    // What is known of the files.
+    ghost files: { Self → KnownFiles };
+
+    // What was done so far, where it is known.
+    ghost done: { Self → Option (List Deed) };
+
+    /// The bytes of a file, or with a limit the first of them, up to one past it.
+    fn read(&self, alloc: Global, name: &str, limit: Option<usize>) -> Result<Vec<u8>, ReadFault>
+        ensures bytes { IfOk result (λ bytes.
+            IfSome ((files self.now).bytes name.now) (λ all. bytes.items ≡ front limit all)) }
+        ensures device { result ≡ Err ReadFault.Device → IsTrue ((files self.now).can_fail name.now) };
+
+    /// Writes a file: it has these bytes then, and no others. After an error it may have a beginning of them.
+    fn write(&mut self, name: &str, bytes: &[u8]) -> Result<(), WriteFault>
+        ensures ok { OnOk result (Does (done self.old) (wrote name.now bytes.now ∷ []) (done self.new)) }
+        ensures err { OnErr result (Begins (wrote name.now) bytes.now (done self.old) (done self.new)) }
+        ensures device { OnErr result (IsTrue ((files self.old).can_fail name.now)) };
+
+    /// Writes bytes to standard output. After an error it may have a beginning of them.
+    fn print(&mut self, bytes: &[u8]) -> Result<(), WriteFault>
+        ensures ok { OnOk result (Does (done self.old) (printed bytes.now ∷ []) (done self.new)) }
+        ensures err { OnErr result (Begins printed bytes.now (done self.old) (done self.new)) };
+
+    /// Writes a text to standard error, as far as that goes.
+    fn say<D: Display + Drop>(&mut self, text: D)
+        ensures { Says (done self.old) (done self.new) };
+
+    /// Whether two names lead to one file. Equal names do.
+    fn is_one_file(&self, name: &str, other: &str) -> bool
+        ensures same { name.now ≡ other.now → IsTrue result }
+        ensures one { IsTrue result → IsTrue ((files self.now).can_be_one name.now other.now) };
+}
+
+/// The files, standard output and standard error of the system that the program runs on.
+#[derive(Drop)]
+pub struct Host<'a, R> {
+    rt: &'a R,
+}
+
+impl<'a, R> Host<'a, R> {
+    pub fn new(rt: &'a R) -> Host<'a, R> {
+        Host { rt }
+    }
+}
+
+impl<R: Files + Print + Eprint> Outside for Host<'_, R> {
+    // What a file of the system has, and what was done to it, no contract can say.
+    ghost files = { λ _. unknown_files };
+
+    ghost done = { λ _. None };
+
+    fn read(&self, alloc: Global, name: &str, limit: Option<usize>) -> Result<Vec<u8>, ReadFault> {
+        match fs::open(self.rt, name) {
+            Ok(file) => read_in(alloc, &mut Device::new(file), limit),
+            Err(_) => Err(ReadFault::Device),
+        }
+    }
+
+    fn write(&mut self, name: &str, bytes: &[u8]) -> Result<(), WriteFault> {
+        match fs::create(self.rt, name) {
+            Ok(file) => write_out(&mut Device::new(file), bytes),
+            Err(_) => Err(WriteFault::Device),
+        }
+    }
+
+    fn print(&mut self, bytes: &[u8]) -> Result<(), WriteFault> {
+        write_out(&mut Device::new(io::writer(self.rt)), bytes)
+    }
+
+    fn say<D: Display + Drop>(&mut self, text: D) {
+        let _ = self.rt.eprint(text);
+    }
+
+    fn is_one_file(&self, name: &str, other: &str) -> bool {
+        if name == other {
+            return true;
+        }
+        match (fs::metadata(self.rt, name), fs::metadata(self.rt, other)) {
+            (Ok(one), Ok(two)) => one.dev() == two.dev() && one.ino() == two.ino(),
+            _ => false,
+        }
+    }
+}
