@@ -47,7 +47,8 @@ pub record BuildsFile (cfg src file_before file_after before after : List ℕ) :
 -- What was appended is what an image prints over the steps; and where two texts build the image, it is what they mean.
 pub record RunsImage (image steps : List ℕ) (n : ℕ) (before after : List ℕ) : Type 0 where
   pub printed : Simulates image steps n before after
-  pub meant : (cfg src : List ℕ) (i : ImageTables) (b : Builds cfg src i) → Spells i image → PrintsTexts i b.tasks.bodies steps n before after
+  pub meant : (cfg src : List ℕ) (i : ImageTables) (b : Builds cfg src i) → Spells i image
+      → PrintsTexts i b.tasks.bodies steps n before after
 
 -- two texts build an image, and what was appended is what they mean over the steps that the run of the image finished
 pub record RunsTexts (cfg src steps : List ℕ) (n : ℕ) (before after : List ℕ) : Type 0 where
@@ -85,7 +86,8 @@ IsWhyNoRun image steps (Memory _) = ⊤
 -- why two texts are not built and run
 pub data IsWhyNotRun (cfg src steps : List ℕ) (e : Exit) : Type 0 where
   no_image : IsWhyNoImage cfg src e → IsWhyNotRun cfg src steps e
-  no_run : (image : ImageTables) (bytes : List ℕ) → Builds cfg src image → Spells image bytes → IsWhyNoRun bytes steps e → IsWhyNotRun cfg src steps e
+  no_run : (image : ImageTables) (bytes : List ℕ) → Builds cfg src image → Spells image bytes → IsWhyNoRun bytes steps e
+      → IsWhyNotRun cfg src steps e
 
 -- why a command is not carried out, given what was read
 abbrev pub IsWhyNot : Cmd → List (List ℕ) → Exit → Type 0

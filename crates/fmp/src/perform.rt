@@ -178,7 +178,8 @@ pub fn perform(
 ) -> Result<(), Exit>
     requires inputs { length inputs.now ≡ input_count cmd.now }
     requires bound { HasBound cmd.now }
-    ensures ok { OnOk result (CarriesOut cmd.now (map (λ s. s.now) inputs.now) file.old.items file.new.items out.old.items out.new.items) }
+    ensures ok { OnOk result
+        (CarriesOut cmd.now (map (λ s. s.now) inputs.now) file.old.items file.new.items out.old.items out.new.items) }
     ensures refused { IfErr result (IsWhyNot cmd.now (map (λ s. s.now) inputs.now)) }
     ensures err { OnErr result ((file.new.items ≡ file.old.items) × (out.new.items ≡ out.old.items)) }
 {

@@ -34,7 +34,8 @@ fn activate(tables: &mut Tables, lines: &mut Vec<Line>, t: u8) -> Answer
     requires there { t < length tables.old.system.tasks }
     requires empty { lines.old.items ≡ [] }
     requires room { vec_len lines.old < vec_capacity lines.old }
-    ensures outcome { outcome result tables.new lines.new.items ≡ calls.activated tables.old.system tables.old.state t (task_at tables.old.state.tasks t) }
+    ensures outcome { outcome result tables.new lines.new.items
+        ≡ calls.activated tables.old.system tables.old.state t (task_at tables.old.state.tasks t) }
     ensures kept { SameShapeAndRoom tables.old tables.new lines.old lines.new }
 {
     let x = tables.task(t);
@@ -54,7 +55,8 @@ pub fn act_tsk(tables: &mut Tables, lines: &mut Vec<Line>, me: u8, task: i32) ->
     requires caller { me < length tables.old.system.tasks }
     requires empty { lines.old.items ≡ [] }
     requires room { vec_len lines.old < vec_capacity lines.old }
-    ensures outcome { outcome result tables.new lines.new.items ≡ calls.act_tsk tables.old.system tables.old.state me task }
+    ensures outcome { outcome result tables.new lines.new.items
+        ≡ calls.act_tsk tables.old.system tables.old.state me task }
     ensures kept { SameShapeAndRoom tables.old tables.new lines.old lines.new }
 {
     match self_or(tables, me, task) {
@@ -63,12 +65,13 @@ pub fn act_tsk(tables: &mut Tables, lines: &mut Vec<Line>, me: u8, task: i32) ->
     }
 }
 
-/// `iact_tsk`: as `act_tsk` from a handler, where no task is the caller: E_ID at 0 too. E_QOVR if the queued activations
-/// are at the limit. What is refused changes nothing (uITRON 4.0, section 4.1).
+/// `iact_tsk`: as `act_tsk` from a handler, where no task is the caller: E_ID at 0 too. E_QOVR if the queued
+/// activations are at the limit. What is refused changes nothing (uITRON 4.0, section 4.1).
 pub fn iact_tsk(tables: &mut Tables, lines: &mut Vec<Line>, task: i32) -> Answer
     requires empty { lines.old.items ≡ [] }
     requires room { vec_len lines.old < vec_capacity lines.old }
-    ensures outcome { outcome result tables.new lines.new.items ≡ calls.iact_tsk tables.old.system tables.old.state task }
+    ensures outcome { outcome result tables.new lines.new.items
+        ≡ calls.iact_tsk tables.old.system tables.old.state task }
     ensures kept { SameShapeAndRoom tables.old tables.new lines.old lines.new }
 {
     match by_number(tables, task) {

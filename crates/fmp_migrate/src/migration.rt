@@ -18,7 +18,8 @@ fn queue_activation_on(tables: &mut Tables, t: u8, x: TaskBlock, c: u8) -> Answe
     requires fits { Fits tables.old.system x }
     requires later { IfSome x.deadline (λ w. tables.old.state.clock + 1 ≤ w) }
     requires processor { c < tables.old.system.processors }
-    ensures outcome { outcome result tables.new [] ≡ calls.activation_queued_on tables.old.system tables.old.state t x c }
+    ensures outcome { outcome result tables.new []
+        ≡ calls.activation_queued_on tables.old.system tables.old.state t x c }
     ensures shape { SameShape tables.old tables.new }
 {
     if x.activations < tables.queue_limit() {
@@ -52,7 +53,8 @@ pub fn mact_tsk(
     requires caller { me < length tables.old.system.tasks }
     requires empty { lines.old.items ≡ [] }
     requires room { vec_len lines.old < vec_capacity lines.old }
-    ensures outcome { outcome result tables.new lines.new.items ≡ calls.mact_tsk tables.old.system tables.old.state me task processor }
+    ensures outcome { outcome result tables.new lines.new.items
+        ≡ calls.mact_tsk tables.old.system tables.old.state me task processor }
     ensures kept { SameShapeAndRoom tables.old tables.new lines.old lines.new }
 {
     let Some(t) = self_or(tables, me, task) else {
@@ -79,7 +81,8 @@ fn assign(tables: &mut Tables, t: u8, x: TaskBlock, c: u8)
     requires fits { Fits tables.old.system x }
     requires later { IfSome x.deadline (λ w. tables.old.state.clock + 1 ≤ w) }
     requires processor { c < tables.old.system.processors }
-    ensures state { tables.new ≡ record tables.old { state = calls.assigned_by (nat_eq x.processor c) tables.old.state t x c } }
+    ensures state { tables.new
+        ≡ record tables.old { state = calls.assigned_by (nat_eq x.processor c) tables.old.state t x c } }
     ensures shape { SameShape tables.old tables.new }
 {
     if x.processor == c {
@@ -99,7 +102,8 @@ fn assign(tables: &mut Tables, t: u8, x: TaskBlock, c: u8)
 /// another processor than p. What is refused changes nothing (FMP kernel, task management).
 pub fn mig_tsk(tables: &mut Tables, p: u8, me: u8, task: i32, processor: i32) -> Answer
     requires caller { me < length tables.old.system.tasks }
-    ensures outcome { outcome result tables.new [] ≡ calls.mig_tsk tables.old.system tables.old.state p me task processor }
+    ensures outcome { outcome result tables.new []
+        ≡ calls.mig_tsk tables.old.system tables.old.state p me task processor }
     ensures shape { SameShape tables.old tables.new }
 {
     let Some(t) = self_or(tables, me, task) else {

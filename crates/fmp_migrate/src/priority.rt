@@ -19,7 +19,11 @@ fn set_priority(tables: &mut Tables, t: u8, x: TaskBlock, priority: u8)
     requires later { IfSome x.deadline (λ w. tables.old.state.clock + 1 ≤ w) }
     requires urgent { 1 ≤ priority }
     requires least { priority ≤ 16 }
-    ensures state { tables.new ≡ record tables.old { state = calls.moved_by (calls.goes_last tables.old.system x) tables.old.state t (record x { priority = priority }) } }
+    ensures state { tables.new
+        ≡ record tables.old {
+          state = calls.moved_by (calls.goes_last tables.old.system x) tables.old.state t
+              (record x { priority = priority });
+        } }
     ensures shape { SameShape tables.old tables.new }
 {
     let y = TaskBlock { priority, ..x };

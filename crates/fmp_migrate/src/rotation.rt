@@ -17,7 +17,8 @@ fn rotate(tables: &mut Tables, p: u8, priority: u8)
     requires processor { p < tables.old.system.processors }
     requires urgent { 1 ≤ priority }
     requires least { priority ≤ 16 }
-    ensures state { tables.new ≡ record tables.old { state = calls.rotated tables.old.state (first_ready tables.old.state p priority) } }
+    ensures state { tables.new
+        ≡ record tables.old { state = calls.rotated tables.old.state (first_ready tables.old.state p priority) } }
     ensures shape { SameShape tables.old tables.new }
 {
     tables.rotate(p, priority);
@@ -28,7 +29,8 @@ fn rotate(tables: &mut Tables, p: u8, priority: u8)
 pub fn rot_rdq(tables: &mut Tables, p: u8, me: u8, priority: i32) -> Answer
     requires caller { me < length tables.old.system.tasks }
     requires processor { p < tables.old.system.processors }
-    ensures outcome { outcome result tables.new [] ≡ calls.rot_rdq tables.old.state p (task_at tables.old.state.tasks me) priority }
+    ensures outcome { outcome result tables.new []
+        ≡ calls.rot_rdq tables.old.state p (task_at tables.old.state.tasks me) priority }
     ensures shape { SameShape tables.old tables.new }
 {
     let Some(n) = ranged(0, 16, priority) else {

@@ -17,7 +17,8 @@ use fmp_tasks::tasks::{release, wait, wait_within};
 fn sleep(tables: &mut Tables, me: u8, limit: TimeLimit) -> Answer
     requires caller { me < length tables.old.system.tasks }
     requires limit { IsTimeLimit limit }
-    ensures outcome { outcome result tables.new [] ≡ calls.slp_tsk tables.old.state me (task_at tables.old.state.tasks me) limit }
+    ensures outcome { outcome result tables.new []
+        ≡ calls.slp_tsk tables.old.state me (task_at tables.old.state.tasks me) limit }
     ensures shape { SameShape tables.old tables.new }
 {
     let x = tables.task(me);
@@ -33,7 +34,8 @@ fn sleep(tables: &mut Tables, me: u8, limit: TimeLimit) -> Answer
 /// refused (uITRON 4.0, section 4.2).
 pub fn slp_tsk(tables: &mut Tables, me: u8) -> Answer
     requires caller { me < length tables.old.system.tasks }
-    ensures outcome { outcome result tables.new [] ≡ calls.slp_tsk tables.old.state me (task_at tables.old.state.tasks me) TimeLimit.Forever }
+    ensures outcome { outcome result tables.new []
+        ≡ calls.slp_tsk tables.old.state me (task_at tables.old.state.tasks me) TimeLimit.Forever }
     ensures shape { SameShape tables.old tables.new }
 {
     sleep(tables, me, TimeLimit::Forever)
@@ -44,7 +46,8 @@ pub fn slp_tsk(tables: &mut Tables, me: u8) -> Answer
 /// refused changes nothing (uITRON 4.0, section 4.2).
 pub fn tslp_tsk(tables: &mut Tables, me: u8, limit: i32) -> Answer
     requires caller { me < length tables.old.system.tasks }
-    ensures outcome { outcome result tables.new [] ≡ calls.tslp_tsk tables.old.state me (task_at tables.old.state.tasks me) limit }
+    ensures outcome { outcome result tables.new []
+        ≡ calls.tslp_tsk tables.old.state me (task_at tables.old.state.tasks me) limit }
     ensures shape { SameShape tables.old tables.new }
 {
     match limit_of(limit) {
@@ -76,7 +79,8 @@ fn wake(tables: &mut Tables, lines: &mut Vec<Line>, t: u8) -> Answer
     requires there { t < length tables.old.system.tasks }
     requires empty { lines.old.items ≡ [] }
     requires room { vec_len lines.old < vec_capacity lines.old }
-    ensures outcome { outcome result tables.new lines.new.items ≡ calls.woken tables.old.system tables.old.state t (task_at tables.old.state.tasks t) }
+    ensures outcome { outcome result tables.new lines.new.items
+        ≡ calls.woken tables.old.system tables.old.state t (task_at tables.old.state.tasks t) }
     ensures kept { SameShapeAndRoom tables.old tables.new lines.old lines.new }
 {
     let x = tables.task(t);
@@ -97,7 +101,8 @@ pub fn wup_tsk(tables: &mut Tables, lines: &mut Vec<Line>, me: u8, task: i32) ->
     requires caller { me < length tables.old.system.tasks }
     requires empty { lines.old.items ≡ [] }
     requires room { vec_len lines.old < vec_capacity lines.old }
-    ensures outcome { outcome result tables.new lines.new.items ≡ calls.wup_tsk tables.old.system tables.old.state me task }
+    ensures outcome { outcome result tables.new lines.new.items
+        ≡ calls.wup_tsk tables.old.system tables.old.state me task }
     ensures kept { SameShapeAndRoom tables.old tables.new lines.old lines.new }
 {
     match self_or(tables, me, task) {
@@ -111,7 +116,8 @@ pub fn wup_tsk(tables: &mut Tables, lines: &mut Vec<Line>, me: u8, task: i32) ->
 pub fn iwup_tsk(tables: &mut Tables, lines: &mut Vec<Line>, task: i32) -> Answer
     requires empty { lines.old.items ≡ [] }
     requires room { vec_len lines.old < vec_capacity lines.old }
-    ensures outcome { outcome result tables.new lines.new.items ≡ calls.iwup_tsk tables.old.system tables.old.state task }
+    ensures outcome { outcome result tables.new lines.new.items
+        ≡ calls.iwup_tsk tables.old.system tables.old.state task }
     ensures kept { SameShapeAndRoom tables.old tables.new lines.old lines.new }
 {
     match by_number(tables, task) {
@@ -163,7 +169,8 @@ pub fn rel_wai(tables: &mut Tables, lines: &mut Vec<Line>, task: i32) -> Answer
 /// another; then nothing changes (uITRON 4.0, section 4.2).
 pub fn dly_tsk(tables: &mut Tables, me: u8, delay: i32) -> Answer
     requires caller { me < length tables.old.system.tasks }
-    ensures outcome { outcome result tables.new [] ≡ calls.dly_tsk tables.old.state me (task_at tables.old.state.tasks me) delay }
+    ensures outcome { outcome result tables.new []
+        ≡ calls.dly_tsk tables.old.state me (task_at tables.old.state.tasks me) delay }
     ensures shape { SameShape tables.old tables.new }
 {
     let Some(n) = delay_of(delay) else {

@@ -40,7 +40,8 @@ fn resume(tables: &mut Tables, t: u8, x: TaskBlock)
     requires fits { Fits tables.old.system x }
     requires later { IfSome x.deadline (λ w. tables.old.state.clock + 1 ≤ w) }
     requires suspended { x.suspended ≡ true }
-    ensures state { tables.new ≡ record tables.old { state = calls.resumed_by x.phase tables.old.state t (record x { suspended = false }) } }
+    ensures state { tables.new
+        ≡ record tables.old { state = calls.resumed_by x.phase tables.old.state t (record x { suspended = false }) } }
     ensures shape { SameShape tables.old tables.new }
 {
     let y = TaskBlock {

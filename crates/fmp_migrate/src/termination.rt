@@ -11,15 +11,16 @@ use fmp_tasks::Tables;
 use fmp_tasks::answers::replied;
 use fmp_tasks::tasks::end;
 
-/// Task t, which processor p runs, ends itself, by `ext_tsk` or at the end of its body: the processor runs none, its lock
-/// is freed, its dispatching enabled, and the task is dormant, or starts again where an activation is queued. It is never
-/// refused (uITRON 4.0, section 4.1; FMP kernel, spin locks).
+/// Task t, which processor p runs, ends itself, by `ext_tsk` or at the end of its body: the processor runs none, its
+/// lock is freed, its dispatching enabled, and the task is dormant, or starts again where an activation is queued. It
+/// is never refused (uITRON 4.0, section 4.1; FMP kernel, spin locks).
 pub fn end_itself(tables: &mut Tables, lines: &mut Vec<Line>, p: u8, t: u8)
     requires task { t < length tables.old.system.tasks }
     requires processor { p < tables.old.system.processors }
     requires empty { lines.old.items ≡ [] }
     requires room { vec_len lines.old < vec_capacity lines.old }
-    ensures progress { progress tables.new lines.new.items ≡ ended_itself tables.old.system tables.old.state p t (task_at tables.old.state.tasks t) }
+    ensures progress { progress tables.new lines.new.items
+        ≡ ended_itself tables.old.system tables.old.state p t (task_at tables.old.state.tasks t) }
     ensures kept { SameShapeAndRoom tables.old tables.new lines.old lines.new }
 {
     let x = tables.task(t);
@@ -43,7 +44,12 @@ pub fn ext_tsk(tables: &mut Tables, lines: &mut Vec<Line>, p: u8, me: u8) -> Ans
     requires processor { p < tables.old.system.processors }
     requires empty { lines.old.items ≡ [] }
     requires room { vec_len lines.old < vec_capacity lines.old }
-    ensures outcome { outcome result tables.new lines.new.items ≡ record { answer = Answer.Ends; progress = ended_itself tables.old.system tables.old.state p me (task_at tables.old.state.tasks me) } }
+    ensures outcome { outcome result tables.new lines.new.items
+        ≡ record {
+          answer = Answer.Ends;
+          progress = ended_itself tables.old.system tables.old.state p me
+              (task_at tables.old.state.tasks me);
+        } }
     ensures kept { SameShapeAndRoom tables.old tables.new lines.old lines.new }
 {
     end_itself(tables, lines, p, me);
@@ -56,7 +62,8 @@ pub fn ext_tsk(tables: &mut Tables, lines: &mut Vec<Line>, p: u8, me: u8) -> Ans
 pub fn ter_tsk(tables: &mut Tables, lines: &mut Vec<Line>, p: u8, me: u8, task: i32) -> Answer
     requires empty { lines.old.items ≡ [] }
     requires room { vec_len lines.old < vec_capacity lines.old }
-    ensures outcome { outcome result tables.new lines.new.items ≡ calls.ter_tsk tables.old.system tables.old.state p me task }
+    ensures outcome { outcome result tables.new lines.new.items
+        ≡ calls.ter_tsk tables.old.system tables.old.state p me task }
     ensures kept { SameShapeAndRoom tables.old tables.new lines.old lines.new }
 {
     let Some(t) = by_number(tables, task) else {

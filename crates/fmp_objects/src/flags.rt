@@ -33,12 +33,13 @@ fn mode_of(number: i32) -> Option<FlagMode>
 }
 
 /// `set_flg` and `iset_flg` (uITRON 4.0, section 4.4.2): sets bits, and releases with E_OK and the pattern each waiting
-/// task that it satisfies, in the order of the queue; with TA_CLR the first release clears all bits and is the last. E_ID
-/// where the number names no flag, then E_PAR where the bits are not 0 to 65535; nothing changes then.
+/// task that it satisfies, in the order of the queue; with TA_CLR the first release clears all bits and is the last.
+/// E_ID where the number names no flag, then E_PAR where the bits are not 0 to 65535; nothing changes then.
 pub fn set_flg(tables: &mut Tables, lines: &mut Vec<Line>, flag: i32, bits: i32) -> Answer
     requires empty { lines.old.items ≡ [] }
     requires room { length tables.old.system.tasks ≤ vec_capacity lines.old }
-    ensures outcome { outcome result tables.new lines.new.items ≡ set_flg_case tables.old.system tables.old.state flag bits }
+    ensures outcome { outcome result tables.new lines.new.items
+        ≡ set_flg_case tables.old.system tables.old.state flag bits }
     ensures kept { SameShapeAndRoom tables.old tables.new lines.old lines.new }
 {
     let Some(f) = flag_of(tables, flag) else {
@@ -53,8 +54,8 @@ pub fn set_flg(tables: &mut Tables, lines: &mut Vec<Line>, flag: i32, bits: i32)
     replied(Er::Ok)
 }
 
-/// `clr_flg` (uITRON 4.0, section 4.4.2): clears the bits of a flag that are not set in a pattern. E_ID where the number
-/// names no flag, then E_PAR where the pattern is not 0 to 65535; nothing changes then.
+/// `clr_flg` (uITRON 4.0, section 4.4.2): clears the bits of a flag that are not set in a pattern. E_ID where the
+/// number names no flag, then E_PAR where the pattern is not 0 to 65535; nothing changes then.
 pub fn clr_flg(tables: &mut Tables, flag: i32, pattern: i32) -> Answer
     ensures outcome { outcome result tables.new [] ≡ clr_flg_case tables.old.state flag pattern }
     ensures shape { SameShape tables.old tables.new }
@@ -70,8 +71,8 @@ pub fn clr_flg(tables: &mut Tables, flag: i32, pattern: i32) -> Answer
     replied(Er::Ok)
 }
 
-/// Task me gets the bits of flag f where they satisfy the wait, and with TA_CLR all bits are then cleared; else it waits
-/// within the limit. E_ILUSE where a task waits for a flag without TA_WMUL.
+/// Task me gets the bits of flag f where they satisfy the wait, and with TA_CLR all bits are then cleared; else it
+/// waits within the limit. E_ILUSE where a task waits for a flag without TA_WMUL.
 fn await_bits(
     tables: &mut Tables,
     me: u8,
@@ -83,7 +84,8 @@ fn await_bits(
     requires there { f < length tables.old.system.flags }
     requires me { me < length tables.old.system.tasks }
     requires limit { IsTimeLimit limit }
-    ensures outcome { outcome result tables.new [] ≡ awaited tables.old.system tables.old.state me (task_at tables.old.state.tasks me) f pattern mode limit }
+    ensures outcome { outcome result tables.new []
+        ≡ awaited tables.old.system tables.old.state me (task_at tables.old.state.tasks me) f pattern mode limit }
     ensures shape { SameShape tables.old tables.new }
 {
     let config = tables.flag_config(f);
@@ -107,10 +109,10 @@ fn await_bits(
 }
 
 /// `wai_flg` and `pol_flg` by task me (uITRON 4.0, section 4.4.2): gives the bits of a flag where all bits of the wait
-/// pattern are set (mode 0, TWF_ANDW) or any (mode 1, TWF_ORW), and with TA_CLR then clears all; else waits at the end of
-/// the order within the limit. In this order: E_ID where the number names no flag, E_PAR where the wait pattern is not 1
-/// to 65535 or the mode not 0 or 1, E_ILUSE where a task waits for a flag without TA_WMUL, E_TMOUT where a poll finds the
-/// bits not set; nothing changes then.
+/// pattern are set (mode 0, TWF_ANDW) or any (mode 1, TWF_ORW), and with TA_CLR then clears all; else waits at the end
+/// of the order within the limit. In this order: E_ID where the number names no flag, E_PAR where the wait pattern is
+/// not 1 to 65535 or the mode not 0 or 1, E_ILUSE where a task waits for a flag without TA_WMUL, E_TMOUT where a poll
+/// finds the bits not set; nothing changes then.
 pub fn wai_flg(
     tables: &mut Tables,
     me: u8,
@@ -121,7 +123,8 @@ pub fn wai_flg(
 ) -> Answer
     requires me { me < length tables.old.system.tasks }
     requires limit { IsTimeLimit limit }
-    ensures outcome { outcome result tables.new [] ≡ wai_flg_case tables.old.system tables.old.state me (task_at tables.old.state.tasks me) limit flag pattern mode }
+    ensures outcome { outcome result tables.new []
+        ≡ wai_flg_case tables.old.system tables.old.state me (task_at tables.old.state.tasks me) limit flag pattern mode }
     ensures shape { SameShape tables.old tables.new }
 {
     let Some(f) = flag_of(tables, flag) else {
@@ -136,9 +139,9 @@ pub fn wai_flg(
     }
 }
 
-/// `twai_flg` by task me (uITRON 4.0, section 4.4.2): as `wai_flg`, with the time limit that a number states, in ticks: -1
-/// is none, 0 polls, the greatest is 2^30. E_PAR, after the test of the mode and before E_ILUSE, where the limit is none of
-/// these; nothing changes then.
+/// `twai_flg` by task me (uITRON 4.0, section 4.4.2): as `wai_flg`, with the time limit that a number states, in ticks:
+/// -1 is none, 0 polls, the greatest is 2^30. E_PAR, after the test of the mode and before E_ILUSE, where the limit is
+/// none of these; nothing changes then.
 pub fn twai_flg(
     tables: &mut Tables,
     me: u8,
@@ -148,7 +151,9 @@ pub fn twai_flg(
     limit: i32,
 ) -> Answer
     requires { me < length tables.old.system.tasks }
-    ensures outcome { outcome result tables.new [] ≡ twai_flg_case tables.old.system tables.old.state me (task_at tables.old.state.tasks me) flag pattern mode limit }
+    ensures outcome { outcome result tables.new []
+        ≡ twai_flg_case tables.old.system tables.old.state me (task_at tables.old.state.tasks me) flag pattern mode
+        limit }
     ensures shape { SameShape tables.old tables.new }
 {
     let Some(f) = flag_of(tables, flag) else {

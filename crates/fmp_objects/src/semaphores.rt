@@ -20,7 +20,8 @@ fn semaphore_of(tables: &Tables, number: i32) -> Option<u8>
     numbered(tables.semaphore_count(), number)
 }
 
-/// The first task that waits for semaphore s is released; with none the count rises, or E_QOVR where it is the greatest.
+/// The first task that waits for semaphore s is released; with none the count rises, or E_QOVR where it is the
+/// greatest.
 fn signal(tables: &mut Tables, lines: &mut Vec<Line>, s: u8) -> Answer
     requires there { s < length tables.old.system.semaphores }
     requires empty { lines.old.items ≡ [] }
@@ -48,7 +49,8 @@ fn signal(tables: &mut Tables, lines: &mut Vec<Line>, s: u8) -> Answer
 pub fn sig_sem(tables: &mut Tables, lines: &mut Vec<Line>, semaphore: i32) -> Answer
     requires empty { lines.old.items ≡ [] }
     requires room { 1 ≤ vec_capacity lines.old }
-    ensures outcome { outcome result tables.new lines.new.items ≡ sig_sem_case tables.old.system tables.old.state semaphore }
+    ensures outcome { outcome result tables.new lines.new.items
+        ≡ sig_sem_case tables.old.system tables.old.state semaphore }
     ensures kept { SameShapeAndRoom tables.old tables.new lines.old lines.new }
 {
     match semaphore_of(tables, semaphore) {
@@ -62,7 +64,8 @@ fn acquire(tables: &mut Tables, me: u8, limit: TimeLimit, s: u8) -> Answer
     requires there { s < length tables.old.system.semaphores }
     requires me { me < length tables.old.system.tasks }
     requires limit { IsTimeLimit limit }
-    ensures outcome { outcome result tables.new [] ≡ acquired tables.old.state me (task_at tables.old.state.tasks me) limit s }
+    ensures outcome { outcome result tables.new []
+        ≡ acquired tables.old.state me (task_at tables.old.state.tasks me) limit s }
     ensures shape { SameShape tables.old tables.new }
 {
     let count = tables.count(s);
@@ -80,7 +83,8 @@ fn acquire(tables: &mut Tables, me: u8, limit: TimeLimit, s: u8) -> Answer
 pub fn wai_sem(tables: &mut Tables, me: u8, limit: TimeLimit, semaphore: i32) -> Answer
     requires me { me < length tables.old.system.tasks }
     requires limit { IsTimeLimit limit }
-    ensures outcome { outcome result tables.new [] ≡ wai_sem_case tables.old.state me (task_at tables.old.state.tasks me) limit semaphore }
+    ensures outcome { outcome result tables.new []
+        ≡ wai_sem_case tables.old.state me (task_at tables.old.state.tasks me) limit semaphore }
     ensures shape { SameShape tables.old tables.new }
 {
     match semaphore_of(tables, semaphore) {
@@ -89,12 +93,13 @@ pub fn wai_sem(tables: &mut Tables, me: u8, limit: TimeLimit, semaphore: i32) ->
     }
 }
 
-/// `twai_sem` by task me (uITRON 4.0, section 4.4.1): as `wai_sem`, with the time limit that a number states, in ticks: -1
-/// is none, 0 polls, the greatest is 2^30. E_ID where the number names no semaphore, then E_PAR where the limit is none of
-/// these, then E_TMOUT where a poll finds the count 0; nothing changes then.
+/// `twai_sem` by task me (uITRON 4.0, section 4.4.1): as `wai_sem`, with the time limit that a number states, in ticks:
+/// -1 is none, 0 polls, the greatest is 2^30. E_ID where the number names no semaphore, then E_PAR where the limit is
+/// none of these, then E_TMOUT where a poll finds the count 0; nothing changes then.
 pub fn twai_sem(tables: &mut Tables, me: u8, semaphore: i32, limit: i32) -> Answer
     requires { me < length tables.old.system.tasks }
-    ensures outcome { outcome result tables.new [] ≡ twai_sem_case tables.old.state me (task_at tables.old.state.tasks me) semaphore limit }
+    ensures outcome { outcome result tables.new []
+        ≡ twai_sem_case tables.old.state me (task_at tables.old.state.tasks me) semaphore limit }
     ensures shape { SameShape tables.old tables.new }
 {
     let Some(s) = semaphore_of(tables, semaphore) else {

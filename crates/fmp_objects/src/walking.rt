@@ -44,7 +44,9 @@ pub fn walk(tables: &mut Tables, lines: &mut Vec<Line>, f: u8, bits: u16)
     requires there { f < length tables.old.system.flags }
     requires empty { lines.old.items ≡ [] }
     requires room { length tables.old.system.tasks ≤ vec_capacity lines.old }
-    ensures progress { progress tables.new lines.new.items ≡ walk_case (flag_config tables.old.system f).clears f bits (wait_queue tables.old.system tables.old.state (WaitQueue.Flag f)) (progress tables.old []) }
+    ensures progress { progress tables.new lines.new.items
+        ≡ walk_case (flag_config tables.old.system f).clears f bits
+        (wait_queue tables.old.system tables.old.state (WaitQueue.Flag f)) (progress tables.old []) }
     ensures kept { SameShapeAndRoom tables.old tables.new lines.old lines.new }
 {
     let clears = tables.flag_config(f).clears;

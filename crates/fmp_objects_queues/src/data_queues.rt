@@ -32,8 +32,8 @@ fn offered_word(phase: Phase) -> i32
     }
 }
 
-/// The first task that waits to receive gets the word, or the word is put last where there is room, or else task me waits
-/// with it within the limit.
+/// The first task that waits to receive gets the word, or the word is put last where there is room, or else task me
+/// waits with it within the limit.
 fn send(
     tables: &mut Tables,
     lines: &mut Vec<Line>,
@@ -47,7 +47,8 @@ fn send(
     requires limit { IsTimeLimit limit }
     requires empty { lines.old.items ≡ [] }
     requires room { 1 ≤ vec_capacity lines.old }
-    ensures outcome { outcome result tables.new lines.new.items ≡ word_sent tables.old.system tables.old.state me (task_at tables.old.state.tasks me) word limit d }
+    ensures outcome { outcome result tables.new lines.new.items
+        ≡ word_sent tables.old.system tables.old.state me (task_at tables.old.state.tasks me) word limit d }
     ensures kept { SameShapeAndRoom tables.old tables.new lines.old lines.new }
 {
     if let Some(t) = tables.first_waiting(WaitQueue::Receivers(d)) {
@@ -79,7 +80,8 @@ pub fn snd_dtq(
     requires limit { IsTimeLimit limit }
     requires empty { lines.old.items ≡ [] }
     requires room { 1 ≤ vec_capacity lines.old }
-    ensures outcome { outcome result tables.new lines.new.items ≡ snd_dtq_case tables.old.system tables.old.state me (task_at tables.old.state.tasks me) limit queue word }
+    ensures outcome { outcome result tables.new lines.new.items
+        ≡ snd_dtq_case tables.old.system tables.old.state me (task_at tables.old.state.tasks me) limit queue word }
     ensures kept { SameShapeAndRoom tables.old tables.new lines.old lines.new }
 {
     match data_queue_of(tables, queue) {
@@ -88,9 +90,9 @@ pub fn snd_dtq(
     }
 }
 
-/// `tsnd_dtq` by task me (uITRON 4.0, section 4.4.3): as `snd_dtq`, with the time limit that a number states, in ticks: -1
-/// is none, 0 polls, the greatest is 2^30. E_ID where the number names no data queue, then E_PAR where the limit is none of
-/// these, then E_TMOUT where a poll would have to wait; nothing changes then.
+/// `tsnd_dtq` by task me (uITRON 4.0, section 4.4.3): as `snd_dtq`, with the time limit that a number states, in ticks:
+/// -1 is none, 0 polls, the greatest is 2^30. E_ID where the number names no data queue, then E_PAR where the limit is
+/// none of these, then E_TMOUT where a poll would have to wait; nothing changes then.
 pub fn tsnd_dtq(
     tables: &mut Tables,
     lines: &mut Vec<Line>,
@@ -102,7 +104,8 @@ pub fn tsnd_dtq(
     requires me { me < length tables.old.system.tasks }
     requires empty { lines.old.items ≡ [] }
     requires room { 1 ≤ vec_capacity lines.old }
-    ensures outcome { outcome result tables.new lines.new.items ≡ tsnd_dtq_case tables.old.system tables.old.state me (task_at tables.old.state.tasks me) queue word limit }
+    ensures outcome { outcome result tables.new lines.new.items
+        ≡ tsnd_dtq_case tables.old.system tables.old.state me (task_at tables.old.state.tasks me) queue word limit }
     ensures kept { SameShapeAndRoom tables.old tables.new lines.old lines.new }
 {
     let Some(d) = data_queue_of(tables, queue) else {
@@ -114,13 +117,15 @@ pub fn tsnd_dtq(
     }
 }
 
-/// `ipsnd_dtq`, and what `psnd_dtq` does whoever calls it (uITRON 4.0, section 4.4.3): as `snd_dtq` with a poll, but with
-/// no caller. E_ID where the number names no data queue, then E_TMOUT where no task waits to receive and there is no room;
-/// nothing changes then.
+/// `ipsnd_dtq`, and what `psnd_dtq` does whoever calls it (uITRON 4.0, section 4.4.3): as `snd_dtq` with a poll, but
+/// with no caller. E_ID where the number names no data queue, then E_TMOUT where no task waits to receive and there is
+/// no room; nothing changes then.
 pub fn psnd_dtq(tables: &mut Tables, lines: &mut Vec<Line>, queue: i32, word: i32) -> Answer
     requires empty { lines.old.items ≡ [] }
     requires room { 1 ≤ vec_capacity lines.old }
-    ensures outcome { (me : ℕ) (x : TaskBlock) → outcome result tables.new lines.new.items ≡ snd_dtq_case tables.old.system tables.old.state me x TimeLimit.Poll queue word }
+    ensures outcome { (me : ℕ) (x : TaskBlock)
+        → outcome result tables.new lines.new.items
+        ≡ snd_dtq_case tables.old.system tables.old.state me x TimeLimit.Poll queue word }
     ensures kept { SameShapeAndRoom tables.old tables.new lines.old lines.new }
 {
     let Some(d) = data_queue_of(tables, queue) else {
@@ -144,7 +149,9 @@ fn force(tables: &mut Tables, lines: &mut Vec<Line>, d: u8, word: i32) -> Answer
     requires there { d < length tables.old.system.data_queues }
     requires empty { lines.old.items ≡ [] }
     requires room { 1 ≤ vec_capacity lines.old }
-    ensures outcome { outcome result tables.new lines.new.items ≡ forced_to (first_waiting tables.old.system tables.old.state (WaitQueue.Receivers d)) tables.old.system tables.old.state d word }
+    ensures outcome { outcome result tables.new lines.new.items
+        ≡ forced_to (first_waiting tables.old.system tables.old.state (WaitQueue.Receivers d)) tables.old.system
+        tables.old.state d word }
     ensures kept { SameShapeAndRoom tables.old tables.new lines.old lines.new }
 {
     if let Some(t) = tables.first_waiting(WaitQueue::Receivers(d)) {
@@ -158,13 +165,14 @@ fn force(tables: &mut Tables, lines: &mut Vec<Line>, d: u8, word: i32) -> Answer
     replied(Er::Ok)
 }
 
-/// `fsnd_dtq` and `ifsnd_dtq` (uITRON 4.0, section 4.4.3): releases the first task that waits to receive with E_OK and the
-/// word; with none puts the word last, and a full queue drops its oldest word first. E_ID where the number names no data
-/// queue, then E_ILUSE where it can hold no word; nothing changes then.
+/// `fsnd_dtq` and `ifsnd_dtq` (uITRON 4.0, section 4.4.3): releases the first task that waits to receive with E_OK and
+/// the word; with none puts the word last, and a full queue drops its oldest word first. E_ID where the number names no
+/// data queue, then E_ILUSE where it can hold no word; nothing changes then.
 pub fn fsnd_dtq(tables: &mut Tables, lines: &mut Vec<Line>, queue: i32, word: i32) -> Answer
     requires empty { lines.old.items ≡ [] }
     requires room { 1 ≤ vec_capacity lines.old }
-    ensures outcome { outcome result tables.new lines.new.items ≡ fsnd_dtq_case tables.old.system tables.old.state queue word }
+    ensures outcome { outcome result tables.new lines.new.items
+        ≡ fsnd_dtq_case tables.old.system tables.old.state queue word }
     ensures kept { SameShapeAndRoom tables.old tables.new lines.old lines.new }
 {
     let Some(d) = data_queue_of(tables, queue) else {
@@ -176,14 +184,15 @@ pub fn fsnd_dtq(tables: &mut Tables, lines: &mut Vec<Line>, queue: i32, word: i3
     force(tables, lines, d, word)
 }
 
-/// The oldest word, which this is, leaves the queue. The word of the first task that waits to send, if any, is put last, and
-/// the task is released.
+/// The oldest word, which this is, leaves the queue. The word of the first task that waits to send, if any, is put
+/// last, and the task is released.
 fn take_oldest(tables: &mut Tables, lines: &mut Vec<Line>, d: u8, word: i32) -> Answer
     requires there { d < length tables.old.system.data_queues }
     requires oldest { slice_get (words_at tables.old.state d) 0 ≡ Some word }
     requires empty { lines.old.items ≡ [] }
     requires room { 1 ≤ vec_capacity lines.old }
-    ensures outcome { (me : ℕ) (x : TaskBlock) (limit : TimeLimit) → outcome result tables.new lines.new.items ≡ word_received tables.old.system tables.old.state me x limit d }
+    ensures outcome { (me : ℕ) (x : TaskBlock) (limit : TimeLimit)
+        → outcome result tables.new lines.new.items ≡ word_received tables.old.system tables.old.state me x limit d }
     ensures kept { SameShapeAndRoom tables.old tables.new lines.old lines.new }
 {
     match tables.first_waiting(WaitQueue::Senders(d)) {
@@ -197,14 +206,16 @@ fn take_oldest(tables: &mut Tables, lines: &mut Vec<Line>, d: u8, word: i32) -> 
     gives(word)
 }
 
-/// Task me gets the oldest word, or with none that of the first task that waits to send, or else it waits within the limit.
+/// Task me gets the oldest word, or with none that of the first task that waits to send, or else it waits within the
+/// limit.
 fn receive(tables: &mut Tables, lines: &mut Vec<Line>, me: u8, limit: TimeLimit, d: u8) -> Answer
     requires there { d < length tables.old.system.data_queues }
     requires me { me < length tables.old.system.tasks }
     requires limit { IsTimeLimit limit }
     requires empty { lines.old.items ≡ [] }
     requires room { 1 ≤ vec_capacity lines.old }
-    ensures outcome { outcome result tables.new lines.new.items ≡ word_received tables.old.system tables.old.state me (task_at tables.old.state.tasks me) limit d }
+    ensures outcome { outcome result tables.new lines.new.items
+        ≡ word_received tables.old.system tables.old.state me (task_at tables.old.state.tasks me) limit d }
     ensures kept { SameShapeAndRoom tables.old tables.new lines.old lines.new }
 {
     if let Some(word) = tables.oldest_word(d) {
@@ -219,10 +230,10 @@ fn receive(tables: &mut Tables, lines: &mut Vec<Line>, me: u8, limit: TimeLimit,
     wait_within(tables, me, x, WaitCause::Receiving(d), limit)
 }
 
-/// `rcv_dtq` and `prcv_dtq` by task me (uITRON 4.0, section 4.4.3): gives the oldest word, then the word of the first task
-/// that waits to send is put last and that task is released with E_OK; of a queue that can hold no word gives the word of
-/// that task and releases it; else waits at the end of the order within the limit. E_ID where the number names no data
-/// queue, then E_TMOUT where a poll finds no word; nothing changes then.
+/// `rcv_dtq` and `prcv_dtq` by task me (uITRON 4.0, section 4.4.3): gives the oldest word, then the word of the first
+/// task that waits to send is put last and that task is released with E_OK; of a queue that can hold no word gives the
+/// word of that task and releases it; else waits at the end of the order within the limit. E_ID where the number names
+/// no data queue, then E_TMOUT where a poll finds no word; nothing changes then.
 pub fn rcv_dtq(
     tables: &mut Tables,
     lines: &mut Vec<Line>,
@@ -234,7 +245,8 @@ pub fn rcv_dtq(
     requires limit { IsTimeLimit limit }
     requires empty { lines.old.items ≡ [] }
     requires room { 1 ≤ vec_capacity lines.old }
-    ensures outcome { outcome result tables.new lines.new.items ≡ rcv_dtq_case tables.old.system tables.old.state me (task_at tables.old.state.tasks me) limit queue }
+    ensures outcome { outcome result tables.new lines.new.items
+        ≡ rcv_dtq_case tables.old.system tables.old.state me (task_at tables.old.state.tasks me) limit queue }
     ensures kept { SameShapeAndRoom tables.old tables.new lines.old lines.new }
 {
     match data_queue_of(tables, queue) {
@@ -243,9 +255,9 @@ pub fn rcv_dtq(
     }
 }
 
-/// `trcv_dtq` by task me (uITRON 4.0, section 4.4.3): as `rcv_dtq`, with the time limit that a number states, in ticks: -1
-/// is none, 0 polls, the greatest is 2^30. E_ID where the number names no data queue, then E_PAR where the limit is none of
-/// these, then E_TMOUT where a poll finds no word; nothing changes then.
+/// `trcv_dtq` by task me (uITRON 4.0, section 4.4.3): as `rcv_dtq`, with the time limit that a number states, in ticks:
+/// -1 is none, 0 polls, the greatest is 2^30. E_ID where the number names no data queue, then E_PAR where the limit is
+/// none of these, then E_TMOUT where a poll finds no word; nothing changes then.
 pub fn trcv_dtq(
     tables: &mut Tables,
     lines: &mut Vec<Line>,
@@ -256,7 +268,8 @@ pub fn trcv_dtq(
     requires me { me < length tables.old.system.tasks }
     requires empty { lines.old.items ≡ [] }
     requires room { 1 ≤ vec_capacity lines.old }
-    ensures outcome { outcome result tables.new lines.new.items ≡ trcv_dtq_case tables.old.system tables.old.state me (task_at tables.old.state.tasks me) queue limit }
+    ensures outcome { outcome result tables.new lines.new.items
+        ≡ trcv_dtq_case tables.old.system tables.old.state me (task_at tables.old.state.tasks me) queue limit }
     ensures kept { SameShapeAndRoom tables.old tables.new lines.old lines.new }
 {
     let Some(d) = data_queue_of(tables, queue) else {

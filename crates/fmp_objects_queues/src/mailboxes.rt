@@ -28,8 +28,8 @@ fn message_of(tables: &Tables, number: i32) -> Option<u8>
     numbered(tables.message_count(), number)
 }
 
-/// The first task that waits for mailbox m gets message g, or the message is queued. E_PAR where messages queue by priority
-/// and this one's is above the mailbox's limit, then E_OBJ where it is queued somewhere.
+/// The first task that waits for mailbox m gets message g, or the message is queued. E_PAR where messages queue by
+/// priority and this one's is above the mailbox's limit, then E_OBJ where it is queued somewhere.
 fn send(tables: &mut Tables, lines: &mut Vec<Line>, m: u8, g: u8) -> Answer
     requires mailbox { m < length tables.old.system.mailboxes }
     requires message { g < length tables.old.system.messages }
@@ -56,14 +56,15 @@ fn send(tables: &mut Tables, lines: &mut Vec<Line>, m: u8, g: u8) -> Answer
     replied(Er::Ok)
 }
 
-/// `snd_mbx` (uITRON 4.0, section 4.4.4): releases the first task that waits for the mailbox with E_OK and the message's
-/// number; with none queues the message, with TA_MPRI behind those of its priority or more urgent, else last. In this
-/// order: E_ID where a number names no mailbox or no message, E_PAR where, with TA_MPRI, the message's priority is above
-/// the mailbox's limit, E_OBJ where the message is queued in some mailbox; nothing changes then.
+/// `snd_mbx` (uITRON 4.0, section 4.4.4): releases the first task that waits for the mailbox with E_OK and the
+/// message's number; with none queues the message, with TA_MPRI behind those of its priority or more urgent, else last.
+/// In this order: E_ID where a number names no mailbox or no message, E_PAR where, with TA_MPRI, the message's priority
+/// is above the mailbox's limit, E_OBJ where the message is queued in some mailbox; nothing changes then.
 pub fn snd_mbx(tables: &mut Tables, lines: &mut Vec<Line>, mailbox: i32, message: i32) -> Answer
     requires empty { lines.old.items ≡ [] }
     requires room { 1 ≤ vec_capacity lines.old }
-    ensures outcome { outcome result tables.new lines.new.items ≡ snd_mbx_case tables.old.system tables.old.state mailbox message }
+    ensures outcome { outcome result tables.new lines.new.items
+        ≡ snd_mbx_case tables.old.system tables.old.state mailbox message }
     ensures kept { SameShapeAndRoom tables.old tables.new lines.old lines.new }
 {
     let Some(m) = mailbox_of(tables, mailbox) else {
@@ -80,7 +81,8 @@ fn receive(tables: &mut Tables, me: u8, limit: TimeLimit, m: u8) -> Answer
     requires there { m < length tables.old.system.mailboxes }
     requires me { me < length tables.old.system.tasks }
     requires limit { IsTimeLimit limit }
-    ensures outcome { outcome result tables.new [] ≡ message_received tables.old.state me (task_at tables.old.state.tasks me) limit m }
+    ensures outcome { outcome result tables.new []
+        ≡ message_received tables.old.state me (task_at tables.old.state.tasks me) limit m }
     ensures shape { SameShape tables.old tables.new }
 {
     match tables.first_message(m) {
@@ -95,13 +97,14 @@ fn receive(tables: &mut Tables, me: u8, limit: TimeLimit, m: u8) -> Answer
     }
 }
 
-/// `rcv_mbx` and `prcv_mbx` by task me (uITRON 4.0, section 4.4.4): gives the number of the first message and takes it out,
-/// else waits at the end of the order within the limit. E_ID where the number names no mailbox, then E_TMOUT where a poll
-/// finds no message; nothing changes then.
+/// `rcv_mbx` and `prcv_mbx` by task me (uITRON 4.0, section 4.4.4): gives the number of the first message and takes it
+/// out, else waits at the end of the order within the limit. E_ID where the number names no mailbox, then E_TMOUT where
+/// a poll finds no message; nothing changes then.
 pub fn rcv_mbx(tables: &mut Tables, me: u8, limit: TimeLimit, mailbox: i32) -> Answer
     requires me { me < length tables.old.system.tasks }
     requires limit { IsTimeLimit limit }
-    ensures outcome { outcome result tables.new [] ≡ rcv_mbx_case tables.old.state me (task_at tables.old.state.tasks me) limit mailbox }
+    ensures outcome { outcome result tables.new []
+        ≡ rcv_mbx_case tables.old.state me (task_at tables.old.state.tasks me) limit mailbox }
     ensures shape { SameShape tables.old tables.new }
 {
     match mailbox_of(tables, mailbox) {
@@ -110,12 +113,13 @@ pub fn rcv_mbx(tables: &mut Tables, me: u8, limit: TimeLimit, mailbox: i32) -> A
     }
 }
 
-/// `trcv_mbx` by task me (uITRON 4.0, section 4.4.4): as `rcv_mbx`, with the time limit that a number states, in ticks: -1
-/// is none, 0 polls, the greatest is 2^30. E_ID where the number names no mailbox, then E_PAR where the limit is none of
-/// these, then E_TMOUT where a poll finds no message; nothing changes then.
+/// `trcv_mbx` by task me (uITRON 4.0, section 4.4.4): as `rcv_mbx`, with the time limit that a number states, in ticks:
+/// -1 is none, 0 polls, the greatest is 2^30. E_ID where the number names no mailbox, then E_PAR where the limit is
+/// none of these, then E_TMOUT where a poll finds no message; nothing changes then.
 pub fn trcv_mbx(tables: &mut Tables, me: u8, mailbox: i32, limit: i32) -> Answer
     requires { me < length tables.old.system.tasks }
-    ensures outcome { outcome result tables.new [] ≡ trcv_mbx_case tables.old.state me (task_at tables.old.state.tasks me) mailbox limit }
+    ensures outcome { outcome result tables.new []
+        ≡ trcv_mbx_case tables.old.state me (task_at tables.old.state.tasks me) mailbox limit }
     ensures shape { SameShape tables.old tables.new }
 {
     let Some(m) = mailbox_of(tables, mailbox) else {

@@ -21,7 +21,8 @@ AreExact-new processors heads nodes few enough = record {
       → bit_at (slice_index_or (replicate processors 0) p 0) k ≡ bit_for (list_at (replicate heads []) (p * 16 + k))
   at_bit p k l m =
       let low : p * 16 + k < heads = omega arith in
-      rw (get_or-replicate {A = ℕ} processors p 0 0 l, get_or-replicate {A = List ℕ} heads (p * 16 + k) [] [] low) (bit_at-zero k)
+      rw (get_or-replicate {A = ℕ} processors p 0 0 l, get_or-replicate {A = List ℕ} heads (p * 16 + k) [] [] low)
+      (bit_at-zero k)
 
 -- a list that stays empty, or not empty, changes no bit
 pub AreExact-kept : (bitmaps : List ℕ) (r : RingLists) (h : ℕ) (q : List ℕ) → AreExact bitmaps r → h < length r.lists
@@ -36,13 +37,17 @@ AreExact-kept bitmaps r h q e there same = record {
   by_test p k l m true d =
       let s : p * 16 + k ≡ h = nat_same (p * 16 + k) h d in
       e.bits p k l m ∙ rw (s, get_or-set_same r.lists h q [] there) (sym same)
-  by_test p k l m false d = e.bits p k l m ∙ ap bit_for (sym (get_or-set_other r.lists h (p * 16 + k) q [] (nat_apart (p * 16 + k) h d)))
+  by_test p k l m false d =
+      e.bits p k l m ∙ ap bit_for (sym (get_or-set_other r.lists h (p * 16 + k) q [] (nat_apart (p * 16 + k) h d)))
 
 -- a list of no processor changes no bit
-pub AreExact-elsewhere : (bitmaps : List ℕ) (r : RingLists) (h : ℕ) (q : List ℕ) → AreExact bitmaps r → length bitmaps * 16 ≤ h
+pub AreExact-elsewhere : (bitmaps : List ℕ) (r : RingLists) (h : ℕ) (q : List ℕ) → AreExact bitmaps r
+    → length bitmaps * 16 ≤ h
     → AreExact bitmaps (record r { lists = slice_set r.lists h q })
 AreExact-elsewhere bitmaps r h q e above = record {
   few = e.few;
   heads = rw (length-set r.lists h q) e.heads;
-  bits = λ p k l m. let other : p * 16 + k ≢ h = omega arith in e.bits p k l m ∙ ap bit_for (sym (get_or-set_other r.lists h (p * 16 + k) q [] other));
+  bits =
+      λ p k l m. let other : p * 16 + k ≢ h = omega arith in e.bits p k l m ∙ ap bit_for
+      (sym (get_or-set_other r.lists h (p * 16 + k) q [] other));
 }

@@ -32,9 +32,10 @@ abbrev pub bit_for : List ℕ → ℕ
 bit_for [] = 0
 bit_for (t ∷ ts) = 1
 
--- the lists have those of each processor, of tasks with numbers of one byte, and a bit of a processor's bitmap is set exactly
--- where its queue is not empty
+-- the lists have those of each processor, of tasks with numbers of one byte, and a bit of a processor's bitmap is set
+-- exactly where its queue is not empty
 pub record AreExact (bitmaps : List ℕ) (r : RingLists) : Type 0 where
   pub few : r.nodes ≤ 2 ^ 8
   pub heads : length bitmaps * 16 ≤ length r.lists
-  pub bits : (p k : ℕ) → p < length bitmaps → k < 16 → bit_at (slice_index_or bitmaps p 0) k ≡ bit_for (list_at r.lists (p * 16 + k))
+  pub bits : (p k : ℕ) → p < length bitmaps → k < 16
+      → bit_at (slice_index_or bitmaps p 0) k ≡ bit_for (list_at r.lists (p * 16 + k))

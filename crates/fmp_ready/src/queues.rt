@@ -14,8 +14,8 @@ use std::alloc::{AllocError, Global};
 use std::marker::Model;
 
 /// For each processor (uITRON 4.0, section 3.2, and the FMP kernel) sixteen queues, one a priority, 1 being the most
-/// urgent. They are the first lists of the rings that each call is lent, sixteen a processor; what stands here is a bitmap
-/// for each processor, of the queues that are not empty. Processors and tasks go by their places, from 0.
+/// urgent. They are the first lists of the rings that each call is lent, sixteen a processor; what stands here is a
+/// bitmap for each processor, of the queues that are not empty. Processors and tasks go by their places, from 0.
 #[derive(Drop)]
 pub struct ReadyQueues {
     bitmaps: Vec<u16>,

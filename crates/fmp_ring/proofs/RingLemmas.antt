@@ -83,7 +83,9 @@ AreChains-before n next previous next_new previous_new lists x b k low lowb free
       let apart : n + h ≢ x = omega arith in
       let apart_b : n + h ≢ b = omega arith in
       subst (λ (q : List ℕ). Chain n next_new previous_new (n + h) q (n + h)) (sym (list_at-map (inserted_before b x) lists h l))
-      (Chain-inserted n next previous next_new previous_new x b (n + h) (list_at lists h) (n + h) u (AreChains-order n next previous lists h k l) low apart apart apart_b (is_linked-none x lists free h) (k.each h l))
+      (Chain-inserted n next previous next_new previous_new x b (n + h) (list_at lists h) (n + h) u
+      (AreChains-order n next previous lists h k l) low apart apart apart_b (is_linked-none x lists free h)
+      (k.each h l))
 
 -- one list becomes another
 pub list_at-set : (lists : List (List ℕ)) (h g : ℕ) (l : List ℕ) → h < length lists → list_at (slice_set lists h l) g ≡ cond (nat_eq g h) l (list_at lists g)
@@ -112,7 +114,9 @@ AreChains-pushed n next previous next_new previous_new lists h x k low there fre
       let apart : n + g ≢ x = omega arith in
       let other : g ≢ h = nat_apart g h e in
       let elsewhere : n + g ≢ n + h = omega arith in
-      Chain-stays n next previous next_new previous_new x (n + h) (n + g) (list_at lists g) (n + g) (KeepsOthers-linked_in next previous next_new previous_new x (n + h) u) apart apart elsewhere (is_linked-none x lists free g) (no_head g l) (k.each g l)
+      Chain-stays n next previous next_new previous_new x (n + h) (n + g) (list_at lists g) (n + g)
+      (KeepsOthers-linked_in next previous next_new previous_new x (n + h) u) apart apart elsewhere
+      (is_linked-none x lists free g) (no_head g l) (k.each g l)
 
   at_head : (g : ℕ) → g < length lists → Chain n next_new previous_new (n + g) (list_at (slice_set lists h (list_at lists h ++ x ∷ [])) g) (n + g)
   at_head g l =

@@ -7,12 +7,14 @@ use Rattle.std.proofs.lemmas.Bool.{or_parts, or_right, or_from}
 use Rattle.fmp_ring.specs.RingLists.{is_in, is_linked, list_at, without_node, with_before, inserted_before}
 use Rattle.fmp_ring.specs.OrderLaws.{without-gone, nat_eq-flip, nat_same}
 
-pub is_linked-none : (x : ℕ) (lists : List (List ℕ)) → is_linked x lists ≡ false → (h : ℕ) → is_in x (list_at lists h) ≡ false
+pub is_linked-none : (x : ℕ) (lists : List (List ℕ)) → is_linked x lists ≡ false → (h : ℕ)
+    → is_in x (list_at lists h) ≡ false
 is_linked-none x [] k h = refl
 is_linked-none x (l ∷ ls) k zero = (or_parts (is_in x l) (is_linked x ls) k).0
 is_linked-none x (l ∷ ls) k (suc h) = is_linked-none x ls (or_parts (is_in x l) (is_linked x ls) k).1 h
 
-pub is_linked-some : (x : ℕ) (lists : List (List ℕ)) → is_linked x lists ≡ true → (h : ℕ) × (h < length lists) × (is_in x (list_at lists h) ≡ true)
+pub is_linked-some : (x : ℕ) (lists : List (List ℕ)) → is_linked x lists ≡ true
+    → (h : ℕ) × (h < length lists) × (is_in x (list_at lists h) ≡ true)
 is_linked-some x [] k = cc
 is_linked-some x (l ∷ ls) k = by_test (is_in x l) refl k (is_linked-some x ls) where
   by_test : (b : Bool) → is_in x l ≡ b → (b || is_linked x ls) ≡ true
@@ -54,7 +56,8 @@ in-without y x (t ∷ ts) h = by_test (nat_eq t x) refl (in-without y x ts h) wh
   by_test true e rest = let same : t ≡ x = nat_same t x e in rw (same, h) rest
   by_test false e rest = rw rest refl
 
-pub is_linked-others : (y x : ℕ) (lists : List (List ℕ)) → nat_eq y x ≡ false → is_linked y (without_node x lists) ≡ is_linked y lists
+pub is_linked-others : (y x : ℕ) (lists : List (List ℕ)) → nat_eq y x ≡ false
+    → is_linked y (without_node x lists) ≡ is_linked y lists
 is_linked-others y x [] h = refl
 is_linked-others y x (l ∷ ls) h = rw (in-without y x l h, is_linked-others y x ls h) refl
 
@@ -63,7 +66,8 @@ in-before : (y b x : ℕ) (l : List ℕ) → is_in y (inserted_before b x l) ≡
 in-before y b x [] = refl
 in-before y b x (t ∷ ts) = by_test (nat_eq t b) refl (in-before y b x ts) where
   by_test : (c : Bool) → nat_eq t b ≡ c → is_in y (inserted_before b x ts) ≡ (is_in y ts || (is_in b ts && nat_eq y x))
-      → is_in y (cond c (x ∷ t ∷ ts) (t ∷ inserted_before b x ts)) ≡ ((nat_eq y t || is_in y ts) || ((nat_eq b t || is_in b ts) && nat_eq y x))
+      → is_in y (cond c (x ∷ t ∷ ts) (t ∷ inserted_before b x ts))
+      ≡ ((nat_eq y t || is_in y ts) || ((nat_eq b t || is_in b ts) && nat_eq y x))
   by_test true e rest = rw (nat_eq-flip b t ∙ e) (or_comm (nat_eq y x) (nat_eq y t || is_in y ts))
   by_test false e rest = rw (nat_eq-flip b t ∙ e, rest) (or_assoc (nat_eq y t) (is_in y ts) (is_in b ts && nat_eq y x))
 
@@ -79,10 +83,12 @@ spread false true false false true = refl
 spread false true false false false = refl
 spread false false c d e = refl
 
-pub is_linked-before : (y b x : ℕ) (lists : List (List ℕ)) → is_linked y (with_before b x lists) ≡ (is_linked y lists || (is_linked b lists && nat_eq y x))
+pub is_linked-before : (y b x : ℕ) (lists : List (List ℕ))
+    → is_linked y (with_before b x lists) ≡ (is_linked y lists || (is_linked b lists && nat_eq y x))
 is_linked-before y b x [] = refl
 is_linked-before y b x (l ∷ ls) =
-    rw (in-before y b x l, is_linked-before y b x ls) (spread (is_in y l) (is_in b l) (is_linked y ls) (is_linked b ls) (nat_eq y x))
+    rw (in-before y b x l, is_linked-before y b x ls)
+    (spread (is_in y l) (is_in b l) (is_linked y ls) (is_linked b ls) (nat_eq y x))
 
 -- who stands there when x came last
 in-push : (y x : ℕ) (l : List ℕ) → is_in y (l ++ x ∷ []) ≡ (is_in y l || nat_eq y x)
@@ -97,9 +103,11 @@ is_linked-pushed y x (l ∷ ls) zero k =
 is_linked-pushed y x (l ∷ ls) (suc h) k =
     rw (is_linked-pushed y x ls h (omega arith)) (or_assoc (is_in y l) (is_linked y ls) (nat_eq y x))
 
-pub is_linked-from_none : (x : ℕ) (lists : List (List ℕ)) → ((h : ℕ) → is_in x (list_at lists h) ≡ false) → is_linked x lists ≡ false
+pub is_linked-from_none : (x : ℕ) (lists : List (List ℕ)) → ((h : ℕ) → is_in x (list_at lists h) ≡ false)
+    → is_linked x lists ≡ false
 is_linked-from_none x [] each = refl
-is_linked-from_none x (l ∷ ls) each = or_from (is_in x l) (is_linked x ls) (each zero) (is_linked-from_none x ls (λ h. each (suc h)))
+is_linked-from_none x (l ∷ ls) each =
+    or_from (is_in x l) (is_linked x ls) (each zero) (is_linked-from_none x ls (λ h. each (suc h)))
 
 -- which is how the definitions of mailboxes say it of a message
 pub is_linked-queued : (x : ℕ) (lists : List (List ℕ)) → is_linked x lists ≡ is_queued x lists

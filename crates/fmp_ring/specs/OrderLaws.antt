@@ -1,5 +1,5 @@
--- Numbers told apart, and orders: one stays an order when a number leaves it, joins it or goes to its end, and it has at
--- most as many numbers as its bound says.
+-- Numbers told apart, and orders: one stays an order when a number leaves it, joins it or goes to its end, and it has
+-- at most as many numbers as its bound says.
 use Rattle.std.specs.Prelude.{◌≡◌, ◌≢◌, ℕ, ◌≤◌, ◌<◌, length, List, [], ◌∷◌, ◌++◌, nat_eq, not, Bool, true, false, cond, refl, ◌||◌}
 use Rattle.std.specs.List.{IsDistinct, list_any, AllByRecursion}
 use Rattle.std.specs.Cmp.{nat_eq_equiv}
@@ -28,7 +28,8 @@ absent-without u t [] h = refl
 absent-without u t (y ∷ ts) h =
     let parts = or_parts (nat_eq u y) (list_any (nat_eq u) ts) h in
     let rest = absent-without u t ts parts.1 in
-    elim (nat_eq y t) as (λ b. list_any (nat_eq u) (cond (not b) (y ∷ without ts t) (without ts t)) ≡ false) [ true ↦ rest | false ↦ rw parts.0 rest ]
+    elim (nat_eq y t) as (λ b. list_any (nat_eq u) (cond (not b) (y ∷ without ts t) (without ts t)) ≡ false)
+    [ true ↦ rest | false ↦ rw parts.0 rest ]
 
 -- t is not there without t
 pub without-gone : (t : ℕ) (ts : List ℕ) → list_any (nat_eq t) (without ts t) ≡ false
@@ -43,15 +44,18 @@ pub IsOrder-without : (n t : ℕ) (ts : List ℕ) → IsOrder n ts → IsOrder n
 IsOrder-without n t [] h = tt
 IsOrder-without n t (y ∷ ts) h =
     let rest = IsOrder-without n t ts h.2 in
-    elim (nat_eq y t) as (λ b. IsOrder n (cond (not b) (y ∷ without ts t) (without ts t))) [ true ↦ rest | false ↦ (h.0, absent-without y t ts h.1, rest) ]
+    elim (nat_eq y t) as (λ b. IsOrder n (cond (not b) (y ∷ without ts t) (without ts t)))
+    [ true ↦ rest | false ↦ (h.0, absent-without y t ts h.1, rest) ]
 
-absent-push : (u t : ℕ) (ts : List ℕ) → list_any (nat_eq u) ts ≡ false → nat_eq u t ≡ false → list_any (nat_eq u) (ts ++ t ∷ []) ≡ false
+absent-push : (u t : ℕ) (ts : List ℕ) → list_any (nat_eq u) ts ≡ false → nat_eq u t ≡ false
+    → list_any (nat_eq u) (ts ++ t ∷ []) ≡ false
 absent-push u t [] h k = rw k refl
 absent-push u t (y ∷ ts) h k =
     let parts = or_parts (nat_eq u y) (list_any (nat_eq u) ts) h in
     rw parts.0 (absent-push u t ts parts.1 k)
 
-pub IsOrder-push : (n t : ℕ) (ts : List ℕ) → IsOrder n ts → list_any (nat_eq t) ts ≡ false → t < n → IsOrder n (ts ++ t ∷ [])
+pub IsOrder-push : (n t : ℕ) (ts : List ℕ) → IsOrder n ts → list_any (nat_eq t) ts ≡ false → t < n
+    → IsOrder n (ts ++ t ∷ [])
 IsOrder-push n t [] h k l = (l, refl, tt)
 IsOrder-push n t (y ∷ ts) h k l =
     let parts = or_parts (nat_eq t y) (list_any (nat_eq t) ts) k in

@@ -14,7 +14,8 @@ Walked-start f x l at e =
     let whole : from_node at l ≡ l = ap (λ (o : Option ℕ). from_node o l) e ∙ from_first l in
     record { past = []; split = sym whole; rest = ap (behind_equals f x) (sym whole) }
 
-pub Walked-step : (n : ℕ) (f : ℕ → ℕ) (x u : ℕ) (l : List ℕ) (at : Option ℕ) → IsOrder n l → Walked f x l (Some u) → f u ≤ f x → at ≡ follower u l
+pub Walked-step : (n : ℕ) (f : ℕ → ℕ) (x u : ℕ) (l : List ℕ) (at : Option ℕ) → IsOrder n l → Walked f x l (Some u)
+    → f u ≤ f x → at ≡ follower u l
     → Walked f x l at
 Walked-step n f x u l at o w low e =
     let whole : from_node at l ≡ behind u l = ap (λ (q : Option ℕ). from_node q l) e ∙ follower-rest n u l w.past o w.split in
@@ -26,7 +27,8 @@ Walked-step n f x u l at o w low e =
     }
 
 -- each step leaves less
-pub Walked-shorter : (n : ℕ) (f : ℕ → ℕ) (x u : ℕ) (l : List ℕ) (at : Option ℕ) → IsOrder n l → Walked f x l (Some u) → at ≡ follower u l
+pub Walked-shorter : (n : ℕ) (f : ℕ → ℕ) (x u : ℕ) (l : List ℕ) (at : Option ℕ) → IsOrder n l → Walked f x l (Some u)
+    → at ≡ follower u l
     → length (from_node at l) < length (from_node (Some u) l)
 Walked-shorter n f x u l at o w e =
     let whole : from_node at l ≡ behind u l = ap (λ (q : Option ℕ). from_node q l) e ∙ follower-rest n u l w.past o w.split in
@@ -41,7 +43,8 @@ Walked-stop n f x u l o w less =
     let order : IsOrder n (w.past ++ u ∷ behind u l) = subst (λ (q : List ℕ). IsOrder n q) w.split o in
     let now : behind_equals f x (u ∷ behind u l) ≡ x ∷ u ∷ behind u l = rw (lt-ltb (f x) (f u) less) refl in (
       Walked-in f x u l w,
-      ap (inserted_before u x) w.split ∙ (inserted-split n u x w.past (behind u l) order ∙ sym (w.rest ∙ ap (λ (q : List ℕ). w.past ++ q) now)),
+      ap (inserted_before u x) w.split ∙
+          (inserted-split n u x w.past (behind u l) order ∙ sym (w.rest ∙ ap (λ (q : List ℕ). w.past ++ q) now)),
     )
 
 pub Walked-end : (f : ℕ → ℕ) (x : ℕ) (l : List ℕ) → Walked f x l None → IsPlace f x l None

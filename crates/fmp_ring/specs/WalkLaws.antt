@@ -1,4 +1,5 @@
--- A walk over a list in which no node stands twice: what comes behind a node, and what follows it, also once it has left.
+-- A walk over a list in which no node stands twice: what comes behind a node, and what follows it, also once it has
+-- left.
 use Rattle.std.specs.Prelude.{◌≡◌, ℕ, suc, ◌+◌, ◌<◌, List, [], ◌∷◌, ◌++◌, length, drop, Bool, true, false, cond, not, nat_eq, ◌||◌, refl}
 use Rattle.std.specs.List.{position_or_len}
 use Rattle.std.proofs.Common.{ap, ◌∙◌, sym, subst, arith, append_assoc}
@@ -38,7 +39,8 @@ from_first (t ∷ ts) = ap (λ (q : List ℕ). t ∷ q) (behind-cons t t ts ∙ 
 
 pub in-split : (x : ℕ) (p r : List ℕ) → is_in x (p ++ x ∷ r) ≡ true
 in-split x [] r = rw (nat_eq-same x) refl
-in-split x (t ∷ ts) r = elim (nat_eq x t) as (λ b. (b || is_in x (ts ++ x ∷ r)) ≡ true) [ true ↦ refl | false ↦ in-split x ts r ]
+in-split x (t ∷ ts) r =
+    elim (nat_eq x t) as (λ b. (b || is_in x (ts ++ x ∷ r)) ≡ true) [ true ↦ refl | false ↦ in-split x ts r ]
 
 -- a node of an order is none of those before it
 apart-split : (n t x : ℕ) (ts r : List ℕ) → IsOrder n (t ∷ ts ++ x ∷ r) → nat_eq t x ≡ false
@@ -58,7 +60,8 @@ behind-split n x (t ∷ ts) r o =
     behind-cons x t (ts ++ x ∷ r) ∙ rw other (behind-split n x ts r o.2)
 
 -- and to insert before it is to insert there
-pub inserted-split : (n x y : ℕ) (p r : List ℕ) → IsOrder n (p ++ x ∷ r) → inserted_before x y (p ++ x ∷ r) ≡ p ++ y ∷ x ∷ r
+pub inserted-split : (n x y : ℕ) (p r : List ℕ) → IsOrder n (p ++ x ∷ r)
+    → inserted_before x y (p ++ x ∷ r) ≡ p ++ y ∷ x ∷ r
 inserted-split n x y [] r o = rw (nat_eq-same x) refl
 inserted-split n x y (t ∷ ts) r o =
     rw (apart-split n t x ts r o) (ap (λ (q : List ℕ). t ∷ q) (inserted-split n x y ts r o.2))
@@ -70,25 +73,29 @@ without-split n x (t ∷ ts) r o =
     rw (apart-split n t x ts r o) (ap (λ (q : List ℕ). t ∷ q) (without-split n x ts r o.2))
 
 -- the rest from the follower of x is what is behind x
-pub follower-rest : (n x : ℕ) (l p : List ℕ) → IsOrder n l → l ≡ p ++ x ∷ behind x l → from_node (follower x l) l ≡ behind x l
+pub follower-rest : (n x : ℕ) (l p : List ℕ) → IsOrder n l → l ≡ p ++ x ∷ behind x l
+    → from_node (follower x l) l ≡ behind x l
 follower-rest n x l p o e = by_list (behind x l) refl where
   by_list : (r : List ℕ) → behind x l ≡ r → from_node (first_of r) l ≡ r
   by_list [] d = refl
   by_list (y ∷ ys) d =
       let whole : l ≡ (p ++ x ∷ []) ++ y ∷ ys = e ∙ (ap (λ (q : List ℕ). p ++ x ∷ q) d ∙ sym (append_assoc p (x ∷ []) (y ∷ ys))) in
       let order : IsOrder n ((p ++ x ∷ []) ++ y ∷ ys) = subst (λ (q : List ℕ). IsOrder n q) whole o in
-      ap (λ (q : List ℕ). y ∷ q) (subst (λ (q : List ℕ). behind y q ≡ ys) (sym whole) (behind-split n y (p ++ x ∷ []) ys order))
+      ap (λ (q : List ℕ). y ∷ q)
+      (subst (λ (q : List ℕ). behind y q ≡ ys) (sym whole) (behind-split n y (p ++ x ∷ []) ys order))
 
 absent-drop : (y x : ℕ) (p r : List ℕ) → is_in y (p ++ x ∷ r) ≡ false → is_in y (p ++ r) ≡ false
 absent-drop y x [] r h = (or_parts (nat_eq y x) (is_in y r) h).1
-absent-drop y x (t ∷ ts) r h = let parts = or_parts (nat_eq y t) (is_in y (ts ++ x ∷ r)) h in rw parts.0 (absent-drop y x ts r parts.1)
+absent-drop y x (t ∷ ts) r h =
+    let parts = or_parts (nat_eq y t) (is_in y (ts ++ x ∷ r)) h in rw parts.0 (absent-drop y x ts r parts.1)
 
 IsOrder-drop : (n x : ℕ) (p r : List ℕ) → IsOrder n (p ++ x ∷ r) → IsOrder n (p ++ r)
 IsOrder-drop n x [] r o = o.2
 IsOrder-drop n x (t ∷ ts) r o = (o.0, absent-drop t x ts r o.1, IsOrder-drop n x ts r o.2)
 
 -- and so it is when x has left
-pub rest-without : (n x : ℕ) (l p : List ℕ) → IsOrder n l → l ≡ p ++ x ∷ behind x l → from_node (follower x l) (without l x) ≡ behind x l
+pub rest-without : (n x : ℕ) (l p : List ℕ) → IsOrder n l → l ≡ p ++ x ∷ behind x l
+    → from_node (follower x l) (without l x) ≡ behind x l
 rest-without n x l p o e = by_list (behind x l) refl where
   by_list : (r : List ℕ) → behind x l ≡ r → from_node (first_of r) (without l x) ≡ r
   by_list [] d = refl
@@ -96,4 +103,5 @@ rest-without n x l p o e = by_list (behind x l) refl where
       let whole : l ≡ p ++ x ∷ y ∷ ys = e ∙ ap (λ (q : List ℕ). p ++ x ∷ q) d in
       let order : IsOrder n (p ++ x ∷ y ∷ ys) = subst (λ (q : List ℕ). IsOrder n q) whole o in
       let left : without l x ≡ p ++ y ∷ ys = ap (λ (q : List ℕ). without q x) whole ∙ without-split n x p (y ∷ ys) order in
-      ap (λ (q : List ℕ). y ∷ q) (subst (λ (q : List ℕ). behind y q ≡ ys) (sym left) (behind-split n y p ys (IsOrder-drop n x p (y ∷ ys) order)))
+      ap (λ (q : List ℕ). y ∷ q) (subst (λ (q : List ℕ). behind y q ≡ ys) (sym left)
+      (behind-split n y p ys (IsOrder-drop n x p (y ∷ ys) order)))

@@ -81,7 +81,9 @@ impl Rings {
     /// The node that follows another in its list, if any. At most 1 step.
     pub fn next(&self, x: u16, steps: &mut Steps) -> Option<u16>
         requires { is_linked x self.now.lists ≡ true }
-        ensures value { (h : ℕ) → is_in x (list_at self.now.lists h) ≡ true → result ≡ follower x (list_at self.now.lists h) }
+        ensures value { (h : ℕ)
+            → is_in x (list_at self.now.lists h) ≡ true
+            → result ≡ follower x (list_at self.now.lists h) }
         ensures node { IfSome result (λ y. y < self.now.nodes) }
         ensures steps { AddsAtMost 1 steps.old steps.new }
     {
@@ -109,7 +111,8 @@ impl Rings {
         requires head { h < length self.old.lists }
         requires node { x < self.old.nodes }
         requires free { is_linked x self.old.lists ≡ false }
-        ensures lists { self.new ≡ record self.old { lists = slice_set self.old.lists h (list_at self.old.lists h ++ x ∷ []) } }
+        ensures lists { self.new
+            ≡ record self.old { lists = slice_set self.old.lists h (list_at self.old.lists h ++ x ∷ []) } }
         ensures steps { AddsAtMost 5 steps.old steps.new }
     {
         let head = self.nodes as u32 + h as u32;
@@ -124,7 +127,9 @@ impl Rings {
         requires free { is_linked x self.old.lists ≡ false }
         requires there { is_linked at self.old.lists ≡ true }
         ensures lists { self.new ≡ record self.old { lists = with_before at x self.old.lists } }
-        ensures one { (h : ℕ) → is_in at (list_at self.old.lists h) ≡ true → self.new.lists ≡ slice_set self.old.lists h (inserted_before at x (list_at self.old.lists h)) }
+        ensures one { (h : ℕ)
+            → is_in at (list_at self.old.lists h) ≡ true
+            → self.new.lists ≡ slice_set self.old.lists h (inserted_before at x (list_at self.old.lists h)) }
         ensures steps { AddsAtMost 5 steps.old steps.new }
     {
         let before = self.previous.get(at as u32, steps);
@@ -143,7 +148,9 @@ impl Rings {
         requires { is_linked x self.old.lists ≡ true }
         ensures lists { self.new ≡ record self.old { lists = without_node x self.old.lists } }
         ensures gone { is_linked x self.new.lists ≡ false }
-        ensures one { (h : ℕ) → is_in x (list_at self.old.lists h) ≡ true → self.new.lists ≡ slice_set self.old.lists h (without (list_at self.old.lists h) x) }
+        ensures one { (h : ℕ)
+            → is_in x (list_at self.old.lists h) ≡ true
+            → self.new.lists ≡ slice_set self.old.lists h (without (list_at self.old.lists h) x) }
         ensures steps { AddsAtMost 5 steps.old steps.new }
     {
         let before = self.previous.get(x as u32, steps);
@@ -156,7 +163,8 @@ impl Rings {
     pub fn pop_front(&mut self, h: u16, steps: &mut Steps) -> Option<u16>
         requires { h < length self.old.lists }
         ensures value { result ≡ first_of (list_at self.old.lists h) }
-        ensures lists { self.new ≡ record self.old { lists = slice_set self.old.lists h (behind_first (list_at self.old.lists h)) } }
+        ensures lists { self.new
+            ≡ record self.old { lists = slice_set self.old.lists h (behind_first (list_at self.old.lists h)) } }
         ensures node { IfSome result (λ x. x < self.old.nodes) }
         ensures steps { AddsAtMost 6 steps.old steps.new }
     {
@@ -172,7 +180,8 @@ impl Rings {
     /// Puts the first of the list of a head, if any, last. At most 11 steps.
     pub fn rotate(&mut self, h: u16, steps: &mut Steps)
         requires { h < length self.old.lists }
-        ensures lists { self.new ≡ record self.old { lists = slice_set self.old.lists h (rotated (list_at self.old.lists h)) } }
+        ensures lists { self.new
+            ≡ record self.old { lists = slice_set self.old.lists h (rotated (list_at self.old.lists h)) } }
         ensures steps { AddsAtMost 11 steps.old steps.new }
     {
         // Only a look at a field tells the proof that the links are rings.

@@ -195,7 +195,8 @@ deadlines-set : (tasks : List TaskBlock) (t : ℕ) (x : TaskBlock) (deadlines : 
     → slice_set deadlines t x.deadline ≡ map (λ x. x.deadline) (slice_set tasks t x)
 deadlines-set tasks t x deadlines e = ap (λ (ds : List (Option ℕ)). slice_set ds t x.deadline) e ∙ map-set (λ (y : TaskBlock). y.deadline) tasks t x
 
-module _ {sys : SystemTables} {tasks : List TaskBlock} {order ready : List ℕ} {waits : WaitQueues} {rings : RingLists} {deadlines : List (Option ℕ)} (k : Sound sys tasks order ready waits rings deadlines) where
+module _ {sys : SystemTables} {tasks : List TaskBlock} {order ready : List ℕ} {waits : WaitQueues} {rings : RingLists}
+    {deadlines : List (Option ℕ)} (k : Sound sys tasks order ready waits rings deadlines) where
   pub own_processors : waits.processors ≡ length ready
   own_processors = ap (λ (w : WaitQueues). w.processors) k.own_waits ∙ sym k.processors
 
@@ -203,7 +204,9 @@ module _ {sys : SystemTables} {tasks : List TaskBlock} {order ready : List ℕ} 
   own_counts = ap (λ (w : WaitQueues). w.counts) k.own_waits
 
   pub lent : AreLent waits rings
-  lent = subst (λ (w : WaitQueues). AreLent w rings) (sym k.own_waits) (record { few = k.exact.few; heads = let all : length rings.lists ≡ sys.processors * 16 + count_of_lists (counts_of sys) = k.heads in omega arith })
+  lent =
+      subst (λ (w : WaitQueues). AreLent w rings) (sym k.own_waits) (record
+      { few = k.exact.few; heads = let all : length rings.lists ≡ sys.processors * 16 + count_of_lists (counts_of sys) = k.heads in omega arith })
 
   -- there is a list for each ready queue
   pub lists-enough : waits.processors * 16 ≤ length rings.lists

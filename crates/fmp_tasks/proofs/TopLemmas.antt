@@ -45,7 +45,8 @@ lt_true a b h = grind (arith, nat_tests)
 keeps_first : (xs : List TaskBlock) (t : ℕ) (l : List ℕ) (k n : ℕ) → priority_in xs t ≤ k → more_urgent xs t (first_from (of_priority xs l) k n) ≡ Some t
 keeps_first xs t l k zero h = refl
 keeps_first xs t l k (suc n) h = by_queue (of_priority xs l k) refl (keeps_first xs t l (k + 1) n (omega arith)) where
-  by_queue : (q : List ℕ) → of_priority xs l k ≡ q → more_urgent xs t (first_from (of_priority xs l) (k + 1) n) ≡ Some t → more_urgent xs t (first_or q (first_from (of_priority xs l) (k + 1) n)) ≡ Some t
+  by_queue : (q : List ℕ) → of_priority xs l k ≡ q → more_urgent xs t (first_from (of_priority xs l) (k + 1) n) ≡ Some t
+      → more_urgent xs t (first_or q (first_from (of_priority xs l) (k + 1) n)) ≡ Some t
   by_queue [] e rest = rest
   by_queue (u ∷ us) e rest =
       let same : priority_in xs u ≡ k = nat_same _ _ (filter-head (λ u. nat_eq (priority_in xs u) k) l u us e) in
@@ -57,7 +58,8 @@ one_more xs t l k zero a b = absurd (omega arith)
 one_more xs t l k (suc n) a b = by_test (nat_eq (priority_in xs t) k) refl (λ c d. one_more xs t l (k + 1) n c d) where
   by_test : (c : Bool) → nat_eq (priority_in xs t) k ≡ c
       → (k + 1 ≤ priority_in xs t → priority_in xs t < k + 1 + n → first_from (of_priority xs (t ∷ l)) (k + 1) n ≡ more_urgent xs t (first_from (of_priority xs l) (k + 1) n))
-      → first_or (cond c (t ∷ of_priority xs l k) (of_priority xs l k)) (first_from (of_priority xs (t ∷ l)) (k + 1) n) ≡ more_urgent xs t (first_or (of_priority xs l k) (first_from (of_priority xs l) (k + 1) n))
+      → first_or (cond c (t ∷ of_priority xs l k) (of_priority xs l k)) (first_from (of_priority xs (t ∷ l)) (k + 1) n)
+      ≡ more_urgent xs t (first_or (of_priority xs l k) (first_from (of_priority xs l) (k + 1) n))
   by_test true e rest = let same : priority_in xs t ≡ k = nat_same _ _ e in sym (keeps_first xs t l k (suc n) (omega arith))
   by_test false e rest = by_queue (of_priority xs l k) refl where
     above : k + 1 ≤ priority_in xs t
@@ -87,7 +89,10 @@ filter-filter p q [] = refl
 filter-filter p q (t ∷ ts) = by_test (p t) refl (filter-filter p q ts) where
   by_test : (b : Bool) → p t ≡ b → filter q (filter p ts) ≡ filter (λ u. p u && q u) ts
       → filter q (cond b (t ∷ filter p ts) (filter p ts)) ≡ cond (b && q t) (t ∷ filter (λ u. p u && q u) ts) (filter (λ u. p u && q u) ts)
-  by_test true e rest = elim (q t) as (λ c. cond c (t ∷ filter q (filter p ts)) (filter q (filter p ts)) ≡ cond c (t ∷ filter (λ u. p u && q u) ts) (filter (λ u. p u && q u) ts)) [ true ↦ ap (λ (l : List ℕ). t ∷ l) rest | false ↦ rest ]
+  by_test true e rest =
+      elim (q t) as (λ c. cond c (t ∷ filter q (filter p ts)) (filter q (filter p ts))
+      ≡ cond c (t ∷ filter (λ u. p u && q u) ts) (filter (λ u. p u && q u) ts))
+      [ true ↦ ap (λ (l : List ℕ). t ∷ l) rest | false ↦ rest ]
   by_test false e rest = rest
 
 same_head : (a b c d : ℕ) → 1 ≤ b → b ≤ 16 → 1 ≤ d → d ≤ 16 → (nat_eq a c && nat_eq b d) ≡ nat_eq (a * 16 + (b - 1)) (c * 16 + (d - 1))

@@ -1,5 +1,5 @@
--- Where a task stands: by its block it has a place among the lists, of the ready queues first and then of the wait queues,
--- or none.
+-- Where a task stands: by its block it has a place among the lists, of the ready queues first and then of the wait
+-- queues, or none.
 use Rattle.std.specs.Prelude.{◌≡◌, ℕ, ◌∷◌, [], ◌+◌, ◌-◌, ◌*◌, ◌<◌, ◌≤◌, List, Option, Some, None, Bool, true, false, ◌&&◌, ◌||◌, length, slice_set, filter, nat_eq, nat_lt, IfSome, if◌then◌else◌}
 use Rattle.std.specs.List.{list_any}
 use Rattle.fmp_base.specs.declared.states.Phase.{Phase}
@@ -54,7 +54,12 @@ queue_with_place n h =
 -- the objects of a system that have wait queues
 abbrev pub counts_of : SystemTables → ObjectCounts
 counts_of sys =
-    record { semaphores = length sys.semaphores; flags = length sys.flags; data_queues = length sys.data_queues; mailboxes = length sys.mailboxes }
+    record {
+      semaphores = length sys.semaphores;
+      flags = length sys.flags;
+      data_queues = length sys.data_queues;
+      mailboxes = length sys.mailboxes;
+    }
 
 -- the wait queues of a system
 abbrev pub waits_of : SystemTables → WaitQueues
@@ -71,10 +76,12 @@ is_at h (Some g) = nat_eq g h
 
 -- the tasks whose home is h: a part of the order, arranged
 abbrev pub queue_at_home : (TaskBlock → Option ℕ) → (ℕ → QueueOrder) → List TaskBlock → List ℕ → ℕ → List ℕ
-queue_at_home home by tasks order h = arranged (by h) (priority_in tasks) (filter (λ u. is_at h (home (task_at tasks u))) order)
+queue_at_home home by tasks order h =
+    arranged (by h) (priority_in tasks) (filter (λ u. is_at h (home (task_at tasks u))) order)
 
 -- each list is the part of the order that has its home there
-pub record Kept (home : TaskBlock → Option ℕ) (by : ℕ → QueueOrder) (tasks : List TaskBlock) (order : List ℕ) (lists : List (List ℕ)) : Type 0 where
+pub record Kept (home : TaskBlock → Option ℕ) (by : ℕ → QueueOrder) (tasks : List TaskBlock) (order : List ℕ)
+    (lists : List (List ℕ)) : Type 0 where
   pub each : (h : ℕ) → h < length lists → list_at lists h ≡ queue_at_home home by tasks order h
 
 -- t is in the list of a home, if that is one

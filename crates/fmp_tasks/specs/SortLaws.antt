@@ -8,11 +8,13 @@ use Rattle.fmp_base.specs.Queues.{placed, sorted}
 behind_placed-none : (f : ℕ → ℕ) (u t : ℕ) → placed f u (behind_equals f t []) ≡ behind_equals f t (placed f u [])
 behind_placed-none f u t = grind (arith, nat_tests)
 
-behind_placed-step : (f : ℕ → ℕ) (u t v : ℕ) (vs : List ℕ) → placed f u (behind_equals f t vs) ≡ behind_equals f t (placed f u vs)
+behind_placed-step : (f : ℕ → ℕ) (u t v : ℕ) (vs : List ℕ)
+    → placed f u (behind_equals f t vs) ≡ behind_equals f t (placed f u vs)
     → placed f u (behind_equals f t (v ∷ vs)) ≡ behind_equals f t (placed f u (v ∷ vs))
 behind_placed-step f u t v vs ih = grind (arith, nat_tests)
 
-pub behind_placed : (f : ℕ → ℕ) (u t : ℕ) (l : List ℕ) → placed f u (behind_equals f t l) ≡ behind_equals f t (placed f u l)
+pub behind_placed : (f : ℕ → ℕ) (u t : ℕ) (l : List ℕ)
+    → placed f u (behind_equals f t l) ≡ behind_equals f t (placed f u l)
 behind_placed f u t [] = behind_placed-none f u t
 behind_placed f u t (v ∷ vs) = behind_placed-step f u t v vs (behind_placed f u t vs)
 
@@ -32,12 +34,14 @@ Sorted f (u ∷ us) = AtLeast f (f u) us × Sorted f us
 
 AtLeast-lower : (f : ℕ → ℕ) (m n : ℕ) (l : List ℕ) → m ≤ n → AtLeast f n l → AtLeast f m l
 AtLeast-lower f m n [] k h = tt
-AtLeast-lower f m n (u ∷ us) k h = let a : n ≤ f u = h.0 in let b : m ≤ f u = omega arith in (b, AtLeast-lower f m n us k h.1)
+AtLeast-lower f m n (u ∷ us) k h =
+    let a : n ≤ f u = h.0 in let b : m ≤ f u = omega arith in (b, AtLeast-lower f m n us k h.1)
 
 AtLeast-placed : (f : ℕ → ℕ) (n t : ℕ) (l : List ℕ) → n ≤ f t → AtLeast f n l → AtLeast f n (placed f t l)
 AtLeast-placed f n t [] k h = (k, tt)
 AtLeast-placed f n t (u ∷ us) k h =
-    elim (nat_le (f t) (f u)) as (λ b. AtLeast f n (cond b (t ∷ u ∷ us) (u ∷ placed f t us))) [ true ↦ (k, h) | false ↦ (h.0, AtLeast-placed f n t us k h.1) ]
+    elim (nat_le (f t) (f u)) as (λ b. AtLeast f n (cond b (t ∷ u ∷ us) (u ∷ placed f t us)))
+    [ true ↦ (k, h) | false ↦ (h.0, AtLeast-placed f n t us k h.1) ]
 
 le_of : (a b : ℕ) → nat_le a b ≡ true → a ≤ b
 le_of a b h = grind (arith, nat_tests)
@@ -48,7 +52,8 @@ le_not a b h = grind (arith, nat_tests)
 Sorted-placed : (f : ℕ → ℕ) (t : ℕ) (l : List ℕ) → Sorted f l → Sorted f (placed f t l)
 Sorted-placed f t [] h = (tt, tt)
 Sorted-placed f t (u ∷ us) h = by_test (nat_le (f t) (f u)) refl (Sorted-placed f t us h.1) where
-  by_test : (b : Bool) → nat_le (f t) (f u) ≡ b → Sorted f (placed f t us) → Sorted f (cond b (t ∷ u ∷ us) (u ∷ placed f t us))
+  by_test : (b : Bool) → nat_le (f t) (f u) ≡ b → Sorted f (placed f t us)
+      → Sorted f (cond b (t ∷ u ∷ us) (u ∷ placed f t us))
   by_test true e rest = ((le_of _ _ e, AtLeast-lower f (f t) (f u) us (le_of _ _ e) h.0), h)
   by_test false e rest = (AtLeast-placed f (f u) t us (le_not _ _ e) h.0, rest)
 
@@ -59,7 +64,8 @@ Sorted-sorted f (t ∷ ts) = Sorted-placed f t (sorted f ts) (Sorted-sorted f ts
 AtLeast-filter : (p : ℕ → Bool) (f : ℕ → ℕ) (n : ℕ) (l : List ℕ) → AtLeast f n l → AtLeast f n (filter p l)
 AtLeast-filter p f n [] h = tt
 AtLeast-filter p f n (u ∷ us) h =
-    elim (p u) as (λ b. AtLeast f n (cond b (u ∷ filter p us) (filter p us))) [ true ↦ (h.0, AtLeast-filter p f n us h.1) | false ↦ AtLeast-filter p f n us h.1 ]
+    elim (p u) as (λ b. AtLeast f n (cond b (u ∷ filter p us) (filter p us)))
+    [ true ↦ (h.0, AtLeast-filter p f n us h.1) | false ↦ AtLeast-filter p f n us h.1 ]
 
 le_true : (a b : ℕ) → a ≤ b → nat_le a b ≡ true
 le_true a b h = grind (arith, nat_tests)
@@ -69,15 +75,17 @@ placed-front f t [] h = refl
 placed-front f t (u ∷ us) h = let e = le_true (f t) (f u) h.0 in rw e refl
 
 -- a filter of a sort is the sort of the filter
-filter-placed_in : (p : ℕ → Bool) (f : ℕ → ℕ) (t : ℕ) (l : List ℕ) → p t ≡ true → Sorted f l → filter p (placed f t l) ≡ placed f t (filter p l)
+filter-placed_in : (p : ℕ → Bool) (f : ℕ → ℕ) (t : ℕ) (l : List ℕ) → p t ≡ true → Sorted f l
+    → filter p (placed f t l) ≡ placed f t (filter p l)
 filter-placed_in p f t [] e h = rw e refl
-filter-placed_in p f t (u ∷ us) e h = by_tests (nat_le (f t) (f u)) (p u) refl refl (filter-placed_in p f t us e h.1) where
-  by_tests : (b c : Bool) → nat_le (f t) (f u) ≡ b → p u ≡ c → filter p (placed f t us) ≡ placed f t (filter p us)
-      → filter p (cond b (t ∷ u ∷ us) (u ∷ placed f t us)) ≡ placed f t (cond c (u ∷ filter p us) (filter p us))
-  by_tests true true k q rest = rw (e, q, k) refl
-  by_tests true false k q rest = rw (e, q) (sym (placed-front f t (filter p us) (AtLeast-filter p f (f t) us (AtLeast-lower f (f t) (f u) us (le_of _ _ k) h.0))))
-  by_tests false true k q rest = rw (q, k) (ap (λ (l : List ℕ). u ∷ l) rest)
-  by_tests false false k q rest = rw q rest
+filter-placed_in p f t (u ∷ us) e h =
+    by_tests (nat_le (f t) (f u)) (p u) refl refl (filter-placed_in p f t us e h.1) where
+      by_tests : (b c : Bool) → nat_le (f t) (f u) ≡ b → p u ≡ c → filter p (placed f t us) ≡ placed f t (filter p us)
+          → filter p (cond b (t ∷ u ∷ us) (u ∷ placed f t us)) ≡ placed f t (cond c (u ∷ filter p us) (filter p us))
+      by_tests true true k q rest = rw (e, q, k) refl
+      by_tests true false k q rest = rw (e, q) (sym (placed-front f t (filter p us) (AtLeast-filter p f (f t) us (AtLeast-lower f (f t) (f u) us (le_of _ _ k) h.0))))
+      by_tests false true k q rest = rw (q, k) (ap (λ (l : List ℕ). u ∷ l) rest)
+      by_tests false false k q rest = rw q rest
 
 filter-placed_out : (p : ℕ → Bool) (f : ℕ → ℕ) (t : ℕ) (l : List ℕ) → p t ≡ false → filter p (placed f t l) ≡ filter p l
 filter-placed_out p f t [] e = rw e refl

@@ -51,9 +51,10 @@ abbrev pub HasHandler : SystemTables → Handler → Type 0
 HasHandler sys (handler.Interrupt i) = i < 32
 HasHandler sys (handler.Cyclic c) = c < length sys.cyclics
 
--- the queues are parts of the order, with a bit for each ready queue that is not empty, and the deadlines are those of the
--- blocks
-pub record Sound (sys : SystemTables) (tasks : List TaskBlock) (order ready : List ℕ) (waits : WaitQueues) (rings : RingLists) (deadlines : List (Option ℕ)) : Type 0 where
+-- the queues are parts of the order, with a bit for each ready queue that is not empty, and the deadlines are those of
+-- the blocks
+pub record Sound (sys : SystemTables) (tasks : List TaskBlock) (order ready : List ℕ) (waits : WaitQueues)
+    (rings : RingLists) (deadlines : List (Option ℕ)) : Type 0 where
   pub configs : length sys.tasks ≡ length tasks
   pub blocks : BlocksFit sys tasks
   pub distinct : IsOrder (length tasks) order

@@ -38,7 +38,11 @@ pub fn put(rings: &mut Rings, sys: &System, x: u8, order: QueueOrder, g: u8)
     requires mailbox { x < length rings.old.lists }
     requires message { g < rings.old.nodes }
     requires free { is_queued g rings.old.lists ≡ false }
-    ensures { rings.new ≡ record rings.old { lists = slice_set rings.old.lists x (enqueued order (message_priority (tables_of sys.now)) g (list_at rings.old.lists x)) } }
+    ensures { rings.new
+        ≡ record rings.old {
+          lists = slice_set rings.old.lists x
+              (enqueued order (message_priority (tables_of sys.now)) g (list_at rings.old.lists x));
+        } }
 {
     let mut steps = Steps::new();
     let (head, node) = (x as u16, g as u16);

@@ -83,7 +83,11 @@ pub fn join(
     requires queue { IsSomeThere waits.counts (queue_of_phase x.now.phase) }
     requires task { t < rings.old.nodes }
     requires free { is_linked t rings.old.lists ≡ false }
-    ensures rings { rings.new ≡ record rings.old { lists = joined_to (order_with_head waits (tables_of sys.now)) (priority_in blocks.now) rings.old.lists (home waits x.now) t } }
+    ensures rings { rings.new
+        ≡ record rings.old {
+          lists = joined_to (order_with_head waits (tables_of sys.now)) (priority_in blocks.now)
+              rings.old.lists (home waits x.now) t;
+        } }
     ensures processors { length ready.new ≡ length ready.old }
     ensures exact { AreExact ready.new rings.new }
     ensures lent { AreLent waits rings.new }

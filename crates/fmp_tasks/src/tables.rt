@@ -61,11 +61,12 @@ impl Model for Tables {
 }
 
 impl Tables {
-    /// The state in which a system starts, with no task started yet (uITRON 4.0, section 3.12). `AllocError` for want of
-    /// memory.
+    /// The state in which a system starts, with no task started yet (uITRON 4.0, section 3.12). `AllocError` for want
+    /// of memory.
     pub fn new(alloc: Global, sys: &System) -> Result<Tables, AllocError>
         requires { IsInRange (tables_of sys.now) }
-        ensures { IfOk result (λ h. h ≡ record { system = tables_of sys.now; state = created_state (tables_of sys.now) }) }
+        ensures { IfOk result
+            (λ h. h ≡ record { system = tables_of sys.now; state = created_state (tables_of sys.now) }) }
     {
         let system = copied_system(alloc, sys)?;
         let blocks = created_blocks(alloc, sys.tasks.as_slice())?;

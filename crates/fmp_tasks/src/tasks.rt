@@ -1,5 +1,5 @@
-//! What the service calls share (uITRON 4.0, section 3.2): a task starts, ends, waits, is released or suspended. Task t is
-//! given with its block x, as it is before the change. The lines of what happens are added to a list that has room.
+//! What the service calls share (uITRON 4.0, section 3.2): a task starts, ends, waits, is released or suspended. Task t
+//! is given with its block x, as it is before the change. The lines of what happens are added to a list that has room.
 ghost use Rattle.std.specs.Prelude.{◌≡◌, ◌+◌, ◌≤◌, ◌<◌, length, vec_len, vec_capacity, false, [], IfSome};
 ghost use Rattle.fmp_base.specs.Changes.{started, released, ended, suspended};
 ghost use Rattle.fmp_base.specs.Outcomes.{waits, waits_within};
@@ -18,7 +18,8 @@ pub fn start(tables: &mut Tables, lines: &mut Vec<Line>, t: u8, x: TaskBlock)
     requires there { t < length tables.old.system.tasks }
     requires fits { Fits tables.old.system x }
     requires room { vec_len lines.old < vec_capacity lines.old }
-    ensures progress { progress tables.new lines.new.items ≡ started tables.old.system (progress tables.old lines.old.items) t x }
+    ensures progress { progress tables.new lines.new.items
+        ≡ started tables.old.system (progress tables.old lines.old.items) t x }
     ensures kept { SameShapeAndRoom tables.old tables.new lines.old lines.new }
     ensures one_more { vec_len lines.new ≡ vec_len lines.old + 1 }
 {
@@ -72,7 +73,8 @@ pub fn end(tables: &mut Tables, lines: &mut Vec<Line>, t: u8, x: TaskBlock)
     requires there { t < length tables.old.system.tasks }
     requires fits { Fits tables.old.system x }
     requires room { vec_len lines.old < vec_capacity lines.old }
-    ensures progress { progress tables.new lines.new.items ≡ ended tables.old.system (progress tables.old lines.old.items) t x }
+    ensures progress { progress tables.new lines.new.items
+        ≡ ended tables.old.system (progress tables.old lines.old.items) t x }
     ensures kept { SameShapeAndRoom tables.old tables.new lines.old lines.new }
     ensures few { vec_len lines.new ≤ vec_len lines.old + 1 }
 {
@@ -119,7 +121,8 @@ pub fn wait(tables: &mut Tables, t: u8, x: TaskBlock, cause: WaitCause, deadline
     requires fits { Fits tables.old.system x }
     requires queue { IsSomeThere (counts_of tables.old.system) (queue_of_cause cause) }
     requires later { IfSome deadline (λ w. tables.old.state.clock + 1 ≤ w) }
-    ensures state { tables.new ≡ record tables.old { state = (waits tables.old.state t x cause deadline).progress.state } }
+    ensures state { tables.new
+        ≡ record tables.old { state = (waits tables.old.state t x cause deadline).progress.state } }
     ensures shape { SameShape tables.old tables.new }
 {
     tables.set_last(

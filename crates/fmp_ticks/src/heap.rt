@@ -52,7 +52,8 @@ fn slot_is_before(
     requires second { j < length places.now.tasks }
     requires first_inside { 1 ≤ rank_at deadlines.now places.now.tasks i }
     requires second_inside { 1 ≤ rank_at deadlines.now places.now.tasks j }
-    ensures value { result ≡ nat_lt (rank_at deadlines.now places.now.tasks i) (rank_at deadlines.now places.now.tasks j) }
+    ensures value { result
+        ≡ nat_lt (rank_at deadlines.now places.now.tasks i) (rank_at deadlines.now places.now.tasks j) }
     ensures steps { steps.new ≡ steps.old + 1 }
 {
     let a = moment_at(places, deadlines, i);

@@ -78,8 +78,8 @@ impl WaitQueues {
         as_byte(rings.next(t as u16, steps))
     }
 
-    /// Puts a task, which stands in no list, into a queue: last in FIFO order (TA_TFIFO), after those that are at least as
-    /// urgent in priority order (TA_TPRI). The priorities are those of the task blocks.
+    /// Puts a task, which stands in no list, into a queue: last in FIFO order (TA_TFIFO), after those that are at least
+    /// as urgent in priority order (TA_TPRI). The priorities are those of the task blocks.
     pub fn join(
         self,
         rings: &mut Rings,
@@ -93,7 +93,9 @@ impl WaitQueues {
         requires queue { IsThere self.counts queue }
         requires task { t < rings.old.nodes }
         requires free { is_linked t rings.old.lists ≡ false }
-        ensures rings { rings.new ≡ with_queue self rings.old queue (enqueued order (priority_in blocks.now) t (queue_at self rings.old queue)) }
+        ensures rings { rings.new
+            ≡ with_queue self rings.old queue
+            (enqueued order (priority_in blocks.now) t (queue_at self rings.old queue)) }
         ensures steps { AddsAtMost (length (queue_at self rings.old queue) + 6) steps.old steps.new }
     {
         let head = head_of(self, queue);
@@ -130,7 +132,9 @@ impl WaitQueues {
         requires queue { IsThere self.counts queue }
         requires task { t < rings.old.nodes }
         requires there { list_any (nat_eq t) (queue_at self rings.old queue) ≡ true }
-        ensures rings { rings.new ≡ with_queue self rings.old queue (behind_equals (priority_in blocks.now) t (without (queue_at self rings.old queue) t)) }
+        ensures rings { rings.new
+            ≡ with_queue self rings.old queue
+            (behind_equals (priority_in blocks.now) t (without (queue_at self rings.old queue) t)) }
         ensures steps { AddsAtMost (length (queue_at self rings.old queue) + 11) steps.old steps.new }
     {
         self.leave(rings, queue, t, steps);

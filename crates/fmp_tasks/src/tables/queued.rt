@@ -49,7 +49,9 @@ impl Tables {
     /// Puts a word last in a data queue; its oldest word, if it has one, makes room.
     pub fn force_word(&mut self, d: u8, word: i32)
         requires { d < length self.old.system.data_queues }
-        ensures { self.new ≡ record self.old { state = with_words self.old.state d (without_oldest (words_at self.old.state d) ++ word ∷ []) } }
+        ensures { self.new
+            ≡ record self.old
+            { state = with_words self.old.state d (without_oldest (words_at self.old.state d) ++ word ∷ []) } }
     {
         self.words[d as usize].force(word);
     }
@@ -57,7 +59,8 @@ impl Tables {
     /// Takes the oldest word out of a data queue, if it has one.
     pub fn drop_oldest(&mut self, d: u8)
         requires { d < length self.old.system.data_queues }
-        ensures { self.new ≡ record self.old { state = with_words self.old.state d (without_oldest (words_at self.old.state d)) } }
+        ensures { self.new
+            ≡ record self.old { state = with_words self.old.state d (without_oldest (words_at self.old.state d)) } }
     {
         self.words[d as usize].drop_oldest();
     }
@@ -100,7 +103,12 @@ impl Tables {
         requires mailbox { x < length self.old.system.mailboxes }
         requires message { g < length self.old.system.messages }
         requires free { is_queued g self.old.state.mailboxes ≡ false }
-        ensures { self.new ≡ record self.old { state = with_messages self.old.state x (enqueued (mailbox_config self.old.system x).message_order (message_priority self.old.system) g (messages_at self.old.state x)) } }
+        ensures { self.new
+            ≡ record self.old {
+              state = with_messages self.old.state x
+                  (enqueued (mailbox_config self.old.system x).message_order (message_priority self.old.system) g
+                  (messages_at self.old.state x));
+            } }
     {
         let order = self.system.mailboxes[x as usize].message_order;
         put(&mut self.mailboxes, &self.system, x, order, g);
@@ -109,7 +117,8 @@ impl Tables {
     /// Takes the first message out of a mailbox, if it has one.
     pub fn take_message(&mut self, x: u8)
         requires { x < length self.old.system.mailboxes }
-        ensures { self.new ≡ record self.old { state = with_messages self.old.state x (behind_first (messages_at self.old.state x)) } }
+        ensures { self.new
+            ≡ record self.old { state = with_messages self.old.state x (behind_first (messages_at self.old.state x)) } }
     {
         let _ = self.mailboxes.pop_front(x as u16, &mut Steps::new());
     }

@@ -143,7 +143,8 @@ impl Tables {
         requires processor { p < self.old.system.processors }
         requires urgent { 1 ≤ priority }
         requires least { priority ≤ 16 }
-        ensures { self.new ≡ record self.old { state = rotated self.old.state (first_ready self.old.state p priority) } }
+        ensures { self.new
+            ≡ record self.old { state = rotated self.old.state (first_ready self.old.state p priority) } }
     {
         if let Some(t) = self.first_ready(p, priority) {
             let x = self.task(t);

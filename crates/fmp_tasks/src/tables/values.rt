@@ -76,7 +76,9 @@ impl Tables {
     /// Changes a shared word.
     pub fn set_shared_word(&mut self, w: u8, value: i32)
         requires { w < length self.old.system.shared_words }
-        ensures { self.new ≡ record self.old { state = record self.old.state { shared_words = slice_set self.old.state.shared_words w value } } }
+        ensures { self.new
+            ≡ record self.old
+            { state = record self.old.state { shared_words = slice_set self.old.state.shared_words w value } } }
     {
         self.shared_words[w as usize] = value;
     }

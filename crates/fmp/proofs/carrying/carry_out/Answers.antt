@@ -21,5 +21,8 @@ returns-in_err-write_output-clause-err g c =
     let file = c.in_ok-file.file.items in
     let out = c.in_ok-file.out.items in
     let performs : Performs files cmd file out = record { inputs = texts; read = read; made = c.in_ok-file.ensures.ok } in
-    let begun = subst (λ bytes. BeginsFile (output_of cmd) bytes (g.O.Outside.done c.args.outside.now) (g.O.Outside.done c.write_output.new.outside)) c.deref-2.ensures.value c.in_err-write_output.ensures.begun in
+    let begun =
+    subst (λ bytes. BeginsFile (output_of cmd) bytes (g.O.Outside.done c.args.outside.now)
+    (g.O.Outside.done c.write_output.new.outside)) c.deref-2.ensures.value
+    c.in_err-write_output.ensures.begun in
     err_is _ _ _ c.from_residual-in_err-write_output.ensures.1 (unwritten file out performs c.in_err-write_output.ensures.failure begun)

@@ -109,7 +109,9 @@ returns-then-clears-clause-progress c =
     ∙ ap (λ (p : Progress). all_cleared p c.args.f) after
     ∙ sym (walk-cleared c.flag_config-clears.result.clears c.args.f c.args.bits t (behind t waiting) now c.if-clears.true leaves)
     ∙ before
-    ∙ ap (λ (x : FlagConfig). walk x.clears c.args.f c.args.bits (wait_queue c.args.tables.now.system c.args.tables.now.state (Flag c.args.f)) (progress c.args.tables.now [])) c.flag_config-clears.ensures
+    ∙ ap (λ (x : FlagConfig). walk x.clears c.args.f c.args.bits
+    (wait_queue c.args.tables.now.system c.args.tables.now.state (Flag c.args.f)) (progress c.args.tables.now []))
+    c.flag_config-clears.ensures
 
 pub loop-at-smaller : goal.loop-at-smaller
 loop-at-smaller c =
@@ -177,4 +179,6 @@ pub returns-clause-progress : goal.returns-clause-progress
 returns-clause-progress c =
     let over = rw c.in_default.is at c.loop-at.invariant.progress in
     over
-    ∙ ap (λ (x : FlagConfig). walk x.clears c.args.f c.args.bits (wait_queue c.args.tables.now.system c.args.tables.now.state (Flag c.args.f)) (progress c.args.tables.now [])) c.flag_config-clears.ensures
+    ∙ ap (λ (x : FlagConfig). walk x.clears c.args.f c.args.bits
+    (wait_queue c.args.tables.now.system c.args.tables.now.state (Flag c.args.f)) (progress c.args.tables.now []))
+    c.flag_config-clears.ensures

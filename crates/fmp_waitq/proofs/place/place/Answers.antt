@@ -17,7 +17,8 @@ loop-at-smaller c =
     let walked : Walked (priority_in c.args.blocks.now) c.args.t (list_at c.args.rings.now.lists c.args.head) (Some c.in-Some.u) = rw c.in-Some.is at c.loop-at.invariant.walked in
     let there = Walked-in _ _ _ _ walked in
     let less = Walked-shorter _ _ _ _ _ _ c.first-at.ensures.order walked (c.next-at.ensures.value c.args.head there) in
-    subst (λ (o : Option ℕ). length (from_node c.next-at.result (list_at c.args.rings.now.lists c.args.head)) < length (from_node o (list_at c.args.rings.now.lists c.args.head))) (sym c.in-Some.is) less
+    subst (λ (o : Option ℕ). length (from_node c.next-at.result (list_at c.args.rings.now.lists c.args.head)) < length
+    (from_node o (list_at c.args.rings.now.lists c.args.head))) (sym c.in-Some.is) less
 
 pub loop-at-preserved : goal.loop-at-preserved
 loop-at-preserved c =

@@ -12,7 +12,8 @@ push_back-requires-clause-free c =
     let low : c.args.h < length (lists_of c.self.inside.nodes c.self.inside.heads c.self.inside.next) = rw (← c.self.view_is) at c.requires in
     let first : Some c.in-Some.x ≡ first_of (list_at (lists_of c.self.inside.nodes c.self.inside.heads c.self.inside.next) c.args.h) =
     rw (← c.self.view_is) at (sym c.in-Some.is ∙ c.pop_front.ensures.value) in
-    rw (c.pop_front.ensures.lists, ← c.self.view_is, ← AreRings-popped _ _ _ _ _ _ c.self.invariant low first) (is_linked-without c.in-Some.x (lists_of c.self.inside.nodes c.self.inside.heads c.self.inside.next))
+    rw (c.pop_front.ensures.lists, ← c.self.view_is, ← AreRings-popped _ _ _ _ _ _ c.self.invariant low first)
+    (is_linked-without c.in-Some.x (lists_of c.self.inside.nodes c.self.inside.heads c.self.inside.next))
 
 pub returns-in-Some-clause-lists : goal.returns-in-Some-clause-lists
 returns-in-Some-clause-lists c =

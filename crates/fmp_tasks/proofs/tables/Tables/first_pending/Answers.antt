@@ -11,5 +11,8 @@ returns-clause-value c =
     let cs = c.self.invariant.pending_cyclics in
     rw (← c.self.view_is)
     (c.first.ensures.value
-    ∙ ap (λ (on : HandlerProcessors). first_handler (record { processors = on; interrupts = c.self.inside.pending.interrupts; cyclics = c.self.inside.pending.cyclics }) c.args.p) c.self.invariant.handlers
+    ∙ ap (λ (on : HandlerProcessors). first_handler
+    (record
+    { processors = on; interrupts = c.self.inside.pending.interrupts; cyclics = c.self.inside.pending.cyclics })
+    c.args.p) c.self.invariant.handlers
     ∙ first_handler-is (tables_of c.self.inside.system) (tables_view c.self.inside).state c.args.p (omega (arith, is)) (omega (arith, cs)))

@@ -16,6 +16,8 @@ invariant_of-self c =
             | then-was_first w ↦ w.self-is ∙ w.earliest-self-inside.ensures ∙ ap least_time w.as_slice.ensures.value
             | else-was_first w ↦
                 w.self-is ∙ w.lower-self-inside.ensures ∙ ap (λ (n : ℕ). lowered n c.args.due) c.self.invariant.earliest
-                ∙ sym (least-set c.self.inside.due_times.items c.args.c c.index.result.now c.args.due (slice_get_read _ _ _ _ refl there c.index.ensures) (other-time _ _ _ c.self.invariant.earliest w.if-was_first.ensures) there)
+                ∙ sym (least-set c.self.inside.due_times.items c.args.c c.index.result.now c.args.due
+                (slice_get_read _ _ _ _ refl there c.index.ensures)
+                (other-time _ _ _ c.self.invariant.earliest w.if-was_first.ensures) there)
           ];
     }
