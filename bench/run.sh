@@ -7,7 +7,7 @@
 set -euo pipefail
 root=$(cd "$(dirname "$0")/.." && pwd)
 runs=${1:-5}
-fmp=$root/crates/fmp/out/fmp
+fmp=${FMP:-$root/crates/fmp/out/fmp}
 [ -x "$fmp" ] || (cd "$root/crates/fmp" && rt run > /dev/null)
 room=$(mktemp -d)
 trap 'rm -rf "$room"' EXIT
@@ -56,12 +56,14 @@ TEXT
         } }' > eight_processors.steps
 }
 
-# 255 tasks of one priority that take turns.
-rotation() {
-    awk 'BEGIN { for (i = 1; i <= 255; i++) printf "CRE_TSK(T%d,{TA_ACT,0,t,10,256,NULL});\n", i }' | configuration > rotation.cfg
-    echo 'task t { while (1) { rot_rdq(10); } }' > rotation.src
-    repeated $events 'run 1' > rotation.steps
+# So many tasks of one priority that take turns.
+turns_of() { # turns_of CASE TASKS
+    awk -v tasks="$2" 'BEGIN { for (i = 1; i <= tasks; i++) printf "CRE_TSK(T%d,{TA_ACT,0,t,10,256,NULL});\n", i }' | configuration > "$1.cfg"
+    echo 'task t { while (1) { rot_rdq(10); } }' > "$1.src"
+    repeated $events 'run 1' > "$1.steps"
 }
+rotation() { turns_of rotation 255; }
+rotation_of_16_tasks() { turns_of rotation_of_16_tasks 16; }
 
 # 255 tasks with different delays: a tick after each six calls.
 delays() {
@@ -69,6 +71,16 @@ delays() {
     echo 'task t { while (1) { dly_tsk(exinf); } }' > delays.src
     awk -v count=$events 'BEGIN { for (i = 0; i < count; i++) print i % 7 == 6 ? "tick" : "run 1" }' > delays.steps
 }
+
+# So many tasks with one delay, of which four are released at each tick and call again: the delay is one less than a
+# quarter of their number. No event does nothing.
+equal_delays_of() { # equal_delays_of CASE TASKS
+    awk -v tasks="$2" 'BEGIN { for (i = 1; i <= tasks; i++) printf "CRE_TSK(T%d,{TA_ACT,%d,t,10,256,NULL});\n", i, tasks / 4 - 1 }' | configuration > "$1.cfg"
+    echo 'task t { while (1) { dly_tsk(exinf); } }' > "$1.src"
+    awk -v count=$events 'BEGIN { for (i = 0; i < count; i++) print i % 5 == 4 ? "tick" : "run 1" }' > "$1.steps"
+}
+equal_delays_of_252_tasks() { equal_delays_of equal_delays_of_252_tasks 252; }
+equal_delays_of_16_tasks() { equal_delays_of equal_delays_of_16_tasks 16; }
 
 # 254 tasks of different priorities that wait for a semaphore in order of priority, and one that changes them and signals.
 priorities() {
@@ -127,7 +139,7 @@ simulate() { "$fmp" sim "$1.img" "$1.steps" --bound 281474976710656; }
 echo '| What | Size | Real s | User s | System s | A second of user and system time |'
 echo '|---|---|---|---|---|---|'
 declare -A spent
-for it in two_tasks eight_processors rotation delays priorities; do
+for it in two_tasks eight_processors rotation rotation_of_16_tasks delays equal_delays_of_252_tasks equal_delays_of_16_tasks priorities; do
     $it
     build $it > output
     spent[$it]=$(best simulate $it)
@@ -142,8 +154,14 @@ for bodies in 1 2 4; do
     row '`sim`: its image, no steps' bytes "$(wc -c < text$bodies.img)" "$(best simulate text$bodies)"
 done
 
-# How an event of several processors compares with one of the simplest row.
-awk -v two="${spent[two_tasks]}" -v eight="${spent[eight_processors]}" 'BEGIN {
-    split(two, t, " ")
-    split(eight, e, " ")
-    printf "\nAn event of eight processors takes %.2f times as long as one of two tasks.\n", (e[2] + e[3]) / (t[2] + t[3]) }'
+# How an event of each case compares with one of the simplest, and one of many tasks with one of few.
+ratio() { # ratio CASE CASE
+    awk -v a="${spent[$1]}" -v b="${spent[$2]}" -v one="${1//_/ }" -v two="${2//_/ }" 'BEGIN {
+        split(a, s, " ")
+        split(b, t, " ")
+        printf "An event of %s takes %.2f times as long as one of %s.\n", one, (s[2] + s[3]) / (t[2] + t[3]), two }'
+}
+echo
+for it in eight_processors rotation delays priorities; do ratio $it two_tasks; done
+ratio rotation rotation_of_16_tasks
+ratio equal_delays_of_252_tasks equal_delays_of_16_tasks
