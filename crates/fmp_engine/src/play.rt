@@ -82,8 +82,8 @@ fn append_from_setup<B: Body>(
     print_states(sys, states.as_slice(), out)
 }
 
-/// Appends the text of a run of a system over events. Where memory runs out, what stood before is still the front of the
-/// text.
+/// Appends the text of a run of a system over events. Where memory runs out, what stood before is still the front of
+/// the text.
 fn append_run<B: Body + Drop>(
     alloc: Global,
     sys: &System,
