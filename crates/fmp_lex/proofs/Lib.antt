@@ -1,5 +1,6 @@
 pub mod Answered
 pub mod Existence
+pub mod FirstBytes
 pub mod Heads
 pub mod Lines
 pub mod Lists

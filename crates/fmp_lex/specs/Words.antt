@@ -1,5 +1,5 @@
 -- The words of both texts: constants, API names, service names and keywords.
-use Rattle.std.specs.Prelude.{ℤ, pos, negsuc, ℕ, List, Option, codes, find}
+use Rattle.std.specs.Prelude.{ℤ, pos, negsuc, ℕ, Bool, false, nat_eq, List, [], ◌∷◌, Option, codes, find}
 use Rattle.std.specs.Str.{bytes_eq}
 use Rattle.fmp_base.specs.declared.services.Service.{Service}
 use Rattle.fmp_base.specs.Codes.{code_of, code_name}
@@ -83,6 +83,11 @@ keyword_name keyword.While = codes "while"
 keyword_name keyword.Break = codes "break"
 keyword_name keyword.Continue = codes "continue"
 keyword_name keyword.Return = codes "return"
+
+-- whether a word begins with this byte
+abbrev pub begins_with : ℕ → List ℕ → Bool
+begins_with b [] = false
+begins_with b (c ∷ cs) = nat_eq b c
 
 -- the constant of this name, if there is one; likewise for the other words
 unfoldable pub constant_named : List ℕ → Option Constant

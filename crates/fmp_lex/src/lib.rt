@@ -4,6 +4,7 @@
 
 mod cutting;
 pub mod fault;
+mod initials;
 pub mod laws;
 pub mod reading;
 mod scanning;
