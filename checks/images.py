@@ -223,7 +223,8 @@ def main():
         for name, images in groups(options.seed, options.samples):
             answers = compare_group(pool, path, images)
             total += answers
-            print(f"{name}: {answers.total()} images:", *(f"{kind} {answers[kind]}" for kind in sorted(answers)))
+            counted = ", ".join(f"{kind} {answers[kind]}" for kind in sorted(answers))
+            print(f"{name}: {answers.total()} images: {counted}", flush=True)
     print(f"{total.total()} images: the program and the format agree ({time.monotonic() - began:.0f} s)")
     return 0
 

@@ -256,6 +256,17 @@ def expressions():
         yield lone(text, f"task m {{ put({text}); }}", "run 1\n", f"{line}\nT {state} p1 10\n")
 
 
+def extended_information():
+    """The least and the greatest number that a static API hands to a body."""
+    for number in (-2147483647, 0, 2147483647):
+        apis = f"CRE_TSK(T,{{TA_ACT,{number},m,1,256,NULL}}); CRE_CYC(C,{{TA_STA,{number},h,1,0}});"
+        source = "task m { put(exinf); } handler h { put(exinf); }"
+        lines = ["0 p1 T starts", "0 p1 > T", f"1 p1 T put({number}) E_OK", "2 tick 1", "2 p1 cyc C", "2 p1 begin C"]
+        lines += [f"3 p1 C put({number}) E_OK", "4 p1 C end", "T RUNNING p1 1"]
+        steps = "run 1\ntick\nrun 1\nrun 1\n"
+        yield Run(f"exinf {number}", f"NUM_PRC(1); CLASS(TCL_1) {{ {apis} }}", source, steps, None, joined(lines))
+
+
 # Stretches
 
 def stretch(name, statements, size, bound=None):
@@ -295,7 +306,8 @@ def events():
 
 
 def all_runs():
-    for group in (calls, full_tables, full_data_queue, longest_event, expressions, stretches, events):
+    groups = (calls, full_tables, full_data_queue, longest_event, expressions, extended_information, stretches, events)
+    for group in groups:
         yield from group()
 
 

@@ -97,7 +97,7 @@ def main():
         for what, cases in (("texts", texts), ("runs", runs), ("steps", steps), ("bounds", bounds)):
             count, differ = compare(program, cases(program))
             differing += differ
-            print(f"{what}: {count} answers, {differ} differ")
+            print(f"{what}: {count} answers, {differ} differ", flush=True)
     print(f"{time.monotonic() - began:.0f} s")
     return 1 if differing else 0
 
