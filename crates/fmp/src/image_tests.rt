@@ -84,6 +84,7 @@ fn images_cut_short_and_too_long(rt: HostRuntime) -> Result<(), Fail> {
 /// Bytes of the image of one task and their new values, and the answer.
 const CHANGES: &str = "0=0 => image: L2
 4=2 => image: L3
+4=9 => image: L3
 6=0 => image: L4
 6=9 => image: L4
 8=1 => image: L4
@@ -91,6 +92,7 @@ const CHANGES: &str = "0=0 => image: L2
 10=2 => image: L4
 11=0 => image: L5
 12=255 => image: L1
+11=255 12=255 => image: L1
 13=200 => image: L5
 20=200 => image: L5
 24=0 => image: L5
@@ -123,6 +125,22 @@ fn changed_images(rt: HostRuntime) -> Result<(), Fail> {
         let mut image = one_task(alloc)?;
         change(&mut image, changes)?;
         assert_eq!(rt; loaded(alloc, &image)?.as_str(), expected, "{row}");
+    }
+    Ok(())
+}
+
+// An operand, the least stack that holds it, and a task of one processor alone.
+#[test]
+fn changed_images_that_load(rt: HostRuntime) -> Result<(), Fail> {
+    let alloc = rt.alloc();
+    for (changes, word) in [("14=8", "8"), ("42=4 43=0", "7"), ("47=1", "7")] {
+        let mut image = one_task(alloc)?;
+        change(&mut image, changes)?;
+        let expected = format!(in alloc;
+            "0 p1 T1 starts\n0 p1 > T1\n1 p1 T1 put({word}) E_OK\nT1 RUNNING p1 10\n"
+        )?;
+        let answer = sim(alloc, &image, b"run 1\n", 100_000)?;
+        assert_eq!(rt; answer.as_str(), expected.as_str(), "{changes}");
     }
     Ok(())
 }
