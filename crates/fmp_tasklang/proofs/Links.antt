@@ -1,5 +1,5 @@
 -- Chains of operators of one level.
-use Rattle.std.proofs.Common.{◌≡◌, ℕ, ◌+◌, ◌≤◌, List, [], ◌∷◌, length, slice_get, Option, Some, option_and_then, refl, sym, ap, subst, ◌∙◌, arith}
+use Rattle.std.proofs.Common.{◌≡◌, ℕ, zero, suc, ◌+◌, ◌-◌, ◌≤◌, ◌<◌, List, [], ◌∷◌, length, slice_get, Option, Some, option_and_then, refl, sym, ap, subst, ◌∙◌, arith}
 use Rattle.fmp_lex.specs.declared.reading.GrammarFault.{GrammarFault}
 use Rattle.fmp_lex.specs.declared.token.TokenKind.{TokenKind}
 use Rattle.fmp_lex.specs.Reading.{Rel, At, Seq, Star, Outcome, found, stopped, map_outcome, Right}
@@ -113,3 +113,30 @@ module _ (line : ℕ → ℕ) where
       pub links_none : ((op : Operator) → option_and_then operator_of (slice_get ts i) ≡ Some (m, op) → ⊥) → i ≤ length ts → RightLinks line ts d m i (found [] i)
       links_none none within = star_none (OneLink line d m) ts i
           (λ us limit l k at x. none l.operator (ap (option_and_then operator_of) (sym at) ∙ x.1.0)) within
+
+  -- where no operator of the levels between follows, an expression of lower levels is one of higher levels
+  pub raised : (ts : List TokenKind) (d i : ℕ) (a : ExpressionTree) (k l t g : ℕ) → t ≡ l + g → k ≤ length ts
+      → ((n : ℕ) → l ≤ n → n < t → (op : Operator) → option_and_then operator_of (slice_get ts k) ≡ Some (n, op) → ⊥)
+      → RightExpression line ts d l i (found a k) → RightExpression line ts d t i (found a k)
+  raised ts d i a k l t zero at within none x =
+      let same : l ≡ t = omega arith in subst (λ (n : ℕ). RightExpression line ts d n i (found a k)) same x
+  raised ts d i a k l t (suc g) at within none x =
+      chain_then d (l + g) ts t i (omega arith) a k
+      (raised ts d i a k l (l + g) g refl within (λ n le lt op is. none n le (omega arith) op is) x)
+      (found [] k) (links_none d (l + g) ts k (λ op is. none (l + g) (omega arith) (omega arith) op is) within)
+
+  -- a fault of lower levels is one of higher levels
+  pub raised_stop : (ts : List TokenKind) (d i j : ℕ) (why : GrammarFault) (l t g : ℕ) → t ≡ l + g
+      → RightExpression line ts d l i (stopped j why) → RightExpression line ts d t i (stopped j why)
+  raised_stop ts d i j why l t zero at x =
+      let same : l ≡ t = omega arith in subst (λ (n : ℕ). RightExpression line ts d n i (stopped j why)) same x
+  raised_stop ts d i j why l t (suc g) at x =
+      chain_stop d (l + g) ts t i (omega arith) j why (raised_stop ts d i j why l (l + g) g refl x)
+
+  -- up to the level of the operator that follows
+  pub raised_to : (ts : List TokenKind) (d i : ℕ) (a : ExpressionTree) (k l m : ℕ) (op : Operator) → l ≤ m → k ≤ length ts
+      → option_and_then operator_of (slice_get ts k) ≡ Some (m, op)
+      → RightExpression line ts d l i (found a k) → RightExpression line ts d m i (found a k)
+  raised_to ts d i a k l m op le within is x =
+      raised ts d i a k l m (m - l) (omega arith) within
+      (λ n above below other same. let e = (one_operator n m other op (sym same ∙ is)).0 in omega arith) x

@@ -8,7 +8,7 @@ ghost use Rattle.fmp_tasklang.specs.Trees as trees;
 ghost use Rattle.fmp_tasklang.specs.Views.{expression_view};
 
 use crate::trees::{Expression, Link};
-use crate::words::{LOOSEST, MAX_DEPTH, expect_word, number_at, operator_at, unary_at};
+use crate::words::{LOOSEST, MAX_DEPTH, expect_word, level_at, number_at, operator_at, unary_at};
 use fmp_base::UnaryOperator;
 use fmp_lex::reading::{expect_symbol, is_symbol_at};
 use fmp_lex::{GrammarFault, ReadError, Symbol, Token, TokenKind};
@@ -101,16 +101,16 @@ pub fn expression(
     ensures { Answers expression_view result
         (RightExpression (lines_of tokens.now) (kinds_of tokens.now) depth level at) }
 {
-    if level == 0 {
-        return operand(alloc, tokens, depth, at);
+    let (mut tree, mut next) = operand(alloc, tokens, depth, at)?;
+    let mut read = 0;
+    'levels: while let Some(found) = level_at(tokens, read, level, next) {
+        let (rest, end) = links(alloc, tokens, depth, found, next)?;
+        let first = Box::new(alloc, tree)?;
+        tree = Expression::Chain { first, rest };
+        next = end;
+        read = found + 1;
     }
-    let (first, next) = expression(alloc, tokens, depth, level - 1, at)?;
-    let (rest, next) = links(alloc, tokens, depth, level - 1, next)?;
-    if rest.is_empty() {
-        return Ok((first, next));
-    }
-    let first = Box::new(alloc, first)?;
-    Ok((Expression::Chain { first, rest }, next))
+    Ok((tree, next))
 }
 
 #[cycle(expressions)]

@@ -161,6 +161,23 @@ pub fn operator_at(tokens: &[Token], level: usize, at: usize) -> Option<Operator
     }
 }
 
+/// The level of the operator at a place, if it is `least` or more and below `end`.
+pub fn level_at(tokens: &[Token], least: usize, end: usize, at: usize) -> Option<usize>
+    ensures { MatchOption result
+        ((level : ℕ) → least ≤ level → level < end → (op : Operator)
+        → option_and_then expressions.operator_of (slice_get (kinds_of tokens.now) at) ≡ Some (level, op)
+        → ⊥)
+        (λ level. (least ≤ level) × (level < end) × ((op : Operator)
+        × (option_and_then expressions.operator_of (slice_get (kinds_of tokens.now) at) ≡ Some (level, op)))) }
+{
+    match operator_of(kind_at(tokens, at)?) {
+        Some((found, _)) if least <= usize::from(found) && usize::from(found) < end => {
+            Some(usize::from(found))
+        }
+        _ => None,
+    }
+}
+
 /// The service whose call begins at a place.
 pub fn service_at(tokens: &[Token], at: usize) -> Option<Service>
     ensures value { result ≡ option_and_then calls.service_of (slice_get (kinds_of tokens.now) at) }

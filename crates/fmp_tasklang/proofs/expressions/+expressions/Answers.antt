@@ -1,37 +1,38 @@
 use Rattle.std.proofs.Common.{◌≡◌, ◌+◌, ◌-◌, ◌≤◌, ◌<◌, ◌++◌, ◌∷◌, List, [], length, refl, sym, arith, rules, append-nil}
-use Rattle.std.proofs.lemmas.List.{length-map, nil_from_length}
+use Rattle.std.proofs.lemmas.List.{length-map}
 use Rattle.std.proofs.lemmas.Result.{err_from_is_err_and}
 use Rattle.fmp_lex.specs.Reading.{kinds_of, found, stopped, map_outcome, RightToken}
-use Rattle.fmp_lex.proofs.Answered.{answers_as, err_as, step_as}
+use Rattle.fmp_lex.proofs.Answered.{err_as, step_as}
 use Rattle.fmp_lex.proofs.Repetitions.{push_before}
 use Rattle.fmp_tasklang.specs.Expressions.{loosest, lines_of}
 use Rattle.fmp_tasklang.specs.Reading.{itself, links_view, RightWord, RightOperand, RightExpression, RightLinks}
 use Rattle.fmp_tasklang.specs.Trees.{number}
-use Rattle.fmp_tasklang.specs.Views.{LinkTree, expression_view}
-use Rattle.fmp_tasklang.proofs.Links.{expression_zero, chain_then, chain_stop, links_more, links_stop, links_none}
+use Rattle.fmp_tasklang.specs.Views.{LinkTree, chain_tree, expression_view}
+use Rattle.fmp_tasklang.proofs.Links.{expression_zero, raised, raised_stop, raised_to, chain_then, links_more, links_stop, links_none}
 use Rattle.fmp_tasklang.proofs.Operands.{right, ended_stop, ended_then, number_found, name_as, group_deep, group_then, unary_deep, unary_then}
 use Rattle.fmp_tasklang.proofs.Views.{expression_view-Name, expression_view-Unary, expression_view-Chain, links_push}
 use Rattle.fmp_tasklang.proofs.expressions.+expressions.Goals as goal
 
-pub expression-returns-then-level-eq0 : goal.expression-returns-then-level-eq0
-expression-returns-then-level-eq0 m0 c =
+pub expression-returns-in_err-tree : goal.expression-returns-in_err-tree
+expression-returns-in_err-tree m0 c =
     let line = lines_of c.args.tokens.now in
     let ts = kinds_of c.args.tokens.now in
     let d = c.args.depth in
     let i = c.args.at in
-    answers_as expression_view c.operand.result (RightOperand line ts d i) (RightExpression line ts d c.args.level i)
-    (λ o x. expression_zero line ts d c.args.level i c.if-level-eq0.true o x) c.operand.ensures
-
-pub expression-returns-in_err-first : goal.expression-returns-in_err-first
-expression-returns-in_err-first m0 c =
-    let line = lines_of c.args.tokens.now in
-    let ts = kinds_of c.args.tokens.now in
-    let d = c.args.depth in
-    let i = c.args.at in
-    let m = c.args.level - 1 in
+    let l = c.args.level in
     let p = err_from_is_err_and c.from_residual.result c.from_residual.ensures.1 in
-    rw (p.1, p.2) (err_as expression_view expression_view c.in_err-first.field-0.0 (RightExpression line ts d m i) (RightExpression line ts d c.args.level i)
-    (λ j why x. chain_stop line d m ts c.args.level i (omega arith) j why x) c.in_err-first.ensures)
+    rw (p.1, p.2) (err_as expression_view expression_view c.in_err-tree.field-0.0 (RightOperand line ts d i) (RightExpression line ts d l i)
+    (λ j why x. raised_stop line ts d i j why 0 l l (omega arith) (expression_zero line ts d 0 i refl (stopped j why) x)) c.in_err-tree.ensures)
+
+pub expression-levels-init : goal.expression-levels-init
+expression-levels-init m0 c =
+    let line = lines_of c.args.tokens.now in
+    let ts = kinds_of c.args.tokens.now in
+    let d = c.args.depth in
+    let i = c.args.at in
+    let x : RightExpression line ts d 0 i (found (expression_view c.in_ok-tree.tree) c.in_ok-tree.next) =
+    expression_zero line ts d 0 i refl (found (expression_view c.in_ok-tree.tree) c.in_ok-tree.next) c.in_ok-tree.ensures in
+    record { within = x.within; below = omega arith; right = x }
 
 pub expression-returns-in_err-rest : goal.expression-returns-in_err-rest
 expression-returns-in_err-rest m0 c =
@@ -39,33 +40,46 @@ expression-returns-in_err-rest m0 c =
     let ts = kinds_of c.args.tokens.now in
     let d = c.args.depth in
     let i = c.args.at in
-    let m = c.args.level - 1 in
+    let l = c.args.level in
+    let k = c.levels.next in
+    let m = c.in-Some.found in
+    let tree = expression_view c.levels.tree in
+    let sign = c.in-Some.ensures in
+    let here : RightExpression line ts d m i (found tree k) =
+    raised_to line ts d i tree k c.levels.read m sign.2.0 sign.0 c.levels.invariant.within sign.2.1 c.levels.invariant.right in
     let p = err_from_is_err_and c.from_residual-in_err-rest.result c.from_residual-in_err-rest.ensures.1 in
-    rw (p.1, p.2) (err_as links_view expression_view c.in_err-rest.field-0.0 (RightLinks line ts d m c.in_ok-first.next) (RightExpression line ts d c.args.level i)
-    (λ j why x. chain_then line d m ts c.args.level i (omega arith) (expression_view c.in_ok-first.first) c.in_ok-first.next c.in_ok-first.ensures (stopped j why) x) c.in_err-rest.ensures)
+    rw (p.1, p.2) (err_as links_view expression_view c.in_err-rest.field-0.0 (RightLinks line ts d m k) (RightExpression line ts d l i)
+    (λ j why x. raised_stop line ts d i j why (m + 1) l (l - (m + 1)) (omega (arith, sign.1))
+    (chain_then line d m ts (m + 1) i refl tree k here (stopped j why) x)) c.in_err-rest.ensures)
 
-pub expression-returns-then-is_empty : goal.expression-returns-then-is_empty
-expression-returns-then-is_empty m0 c =
+pub expression-levels-preserved : goal.expression-levels-preserved
+expression-levels-preserved m0 c =
     let line = lines_of c.args.tokens.now in
     let ts = kinds_of c.args.tokens.now in
     let d = c.args.depth in
     let i = c.args.at in
-    let m = c.args.level - 1 in
-    let zero : length c.in_ok-rest.rest.items ≡ 0 = search rules in
-    let none : c.in_ok-rest.rest.items ≡ [] = nil_from_length c.in_ok-rest.rest.items zero in
-    let rest : RightLinks line ts d m c.in_ok-first.next (found [] c.in_ok-rest.next) = rw none at c.in_ok-rest.ensures in
-    chain_then line d m ts c.args.level i (omega arith) (expression_view c.in_ok-first.first) c.in_ok-first.next c.in_ok-first.ensures (found [] c.in_ok-rest.next) rest
+    let k = c.levels.next in
+    let m = c.in-Some.found in
+    let tree = expression_view c.levels.tree in
+    let sign = c.in-Some.ensures in
+    let here : RightExpression line ts d m i (found tree k) =
+    raised_to line ts d i tree k c.levels.read m sign.2.0 sign.0 c.levels.invariant.within sign.2.1 c.levels.invariant.right in
+    let x : RightExpression line ts d (m + 1) i (found (chain_tree tree (links_view c.in_ok-rest.rest)) c.in_ok-rest.end) =
+    chain_then line d m ts (m + 1) i refl tree k here (found (links_view c.in_ok-rest.rest) c.in_ok-rest.end) c.in_ok-rest.ensures in
+    record {
+      within = x.within;
+      below = omega (arith, sign.1);
+      right = rw (expression_view-Chain c.in_ok-first.first c.in_ok-rest.rest, c.in_ok-first.ensures.ok) x;
+    }
 
 pub expression-returns : goal.expression-returns
 expression-returns m0 c =
     let line = lines_of c.args.tokens.now in
     let ts = kinds_of c.args.tokens.now in
-    let d = c.args.depth in
-    let i = c.args.at in
-    let m = c.args.level - 1 in
-    rw (expression_view-Chain c.in_ok-first-2.first c.in_ok-rest.rest, c.in_ok-first-2.ensures.ok)
-    (chain_then line d m ts c.args.level i (omega arith) (expression_view c.in_ok-first.first) c.in_ok-first.next
-    c.in_ok-first.ensures (found (links_view c.in_ok-rest.rest) c.in_ok-rest.next) c.in_ok-rest.ensures)
+    let l = c.args.level in
+    let n = c.levels.read in
+    raised line ts c.args.depth c.args.at (expression_view c.levels.tree) c.levels.next n l (l - n)
+    (omega (arith, c.levels.invariant.below)) c.levels.invariant.within c.in_default.ensures c.levels.invariant.right
 
 pub group-returns-then-depth-eq-MAX_DEPTH : goal.group-returns-then-depth-eq-MAX_DEPTH
 group-returns-then-depth-eq-MAX_DEPTH m0 c =

@@ -1,9 +1,9 @@
 use Rattle.std.proofs.Common.{◌+◌, ◌*◌, ◌-◌, ◌≤◌, List, length}
-use Rattle.fmp_lex.specs.Reading.{kinds_of, Outcome, map_outcome}
+use Rattle.fmp_lex.specs.Reading.{kinds_of, Outcome, found, map_outcome}
 use Rattle.fmp_lex.proofs.Repetitions.{put_before}
 use Rattle.fmp_tasklang.specs.Expressions.{lines_of}
-use Rattle.fmp_tasklang.specs.Reading.{links_view, RightLinks}
-use Rattle.fmp_tasklang.specs.Views.{LinkTree}
+use Rattle.fmp_tasklang.specs.Reading.{links_view, RightExpression, RightLinks}
+use Rattle.fmp_tasklang.specs.Views.{LinkTree, expression_view}
 use Rattle.fmp_tasklang.proofs.expressions.+expressions.Given as goal
 
 abbrev pub decreases-operand : goal.decreases-operand
@@ -20,6 +20,16 @@ decreases-expression l = (65 - l.depth) * 32 + 2 * l.level + 2
 
 abbrev pub decreases-links : goal.decreases-links
 decreases-links l = (65 - l.depth) * 32 + 2 * l.level + 3
+
+abbrev pub invariant-expression-levels : goal.invariant-expression-levels
+invariant-expression-levels l = record {
+  within : l.next ≤ length (kinds_of l.tokens);
+  below : l.read ≤ l.level;
+  right : RightExpression (lines_of l.tokens) (kinds_of l.tokens) l.depth l.read l.at (found (expression_view l.tree) l.next);
+}
+
+abbrev pub decreases-expression-levels : goal.decreases-expression-levels
+decreases-expression-levels l = l.level - l.read
 
 abbrev pub invariant-links-links : goal.invariant-links-links
 invariant-links-links l = record {
