@@ -1,5 +1,5 @@
 -- Every call comes to what every call comes to.
-use Rattle.std.proofs.Common.{◌≡◌, ℕ, ℤ, [], true, false, ◌&&◌}
+use Rattle.std.proofs.Common.{◌≡◌, ℕ, ℤ, [], true, false, ◌&&◌, refl}
 use Rattle.fmp_base.specs.declared.calls.Call.{Call}
 use Rattle.fmp_base.specs.declared.calls.Call.TheVariants as call
 use Rattle.fmp_base.specs.declared.codes.Er.TheVariants as er
@@ -33,8 +33,8 @@ may_leave s p me t c h self =
 -- where the context test lets a task call
 by_task : (sys : SystemTables) (s : KernelState) (p me : ℕ) (c : Call)
     → is_barred (permission (service_of c)) (processor_at s p) (caller.Task me) c ≡ false
-    → Keeps (Acts sys s p me) sys s (case_of sys s p me (task_at s.tasks me) c)
-by_task sys s p me (call.Put value) h = keeps-succeeds_in sys s s (λ a. a)
+    → Keeps (Acts sys s p me) p sys s (case_of sys s p me (task_at s.tasks me) c)
+by_task sys s p me (call.Put value) h = keeps-succeeds_in sys s s (λ a. a) (λ q. refl)
 by_task sys s p me (call.LdShr word) h = keeps-ld_shr sys s word
 by_task sys s p me (call.StShr word value) h = keeps-st_shr sys s word value
 by_task sys s p me (call.ActTsk task) h = keeps-act_tsk sys s me task
@@ -87,14 +87,14 @@ by_task sys s p me (call.UnlSpn lock) h = keeps-unl_spn sys s p lock
 by_task sys s p me c h = cc
 
 -- a call for handlers
-unless_locked : (sys : SystemTables) (s : KernelState) (p : ℕ) (o : Outcome) → Keeps (Unit {0}) sys s o
-    → Keeps (Unit {0}) sys s (refused_if (is_cpu_locked (processor_at s p)) s er.Ctx o)
+unless_locked : (sys : SystemTables) (s : KernelState) (p : ℕ) (o : Outcome) → Keeps (Unit {0}) p sys s o
+    → Keeps (Unit {0}) p sys s (refused_if (is_cpu_locked (processor_at s p)) s er.Ctx o)
 unless_locked sys s p o h = keeps-refused_if sys s (is_cpu_locked (processor_at s p)) er.Ctx o (λ e. h)
 
 -- the calls of a handler; the others are barred
 pub keeps-handler_call : (sys : SystemTables) (s : KernelState) (p : ℕ) (i : Handler) (c : Call)
-    → Keeps (Unit {0}) sys s (called sys s p (caller.Handler i) c)
-keeps-handler_call sys s p i (call.Put value) = keeps-succeeds_in sys s s (λ a. a)
+    → Keeps (Unit {0}) p sys s (called sys s p (caller.Handler i) c)
+keeps-handler_call sys s p i (call.Put value) = keeps-succeeds_in sys s s (λ a. a) (λ q. refl)
 keeps-handler_call sys s p i (call.LdShr word) = keeps-ld_shr sys s word
 keeps-handler_call sys s p i (call.StShr word value) = keeps-st_shr sys s word value
 keeps-handler_call sys s p i (call.IactTsk task) = unless_locked sys s p _ (keeps-iact_tsk sys s task)
@@ -108,6 +108,6 @@ keeps-handler_call sys s p i (call.IrotRdq priority) = unless_locked sys s p _ (
 keeps-handler_call sys s p i c = keeps-refused sys s er.Ctx
 
 pub keeps-task_call : (sys : SystemTables) (s : KernelState) (p me : ℕ) (c : Call)
-    → Keeps (Acts sys s p me) sys s (called sys s p (caller.Task me) c)
+    → Keeps (Acts sys s p me) p sys s (called sys s p (caller.Task me) c)
 keeps-task_call sys s p me c =
     keeps-refused_if sys s (is_barred (permission (service_of c)) (processor_at s p) (caller.Task me) c) er.Ctx _ (λ e. by_task sys s p me c e)

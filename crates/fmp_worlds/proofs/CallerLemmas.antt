@@ -16,7 +16,8 @@ use Rattle.fmp_base.specs.Systems.{SystemTables}
 use Rattle.fmp_base.specs.TaskCalls.{self_or, by_number, is_dormant, moved_by, assigned_by, allowed_processor, ter_tsk, mig_tsk, migrated, terminated}
 use Rattle.fmp_worlds.proofs.Assigned.{Runs, Fits, Holds, IsRunNowhere, fits-task}
 use Rattle.fmp_worlds.proofs.Bools.{or-false, not-false}
-use Rattle.fmp_worlds.proofs.Changes.{holds-ended, holds-ended_itself}
+use Rattle.fmp_worlds.proofs.Changes.{SameHandlers, handlers-moved, holds-ended, holds-ended_itself, handlers-ended_by, handlers-ended_itself, lines-ended_by, lines-ended_itself}
+use Rattle.fmp_worlds.proofs.Lines.{IsOwn}
 use Rattle.fmp_worlds.proofs.Outcomes.{Keeps, keeps-succeeds, keeps-tested, keeps-refused_if, keeps-on_task}
 use Rattle.fmp_worlds.proofs.Settling.{CanSettle, can_settle, Dispatches}
 
@@ -47,7 +48,7 @@ on_processor x p e =
     eqb-true x.processor p (not-false (nat_eq x.processor p) parts.1)
 
 pub keeps-ter_tsk : (sys : SystemTables) (s : KernelState) (p me : ℕ) (t : ℤ)
-    → Keeps (Acts sys s p me) sys s (ter_tsk sys s p me t)
+    → Keeps (Acts sys s p me) p sys s (ter_tsk sys s p me t)
 keeps-ter_tsk sys s p me t = keeps-on_task sys s (by_number s t) _ (λ u o. by_block u) where
   unrun : (u : ℕ) → nat_eq u me ≡ false → (task_at s.tasks u).processor ≡ p → Acts sys s p me → Holds s
       → IsRunNowhere s.processors u
@@ -56,19 +57,23 @@ keeps-ter_tsk sys s p me t = keeps-on_task sys s (by_number s t) _ (λ u o. by_b
       let same : u ≡ me = c.caller in
       grind (arith, nat_tests, same, e)
 
-  by_block : (u : ℕ) → Keeps (Acts sys s p me) sys s (terminated sys s p me u (task_at s.tasks u))
+  by_block : (u : ℕ) → Keeps (Acts sys s p me) p sys s (terminated sys s p me u (task_at s.tasks u))
   by_block u =
       let x = task_at s.tasks u in
       keeps-refused_if sys s (nat_eq u me) er.Iluse _
       (λ e. keeps-refused_if sys s (is_dormant x.phase || not (nat_eq x.processor p)) er.Obj _
-      (λ f. keeps-succeeds sys s _ (λ k a. holds-ended sys (unchanged s) u x (unrun u e (on_processor x p f) k a) a)))
+      (λ f. keeps-succeeds sys s _ (λ k a. holds-ended sys (unchanged s) u x (unrun u e (on_processor x p f) k a) a)
+      (handlers-ended_by x.activations sys (unchanged s) u _)
+      (λ k a. lines-ended_by x.activations sys s u _ (IsOwn s p) (λ q r h. absurd (unrun u e (on_processor x p f) k a r h)))))
 
 pub keeps-ext_tsk : (sys : SystemTables) (s : KernelState) (p me : ℕ)
-    → Keeps (Acts sys s p me) sys s (record { answer = Ends; progress = ended_itself sys s p me (task_at s.tasks me) })
+    → Keeps (Acts sys s p me) p sys s (record { answer = Ends; progress = ended_itself sys s p me (task_at s.tasks me) })
 keeps-ext_tsk sys s p me =
     record {
       settles = λ k a. can_settle sys _ (holds-ended_itself sys s p me (task_at s.tasks me) k.runs a);
       spins = λ h. cc;
+      handlers = handlers-ended_itself sys s p me (task_at s.tasks me);
+      lines = λ k a. lines-ended_itself sys s p me (task_at s.tasks me) k.runs a;
     }
 
 -- a number that names the caller
@@ -120,14 +125,21 @@ assigned-settles : (b : Bool) (sys : SystemTables) (s : KernelState) (u c : ℕ)
 assigned-settles true sys s u c a h = can_settle sys s a
 assigned-settles false sys s u c a h = h
 
+handlers-assigned : (b : Bool) (s : KernelState) (u : ℕ) (x : TaskBlock) (c : ℕ)
+    → SameHandlers s (assigned_by b s u x c)
+handlers-assigned true s u x c q = refl
+handlers-assigned false s u x c q = handlers-moved (is_ready x) s u (record x { processor = c }) q
+
 pub keeps-mig_tsk : (sys : SystemTables) (s : KernelState) (p me : ℕ) (t c : ℤ) → MayLeave s p me t
-    → Keeps (Acts sys s p me) sys s (mig_tsk sys s p me t c)
+    → Keeps (Acts sys s p me) p sys s (mig_tsk sys s p me t c)
 keeps-mig_tsk sys s p me t c may =
     keeps-on_task sys s (self_or s me t) _ (λ u o. keeps-tested sys s er.Par (allowed_processor sys u c) _ (λ q. by_block u o q)) where
-      by_block : (u : ℕ) → self_or s me t ≡ Some u → (q : ℕ) → Keeps (Acts sys s p me) sys s (migrated s p u (task_at s.tasks u) q)
+      by_block : (u : ℕ) → self_or s me t ≡ Some u → (q : ℕ) → Keeps (Acts sys s p me) p sys s (migrated s p u (task_at s.tasks u) q)
       by_block u o q =
           let x = task_at s.tasks u in
           keeps-refused_if sys s (is_dormant x.phase || not (nat_eq x.processor p)) er.Obj _ (λ e. record {
             settles = λ k a. assigned-settles (nat_eq x.processor q) sys s u q a (moved-settles sys s p me u q t may o (on_processor x p e) k a (is_ready x));
             spins = λ h. cc;
+            handlers = handlers-assigned (nat_eq x.processor q) s u x q;
+            lines = λ k a. tt;
           })

@@ -1,6 +1,9 @@
 -- What a processor runs stays assigned to it when a task starts, is released, ends or is changed otherwise.
 use Rattle.std.proofs.Common.{◌≡◌, ℕ, zero, suc, Option, Some, Bool, true, false, slice_set, refl, sym, ap, ◌∙◌}
+use Rattle.std.specs.List.{AllByRecursion}
 use Rattle.fmp_base.specs.declared.calls.Reply.{Reply}
+use Rattle.fmp_base.specs.declared.events.Line.{Line}
+use Rattle.fmp_base.specs.declared.events.Line.TheVariants as line
 use Rattle.fmp_base.specs.declared.states.Phase.{Phase}
 use Rattle.fmp_base.specs.declared.states.Phase.TheVariants.{Dormant, Ready, Waiting}
 use Rattle.fmp_base.specs.declared.states.Processor.{Processor}
@@ -9,8 +12,9 @@ use Rattle.fmp_base.specs.declared.states.WaitCause.{WaitCause}
 use Rattle.fmp_base.specs.Changes.{started, started_block, released, released_state, ended, ended_by, ended_block, ended_itself, with_nothing_run, suspended, suspended_by}
 use Rattle.fmp_base.specs.States.{KernelState, Progress, unchanged, task_at, processor_at, with_processor, idle}
 use Rattle.fmp_base.specs.Systems.{SystemTables}
-use Rattle.fmp_base.specs.TaskCalls.{is_dormant}
-use Rattle.fmp_worlds.proofs.Assigned.{set_over, Runs, Assigned, Holds, IsRunNowhere, assigned-processor, assigned-alike, assigned-unrun}
+use Rattle.fmp_base.specs.TaskCalls.{is_dormant, moved_by}
+use Rattle.fmp_worlds.proofs.Assigned.{set_at, set_over, run-once, Runs, Assigned, Holds, IsRunNowhere, assigned-processor, assigned-alike, assigned-unrun}
+use Rattle.fmp_worlds.proofs.Lines.{IsOwn}
 
 -- a processor changes, and not what it runs
 pub holds-processor : (s : KernelState) (p : ℕ) (cpu : Processor) → cpu.run ≡ (processor_at s p).run → Holds s
@@ -74,3 +78,52 @@ holds-changed s t y e f a =
 pub holds-waits : (s : KernelState) (t : ℕ) (c : WaitCause) (deadline : Option ℕ) → Holds s
     → Assigned (slice_set s.tasks t (record (task_at s.tasks t) { phase = Waiting c; deadline = deadline })) s.processors
 holds-waits s t c deadline a = assigned-alike s.tasks s.processors t _ a refl (λ h. refl)
+
+-- the handlers that run on the processors stay
+abbrev pub SameHandlers : KernelState → KernelState → Type 0
+SameHandlers s u = (q : ℕ) → (processor_at u q).handler ≡ (processor_at s q).handler
+
+pub handlers-processor : (s : KernelState) (p : ℕ) (cpu : Processor) → cpu.handler ≡ (processor_at s p).handler
+    → SameHandlers s (with_processor s p cpu)
+handlers-processor s p cpu e q =
+    set_at idle (λ (c : Processor). c.handler ≡ (processor_at s q).handler) s.processors p cpu q
+    (λ same. e ∙ ap (λ (v : ℕ). (processor_at s v).handler) same) refl
+
+pub handlers-moved : (b : Bool) (s : KernelState) (t : ℕ) (y : TaskBlock) → SameHandlers s (moved_by b s t y)
+handlers-moved true s t y q = refl
+handlers-moved false s t y q = refl
+
+handlers-released_state : (b : Bool) (s : KernelState) (t : ℕ) (y : TaskBlock) → SameHandlers s (released_state b s t y)
+handlers-released_state true s t y q = refl
+handlers-released_state false s t y q = refl
+
+pub handlers-released : (g : Progress) (t : ℕ) (reply : Reply)
+    → SameHandlers g.state (released g t (task_at g.state.tasks t) reply).state
+handlers-released g t reply = handlers-released_state (task_at g.state.tasks t).suspended g.state t _
+
+pub handlers-ended_by : (n : ℕ) (sys : SystemTables) (g : Progress) (t : ℕ) (y : TaskBlock)
+    → SameHandlers g.state (ended_by n sys g t y).state
+handlers-ended_by zero sys g t y q = refl
+handlers-ended_by (suc n) sys g t y q = refl
+
+pub handlers-ended_itself : (sys : SystemTables) (s : KernelState) (p t : ℕ) (x : TaskBlock)
+    → SameHandlers s (ended_itself sys s p t x).state
+handlers-ended_itself sys s p t x q =
+    handlers-ended_by x.activations sys (unchanged (with_nothing_run s p)) t _ q ∙ handlers-processor s p _ refl q
+
+pub handlers-suspended : (phase : Phase) (s : KernelState) (t : ℕ) (y : TaskBlock)
+    → SameHandlers s (suspended_by phase s t y)
+handlers-suspended Dormant s t y q = refl
+handlers-suspended Ready s t y q = refl
+handlers-suspended (Waiting c) s t y q = refl
+
+-- an end has at most the line that its task starts
+pub lines-ended_by : (n : ℕ) (sys : SystemTables) (s : KernelState) (t : ℕ) (y : TaskBlock) (P : Line → Type 0)
+    → ((q : ℕ) → P (line.Starts q t)) → AllByRecursion P (ended_by n sys (unchanged s) t y).lines
+lines-ended_by zero sys s t y P h = tt
+lines-ended_by (suc n) sys s t y P h = (h _, tt)
+
+pub lines-ended_itself : (sys : SystemTables) (s : KernelState) (p t : ℕ) (x : TaskBlock) → Runs s.processors p t → Holds s
+    → AllByRecursion (IsOwn s p) (ended_itself sys s p t x).lines
+lines-ended_itself sys s p t x r a =
+    lines-ended_by x.activations sys (with_nothing_run s p) t _ (IsOwn s p) (λ q v h. run-once s.tasks s.processors t p v a r h)

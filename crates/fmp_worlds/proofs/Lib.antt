@@ -3,6 +3,8 @@ pub mod Bools
 pub mod CalledLemmas
 pub mod CallerLemmas
 pub mod Changes
+pub mod Going
+pub mod Lines
 pub mod ObjectCallLemmas
 pub mod Outcomes
 pub mod Pending
@@ -10,6 +12,7 @@ pub mod ProcessorCallLemmas
 pub mod QueueCallLemmas
 pub mod SettledLaws
 pub mod Settling
+pub mod StampLaws
 pub mod StepLemmas
 pub mod TaskCallLemmas
 pub mod TickLemmas

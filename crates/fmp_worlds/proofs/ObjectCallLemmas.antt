@@ -1,5 +1,7 @@
 -- The calls on semaphores, eventflags and shared words come to what every call comes to.
-use Rattle.std.proofs.Common.{ℕ, zero, suc, ℤ, pos, List, [], ◌∷◌, Option, Some, None, Bool, true, false, ◌&&◌, not, length, nat_lt, get_or, bit_or}
+use Rattle.std.proofs.Common.{ℕ, zero, suc, ℤ, pos, List, [], ◌∷◌, Option, Some, None, Bool, true, false, ◌&&◌, not, length, nat_lt, get_or, bit_or, refl, ◌∙◌}
+use Rattle.std.specs.List.{AllByRecursion}
+use Rattle.fmp_base.specs.declared.events.Line.{Line}
 use Rattle.fmp_base.specs.declared.codes.Er.TheVariants as er
 use Rattle.fmp_base.specs.declared.states.FlagMode.{FlagMode}
 use Rattle.fmp_base.specs.declared.states.TimeLimit.{TimeLimit}
@@ -13,7 +15,8 @@ use Rattle.fmp_base.specs.SemaphoreCalls as semaphores
 use Rattle.fmp_base.specs.States.{KernelState, Progress, unchanged, task_at}
 use Rattle.fmp_base.specs.Systems.{SystemTables, semaphore_config, flag_config}
 use Rattle.fmp_worlds.proofs.Assigned.{Holds}
-use Rattle.fmp_worlds.proofs.Changes.{holds-released}
+use Rattle.fmp_worlds.proofs.Changes.{SameHandlers, holds-released, handlers-released}
+use Rattle.fmp_worlds.proofs.Lines.{IsOwn, all-snoc}
 use Rattle.fmp_worlds.proofs.Outcomes.{Keeps, keeps-refused, keeps-succeeds, keeps-succeeds_in, keeps-gives, keeps-within, keeps-tested, keeps-refused_if, keeps-if}
 
 holds-walked : (satisfied clears : Bool) (f : ℕ) (g after : Progress) (rest : Progress → Progress) → Holds g.state
@@ -30,75 +33,106 @@ holds-walk clears f bits (t ∷ ts) g a =
     let x = task_at g.state.tasks t in
     holds-walked (is_satisfied x.phase bits) clears f g _ _ a (holds-released g t (given (pos bits)) a) (λ h b. holds-walk clears f bits ts h b)
 
+handlers-walked : (satisfied clears : Bool) (f : ℕ) (g after : Progress) (rest : Progress → Progress)
+    → SameHandlers g.state after.state → ((h : Progress) → SameHandlers h.state (rest h).state)
+    → SameHandlers g.state (walked satisfied clears f g after rest).state
+handlers-walked false clears f g after rest b c q = c g q
+handlers-walked true false f g after rest b c q = c after q ∙ b q
+handlers-walked true true f g after rest b c q = b q
+
+handlers-walk : (clears : Bool) (f bits : ℕ) (ts : List ℕ) (g : Progress)
+    → SameHandlers g.state (walk clears f bits ts g).state
+handlers-walk clears f bits [] g q = refl
+handlers-walk clears f bits (t ∷ ts) g q =
+    let x = task_at g.state.tasks t in
+    handlers-walked (is_satisfied x.phase bits) clears f g _ _ (handlers-released g t (given (pos bits))) (λ h. handlers-walk clears f bits ts h) q
+
+lines-walked : (P : Line → Type 0) (satisfied clears : Bool) (f : ℕ) (g after : Progress) (rest : Progress → Progress)
+    → AllByRecursion P g.lines → AllByRecursion P after.lines
+    → ((h : Progress) → AllByRecursion P h.lines → AllByRecursion P (rest h).lines)
+    → AllByRecursion P (walked satisfied clears f g after rest).lines
+lines-walked P false clears f g after rest a b c = c g a
+lines-walked P true false f g after rest a b c = c after b
+lines-walked P true true f g after rest a b c = b
+
+lines-walk : (s : KernelState) (own : ℕ) (clears : Bool) (f bits : ℕ) (ts : List ℕ) (g : Progress)
+    → AllByRecursion (IsOwn s own) g.lines → AllByRecursion (IsOwn s own) (walk clears f bits ts g).lines
+lines-walk s own clears f bits [] g a = a
+lines-walk s own clears f bits (t ∷ ts) g a =
+    let x = task_at g.state.tasks t in
+    lines-walked (IsOwn s own) (is_satisfied x.phase bits) clears f g _ _ a (all-snoc (IsOwn s own) g.lines _ a tt) (λ h b. lines-walk s own clears f bits ts h b)
+
 holds-bits_set : (sys : SystemTables) (s : KernelState) (f bits : ℕ) → Holds s → Holds (bits_set sys s f bits).state
 holds-bits_set sys s f bits a =
     holds-walk (flag_config sys f).clears f bits (wait_queue sys s (queue.Flag f)) (unchanged (with_pattern s f bits)) a
 
-module _ {K : Type 0} (sys : SystemTables) (s : KernelState) where
-  signalled_to : (o : Option ℕ) (i count : ℕ) → Keeps K sys s (semaphores.signalled_to o sys s i count)
-  signalled_to (Some t) i count = keeps-succeeds sys s _ (λ k a. holds-released (unchanged s) t (code er.Ok) a)
+module _ {K : Type 0} {own : ℕ} (sys : SystemTables) (s : KernelState) where
+  signalled_to : (o : Option ℕ) (i count : ℕ) → Keeps K own sys s (semaphores.signalled_to o sys s i count)
+  signalled_to (Some t) i count = keeps-succeeds sys s _ (λ k a. holds-released (unchanged s) t (code er.Ok) a) (handlers-released (unchanged s) t (code er.Ok)) (λ k a. (tt, tt))
   signalled_to None i count =
-      keeps-if sys s (nat_lt count (semaphore_config sys i).most) _ _ (keeps-succeeds_in sys s _ (λ a. a)) (keeps-refused sys s er.Qovr)
+      keeps-if sys s (nat_lt count (semaphore_config sys i).most) _ _ (keeps-succeeds_in sys s _ (λ a. a) (λ q. refl)) (keeps-refused sys s er.Qovr)
 
-  pub keeps-sig_sem : (i : ℤ) → Keeps K sys s (semaphores.sig_sem sys s i)
+  pub keeps-sig_sem : (i : ℤ) → Keeps K own sys s (semaphores.sig_sem sys s i)
   keeps-sig_sem i =
       keeps-tested sys s er.Id (numbered (length s.semaphores) i) _ (λ n. signalled_to (first_waiting sys s (queue.Semaphore n)) n (get_or s.semaphores n 0))
 
   acquired_by : (count me : ℕ) (limit : TimeLimit) (i : ℕ)
-      → Keeps K sys s (semaphores.acquired_by count s me (task_at s.tasks me) limit i)
+      → Keeps K own sys s (semaphores.acquired_by count s me (task_at s.tasks me) limit i)
   acquired_by zero me limit i = keeps-within sys s limit me (cause.Semaphore i)
-  acquired_by (suc n) me limit i = keeps-succeeds_in sys s _ (λ a. a)
+  acquired_by (suc n) me limit i = keeps-succeeds_in sys s _ (λ a. a) (λ q. refl)
 
   pub keeps-wai_sem : (me : ℕ) (limit : TimeLimit) (i : ℤ)
-      → Keeps K sys s (semaphores.wai_sem s me (task_at s.tasks me) limit i)
+      → Keeps K own sys s (semaphores.wai_sem s me (task_at s.tasks me) limit i)
   keeps-wai_sem me limit i =
       keeps-tested sys s er.Id (numbered (length s.semaphores) i) _ (λ n. acquired_by (get_or s.semaphores n 0) me limit n)
 
-  pub keeps-twai_sem : (me : ℕ) (i tmout : ℤ) → Keeps K sys s (semaphores.twai_sem s me (task_at s.tasks me) i tmout)
+  pub keeps-twai_sem : (me : ℕ) (i tmout : ℤ) → Keeps K own sys s (semaphores.twai_sem s me (task_at s.tasks me) i tmout)
   keeps-twai_sem me i tmout =
       keeps-tested sys s er.Id (numbered (length s.semaphores) i) _ (λ n. keeps-tested sys s er.Par (limit_of tmout) _ (λ limit. acquired_by (get_or s.semaphores n 0) me limit n))
 
-  pub keeps-ld_shr : (w : ℤ) → Keeps K sys s (semaphores.ld_shr s w)
-  keeps-ld_shr w = keeps-tested sys s er.Id (numbered (length s.shared_words) w) _ (λ n. keeps-gives sys s _ _ (λ a. a))
+  pub keeps-ld_shr : (w : ℤ) → Keeps K own sys s (semaphores.ld_shr s w)
+  keeps-ld_shr w = keeps-tested sys s er.Id (numbered (length s.shared_words) w) _ (λ n. keeps-gives sys s _ _ (λ a. a) (λ q. refl) tt)
 
-  pub keeps-st_shr : (w v : ℤ) → Keeps K sys s (semaphores.st_shr s w v)
+  pub keeps-st_shr : (w v : ℤ) → Keeps K own sys s (semaphores.st_shr s w v)
   keeps-st_shr w v =
-      keeps-tested sys s er.Id (numbered (length s.shared_words) w) _ (λ n. keeps-succeeds_in sys s _ (λ a. a))
+      keeps-tested sys s er.Id (numbered (length s.shared_words) w) _ (λ n. keeps-succeeds_in sys s _ (λ a. a) (λ q. refl))
 
-  pub keeps-set_flg : (f b : ℤ) → Keeps K sys s (flags.set_flg sys s f b)
+  pub keeps-set_flg : (f b : ℤ) → Keeps K own sys s (flags.set_flg sys s f b)
   keeps-set_flg f b =
       keeps-tested sys s er.Id (numbered (length s.flags) f) _
       (λ i. keeps-tested sys s er.Par (ranged 0 65535 b) _
-      (λ bits. keeps-succeeds sys s _ (λ k a. holds-bits_set sys s i (bit_or (pattern_at s i) bits) a)))
+      (λ bits. keeps-succeeds sys s _ (λ k a. holds-bits_set sys s i (bit_or (pattern_at s i) bits) a)
+      (λ q. handlers-walk (flag_config sys i).clears i _ (wait_queue sys s (queue.Flag i)) (unchanged (with_pattern s i _)) q)
+      (λ k a. lines-walk s own (flag_config sys i).clears i _ (wait_queue sys s (queue.Flag i)) (unchanged (with_pattern s i _)) tt)))
 
-  pub keeps-clr_flg : (f b : ℤ) → Keeps K sys s (flags.clr_flg s f b)
+  pub keeps-clr_flg : (f b : ℤ) → Keeps K own sys s (flags.clr_flg s f b)
   keeps-clr_flg f b =
-      keeps-tested sys s er.Id (numbered (length s.flags) f) _ (λ i. keeps-tested sys s er.Par (ranged 0 65535 b) _ (λ bits. keeps-succeeds_in sys s _ (λ a. a)))
+      keeps-tested sys s er.Id (numbered (length s.flags) f) _ (λ i. keeps-tested sys s er.Par (ranged 0 65535 b) _ (λ bits. keeps-succeeds_in sys s _ (λ a. a) (λ q. refl)))
 
-  obtained : (clears : Bool) (f : ℕ) → Keeps K sys s (flags.obtained clears s f)
-  obtained true f = keeps-gives sys s _ _ (λ a. a)
-  obtained false f = keeps-gives sys s _ _ (λ a. a)
+  obtained : (clears : Bool) (f : ℕ) → Keeps K own sys s (flags.obtained clears s f)
+  obtained true f = keeps-gives sys s _ _ (λ a. a) (λ q. refl) tt
+  obtained false f = keeps-gives sys s _ _ (λ a. a) (λ q. refl) tt
 
   awaited_by : (b : Bool) (me : ℕ) (limit : TimeLimit) (f pattern : ℕ) (m : FlagMode)
-      → Keeps K sys s (flags.awaited_by b sys s me (task_at s.tasks me) limit f pattern m)
+      → Keeps K own sys s (flags.awaited_by b sys s me (task_at s.tasks me) limit f pattern m)
   awaited_by true me limit f pattern m = obtained (flag_config sys f).clears f
   awaited_by false me limit f pattern m = keeps-within sys s limit me (cause.Flag f pattern m)
 
   awaited : (me f pattern : ℕ) (m : FlagMode) (limit : TimeLimit)
-      → Keeps K sys s (flags.awaited sys s me (task_at s.tasks me) f pattern m limit)
+      → Keeps K own sys s (flags.awaited sys s me (task_at s.tasks me) f pattern m limit)
   awaited me f pattern m limit =
       keeps-refused_if sys s (not (flag_config sys f).multiple && not (is_empty (wait_queue sys s (queue.Flag f)))) er.Iluse _
       (λ e. awaited_by (satisfies m pattern (pattern_at s f)) me limit f pattern m)
 
-  flag_tested : (f b o : ℤ) (go : ℕ → ℕ → FlagMode → Outcome) → ((i bits : ℕ) (m : FlagMode) → Keeps K sys s (go i bits m))
-      → Keeps K sys s (flags.flag_tested s f b o go)
+  flag_tested : (f b o : ℤ) (go : ℕ → ℕ → FlagMode → Outcome) → ((i bits : ℕ) (m : FlagMode) → Keeps K own sys s (go i bits m))
+      → Keeps K own sys s (flags.flag_tested s f b o go)
   flag_tested f b o go h =
       keeps-tested sys s er.Id (numbered (length s.flags) f) _ (λ i. keeps-tested sys s er.Par (ranged 1 65535 b) _ (λ bits. keeps-tested sys s er.Par (mode_of o) _ (λ m. h i bits m)))
 
   pub keeps-wai_flg : (me : ℕ) (limit : TimeLimit) (f b o : ℤ)
-      → Keeps K sys s (flags.wai_flg sys s me (task_at s.tasks me) limit f b o)
+      → Keeps K own sys s (flags.wai_flg sys s me (task_at s.tasks me) limit f b o)
   keeps-wai_flg me limit f b o = flag_tested f b o _ (λ i bits m. awaited me i bits m limit)
 
-  pub keeps-twai_flg : (me : ℕ) (f b o tmout : ℤ) → Keeps K sys s (flags.twai_flg sys s me (task_at s.tasks me) f b o tmout)
+  pub keeps-twai_flg : (me : ℕ) (f b o tmout : ℤ) → Keeps K own sys s (flags.twai_flg sys s me (task_at s.tasks me) f b o tmout)
   keeps-twai_flg me f b o tmout =
       flag_tested f b o _ (λ i bits m. keeps-tested sys s er.Par (limit_of tmout) _ (λ limit. awaited me i bits m limit))

@@ -38,7 +38,7 @@ LeavesSettled sys Nothing = Unit {0}
 LeavesSettled sys (Did d) = IsSettled sys d.world.state
 
 -- who is the actor of processor p in a settled state
-abbrev IsActor : SystemTables → KernelState → ℕ → Caller → Type 0
+abbrev pub IsActor : SystemTables → KernelState → ℕ → Caller → Type 0
 IsActor sys s p (caller.Task t) = Acts sys s p t
 IsActor sys s p (caller.Handler i) = Unit {0}
 
@@ -65,7 +65,7 @@ answered-settled Waits sys M cs p who c g h = finished-settled sys M cs (line.Ca
 answered-settled Ends sys M cs p who c g h = finished-settled sys M cs (line.End p who ∷ []) g h
 answered-settled Spins sys M cs p who c g h = tt
 
-stretched-settled : {C : Type 0} (sys : SystemTables) (M : Meaning C) (w : World C) (p : ℕ) (who : Caller) (x : Ending C)
+pub stretched-settled : {C : Type 0} (sys : SystemTables) (M : Meaning C) (w : World C) (p : ℕ) (who : Caller) (x : Ending C)
     → IsActor sys w.state p who → Holds w.state → LeavesSettled sys (stretched sys M w p who x)
 stretched-settled sys M w p who (ends.Call c made) k a =
     answered-settled (called sys w.state p who made).answer sys M _ p who made (called sys w.state p who made).progress (called-can_settle sys w.state p who made k a)
@@ -81,7 +81,7 @@ run_in-settled sys M n w p who None k a = tt
 run_in-settled sys M n w p who (Some (Awaits c)) k a = tt
 run_in-settled sys M n w p who (Some (Goes c)) k a = stretched-settled sys M w p who _ k a
 
-acts : (sys : SystemTables) (s : KernelState) (p t : ℕ) → IsSettled sys s → (processor_at s p).handler ≡ None
+pub acts : (sys : SystemTables) (s : KernelState) (p t : ℕ) → IsSettled sys s → (processor_at s p).handler ≡ None
     → (processor_at s p).run ≡ Some t → Acts sys s p t
 acts sys s p t h e r =
     record { runs = r; unhandled = e; nothing = λ l. h.begun p (runs-within s.processors p t r) e l }

@@ -14,7 +14,7 @@ use Rattle.fmp_base.specs.Systems.{SystemTables}
 use Rattle.fmp_base.specs.TaskCalls as calls
 use Rattle.fmp_base.specs.TaskCalls.{self_or, by_number, is_dormant, goes_last, moved_by, or_if_zero, allowed_processor, rotated}
 use Rattle.fmp_worlds.proofs.Assigned.{Assigned, Holds, IsRunNowhere, dormant-unrun}
-use Rattle.fmp_worlds.proofs.Changes.{holds-started, holds-released, holds-suspended, holds-changed}
+use Rattle.fmp_worlds.proofs.Changes.{SameHandlers, handlers-moved, holds-started, holds-released, holds-suspended, holds-changed, handlers-released, handlers-suspended}
 use Rattle.fmp_worlds.proofs.Outcomes.{Keeps, keeps-refused, keeps-succeeds, keeps-succeeds_in, keeps-gives, keeps-waits, keeps-within, keeps-tested, keeps-refused_if, keeps-on_task, keeps-if}
 
 -- where its phase says so, the task is run nowhere
@@ -36,123 +36,138 @@ holds-rotated : (s : KernelState) (o : Option ℕ) → Holds s → Holds (rotate
 holds-rotated s None a = a
 holds-rotated s (Some t) a = holds-changed s t (task_at s.tasks t) refl refl a
 
-module _ {K : Type 0} (sys : SystemTables) (s : KernelState) where
-  queued : (t : ℕ) → Keeps K sys s (calls.activation_queued sys s t (task_at s.tasks t))
+handlers-resumed : (phase : Phase) (s : KernelState) (t : ℕ) (y : TaskBlock)
+    → SameHandlers s (calls.resumed_by phase s t y)
+handlers-resumed Dormant s t y q = refl
+handlers-resumed Ready s t y q = refl
+handlers-resumed (Waiting c) s t y q = refl
+
+handlers-rotated : (s : KernelState) (o : Option ℕ) → SameHandlers s (rotated s o)
+handlers-rotated s None q = refl
+handlers-rotated s (Some t) q = refl
+
+module _ {K : Type 0} {own : ℕ} (sys : SystemTables) (s : KernelState) where
+  queued : (t : ℕ) → Keeps K own sys s (calls.activation_queued sys s t (task_at s.tasks t))
   queued t =
       keeps-if sys s (nat_lt (task_at s.tasks t).activations sys.queue_limit) _ _
-      (keeps-succeeds_in sys s _ (λ a. holds-changed s t _ refl refl a)) (keeps-refused sys s er.Qovr)
+      (keeps-succeeds_in sys s _ (λ a. holds-changed s t _ refl refl a) (λ q. refl)) (keeps-refused sys s er.Qovr)
 
   activated_by : (phase : Phase) (t : ℕ) → phase ≡ (task_at s.tasks t).phase
-      → Keeps K sys s (calls.activated_by phase sys s t (task_at s.tasks t))
+      → Keeps K own sys s (calls.activated_by phase sys s t (task_at s.tasks t))
   activated_by Dormant t e =
-      keeps-succeeds sys s _ (λ k a. holds-started sys (unchanged s) t (task_at s.tasks t) (dormant s t e a) a)
+      keeps-succeeds sys s _ (λ k a. holds-started sys (unchanged s) t (task_at s.tasks t) (dormant s t e a) a) (λ q. refl)
+      (λ k a. ((λ q r. absurd (dormant s t e a q r)), tt))
   activated_by Ready t e = queued t
   activated_by (Waiting c) t e = queued t
 
-  pub keeps-act_tsk : (me : ℕ) (t : ℤ) → Keeps K sys s (calls.act_tsk sys s me t)
+  pub keeps-act_tsk : (me : ℕ) (t : ℤ) → Keeps K own sys s (calls.act_tsk sys s me t)
   keeps-act_tsk me t =
       keeps-on_task sys s (self_or s me t) _ (λ u o. activated_by (task_at s.tasks u).phase u refl)
 
-  pub keeps-iact_tsk : (t : ℤ) → Keeps K sys s (calls.iact_tsk sys s t)
+  pub keeps-iact_tsk : (t : ℤ) → Keeps K own sys s (calls.iact_tsk sys s t)
   keeps-iact_tsk t = keeps-on_task sys s (by_number s t) _ (λ u o. activated_by (task_at s.tasks u).phase u refl)
 
-  pub keeps-can_act : (me : ℕ) (t : ℤ) → Keeps K sys s (calls.can_act s me t)
+  pub keeps-can_act : (me : ℕ) (t : ℤ) → Keeps K own sys s (calls.can_act s me t)
   keeps-can_act me t =
-      keeps-on_task sys s (self_or s me t) _ (λ u o. keeps-gives sys s _ _ (λ a. holds-changed s u _ refl refl a))
+      keeps-on_task sys s (self_or s me t) _ (λ u o. keeps-gives sys s _ _ (λ a. holds-changed s u _ refl refl a) (λ q. refl) tt)
 
-  pub keeps-chg_pri : (me : ℕ) (t priority : ℤ) → Keeps K sys s (calls.chg_pri sys s me t priority)
+  pub keeps-chg_pri : (me : ℕ) (t priority : ℤ) → Keeps K own sys s (calls.chg_pri sys s me t priority)
   keeps-chg_pri me t priority =
       keeps-on_task sys s (self_or s me t) _ (λ u o. keeps-tested sys s er.Par (ranged 0 16 priority) _ (λ n. by_block u n)) where
-        by_block : (u n : ℕ) → Keeps K sys s (calls.priority_changed sys s u (task_at s.tasks u) n)
+        by_block : (u n : ℕ) → Keeps K own sys s (calls.priority_changed sys s u (task_at s.tasks u) n)
         by_block u n =
             let x = task_at s.tasks u in
-            keeps-refused_if sys s (is_dormant x.phase) er.Obj _ (λ e. keeps-succeeds_in sys s _ (λ a. moved (goes_last sys x) s u _ (holds-changed s u _ refl refl a)))
+            keeps-refused_if sys s (is_dormant x.phase) er.Obj _
+            (λ e. keeps-succeeds_in sys s _ (λ a. moved (goes_last sys x) s u _ (holds-changed s u _ refl refl a)) (handlers-moved (goes_last sys x) s u _))
 
-  pub keeps-get_pri : (me : ℕ) (t : ℤ) → Keeps K sys s (calls.get_pri s me t)
+  pub keeps-get_pri : (me : ℕ) (t : ℤ) → Keeps K own sys s (calls.get_pri s me t)
   keeps-get_pri me t =
-      keeps-on_task sys s (self_or s me t) _ (λ u o. keeps-refused_if sys s (is_dormant (task_at s.tasks u).phase) er.Obj _ (λ e. keeps-gives sys s _ _ (λ a. a)))
+      keeps-on_task sys s (self_or s me t) _ (λ u o. keeps-refused_if sys s (is_dormant (task_at s.tasks u).phase) er.Obj _ (λ e. keeps-gives sys s _ _ (λ a. a) (λ q. refl) tt))
 
-  queued_on : (t c : ℕ) → Keeps K sys s (calls.activation_queued_on sys s t (task_at s.tasks t) c)
+  queued_on : (t c : ℕ) → Keeps K own sys s (calls.activation_queued_on sys s t (task_at s.tasks t) c)
   queued_on t c =
       keeps-if sys s (nat_lt (task_at s.tasks t).activations sys.queue_limit) _ _
-      (keeps-succeeds_in sys s _ (λ a. holds-changed s t _ refl refl a)) (keeps-refused sys s er.Qovr)
+      (keeps-succeeds_in sys s _ (λ a. holds-changed s t _ refl refl a) (λ q. refl)) (keeps-refused sys s er.Qovr)
 
   activated_on_by : (phase : Phase) (t c : ℕ) → phase ≡ (task_at s.tasks t).phase
-      → Keeps K sys s (calls.activated_on_by phase sys s t (task_at s.tasks t) c)
+      → Keeps K own sys s (calls.activated_on_by phase sys s t (task_at s.tasks t) c)
   activated_on_by Dormant t c e =
-      keeps-succeeds sys s _ (λ k a. holds-started sys (unchanged s) t (record (task_at s.tasks t) { processor = c }) (dormant s t e a) a)
+      keeps-succeeds sys s _ (λ k a. holds-started sys (unchanged s) t (record (task_at s.tasks t) { processor = c }) (dormant s t e a) a) (λ q. refl)
+      (λ k a. ((λ q r. absurd (dormant s t e a q r)), tt))
   activated_on_by Ready t c e = queued_on t c
   activated_on_by (Waiting w) t c e = queued_on t c
 
-  pub keeps-mact_tsk : (me : ℕ) (t c : ℤ) → Keeps K sys s (calls.mact_tsk sys s me t c)
+  pub keeps-mact_tsk : (me : ℕ) (t c : ℤ) → Keeps K own sys s (calls.mact_tsk sys s me t c)
   keeps-mact_tsk me t c =
       keeps-on_task sys s (self_or s me t) _ (λ u o. keeps-tested sys s er.Par (allowed_processor sys u c) _ (λ q. activated_on_by (task_at s.tasks u).phase u q refl))
 
-  slept_by : (n me : ℕ) (limit : TimeLimit) → Keeps K sys s (calls.slept_by n s me (task_at s.tasks me) limit)
+  slept_by : (n me : ℕ) (limit : TimeLimit) → Keeps K own sys s (calls.slept_by n s me (task_at s.tasks me) limit)
   slept_by zero me limit = keeps-within sys s limit me cause.Sleep
-  slept_by (suc n) me limit = keeps-succeeds_in sys s _ (λ a. holds-changed s me _ refl refl a)
+  slept_by (suc n) me limit = keeps-succeeds_in sys s _ (λ a. holds-changed s me _ refl refl a) (λ q. refl)
 
-  pub keeps-slp_tsk : (me : ℕ) (limit : TimeLimit) → Keeps K sys s (calls.slp_tsk s me (task_at s.tasks me) limit)
+  pub keeps-slp_tsk : (me : ℕ) (limit : TimeLimit) → Keeps K own sys s (calls.slp_tsk s me (task_at s.tasks me) limit)
   keeps-slp_tsk me limit = slept_by (task_at s.tasks me).wakeups me limit
 
-  pub keeps-tslp_tsk : (me : ℕ) (tmout : ℤ) → Keeps K sys s (calls.tslp_tsk s me (task_at s.tasks me) tmout)
+  pub keeps-tslp_tsk : (me : ℕ) (tmout : ℤ) → Keeps K own sys s (calls.tslp_tsk s me (task_at s.tasks me) tmout)
   keeps-tslp_tsk me tmout = keeps-tested sys s er.Par (limit_of tmout) _ (λ limit. keeps-slp_tsk me limit)
 
-  wakeup_queued : (t : ℕ) → Keeps K sys s (calls.wakeup_queued sys s t (task_at s.tasks t))
+  wakeup_queued : (t : ℕ) → Keeps K own sys s (calls.wakeup_queued sys s t (task_at s.tasks t))
   wakeup_queued t =
       keeps-if sys s (nat_lt (task_at s.tasks t).wakeups sys.queue_limit) _ _
-      (keeps-succeeds_in sys s _ (λ a. holds-changed s t _ refl refl a)) (keeps-refused sys s er.Qovr)
+      (keeps-succeeds_in sys s _ (λ a. holds-changed s t _ refl refl a) (λ q. refl)) (keeps-refused sys s er.Qovr)
 
-  woken_from : (c : WaitCause) (t : ℕ) → Keeps K sys s (calls.woken_from c sys s t (task_at s.tasks t))
-  woken_from cause.Sleep t = keeps-succeeds sys s _ (λ k a. holds-released (unchanged s) t (code er.Ok) a)
+  woken_from : (c : WaitCause) (t : ℕ) → Keeps K own sys s (calls.woken_from c sys s t (task_at s.tasks t))
+  woken_from cause.Sleep t = keeps-succeeds sys s _ (λ k a. holds-released (unchanged s) t (code er.Ok) a) (handlers-released (unchanged s) t (code er.Ok)) (λ k a. (tt, tt))
   woken_from _ t = wakeup_queued t
 
-  woken_by : (phase : Phase) (t : ℕ) → Keeps K sys s (calls.woken_by phase sys s t (task_at s.tasks t))
+  woken_by : (phase : Phase) (t : ℕ) → Keeps K own sys s (calls.woken_by phase sys s t (task_at s.tasks t))
   woken_by Dormant t = keeps-refused sys s er.Obj
   woken_by Ready t = wakeup_queued t
   woken_by (Waiting c) t = woken_from c t
 
-  pub keeps-wup_tsk : (me : ℕ) (t : ℤ) → Keeps K sys s (calls.wup_tsk sys s me t)
+  pub keeps-wup_tsk : (me : ℕ) (t : ℤ) → Keeps K own sys s (calls.wup_tsk sys s me t)
   keeps-wup_tsk me t = keeps-on_task sys s (self_or s me t) _ (λ u o. woken_by (task_at s.tasks u).phase u)
 
-  pub keeps-iwup_tsk : (t : ℤ) → Keeps K sys s (calls.iwup_tsk sys s t)
+  pub keeps-iwup_tsk : (t : ℤ) → Keeps K own sys s (calls.iwup_tsk sys s t)
   keeps-iwup_tsk t = keeps-on_task sys s (by_number s t) _ (λ u o. woken_by (task_at s.tasks u).phase u)
 
-  pub keeps-can_wup : (me : ℕ) (t : ℤ) → Keeps K sys s (calls.can_wup s me t)
+  pub keeps-can_wup : (me : ℕ) (t : ℤ) → Keeps K own sys s (calls.can_wup s me t)
   keeps-can_wup me t =
-      keeps-on_task sys s (self_or s me t) _ (λ u o. keeps-refused_if sys s (is_dormant (task_at s.tasks u).phase) er.Obj _ (λ e. keeps-gives sys s _ _ (λ a. holds-changed s u _ refl refl a)))
+      keeps-on_task sys s (self_or s me t) _ (λ u o. keeps-refused_if sys s (is_dormant (task_at s.tasks u).phase) er.Obj _
+      (λ e. keeps-gives sys s _ _ (λ a. holds-changed s u _ refl refl a) (λ q. refl) tt))
 
-  released_by : (phase : Phase) (t : ℕ) → Keeps K sys s (calls.released_by phase s t (task_at s.tasks t))
+  released_by : (phase : Phase) (t : ℕ) → Keeps K own sys s (calls.released_by phase s t (task_at s.tasks t))
   released_by Dormant t = keeps-refused sys s er.Obj
   released_by Ready t = keeps-refused sys s er.Obj
-  released_by (Waiting c) t = keeps-succeeds sys s _ (λ k a. holds-released (unchanged s) t (code er.Rlwai) a)
+  released_by (Waiting c) t = keeps-succeeds sys s _ (λ k a. holds-released (unchanged s) t (code er.Rlwai) a) (handlers-released (unchanged s) t (code er.Rlwai)) (λ k a. (tt, tt))
 
-  pub keeps-rel_wai : (t : ℤ) → Keeps K sys s (calls.rel_wai s t)
+  pub keeps-rel_wai : (t : ℤ) → Keeps K own sys s (calls.rel_wai s t)
   keeps-rel_wai t = keeps-on_task sys s (by_number s t) _ (λ u o. released_by (task_at s.tasks u).phase u)
 
-  pub keeps-sus_tsk : (me : ℕ) (t : ℤ) → Keeps K sys s (calls.sus_tsk s me t)
+  pub keeps-sus_tsk : (me : ℕ) (t : ℤ) → Keeps K own sys s (calls.sus_tsk s me t)
   keeps-sus_tsk me t =
       keeps-on_task sys s (self_or s me t) _
       (λ u o. keeps-refused_if sys s (is_dormant (task_at s.tasks u).phase) er.Obj _
       (λ e. keeps-refused_if sys s (task_at s.tasks u).suspended er.Qovr _
-      (λ f. keeps-succeeds_in sys s _ (λ a. holds-suspended s u a))))
+      (λ f. keeps-succeeds_in sys s _ (λ a. holds-suspended s u a) (handlers-suspended (task_at s.tasks u).phase s u _))))
 
-  pub keeps-rsm_tsk : (t : ℤ) → Keeps K sys s (calls.rsm_tsk s t)
+  pub keeps-rsm_tsk : (t : ℤ) → Keeps K own sys s (calls.rsm_tsk s t)
   keeps-rsm_tsk t =
       keeps-on_task sys s (by_number s t) _
       (λ u o. keeps-refused_if sys s (not (task_at s.tasks u).suspended) er.Obj _
-      (λ e. keeps-succeeds_in sys s _ (λ a. resumed (task_at s.tasks u).phase s u _ (holds-changed s u _ refl refl a))))
+      (λ e. keeps-succeeds_in sys s _ (λ a. resumed (task_at s.tasks u).phase s u _ (holds-changed s u _ refl refl a)) (handlers-resumed (task_at s.tasks u).phase s u _)))
 
-  pub keeps-dly_tsk : (me : ℕ) (d : ℤ) → Keeps K sys s (calls.dly_tsk s me (task_at s.tasks me) d)
+  pub keeps-dly_tsk : (me : ℕ) (d : ℤ) → Keeps K own sys s (calls.dly_tsk s me (task_at s.tasks me) d)
   keeps-dly_tsk me d = keeps-tested sys s er.Par (ranged 0 (2 ^ 30) d) _ (λ n. keeps-waits sys s me cause.Delay _)
 
-  pub keeps-rot_rdq : (p : ℕ) (x : TaskBlock) (priority : ℤ) → Keeps K sys s (calls.rot_rdq s p x priority)
+  pub keeps-rot_rdq : (p : ℕ) (x : TaskBlock) (priority : ℤ) → Keeps K own sys s (calls.rot_rdq s p x priority)
   keeps-rot_rdq p x priority =
-      keeps-tested sys s er.Par (ranged 0 16 priority) _ (λ n. keeps-succeeds_in sys s _ (λ a. holds-rotated s (first_ready s p (or_if_zero x.priority n)) a))
+      keeps-tested sys s er.Par (ranged 0 16 priority) _
+      (λ n. keeps-succeeds_in sys s _ (λ a. holds-rotated s (first_ready s p (or_if_zero x.priority n)) a) (handlers-rotated s (first_ready s p (or_if_zero x.priority n))))
 
-  pub keeps-irot_rdq : (p : ℕ) (priority : ℤ) → Keeps K sys s (calls.irot_rdq s p priority)
+  pub keeps-irot_rdq : (p : ℕ) (priority : ℤ) → Keeps K own sys s (calls.irot_rdq s p priority)
   keeps-irot_rdq p priority =
-      keeps-tested sys s er.Par (ranged 1 16 priority) _ (λ n. keeps-succeeds_in sys s _ (λ a. holds-rotated s (first_ready s p n) a))
+      keeps-tested sys s er.Par (ranged 1 16 priority) _ (λ n. keeps-succeeds_in sys s _ (λ a. holds-rotated s (first_ready s p n) a) (handlers-rotated s (first_ready s p n)))
 
-  pub keeps-get_tid : (me : ℕ) → Keeps K sys s (calls.get_tid s me)
-  keeps-get_tid me = keeps-gives sys s _ _ (λ a. a)
+  pub keeps-get_tid : (me : ℕ) → Keeps K own sys s (calls.get_tid s me)
+  keeps-get_tid me = keeps-gives sys s _ _ (λ a. a) (λ q. refl) tt

@@ -1,12 +1,14 @@
 -- What a processor runs stays assigned to it when the clock advances, and when tasks start at setup.
-use Rattle.std.proofs.Common.{ℕ, zero, suc, List, [], ◌∷◌, Bool, true, false, length, replicate}
+use Rattle.std.proofs.Common.{ℕ, zero, suc, List, [], ◌∷◌, Bool, true, false, length, replicate, refl, ◌∙◌}
+use Rattle.std.specs.List.{AllByRecursion}
 use Rattle.fmp_base.specs.Outcomes.{code}
 use Rattle.fmp_base.specs.Setups.{all_started, started_if, created_state}
 use Rattle.fmp_base.specs.States.{KernelState, Progress, unchanged, task_at, idle, places_from}
 use Rattle.fmp_base.specs.Systems.{SystemTables, task_config}
 use Rattle.fmp_base.specs.Ticks.{timeout_code, is_due, timed_out, timed_out_by, all_timed_out, is_pending, pended_by, cycled, cycled_by, all_cycled, ticked, with_clock_advanced}
 use Rattle.fmp_worlds.proofs.Assigned.{Runs, Holds}
-use Rattle.fmp_worlds.proofs.Changes.{holds-released}
+use Rattle.fmp_worlds.proofs.Changes.{SameHandlers, holds-released, handlers-released}
+use Rattle.fmp_worlds.proofs.Lines.{IsOwn, all-snoc}
 
 timed_out_from : (b : Bool) (g : Progress) (t : ℕ) → Holds g.state
     → Holds (timed_out_by b g t (task_at g.state.tasks t)).state
@@ -35,6 +37,56 @@ holds-all_cycled sys g (c ∷ cs) a = holds-all_cycled sys (cycled sys g c) cs (
 pub holds-ticked : (sys : SystemTables) (s : KernelState) → Holds s → Holds (ticked sys s).state
 holds-ticked sys s a =
     holds-all_cycled sys _ (places_from 0 (length s.due_times)) (holds-all_timed_out (unchanged (with_clock_advanced s)) (places_from 0 (length s.tasks)) a)
+
+-- the clock begins and ends no handler, and starts no task
+record Clocked (s : KernelState) (own : ℕ) (g : Progress) : Type 0 where
+  handlers : SameHandlers s g.state
+  lines : AllByRecursion (IsOwn s own) g.lines
+
+clocked-timed_out : (b : Bool) (s : KernelState) (own : ℕ) (g : Progress) (t : ℕ) → Clocked s own g
+    → Clocked s own (timed_out_by b g t (task_at g.state.tasks t))
+clocked-timed_out true s own g t c = record {
+  handlers = λ q. handlers-released g t (code (timeout_code (task_at g.state.tasks t).phase)) q ∙ c.handlers q;
+  lines = all-snoc (IsOwn s own) g.lines _ c.lines tt;
+}
+clocked-timed_out false s own g t c = c
+
+clocked-all_timed_out : (s : KernelState) (own : ℕ) (g : Progress) (ts : List ℕ) → Clocked s own g
+    → Clocked s own (all_timed_out g ts)
+clocked-all_timed_out s own g [] c = c
+clocked-all_timed_out s own g (t ∷ ts) c =
+    let x = task_at g.state.tasks t in
+    clocked-all_timed_out s own (timed_out g t x) ts (clocked-timed_out (is_due g.state.clock x.deadline) s own g t c)
+
+clocked-pended : (b : Bool) (sys : SystemTables) (s : KernelState) (own : ℕ) (g : Progress) (i : ℕ) → Clocked s own g
+    → Clocked s own (pended_by b sys g i)
+clocked-pended true sys s own g i c = c
+clocked-pended false sys s own g i c =
+    record { handlers = c.handlers; lines = all-snoc (IsOwn s own) g.lines _ c.lines tt }
+
+clocked-cycled : (b : Bool) (sys : SystemTables) (s : KernelState) (own : ℕ) (g : Progress) (i : ℕ) → Clocked s own g
+    → Clocked s own (cycled_by b sys g i)
+clocked-cycled true sys s own g i c =
+    let d = clocked-pended (is_pending g.state.pending_cyclics i) sys s own g i c in
+    record { handlers = d.handlers; lines = d.lines }
+clocked-cycled false sys s own g i c = c
+
+clocked-all_cycled : (sys : SystemTables) (s : KernelState) (own : ℕ) (g : Progress) (is : List ℕ) → Clocked s own g
+    → Clocked s own (all_cycled sys g is)
+clocked-all_cycled sys s own g [] c = c
+clocked-all_cycled sys s own g (i ∷ is) c =
+    clocked-all_cycled sys s own (cycled sys g i) is (clocked-cycled _ sys s own g i c)
+
+clocked-ticked : (sys : SystemTables) (s : KernelState) (own : ℕ) → Clocked s own (ticked sys s)
+clocked-ticked sys s own =
+    clocked-all_cycled sys s own _ (places_from 0 (length s.due_times))
+    (clocked-all_timed_out s own (unchanged (with_clock_advanced s)) (places_from 0 (length s.tasks)) (record { handlers = λ q. refl; lines = tt }))
+
+pub handlers-ticked : (sys : SystemTables) (s : KernelState) → SameHandlers s (ticked sys s).state
+handlers-ticked sys s = let c = clocked-ticked sys s 0 in c.handlers
+
+pub lines-ticked : (sys : SystemTables) (s : KernelState) (own : ℕ) → AllByRecursion (IsOwn s own) (ticked sys s).lines
+lines-ticked sys s own = let c = clocked-ticked sys s own in c.lines
 
 -- no processor runs a task
 abbrev RunsNothing : KernelState → Type 0

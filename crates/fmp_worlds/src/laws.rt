@@ -1,8 +1,9 @@
 //! The laws, each the contract of a function that does nothing. `C` is the type of the contexts of bodies.
-ghost use Rattle.std.specs.Prelude.{◌≡◌, ℕ, List};
+ghost use Rattle.std.specs.Prelude.{◌≡◌, ◌≤◌, ◌+◌, ◌++◌, ℕ, List, Some};
 ghost use Rattle.fmp_base.specs.declared.calls.Answer.TheVariants.{Spins};
 ghost use Rattle.fmp_base.specs.declared.calls.Call.{Call};
 ghost use Rattle.fmp_base.specs.declared.events.Event.{Event};
+ghost use Rattle.fmp_base.specs.declared.events.Event.TheVariants.{Run};
 ghost use Rattle.fmp_base.specs.declared.states.Caller.{Caller};
 ghost use Rattle.fmp_base.specs.Calls.{called};
 ghost use Rattle.fmp_base.specs.Meanings.{Meaning, World};
@@ -10,8 +11,10 @@ ghost use Rattle.fmp_base.specs.Runs.{run};
 ghost use Rattle.fmp_base.specs.Setups.{setup};
 ghost use Rattle.fmp_base.specs.States.{KernelState, unchanged};
 ghost use Rattle.fmp_base.specs.Steps.{Done, Did, step};
+ghost use Rattle.fmp_base.specs.Stretches.{Ending};
 ghost use Rattle.fmp_base.specs.Systems.{SystemTables};
 ghost use Rattle.fmp_worlds.specs.Settled.{RunOnce, IsSettled};
+ghost use Rattle.fmp_worlds.specs.Stamps.{EndsSo, Going, actor_at, applied, stamp};
 
 /// Setup leaves a settled state, and so does each event that does something in one.
 pub fn worlds_are_settled<C>()
@@ -35,4 +38,21 @@ pub fn tasks_run_once<C>()
 pub fn spinning_changes_nothing()
     ensures { (sys : SystemTables) (s : KernelState) (p : ℕ) (who : Caller) (c : Call) →
         (called sys s p who c).answer ≡ Spins → (called sys s p who c).progress ≡ unchanged s }
+{}
+
+/// Along one run after setup the stamp of a processor never falls, and equal stamps mean the same actor in the same
+/// context.
+pub fn equal_stamps_mean_the_same_actor<C>()
+    ensures never_falls { (sys : SystemTables) (M : Meaning C) (n : ℕ) (es fs : List Event) (p : ℕ) →
+        stamp sys M n (setup sys M).world es p ≤ stamp sys M n (setup sys M).world (es ++ fs) p }
+    ensures same { (sys : SystemTables) (M : Meaning C) (n : ℕ) (es fs : List Event) (p : ℕ) (a : Going C) →
+        actor_at sys (run sys M n (setup sys M).world es).world p ≡ Some a →
+        stamp sys M n (setup sys M).world (es ++ fs) p ≡ stamp sys M n (setup sys M).world es p →
+        actor_at sys (run sys M n (setup sys M).world (es ++ fs)).world p ≡ Some a }
+{}
+
+/// To hand in the stretch that a processor's actor makes is to run the processor.
+pub fn applying_is_running<C>()
+    ensures { (sys : SystemTables) (M : Meaning C) (n : ℕ) (w : World C) (p : ℕ) (x : Ending C) →
+        EndsSo M n x (actor_at sys w p) → applied sys M w (p + 1) x ≡ step sys M n w (Run (p + 1)) }
 {}
