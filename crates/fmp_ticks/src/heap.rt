@@ -1,7 +1,7 @@
 //! A heap of the tasks that have deadlines.
 ghost use Rattle.std.specs.Prelude.{◌≡◌, ◌+◌, ◌<◌, ◌≤◌, ◌*◌, length, nat_lt, Some, None, slice_index, slice_index_or};
 ghost use Rattle.fmp_base.specs.Links.{AddsAtMost};
-ghost use Rattle.fmp_ticks.specs.Ranks.{rank, rank_at, IsHeap, IsOpenAt, IsHeapAbove, IsFirstChild};
+ghost use Rattle.fmp_ticks.specs.Ranks.{rank, rank_at, IsHeap, IsOpenAt, IsHeapBelow, IsFirstChild};
 
 use crate::places::Places;
 use fmp_base::Steps;
@@ -61,33 +61,10 @@ fn slot_is_before(
     is_before(a, b, steps)
 }
 
-/// The task at a slot rises past those that it is before. The slot where it rests.
-fn rise(places: &mut Places, deadlines: &[Option<u32>], from: usize, steps: &mut Steps) -> usize
-    requires long { length deadlines.now ≡ length places.old.tasks }
-    requires open { IsOpenAt (rank_at deadlines.now places.old.tasks) places.old.count (length deadlines.now) from }
-    requires inside { 1 ≤ rank_at deadlines.now places.old.tasks from }
-    requires few { length deadlines.now ≤ 255 }
-    ensures count { places.new.count ≡ places.old.count }
-    ensures long { length places.new.tasks ≡ length places.old.tasks }
-    ensures rests { IsHeapAbove (rank_at deadlines.now places.new.tasks) places.new.count (length deadlines.now) result }
-    ensures steps { AddsAtMost 7 steps.old steps.new }
-{
-    let mut slot = from;
-    while slot > 0 {
-        let parent = (slot - 1) / 2;
-        if !slot_is_before(places, deadlines, slot, parent, steps) {
-            return slot;
-        }
-        places.exchange(parent, slot);
-        slot = parent;
-    }
-    slot
-}
-
 /// Of the children of a slot that has one, the one whose task is first.
 fn first_child(places: &Places, deadlines: &[Option<u32>], slot: usize, steps: &mut Steps) -> usize
     requires long { length deadlines.now ≡ length places.now.tasks }
-    requires above { IsHeapAbove (rank_at deadlines.now places.now.tasks) places.now.count (length deadlines.now) slot }
+    requires open { IsOpenAt (rank_at deadlines.now places.now.tasks) places.now.count (length deadlines.now) slot }
     requires parent { slot * 2 + 1 < places.now.count }
     ensures first { IsFirstChild (rank_at deadlines.now places.now.tasks) places.now.count slot result }
     ensures steps { AddsAtMost 1 steps.old steps.new }
@@ -101,28 +78,53 @@ fn first_child(places: &Places, deadlines: &[Option<u32>], slot: usize, steps: &
     }
 }
 
-/// The task at a slot sinks past those that are before it.
-fn sink(places: &mut Places, deadlines: &[Option<u32>], from: usize, steps: &mut Steps)
+/// The task at a slot goes down to a slot that has no children, past the first of them at each level, whatever its own
+/// deadline is. The slot where it ends.
+fn descend(places: &mut Places, deadlines: &[Option<u32>], from: usize, steps: &mut Steps) -> usize
     requires long { length deadlines.now ≡ length places.old.tasks }
-    requires above { IsHeapAbove (rank_at deadlines.now places.old.tasks) places.old.count (length deadlines.now) from }
+    requires open { IsOpenAt (rank_at deadlines.now places.old.tasks) places.old.count (length deadlines.now) from }
+    requires inside { 1 ≤ rank_at deadlines.now places.old.tasks from }
     requires few { length deadlines.now ≤ 255 }
     ensures count { places.new.count ≡ places.old.count }
     ensures long { length places.new.tasks ≡ length places.old.tasks }
-    ensures heap { IsHeap (rank_at deadlines.now places.new.tasks) places.new.count (length deadlines.now) }
-    ensures steps { AddsAtMost 14 steps.old steps.new }
+    ensures open { IsOpenAt (rank_at deadlines.now places.new.tasks) places.new.count (length deadlines.now) result }
+    ensures inside { 1 ≤ rank_at deadlines.now places.new.tasks result }
+    ensures childless { places.new.count ≤ result * 2 + 1 }
+    ensures steps { AddsAtMost 7 steps.old steps.new }
 {
     let mut slot = from;
     while slot * 2 + 1 < places.count() {
         let child = first_child(places, deadlines, slot, steps);
-        if !slot_is_before(places, deadlines, child, slot, steps) {
-            return;
-        }
         places.exchange(slot, child);
         slot = child;
     }
+    slot
 }
 
-/// The task at a slot, whose deadline has changed, goes to where it belongs.
+/// The task at a slot rises past those that it is before.
+fn rise(places: &mut Places, deadlines: &[Option<u32>], from: usize, steps: &mut Steps)
+    requires long { length deadlines.now ≡ length places.old.tasks }
+    requires below { IsHeapBelow (rank_at deadlines.now places.old.tasks) places.old.count (length deadlines.now) from }
+    requires few { length deadlines.now ≤ 255 }
+    ensures count { places.new.count ≡ places.old.count }
+    ensures long { length places.new.tasks ≡ length places.old.tasks }
+    ensures heap { IsHeap (rank_at deadlines.now places.new.tasks) places.new.count (length deadlines.now) }
+    ensures steps { AddsAtMost 7 steps.old steps.new }
+{
+    let mut slot = from;
+    while slot > 0 {
+        let parent = (slot - 1) / 2;
+        if !slot_is_before(places, deadlines, slot, parent, steps) {
+            return;
+        }
+        places.exchange(parent, slot);
+        slot = parent;
+    }
+}
+
+/// The task at a slot, whose deadline has changed, goes to where it belongs. The heap's end, which takes the slot of a
+/// task that leaves, nearly always belongs near the bottom: so the task goes there first, at one comparison a level,
+/// and rises then.
 pub fn mend(places: &mut Places, deadlines: &[Option<u32>], slot: usize, steps: &mut Steps)
     requires long { length deadlines.now ≡ length places.old.tasks }
     requires open { IsOpenAt (rank_at deadlines.now places.old.tasks) places.old.count (length deadlines.now) slot }
@@ -131,8 +133,8 @@ pub fn mend(places: &mut Places, deadlines: &[Option<u32>], slot: usize, steps: 
     ensures count { places.new.count ≡ places.old.count }
     ensures long { length places.new.tasks ≡ length places.old.tasks }
     ensures heap { IsHeap (rank_at deadlines.now places.new.tasks) places.new.count (length deadlines.now) }
-    ensures steps { AddsAtMost 21 steps.old steps.new }
+    ensures steps { AddsAtMost 14 steps.old steps.new }
 {
-    let slot = rise(places, deadlines, slot, steps);
-    sink(places, deadlines, slot, steps);
+    let end = descend(places, deadlines, slot, steps);
+    rise(places, deadlines, end, steps);
 }
