@@ -2,8 +2,9 @@
 ghost use Rattle.std.specs.Prelude.{◌≡◌, ℕ, ◌≤◌, false};
 ghost use Rattle.fmp_base.specs.Meanings.{Meaning};
 ghost use Rattle.fmp_base.specs.Stretches.{ending, is_over};
-ghost use Rattle.fmp_body.specs.Contexts.{OfCall};
+ghost use Rattle.fmp_body.specs.Contexts.{OfCall, stopped};
 
+use crate::stop::Stop;
 use fmp_base::{Reply, Stretch};
 
 /// The bodies of tasks and handlers, by their numbers, as a meaning that computes.
@@ -39,6 +40,41 @@ pub trait Body {
         requires context { is_context self.now entry c }
         ensures value { result ≡ (meaning self.now).deliver entry c r }
         ensures context { is_context self.now entry result };
+
+    /// A stretch of a body, of at most n units, that leaves its context in place of the one from which it began. Where
+    /// it is over its bound, what stands there is no context: whoever wants the first one again keeps a copy.
+    fn stretch_in_place(&self, entry: u8, n: u64, context: &mut Self::Ctx) -> Stop
+        requires entry { has_entry self.now entry }
+        requires context { is_context self.now entry context.old }
+        ensures value { stopped result context.new ≡ (meaning self.now).stretch entry n context.old }
+        ensures context { OfCall (is_context self.now entry) (stopped result context.new) }
+    {
+        match self.stretch(entry, n, *context) {
+            Stretch::Call(after, made) => {
+                *context = after;
+                Stop::Call(made)
+            }
+            Stretch::End(after) => {
+                *context = after;
+                Stop::End
+            }
+            Stretch::Fault(after, fault) => {
+                *context = after;
+                Stop::Fault(fault)
+            }
+            Stretch::Over => Stop::Over,
+        }
+    }
+
+    /// The context after a reply to the call that ended a stretch, in place of the one that the call left.
+    fn deliver_in_place(&self, entry: u8, context: &mut Self::Ctx, r: Reply)
+        requires entry { has_entry self.now entry }
+        requires context { is_context self.now entry context.old }
+        ensures value { context.new ≡ (meaning self.now).deliver entry context.old r }
+        ensures context { is_context self.now entry context.new }
+    {
+        *context = self.deliver(entry, *context, r);
+    }
 
     /// A stretch that is not over its bound is the same at every greater bound.
     ghost stays: { (body : Self) (entry low high : ℕ) (c : Self.Ctx) → low ≤ high

@@ -3,5 +3,7 @@
 
 pub mod body;
 pub mod laws;
+pub mod stop;
 
 pub use body::Body;
+pub use stop::Stop;

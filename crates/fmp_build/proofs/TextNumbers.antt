@@ -5,6 +5,7 @@ use Rattle.std.specs.List.{AllByRecursion}
 use Rattle.fmp_lex.specs.declared.token.TokenKind.{TokenKind}
 use Rattle.fmp_lex.specs.declared.token.TokenKind.TheVariants as kind
 use Rattle.fmp_lex.specs.declared.words.Keyword.TheVariants as keyword
+use Rattle.fmp_lex.specs.Forms.{put}
 use Rattle.fmp_lex.specs.Reading.{kinds_of}
 use Rattle.fmp_cfgparse.proofs.KnownTokens.{IsKnown, IsKnownAt, known_at, cuts_known}
 use Rattle.fmp_cfgparse.proofs.KnownTrees.{code_fits as constant_fits}
@@ -14,7 +15,7 @@ use Rattle.fmp_tasklang.specs.declared.trees.Operator.{Operator}
 use Rattle.fmp_tasklang.specs.declared.trees.Operator.TheVariants as operator
 use Rattle.fmp_tasklang.specs.declared.trees.Word.{Word}
 use Rattle.fmp_tasklang.specs.Blocks.{block_of, choice}
-use Rattle.fmp_tasklang.specs.Calls.{call_parts, ArgumentTree, value, out, values_of, Called, call_tree, put, OnePart, Parts, OneCall}
+use Rattle.fmp_tasklang.specs.Calls.{call_parts, ArgumentTree, value, out, values_of, Called, call_tree, OnePart, Parts, OneCall}
 use Rattle.fmp_tasklang.specs.Expressions.{number_of, lines_of, IsOperand, a_number, a_name, a_group, a_unary, IsExpression, an_operand, a_chain, AreLinks, no_link, a_link}
 use Rattle.fmp_tasklang.specs.Grammar.{Bodies}
 use Rattle.fmp_tasklang.specs.Statements.{jump_of, IsStatement, an_assignment, a_call, a_jump, an_if, a_while, IsIf, if_chosen, IsElse, no_else, an_else, IsOther, a_block, another_if, IsBlock, braces, AreStatements, no_statement, a_statement}

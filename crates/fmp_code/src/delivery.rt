@@ -58,12 +58,11 @@ fn before(body: &BodyCode, pc: u16) -> Option<Instruction>
     body.instructions.get(pc as usize - 1).copied()
 }
 
-/// The context after the reply to the call that ended a body's last stretch.
-pub fn deliver(body: &BodyCode, context: MachineContext, reply: Reply) -> MachineContext
+/// The context after the reply to the call that ended a body's last stretch, in place of the one that the call left.
+pub fn deliver_in_place(body: &BodyCode, context: &mut MachineContext, reply: Reply)
     requires { VerifiedBody (body_tables body.now) }
-    ensures { result ≡ code_deliver body.now.instructions.items context reply }
+    ensures { context.new ≡ code_deliver body.now.instructions.items context.old reply }
 {
-    let mut locals = context.locals;
     if let Some(
         Instruction::Call {
             service,
@@ -72,10 +71,16 @@ pub fn deliver(body: &BodyCode, context: MachineContext, reply: Reply) -> Machin
         },
     ) = before(body, context.pc)
     {
-        give_reply(&mut locals, service, out, receiver, reply);
+        give_reply(&mut context.locals, service, out, receiver, reply);
     }
-    MachineContext {
-        pc: context.pc,
-        locals,
-    }
+}
+
+/// The context after the reply to the call that ended a body's last stretch.
+pub fn deliver(body: &BodyCode, context: MachineContext, reply: Reply) -> MachineContext
+    requires { VerifiedBody (body_tables body.now) }
+    ensures { result ≡ code_deliver body.now.instructions.items context reply }
+{
+    let mut after = context;
+    deliver_in_place(body, &mut after, reply);
+    after
 }

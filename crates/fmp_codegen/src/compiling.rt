@@ -1,11 +1,11 @@
 //! The code of the bodies of a text, or the first fault in them.
 
-ghost use Rattle.std.specs.Prelude.{◌≡◌, ◌+◌, ◌≤◌, ◌++◌, ◌∷◌, [], map, length, IfOk, OnOk, IfNone};
+ghost use Rattle.std.specs.Prelude.{◌≡◌, ◌+◌, ◌<◌, ◌≤◌, ◌++◌, ◌∷◌, [], Some, None, map, length, IfOk, OnOk, IfNone, MatchResult};
 ghost use Rattle.std.specs.List.{AllByRecursion};
 ghost use Rattle.fmp_base.specs.Ranges.{IsInRange};
 ghost use Rattle.fmp_base.specs.Systems.{tables_of};
 ghost use Rattle.fmp_tasklang.specs.Scopes.{exinf_name};
-ghost use Rattle.fmp_tasklang.specs.Views.{body_view, program_view};
+ghost use Rattle.fmp_tasklang.specs.Views.{block_view, body_view, program_view};
 ghost use Rattle.fmp_code.specs.Instructions.{body_tables, code_tables};
 ghost use Rattle.fmp_code.specs.Verify.{Verified};
 ghost use Rattle.fmp_tasklang.specs.CallForms.{CallsFit};
@@ -13,7 +13,7 @@ ghost use Rattle.fmp_codegen.specs.Compiling as spec;
 ghost use Rattle.fmp_codegen.specs.Compiling.{compiled_body, IsCompiled};
 ghost use Rattle.fmp_codegen.specs.Depths.{body_depth};
 ghost use Rattle.fmp_codegen.specs.Laws.{DoesText};
-ghost use Rattle.fmp_codegen.specs.Sizes.{body_size};
+ghost use Rattle.fmp_codegen.specs.Sizes.{block_size};
 
 use crate::emission::{Output, emit_block, put};
 use crate::extents::block_extent;
@@ -70,61 +70,74 @@ fn variables_offence(system: &System, variables: &[Word]) -> Option<Offence>
     None
 }
 
-/// The fault of a body that takes too many instructions or operands.
-fn size_offence(body: &Body) -> Option<Offence>
-    ensures first { result ≡ spec.size_offence (body_view body.now) }
-    ensures small { IfNone result (body_size (body_view body.now) ≤ 65535) }
-    ensures low { IfNone result (body_depth (body_view body.now) ≤ 64) }
+/// The number of instructions of the statements of a body, or the fault of a body that takes too many instructions or
+/// operands.
+fn size_of_body(body: &Body) -> Result<u16, Offence>
+    ensures first { MatchResult result
+        (λ _. spec.size_offence (body_view body.now) ≡ None)
+        (λ offence. spec.size_offence (body_view body.now) ≡ Some offence) }
+    ensures size { IfOk result (λ size. size ≡ block_size (block_view body.now.statements.items)) }
+    ensures small { IfOk result (λ size. size < 65535) }
+    ensures low { IfOk result (λ _. body_depth (body_view body.now) ≤ 64) }
 {
     let extent = block_extent(&body.statements);
     if extent.size >= MOST_INSTRUCTIONS || extent.depth > MOST_OPERANDS {
-        return Some(Offence {
+        return Err(Offence {
             line: body.line,
             why: FaultKind::Limit,
         });
     }
-    None
+    Ok(extent.size as u16)
 }
 
-/// The first fault of a body, after these bodies.
-fn body_offence(system: &System, earlier: &[Body], body: &Body) -> Option<Offence>
+/// The number of instructions of the statements of a body, or the body's first fault, after these bodies.
+fn judge_body(system: &System, earlier: &[Body], body: &Body) -> Result<u16, Offence>
     requires { IsInRange (tables_of system.now) }
-    ensures first { result
-        ≡ spec.body_offence (tables_of system.now) (map (λ b. b.name.name) earlier.now) (body_view body.now) }
-    ensures variables { IfNone result (length body.now.variables.items ≤ 63) }
-    ensures small { IfNone result (body_size (body_view body.now) ≤ 65535) }
-    ensures low { IfNone result (body_depth (body_view body.now) ≤ 64) }
+    ensures first { MatchResult result
+        (λ _. spec.body_offence (tables_of system.now) (map (λ b. b.name.name) earlier.now) (body_view body.now) ≡ None)
+        (λ offence. spec.body_offence (tables_of system.now) (map (λ b. b.name.name) earlier.now) (body_view body.now)
+        ≡ Some offence) }
+    ensures variables { IfOk result (λ _. length body.now.variables.items ≤ 63) }
+    ensures size { IfOk result (λ size. size ≡ block_size (block_view body.now.statements.items)) }
+    ensures small { IfOk result (λ size. size < 65535) }
+    ensures low { IfOk result (λ _. body_depth (body_view body.now) ≤ 64) }
 {
     if earlier.len() >= MOST_BODIES {
-        return Some(Offence {
+        return Err(Offence {
             line: body.line,
             why: FaultKind::Limit,
         });
     }
     if place_in(earlier, &body.name.name).is_some() {
-        return Some(Offence {
+        return Err(Offence {
             line: body.name.line,
             why: FaultKind::TwiceNamed,
         });
     }
     if let Some(offence) = variables_offence(system, &body.variables) {
-        return Some(offence);
+        return Err(offence);
     }
     let names = Names {
         system,
         variables: &body.variables,
     };
     if let Some(offence) = block_offence(&names, &body.statements) {
-        return Some(offence);
+        return Err(offence);
     }
-    size_offence(body)
+    size_of_body(body)
 }
 
-/// The code of a body that has no fault.
-fn compile_body(alloc: Global, system: &System, body: &Body) -> Result<BodyCode, AllocError>
+/// The code of a body that has no fault and whose statements take so many instructions.
+fn compile_body(
+    alloc: Global,
+    system: &System,
+    body: &Body,
+    size: u16,
+) -> Result<BodyCode, AllocError>
     requires system { IsInRange (tables_of system.now) }
     requires variables { length body.now.variables.items ≤ 63 }
-    requires small { body_size (body_view body.now) ≤ 65535 }
+    requires size { size ≡ block_size (block_view body.now.statements.items) }
+    requires small { size < 65535 }
     requires low { body_depth (body_view body.now) ≤ 64 }
     ensures { IfOk result (λ code. body_tables code ≡ compiled_body (tables_of system.now) (body_view body.now)) }
 {
@@ -132,12 +145,11 @@ fn compile_body(alloc: Global, system: &System, body: &Body) -> Result<BodyCode,
         system,
         variables: &body.variables,
     };
-    let end = block_extent(&body.statements).size as u16;
     let mut out = Output {
-        instructions: Vec::new(alloc),
-        depths: Vec::new(alloc),
+        instructions: Vec::with_capacity(alloc, usize::from(size) + 1)?,
+        depths: Vec::with_capacity(alloc, usize::from(size) + 1)?,
     };
-    emit_block(&mut out, &names, &body.statements, end, end)?;
+    emit_block(&mut out, &names, &body.statements, size, size)?;
     put(&mut out, Instruction::End, 0)?;
     Ok(BodyCode {
         locals: body.variables.len() as u8 + 1,
@@ -164,10 +176,12 @@ pub fn compile(alloc: Global, program: &Program, system: &System) -> Result<Code
     let mut bodies = Vec::new(alloc);
     for i in 0..program.bodies.len() {
         let body = &program.bodies[i];
-        if let Some(offence) = body_offence(system, &program.bodies[..i], body) {
-            return Err(BuildFault::At(TextFile::Source, offence.line, offence.why));
+        match judge_body(system, &program.bodies[..i], body) {
+            Ok(size) => append(&mut bodies, compile_body(alloc, system, body, size)?)?,
+            Err(offence) => {
+                return Err(BuildFault::At(TextFile::Source, offence.line, offence.why));
+            }
         }
-        append(&mut bodies, compile_body(alloc, system, body)?)?;
     }
     Ok(Code { bodies })
 }

@@ -82,8 +82,8 @@ fn read_steps<'a>(
 ) -> Result<((Vec<Instruction>, Vec<u8>), &'a [u8]), LoadFault>
     ensures { Gives (λ x. ((x.0.0.items, x.0.1.items), x.1.now)) result (pairs_at step_at size bytes.now) }
 {
-    let mut instructions = Vec::new(alloc);
-    let mut depths = Vec::new(alloc);
+    let mut instructions = Vec::with_capacity(alloc, size as usize)?;
+    let mut depths = Vec::with_capacity(alloc, size as usize)?;
     let mut rest = bytes;
     for _ in 0..size {
         let ((instruction, depth), after) = read_step(rest)?;

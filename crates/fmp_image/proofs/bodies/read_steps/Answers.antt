@@ -6,7 +6,7 @@ use Rattle.fmp_image.proofs.bodies.read_steps.Goals as goal
 
 pub returns-in_err-instruction : goal.returns-in_err-instruction
 returns-in_err-instruction c =
-    let p = err_from_is_err_and c.from_residual.result c.from_residual.ensures.1 in
+    let p = err_from_is_err_and c.from_residual-in_err-instruction.result c.from_residual-in_err-instruction.ensures.1 in
     rw (p.1, p.2) (ends step_at c.loop.instructions.items c.loop.depths.items c.args.size c.loop.counter c.loop.rest.now
     (pairs_at step_at c.args.size c.args.bytes.now) c.in_err-instruction.field-0.0 c.loop-test.true
     c.in_err-instruction.ensures c.loop.invariant)

@@ -1,0 +1,16 @@
+//! How a stretch that is made in place stops.
+
+use fmp_base::{Call, Fault};
+
+/// How a stretch stops that leaves its context in place of the one from which it began.
+#[derive(Clone, Copy, Debug, PartialEq, Eq)]
+pub enum Stop {
+    /// It makes this service call.
+    Call(Call),
+    /// It ends.
+    End,
+    /// It stops with this fault.
+    Fault(Fault),
+    /// It needs more than the bound, and what stands in place of its context is none.
+    Over,
+}
