@@ -1,5 +1,5 @@
 -- What a run of the program reads, writes, prints and says, and the status that it ends with.
-use Rattle.std.specs.Prelude.{ℕ, ◌≡◌, ◌≢◌, ◌⊎◌, IsTrue, List, [], ◌∷◌, Option, None, Some, IfSome, IsSomeAnd, string_bytes, ⊤}
+use Rattle.std.specs.Prelude.{ℕ, ◌≡◌, ◌≢◌, ◌⊎◌, Bool, IsTrue, List, [], ◌∷◌, Option, None, Some, IfSome, IsSomeAnd, string_bytes, ⊤}
 use Rattle.fmp_command.specs.Asked.{AsksFor, IsRefused}
 use Rattle.fmp_command.specs.declared.asking.Cmd.{Cmd}
 use Rattle.fmp_files.specs.Deeds.{Begins, Deed, Does, Says, printed, wrote}
@@ -87,45 +87,50 @@ pub data Fails (files : Files) (cmd : Cmd) (before after : Option (List Deed)) (
   unwritten : (file out : List ℕ) → Performs files cmd file out → IsFailureAt files (output_of cmd) exit
       → BeginsFile (output_of cmd) file before after → Fails files cmd before after exit
 
--- how printing ends: all of it stands on standard output, or that failed and was said
-pub data EndsPrinting (bytes : List ℕ) (before after : Option (List Deed)) (status : ℕ) : Type 0 where
-  all_printed : Does before (printed bytes ∷ []) after → status ≡ 0 → EndsPrinting bytes before after status
-  some_printed : (between : Option (List Deed)) → Begins printed bytes before between → Says between after → status ≡ 3
-      → EndsPrinting bytes before after status
+-- how printing ends: all of it stands on standard output, or that can fail, has done so, and this was said
+pub data EndsPrinting (bytes : List ℕ) (can_fail : Bool) (before after : Option (List Deed)) (status : ℕ) : Type 0 where
+  all_printed : Does before (printed bytes ∷ []) after → status ≡ 0 → EndsPrinting bytes can_fail before after status
+  some_printed : IsTrue can_fail → (between : Option (List Deed)) → Begins printed bytes before between
+      → Says between after → status ≡ 3 → EndsPrinting bytes can_fail before after status
 
 -- help or the version is asked for
 abbrev pub IsShown : ErrorKind → Type 0
 IsShown kind = (kind ≡ DisplayHelp) ⊎ (kind ≡ DisplayVersion)
 
 -- how a run ends whose words are refused with an error of this kind
-pub data EndsRefused (kind : ErrorKind) (before after : Option (List Deed)) (status : ℕ) : Type 0 where
+pub data EndsRefused (kind : ErrorKind) (can_fail : Bool) (before after : Option (List Deed)) (status : ℕ)
+    : Type 0 where
   -- what was asked for is printed
-  shown : (text : List ℕ) → IsShown kind → EndsPrinting text before after status → EndsRefused kind before after status
+  shown : (text : List ℕ) → IsShown kind → EndsPrinting text can_fail before after status
+      → EndsRefused kind can_fail before after status
   -- the mistake is said
-  told : ¬ IsShown kind → kind ≢ OutOfMemory → Says before after → status ≡ 2 → EndsRefused kind before after status
+  told : ¬ IsShown kind → kind ≢ OutOfMemory → Says before after → status ≡ 2
+      → EndsRefused kind can_fail before after status
   -- memory ran out
   no_memory : IsShown kind ⊎ (kind ≡ OutOfMemory) → Says before after → status ≡ 3
-      → EndsRefused kind before after status
+      → EndsRefused kind can_fail before after status
 
--- how a run of a command ends
-pub data EndsCommand (files : Files) (cmd : Cmd) (before after : Option (List Deed)) (status : ℕ) : Type 0 where
+-- how a run of a command ends, where standard output can or can not fail
+pub data EndsCommand (files : Files) (can_fail : Bool) (cmd : Cmd) (before after : Option (List Deed)) (status : ℕ)
+    : Type 0 where
   -- it was carried out: its file is written, and then is printed what there is to print
   done : (out : List ℕ) (between : Option (List Deed)) → KeepsInputs cmd → CarriedOut files cmd before between out
-      → EndsPrinting out between after status → EndsCommand files cmd before after status
+      → EndsPrinting out can_fail between after status → EndsCommand files can_fail cmd before after status
   -- it was not carried out, and why is said
   failed : (exit : Exit) (between : Option (List Deed)) → KeepsInputs cmd → Fails files cmd before between exit
-      → Says between after → status ≡ status_of exit → EndsCommand files cmd before after status
+      → Says between after → status ≡ status_of exit → EndsCommand files can_fail cmd before after status
   -- its file would take the place of one that it reads
   over_input : CanBeOver files cmd → Says before after → (status ≡ 2) ⊎ (status ≡ 3)
-      → EndsCommand files cmd before after status
+      → EndsCommand files can_fail cmd before after status
 
 -- how a run ends, by the words of its command line
-pub data Ends (files : Files) (words : List (List ℕ)) (before after : Option (List Deed)) (status : ℕ) : Type 0 where
+pub data Ends (files : Files) (can_fail : Bool) (words : List (List ℕ)) (before after : Option (List Deed)) (status : ℕ)
+    : Type 0 where
   -- the words are refused
-  refused : (kind : ErrorKind) → IsRefused words kind → EndsRefused kind before after status
-      → Ends files words before after status
+  refused : (kind : ErrorKind) → IsRefused words kind → EndsRefused kind can_fail before after status
+      → Ends files can_fail words before after status
   -- memory ran out before they were read
-  no_room : Says before after → status ≡ 3 → Ends files words before after status
+  no_room : Says before after → status ≡ 3 → Ends files can_fail words before after status
   -- they ask for a command
-  ran : (cmd : Cmd) → AsksFor words cmd → EndsCommand files cmd before after status
-      → Ends files words before after status
+  ran : (cmd : Cmd) → AsksFor words cmd → EndsCommand files can_fail cmd before after status
+      → Ends files can_fail words before after status

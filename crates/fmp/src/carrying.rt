@@ -118,6 +118,7 @@ pub fn write_output<O: Outside>(
         (Does (O.done outside.old) (writes_to (output_of cmd.now) bytes.now) (O.done outside.new)) }
     ensures begun { OnErr result (BeginsFile (output_of cmd.now) bytes.now (O.done outside.old) (O.done outside.new)) }
     ensures failure { IfErr result (IsFailureAt (O.files outside.old) (output_of cmd.now)) }
+    ensures output { O.output_can_fail outside.new ≡ O.output_can_fail outside.old }
 {
     let Cmd::Build { image, .. } = cmd else {
         return Ok(());
@@ -134,6 +135,7 @@ pub fn carry_out<O: Outside>(alloc: Global, outside: &mut O, cmd: &Cmd) -> Resul
     ensures ok { IfOk result (λ out.
         CarriedOut (O.files outside.old) cmd.now (O.done outside.old) (O.done outside.new) out.items) }
     ensures err { IfErr result (Fails (O.files outside.old) cmd.now (O.done outside.old) (O.done outside.new)) }
+    ensures output { O.output_can_fail outside.new ≡ O.output_can_fail outside.old }
 {
     let texts = read_inputs(alloc, outside, cmd)?;
     let (file, out) = performed(alloc, cmd, &texts)?;

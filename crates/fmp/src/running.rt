@@ -25,7 +25,8 @@ pub fn end<O: Outside>(outside: &mut O, exit: &Exit) -> u8
 
 /// Prints all that there is to print, and gives the status.
 fn print<O: Outside>(alloc: Global, outside: &mut O, bytes: &[u8]) -> u8
-    ensures { EndsPrinting bytes.now (O.done outside.old) (O.done outside.new) result }
+    ensures { EndsPrinting bytes.now (O.output_can_fail outside.old)
+        (O.done outside.old) (O.done outside.new) result }
 {
     match outside.print(bytes) {
         Ok(()) => 0,
@@ -35,7 +36,8 @@ fn print<O: Outside>(alloc: Global, outside: &mut O, bytes: &[u8]) -> u8
 
 /// Says what is wrong with the words of the command line, or prints what they ask to be shown.
 pub fn refuse<O: Outside>(alloc: Global, outside: &mut O, error: &Error) -> u8
-    ensures { EndsRefused (kind_of error.now) (O.done outside.old) (O.done outside.new) result }
+    ensures { EndsRefused (kind_of error.now) (O.output_can_fail outside.old)
+        (O.done outside.old) (O.done outside.new) result }
 {
     match error.kind() {
         ErrorKind::OutOfMemory => end(outside, &Exit::Memory(AllocError)),
@@ -82,7 +84,7 @@ fn refuse_over_input<O: Outside>(alloc: Global, outside: &mut O) -> u8
 /// Carries out a command, writes its file and then prints, and gives the status.
 fn run_command<O: Outside>(alloc: Global, outside: &mut O, cmd: &Cmd) -> u8
     requires { HasBound cmd.now }
-    ensures { EndsCommand (O.files outside.old) cmd.now
+    ensures { EndsCommand (O.files outside.old) (O.output_can_fail outside.old) cmd.now
         (O.done outside.old) (O.done outside.new) result }
 {
     if is_over_input(outside, cmd) {
@@ -107,7 +109,7 @@ fn borrowed<'a>(alloc: Global, words: &'a [String]) -> Result<Vec<&'a str>, Allo
 
 /// Does what the words of a command line ask for, of which the first is the program's name, and gives the status.
 pub fn run<O: Outside>(alloc: Global, outside: &mut O, words: &[String]) -> u8
-    ensures { Ends (O.files outside.old) (map string_bytes words.now)
+    ensures { Ends (O.files outside.old) (O.output_can_fail outside.old) (map string_bytes words.now)
         (O.done outside.old) (O.done outside.new) result }
 {
     let texts = match borrowed(alloc, words) {

@@ -6,248 +6,252 @@ use crate::codes::Er;
 use crate::services::Service;
 
 /// A service call with its arguments, as the caller passes them: any number may stand anywhere.
+///
+/// Objects, tasks, processors and messages go by their numbers, from 1; `task` 0 is TSK_SELF, the caller, where a call
+/// allows it. A `limit` is in ticks, or -1 (TMO_FEVR) or 0 (TMO_POL); a `delay` is in ticks; a `priority` is 1 to 16,
+/// or 0 (TPRI_INI, TPRI_SELF) where a call allows it.
 #[derive(Clone, Copy, Debug, PartialEq, Eq)]
 pub enum Call {
-    /// Prints a value into the trace.
+    /// Prints a value into the trace (this kernel's own).
     Put {
         value: i32,
     },
-    /// Reads a shared word.
+    /// Reads a shared word (this kernel's own).
     LdShr {
         word: i32,
     },
-    /// Writes a shared word.
+    /// Writes a shared word (this kernel's own).
     StShr {
         word: i32,
         value: i32,
     },
-    /// Activates a task.
+    /// Activates a task (uITRON 4.0, section 4.1).
     ActTsk {
         task: i32,
     },
-    /// Cancels the queued activations of a task.
+    /// Cancels the queued activations of a task (uITRON 4.0, section 4.1).
     CanAct {
         task: i32,
     },
-    /// Ends the invoking task.
+    /// Ends the invoking task (uITRON 4.0, section 4.1).
     ExtTsk,
-    /// Terminates another task.
+    /// Terminates another task (uITRON 4.0, section 4.1).
     TerTsk {
         task: i32,
     },
-    /// Changes the current priority of a task.
+    /// Changes the current priority of a task (uITRON 4.0, section 4.1).
     ChgPri {
         task: i32,
         priority: i32,
     },
-    /// Refers to the current priority of a task.
+    /// Refers to the current priority of a task (uITRON 4.0, section 4.1).
     GetPri {
         task: i32,
     },
-    /// Activates a task on a processor.
+    /// Activates a task on a processor (FMP kernel, task migration).
     MactTsk {
         task: i32,
         processor: i32,
     },
-    /// Migrates a task to a processor.
+    /// Migrates a task to a processor (FMP kernel, task migration).
     MigTsk {
         task: i32,
         processor: i32,
     },
-    /// Sleeps until a wakeup.
+    /// Sleeps until a wakeup (uITRON 4.0, section 4.2).
     SlpTsk,
-    /// Sleeps until a wakeup, with a time limit.
+    /// Sleeps until a wakeup, with a time limit (uITRON 4.0, section 4.2).
     TslpTsk {
         limit: i32,
     },
-    /// Wakes up a task.
+    /// Wakes up a task (uITRON 4.0, section 4.2).
     WupTsk {
         task: i32,
     },
-    /// Cancels the queued wakeups of a task.
+    /// Cancels the queued wakeups of a task (uITRON 4.0, section 4.2).
     CanWup {
         task: i32,
     },
-    /// Releases a task from waiting.
+    /// Releases a task from waiting (uITRON 4.0, section 4.2).
     RelWai {
         task: i32,
     },
-    /// Suspends a task.
+    /// Suspends a task (uITRON 4.0, section 4.2).
     SusTsk {
         task: i32,
     },
-    /// Resumes a suspended task.
+    /// Resumes a suspended task (uITRON 4.0, section 4.2).
     RsmTsk {
         task: i32,
     },
-    /// Delays the invoking task.
+    /// Delays the invoking task (uITRON 4.0, section 4.2).
     DlyTsk {
         delay: i32,
     },
-    /// Releases a semaphore resource.
+    /// Releases a semaphore resource (uITRON 4.0, section 4.4.1).
     SigSem {
         semaphore: i32,
     },
-    /// Acquires a semaphore resource.
+    /// Acquires a semaphore resource (uITRON 4.0, section 4.4.1).
     WaiSem {
         semaphore: i32,
     },
-    /// Acquires a semaphore resource, polling.
+    /// Acquires a semaphore resource, polling (uITRON 4.0, section 4.4.1).
     PolSem {
         semaphore: i32,
     },
-    /// Acquires a semaphore resource, with a time limit.
+    /// Acquires a semaphore resource, with a time limit (uITRON 4.0, section 4.4.1).
     TwaiSem {
         semaphore: i32,
         limit: i32,
     },
-    /// Sets bits of an eventflag.
+    /// Sets bits of an eventflag (uITRON 4.0, section 4.4.2).
     SetFlg {
         flag: i32,
         pattern: i32,
     },
-    /// Clears the bits of an eventflag that the pattern lacks.
+    /// Clears the bits of an eventflag that the pattern lacks (uITRON 4.0, section 4.4.2).
     ClrFlg {
         flag: i32,
         pattern: i32,
     },
-    /// Waits for an eventflag.
+    /// Waits for an eventflag (uITRON 4.0, section 4.4.2).
     WaiFlg {
         flag: i32,
         pattern: i32,
         mode: i32,
     },
-    /// Waits for an eventflag, polling.
+    /// Waits for an eventflag, polling (uITRON 4.0, section 4.4.2).
     PolFlg {
         flag: i32,
         pattern: i32,
         mode: i32,
     },
-    /// Waits for an eventflag, with a time limit.
+    /// Waits for an eventflag, with a time limit (uITRON 4.0, section 4.4.2).
     TwaiFlg {
         flag: i32,
         pattern: i32,
         mode: i32,
         limit: i32,
     },
-    /// Sends a word to a data queue.
+    /// Sends a word to a data queue (uITRON 4.0, section 4.4.3).
     SndDtq {
         queue: i32,
         word: i32,
     },
-    /// Sends a word to a data queue, polling.
+    /// Sends a word to a data queue, polling (uITRON 4.0, section 4.4.3).
     PsndDtq {
         queue: i32,
         word: i32,
     },
-    /// Sends a word to a data queue, with a time limit.
+    /// Sends a word to a data queue, with a time limit (uITRON 4.0, section 4.4.3).
     TsndDtq {
         queue: i32,
         word: i32,
         limit: i32,
     },
-    /// Sends a word to a data queue by force.
+    /// Sends a word to a data queue by force (uITRON 4.0, section 4.4.3).
     FsndDtq {
         queue: i32,
         word: i32,
     },
-    /// Receives a word from a data queue.
+    /// Receives a word from a data queue (uITRON 4.0, section 4.4.3).
     RcvDtq {
         queue: i32,
     },
-    /// Receives a word from a data queue, polling.
+    /// Receives a word from a data queue, polling (uITRON 4.0, section 4.4.3).
     PrcvDtq {
         queue: i32,
     },
-    /// Receives a word from a data queue, with a time limit.
+    /// Receives a word from a data queue, with a time limit (uITRON 4.0, section 4.4.3).
     TrcvDtq {
         queue: i32,
         limit: i32,
     },
-    /// Sends a message to a mailbox.
+    /// Sends a message to a mailbox (uITRON 4.0, section 4.4.4).
     SndMbx {
         mailbox: i32,
         message: i32,
     },
-    /// Receives a message from a mailbox.
+    /// Receives a message from a mailbox (uITRON 4.0, section 4.4.4).
     RcvMbx {
         mailbox: i32,
     },
-    /// Receives a message from a mailbox, polling.
+    /// Receives a message from a mailbox, polling (uITRON 4.0, section 4.4.4).
     PrcvMbx {
         mailbox: i32,
     },
-    /// Receives a message from a mailbox, with a time limit.
+    /// Receives a message from a mailbox, with a time limit (uITRON 4.0, section 4.4.4).
     TrcvMbx {
         mailbox: i32,
         limit: i32,
     },
-    /// Starts a cyclic handler.
+    /// Starts a cyclic handler (uITRON 4.0, section 4.7.2).
     StaCyc {
         cyclic: i32,
     },
-    /// Stops a cyclic handler.
+    /// Stops a cyclic handler (uITRON 4.0, section 4.7.2).
     StpCyc {
         cyclic: i32,
     },
-    /// Rotates a ready queue.
+    /// Rotates a ready queue (uITRON 4.0, section 4.8).
     RotRdq {
         priority: i32,
     },
-    /// Refers to the number of the invoking task.
+    /// Refers to the number of the invoking task (uITRON 4.0, section 4.8).
     GetTid,
-    /// Locks the CPU.
+    /// Locks the CPU (uITRON 4.0, section 4.8).
     LocCpu,
-    /// Unlocks the CPU.
+    /// Unlocks the CPU (uITRON 4.0, section 4.8).
     UnlCpu,
-    /// Disables dispatching.
+    /// Disables dispatching (uITRON 4.0, section 4.8).
     DisDsp,
-    /// Enables dispatching.
+    /// Enables dispatching (uITRON 4.0, section 4.8).
     EnaDsp,
-    /// Acquires a spin lock.
+    /// Acquires a spin lock (FMP kernel, spin locks).
     LocSpn {
         lock: i32,
     },
-    /// Acquires a spin lock, polling.
+    /// Acquires a spin lock, polling (FMP kernel, spin locks).
     TrySpn {
         lock: i32,
     },
-    /// Releases a spin lock.
+    /// Releases a spin lock (FMP kernel, spin locks).
     UnlSpn {
         lock: i32,
     },
-    /// Activates a task, from a handler.
+    /// Activates a task, from a handler (uITRON 4.0, section 4.1).
     IactTsk {
         task: i32,
     },
-    /// Wakes up a task, from a handler.
+    /// Wakes up a task, from a handler (uITRON 4.0, section 4.2).
     IwupTsk {
         task: i32,
     },
-    /// Releases a task from waiting, from a handler.
+    /// Releases a task from waiting, from a handler (uITRON 4.0, section 4.2).
     IrelWai {
         task: i32,
     },
-    /// Releases a semaphore resource, from a handler.
+    /// Releases a semaphore resource, from a handler (uITRON 4.0, section 4.4.1).
     IsigSem {
         semaphore: i32,
     },
-    /// Sets bits of an eventflag, from a handler.
+    /// Sets bits of an eventflag, from a handler (uITRON 4.0, section 4.4.2).
     IsetFlg {
         flag: i32,
         pattern: i32,
     },
-    /// Sends a word to a data queue, polling, from a handler.
+    /// Sends a word to a data queue, polling, from a handler (uITRON 4.0, section 4.4.3).
     IpsndDtq {
         queue: i32,
         word: i32,
     },
-    /// Sends a word to a data queue by force, from a handler.
+    /// Sends a word to a data queue by force, from a handler (uITRON 4.0, section 4.4.3).
     IfsndDtq {
         queue: i32,
         word: i32,
     },
-    /// Rotates a ready queue, from a handler.
+    /// Rotates a ready queue, from a handler (uITRON 4.0, section 4.8).
     IrotRdq {
         priority: i32,
     },
@@ -256,7 +260,9 @@ pub enum Call {
 /// What a caller or a released task is told: a code, and a value where the call gives one.
 #[derive(Clone, Copy, Debug, PartialEq, Eq)]
 pub struct Reply {
+    /// How the call went.
     pub code: Er,
+    /// What the call gives beside its code, only with E_OK.
     pub value: Option<i32>,
 }
 

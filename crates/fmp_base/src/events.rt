@@ -17,7 +17,9 @@ pub enum Event {
 /// Whether an event did something.
 #[derive(Clone, Copy, Debug, PartialEq, Eq)]
 pub enum Effect {
+    /// It changed the state, and takes the next number of the trace.
     Done,
+    /// The state is as it was, and there is no line.
     Nothing,
 }
 
@@ -74,20 +76,27 @@ pub enum Line {
     },
 }
 
-/// The word that the last lines have for a task's state.
+/// The word that the last lines have for a task's state (uITRON 4.0, section 3.2.1).
 #[derive(Clone, Copy, Debug, PartialEq, Eq)]
 pub enum StateWord {
+    /// A processor runs it.
     Running,
+    /// It could run, and its processor runs another.
     Ready,
+    /// It waits.
     Waiting,
+    /// It could run, but for its suspension.
     Suspended,
+    /// It waits, and is suspended.
     WaitingSuspended,
+    /// It is not started.
     Dormant,
 }
 
 /// What is shown of a task at the end.
 #[derive(Clone, Copy, Debug, PartialEq, Eq)]
 pub struct TaskState {
+    /// How far it is from running.
     pub word: StateWord,
     /// The place of the assigned processor.
     pub processor: u8,

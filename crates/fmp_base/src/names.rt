@@ -5,7 +5,9 @@ ghost use Rattle.fmp_base.specs.Names.{name_text, name_from};
 /// A name of an object or of a body: 1 to 31 bytes, the unused ones 0.
 #[derive(Clone, Copy, Debug, PartialEq, Eq)]
 pub struct Name {
+    /// How many bytes are used, 1 to 31.
     pub length: u8,
+    /// The bytes, 0 behind the used ones.
     pub bytes: [u8; 31],
 }
 

@@ -13,20 +13,32 @@ pub enum UnaryOperator {
 /// A binary operator of the task language, but `&&` and `||`.
 #[derive(Clone, Copy, Debug, PartialEq, Eq)]
 pub enum BinaryOperator {
+    /// `+`
     Add,
+    /// `-`
     Subtract,
+    /// `*`
     Multiply,
     /// `/`, cut toward zero.
     Divide,
     /// `%`, with the dividend's sign.
     Remainder,
+    /// `&`, bit by bit.
     And,
+    /// `|`, bit by bit.
     Or,
+    /// `^`, bit by bit.
     ExclusiveOr,
+    /// `==`: 1 where it holds, else 0, as the five below.
     Equal,
+    /// `!=`
     NotEqual,
+    /// `<`
     Less,
+    /// `<=`
     LessOrEqual,
+    /// `>`
     Greater,
+    /// `>=`
     GreaterOrEqual,
 }

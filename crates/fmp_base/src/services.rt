@@ -5,66 +5,124 @@ ghost use Rattle.fmp_base.specs.Services.{service_number, service_name, arity};
 /// A service call without its arguments: its function code.
 ///
 /// The calls are those of the uITRON 4.0 specification, chapter 4, and of the FMP kernel; `Put`,
-/// `LdShr` and `StShr` are this kernel's own.
+/// `LdShr` and `StShr` are this kernel's own. The section of each stands at [`Call`](crate::Call).
 #[derive(Clone, Copy, Debug, PartialEq, Eq)]
 pub enum Service {
+    /// `put`.
     Put,
+    /// `ld_shr`.
     LdShr,
+    /// `st_shr`.
     StShr,
+    /// `act_tsk`.
     ActTsk,
+    /// `can_act`.
     CanAct,
+    /// `ext_tsk`.
     ExtTsk,
+    /// `ter_tsk`.
     TerTsk,
+    /// `chg_pri`.
     ChgPri,
+    /// `get_pri`.
     GetPri,
+    /// `mact_tsk`.
     MactTsk,
+    /// `mig_tsk`.
     MigTsk,
+    /// `slp_tsk`.
     SlpTsk,
+    /// `tslp_tsk`.
     TslpTsk,
+    /// `wup_tsk`.
     WupTsk,
+    /// `can_wup`.
     CanWup,
+    /// `rel_wai`.
     RelWai,
+    /// `sus_tsk`.
     SusTsk,
+    /// `rsm_tsk`.
     RsmTsk,
+    /// `dly_tsk`.
     DlyTsk,
+    /// `sig_sem`.
     SigSem,
+    /// `wai_sem`.
     WaiSem,
+    /// `pol_sem`.
     PolSem,
+    /// `twai_sem`.
     TwaiSem,
+    /// `set_flg`.
     SetFlg,
+    /// `clr_flg`.
     ClrFlg,
+    /// `wai_flg`.
     WaiFlg,
+    /// `pol_flg`.
     PolFlg,
+    /// `twai_flg`.
     TwaiFlg,
+    /// `snd_dtq`.
     SndDtq,
+    /// `psnd_dtq`.
     PsndDtq,
+    /// `tsnd_dtq`.
     TsndDtq,
+    /// `fsnd_dtq`.
     FsndDtq,
+    /// `rcv_dtq`.
     RcvDtq,
+    /// `prcv_dtq`.
     PrcvDtq,
+    /// `trcv_dtq`.
     TrcvDtq,
+    /// `snd_mbx`.
     SndMbx,
+    /// `rcv_mbx`.
     RcvMbx,
+    /// `prcv_mbx`.
     PrcvMbx,
+    /// `trcv_mbx`.
     TrcvMbx,
+    /// `sta_cyc`.
     StaCyc,
+    /// `stp_cyc`.
     StpCyc,
+    /// `rot_rdq`.
     RotRdq,
+    /// `get_tid`.
     GetTid,
+    /// `loc_cpu`.
     LocCpu,
+    /// `unl_cpu`.
     UnlCpu,
+    /// `dis_dsp`.
     DisDsp,
+    /// `ena_dsp`.
     EnaDsp,
+    /// `loc_spn`.
     LocSpn,
+    /// `try_spn`.
     TrySpn,
+    /// `unl_spn`.
     UnlSpn,
+    /// `iact_tsk`.
     IactTsk,
+    /// `iwup_tsk`.
     IwupTsk,
+    /// `irel_wai`.
     IrelWai,
+    /// `isig_sem`.
     IsigSem,
+    /// `iset_flg`.
     IsetFlg,
+    /// `ipsnd_dtq`.
     IpsndDtq,
+    /// `ifsnd_dtq`.
     IfsndDtq,
+    /// `irot_rdq`.
     IrotRdq,
 }
 

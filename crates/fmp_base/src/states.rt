@@ -36,7 +36,7 @@ pub enum WaitCause {
     Mailbox(u8),
 }
 
-/// When an eventflag's pattern satisfies a waiting task.
+/// When an eventflag's pattern satisfies a waiting task (uITRON 4.0, section 4.4.2).
 #[derive(Clone, Copy, Debug, PartialEq, Eq)]
 pub enum FlagMode {
     /// All bits of the wait pattern are set.
@@ -59,27 +59,34 @@ pub enum TimeLimit {
 /// A queue of waiting tasks, by the place of its object.
 #[derive(Clone, Copy, Debug, PartialEq, Eq)]
 pub enum WaitQueue {
+    /// For a resource of this semaphore.
     Semaphore(u8),
+    /// For bits of this eventflag.
     Flag(u8),
+    /// For room in this data queue.
     Senders(u8),
+    /// For a word of this data queue.
     Receivers(u8),
+    /// For a message of this mailbox.
     Mailbox(u8),
 }
 
 /// The task control block, without what never changes and without the context of the body.
 #[derive(Clone, Copy, Debug, PartialEq, Eq)]
 pub struct TaskBlock {
+    /// How far it is from running, its suspension aside.
     pub phase: Phase,
+    /// Whether it is suspended.
     pub suspended: bool,
     /// The current priority, from 1, the most urgent, to 16.
     pub priority: u8,
     /// The place of the assigned processor.
     pub processor: u8,
-    /// Queued activations.
+    /// Queued activations, at most the queue limit of the system.
     pub activations: u8,
     /// The place of the processor that the next start assigns, if one is stored.
     pub next_processor: Option<u8>,
-    /// Queued wakeups.
+    /// Queued wakeups, at most the queue limit of the system.
     pub wakeups: u8,
     /// The clock at which a wait ends, if it has a limit.
     pub deadline: Option<u32>,
@@ -88,6 +95,7 @@ pub struct TaskBlock {
 /// What keeps a processor from being interrupted.
 #[derive(Clone, Copy, Debug, PartialEq, Eq)]
 pub enum Lock {
+    /// Nothing.
     Free,
     /// The CPU lock.
     Cpu,
@@ -98,14 +106,18 @@ pub enum Lock {
 /// A handler, by the place of its interrupt (its number less 1) or of its cyclic handler.
 #[derive(Clone, Copy, Debug, PartialEq, Eq)]
 pub enum Handler {
+    /// The handler of an interrupt.
     Interrupt(u8),
+    /// A cyclic handler.
     Cyclic(u8),
 }
 
 /// Who makes a call, ends or faults: a task, by its place, or a handler.
 #[derive(Clone, Copy, Debug, PartialEq, Eq)]
 pub enum Caller {
+    /// A task.
     Task(u8),
+    /// A handler that runs.
     Handler(Handler),
 }
 
@@ -114,6 +126,7 @@ pub enum Caller {
 pub struct Processor {
     /// The place of the task that it runs, if any.
     pub run: Option<u8>,
+    /// What keeps it from being interrupted.
     pub lock: Lock,
     /// Whether dispatching is disabled.
     pub dispatch_disabled: bool,

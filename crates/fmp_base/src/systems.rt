@@ -23,13 +23,16 @@ pub enum Entry {
     Body(u8),
 }
 
-/// A task, as CRE_TSK and its class define it.
+/// A task, as CRE_TSK and its class define it (uITRON 4.0, section 4.1; FMP kernel, classes).
 #[derive(Clone, Copy, Debug, PartialEq, Eq)]
 pub struct TaskConfig {
+    /// Its name.
     pub name: Name,
     /// TA_ACT: the task starts when it is created.
     pub activated: bool,
+    /// The extended information, which its body gets at the start.
     pub exinf: i32,
+    /// Its body.
     pub entry: Entry,
     /// The initial priority, 1 to 16.
     pub priority: u8,
@@ -41,10 +44,12 @@ pub struct TaskConfig {
     pub only: bool,
 }
 
-/// A semaphore, as CRE_SEM defines it.
+/// A semaphore, as CRE_SEM defines it (uITRON 4.0, section 4.4.1).
 #[derive(Clone, Copy, Debug, PartialEq, Eq)]
 pub struct SemaphoreConfig {
+    /// Its name.
     pub name: Name,
+    /// The order of the waiting tasks.
     pub order: QueueOrder,
     /// The initial count, 0 to `most`.
     pub initial: u16,
@@ -52,21 +57,25 @@ pub struct SemaphoreConfig {
     pub most: u16,
 }
 
-/// An eventflag, as CRE_FLG defines it.
+/// An eventflag, as CRE_FLG defines it (uITRON 4.0, section 4.4.2).
 #[derive(Clone, Copy, Debug, PartialEq, Eq)]
 pub struct FlagConfig {
+    /// Its name.
     pub name: Name,
+    /// The order of the waiting tasks.
     pub order: QueueOrder,
     /// TA_WMUL: several tasks may wait.
     pub multiple: bool,
     /// TA_CLR: a satisfied wait clears all bits.
     pub clears: bool,
+    /// The initial bit pattern.
     pub initial: u16,
 }
 
-/// A data queue, as CRE_DTQ defines it.
+/// A data queue, as CRE_DTQ defines it (uITRON 4.0, section 4.4.3).
 #[derive(Clone, Copy, Debug, PartialEq, Eq)]
 pub struct DataQueueConfig {
+    /// Its name.
     pub name: Name,
     /// The order of the senders; receivers queue in FIFO order.
     pub order: QueueOrder,
@@ -74,44 +83,54 @@ pub struct DataQueueConfig {
     pub capacity: u8,
 }
 
-/// A mailbox, as CRE_MBX defines it.
+/// A mailbox, as CRE_MBX defines it (uITRON 4.0, section 4.4.4).
 #[derive(Clone, Copy, Debug, PartialEq, Eq)]
 pub struct MailboxConfig {
+    /// Its name.
     pub name: Name,
+    /// The order of the waiting tasks.
     pub order: QueueOrder,
+    /// The order of its messages.
     pub message_order: QueueOrder,
     /// The greatest priority number of a message, 1 to 16; it counts where messages queue by priority.
     pub most: u8,
 }
 
-/// A message, as CRE_MSG defines it.
+/// A message, as CRE_MSG defines it, this kernel's own.
 #[derive(Clone, Copy, Debug, PartialEq, Eq)]
 pub struct MessageConfig {
+    /// Its name.
     pub name: Name,
     /// 1, the most urgent, to 16.
     pub priority: u8,
 }
 
-/// A shared word, as CRE_SHR defines it.
+/// A shared word, as CRE_SHR defines it, this kernel's own.
 #[derive(Clone, Copy, Debug, PartialEq, Eq)]
 pub struct SharedWordConfig {
+    /// Its name.
     pub name: Name,
+    /// Its value at the start.
     pub initial: i32,
 }
 
-/// A spin lock, as CRE_SPN defines it.
+/// A spin lock, as CRE_SPN defines it (FMP kernel, spin locks).
 #[derive(Clone, Copy, Debug, PartialEq, Eq)]
 pub struct SpinLockConfig {
+    /// Its name.
     pub name: Name,
 }
 
-/// A cyclic handler, as CRE_CYC and its class define it.
+/// A cyclic handler, as CRE_CYC and its class define it (uITRON 4.0, section 4.7.2).
 #[derive(Clone, Copy, Debug, PartialEq, Eq)]
 pub struct CyclicConfig {
+    /// Its name.
     pub name: Name,
     /// TA_STA: the handler is started when it is created.
     pub started: bool,
+    /// The extended information, which its body gets at the start.
     pub exinf: i32,
+    /// Its body.
     pub entry: Entry,
     /// Ticks, 1 to 2^30.
     pub period: u32,
@@ -121,11 +140,12 @@ pub struct CyclicConfig {
     pub processor: u8,
 }
 
-/// An interrupt handler, as DEF_INH and its class define it.
+/// An interrupt handler, as DEF_INH and its class define it (uITRON 4.0, section 4.9).
 #[derive(Clone, Copy, Debug, PartialEq, Eq)]
 pub struct InterruptConfig {
     /// The interrupt number, 1 to 32.
     pub number: u8,
+    /// Its body.
     pub entry: Entry,
     /// The place of the processor that it runs on.
     pub processor: u8,
@@ -138,15 +158,25 @@ pub struct System {
     pub processors: u8,
     /// The greatest count of queued activations and of queued wakeups of a task.
     pub queue_limit: u8,
+    /// The tasks: at most 255, as of each kind below.
     pub tasks: Vec<TaskConfig>,
+    /// The semaphores.
     pub semaphores: Vec<SemaphoreConfig>,
+    /// The eventflags.
     pub flags: Vec<FlagConfig>,
+    /// The data queues.
     pub data_queues: Vec<DataQueueConfig>,
+    /// The mailboxes.
     pub mailboxes: Vec<MailboxConfig>,
+    /// The messages.
     pub messages: Vec<MessageConfig>,
+    /// The shared words.
     pub shared_words: Vec<SharedWordConfig>,
+    /// The spin locks.
     pub spin_locks: Vec<SpinLockConfig>,
+    /// The cyclic handlers.
     pub cyclics: Vec<CyclicConfig>,
+    /// The interrupt handlers, at most 32.
     pub interrupts: Vec<InterruptConfig>,
 }
 

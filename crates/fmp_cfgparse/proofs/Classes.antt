@@ -226,7 +226,7 @@ ends_there us = λ is. let lt = slice_get_within us (length us) class_word is in
 
 pub verdict_stopped : (ts : List TokenKind) (e : ReadError) → Answers configuration_view (Err e) (RightConfig ts 0) → IsVerdict ts (Err e)
 verdict_stopped ts Memory a = tt
-verdict_stopped ts (Fault at why) a = whole_stopped Config EndsClasses ends_there ts at why a
+verdict_stopped ts (Fault f) a = whole_stopped Config EndsClasses ends_there ts f.at f.why a
 
 pub verdict_longer : (ts : List TokenKind) (t : ConfigurationTree) (j : ℕ) → j < length ts → RightConfig ts 0 (found t j) → IsFirstFault Config ts j Syntax
 verdict_longer ts t j lt x = whole_longer Config EndsClasses ends_there config_framed ts t j lt x

@@ -123,7 +123,7 @@ begins_letter b c e =
 
 -- each piece
 piece_known : (text : List ℕ) (i : ℕ) (s : Start) (p : Piece) → (s ≡ start.Word → is_letter (slice_index text i) ≡ true) → IsPieceOf text i s p → PieceIs p
-piece_known text i start.Space p letter x = rw x tt
+piece_known text i start.Space p letter x = rw x.2 tt
 piece_known text i start.LineComment p letter x = rw x.2 tt
 piece_known text i start.BlockComment p letter (inl x) = rw x.2 tt
 piece_known text i start.BlockComment p letter (inr x) = rw x.1 tt

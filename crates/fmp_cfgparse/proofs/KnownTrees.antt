@@ -14,14 +14,15 @@ use Rattle.fmp_lex.specs.declared.words.Constant.{Constant}
 use Rattle.fmp_lex.specs.declared.words.Constant.TheVariants as constant
 use Rattle.fmp_lex.specs.Reading.{Star, IsWhole}
 use Rattle.fmp_lex.specs.Words.{constant_value}
-use Rattle.fmp_cfgparse.specs.declared.forms.Mark.{Mark}
-use Rattle.fmp_cfgparse.specs.declared.forms.Mark.TheVariants as mark
+use Rattle.fmp_lex.specs.Forms.{put}
+use Rattle.fmp_lex.specs.declared.marks.Mark.{Mark}
+use Rattle.fmp_lex.specs.declared.marks.Mark.TheVariants as mark
 use Rattle.fmp_cfgparse.specs.declared.forms.Part.{Part}
 use Rattle.fmp_cfgparse.specs.declared.forms.Part.TheVariants as part
 use Rattle.fmp_cfgparse.specs.declared.tree.Item.{Item}
 use Rattle.fmp_cfgparse.specs.declared.tree.Item.TheVariants as item
 use Rattle.fmp_cfgparse.specs.Apis.{gives_name}
-use Rattle.fmp_cfgparse.specs.Grammar.{name_of, plain_item_of, OneItem, MoreItem, OneValue, OnePart, put, Parts, api_parts, OneApi, OneClass, Config}
+use Rattle.fmp_cfgparse.specs.Grammar.{name_of, plain_item_of, OneItem, MoreItem, OneValue, OnePart, Parts, api_parts, OneApi, OneClass, Config}
 use Rattle.fmp_cfgparse.specs.Tables.{IsObjectName}
 use Rattle.fmp_cfgparse.specs.Trees.{FieldTree, value, name, ApiTree, ClassTree, ConfigurationTree}
 use Rattle.fmp_cfgparse.specs.Values.{item_number, joined, joined_items, number_of, or_zero, field_number, number_at, name_at}

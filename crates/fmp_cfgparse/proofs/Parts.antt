@@ -8,14 +8,15 @@ use Rattle.fmp_lex.specs.declared.reading.GrammarFault.{GrammarFault}
 use Rattle.fmp_lex.specs.Reading.{At, Seq, OneToken, Same, Outcome, found, stopped, place, map_outcome, Right, Anywhere}
 use Rattle.fmp_lex.specs.Reading as reading
 use Rattle.fmp_lex.proofs.Sequences.{Framed, Fills, Follows, token_framed, token_fills, seq_fills, seq_then, seq_stop, right_as, item_framed}
-use Rattle.fmp_cfgparse.specs.declared.forms.Mark.{Mark}
-use Rattle.fmp_cfgparse.specs.declared.forms.Mark.TheVariants as mark
+use Rattle.fmp_lex.specs.Forms.{mark_kind, put}
+use Rattle.fmp_lex.specs.declared.marks.Mark.{Mark}
+use Rattle.fmp_lex.specs.declared.marks.Mark.TheVariants as mark
 use Rattle.fmp_cfgparse.specs.declared.forms.Part.{Part}
 use Rattle.fmp_cfgparse.specs.declared.forms.Part.TheVariants as part
 use Rattle.fmp_cfgparse.specs.declared.tree.Item.{Item}
 use Rattle.fmp_cfgparse.specs.declared.tree.Item.TheVariants as item
 use Rattle.fmp_cfgparse.specs.Trees.{FieldTree, value, name}
-use Rattle.fmp_cfgparse.specs.Grammar.{name_of, plain_item_of, OneItem, OneValue, mark_kind, OnePart, put, Parts}
+use Rattle.fmp_cfgparse.specs.Grammar.{name_of, plain_item_of, OneItem, OneValue, OnePart, Parts}
 use Rattle.fmp_cfgparse.specs.Reading.{EndsValue, RightName, RightValue, RightPart, RightParts}
 use Rattle.fmp_cfgparse.proofs.Items.{bar, name_fills, value_framed, value_fills}
 use Rattle.fmp_lex.proofs.Repetitions.{put_before}

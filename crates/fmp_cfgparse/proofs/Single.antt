@@ -5,12 +5,13 @@ use Rattle.fmp_lex.specs.declared.token.TokenKind.{TokenKind}
 use Rattle.fmp_lex.specs.Reading.{Rel, Seq, OneToken, IsItem, Anywhere, IsWhole, Star}
 use Rattle.fmp_lex.specs.Reading as reading
 use Rattle.fmp_lex.proofs.Sequences.{Follows}
+use Rattle.fmp_lex.specs.Forms.{mark_kind, put}
 use Rattle.fmp_cfgparse.specs.declared.forms.Part.{Part}
 use Rattle.fmp_cfgparse.specs.declared.forms.Part.TheVariants as part
 use Rattle.fmp_cfgparse.specs.declared.tree.Item.{Item}
 use Rattle.fmp_cfgparse.specs.declared.tree.Item.TheVariants as item
 use Rattle.fmp_cfgparse.specs.Trees.{FieldTree, value, name, ApiTree, ClassTree, ConfigurationTree}
-use Rattle.fmp_cfgparse.specs.Grammar.{number_of, name_of, plain_item_of, api_of, OneItem, MoreItem, OneValue, mark_kind, OnePart, put, Parts, api_parts, OneApi, OneClass, Config}
+use Rattle.fmp_cfgparse.specs.Grammar.{number_of, name_of, plain_item_of, api_of, OneItem, MoreItem, OneValue, OnePart, Parts, api_parts, OneApi, OneClass, Config}
 use Rattle.fmp_cfgparse.specs.Reading.{EndsValue, EndsApis, EndsClasses}
 use Rattle.fmp_cfgparse.proofs.Items.{minus, minus_back, plain_back}
 use Rattle.fmp_cfgparse.proofs.Parts.{parts_follow}

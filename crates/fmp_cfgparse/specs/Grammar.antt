@@ -7,9 +7,9 @@ use Rattle.fmp_lex.specs.declared.token.TokenKind.TheVariants as kind
 use Rattle.fmp_lex.specs.declared.words.Api.{Api}
 use Rattle.fmp_lex.specs.declared.words.Api.TheVariants as api
 use Rattle.fmp_lex.specs.declared.words.Keyword.TheVariants as keyword
+use Rattle.fmp_lex.specs.Forms.{mark_kind, PartsBy}
 use Rattle.fmp_lex.specs.Reading.{Rel, IsToken, IsItem, Star}
-use Rattle.fmp_cfgparse.specs.declared.forms.Mark.{Mark}
-use Rattle.fmp_cfgparse.specs.declared.forms.Mark.TheVariants as mark
+use Rattle.fmp_lex.specs.declared.marks.Mark.TheVariants as mark
 use Rattle.fmp_cfgparse.specs.declared.forms.Part.{Part}
 use Rattle.fmp_cfgparse.specs.declared.forms.Part.TheVariants as part
 use Rattle.fmp_cfgparse.specs.declared.tree.Item.{Item}
@@ -49,15 +49,6 @@ abbrev pub OneValue : Rel (List Item)
 OneValue ts limit i [] j = ⊥
 OneValue ts limit i (a ∷ more) j = (k : ℕ) × OneItem ts limit i a k × Star MoreItem ts limit k more j
 
-abbrev pub mark_kind : Mark → TokenKind
-mark_kind mark.LeftParen = kind.Symbol symbol.LeftParen
-mark_kind mark.RightParen = kind.Symbol symbol.RightParen
-mark_kind mark.LeftBrace = kind.Symbol symbol.LeftBrace
-mark_kind mark.RightBrace = kind.Symbol symbol.RightBrace
-mark_kind mark.Comma = kind.Symbol symbol.Comma
-mark_kind mark.Semicolon = kind.Symbol symbol.Semicolon
-mark_kind mark.Null = kind.Keyword keyword.Null
-
 -- a part of the form of a static API, and the field that it gives
 abbrev pub OnePart : Part → Rel (Option FieldTree)
 OnePart (part.Mark m) ts limit i None j = IsToken ts (mark_kind m) i j
@@ -65,18 +56,9 @@ OnePart part.Name ts limit i (Some (name n)) j = IsItem name_of ts i n j
 OnePart part.Value ts limit i (Some (value v)) j = OneValue ts limit i v j
 OnePart _ ts limit i _ j = ⊥
 
--- the field of a part, if it gives one, before the others
-abbrev pub put : Option FieldTree → List FieldTree → List FieldTree
-put None more = more
-put (Some f) more = f ∷ more
-
 -- parts one after another, and their fields
 abbrev pub Parts : List Part → Rel (List FieldTree)
-Parts [] ts limit i fields j = (fields ≡ []) × (j ≡ i)
-Parts (p ∷ ps) ts limit i fields j =
-    (f : Option FieldTree)
-    × (more : List FieldTree)
-    × (fields ≡ put f more) × (k : ℕ) × OnePart p ts limit i f k × Parts ps ts limit k more j
+Parts = PartsBy OnePart
 
 -- the rest of a packet: a comma before each part, and what closes the API
 abbrev pub packet_rest : List Part → List Part

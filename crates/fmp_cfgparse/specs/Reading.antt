@@ -68,4 +68,4 @@ IsVerdict ts (Ok c) =
     IsWhole Config ts (configuration_view c)
     × ((other : ConfigurationTree) → IsWhole Config ts other → other ≡ configuration_view c)
 IsVerdict ts (Err errors.Memory) = Unit {0}
-IsVerdict ts (Err (errors.Fault at why)) = IsFirstFault Config ts at why
+IsVerdict ts (Err (errors.Fault f)) = IsFirstFault Config ts f.at f.why

@@ -2,19 +2,7 @@
 ghost use Rattle.std.specs.Prelude.{◌≡◌};
 ghost use Rattle.fmp_cfgparse.specs.Grammar.{api_parts};
 
-use fmp_lex::Api;
-
-/// A token that stands in every use of a static API. None of them goes on with a value.
-#[derive(Clone, Copy, Debug, PartialEq, Eq)]
-pub enum Mark {
-    LeftParen,
-    RightParen,
-    LeftBrace,
-    RightBrace,
-    Comma,
-    Semicolon,
-    Null,
-}
+use fmp_lex::{Api, Mark};
 
 /// A part of the form of a static API.
 #[derive(Clone, Copy, Debug, PartialEq, Eq)]

@@ -23,9 +23,7 @@ pub fn parse(alloc: Global, text: &[u8]) -> Result<Parsed, BuildFault>
         Ok(list) => match read_tree(alloc, &list.tokens) {
             Ok(tree) => Ok(Parsed { list, tree }),
             Err(ReadError::Memory) => Err(BuildFault::Memory),
-            Err(ReadError::Fault(at, why)) => {
-                Err(fault_at(&list, TextFile::Configuration, at, why))
-            }
+            Err(ReadError::Fault(fault)) => Err(fault_at(&list, TextFile::Configuration, fault)),
         },
         Err(TextFault::TooLong) => Err(BuildFault::At(
             TextFile::Configuration,

@@ -1,16 +1,18 @@
 //! From the tokens of a configuration to its tree.
 ghost use Rattle.std.specs.Prelude.{◌≡◌, ◌≤◌, ◌<◌, ◌++◌, Some, length, slice_get, option_and_then, IfSome, IfOk, IfErr, []};
-ghost use Rattle.fmp_lex.specs.Reading.{kinds_of, Answers, Steps, RightToken};
+ghost use Rattle.fmp_lex.specs.Forms as forms;
+ghost use Rattle.fmp_lex.specs.Reading.{kinds_of, Answers, Finds};
 ghost use Rattle.fmp_cfgparse.specs.Grammar as grammar;
-ghost use Rattle.fmp_cfgparse.specs.Grammar.{mark_kind};
 ghost use Rattle.fmp_cfgparse.specs.Reading.{itself, RightItem, RightNumber, RightName, RightValue, RightPart, RightParts, RightApi, RightApis, RightClass, RightClasses, RightConfig, IsVerdict};
 ghost use Rattle.fmp_cfgparse.specs.Trees.{items_view, part_view, fields_view, api_view, apis_view, class_view, classes_view, configuration_view};
 
-use crate::forms::{Mark, Part, parts_of};
+use crate::forms::{Part, parts_of};
 use crate::tree::{Class, Configuration, Field, Item, StaticApi};
 use fmp_base::Name;
 use fmp_lex::reading::{expect_keyword, expect_symbol, is_keyword_at, is_symbol_at, kind_at};
-use fmp_lex::{Api, GrammarFault, Keyword, ReadError, Symbol, Token, TokenKind};
+use fmp_lex::{
+    Api, FirstFault, GrammarFault, Keyword, ReadError, Symbol, Token, TokenKind, expect_mark,
+};
 use std::alloc::Global;
 
 fn number_of(kind: TokenKind) -> Option<i32>
@@ -79,29 +81,35 @@ fn api_at(tokens: &[Token], at: usize) -> Option<Api>
     api_of(kind_at(tokens, at)?)
 }
 
-fn expect_number(tokens: &[Token], at: usize) -> Result<(i32, usize), ReadError>
+fn expect_number(tokens: &[Token], at: usize) -> Result<(i32, usize), FirstFault>
     requires { at ≤ length tokens.now }
-    ensures { Answers itself result (RightNumber (kinds_of tokens.now) at) }
+    ensures { Finds itself result (RightNumber (kinds_of tokens.now) at) }
 {
     match number_at(tokens, at) {
         Some(number) => Ok((number, at + 1)),
-        None => Err(ReadError::Fault(at, GrammarFault::Syntax)),
+        None => Err(FirstFault {
+            at,
+            why: GrammarFault::Syntax,
+        }),
     }
 }
 
-fn expect_name(tokens: &[Token], at: usize) -> Result<(Name, usize), ReadError>
+fn expect_name(tokens: &[Token], at: usize) -> Result<(Name, usize), FirstFault>
     requires { at ≤ length tokens.now }
-    ensures { Answers itself result (RightName (kinds_of tokens.now) at) }
+    ensures { Finds itself result (RightName (kinds_of tokens.now) at) }
 {
     match name_at(tokens, at) {
         Some(name) => Ok((name, at + 1)),
-        None => Err(ReadError::Fault(at, GrammarFault::Syntax)),
+        None => Err(FirstFault {
+            at,
+            why: GrammarFault::Syntax,
+        }),
     }
 }
 
-fn item(tokens: &[Token], at: usize) -> Result<(Item, usize), ReadError>
+fn item(tokens: &[Token], at: usize) -> Result<(Item, usize), FirstFault>
     requires { at ≤ length tokens.now }
-    ensures { Answers itself result (RightItem (kinds_of tokens.now) at) }
+    ensures { Finds itself result (RightItem (kinds_of tokens.now) at) }
 {
     if is_symbol_at(tokens, at, Symbol::Minus) {
         let (number, next) = expect_number(tokens, at + 1)?;
@@ -109,7 +117,10 @@ fn item(tokens: &[Token], at: usize) -> Result<(Item, usize), ReadError>
     }
     match plain_item_at(tokens, at) {
         Some(item) => Ok((item, at + 1)),
-        None => Err(ReadError::Fault(at, GrammarFault::Syntax)),
+        None => Err(FirstFault {
+            at,
+            why: GrammarFault::Syntax,
+        }),
     }
 }
 
@@ -127,21 +138,6 @@ fn value(alloc: Global, tokens: &[Token], at: usize) -> Result<(Vec<Item>, usize
         i = next;
     }
     Ok((items, i))
-}
-
-fn expect_mark(tokens: &[Token], at: usize, mark: Mark) -> Result<usize, ReadError>
-    requires { at ≤ length tokens.now }
-    ensures { Steps result (RightToken (kinds_of tokens.now) (mark_kind mark) at) }
-{
-    match mark {
-        Mark::LeftParen => expect_symbol(tokens, at, Symbol::LeftParen),
-        Mark::RightParen => expect_symbol(tokens, at, Symbol::RightParen),
-        Mark::LeftBrace => expect_symbol(tokens, at, Symbol::LeftBrace),
-        Mark::RightBrace => expect_symbol(tokens, at, Symbol::RightBrace),
-        Mark::Comma => expect_symbol(tokens, at, Symbol::Comma),
-        Mark::Semicolon => expect_symbol(tokens, at, Symbol::Semicolon),
-        Mark::Null => expect_keyword(tokens, at, Keyword::Null),
-    }
 }
 
 fn part(
@@ -171,7 +167,7 @@ fn part(
 
 fn put(fields: &mut Vec<Field>, field: Option<Field>) -> Result<(), ReadError>
     ensures fields { IfOk result
-        (λ _. fields_view fields.new ≡ fields_view fields.old ++ grammar.put (part_view field) []) }
+        (λ _. fields_view fields.new ≡ fields_view fields.old ++ forms.put (part_view field) []) }
     ensures memory { IfErr result (λ e. e ≡ ReadError.Memory) }
 {
     if let Some(field) = field {
@@ -287,7 +283,10 @@ pub(crate) fn read_tree(alloc: Global, tokens: &[Token]) -> Result<Configuration
 {
     let (tree, next) = configuration(alloc, tokens)?;
     if next < tokens.len() {
-        return Err(ReadError::Fault(next, GrammarFault::Syntax));
+        return Err(ReadError::Fault(FirstFault {
+            at: next,
+            why: GrammarFault::Syntax,
+        }));
     }
     Ok(tree)
 }

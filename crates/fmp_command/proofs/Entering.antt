@@ -1,12 +1,12 @@
 -- From what clap's getters say to the rows of its matches.
-use Rattle.std.proofs.Common.{◌≡◌, ◌∙◌, ◌<◌, ◌⊎◌, inl, inr, ℕ, [], length, Bool, true, List, Option, Some, None, Result, Ok, Err, ap, ap₂, refl, sym, subst, true≢false, option_map}
-use Rattle.std.specs.Option.{is_some, unwrap_or}
+use Rattle.std.proofs.Common.{◌≡◌, ◌∙◌, ◌<◌, ℕ, [], length, true, List, Option, Some, None, Result, Ok, Err, ap, ap₂, refl, sym, subst, true≢false, option_map}
+use Rattle.std.specs.Option.{IsSomeAnd, is_some, unwrap_or}
+use Rattle.std.specs.Str.Parse.{ParsesUnsigned}
+use Rattle.clap.specs.Values.{IsUnsignedIn}
 use Rattle.clap.specs.Matches.{ReadsOne}
-use Rattle.clap.specs.Words.{HasKind, IsAmong, Kinds, Row, Text, fault_of, is_simple, is_simple_and_free, kind_of, subcommand_of}
-use Rattle.clap.specs.declared.error.Error.{Error}
-use Rattle.clap.specs.declared.error.kind.ErrorKind.{ErrorKind}
-use Rattle.clap.specs.declared.error.kind.ErrorKind.TheVariants.{OutOfMemory}
-use Rattle.fmp_command.specs.Asked.{AsksFor, IsAsked, IsRefused, IsRefusedLater}
+use Rattle.clap.specs.Words.{App, HasMatchesOf, Row, Text, fault_of, is_simple, is_simple_and_free, subcommand_of, subcommand_rows_of}
+use Rattle.clap.specs.declared.parser.matches.ArgMatches.{ArgMatches}
+use Rattle.fmp_command.specs.Asked.{AsksFor, IsAsked}
 use Rattle.fmp_command.specs.Form.{fmp}
 use Rattle.fmp_command.specs.declared.asking.Cmd.{Cmd}
 use Rattle.fmp_command.specs.declared.asking.Cmd.TheVariants.{Build, Check, Sim, Stored}
@@ -34,6 +34,14 @@ number_read gives None read n none some is = absurd (some≢none n (sym is ∙ n
 number_read gives (Some t) None n none some is = absurd (some≢none n (sym is))
 number_read gives (Some t) (Some m) n none some is = (t, refl, subst (λ (k : ℕ). gives t (Ok k)) (some-same is) (some t refl))
 
+-- a text that spells a number is read
+pub number_given : {E : Type 0} (gives : List ℕ → Result ℕ E → Type 0) (text : Option (List ℕ)) (read : Option ℕ)
+    → IsSomeAnd text (IsUnsignedIn 1 281474976710656) → ((t : List ℕ) → text ≡ Some t → ReadsOne {T = ℕ} {E = E} gives t read)
+    → ((t : List ℕ) (r : Result ℕ E) → gives t r → ParsesUnsigned 64 10 t r) → is_some read ≡ true
+number_given gives None read is reads parses = absurd is
+number_given gives (Some t) (Some n) is reads parses = refl
+number_given gives (Some t) None is reads parses = let (e, given) = reads t refl in absurd (parses t (Err e) given (is.0, is.1))
+
 -- the form is one of which clap says exactly what its matches and its errors are
 pub form_is_simple : is_simple fmp ≡ true
 form_is_simple = refl
@@ -48,12 +56,16 @@ asks_for words name rows (Build config tasks image) long fits entered asked = (l
 asks_for words name rows (Sim image steps bound) long fits entered asked = (long, fits, (name, rows, entered, asked))
 asks_for words name rows Stored long fits entered asked = absurd asked
 
--- an error of the parse is one of the words
-pub refused_by : (kinds : Kinds) (e : Error) (P : Type 0) → HasKind kinds e → (kind_of e ≡ OutOfMemory) ⊎ IsAmong (kind_of e) kinds ⊎ P
-refused_by kinds e P (inl memory) = inl memory
-refused_by kinds e P (inr among) = inr (inl among)
+-- what stands on the other side of an option is there
+pub some_beside : {A R : Type 0} (view : A → R) (o : Option A) (rows : Option R) (P : R → Type 0) → option_map view o ≡ rows → IsSomeAnd rows P → is_some o ≡ true
+some_beside view None rows P e has = absurd (subst (λ r. IsSomeAnd r P) (sym e) has)
+some_beside view (Some x) rows P e has = refl
 
--- an error behind the parse is one of the words
-pub refused_later : (words : List Text) (kind : ErrorKind) → (kind ≡ OutOfMemory) ⊎ IsRefusedLater kind → IsRefused words kind
-refused_later words kind (inl memory) = inl memory
-refused_later words kind (inr later) = inr (inr later)
+-- a parse of this form that succeeds has no fault
+pub fits_form : (app : App) (words : List Text) → app ≡ fmp → (is_simple_and_free app ≡ true → fault_of app words ≡ []) → fault_of fmp words ≡ []
+fits_form app words form none = sym (ap (λ (a : App). fault_of a words) form) ∙ none (ap is_simple_and_free form ∙ form_is_free)
+
+-- and has entered the subcommand that the words name
+pub enters_form : (app : App) (words : List Text) (m : ArgMatches) (seen : Option (Text × List Row)) → app ≡ fmp → HasMatchesOf app words m
+    → seen ≡ subcommand_rows_of m → seen ≡ subcommand_of fmp words
+enters_form app words m seen form has is = is ∙ (has (ap is_simple form ∙ form_is_simple)).1 ∙ ap (λ (a : App). subcommand_of a words) form

@@ -1,9 +1,9 @@
 -- What the words of a command line ask for.
-use Rattle.std.specs.Prelude.{ℕ, ◌≡◌, ◌≤◌, ◌<◌, ◌⊎◌, List, [], Some, codes, length, string_bytes}
+use Rattle.std.specs.Prelude.{ℕ, ◌≡◌, ◌≤◌, ◌<◌, ◌⊎◌, List, [], IsSome, IsSomeAnd, Some, codes, length, string_bytes}
 use Rattle.std.specs.Str.Parse.{digits_value, without_leading_plus}
-use Rattle.clap.specs.Words.{IsAmong, Row, Text, fault_of, first_of, one_of, subcommand_of}
+use Rattle.clap.specs.Words.{IsAmong, IsUnsignedIn, Row, Text, fault_of, first_of, one_of, subcommand_of}
 use Rattle.clap.specs.declared.error.kind.ErrorKind.{ErrorKind}
-use Rattle.clap.specs.declared.error.kind.ErrorKind.TheVariants.{MissingRequiredArgument, MissingSubcommand, OutOfMemory, ValueValidation}
+use Rattle.clap.specs.declared.error.kind.ErrorKind.TheVariants.{OutOfMemory}
 use Rattle.fmp_command.specs.Form.{fmp}
 use Rattle.fmp_command.specs.declared.asking.Cmd.{Cmd}
 use Rattle.fmp_command.specs.declared.asking.Cmd.TheVariants.{Check, Build, Sim, Stored}
@@ -37,10 +37,23 @@ AsksFor words cmd =
     (1 < length words) × (fault_of fmp words ≡ [])
     × ((name : Text) × (rows : List Row) × (subcommand_of fmp words ≡ Some (name, rows)) × IsAsked name rows cmd)
 
--- a bound out of its range is refused behind the parse, and so is a word that the form has found
-abbrev pub IsRefusedLater : ErrorKind → Type 0
-IsRefusedLater kind = (kind ≡ ValueValidation) ⊎ (kind ≡ MissingRequiredArgument) ⊎ (kind ≡ MissingSubcommand)
+-- there is a word for this argument
+abbrev pub IsGiven : List Row → Text → Type 0
+IsGiven rows id = IsSome (first_of id rows)
 
--- why words are refused: want of memory, a fault of their form, or one that is found later
+-- the word for this argument spells a number from 1 to 2^48
+abbrev pub IsGivenBound : List Row → Text → Type 0
+IsGivenBound rows id = IsSomeAnd (one_of id rows) (IsUnsignedIn 1 281474976710656)
+
+-- what the words that fit the form say to the subcommand that they enter
+pub record HasWords (name : Text) (rows : List Row) : Type 0 where
+  pub known : (name ≡ codes "check") ⊎ (name ≡ codes "build") ⊎ (name ≡ codes "sim")
+  pub check : name ≡ codes "check" → IsGiven rows (codes "CFG") × IsGiven rows (codes "SRC")
+  pub build : name ≡ codes "build"
+      → IsGiven rows (codes "CFG") × IsGiven rows (codes "SRC") × IsGiven rows (codes "OUT")
+  pub sim : name ≡ codes "sim"
+      → IsGiven rows (codes "IMAGE") × IsGiven rows (codes "STEPS") × IsGivenBound rows (codes "bound")
+
+-- why words are refused: want of memory, or a fault of their form
 abbrev pub IsRefused : List Text → ErrorKind → Type 0
-IsRefused words kind = (kind ≡ OutOfMemory) ⊎ IsAmong kind (fault_of fmp words) ⊎ IsRefusedLater kind
+IsRefused words kind = (kind ≡ OutOfMemory) ⊎ IsAmong kind (fault_of fmp words)

@@ -1,5 +1,5 @@
 -- The form of the command line.
-use Rattle.std.specs.Prelude.{List, [], ◌∷◌, Some, true, codes}
+use Rattle.std.specs.Prelude.{[], ◌∷◌, Some, true, codes}
 use Rattle.clap.specs.Words.{App, Rule, Text, new_app, new_rule, with_rule, with_subcommand}
 use Rattle.clap.specs.declared.builder.value_parser.ValueParser.TheVariants.{Unsigned}
 
@@ -7,12 +7,12 @@ use Rattle.clap.specs.declared.builder.value_parser.ValueParser.TheVariants.{Uns
 abbrev pub file : Text → Rule
 file id = record (new_rule id) { required = true }
 
--- `--bound N`: a number below 2^64, and 100000 where it is not given
+-- `--bound N`: a number from 1 to 2^48, and 100000 where it is not given
 abbrev pub bound : Rule
 bound = record (new_rule (codes "bound")) {
   long = Some (codes "bound");
   value_names = 1;
-  parser = Some (Unsigned 0 18446744073709551615);
+  parser = Some (Unsigned 1 281474976710656);
   defaults = codes "100000" ∷ [];
 }
 

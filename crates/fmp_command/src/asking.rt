@@ -30,8 +30,8 @@ pub enum Cmd {
         tasks: String,
         image: String,
     },
-    /// Run an image over the events of a steps text. `bound` limits how many instructions a task computes between two
-    /// service calls.
+    /// Run an image over the events of a steps text. `bound`, 1 to 2^48, limits how many instructions a body takes
+    /// between two service calls.
     Sim {
         image: String,
         steps: String,
@@ -41,14 +41,14 @@ pub enum Cmd {
     Stored,
 }
 
-/// The error for words that are not UTF-8.
+/// The error for words that are not UTF-8, which has the status 2.
 pub fn not_text(alloc: Global) -> Result<Error, AllocError>
     ensures { IfOk result (λ e. kind_of e ≡ ErrorKind.ValueValidation) }
 {
     program(alloc)?.error(ErrorKind::ValueValidation, NOT_TEXT)
 }
 
-/// The error for an image that would take the place of a text that it is built of.
+/// The error for an image that would take the place of a text that it is built of, which has the status 2.
 pub fn image_over_text(alloc: Global) -> Result<Error, AllocError>
     ensures { IfOk result (λ e. kind_of e ≡ ErrorKind.ValueValidation) }
 {
@@ -58,7 +58,8 @@ pub fn image_over_text(alloc: Global) -> Result<Error, AllocError>
 }
 
 /// What the words of a command line ask for, of which the first is the program's name. With no more than that it is the
-/// run of the texts that the program holds.
+/// run of the texts that the program holds. An error has the kind of the first fault of the words' form
+/// (`ValueValidation` for a bound that is no number from 1 to 2^48), or is `OutOfMemory`.
 pub fn command<'a>(alloc: Global, words: &'a [&'a str]) -> Result<Cmd, Error>
     ensures asked { IfOk result (AsksFor (map (λ word. word.now) words.entry.now)) }
     ensures refused { IfErr result (λ e. IsRefused (map (λ word. word.now) words.entry.now) (kind_of e)) }
@@ -69,10 +70,8 @@ pub fn command<'a>(alloc: Global, words: &'a [&'a str]) -> Result<Cmd, Error>
         return Ok(Cmd::Stored);
     }
     let matches = program(alloc)?.try_get_matches_from(words)?;
-    match entered(&matches) {
-        Some((name, words)) => asked(alloc, name, words),
-        None => Err(program(alloc)?.error(ErrorKind::MissingSubcommand, "a command is missing")?),
-    }
+    let (name, words) = entered(&matches).unwrap();
+    Ok(asked(alloc, name, words)?)
 }
 
 /// The status that the program ends with after an error of the command line: 2 for a mistake, 0 where help or the

@@ -1,19 +1,77 @@
 //! The form of the command line.
 ghost use Rattle.std.specs.Prelude.{◌≡◌, IfOk, IsFalse, codes, true};
-ghost use Rattle.clap.specs.Words.{app_of, kind_of, new_app, rule_of, with_rule, with_subcommand};
+ghost use Rattle.clap.specs.Words.{app_of, new_app, rule_of, with_rule, with_subcommand};
 ghost use Rattle.fmp_command.specs.Form.{bare_fmp, bound, build, check, file, fmp, sim};
 
-use clap::error::ErrorKind;
-use clap::{Arg, Command, Error, value_parser};
+use clap::builder::ValueParser;
+use clap::{Arg, Command};
 use std::alloc::{AllocError, Global};
 
-/// What stands below the list of commands.
-const EXAMPLE: &str = "Example:
-  fmp check one_task.cfg one_task.src
-  fmp build one_task.cfg one_task.src one_task.img
-  fmp sim one_task.img three_runs.steps
+/// What the program is.
+const ABOUT: &str =
+    "A multiprocessor real-time kernel of the uITRON family, with the compiler of its systems.
+With no command it builds and runs a small example that it holds.";
 
-Status: 0 done, 1 a fault of what was read, 2 a mistake in the command line, 3 a file or want of memory";
+/// What a steps text is.
+const STEPS: &str =
+    "Text of the events, one a line: 'run 1' lets processor 1 run to its next service call,
+'tick' advances the clock, 'int 3' raises interrupt 3";
+
+/// The largest bound, 2^48.
+const BOUND_MAX: u64 = 281_474_976_710_656;
+
+/// What a bound is.
+const BOUND: &str = "How many instructions a body may take up to its next service call, 1 to 2^48;
+a step that would take more does nothing";
+
+/// An example, and what the program's answers mean.
+const EXAMPLE_AND_CODES: &str = "Example, on the files of the folder 'examples':
+  fmp check examples/queue.cfg examples/queue.src
+  fmp build examples/queue.cfg examples/queue.src queue.img
+  fmp sim queue.img examples/queue.steps
+
+Status, and the line on standard error with it:
+  0        done; help or the version was asked for
+  1        a fault of what was read: 'cfg:3: B4 E_PAR', 'src:2: B1', 'image: L2', 'steps:4: S1'
+  2        a mistake in the command line; OUT is one of the two texts
+  3        'file: NAME', a file could not be read or written ('-' is standard output); 'memory'
+Fault of a text, behind the file and the line at which it stands:
+  B1       syntax: the first token that does not fit, or the end of the text
+  B2       a name is used twice
+  B3       an unknown class, constant or name; an entry that names no body
+  B4       a static API is refused, with its error code: E_RSATR, E_PAR or E_OBJ
+  B5       a limit on sizes, counts or numbers is passed
+  B6       a stack with fewer than four bytes for each operand of its task's body
+  B7       an entry that names a body of the other kind, of a task or of a handler
+Fault of an image:
+  L1       it ends too soon
+  L2       its first four bytes are not 'FMPI'
+  L3       its version is not 1
+  L4       a value breaks a rule of its table
+  L5       the code of a body is not fit to run
+  L6       bytes stand behind the last table
+Fault of a steps text, behind its line:
+  S1       no event: 'run P', 'tick' and 'int I' are events
+  S2       no processor P in the image, or I is not from 1 to 32
+  S3       line 2^20 + 1: a run has at most 2^20 events";
+
+/// An example of `fmp check`.
+const CHECK_EXAMPLE: &str = "Example:
+  fmp check examples/queue.cfg examples/queue.src
+
+'fmp --help' lists the faults.";
+
+/// An example of `fmp build`.
+const BUILD_EXAMPLE: &str = "Example:
+  fmp build examples/queue.cfg examples/queue.src queue.img
+
+'fmp --help' lists the faults. With a fault no file is written.";
+
+/// An example of `fmp sim`.
+const SIM_EXAMPLE: &str = "Example, with the image of the example of 'fmp build --help':
+  fmp sim queue.img examples/queue.steps
+
+'fmp --help' lists the faults. With a fault nothing is printed.";
 
 /// A word that names a file, and has to be there.
 fn file_word<'a>(alloc: Global, id: &'a str, help: &'a str) -> Arg<'a>
@@ -31,7 +89,7 @@ fn config_word<'a>(alloc: Global) -> Arg<'a>
     file_word(
         alloc,
         "CFG",
-        "Configuration: the processors, their classes and the tasks and objects in them",
+        "Configuration: the processors, their classes, and the tasks and objects in them",
     )
 }
 
@@ -55,18 +113,16 @@ fn bound_option<'a>(alloc: Global) -> Arg<'a>
     Arg::new(alloc, "bound")
         .long("bound")
         .value_name("N")
-        .value_parser(value_parser!(u64))
+        .value_parser(ValueParser::unsigned(1, BOUND_MAX))
         .default_value("100000")
-        .help(
-            "How many instructions a task may take up to its next service call, 1 to 2^48; a longer way does nothing",
-        )
+        .help(BOUND)
 }
 
-/// A command of this name, and what help says of it.
-fn named<'a>(alloc: Global, name: &'a str, about: &'a str) -> Command<'a>
+/// A command of this name, and what help says of it above and below its arguments.
+fn named<'a>(alloc: Global, name: &'a str, about: &'a str, example: &'a str) -> Command<'a>
     ensures { app_of result ≡ new_app name.entry.now }
 {
-    Command::new(alloc, name).about(about)
+    Command::new(alloc, name).about(about).after_help(example)
 }
 
 /// A command with one more argument.
@@ -94,7 +150,8 @@ fn check_command<'a>(alloc: Global) -> Result<Command<'a>, AllocError>
     let command = named(
         alloc,
         "check",
-        "Checks the two texts of a system, and prints 'ok' or the first fault with its line",
+        "Checks the two texts of a system: prints 'ok', or the first fault with its line",
+        CHECK_EXAMPLE,
     );
     let command = with_argument(command, config_word(alloc))?;
     with_argument(command, tasks_word(alloc))
@@ -108,7 +165,8 @@ pub fn build_command<'a>(alloc: Global) -> Result<Command<'a>, AllocError>
     let command = named(
         alloc,
         "build",
-        "Compiles the two texts of a system into an image, and prints 'ok' and how many bytes it has",
+        "Compiles the two texts of a system into an image: prints 'ok' and its number of bytes",
+        BUILD_EXAMPLE,
     );
     let command = with_argument(command, config_word(alloc))?;
     let command = with_argument(command, tasks_word(alloc))?;
@@ -119,15 +177,12 @@ fn sim_command<'a>(alloc: Global) -> Result<Command<'a>, AllocError>
     ensures { IfOk result (λ c. app_of c ≡ sim) }
 {
     let image = file_word(alloc, "IMAGE", "Image that 'fmp build' has written");
-    let steps = file_word(
-        alloc,
-        "STEPS",
-        "Text of the events, one a line: 'run 1' lets processor 1 run, 'tick' advances the clock, 'int 3' is an interrupt",
-    );
+    let steps = file_word(alloc, "STEPS", STEPS);
     let command = named(
         alloc,
         "sim",
-        "Runs an image over a list of events, and prints what happens and how the tasks stand at the end",
+        "Runs an image over a list of events: prints what happens, and how the tasks stand then",
+        SIM_EXAMPLE,
     );
     let command = with_argument(command, image)?;
     let command = with_argument(command, steps)?;
@@ -140,10 +195,8 @@ fn bare<'a>(alloc: Global) -> Command<'a>
 {
     Command::new(alloc, "fmp")
         .version("0.1.0")
-        .about(
-            "A multiprocessor real-time kernel, with the compiler of its systems: check or build the texts of a system, and run its image. With no command, it runs a small example that it holds",
-        )
-        .after_help(EXAMPLE)
+        .about(ABOUT)
+        .after_help(EXAMPLE_AND_CODES)
         .subcommand_required(true)
 }
 
@@ -154,13 +207,4 @@ pub fn program<'a>(alloc: Global) -> Result<Command<'a>, AllocError>
     let program = with_command(bare(alloc), check_command(alloc)?)?;
     let program = with_command(program, build_command(alloc)?)?;
     with_command(program, sim_command(alloc)?)
-}
-
-/// An error of `fmp sim` that the parser of the command line did not find.
-pub fn refused(alloc: Global, kind: ErrorKind, message: &str) -> Result<Error, AllocError>
-    ensures { IfOk result (λ e. kind_of e ≡ kind) }
-{
-    sim_command(alloc)?
-        .bin_name("fmp sim")?
-        .error(kind, message)
 }

@@ -12,27 +12,27 @@ ghost use Rattle.fmp_kernel.specs.KernelViews.{view_of_setup};
 ghost use Rattle.fmp_trace.specs.Fronts.{Begins};
 ghost use Rattle.fmp_engine.specs.Plays.{HasTaken};
 
-use fmp_base::{Effect, Event, System, TaskState};
+use fmp_base::{Effect, System, TaskState};
 use fmp_body::Body;
 use fmp_kernel::Kernel;
-use fmp_trace::{print, print_states};
+use fmp_trace::{Steps, print, print_states};
 use std::alloc::{AllocError, Global};
 
-/// Takes events on a kernel, and appends the text of their lines. Where memory runs out, what stood before is still the
-/// front of the text.
+/// Takes all events of some steps on a kernel, and appends the text of their lines. Where memory runs out, what stood
+/// before is still the front of the text.
 fn take<B: Body>(
     sys: &System,
     kernel: &mut Kernel<B>,
-    events: &[Event],
+    steps: &mut Steps<'_>,
     out: &mut Vec<u8>,
 ) -> Result<(), AllocError>
     requires system { kernel.old.system ≡ tables_of sys.now }
-    requires few { kernel.old.done + length events.now ≤ 2 ^ 20 }
-    ensures ok { OnOk result (HasTaken B.meaning kernel.old kernel.new events.now out.old.items out.new.items) }
+    requires few { kernel.old.done + length steps.old ≤ 2 ^ 20 }
+    ensures ok { OnOk result (HasTaken B.meaning kernel.old kernel.new steps.old out.old.items out.new.items) }
     ensures err { OnErr result (Begins out.old.items out.new.items) }
 {
-    for e in events {
-        match kernel.step(*e) {
+    while let Some(event) = steps.next_event() {
+        match kernel.step(event) {
             Effect::Done => print(sys, kernel.done(), kernel.lines(), out)?,
             Effect::Nothing => {}
         }
@@ -62,22 +62,22 @@ fn append_from_setup<B: Body>(
     alloc: Global,
     sys: &System,
     kernel: &mut Kernel<B>,
-    events: &[Event],
+    steps: &mut Steps<'_>,
     out: &mut Vec<u8>,
 ) -> Result<(), AllocError>
     requires system { kernel.old.system ≡ tables_of sys.now }
     requires fresh { kernel.old.done ≡ 0 }
     requires tasks { length sys.now.tasks.items ≤ 255 }
-    requires few { length events.now ≤ 2 ^ 20 }
+    requires few { length steps.old ≤ 2 ^ 20 }
     ensures ok { (body : B) (n : ℕ) →
         kernel.old ≡ view_of_setup body n (tables_of sys.now) (setup (tables_of sys.now) (B.meaning body)) →
         OnOk result (out.new.items ≡
-        out.old.items ++ whole_text (tables_of sys.now) (B.meaning body) n events.now) }
+        out.old.items ++ whole_text (tables_of sys.now) (B.meaning body) n steps.old) }
     ensures err { OnErr result (Begins out.old.items out.new.items) }
 {
     let count = sys.tasks.len() as u8;
     print(sys, 0, kernel.lines(), out)?;
-    take(sys, kernel, events, out)?;
+    take(sys, kernel, steps, out)?;
     let states = states(alloc, kernel, count)?;
     print_states(sys, states.as_slice(), out)
 }
@@ -89,20 +89,20 @@ fn append_run<B: Body + Drop>(
     sys: &System,
     body: B,
     n: u64,
-    events: &[Event],
+    steps: &mut Steps<'_>,
     out: &mut Vec<u8>,
 ) -> Result<(), AllocError>
     requires low { 1 ≤ n }
     requires high { n ≤ 2 ^ 48 }
     requires entries { Entered B.has_entry body (tables_of sys.now) }
     requires range { IsInRange (tables_of sys.now) }
-    requires few { length events.now ≤ 2 ^ 20 }
+    requires few { length steps.old ≤ 2 ^ 20 }
     ensures ok { OnOk result
-        (out.new.items ≡ out.old.items ++ whole_text (tables_of sys.now) (B.meaning body) n events.now) }
+        (out.new.items ≡ out.old.items ++ whole_text (tables_of sys.now) (B.meaning body) n steps.old) }
     ensures err { OnErr result (Begins out.old.items out.new.items) }
 {
     match Kernel::new(alloc, body, sys, n) {
-        Ok(mut kernel) => append_from_setup(alloc, sys, &mut kernel, events, out),
+        Ok(mut kernel) => append_from_setup(alloc, sys, &mut kernel, steps, out),
         Err(_) => Err(AllocError),
     }
 }
@@ -114,20 +114,20 @@ pub fn play<B: Body + Drop>(
     sys: &System,
     body: B,
     n: u64,
-    events: &[Event],
+    steps: &mut Steps<'_>,
     out: &mut Vec<u8>,
 ) -> Result<(), AllocError>
     requires low { 1 ≤ n }
     requires high { n ≤ 2 ^ 48 }
     requires entries { Entered B.has_entry body (tables_of sys.now) }
     requires range { IsInRange (tables_of sys.now) }
-    requires few { length events.now ≤ 2 ^ 20 }
+    requires few { length steps.old ≤ 2 ^ 20 }
     ensures ok { OnOk result
-        (out.new.items ≡ out.old.items ++ whole_text (tables_of sys.now) (B.meaning body) n events.now) }
+        (out.new.items ≡ out.old.items ++ whole_text (tables_of sys.now) (B.meaning body) n steps.old) }
     ensures err { OnErr result (out.new.items ≡ out.old.items) }
 {
     let before = out.len();
-    let played = append_run(alloc, sys, body, n, events, out);
+    let played = append_run(alloc, sys, body, n, steps, out);
     if played.is_err() {
         out.truncate(before);
     }

@@ -9,7 +9,7 @@ use crate::fault::SimFault;
 use crate::play::play;
 use fmp_build::laws::built_image_prints_text;
 use fmp_image::{LoadFault, load};
-use fmp_trace::{StepsFault, read_steps};
+use fmp_trace::Steps;
 use std::alloc::Global;
 
 /// Loads an image, runs it over the events of a steps text, and appends what it prints.
@@ -32,12 +32,11 @@ fn simulate(
         Err(fault) => return Err(SimFault::Load(fault)),
     };
     let system = image.system();
-    let events = match read_steps(alloc, steps, system.processors) {
-        Ok(events) => events,
-        Err(StepsFault::Memory) => return Err(SimFault::Memory),
+    let mut steps = match Steps::new(steps, system.processors) {
+        Ok(steps) => steps,
         Err(fault) => return Err(SimFault::Steps(fault)),
     };
-    match play(alloc, system, image.vm(), n, &events, out) {
+    match play(alloc, system, image.vm(), n, &mut steps, out) {
         Ok(()) => Ok(()),
         Err(_) => Err(SimFault::Memory),
     }

@@ -19,25 +19,33 @@ pub trait Outside {
     // What is known of the files.
     ghost files: { Self → KnownFiles };
 
+    // Whether a write to standard output can fail.
+    ghost output_can_fail: { Self → Bool };
+
     // What was done so far, where it is known.
     ghost done: { Self → Option (List Deed) };
 
-    /// The bytes of a file, or with a limit the first of them, up to one past it.
+    /// The bytes of a file, or with a limit the first of them, up to one past it. `Device` comes only for a name on
+    /// which a call can fail, and `Memory` for want of memory.
     fn read(&self, alloc: Global, name: &str, limit: Option<usize>) -> Result<Vec<u8>, ReadFault>
         ensures bytes { IfOk result (λ bytes.
             IfSome ((files self.now).bytes name.now) (λ all. bytes.items ≡ front limit all)) }
         ensures device { result ≡ Err ReadFault.Device → IsTrue ((files self.now).can_fail name.now) };
 
-    /// Writes a file: it has these bytes then, and no others. After an error it may have a beginning of them.
+    /// Writes a file: it has these bytes then, and no others. After an error, which comes only for a name on which a
+    /// call can fail, it may have a beginning of them.
     fn write(&mut self, name: &str, bytes: &[u8]) -> Result<(), WriteFault>
         ensures ok { OnOk result (Does (done self.old) (wrote name.now bytes.now ∷ []) (done self.new)) }
         ensures err { OnErr result (Begins (wrote name.now) bytes.now (done self.old) (done self.new)) }
-        ensures device { OnErr result (IsTrue ((files self.old).can_fail name.now)) };
+        ensures device { OnErr result (IsTrue ((files self.old).can_fail name.now)) }
+        ensures output { output_can_fail self.new ≡ output_can_fail self.old };
 
-    /// Writes bytes to standard output. After an error it may have a beginning of them.
+    /// Writes bytes to standard output. After an error, which comes only where that can fail, it may have a beginning
+    /// of them.
     fn print(&mut self, bytes: &[u8]) -> Result<(), WriteFault>
         ensures ok { OnOk result (Does (done self.old) (printed bytes.now ∷ []) (done self.new)) }
-        ensures err { OnErr result (Begins printed bytes.now (done self.old) (done self.new)) };
+        ensures err { OnErr result (Begins printed bytes.now (done self.old) (done self.new)) }
+        ensures device { OnErr result (IsTrue (output_can_fail self.old)) };
 
     /// Writes a text to standard error, as far as that goes.
     fn say<D: Display + Drop>(&mut self, text: D)
@@ -56,6 +64,7 @@ pub struct Host<'a, R> {
 }
 
 impl<'a, R> Host<'a, R> {
+    /// The outside that this runtime reaches.
     pub fn new(rt: &'a R) -> Host<'a, R> {
         Host { rt }
     }
@@ -64,6 +73,8 @@ impl<'a, R> Host<'a, R> {
 impl<R: Files + Print + Eprint> Outside for Host<'_, R> {
     // What a file of the system has, and what was done to it, no contract can say.
     ghost files = { λ _. unknown_files };
+
+    ghost output_can_fail = { λ _. true };
 
     ghost done = { λ _. None };
 

@@ -146,7 +146,10 @@ symbol_on i None None = tt
 -- a piece begins at each byte
 piece_of : (text : List ℕ) (i : ℕ) (s : Start) → i < length text → (s ≡ start.Hex → i + 2 ≤ length text) →
     (p : Piece) × IsPieceOf text i s p × GoesOn i p
-piece_of text i start.Space lt inside = (Skip (i + 1), refl, omega arith)
+piece_of text i start.Space lt inside =
+    let (j, run) = run_at (in_class class.Space) text (i + 1) (omega arith) in
+    let from : i + 1 ≤ j = run.from in
+    (Skip j, (j, run, refl), omega arith)
 piece_of text i start.LineComment lt inside =
     let (j, run) = run_at (in_class class.SameLine) text (i + 1) (omega arith) in
     let from : i + 1 ≤ j = run.from in

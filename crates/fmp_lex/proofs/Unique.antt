@@ -28,7 +28,7 @@ close_unique text i j k a b = elim (cases_order j k) [
 ]
 
 pub piece_of_unique : (text : List ℕ) (i : ℕ) (s : Start) (p q : Piece) → IsPieceOf text i s p → IsPieceOf text i s q → p ≡ q
-piece_of_unique text i Space p q a b = cc
+piece_of_unique text i Space p q a b = let e = run_unique _ text (i + 1) a.0 b.0 a.1 b.1 in cc
 piece_of_unique text i LineComment p q a b = let e = run_unique _ text (i + 1) a.0 b.0 a.1 b.1 in cc
 piece_of_unique text i BlockComment p q (inl a) (inl b) = let e = close_unique text (i + 2) a.0 b.0 a.1 b.1 in cc
 piece_of_unique text i BlockComment p q (inl a) (inr b) = absurd (b.0 a.0 a.1.from a.1.closes)

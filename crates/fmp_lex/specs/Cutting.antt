@@ -109,7 +109,7 @@ start_of b c =
 
 -- what begins so at i is this piece
 abbrev pub IsPieceOf : List ℕ → ℕ → Start → Piece → Type 0
-IsPieceOf text i start.Space p = p ≡ Skip (i + 1)
+IsPieceOf text i start.Space p = (j : ℕ) × IsRun (in_class class.Space) text (i + 1) j × (p ≡ Skip j)
 IsPieceOf text i start.LineComment p = (j : ℕ) × IsRun (in_class class.SameLine) text (i + 1) j × (p ≡ Skip j)
 IsPieceOf text i start.BlockComment p =
     ((j : ℕ) × IsFirstClose text (i + 2) j × (p ≡ Skip (j + 2))) ⊎ (NeverCloses text (i + 2) × (p ≡ Fault Syntax))

@@ -1,5 +1,6 @@
 pub mod Cutting
 pub mod Faults
+pub mod Forms
 pub mod Laws
 pub mod Reading
 pub mod Scanning

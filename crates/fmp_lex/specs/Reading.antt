@@ -5,6 +5,7 @@ use Rattle.fmp_lex.specs.declared.token.Token.{Token}
 use Rattle.fmp_lex.specs.declared.token.TokenKind.{TokenKind}
 use Rattle.fmp_lex.specs.declared.reading.GrammarFault.{GrammarFault}
 use Rattle.fmp_lex.specs.declared.reading.GrammarFault.TheVariants.{Syntax, Depth}
+use Rattle.fmp_lex.specs.declared.reading.FirstFault.{FirstFault}
 use Rattle.fmp_lex.specs.declared.reading.ReadError.{ReadError}
 use Rattle.fmp_lex.specs.declared.reading.ReadError.TheVariants as errors
 
@@ -135,13 +136,17 @@ RightToken ts t i = Right (At (OneToken t) i) Anywhere ts i
 abbrev pub Answers : {V A : Type 0} → (V → A) → Result (V × ℕ) ReadError → (Outcome A → Type 0) → Type 0
 Answers view (Ok x) P = P (found (view x.0) x.1)
 Answers view (Err errors.Memory) P = Unit {0}
-Answers view (Err (errors.Fault at why)) P = P (stopped at why)
+Answers view (Err (errors.Fault f)) P = P (stopped f.at f.why)
 
--- likewise of a reader that returns a place alone
-abbrev pub Steps : Result ℕ ReadError → (Outcome (Unit {0}) → Type 0) → Type 0
+-- what a reader returned that takes no memory is right
+abbrev pub Finds : {V A : Type 0} → (V → A) → Result (V × ℕ) FirstFault → (Outcome A → Type 0) → Type 0
+Finds view (Ok x) P = P (found (view x.0) x.1)
+Finds view (Err f) P = P (stopped f.at f.why)
+
+-- likewise where it returns a place alone
+abbrev pub Steps : Result ℕ FirstFault → (Outcome (Unit {0}) → Type 0) → Type 0
 Steps (Ok j) P = P (found tt j)
-Steps (Err errors.Memory) P = Unit {0}
-Steps (Err (errors.Fault at why)) P = P (stopped at why)
+Steps (Err f) P = P (stopped f.at f.why)
 
 -- the whole list is of the grammar X, and spells this
 abbrev pub IsWhole : {A : Type 0} → Rel A → List TokenKind → A → Type 0

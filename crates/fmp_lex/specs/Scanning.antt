@@ -28,6 +28,7 @@ abbrev pub in_class : Class → ℕ → Bool
 in_class class.Word b = is_word b
 in_class class.Digit b = is_digit b
 in_class class.Hex b = is_hex b
+in_class class.Space b = is_space b
 in_class class.SameLine b = not (b == 10)
 
 -- the bytes from i to j are the longest run from i that passes the test

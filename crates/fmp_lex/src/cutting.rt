@@ -172,7 +172,7 @@ fn next_piece(text: &[u8], i: usize) -> Piece
     let b = text[i];
     let c = if i + 1 < text.len() { text[i + 1] } else { 0 };
     match begin(b, c) {
-        Start::Space => Piece::Skip(i + 1),
+        Start::Space => Piece::Skip(run_end(text, Class::Space, i + 1)),
         Start::LineComment => Piece::Skip(run_end(text, Class::SameLine, i + 1)),
         Start::BlockComment => match find_close(text, i + 2) {
             Some(end) => Piece::Skip(end + 2),
@@ -211,8 +211,8 @@ fn cut(alloc: Global, text: &[u8]) -> Result<Vec<Token>, AllocError>
                 tokens.push(Token {
                     kind,
                     line,
-                    start: i,
-                    end,
+                    start: i as u32,
+                    end: end as u32,
                 })?;
                 line += line_feeds(&text[i..end]);
                 i = end;
@@ -221,8 +221,8 @@ fn cut(alloc: Global, text: &[u8]) -> Result<Vec<Token>, AllocError>
                 tokens.push(Token {
                     kind: TokenKind::Bad(fault),
                     line,
-                    start: i,
-                    end: i,
+                    start: i as u32,
+                    end: i as u32,
                 })?;
                 return Ok(tokens);
             }

@@ -3,7 +3,7 @@ ghost use Rattle.std.specs.Prelude.{◌≡◌, slice_get};
 ghost use Rattle.fmp_lex.specs.Faults.{token_fault, fault_of};
 ghost use Rattle.fmp_lex.specs.declared.fault.BuildFault.TheVariants.{Memory};
 
-use crate::reading::GrammarFault;
+use crate::reading::{FirstFault, GrammarFault};
 use crate::token::{LexFault, TokenKind, TokenList};
 use fmp_base::Er;
 use std::alloc::AllocError;
@@ -78,13 +78,13 @@ fn token_fault(kind: TokenKind, why: GrammarFault) -> FaultKind
     }
 }
 
-/// The fault of a text whose tokens have their first fault at this place; behind the last token it stands at the
-/// line on which the text ends.
-pub fn fault_at(list: &TokenList, file: TextFile, at: usize, why: GrammarFault) -> BuildFault
-    ensures { result ≡ fault_of file list.now.end_line (slice_get list.now.tokens.items at) why }
+/// The fault of a text whose tokens have this first fault; behind the last token it stands at the line on which the
+/// text ends.
+pub fn fault_at(list: &TokenList, file: TextFile, fault: FirstFault) -> BuildFault
+    ensures { result ≡ fault_of file list.now.end_line (slice_get list.now.tokens.items fault.at) fault.why }
 {
-    match list.tokens.get(at) {
-        Some(token) => BuildFault::At(file, token.line, token_fault(token.kind, why)),
+    match list.tokens.get(fault.at) {
+        Some(token) => BuildFault::At(file, token.line, token_fault(token.kind, fault.why)),
         None => BuildFault::At(file, list.end_line, FaultKind::Syntax),
     }
 }

@@ -6,6 +6,7 @@ mod cutting;
 pub mod fault;
 mod initials;
 pub mod laws;
+mod marks;
 pub mod reading;
 mod scanning;
 pub mod token;
@@ -13,6 +14,7 @@ pub mod words;
 
 pub use cutting::tokens;
 pub use fault::{BuildFault, FaultKind, TextFile, fault_at};
-pub use reading::{GrammarFault, ReadError};
+pub use marks::{Mark, expect_mark};
+pub use reading::{FirstFault, GrammarFault, ReadError};
 pub use token::{LexFault, Symbol, TextFault, Token, TokenKind, TokenList};
 pub use words::{Api, Constant, Keyword};

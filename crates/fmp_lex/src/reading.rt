@@ -1,7 +1,7 @@
 //! What the grammars read of tokens, and how reading ends.
 ghost use Rattle.std.specs.Prelude.{◌≡◌, ◌<◌, ◌≤◌, IsTrue, Some, false, length, slice_get, IfSome};
 ghost use Rattle.fmp_lex.specs.Reading.{kinds_of, Steps, RightToken};
-ghost use Rattle.fmp_lex.specs.declared.reading.ReadError.TheVariants.{Memory};
+ghost use Rattle.fmp_lex.specs.declared.reading.ReadError.TheVariants.{Memory, Fault};
 
 use crate::token::{Symbol, Token, TokenKind};
 use crate::words::Keyword;
@@ -16,12 +16,27 @@ pub enum GrammarFault {
     Depth,
 }
 
+/// The first fault of a list of tokens: its place in the list, and why the list is none of the grammar.
+#[derive(Clone, Copy, Debug, PartialEq, Eq)]
+pub struct FirstFault {
+    pub at: usize,
+    pub why: GrammarFault,
+}
+
 /// What ends the reading of a list of tokens.
 #[derive(Debug, Drop)]
 pub enum ReadError {
+    /// An allocation was refused.
     Memory,
-    /// The first fault, at this place in the list.
-    Fault(usize, GrammarFault),
+    Fault(FirstFault),
+}
+
+impl From<FirstFault> for ReadError {
+    ghost from_gives = { λ fault e. e ≡ Fault fault };
+
+    fn from(fault: FirstFault) -> Self {
+        ReadError::Fault(fault)
+    }
 }
 
 impl From<AllocError> for ReadError {
@@ -79,25 +94,31 @@ pub fn is_keyword_at(tokens: &[Token], at: usize, keyword: Keyword) -> bool
 }
 
 /// The place behind this symbol, which has to stand at a place.
-pub fn expect_symbol(tokens: &[Token], at: usize, symbol: Symbol) -> Result<usize, ReadError>
+pub fn expect_symbol(tokens: &[Token], at: usize, symbol: Symbol) -> Result<usize, FirstFault>
     requires { at ≤ length tokens.now }
     ensures { Steps result (RightToken (kinds_of tokens.now) (TokenKind.Symbol symbol) at) }
 {
     if is_symbol_at(tokens, at, symbol) {
         Ok(at + 1)
     } else {
-        Err(ReadError::Fault(at, GrammarFault::Syntax))
+        Err(FirstFault {
+            at,
+            why: GrammarFault::Syntax,
+        })
     }
 }
 
 /// The place behind this keyword, which has to stand at a place.
-pub fn expect_keyword(tokens: &[Token], at: usize, keyword: Keyword) -> Result<usize, ReadError>
+pub fn expect_keyword(tokens: &[Token], at: usize, keyword: Keyword) -> Result<usize, FirstFault>
     requires { at ≤ length tokens.now }
     ensures { Steps result (RightToken (kinds_of tokens.now) (TokenKind.Keyword keyword) at) }
 {
     if is_keyword_at(tokens, at, keyword) {
         Ok(at + 1)
     } else {
-        Err(ReadError::Fault(at, GrammarFault::Syntax))
+        Err(FirstFault {
+            at,
+            why: GrammarFault::Syntax,
+        })
     }
 }

@@ -11,6 +11,8 @@ pub enum Class {
     Digit,
     /// The hexadecimal digits.
     Hex,
+    /// Space, tab, carriage return and line feed.
+    Space,
     /// Every byte but the line feed.
     SameLine,
 }
@@ -23,6 +25,7 @@ pub(crate) fn is_in(class: Class, b: u8) -> bool
         Class::Word => matches!(b, b'A'..=b'Z' | b'a'..=b'z' | b'_' | b'0'..=b'9'),
         Class::Digit => b.is_ascii_digit(),
         Class::Hex => b.is_ascii_hexdigit(),
+        Class::Space => matches!(b, b' ' | b'\t' | b'\r' | b'\n'),
         Class::SameLine => b != b'\n',
     }
 }

@@ -66,8 +66,8 @@ pub enum TokenKind {
 pub struct Token {
     pub kind: TokenKind,
     pub line: u32,
-    pub start: usize,
-    pub end: usize,
+    pub start: u32,
+    pub end: u32,
 }
 
 /// The tokens of a text, and the line on which it ends.

@@ -8,14 +8,15 @@ use Rattle.fmp_lex.specs.declared.token.TokenKind.TheVariants as kind
 use Rattle.fmp_lex.specs.Reading.{Rel, At, Seq, OneToken, Same, Outcome, found, stopped, map_outcome, Right, Anywhere, RightToken}
 use Rattle.fmp_lex.proofs.Sequences.{Framed, Fills, fewer, token_framed, token_fills, token_found, seq_fills, seq_then, seq_stop, right_as}
 use Rattle.fmp_lex.proofs.Repetitions.{Behind, Closed, behind_framed, behind_fills, behind_then, behind_stop, closed_framed, closed_fills, closed_found, closed_missing, closed_stop, put_before}
-use Rattle.fmp_tasklang.specs.declared.forms.Mark.{Mark}
-use Rattle.fmp_tasklang.specs.declared.forms.Mark.TheVariants as mark
+use Rattle.fmp_lex.specs.Forms.{mark_kind, put}
+use Rattle.fmp_lex.specs.declared.marks.Mark.{Mark}
+use Rattle.fmp_lex.specs.declared.marks.Mark.TheVariants as mark
 use Rattle.fmp_tasklang.specs.declared.forms.Part.{Part}
 use Rattle.fmp_tasklang.specs.declared.forms.Part.TheVariants as part
 use Rattle.fmp_tasklang.specs.declared.trees.Word.{Word}
 use Rattle.fmp_tasklang.specs.Trees.{ExpressionTree}
 use Rattle.fmp_tasklang.specs.Expressions.{operator_of, loosest}
-use Rattle.fmp_tasklang.specs.Calls.{service_of, mark_kind, call_parts, ArgumentTree, value, out, values_of, out_from, Called, called, put, OnePart, Parts, OneCall}
+use Rattle.fmp_tasklang.specs.Calls.{service_of, call_parts, ArgumentTree, value, out, values_of, out_from, Called, called, OnePart, Parts, OneCall}
 use Rattle.fmp_tasklang.specs.Reading.{OneWord, OneExpression, RightWord, RightExpression, RightPart, RightParts, RightArguments, RightCall, Arguments}
 use Rattle.fmp_tasklang.proofs.Layers.{token_there}
 use Rattle.fmp_tasklang.proofs.Operands.{word_framed, word_fills, expression_framed, Ended, ended_fills, ended_stop, ended_then}
@@ -24,9 +25,13 @@ abbrev pub ampersand : TokenKind
 ampersand = kind.Symbol symbol.And
 
 pub no_operator : (m : Mark) → operator_of (mark_kind m) ≡ None
-no_operator mark.Open = refl
+no_operator mark.LeftParen = refl
+no_operator mark.RightParen = refl
+no_operator mark.LeftBrace = refl
+no_operator mark.RightBrace = refl
 no_operator mark.Comma = refl
-no_operator mark.Close = refl
+no_operator mark.Semicolon = refl
+no_operator mark.Null = refl
 
 module _ (line : ℕ → ℕ) (d : ℕ) where
   -- `&`, a word and a mark

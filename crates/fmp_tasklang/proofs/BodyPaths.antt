@@ -232,7 +232,7 @@ module _ (line : ℕ → ℕ) where
 
   pub verdict_stopped : (ts : List TokenKind) (e : ReadError) → Answers bodies_view (Err e) (RightBodies line ts 0) → IsVerdict line ts (Err e)
   verdict_stopped ts Memory a = tt
-  verdict_stopped ts (Fault at why) a = whole_stopped (Bodies line) EndsBodies ends_there ts at why a
+  verdict_stopped ts (Fault f) a = whole_stopped (Bodies line) EndsBodies ends_there ts f.at f.why a
 
   pub verdict_longer : (ts : List TokenKind) (t : List BodyTree) (j : ℕ) → j < length ts → RightBodies line ts 0 (found t j) → IsFirstFault (Bodies line) ts j Syntax
   verdict_longer ts t j lt x = whole_longer (Bodies line) EndsBodies ends_there (star_framed (OneBody line) body_framed) ts t j lt x

@@ -6,12 +6,13 @@ use Rattle.fmp_base.specs.Services.{arity, out_place}
 use Rattle.fmp_lex.specs.declared.token.TokenKind.{TokenKind}
 use Rattle.fmp_lex.specs.declared.token.TokenKind.TheVariants as kind
 use Rattle.fmp_lex.specs.declared.words.Keyword.TheVariants as keyword
+use Rattle.fmp_lex.specs.Forms.{put}
 use Rattle.fmp_tasklang.specs.declared.forms.Part.{Part}
 use Rattle.fmp_tasklang.specs.declared.forms.Part.TheVariants as part
 use Rattle.fmp_tasklang.specs.declared.trees.Word.{Word}
 use Rattle.fmp_tasklang.specs.Trees.{ExpressionTree, StatementTree, Block, BodyTree}
 use Rattle.fmp_tasklang.specs.Blocks.{block_of, choice}
-use Rattle.fmp_tasklang.specs.Calls.{call_parts, ArgumentTree, value, out, values_of, out_from, Called, call_tree, put, OnePart, Parts, OneCall}
+use Rattle.fmp_tasklang.specs.Calls.{call_parts, ArgumentTree, value, out, values_of, out_from, Called, call_tree, OnePart, Parts, OneCall}
 use Rattle.fmp_tasklang.specs.CallForms.{CallFits, StatementFits, BlockFits, CallsFit}
 use Rattle.fmp_tasklang.specs.Statements.{jump_of, IsStatement, an_assignment, a_call, a_jump, an_if, a_while, IsIf, if_chosen, IsElse, no_else, an_else, IsOther, a_block, another_if, IsBlock, braces, AreStatements, no_statement, a_statement}
 use Rattle.fmp_tasklang.specs.Grammar.{Bodies}

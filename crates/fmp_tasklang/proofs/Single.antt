@@ -4,13 +4,14 @@ use Rattle.std.proofs.lemmas.Option.{slice_get_within}
 use Rattle.fmp_lex.specs.declared.token.TokenKind.{TokenKind}
 use Rattle.fmp_lex.specs.Reading.{Star, IsToken, found, RightToken, IsWhole}
 use Rattle.fmp_lex.proofs.Sequences.{token_found}
+use Rattle.fmp_lex.specs.Forms.{mark_kind}
 use Rattle.fmp_tasklang.specs.declared.forms.Part.{Part}
 use Rattle.fmp_tasklang.specs.declared.forms.Part.TheVariants as part
 use Rattle.fmp_tasklang.specs.declared.trees.Word.{Word}
 use Rattle.fmp_tasklang.specs.Trees.{ExpressionTree, number, StatementTree, service_call, Block, BodyTree}
 use Rattle.fmp_tasklang.specs.Views.{LinkTree}
 use Rattle.fmp_tasklang.specs.Expressions.{number_of, name_of, unary_of, loosest, IsWord, IsOperand, a_number, a_name, a_group, a_unary, IsExpression, an_operand, a_chain, AreLinks, no_link, a_link}
-use Rattle.fmp_tasklang.specs.Calls.{service_of, call_parts, mark_kind, ArgumentTree, value, out, Called, called, call_tree, OnePart, Parts, OneCall}
+use Rattle.fmp_tasklang.specs.Calls.{service_of, call_parts, ArgumentTree, value, out, Called, called, call_tree, OnePart, Parts, OneCall}
 use Rattle.fmp_tasklang.specs.Statements.{jump_of, IsCondition, IsStatement, an_assignment, a_call, a_jump, an_if, a_while, IsIf, if_chosen, IsElse, no_else, an_else, IsOther, a_block, another_if, IsBlock, braces, AreStatements, no_statement, a_statement}
 use Rattle.fmp_tasklang.specs.Grammar.{body_kind_of, OneVariable, OneBody, Bodies}
 use Rattle.fmp_tasklang.specs.Reading.{EndsExpression, EndsElse, EndsStatements, EndsVariables, EndsBodies, RightWord, RightOperand, RightExpression, RightLinks, RightPart, RightParts, RightCall, RightCondition, assigned, by_value, by_call, RightStatement, RightIf, RightElse, RightOther, RightBlock, RightStatements, RightVariable, RightVariables, RightBody, RightBodies}

@@ -5,9 +5,10 @@ use Rattle.fmp_base.specs.Services.{arity, out_place}
 use Rattle.fmp_lex.specs.declared.token.Symbol.TheVariants as symbol
 use Rattle.fmp_lex.specs.declared.token.TokenKind.{TokenKind}
 use Rattle.fmp_lex.specs.declared.token.TokenKind.TheVariants as kind
+use Rattle.fmp_lex.specs.Forms.{mark_kind, PartsBy}
 use Rattle.fmp_lex.specs.Reading.{Rel, IsToken, IsItem}
-use Rattle.fmp_tasklang.specs.declared.forms.Mark.{Mark}
-use Rattle.fmp_tasklang.specs.declared.forms.Mark.TheVariants as mark
+use Rattle.fmp_lex.specs.declared.marks.Mark.{Mark}
+use Rattle.fmp_lex.specs.declared.marks.Mark.TheVariants as mark
 use Rattle.fmp_tasklang.specs.declared.forms.Part.{Part}
 use Rattle.fmp_tasklang.specs.declared.forms.Part.TheVariants as part
 use Rattle.fmp_tasklang.specs.declared.trees.Word.{Word}
@@ -19,15 +20,10 @@ abbrev pub service_of : TokenKind → Option Service
 service_of (kind.Service s) = Some s
 service_of _ = None
 
-abbrev pub mark_kind : Mark → TokenKind
-mark_kind mark.Open = kind.Symbol symbol.LeftParen
-mark_kind mark.Comma = kind.Symbol symbol.Comma
-mark_kind mark.Close = kind.Symbol symbol.RightParen
-
 -- what stands between the parentheses, each with the mark behind it: values, and the out place among them
 abbrev pub places : List (Mark → Part) → List Part
-places [] = part.Mark mark.Close ∷ []
-places (p ∷ []) = p mark.Close ∷ []
+places [] = part.Mark mark.RightParen ∷ []
+places (p ∷ []) = p mark.RightParen ∷ []
 places (p ∷ q ∷ more) = p mark.Comma ∷ places (q ∷ more)
 
 abbrev pub with_out : Option ℕ → List (Mark → Part) → List (Mark → Part)
@@ -36,7 +32,7 @@ with_out (Some n) values = take n values ++ part.Out ∷ drop n values
 
 -- the form of a call behind its name
 abbrev pub call_parts : Service → List Part
-call_parts s = part.Mark mark.Open ∷ places (with_out (out_place s) (replicate (arity s) part.Value))
+call_parts s = part.Mark mark.LeftParen ∷ places (with_out (out_place s) (replicate (arity s) part.Value))
 
 -- an argument, or the variable at the out place
 pub data ArgumentTree : Type 0 where
@@ -71,11 +67,6 @@ called s args = record { service = s; arguments = values_of args; out = out_of a
 abbrev pub call_tree : Option Word → Called → CallTree
 call_tree result c = record { service = c.service; arguments = c.arguments; out = c.out; result = result }
 
--- the argument of a part, if it has one, before the others
-abbrev pub put : Option ArgumentTree → List ArgumentTree → List ArgumentTree
-put None more = more
-put (Some a) more = a ∷ more
-
 -- d is how many levels of nesting are open; the parentheses of a call are none
 module _ (line : ℕ → ℕ) (d : ℕ) where
   -- a mark; a value and the mark behind it; `&`, a variable and the mark behind it
@@ -90,11 +81,7 @@ module _ (line : ℕ → ℕ) (d : ℕ) where
 
   -- parts one after another, and their arguments
   abbrev pub Parts : List Part → Rel (List ArgumentTree)
-  Parts [] ts limit i args j = (args ≡ []) × (j ≡ i)
-  Parts (p ∷ ps) ts limit i args j =
-      (a : Option ArgumentTree)
-      × (more : List ArgumentTree)
-      × (args ≡ put a more) × (k : ℕ) × OnePart p ts limit i a k × Parts ps ts limit k more j
+  Parts = PartsBy OnePart
 
   -- call = callname ( args )
   abbrev pub OneCall : Rel Called

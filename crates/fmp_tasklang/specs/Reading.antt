@@ -246,7 +246,7 @@ IsVerdict line ts (Ok p) =
     IsWhole (Bodies line) ts (program_view p)
     × ((other : List BodyTree) → IsWhole (Bodies line) ts other → other ≡ program_view p)
 IsVerdict line ts (Err errors.Memory) = Unit {0}
-IsVerdict line ts (Err (errors.Fault at why)) = IsFirstFault (Bodies line) ts at why
+IsVerdict line ts (Err (errors.Fault f)) = IsFirstFault (Bodies line) ts f.at f.why
 
 -- the grammar, where names and bodies have the lines of their tokens
 abbrev pub Tasks : List Token → Rel (List BodyTree)

@@ -1,6 +1,6 @@
 //! Bodies and whole programs of the task language.
 ghost use Rattle.std.specs.Prelude.{◌≡◌, ◌≤◌, ◌<◌, Some, length, slice_get, option_and_then};
-ghost use Rattle.fmp_lex.specs.Reading.{kinds_of, Answers};
+ghost use Rattle.fmp_lex.specs.Reading.{kinds_of, Answers, Finds};
 ghost use Rattle.fmp_tasklang.specs.Expressions.{lines_of};
 ghost use Rattle.fmp_tasklang.specs.Grammar.{body_kind_of};
 ghost use Rattle.fmp_tasklang.specs.Reading.{itself, words_view, bodies_view, RightVariable, RightVariables, RightBody, RightBodies, IsVerdict};
@@ -10,12 +10,12 @@ use crate::statements::statements;
 use crate::trees::{Body, BodyKind, Program, Word};
 use crate::words::{body_kind_at, expect_word, line_at};
 use fmp_lex::reading::{expect_keyword, expect_symbol, is_keyword_at};
-use fmp_lex::{GrammarFault, Keyword, ReadError, Symbol, Token};
+use fmp_lex::{FirstFault, GrammarFault, Keyword, ReadError, Symbol, Token};
 use std::alloc::Global;
 
-fn variable(tokens: &[Token], at: usize) -> Result<(Word, usize), ReadError>
+fn variable(tokens: &[Token], at: usize) -> Result<(Word, usize), FirstFault>
     requires { at ≤ length tokens.now }
-    ensures { Answers itself result (RightVariable (lines_of tokens.now) (kinds_of tokens.now) at) }
+    ensures { Finds itself result (RightVariable (lines_of tokens.now) (kinds_of tokens.now) at) }
 {
     let next = expect_keyword(tokens, at, Keyword::Var)?;
     let (name, next) = expect_word(tokens, next)?;
@@ -85,7 +85,10 @@ pub fn read_program(alloc: Global, tokens: &[Token]) -> Result<Program, ReadErro
 {
     let (bodies, next) = bodies(alloc, tokens, 0)?;
     if next < tokens.len() {
-        return Err(ReadError::Fault(next, GrammarFault::Syntax));
+        return Err(ReadError::Fault(FirstFault {
+            at: next,
+            why: GrammarFault::Syntax,
+        }));
     }
     Ok(Program { bodies })
 }

@@ -1,19 +1,19 @@
 //! Service calls of the task language.
 ghost use Rattle.std.specs.Prelude.{◌≡◌, ◌≤◌, ◌<◌, ◌++◌, Some, [], length, map, slice_get, option_and_then, IfOk, IfErr};
-ghost use Rattle.fmp_lex.specs.Reading.{kinds_of, max_depth, Answers, Steps, RightToken};
-ghost use Rattle.fmp_tasklang.specs.Calls as calls;
-ghost use Rattle.fmp_tasklang.specs.Calls.{mark_kind, service_of, values_of, out_from};
+ghost use Rattle.fmp_lex.specs.Reading.{kinds_of, max_depth, Answers};
+ghost use Rattle.fmp_lex.specs.Forms as forms;
+ghost use Rattle.fmp_tasklang.specs.Calls.{service_of, values_of, out_from};
 ghost use Rattle.fmp_tasklang.specs.Expressions.{lines_of};
 ghost use Rattle.fmp_tasklang.specs.Reading.{argument_view, called_view, RightPart, RightArguments, RightCall};
 ghost use Rattle.fmp_tasklang.specs.Views.{expression_view};
 
 use crate::expressions::expression;
-use crate::forms::{Mark, Part, parts_of};
+use crate::forms::{Part, parts_of};
 use crate::trees::{Expression, ServiceCall, Word};
 use crate::words::{LOOSEST, expect_word};
 use fmp_base::Service;
 use fmp_lex::reading::expect_symbol;
-use fmp_lex::{ReadError, Symbol, Token};
+use fmp_lex::{ReadError, Symbol, Token, expect_mark};
 use std::alloc::Global;
 
 /// What a call is passed at one place.
@@ -22,17 +22,6 @@ pub enum Argument {
     Value(Expression),
     /// The variable at the out place.
     Out(Word),
-}
-
-fn expect_mark(tokens: &[Token], at: usize, mark: Mark) -> Result<usize, ReadError>
-    requires { at ≤ length tokens.now }
-    ensures { Steps result (RightToken (kinds_of tokens.now) (mark_kind mark) at) }
-{
-    match mark {
-        Mark::Open => expect_symbol(tokens, at, Symbol::LeftParen),
-        Mark::Comma => expect_symbol(tokens, at, Symbol::Comma),
-        Mark::Close => expect_symbol(tokens, at, Symbol::RightParen),
-    }
 }
 
 fn part(
@@ -67,8 +56,8 @@ fn part(
 
 fn put(call: &mut ServiceCall, argument: Option<Argument>) -> Result<(), ReadError>
     ensures arguments { IfOk result (λ _. map expression_view call.new.arguments.items
-        ≡ map expression_view call.old.arguments.items ++ values_of (calls.put (argument_view argument) [])) }
-    ensures out { IfOk result (λ _. call.new.out ≡ out_from call.old.out (calls.put (argument_view argument) [])) }
+        ≡ map expression_view call.old.arguments.items ++ values_of (forms.put (argument_view argument) [])) }
+    ensures out { IfOk result (λ _. call.new.out ≡ out_from call.old.out (forms.put (argument_view argument) [])) }
     ensures service { IfOk result (λ _. call.new.service ≡ call.old.service) }
     ensures memory { IfErr result (λ e. e ≡ ReadError.Memory) }
 {
@@ -95,7 +84,7 @@ fn arguments(
 {
     let mut call = ServiceCall {
         service,
-        arguments: Vec::new(alloc),
+        arguments: Vec::with_capacity(alloc, parts.len())?,
         out: None,
         result: None,
     };

@@ -11,7 +11,7 @@ use crate::trees::{Expression, Link};
 use crate::words::{LOOSEST, MAX_DEPTH, expect_word, level_at, number_at, operator_at, unary_at};
 use fmp_base::UnaryOperator;
 use fmp_lex::reading::{expect_symbol, is_symbol_at};
-use fmp_lex::{GrammarFault, ReadError, Symbol, Token, TokenKind};
+use fmp_lex::{FirstFault, GrammarFault, ReadError, Symbol, Token, TokenKind};
 use std::alloc::Global;
 
 fn literal(number: i32) -> Expression
@@ -59,7 +59,10 @@ fn unary(
     ensures { Answers expression_view result (RightOperand (lines_of tokens.now) (kinds_of tokens.now) depth at) }
 {
     if depth == MAX_DEPTH {
-        return Err(ReadError::Fault(at, GrammarFault::Depth));
+        return Err(ReadError::Fault(FirstFault {
+            at,
+            why: GrammarFault::Depth,
+        }));
     }
     let (inner, next) = operand(alloc, tokens, depth + 1, at + 1)?;
     let operand = Box::new(alloc, inner)?;
@@ -79,7 +82,10 @@ fn group(
     ensures { Answers expression_view result (RightOperand (lines_of tokens.now) (kinds_of tokens.now) depth at) }
 {
     if depth == MAX_DEPTH {
-        return Err(ReadError::Fault(at, GrammarFault::Depth));
+        return Err(ReadError::Fault(FirstFault {
+            at,
+            why: GrammarFault::Depth,
+        }));
     }
     let (inner, next) = expression(alloc, tokens, depth + 1, LOOSEST, at + 1)?;
     let next = expect_symbol(tokens, next, Symbol::RightParen)?;
@@ -126,7 +132,7 @@ fn links(
     requires at { at ≤ length tokens.now }
     ensures { Answers links_view result (RightLinks (lines_of tokens.now) (kinds_of tokens.now) depth level at) }
 {
-    let mut found = Vec::new(alloc);
+    let mut found = Vec::with_capacity(alloc, 1)?;
     let mut i = at;
     'links: while let Some(operator) = operator_at(tokens, level, i) {
         let (operand, next) = expression(alloc, tokens, depth, level, i + 1)?;

@@ -3,14 +3,7 @@ ghost use Rattle.std.specs.Prelude.{◌≡◌};
 ghost use Rattle.fmp_tasklang.specs.Calls.{call_parts};
 
 use fmp_base::Service;
-
-/// A token of every call.
-#[derive(Clone, Copy, Debug, PartialEq, Eq)]
-pub enum Mark {
-    Open,
-    Comma,
-    Close,
-}
+use fmp_lex::Mark;
 
 /// A part of the form of a call. What goes on with an expression is never the mark behind it.
 #[derive(Clone, Copy, Debug, PartialEq, Eq)]
@@ -22,53 +15,53 @@ pub enum Part {
     Out(Mark),
 }
 
-const NOTHING: [Part; 2] = [Part::Mark(Mark::Open), Part::Mark(Mark::Close)];
+const NOTHING: [Part; 2] = [Part::Mark(Mark::LeftParen), Part::Mark(Mark::RightParen)];
 
-const ONE_VALUE: [Part; 2] = [Part::Mark(Mark::Open), Part::Value(Mark::Close)];
+const ONE_VALUE: [Part; 2] = [Part::Mark(Mark::LeftParen), Part::Value(Mark::RightParen)];
 
 const TWO_VALUES: [Part; 3] = [
-    Part::Mark(Mark::Open),
+    Part::Mark(Mark::LeftParen),
     Part::Value(Mark::Comma),
-    Part::Value(Mark::Close),
+    Part::Value(Mark::RightParen),
 ];
 
 const THREE_VALUES: [Part; 4] = [
-    Part::Mark(Mark::Open),
+    Part::Mark(Mark::LeftParen),
     Part::Value(Mark::Comma),
     Part::Value(Mark::Comma),
-    Part::Value(Mark::Close),
+    Part::Value(Mark::RightParen),
 ];
 
-const OUT: [Part; 2] = [Part::Mark(Mark::Open), Part::Out(Mark::Close)];
+const OUT: [Part; 2] = [Part::Mark(Mark::LeftParen), Part::Out(Mark::RightParen)];
 
 const VALUE_AND_OUT: [Part; 3] = [
-    Part::Mark(Mark::Open),
+    Part::Mark(Mark::LeftParen),
     Part::Value(Mark::Comma),
-    Part::Out(Mark::Close),
+    Part::Out(Mark::RightParen),
 ];
 
 const VALUE_OUT_AND_LIMIT: [Part; 4] = [
-    Part::Mark(Mark::Open),
+    Part::Mark(Mark::LeftParen),
     Part::Value(Mark::Comma),
     Part::Out(Mark::Comma),
-    Part::Value(Mark::Close),
+    Part::Value(Mark::RightParen),
 ];
 
 const THREE_VALUES_AND_OUT: [Part; 5] = [
-    Part::Mark(Mark::Open),
+    Part::Mark(Mark::LeftParen),
     Part::Value(Mark::Comma),
     Part::Value(Mark::Comma),
     Part::Value(Mark::Comma),
-    Part::Out(Mark::Close),
+    Part::Out(Mark::RightParen),
 ];
 
 const THREE_VALUES_OUT_AND_LIMIT: [Part; 6] = [
-    Part::Mark(Mark::Open),
+    Part::Mark(Mark::LeftParen),
     Part::Value(Mark::Comma),
     Part::Value(Mark::Comma),
     Part::Value(Mark::Comma),
     Part::Out(Mark::Comma),
-    Part::Value(Mark::Close),
+    Part::Value(Mark::RightParen),
 ];
 
 /// The form of a call behind its name.

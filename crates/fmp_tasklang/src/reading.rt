@@ -21,7 +21,7 @@ pub fn read_tasks(alloc: Global, text: &[u8]) -> Result<Program, BuildFault>
         Ok(list) => match read_program(alloc, &list.tokens) {
             Ok(program) => Ok(program),
             Err(ReadError::Memory) => Err(BuildFault::Memory),
-            Err(ReadError::Fault(at, why)) => Err(fault_at(&list, TextFile::Source, at, why)),
+            Err(ReadError::Fault(fault)) => Err(fault_at(&list, TextFile::Source, fault)),
         },
         Err(TextFault::TooLong) => Err(BuildFault::At(TextFile::Source, 1, FaultKind::Limit)),
         Err(TextFault::Memory) => Err(BuildFault::Memory),

@@ -16,7 +16,7 @@ use crate::trees::{Expression, ServiceCall, Statement, Word};
 use crate::words::{LOOSEST, MAX_DEPTH, expect_word, jump_at, service_at};
 use fmp_base::Service;
 use fmp_lex::reading::{expect_symbol, is_keyword_at, is_symbol_at};
-use fmp_lex::{GrammarFault, Keyword, ReadError, Symbol, Token, TokenKind};
+use fmp_lex::{FirstFault, GrammarFault, Keyword, ReadError, Symbol, Token, TokenKind};
 use std::alloc::Global;
 
 /// What stands behind `name =`.
@@ -249,10 +249,13 @@ fn other(
         return block(alloc, tokens, depth, looped, at);
     }
     if depth == MAX_DEPTH {
-        return Err(ReadError::Fault(at, GrammarFault::Depth));
+        return Err(ReadError::Fault(FirstFault {
+            at,
+            why: GrammarFault::Depth,
+        }));
     }
     let (inner, next) = if_statement(alloc, tokens, depth + 1, looped, at)?;
-    let mut body = Vec::new(alloc);
+    let mut body = Vec::with_capacity(alloc, 1)?;
     body.push(inner)?;
     Ok((body, next))
 }
@@ -270,10 +273,16 @@ fn block(
     ensures { Answers block_view result (RightBlock (lines_of tokens.now) (kinds_of tokens.now) depth looped at) }
 {
     if !is_symbol_at(tokens, at, Symbol::LeftBrace) {
-        return Err(ReadError::Fault(at, GrammarFault::Syntax));
+        return Err(ReadError::Fault(FirstFault {
+            at,
+            why: GrammarFault::Syntax,
+        }));
     }
     if depth == MAX_DEPTH {
-        return Err(ReadError::Fault(at, GrammarFault::Depth));
+        return Err(ReadError::Fault(FirstFault {
+            at,
+            why: GrammarFault::Depth,
+        }));
     }
     let (body, next) = statements(alloc, tokens, depth + 1, looped, at + 1)?;
     let next = expect_symbol(tokens, next, Symbol::RightBrace)?;
@@ -294,7 +303,7 @@ pub fn statements(
     ensures { Answers statements_view result
         (RightStatements (lines_of tokens.now) (kinds_of tokens.now) depth looped at) }
 {
-    let mut found = Vec::new(alloc);
+    let mut found = Vec::with_capacity(alloc, 1)?;
     let mut i = at;
     'statements: while !is_symbol_at(tokens, i, Symbol::RightBrace) {
         let (one, next) = statement(alloc, tokens, depth, looped, i)?;

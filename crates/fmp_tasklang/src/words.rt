@@ -1,6 +1,6 @@
 //! What tokens are worth in the task language: numbers, names, operators and their levels.
 ghost use Rattle.std.specs.Prelude.{◌≡◌, ◌≤◌, ◌<◌, ℕ, None, Some, length, slice_get, option_and_then, option_map, IfSome, MatchOption};
-ghost use Rattle.fmp_lex.specs.Reading.{kinds_of, Answers};
+ghost use Rattle.fmp_lex.specs.Reading.{kinds_of, Finds};
 ghost use Rattle.fmp_tasklang.specs.Calls as calls;
 ghost use Rattle.fmp_tasklang.specs.Expressions as expressions;
 ghost use Rattle.fmp_tasklang.specs.Expressions.{lines_of};
@@ -12,7 +12,7 @@ ghost use Rattle.fmp_tasklang.specs.Views.{statement_view};
 use crate::trees::{BodyKind, Operator, Statement, Word};
 use fmp_base::{BinaryOperator, Name, Service, UnaryOperator};
 use fmp_lex::reading::kind_at;
-use fmp_lex::{GrammarFault, Keyword, ReadError, Symbol, Token, TokenKind};
+use fmp_lex::{FirstFault, GrammarFault, Keyword, Symbol, Token, TokenKind};
 
 /// Above the levels of all operators.
 pub const LOOSEST: usize = 9;
@@ -204,9 +204,9 @@ pub fn body_kind_at(tokens: &[Token], at: usize) -> Option<BodyKind>
 }
 
 /// The name that has to stand at a place, and the place behind it.
-pub fn expect_word(tokens: &[Token], at: usize) -> Result<(Word, usize), ReadError>
+pub fn expect_word(tokens: &[Token], at: usize) -> Result<(Word, usize), FirstFault>
     requires { at ≤ length tokens.now }
-    ensures { Answers itself result (RightWord (lines_of tokens.now) (kinds_of tokens.now) at) }
+    ensures { Finds itself result (RightWord (lines_of tokens.now) (kinds_of tokens.now) at) }
 {
     match name_at(tokens, at) {
         Some(name) => Ok((
@@ -216,6 +216,9 @@ pub fn expect_word(tokens: &[Token], at: usize) -> Result<(Word, usize), ReadErr
             },
             at + 1,
         )),
-        None => Err(ReadError::Fault(at, GrammarFault::Syntax)),
+        None => Err(FirstFault {
+            at,
+            why: GrammarFault::Syntax,
+        }),
     }
 }

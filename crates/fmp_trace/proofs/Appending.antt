@@ -11,3 +11,8 @@ begins_through {front = front} a b =
 pub on_err_from : {T E P : Type 0} (r : Result T E) → P → OnErr r P
 on_err_from (Ok x) p = tt
 on_err_from (Err e) p = p
+
+-- an error that leaves a list with a front leaves it with a front of that front
+pub on_err_through : {T E : Type 0} (r : Result T E) {front middle : List ℕ} (whole : List ℕ) → Begins front middle → OnErr r (Begins middle whole) → OnErr r (Begins front whole)
+on_err_through (Ok x) whole a b = tt
+on_err_through (Err e) whole a b = begins_through a b

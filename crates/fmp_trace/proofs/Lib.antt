@@ -4,4 +4,5 @@ pub mod LinesOf
 pub mod ListedStates
 pub mod Numbers
 pub mod PrintedSteps
+pub mod StepsRead
 pub mod Words

@@ -37,14 +37,14 @@ line_meaning-event_text processors (event.Int i) small h =
     ap (numbered_event (λ n. event.Int n)) (ranged_number-decimal 32 i h.0 h.1 (omega arith))
 
 -- an event is written on one line
-event_in_line : (processors : ℕ) (e : Event) → processors < 256 → IsStep processors e → IsLine (event_text e)
+pub event_in_line : (processors : ℕ) (e : Event) → processors < 256 → IsStep processors e → IsLine (event_text e)
 event_in_line processors (event.Run p) small h =
     (refl, (refl, (refl, (refl, digits_in_line (decimal p) (decimal_digits p (omega (arith, h.1)))))))
 event_in_line processors event.Tick small h = (refl, (refl, (refl, (refl, tt))))
 event_in_line processors (event.Int i) small h =
     (refl, (refl, (refl, (refl, digits_in_line (decimal i) (decimal_digits i (omega (arith, h.1)))))))
 
-event_of_line-event_text : (processors n : ℕ) (e : Event) → processors < 256 → IsStep processors e → n ≤ 1048576 → event_of_line processors n (event_text e) ≡ Ok e
+pub event_of_line-event_text : (processors n : ℕ) (e : Event) → processors < 256 → IsStep processors e → n ≤ 1048576 → event_of_line processors n (event_text e) ≡ Ok e
 event_of_line-event_text processors n e small h few =
     ap (λ t. cond t (fault_at n (line_meaning processors (event_text e))) (Err (fault.TooMany n))) (le-leb n 1048576 few)
     ∙ ap (fault_at n) (line_meaning-event_text processors e small h)

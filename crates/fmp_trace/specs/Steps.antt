@@ -97,6 +97,11 @@ events_of processors n (line ∷ lines) = in_front (event_of_line processors n l
 abbrev pub steps_of : (processors : ℕ) → List ℕ → Result (List Event) StepsFault
 steps_of processors text = events_of processors 1 (lines_of text)
 
+-- the events that were read, none where there was a fault
+abbrev pub read_events : Result (List Event) StepsFault → List Event
+read_events (Ok es) = es
+read_events (Err f) = []
+
 -- a reader's fault is that of the text, unless memory ran out
 abbrev pub IsFaultOf : StepsFault → Result (List Event) StepsFault → Type 0
 IsFaultOf fault.Memory r = Unit {0}

@@ -4,7 +4,7 @@ ghost use Rattle.std.specs.Fmt.{signed_decimal};
 ghost use Rattle.fmp_base.specs.Texts.{more_numbers_text, numbers_text, call_text, value_text, reply_text, answer_text};
 ghost use Rattle.fmp_trace.specs.Fronts.{Begins};
 
-use crate::texts::{append, append_signed};
+use crate::texts::{append, append_signed, append_word};
 use fmp_base::{Call, Reply};
 use std::alloc::AllocError;
 
@@ -47,7 +47,7 @@ pub fn append_call(call: Call, out: &mut Vec<u8>) -> Result<(), AllocError>
     ensures ok { OnOk result (out.new.items ≡ out.old.items ++ call_text call) }
     ensures err { OnErr result (Begins out.old.items out.new.items) }
 {
-    append(call.service().name().as_bytes(), out)?;
+    append_word(call.service().name().as_bytes(), out)?;
     append(b"(", out)?;
     append_numbers(call.arguments().as_slice(), out)?;
     append(b")", out)
@@ -71,7 +71,7 @@ pub fn append_reply(reply: Reply, out: &mut Vec<u8>) -> Result<(), AllocError>
     ensures ok { OnOk result (out.new.items ≡ out.old.items ++ reply_text reply) }
     ensures err { OnErr result (Begins out.old.items out.new.items) }
 {
-    append(reply.code.name().as_bytes(), out)?;
+    append_word(reply.code.name().as_bytes(), out)?;
     append_value(reply.value, out)
 }
 

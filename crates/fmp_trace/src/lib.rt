@@ -7,9 +7,11 @@ mod events;
 mod faults;
 mod lines;
 mod names;
+mod numeral;
 mod numerals;
 mod reading;
 mod states;
+mod steps;
 mod texts;
 
 pub use events::{print_steps, printed_steps_read_back};
@@ -17,3 +19,4 @@ pub use faults::StepsFault;
 pub use lines::print;
 pub use reading::{MOST_STEPS, read_steps};
 pub use states::{listed_states_are_states, print_states};
+pub use steps::Steps;

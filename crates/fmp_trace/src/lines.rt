@@ -6,8 +6,11 @@ ghost use Rattle.fmp_base.specs.Texts.{processor_text, caller_name, task_name, h
 ghost use Rattle.fmp_trace.specs.Fronts.{Begins};
 
 use crate::calls::{append_answer, append_call, append_reply};
-use crate::names::{append_caller, append_handler, name_of_cyclic, name_of_run, name_of_task};
-use crate::texts::{append, append_number, append_processor};
+use crate::names::{
+    append_caller, append_cyclic_name, append_handler, append_run, append_task_name,
+};
+use crate::numeral::Numeral;
+use crate::texts::{append, append_number, append_processor, append_word};
 use fmp_base::{Call, Caller, Fault, Handler, Line, Reply, System};
 use std::alloc::AllocError;
 
@@ -33,7 +36,7 @@ fn append_task(sys: &System, processor: u8, task: u8, out: &mut Vec<u8>) -> Resu
     ensures err { OnErr result (Begins out.old.items out.new.items) }
 {
     append_processor(processor, out)?;
-    append(name_of_task(sys, task), out)
+    append_task_name(sys, task, out)
 }
 
 fn append_tick(clock: u32, out: &mut Vec<u8>) -> Result<(), AllocError>
@@ -124,7 +127,7 @@ fn append_fault(
 {
     append_actor(sys, processor, caller, out)?;
     append(b" ", out)?;
-    append(name_of_fault(fault), out)
+    append_word(name_of_fault(fault), out)
 }
 
 fn append_release(
@@ -164,7 +167,7 @@ fn append_pending(
 {
     append_processor(processor, out)?;
     append(b"cyc ", out)?;
-    append(name_of_cyclic(sys, cyclic), out)
+    append_cyclic_name(sys, cyclic, out)
 }
 
 fn append_begin(
@@ -194,15 +197,15 @@ fn append_dispatch(
 {
     append_processor(processor, out)?;
     append(b"> ", out)?;
-    append(name_of_run(sys, task), out)
+    append_run(sys, task, out)
 }
 
 /// A line without its number and its end.
-fn append_body(sys: &System, line: Line, out: &mut Vec<u8>) -> Result<(), AllocError>
-    ensures ok { OnOk result (out.new.items ≡ out.old.items ++ line_body (tables_of sys.now) line) }
+fn append_body(sys: &System, line: &Line, out: &mut Vec<u8>) -> Result<(), AllocError>
+    ensures ok { OnOk result (out.new.items ≡ out.old.items ++ line_body (tables_of sys.now) line.now) }
     ensures err { OnErr result (Begins out.old.items out.new.items) }
 {
-    match line {
+    match *line {
         Line::Tick(clock) => append_tick(clock, out),
         Line::Int(place) => append_interrupt(place, out),
         Line::Call {
@@ -230,11 +233,17 @@ fn append_body(sys: &System, line: Line, out: &mut Vec<u8>) -> Result<(), AllocE
 }
 
 /// A line, with its number in front and a line feed behind.
-fn append_line(sys: &System, number: u32, line: Line, out: &mut Vec<u8>) -> Result<(), AllocError>
-    ensures ok { OnOk result (out.new.items ≡ out.old.items ++ line_text (tables_of sys.now) number line) }
+fn append_line(
+    sys: &System,
+    number: &Numeral,
+    line: &Line,
+    out: &mut Vec<u8>,
+) -> Result<(), AllocError>
+    ensures ok { OnOk result (out.new.items ≡
+        out.old.items ++ (number.now ++ (line_body (tables_of sys.now) line.now ++ 10 ∷ []))) }
     ensures err { OnErr result (Begins out.old.items out.new.items) }
 {
-    append_number(number, out)?;
+    number.append(out)?;
     append_body(sys, line, out)?;
     append(b"\n", out)
 }
@@ -248,8 +257,9 @@ fn append_lines(
     ensures ok { OnOk result (out.new.items ≡ out.old.items ++ lines_text (tables_of sys.now) number lines.now) }
     ensures err { OnErr result (Begins out.old.items out.new.items) }
 {
+    let numeral = Numeral::new(number);
     for line in lines {
-        append_line(sys, number, *line, out)?;
+        append_line(sys, &numeral, line, out)?;
     }
     Ok(())
 }

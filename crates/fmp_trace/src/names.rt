@@ -5,43 +5,49 @@ ghost use Rattle.fmp_base.specs.Systems.{tables_of, cyclic_config};
 ghost use Rattle.fmp_base.specs.Texts.{task_name, handler_name, caller_name, run_text};
 ghost use Rattle.fmp_trace.specs.Fronts.{Begins};
 
-use crate::texts::{append, append_number};
+use crate::texts::{append, append_name, append_number};
 use fmp_base::{Caller, Handler, System};
 use std::alloc::AllocError;
 
 /// The name of the task at this place, or nothing where there is none.
-pub fn name_at(sys: &System, task: usize) -> &[u8]
-    ensures { result.now ≡ task_name (tables_of sys.now) task }
+pub fn append_name_at(sys: &System, task: usize, out: &mut Vec<u8>) -> Result<(), AllocError>
+    ensures ok { OnOk result (out.new.items ≡ out.old.items ++ task_name (tables_of sys.now) task) }
+    ensures err { OnErr result (Begins out.old.items out.new.items) }
 {
     match sys.tasks.get(task) {
-        Some(config) => config.name.as_bytes(),
-        None => &[],
+        Some(config) => append_name(&config.name, out),
+        None => Ok(()),
     }
 }
 
-pub fn name_of_task(sys: &System, task: u8) -> &[u8]
-    ensures { result.now ≡ task_name (tables_of sys.now) task }
+#[inline(always)]
+pub fn append_task_name(sys: &System, task: u8, out: &mut Vec<u8>) -> Result<(), AllocError>
+    ensures ok { OnOk result (out.new.items ≡ out.old.items ++ task_name (tables_of sys.now) task) }
+    ensures err { OnErr result (Begins out.old.items out.new.items) }
 {
-    name_at(sys, usize::from(task))
+    append_name_at(sys, usize::from(task), out)
 }
 
 /// The name of the cyclic handler at this place, or nothing where there is none.
-pub fn name_of_cyclic(sys: &System, cyclic: u8) -> &[u8]
-    ensures { result.now ≡ name_text (cyclic_config (tables_of sys.now) cyclic).name }
+pub fn append_cyclic_name(sys: &System, cyclic: u8, out: &mut Vec<u8>) -> Result<(), AllocError>
+    ensures ok { OnOk result (out.new.items ≡
+        out.old.items ++ name_text (cyclic_config (tables_of sys.now) cyclic).name) }
+    ensures err { OnErr result (Begins out.old.items out.new.items) }
 {
     match sys.cyclics.get(usize::from(cyclic)) {
-        Some(config) => config.name.as_bytes(),
-        None => &[],
+        Some(config) => append_name(&config.name, out),
+        None => Ok(()),
     }
 }
 
 /// The name of the task that runs, or `-`.
-pub fn name_of_run(sys: &System, task: Option<u8>) -> &[u8]
-    ensures { result.now ≡ run_text (tables_of sys.now) task }
+pub fn append_run(sys: &System, task: Option<u8>, out: &mut Vec<u8>) -> Result<(), AllocError>
+    ensures ok { OnOk result (out.new.items ≡ out.old.items ++ run_text (tables_of sys.now) task) }
+    ensures err { OnErr result (Begins out.old.items out.new.items) }
 {
     match task {
-        Some(task) => name_of_task(sys, task),
-        None => b"-",
+        Some(task) => append_task_name(sys, task, out),
+        None => append(b"-", out),
     }
 }
 
@@ -55,7 +61,7 @@ pub fn append_handler(sys: &System, handler: Handler, out: &mut Vec<u8>) -> Resu
             append(b"#", out)?;
             append_number(u32::from(place) + 1, out)
         }
-        Handler::Cyclic(place) => append(name_of_cyclic(sys, place), out),
+        Handler::Cyclic(place) => append_cyclic_name(sys, place, out),
     }
 }
 
@@ -64,7 +70,7 @@ pub fn append_caller(sys: &System, caller: Caller, out: &mut Vec<u8>) -> Result<
     ensures err { OnErr result (Begins out.old.items out.new.items) }
 {
     match caller {
-        Caller::Task(place) => append(name_of_task(sys, place), out),
+        Caller::Task(place) => append_task_name(sys, place, out),
         Caller::Handler(handler) => append_handler(sys, handler, out),
     }
 }

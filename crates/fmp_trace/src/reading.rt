@@ -1,6 +1,6 @@
 //! The reader of steps texts.
-ghost use Rattle.std.specs.Prelude.{◌≡◌, ◌==◌, ◌<◌, [], ◌∷◌, ◌≢◌, length, position, IfOk, IfErr, Ok, MatchOption, None, Some};
-ghost use Rattle.fmp_trace.specs.Steps.{behind, line_meaning, lines_of, event_of_line, steps_of, IsFaultOf};
+ghost use Rattle.std.specs.Prelude.{◌≡◌, ◌==◌, ◌<◌, ◌≤◌, ◌+◌, [], ◌∷◌, ◌≢◌, length, position, IfOk, IfErr, IfSome, Ok, Err, MatchOption, None, Some};
+ghost use Rattle.fmp_trace.specs.Steps.{behind, line_meaning, lines_of, event_of_line, events_of, in_front, steps_of, IsFaultOf};
 
 use crate::faults::{Flaw, StepsFault};
 use crate::numerals::ranged_in;
@@ -69,6 +69,42 @@ fn first_line(text: &[u8]) -> (&[u8], &[u8])
     }
 }
 
+/// The processor that the first line of a text lets run, if the line says no more and the number has one digit, and the
+/// text behind the line.
+fn short_run(text: &[u8]) -> Option<(u8, &[u8])>
+    ensures low { IfSome result (λ run. 1 ≤ run.0) }
+    ensures digit { IfSome result (λ run. run.0 < 10) }
+    ensures line { IfSome result (λ run. text.now ≡ 114 ∷ 117 ∷ 110 ∷ 32 ∷ (48 + run.0) ∷ 10 ∷ run.1.now) }
+{
+    let [r, u, n, blank, digit, feed, rest @ ..] = text else {
+        return None;
+    };
+    let is_run = *r == b'r' && *u == b'u' && *n == b'n' && *blank == b' ' && *feed == b'\n';
+    if !is_run || *digit < b'1' || *digit > b'9' {
+        return None;
+    }
+    Some((*digit - b'0', rest))
+}
+
+/// The event of the first line of a text, which has this number, and the text behind it. Most lines are those of
+/// `short_run`.
+pub fn first_event(text: &[u8], number: u32, processors: u8) -> Result<(Event, &[u8]), StepsFault>
+    requires { text.now ≢ [] }
+    ensures event { IfOk result (λ first. events_of processors number (lines_of text.now)
+        ≡ in_front (Ok first.0) (events_of processors (number + 1) (lines_of first.1.now))) }
+    ensures fault { IfErr result (λ fault. events_of processors number (lines_of text.now) ≡ Err fault) }
+    ensures shorter { IfOk result (λ first. length first.1.now < length text.now) }
+    ensures counted { IfOk result (λ _. number ≤ 1048576) }
+{
+    if let Some((processor, rest)) = short_run(text) {
+        if processor <= processors && number <= MOST_STEPS {
+            return Ok((Event::Run(processor), rest));
+        }
+    }
+    let (line, rest) = first_line(text);
+    Ok((event_at(line, number, processors)?, rest))
+}
+
 /// Reads a steps text: one event a line, each line ended by a line feed, which the last may lack. The fault is
 /// that of the first faulty line, unless memory runs out first.
 pub fn read_steps(alloc: Global, text: &[u8], processors: u8) -> Result<Vec<Event>, StepsFault>
@@ -79,8 +115,7 @@ pub fn read_steps(alloc: Global, text: &[u8], processors: u8) -> Result<Vec<Even
     let mut rest = text;
     let mut number = 1;
     while !rest.is_empty() {
-        let (line, after) = first_line(rest);
-        let event = event_at(line, number, processors)?;
+        let (event, after) = first_event(rest, number, processors)?;
         events.push(event).map_err(|_| StepsFault::Memory)?;
         rest = after;
         number += 1;

@@ -5,7 +5,7 @@ ghost use Rattle.fmp_base.specs.Texts.{task_name, word_text, state_text};
 ghost use Rattle.fmp_trace.specs.Fronts.{Begins};
 ghost use Rattle.fmp_trace.specs.ListedStates.{listed_states_text, ListedStatesAreStates};
 
-use crate::names::name_at;
+use crate::names::append_name_at;
 use crate::texts::{append, append_number, append_processor};
 use fmp_base::{StateWord, System, TaskState};
 use std::alloc::AllocError;
@@ -34,7 +34,7 @@ fn append_word(
         out.old.items ++ (task_name (tables_of sys.now) task ++ (codes " " ++ word_text word))) }
     ensures err { OnErr result (Begins out.old.items out.new.items) }
 {
-    append(name_at(sys, task), out)?;
+    append_name_at(sys, task, out)?;
     append(b" ", out)?;
     append(name_of_word(word), out)
 }

@@ -6,8 +6,11 @@ pub returns-in-Ok : goal.returns-in-Ok
 returns-in-Ok g c =
     let kept : KeepsInputs c.args.cmd.now = search rules in
     let between = g.O.Outside.done c.carry_out.new.outside in
-    let printed = subst (λ bytes. EndsPrinting bytes between (g.O.Outside.done c.print.new.outside) c.print.result) c.deref.ensures.value c.print.ensures in
-    done c.in-Ok.out.items between kept c.in-Ok.ensures.ok printed
+    let after = g.O.Outside.done c.print.new.outside in
+    let fails = g.O.Outside.output_can_fail c.carry_out.new.outside in
+    let printed = subst (λ bytes. EndsPrinting bytes fails between after c.print.result) c.deref.ensures.value c.print.ensures in
+    let ended = subst (λ can_fail. EndsPrinting c.in-Ok.out.items can_fail between after c.print.result) c.in-Ok.ensures.output printed in
+    done c.in-Ok.out.items between kept c.in-Ok.ensures.ok ended
 
 pub returns-in-Err : goal.returns-in-Err
 returns-in-Err g c =

@@ -2,7 +2,7 @@ use Rattle.std.proofs.lemmas.Result.{err_from_is_err_and}
 use Rattle.fmp_lex.specs.Reading.{kinds_of, found, stopped, Anywhere, RightToken, Right, At, Star}
 use Rattle.fmp_lex.specs.Reading as reading
 use Rattle.fmp_lex.proofs.Sequences.{item_framed}
-use Rattle.fmp_lex.proofs.Answered.{err_as, step_as}
+use Rattle.fmp_lex.proofs.Answered.{err_as, find_as, step_as}
 use Rattle.fmp_cfgparse.specs.Grammar.{name_of, OneApi}
 use Rattle.fmp_cfgparse.specs.Reading.{itself, RightName, RightApis, RightClass}
 use Rattle.fmp_cfgparse.specs.Trees.{apis_view, class_view}
@@ -34,7 +34,7 @@ pub returns-in_err-name : goal.returns-in_err-name
 returns-in_err-name c =
     let ts = kinds_of c.args.tokens.now in
     let e = err_from_is_err_and c.from_residual-in_err-name.result c.from_residual-in_err-name.ensures.1 in
-    rw (e.1, e.2) (err_as itself class_view c.in_err-name.field-0.0 (RightName ts c.in_ok-place.place) (RightClass ts c.args.at)
+    rw (e.1, e.2) (find_as itself class_view c.in_err-name.field-0.0 (RightName ts c.in_ok-place.place) (RightClass ts c.args.at)
     (λ j why x. class_as ts c.args.at (stopped j why) (thing_stop class_word open_brace (reading.Item name_of) Block (item_framed name_of) name_fills block_fills Anywhere ts c.args.at c.in_ok-next.next c.in_ok-next.ensures c.in_ok-place.place c.in_ok-place.ensures j why x)) c.in_err-name.ensures)
 
 pub returns-in_err-next-2 : goal.returns-in_err-next-2

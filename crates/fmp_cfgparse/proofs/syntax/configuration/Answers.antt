@@ -6,7 +6,7 @@ use Rattle.std.proofs.lemmas.Result.{err_from_is_err_and}
 use Rattle.fmp_lex.specs.Reading.{kinds_of, found, stopped, Anywhere, RightToken, Right, At, Star}
 use Rattle.fmp_lex.specs.Reading as reading
 use Rattle.fmp_lex.proofs.Sequences.{item_framed}
-use Rattle.fmp_lex.proofs.Answered.{err_as, step_as}
+use Rattle.fmp_lex.proofs.Answered.{err_as, find_as, step_as}
 use Rattle.fmp_cfgparse.specs.Grammar.{number_of, OneClass}
 use Rattle.fmp_cfgparse.specs.Reading.{itself, EndsClasses, RightNumber, RightClasses, RightConfig}
 use Rattle.fmp_cfgparse.specs.Trees.{classes_view, configuration_view}
@@ -36,7 +36,7 @@ pub returns-in_err-processors : goal.returns-in_err-processors
 returns-in_err-processors c =
     let ts = kinds_of c.args.tokens.now in
     let e = err_from_is_err_and c.from_residual-in_err-processors.result c.from_residual-in_err-processors.ensures.1 in
-    rw (e.1, e.2) (err_as itself configuration_view c.in_err-processors.field-0.0 (RightNumber ts c.in_ok-at.at) (RightConfig ts 0)
+    rw (e.1, e.2) (find_as itself configuration_view c.in_err-processors.field-0.0 (RightNumber ts c.in_ok-at.at) (RightConfig ts 0)
     (λ j why x. config_as ts (stopped j why) (thing_stop processors_word semicolon (reading.Item number_of) (Star OneClass) (item_framed number_of) number_fills (star_fills OneClass) EndsClasses ts 0 c.in_ok-next.next c.in_ok-next.ensures c.in_ok-at.at c.in_ok-at.ensures j why x)) c.in_err-processors.ensures)
 
 pub returns-in_err-next-2 : goal.returns-in_err-next-2

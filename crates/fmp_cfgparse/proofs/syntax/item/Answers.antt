@@ -1,4 +1,4 @@
-use Rattle.std.proofs.Common.{◌<◌, ◌≤◌, ◌+◌, length, rules, sym, subst}
+use Rattle.std.proofs.Common.{◌<◌, ◌≤◌, length, rules, sym, subst}
 use Rattle.std.proofs.lemmas.List.{length-map}
 use Rattle.std.proofs.lemmas.Result.{err_from_is_err_and}
 use mir.Syntax.{w32}
@@ -6,8 +6,7 @@ use mir.Val.{SFits}
 use Rattle.std.proofs.lemmas.Int.{to_z-of_z}
 use Rattle.fmp_cfgparse.specs.declared.tree.Item.TheVariants as item
 use Rattle.fmp_lex.specs.Reading.{kinds_of, found}
-use Rattle.fmp_lex.proofs.Answered.{err_as}
-use Rattle.fmp_cfgparse.specs.Reading.{itself, RightNumber, RightItem}
+use Rattle.fmp_cfgparse.specs.Reading.{RightItem}
 use Rattle.fmp_cfgparse.proofs.Items.{minus_found, minus_stopped, plain_found, plain_missing}
 use Rattle.fmp_cfgparse.proofs.syntax.item.Goals as goal
 
@@ -16,8 +15,8 @@ returns-in_err-number c =
     let ts = kinds_of c.args.tokens.now in
     let i = c.args.at in
     let p = err_from_is_err_and c.from_residual.result c.from_residual.ensures.1 in
-    rw (p.1, p.2) (err_as itself itself c.in_err-number.field-0.0 (RightNumber ts (i + 1)) (RightItem ts i)
-    (λ j why x. minus_stopped ts i (c.is_symbol_at.ensures.yes (search rules)) j why x) c.in_err-number.ensures)
+    let f = c.in_err-number.field-0.0 in
+    rw (p.1, p.2) (minus_stopped ts i (c.is_symbol_at.ensures.yes (search rules)) f.at f.why c.in_err-number.ensures)
 
 pub returns-then-is_symbol_at : goal.returns-then-is_symbol_at
 returns-then-is_symbol_at c =

@@ -1,8 +1,8 @@
 use Rattle.std.proofs.lemmas.Result.{err_from_is_err_and}
 use Rattle.fmp_lex.specs.Reading.{kinds_of, found, stopped, RightToken}
-use Rattle.fmp_lex.proofs.Answered.{err_as, step_as}
+use Rattle.fmp_lex.proofs.Answered.{err_as, find_as, step_as}
+use Rattle.fmp_lex.specs.Forms.{mark_kind}
 use Rattle.fmp_cfgparse.specs.declared.forms.Part.TheVariants as part
-use Rattle.fmp_cfgparse.specs.Grammar.{mark_kind}
 use Rattle.fmp_cfgparse.specs.Reading.{itself, RightName, RightValue, RightPart}
 use Rattle.fmp_cfgparse.specs.Trees.{items_view, part_view}
 use Rattle.fmp_cfgparse.proofs.Parts.{mark_as, name_as, value_as}
@@ -22,7 +22,7 @@ returns-in_err-name-in-Name c =
     let ts = kinds_of c.args.tokens.now in
     let i = c.args.at in
     let p = err_from_is_err_and c.from_residual-in_err-name-in-Name.result c.from_residual-in_err-name-in-Name.ensures.1 in
-    rw (p.1, p.2, c.in-Name.is) (err_as itself part_view c.in_err-name-in-Name.field-0.0 (RightName ts i) (RightPart part.Name ts i)
+    rw (p.1, p.2, c.in-Name.is) (find_as itself part_view c.in_err-name-in-Name.field-0.0 (RightName ts i) (RightPart part.Name ts i)
     (λ j why x. name_as ts i (stopped j why) x) c.in_err-name-in-Name.ensures)
 
 pub returns-in_err-items-in-Value : goal.returns-in_err-items-in-Value

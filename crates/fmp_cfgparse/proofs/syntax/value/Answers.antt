@@ -2,7 +2,7 @@ use Rattle.std.proofs.Common.{◌≡◌, ◌≤◌, ◌+◌, ◌++◌, ◌∷◌
 use Rattle.std.proofs.lemmas.List.{length-map}
 use Rattle.std.proofs.lemmas.Result.{err_from_is_err_and}
 use Rattle.fmp_lex.specs.Reading.{kinds_of, Outcome, found, stopped, map_outcome}
-use Rattle.fmp_lex.proofs.Answered.{err_as}
+use Rattle.fmp_lex.proofs.Answered.{find_as}
 use Rattle.fmp_cfgparse.specs.declared.tree.Item.{Item}
 use Rattle.fmp_cfgparse.specs.Reading.{itself, RightItem, RightValue}
 use Rattle.fmp_cfgparse.specs.Trees.{items_view}
@@ -20,7 +20,7 @@ returns-in_err-first c =
     let ts = kinds_of c.args.tokens.now in
     let i = c.args.at in
     let p = err_from_is_err_and c.from_residual.result c.from_residual.ensures.1 in
-    rw (p.1, p.2) (err_as itself items_view c.in_err-first.field-0.0 (RightItem ts i) (RightValue ts i)
+    rw (p.1, p.2) (find_as itself items_view c.in_err-first.field-0.0 (RightItem ts i) (RightValue ts i)
     (λ j why x. value_stop ts i j why x) c.in_err-first.ensures)
 
 pub items-init : goal.items-init
@@ -40,7 +40,7 @@ returns-in_err-one c =
     let i = c.args.at in
     let m = c.items.i in
     let p = err_from_is_err_and c.from_residual-in_err-one.result c.from_residual-in_err-one.ensures.1 in
-    rw (p.1, p.2) (err_as itself items_view c.in_err-one.field-0.0 (RightItem ts (m + 1)) (RightValue ts i)
+    rw (p.1, p.2) (find_as itself items_view c.in_err-one.field-0.0 (RightItem ts (m + 1)) (RightValue ts i)
     (λ j why x. c.items.invariant.goes (stopped j why) (more_items_stop ts m (c.items-test.ensures.yes (search rules)) j why x)) c.in_err-one.ensures)
 
 pub items-preserved : goal.items-preserved

@@ -1,18 +1,36 @@
-use Rattle.std.proofs.Common.{◌≡◌, ◌<◌, ◌∙◌, ap, sym, arith, length, map}
+use Rattle.std.proofs.Common.{◌≡◌, ◌<◌, ◌∙◌, List, Some, ap, arith, length, map, option_map, subst, sym}
 use Rattle.std.proofs.lemmas.List.{length-map}
-use Rattle.std.proofs.lemmas.Result.{IfOk-weaker}
-use Rattle.clap.specs.Words.{App, fault_of, found_of, is_simple, is_simple_and_free, rows_of, subcommand_of}
-use Rattle.fmp_command.proofs.Entering.{asks_for, form_is_free, form_is_simple}
+use Rattle.std.specs.Option.{IsSomeAnd}
+use Rattle.clap.specs.Words.{Row, Text, found_of, rows_of, subcommand_of}
+use Rattle.fmp_command.specs.Asked.{HasWords}
+use Rattle.fmp_command.specs.Form.{fmp}
+use Rattle.fmp_command.proofs.Entering.{asks_for, enters_form, fits_form, some_beside}
+use Rattle.fmp_command.proofs.Given.{form_has}
 use Rattle.fmp_command.proofs.asking.command.Goals as goal
 
-pub returns-in-Some-clause-asked : goal.returns-in-Some-clause-asked
-returns-in-Some-clause-asked c =
+pub unwrap-requires : goal.unwrap-requires
+unwrap-requires c =
     let words = map (λ word. word.now) c.args.words.now in
-    let name = c.in-Some.name.now in
-    let rows = rows_of (found_of c.in-Some.words.now) in
-    let form = c.in_ok-program.ensures in
-    let met = (c.in_ok-matches.ensures.matches (ap is_simple form ∙ form_is_simple)).1 in
-    let entered = c.in-Some.ensures ∙ met ∙ ap (λ (a : App). subcommand_of a words) form in
-    let fits = sym (ap (λ (a : App). fault_of a words) form) ∙ c.in_ok-matches.ensures.kinds (ap is_simple_and_free form ∙ form_is_free) in
+    let fits = fits_form _ words c.in_ok-program.ensures c.in_ok-matches.ensures.kinds in
+    let enters = enters_form _ words c.in_ok-matches.matches _ c.in_ok-program.ensures c.in_ok-matches.ensures.matches c.entered.ensures in
+    some_beside (λ p. (p.0.now, rows_of (found_of p.1.now))) c.entered.result (subcommand_of fmp words)
+    (λ (p : Text × List Row). HasWords p.0 p.1) enters (form_has words fits)
+
+pub asked-requires : goal.asked-requires
+asked-requires c =
+    let words = map (λ word. word.now) c.args.words.now in
+    let fits = fits_form _ words c.in_ok-program.ensures c.in_ok-matches.ensures.kinds in
+    let enters = enters_form _ words c.in_ok-matches.matches _ c.in_ok-program.ensures c.in_ok-matches.ensures.matches c.entered.ensures in
+    subst (λ o. IsSomeAnd (option_map (λ p. (p.0.now, rows_of (found_of p.1.now))) o) (λ (p : Text × List Row). HasWords p.0 p.1)) c.unwrap.ensures
+    (subst (λ o. IsSomeAnd o (λ (p : Text × List Row). HasWords p.0 p.1)) (sym enters) (form_has words fits))
+
+pub returns-clause-asked : goal.returns-clause-asked
+returns-clause-asked c =
+    let words = map (λ word. word.now) c.args.words.now in
+    let name = c.unwrap.result.0.now in
+    let rows = rows_of (found_of c.unwrap.result.1.now) in
+    let fits = fits_form _ words c.in_ok-program.ensures c.in_ok-matches.ensures.kinds in
+    let enters = enters_form _ words c.in_ok-matches.matches _ c.in_ok-program.ensures c.in_ok-matches.ensures.matches c.entered.ensures in
+    let entered : subcommand_of fmp words ≡ Some (name, rows) = sym enters ∙ ap (option_map (λ p. (p.0.now, rows_of (found_of p.1.now)))) c.unwrap.ensures in
     let long : 1 < length words = omega (arith, length-map c.args.words.now (λ word. word.now), c.if-words-le1.false) in
-    IfOk-weaker c.asked.result _ _ (λ cmd h. asks_for words name rows cmd long fits (sym entered) h) c.asked.ensures.asked
+    asks_for words name rows c.in_ok-asked.field-0 long fits entered c.in_ok-asked.ensures.asked

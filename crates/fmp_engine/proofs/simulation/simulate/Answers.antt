@@ -8,4 +8,4 @@ play-requires-clause-entries c =
 
 pub play-requires-clause-few : goal.play-requires-clause-few
 play-requires-clause-few c =
-    rw c.deref.ensures.value (few_events c.system-system.result.now.processors c.args.steps.now c.in-Ok-read_steps.events.items c.in-Ok-read_steps.ensures.ok)
+    few_events c.system-system.result.now.processors c.args.steps.now _ c.in-Ok-new.ensures.events

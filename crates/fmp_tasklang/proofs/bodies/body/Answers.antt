@@ -1,7 +1,7 @@
 use Rattle.std.proofs.Common.{◌+◌, false}
 use Rattle.std.proofs.lemmas.Result.{err_from_is_err_and}
 use Rattle.fmp_lex.specs.Reading.{kinds_of, RightToken}
-use Rattle.fmp_lex.proofs.Answered.{err_as, step_as}
+use Rattle.fmp_lex.proofs.Answered.{err_as, find_as, step_as}
 use Rattle.fmp_tasklang.specs.Expressions.{lines_of}
 use Rattle.fmp_tasklang.specs.Reading.{itself, words_view, statements_view, RightWord, RightStatements, RightVariables, RightBody}
 use Rattle.fmp_tasklang.specs.Views.{body_view}
@@ -16,7 +16,7 @@ returns-in_err-name c =
     let ts = kinds_of c.args.tokens.now in
     let i = c.args.at in
     let p = err_from_is_err_and c.from_residual.result c.from_residual.ensures.1 in
-    rw (p.1, p.2) (err_as itself body_view c.in_err-name.field-0.0 (RightWord line ts (i + 1)) (RightBody line ts i)
+    rw (p.1, p.2) (find_as itself body_view c.in_err-name.field-0.0 (RightWord line ts (i + 1)) (RightBody line ts i)
     (λ j why x. body_name line ts i c.args.kind c.requires.first j why x) c.in_err-name.ensures)
 
 pub returns-in_err-next : goal.returns-in_err-next

@@ -1,10 +1,7 @@
 use Rattle.std.proofs.lemmas.Result.{err_from_is_err_and}
-use Rattle.fmp_lex.specs.Reading.{kinds_of, RightToken}
-use Rattle.fmp_lex.proofs.Answered.{err_as, step_as}
+use Rattle.fmp_lex.specs.Reading.{kinds_of}
 use Rattle.fmp_tasklang.specs.Expressions.{lines_of}
-use Rattle.fmp_tasklang.specs.Reading.{itself, RightWord, RightVariable}
-use Rattle.fmp_tasklang.proofs.StatementFrames.{semicolon}
-use Rattle.fmp_tasklang.proofs.BodyPaths.{var_word, variable_missing, variable_stop, variable_open, variable_found}
+use Rattle.fmp_tasklang.proofs.BodyPaths.{variable_missing, variable_stop, variable_open, variable_found}
 use Rattle.fmp_tasklang.proofs.bodies.variable.Goals as goal
 
 pub returns-in_err-next : goal.returns-in_err-next
@@ -13,8 +10,8 @@ returns-in_err-next c =
     let ts = kinds_of c.args.tokens.now in
     let i = c.args.at in
     let p = err_from_is_err_and c.from_residual.result c.from_residual.ensures.1 in
-    rw (p.1, p.2) (step_as itself c.in_err-next.field-0.0 (RightToken ts var_word i) (RightVariable line ts i)
-    (λ j why x. variable_missing line ts i j why x) c.in_err-next.ensures)
+    let f = c.in_err-next.field-0.0 in
+    rw (p.1, p.2) (variable_missing line ts i f.at f.why c.in_err-next.ensures)
 
 pub returns-in_err-name : goal.returns-in_err-name
 returns-in_err-name c =
@@ -22,8 +19,8 @@ returns-in_err-name c =
     let ts = kinds_of c.args.tokens.now in
     let i = c.args.at in
     let p = err_from_is_err_and c.from_residual-in_err-name.result c.from_residual-in_err-name.ensures.1 in
-    rw (p.1, p.2) (err_as itself itself c.in_err-name.field-0.0 (RightWord line ts c.in_ok-next.next) (RightVariable line ts i)
-    (λ j why x. variable_stop line ts i c.in_ok-next.next c.in_ok-next.ensures j why x) c.in_err-name.ensures)
+    let f = c.in_err-name.field-0.0 in
+    rw (p.1, p.2) (variable_stop line ts i c.in_ok-next.next c.in_ok-next.ensures f.at f.why c.in_err-name.ensures)
 
 pub returns-in_err-next-2 : goal.returns-in_err-next-2
 returns-in_err-next-2 c =
@@ -31,8 +28,8 @@ returns-in_err-next-2 c =
     let ts = kinds_of c.args.tokens.now in
     let i = c.args.at in
     let p = err_from_is_err_and c.from_residual-in_err-next-2.result c.from_residual-in_err-next-2.ensures.1 in
-    rw (p.1, p.2) (step_as itself c.in_err-next-2.field-0.0 (RightToken ts semicolon c.in_ok-name.next) (RightVariable line ts i)
-    (λ j why x. variable_open line ts i c.in_ok-next.next c.in_ok-next.ensures c.in_ok-name.name c.in_ok-name.next c.in_ok-name.ensures j why x) c.in_err-next-2.ensures)
+    let f = c.in_err-next-2.field-0.0 in
+    rw (p.1, p.2) (variable_open line ts i c.in_ok-next.next c.in_ok-next.ensures c.in_ok-name.name c.in_ok-name.next c.in_ok-name.ensures f.at f.why c.in_err-next-2.ensures)
 
 pub returns : goal.returns
 returns c =

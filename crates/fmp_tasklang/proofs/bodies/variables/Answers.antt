@@ -2,7 +2,7 @@ use Rattle.std.proofs.Common.{◌≡◌, ◌≤◌, ◌++◌, ◌∷◌, List, [
 use Rattle.std.proofs.lemmas.List.{length-map}
 use Rattle.std.proofs.lemmas.Result.{err_from_is_err_and}
 use Rattle.fmp_lex.specs.Reading.{kinds_of, found, stopped, map_outcome}
-use Rattle.fmp_lex.proofs.Answered.{err_as}
+use Rattle.fmp_lex.proofs.Answered.{find_as}
 use Rattle.fmp_lex.proofs.Repetitions.{push_before}
 use Rattle.fmp_tasklang.specs.Expressions.{lines_of}
 use Rattle.fmp_tasklang.specs.Reading.{itself, words_view, RightVariable, RightVariables}
@@ -18,7 +18,7 @@ returns-in_err-one c =
     let k = c.variables.i in
     let is = c.variables-test.ensures.yes (search rules) in
     let p = err_from_is_err_and c.from_residual.result c.from_residual.ensures.1 in
-    rw (p.1, p.2) (err_as itself words_view c.in_err-one.field-0.0 (RightVariable line ts k) (RightVariables line ts i)
+    rw (p.1, p.2) (find_as itself words_view c.in_err-one.field-0.0 (RightVariable line ts k) (RightVariables line ts i)
     (λ j why x. c.variables.invariant.goes (stopped j why) (variables_stop line ts k is j why x)) c.in_err-one.ensures)
 
 pub variables-smaller : goal.variables-smaller

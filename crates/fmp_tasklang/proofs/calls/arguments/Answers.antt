@@ -3,13 +3,14 @@ use Rattle.std.proofs.lemmas.List.{length-map}
 use Rattle.std.proofs.lemmas.Result.{err_from_is_err_and}
 use Rattle.fmp_lex.specs.Reading.{kinds_of, found, stopped, map_outcome}
 use Rattle.fmp_lex.proofs.Answered.{err_as}
+use Rattle.fmp_lex.specs.Forms.{put}
 use Rattle.fmp_tasklang.specs.Expressions.{lines_of}
 use Rattle.fmp_tasklang.specs.Reading.{argument_view, called_view, RightPart, RightParts, RightArguments}
 use Rattle.fmp_tasklang.specs.Views.{expression_view}
 use Rattle.std.proofs.Common.{drop, get_or, subst, add-one, drop-cons}
-use Rattle.fmp_tasklang.specs.declared.forms.Mark.TheVariants as mark
+use Rattle.fmp_lex.specs.declared.marks.Mark.TheVariants as mark
 use Rattle.fmp_tasklang.specs.declared.forms.Part.TheVariants as part
-use Rattle.fmp_tasklang.specs.Calls.{put, values_of, out_from}
+use Rattle.fmp_tasklang.specs.Calls.{values_of, out_from}
 use Rattle.fmp_tasklang.proofs.Arguments.{arguments_as, parts_then, parts_stop, parts_none, parts_done, push_put, no_before, values_of-append, out_from-append, called_is}
 use Rattle.fmp_tasklang.proofs.calls.arguments.Goals as goal
 
@@ -40,9 +41,9 @@ returns-in_err-argument c =
     let ps = c.args.parts.now in
     let n = c.loop-one.one-index in
     let k = c.loop-one.i in
-    let row = get_or ps n (part.Mark mark.Open) in
-    let split : drop n ps ≡ row ∷ drop (n + 1) ps = rw add-one (drop-cons ps n (part.Mark mark.Open) c.loop-one-test.true) in
-    let p = err_from_is_err_and c.from_residual.result c.from_residual.ensures.1 in
+    let row = get_or ps n (part.Mark mark.LeftParen) in
+    let split : drop n ps ≡ row ∷ drop (n + 1) ps = rw add-one (drop-cons ps n (part.Mark mark.LeftParen) c.loop-one-test.true) in
+    let p = err_from_is_err_and c.from_residual-in_err-argument.result c.from_residual-in_err-argument.ensures.1 in
     rw (p.1, p.2) (err_as argument_view called_view c.in_err-argument.field-0.0 (RightPart line ts d row k) (RightArguments line ts d s ps i)
     (λ j why x. arguments_as line d s ps ts i (stopped j why)
     (c.loop-one.invariant.goes (stopped j why) (subst (λ rows. RightParts line ts d rows k (stopped j why)) (sym split) (parts_stop line d row (drop (n + 1) ps) ts k j why x))))
@@ -58,8 +59,8 @@ loop-one-preserved c =
     let ps = c.args.parts.now in
     let n = c.loop-one.one-index in
     let k = c.loop-one.i in
-    let row = get_or ps n (part.Mark mark.Open) in
-    let split : drop n ps ≡ row ∷ drop (n + 1) ps = rw add-one (drop-cons ps n (part.Mark mark.Open) c.loop-one-test.true) in
+    let row = get_or ps n (part.Mark mark.LeftParen) in
+    let split : drop n ps ≡ row ∷ drop (n + 1) ps = rw add-one (drop-cons ps n (part.Mark mark.LeftParen) c.loop-one-test.true) in
     let a = argument_view c.in_ok-argument.argument in
     let m = c.in_ok-argument.next in
     let x : RightPart line ts d row k (found a m) = c.in_ok-argument.ensures in

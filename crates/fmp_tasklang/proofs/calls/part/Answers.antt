@@ -1,11 +1,11 @@
 use Rattle.std.proofs.lemmas.Result.{err_from_is_err_and}
 use Rattle.fmp_lex.specs.Reading.{kinds_of, found, stopped, RightToken}
-use Rattle.fmp_lex.proofs.Answered.{err_as, step_as}
+use Rattle.fmp_lex.proofs.Answered.{err_as, find_as, step_as}
+use Rattle.fmp_lex.specs.Forms.{mark_kind}
 use Rattle.fmp_tasklang.specs.Expressions.{loosest, lines_of}
 use Rattle.fmp_tasklang.specs.Reading.{itself, argument_view, RightWord, RightExpression, RightPart}
 use Rattle.fmp_tasklang.specs.Views.{expression_view}
 use Rattle.fmp_tasklang.specs.declared.forms.Part.TheVariants as part
-use Rattle.fmp_tasklang.specs.Calls.{mark_kind}
 use Rattle.fmp_tasklang.proofs.Arguments.{ampersand, mark_as, value_stop, value_unmarked, value_found, out_missing, out_stop, out_unmarked, out_found}
 use Rattle.fmp_tasklang.proofs.calls.part.Goals as goal
 
@@ -59,7 +59,7 @@ returns-in_err-word-in-Out c =
     let d = c.args.depth in
     let i = c.args.at in
     let p = err_from_is_err_and c.from_residual-in_err-word-in-Out.result c.from_residual-in_err-word-in-Out.ensures.1 in
-    rw (p.1, p.2, c.in-Out.is) (err_as itself argument_view c.in_err-word-in-Out.field-0.0 (RightWord line ts c.in_ok-next-in-Out.next) (RightPart line ts d (part.Out c.in-Out.mark) i)
+    rw (p.1, p.2, c.in-Out.is) (find_as itself argument_view c.in_err-word-in-Out.field-0.0 (RightWord line ts c.in_ok-next-in-Out.next) (RightPart line ts d (part.Out c.in-Out.mark) i)
     (λ j why x. out_stop line d ts i c.in-Out.mark c.in_ok-next-in-Out.next c.in_ok-next-in-Out.ensures j why x) c.in_err-word-in-Out.ensures)
 
 pub returns-in_err-next-in-Out-2 : goal.returns-in_err-next-in-Out-2

@@ -2,7 +2,7 @@ use Rattle.std.proofs.Common.{◌≡◌, ◌+◌, ◌-◌, ◌≤◌, ◌<◌, �
 use Rattle.std.proofs.lemmas.List.{length-map}
 use Rattle.std.proofs.lemmas.Result.{err_from_is_err_and}
 use Rattle.fmp_lex.specs.Reading.{kinds_of, found, stopped, map_outcome, RightToken}
-use Rattle.fmp_lex.proofs.Answered.{err_as, step_as}
+use Rattle.fmp_lex.proofs.Answered.{err_as, find_as, step_as}
 use Rattle.fmp_lex.proofs.Repetitions.{push_before}
 use Rattle.fmp_tasklang.specs.Expressions.{loosest, lines_of}
 use Rattle.fmp_tasklang.specs.Reading.{itself, links_view, RightWord, RightOperand, RightExpression, RightLinks}
@@ -128,7 +128,7 @@ links-returns-in_err-operand m0 c =
     let i = c.args.at in
     let m = c.args.level in
     let k = c.links.i in
-    let p = err_from_is_err_and c.from_residual.result c.from_residual.ensures.1 in
+    let p = err_from_is_err_and c.from_residual-in_err-operand.result c.from_residual-in_err-operand.ensures.1 in
     rw (p.1, p.2) (err_as expression_view links_view c.in_err-operand.field-0.0 (RightExpression line ts d m (k + 1)) (RightLinks line ts d m i)
     (λ j why x. c.links.invariant.goes (stopped j why) (links_stop line d m ts k c.in-Some.operator c.in-Some.ensures.0 j why x)) c.in_err-operand.ensures)
 
@@ -181,7 +181,7 @@ operand-returns-in_err-word m0 c =
     let d = c.args.depth in
     let i = c.args.at in
     let p = err_from_is_err_and c.from_residual.result c.from_residual.ensures.1 in
-    rw (p.1, p.2) (err_as itself expression_view c.in_err-word.field-0.0 (RightWord line ts i) (RightOperand line ts d i)
+    rw (p.1, p.2) (find_as itself expression_view c.in_err-word.field-0.0 (RightWord line ts i) (RightOperand line ts d i)
     (λ j why x. name_as line ts d i (sym c.in_default.ensures.value) (sym c.in_default-unary_at.ensures.value)
     (c.is_symbol_at.ensures.no c.if-is_symbol_at.false) (stopped j why) x) c.in_err-word.ensures)
 

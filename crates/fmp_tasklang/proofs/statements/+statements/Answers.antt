@@ -204,7 +204,7 @@ other-returns m0 c =
     let d = c.args.depth in
     let i = c.args.at in
     let loop = c.args.looped in
-    let pushed : c.push.new.self.items ≡ c.in_ok-inner.inner ∷ [] = c.in_ok-push.ensures.items ∙ ap (λ z. z ++ c.in_ok-inner.inner ∷ []) c.new-body.ensures.items in
+    let pushed : c.push.new.self.items ≡ c.in_ok-inner.inner ∷ [] = c.in_ok-push.ensures.items ∙ ap (λ z. z ++ c.in_ok-inner.inner ∷ []) c.in_ok-body.ensures.items in
     rw pushed (if_other line d loop ts i (c.is_keyword_at.ensures.yes (search rules)) (omega arith) (found (statement_view c.in_ok-inner.inner) c.in_ok-inner.next) c.in_ok-inner.ensures)
 
 pub block-returns-then-not-is_symbol_at : goal.block-returns-then-not-is_symbol_at
@@ -269,7 +269,7 @@ statements-returns-in_err-one m0 c =
     let loop = c.args.looped in
     let k = c.statements.i in
     let is_not = c.statements-test.ensures.no (search rules) in
-    let p = err_from_is_err_and c.from_residual.result c.from_residual.ensures.1 in
+    let p = err_from_is_err_and c.from_residual-in_err-one.result c.from_residual-in_err-one.ensures.1 in
     rw (p.1, p.2) (err_as statement_view statements_view c.in_err-one.field-0.0 (RightStatement line ts d loop k) (RightStatements line ts d loop i)
     (λ j why x. c.statements.invariant.goes (stopped j why) (statements_stop line d loop ts k is_not j why x)) c.in_err-one.ensures)
 

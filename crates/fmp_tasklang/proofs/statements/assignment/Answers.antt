@@ -1,6 +1,6 @@
 use Rattle.std.proofs.lemmas.Result.{err_from_is_err_and}
 use Rattle.fmp_lex.specs.Reading.{kinds_of, RightToken}
-use Rattle.fmp_lex.proofs.Answered.{err_as, step_as}
+use Rattle.fmp_lex.proofs.Answered.{err_as, find_as, step_as}
 use Rattle.fmp_tasklang.specs.Expressions.{lines_of}
 use Rattle.fmp_tasklang.specs.Reading.{itself, source_view, RightWord, RightSource, RightAssignment}
 use Rattle.fmp_tasklang.specs.Views.{statement_view}
@@ -15,7 +15,7 @@ returns-in_err-target c =
     let d = c.args.depth in
     let i = c.args.at in
     let p = err_from_is_err_and c.from_residual.result c.from_residual.ensures.1 in
-    rw (p.1, p.2) (err_as itself statement_view c.in_err-target.field-0.0 (RightWord line ts i) (RightAssignment line ts d i)
+    rw (p.1, p.2) (find_as itself statement_view c.in_err-target.field-0.0 (RightWord line ts i) (RightAssignment line ts d i)
     (λ j why x. target_stop line ts d i j why x) c.in_err-target.ensures)
 
 pub returns-in_err-next : goal.returns-in_err-next
