@@ -1,9 +1,11 @@
 #!/bin/bash
 # Times the proved program on systems and texts that this script makes, and prints a table.
 #
-#   bench/run.sh [RUNS]     RUNS is how often each is run, 5 where it is not given; the least time of each is printed
+#   bench/run.sh [RUNS]     RUNS is how often each is run, 5 where it is not given; the least time of each is printed,
+#                           by user and system time, and the greatest memory that it held at once
 #
-# It wants the program as `rt run` leaves it in crates/fmp/out, and builds it where it is not there.
+# It wants the program as `rt run` leaves it in crates/fmp/out, and builds it where it is not there. FMP names another
+# one. The command `time` of GNU tells times and memory.
 set -euo pipefail
 root=$(cd "$(dirname "$0")/.." && pwd)
 runs=${1:-5}
@@ -115,43 +117,112 @@ text() {
     : > "text$1.steps"
 }
 
-# The least real, user and system times of a command, in seconds.
-best() {
-    local TIMEFORMAT='%R %U %S'
+# A text of 255 bodies and just under 1 MiB with statements of all kinds, and no steps.
+statements() {
+    configuration > statements.cfg <<'TEXT'
+CRE_TSK(T,{0,0,body_0,10,65536,NULL});
+CRE_SEM(S,{0,0,1});
+CRE_FLG(F,{0,0});
+CRE_DTQ(D,{0,4,NULL});
+TEXT
+    awk 'BEGIN {
+        for (b = 0; b < 255; b++) {
+            printf "task body_%d {\n  var total; var left_over; var x1;\n", b
+            for (i = 0; i < 11; i++) {
+                printf "  // Turn %d: what is left over goes to the next one.\n", i
+                printf "  total = (left_over + %d) * x1 - exinf %% 7;\n", b + i
+                printf "  if (total >= 0x1f && left_over != %d || !x1) {\n", i
+                print "    left_over = snd_dtq(D, total | 1);"
+                print "    twai_flg(F, 3, TWF_ORW, &x1, 10);"
+                print "  } else {"
+                print "    while (x1 < 10) { x1 = x1 + 1; if (x1 == total / 3) { break; } sig_sem(S); }"
+                print "  }"
+                print "  put(-total ^ left_over & 255);"
+            }
+            print "}"
+        } }' > statements.src
+    : > statements.steps
+}
+
+# A configuration of 255 objects of each kind but interrupt handlers, of which there are 32, and no steps.
+objects() {
+    awk 'BEGIN {
+        print "NUM_PRC(8);"
+        for (p = 1; p <= 8; p++) {
+            print "CLASS(TCL_" p ") {"
+            for (i = p; i <= 255; i += 8) {
+                printf "  CRE_TSK(task_%d, {TA_ACT, %d, main, %d, 1024, NULL});\n", i, i, i % 16 + 1
+                printf "  CRE_SEM(semaphore_%d, {TA_TPRI, %d, 65535});\n", i, i
+                printf "  CRE_FLG(eventflag_%d, {TA_TPRI|TA_WMUL|TA_CLR, %d});\n", i, i
+                printf "  CRE_DTQ(dataqueue_%d, {TA_TFIFO, %d, NULL});\n", i, i
+                printf "  CRE_MBX(mailbox_%d, {TA_TPRI|TA_MPRI, %d, NULL});\n", i, i % 16 + 1
+                printf "  CRE_MSG(message_%d, {%d});\n", i, i % 16 + 1
+                printf "  CRE_SHR(word_%d, {-%d});\n", i, i
+                printf "  CRE_SPN(lock_%d, {0});\n", i
+                printf "  CRE_CYC(cyclic_%d, {TA_STA, %d, every, %d, %d});\n", i, i, i, i
+                if (i <= 32) printf "  DEF_INH(%d, {TA_NULL, interrupt});\n", i
+            }
+            print "}"
+        } }' > objects.cfg
+    echo 'task main { } handler every { } handler interrupt { }' > objects.src
+    : > objects.steps
+}
+
+# The least real, user and system times of a command in seconds, by user and system time, and the most memory that it
+# held in KiB. So many runs in a row are timed as one.
+best() { # best IN_A_ROW COMMAND..
+    local in_a_row=$1
+    shift
     for _ in $(seq "$runs"); do
-        { time "$@" > output 2> errors; } 2>> times
+        command time -a -o times -f '%e %U %S %M' sh -c \
+            'i=0; while [ $i -lt $0 ]; do "$@" > output || exit; i=$((i + 1)); done' "$in_a_row" "$@" 2> errors
     done
-    sort -n times | head -n 1
+    awk -v row="$in_a_row" '{ spent = $2 + $3; if (NR == 1 || spent < least) { least = spent; r = $1; u = $2; s = $3 }; if ($4 > most) most = $4 }
+        END { print r / row, u / row, s / row, most }' times
     rm times
 }
 
-# A row of the table: a name, what was counted, how many, and the times.
+# A row of the table: a name, what was counted, how many, and the times and the memory.
 row() {
     awk -v name="$1" -v unit="$2" -v count="$3" -v times="$4" 'BEGIN {
         split(times, t, " ")
         spent = t[2] + t[3]
-        printf "| %s | %d %s | %.3f | %.3f | %.3f | %.1f million %s |\n", name, count, unit, t[1], t[2], t[3], count / (spent > 0 ? spent : 0.001) / 1000000, unit }'
+        printf "| %s | %d %s | %.4f | %.4f | %.4f | %.1f | %.1f million %s |\n", name, count, unit, t[1], t[2], t[3], t[4] / 1024, count / (spent > 0 ? spent : 0.0001) / 1000000, unit }'
 }
 
-build() { "$fmp" build "$1.cfg" "$1.src" "$1.img"; }
-simulate() { "$fmp" sim "$1.img" "$1.steps" --bound 281474976710656; }
+build() { "$fmp" build "$1.cfg" "$1.src" "$1.img" > output; }
+simulate() { best 1 "$fmp" sim "$1.img" "$1.steps" --bound 281474976710656; }
 
-echo '| What | Size | Real s | User s | System s | A second of user and system time |'
-echo '|---|---|---|---|---|---|'
-declare -A spent
+# The rows of texts without steps: they are checked, built, and their image is loaded.
+texts() { # texts CASE NAME
+    local size
+    size=$(cat "$1.cfg" "$1.src" | wc -c)
+    row "\`check\`: $2" bytes "$size" "$(best 10 "$fmp" check "$1.cfg" "$1.src")"
+    row "\`build\`: $2" bytes "$size" "$(best 10 "$fmp" build "$1.cfg" "$1.src" "$1.img")"
+    row '`sim`: its image, no steps' bytes "$(wc -c < "$1.img")" "$(best 10 "$fmp" sim "$1.img" "$1.steps")"
+}
+
+echo '| What | Size | Real s | User s | System s | Peak MiB | A second of user and system time |'
+echo '|---|---|---|---|---|---|---|'
+declare -A spent printed
 for it in two_tasks eight_processors rotation rotation_of_16_tasks delays equal_delays_of_252_tasks equal_delays_of_16_tasks priorities; do
     $it
-    build $it > output
-    spent[$it]=$(best simulate $it)
+    build $it
+    spent[$it]=$(simulate $it)
+    printed[$it]=$(wc -c < output)
     row "\`sim\`: ${it//_/ }" events $events "${spent[$it]}"
 done
 arithmetic
-build arithmetic > output
-row '`sim`: arithmetic' instructions $((15 * turns)) "$(best simulate arithmetic)"
+build arithmetic
+row '`sim`: arithmetic' instructions $((15 * turns)) "$(simulate arithmetic)"
+statements
+texts statements 'texts of all statements'
+objects
+texts objects '255 objects of each kind'
 for bodies in 1 2 4; do
     text $bodies
-    row '`build`: task text' bytes "$(wc -c < text$bodies.src)" "$(best build text$bodies)"
-    row '`sim`: its image, no steps' bytes "$(wc -c < text$bodies.img)" "$(best simulate text$bodies)"
+    row '`build`: task text' bytes "$(wc -c < text$bodies.src)" "$(best 10 "$fmp" build text$bodies.cfg text$bodies.src text$bodies.img)"
+    row '`sim`: its image, no steps' bytes "$(wc -c < text$bodies.img)" "$(best 10 "$fmp" sim text$bodies.img text$bodies.steps)"
 done
 
 # How an event of each case compares with one of the simplest, and one of many tasks with one of few.
@@ -165,3 +236,11 @@ echo
 for it in eight_processors rotation delays priorities; do ratio $it two_tasks; done
 ratio rotation rotation_of_16_tasks
 ratio equal_delays_of_252_tasks equal_delays_of_16_tasks
+
+# What a run holds beside the text that it prints.
+echo
+for it in two_tasks eight_processors rotation delays priorities; do
+    awk -v t="${spent[$it]}" -v bytes="${printed[$it]}" -v name="${it//_/ }" 'BEGIN {
+        split(t, s, " ")
+        printf "At its peak %s holds %.1f MiB: %.1f of text that is printed, and %.1f beside it.\n", name, s[4] / 1024, bytes / 1048576, s[4] / 1024 - bytes / 1048576 }'
+done

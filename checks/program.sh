@@ -166,9 +166,10 @@ absent 'an input that was missing' missing.cfg
 
 printf 'fmp 0.1.0\n' > version
 run 'the version' 0 version none --version
-printf "error: invalid value for '--bound <N>': it is not in 1..=281474976710656\n\nUsage: fmp sim [OPTIONS] <IMAGE> <STEPS>\n\nFor more information, try '--help'.\n" > bound
-run 'a bound of 0' 2 none bound sim a.img c.steps --bound 0
-run 'a bound of 2^48 and one' 2 none bound sim a.img c.steps --bound 281474976710657
+for bound in 0 281474976710657; do
+    printf "error: invalid value '$bound' for '--bound <N>': $bound is not in 1..=281474976710656\n\nFor more information, try '--help'.\n" > bound
+    run "a bound of $bound" 2 none bound sim a.img c.steps --bound $bound
+done
 run 'a bound of 2^48' 0 a.trace none sim a.img c.steps --bound 281474976710656
 for words in run 'check a.cfg' 'build a.cfg b.src' 'sim a.img' 'check a.cfg b.src c.steps' '--frob' 'sim a.img c.steps --bound x'; do
     # shellcheck disable=SC2086
@@ -189,6 +190,10 @@ for words in --help 'check --help' 'build --help' 'sim --help'; do
     else
         verdict "words: $words" " status $got;"
     fi
+    verdict "no line of more than 100 columns: $words" "$(awk 'length > 100' got.output)"
+    for file in $(grep -o 'examples/[a-z.]*' got.output); do
+        if [ -f "$root/$file" ]; then verdict "$words: $file" ''; else verdict "$words: $file" ' no such file;'; fi
+    done
 done
 "$fmp" check "$(printf '\377')" b.src > got.output 2> got.errors
 got=$?

@@ -1,0 +1,10 @@
+# Completion of fmp for fish. Made by checks/manual.py from the program's help.
+complete -c fmp -f -n __fish_use_subcommand -a check -d 'Checks the two texts of a system: prints '\''ok'\'', or the first fault with its line'
+complete -c fmp -f -n __fish_use_subcommand -a build -d 'Compiles the two texts of a system into an image: prints '\''ok'\'' and its number of bytes'
+complete -c fmp -f -n __fish_use_subcommand -a sim -d 'Runs an image over a list of events: prints what happens, and how the tasks stand then'
+complete -c fmp -n '__fish_use_subcommand' -s h -l help -d 'Print help'
+complete -c fmp -n '__fish_use_subcommand' -s V -l version -d 'Print version'
+complete -c fmp -n '__fish_seen_subcommand_from check' -s h -l help -d 'Print help'
+complete -c fmp -n '__fish_seen_subcommand_from build' -s h -l help -d 'Print help'
+complete -c fmp -n '__fish_seen_subcommand_from sim' -l bound -x -d 'How many instructions a body may take up to its next service call, 1 to 2^48; a step that would take more does nothing [default: 100000]'
+complete -c fmp -n '__fish_seen_subcommand_from sim' -s h -l help -d 'Print help'
