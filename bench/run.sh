@@ -58,9 +58,9 @@ TEXT
         } }' > eight_processors.steps
 }
 
-# So many tasks of one priority that take turns.
+# So many tasks of one priority that take turns. Their names are of one length, whatever their number.
 turns_of() { # turns_of CASE TASKS
-    awk -v tasks="$2" 'BEGIN { for (i = 1; i <= tasks; i++) printf "CRE_TSK(T%d,{TA_ACT,0,t,10,256,NULL});\n", i }' | configuration > "$1.cfg"
+    awk -v tasks="$2" 'BEGIN { for (i = 1; i <= tasks; i++) printf "CRE_TSK(T%03d,{TA_ACT,0,t,10,256,NULL});\n", i }' | configuration > "$1.cfg"
     echo 'task t { while (1) { rot_rdq(10); } }' > "$1.src"
     repeated $events 'run 1' > "$1.steps"
 }
@@ -77,7 +77,7 @@ delays() {
 # So many tasks with one delay, of which four are released at each tick and call again: the delay is one less than a
 # quarter of their number. No event does nothing.
 equal_delays_of() { # equal_delays_of CASE TASKS
-    awk -v tasks="$2" 'BEGIN { for (i = 1; i <= tasks; i++) printf "CRE_TSK(T%d,{TA_ACT,%d,t,10,256,NULL});\n", i, tasks / 4 - 1 }' | configuration > "$1.cfg"
+    awk -v tasks="$2" 'BEGIN { for (i = 1; i <= tasks; i++) printf "CRE_TSK(T%03d,{TA_ACT,%d,t,10,256,NULL});\n", i, tasks / 4 - 1 }' | configuration > "$1.cfg"
     echo 'task t { while (1) { dly_tsk(exinf); } }' > "$1.src"
     awk -v count=$events 'BEGIN { for (i = 0; i < count; i++) print i % 5 == 4 ? "tick" : "run 1" }' > "$1.steps"
 }
