@@ -1,4 +1,3 @@
-pub mod Entries
 pub mod Headline
 pub mod PlayLemmas
 pub mod StepLemmas

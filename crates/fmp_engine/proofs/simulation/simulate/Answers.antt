@@ -1,4 +1,4 @@
-use Rattle.fmp_engine.proofs.Entries.{entered}
+use Rattle.fmp_hostrun.proofs.Entries.{entered}
 use Rattle.fmp_engine.proofs.StepLemmas.{few_events}
 use Rattle.fmp_engine.proofs.simulation.simulate.Goals as goal
 

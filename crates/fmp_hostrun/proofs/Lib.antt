@@ -1,0 +1,6 @@
+pub mod Crossing
+pub mod Entering
+pub mod Entries
+pub mod Replaying
+pub mod Seating
+pub mod Starting

@@ -1,0 +1,114 @@
+-- What contracts see of boards and their seats, and what their calls answer.
+use Rattle.std.specs.Prelude.{◌≡◌, ◌≢◌, ◌⊎◌, ℕ, ◌≤◌, ◌<◌, ◌^◌, List, ◌∷◌, ◌++◌, length, slice_get, Some, Result, Err, IfErr, MatchResult}
+use Rattle.std.specs.List.{All}
+use Rattle.fmp_base.specs.declared.events.Event.{Event}
+use Rattle.fmp_code.specs.declared.instructions.MachineContext.{MachineContext}
+use Rattle.fmp_code.specs.Instructions.{BodyTables}
+use Rattle.fmp_image.specs.Images.{ImageTables}
+use Rattle.fmp_kernel.specs.KernelViews.{KernelView}
+use Rattle.fmp_row.specs.declared.entry.JournalEntry.{JournalEntry}
+use Rattle.fmp_row.specs.Seats.{events}
+use Rattle.fmp_hostrun.specs.declared.fault.BoardFault.{BoardFault}
+use Rattle.fmp_hostrun.specs.declared.fault.BoardFault.TheVariants as fault
+use Rattle.fmp_hostrun.specs.declared.receipt.Receipt.{Receipt}
+use Rattle.fmp_hostrun.specs.Receipts.{receipt_of}
+use Rattle.fmp_hostrun.specs.Replays.{IsLegal, kernel_after, reaction}
+
+-- what contracts see of a book: its journal
+pub record BookState : Type 0 where
+  pub journal : List JournalEntry
+
+-- a seat: its number
+pub record SeatState : Type 0 where
+  pub number : ℕ
+
+-- a board that is not yet open: its image, the instructions that a stretch may take, the events and the seats that it
+-- has room for
+pub record BlankState : Type 0 where
+  pub image : ImageTables
+  pub bound : ℕ
+  pub capacity : ℕ
+  pub seats : ℕ
+
+-- a closed board: the kernel, and the events of the journal
+pub record ClosedState : Type 0 where
+  pub kernel : KernelView (List BodyTables) MachineContext
+  pub events : List Event
+
+-- a journal of at most k entries: each of its events did something at its place, and came from one of m seats
+pub record IsJournal (i : ImageTables) (n k m : ℕ) (journal : List JournalEntry) : Type 0 where
+  pub legal : IsLegal i n (events journal)
+  pub room : length journal ≤ k
+  pub seats : All (λ x. x.seat < m) journal
+
+-- a kernel is the replay of the journal beside it
+pub record IsReplay (i : ImageTables) (n k m : ℕ) (kernel : KernelView (List BodyTables) MachineContext)
+    (journal : List JournalEntry) : Type 0 where
+  pub kernel_is : kernel ≡ kernel_after i n (events journal)
+  pub journal_is : IsJournal i n k m journal
+
+-- there is room for all events of a board, no more than a kernel takes
+pub record HasRoom (k capacity room : ℕ) : Type 0 where
+  pub capacity_is : capacity ≡ k
+  pub reserved : k ≤ room
+  pub most : k ≤ 2 ^ 20
+
+-- the limits of a board
+pub record InRange (n k m : ℕ) : Type 0 where
+  pub bound_low : 1 ≤ n
+  pub bound_high : n ≤ 2 ^ 48
+  pub some_events : 1 ≤ k
+  pub most_events : k ≤ 2 ^ 20
+  pub some_seats : 1 ≤ m
+  pub most_seats : m ≤ 64
+
+-- m seats, numbered from 0
+pub record AreNew (m : ℕ) (seats : List SeatState) : Type 0 where
+  pub count : length seats ≡ m
+  pub each : (number : ℕ) → number < m → slice_get seats number ≡ Some (record { number = number })
+
+-- a seat of a board of m seats
+abbrev pub IsAt : (m : ℕ) → SeatState → Type 0
+IsAt m s = s.number < m
+
+-- the answer to an event: after a journal with room its receipt there, and after a full one the refusal
+abbrev pub Fed : ImageTables → (n k m : ℕ) → Event → Result Receipt BoardFault → Type 0
+Fed i n k m e result =
+    (before : List JournalEntry) × IsJournal i n k m before
+    × MatchResult result
+    (λ r. (length before < k) × (r ≡ receipt_of (length before) (reaction i n (events before) e)))
+    (λ f. (length before ≡ k) × (f ≡ fault.Full))
+
+-- what came back of seats, where a thread was refused: all but that thread's seat
+pub record AllButOne (seats back : List SeatState) : Type 0 where
+  pub front : List SeatState
+  pub lost : SeatState
+  pub rest : List SeatState
+  pub were : seats ≡ front ++ lost ∷ rest
+  pub are : back ≡ front ++ rest
+
+-- what came back of seats
+pub record CameBack (seats back : List SeatState) (result : Result ℕ BoardFault) : Type 0 where
+  pub all : result ≢ Err fault.Thread → back ≡ seats
+  pub refused : result ≡ Err fault.Thread → AllButOne seats back
+
+-- why a thread of a board stops
+abbrev pub IsTurnFault : BoardFault → Type 0
+IsTurnFault f = (f ≡ fault.Full) ⊎ (f ≡ fault.Held)
+
+abbrev pub blank : ImageTables → (n k m : ℕ) → BlankState
+blank i n k m = record { image = i; bound = n; capacity = k; seats = m }
+
+-- a closed board: its kernel is the replay of its journal
+pub record IsClosed (i : ImageTables) (n k m : ℕ) (closed : ClosedState) : Type 0 where
+  pub legal : IsLegal i n closed.events
+  pub room : length closed.events ≤ k
+  pub kernel_is : closed.kernel ≡ kernel_after i n closed.events
+
+-- what a thread gives back: its seat as it was, and how many events it journaled, or why it stopped
+abbrev pub GaveBack : (was now : SeatState) → Result ℕ BoardFault → Type 0
+GaveBack was now journaled = (now ≡ was) × IfErr journaled IsTurnFault
+
+-- threads were started for seats
+abbrev pub AreRun : (seats back : List SeatState) → Result ℕ BoardFault → Type 0
+AreRun seats back result = CameBack seats back result × (result ≢ Err fault.Limit)

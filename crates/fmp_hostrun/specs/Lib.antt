@@ -1,0 +1,4 @@
+pub mod Boards
+pub mod Receipts
+pub mod Replays
+pub mod Sites

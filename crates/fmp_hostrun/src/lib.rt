@@ -1,0 +1,26 @@
+//! A board that many threads share: a kernel and its journal under one lock, seats for the callers, and workers that
+//! run one processor each.
+#![tactic(auto)]
+
+mod blank;
+mod board;
+mod book;
+mod closed;
+mod fault;
+mod feed;
+mod receipt;
+mod running;
+mod seat;
+mod site;
+mod turns;
+
+pub use blank::Blank;
+pub use board::Board;
+pub use book::Book;
+pub use closed::Closed;
+pub use fault::BoardFault;
+pub use receipt::Receipt;
+pub use running::run_all;
+pub use seat::Seat;
+pub use site::Site;
+pub use turns::Gate;

@@ -1,0 +1,240 @@
+//! A thread for each processor of a board, and one for the ticks.
+ghost use Rattle.std.specs.Prelude.{◌≡◌, ◌+◌, ◌≤◌, [], ◌++◌, ◌↔◌, ◌≢◌, All, Err, IfErr, IfOk, length, map, vec_len, vec_capacity};
+ghost use Rattle.fmp_hostrun.specs.Boards.{AreRun, CameBack, GaveBack, IsAt, IsTurnFault};
+ghost use Rattle.fmp_hostrun.specs.declared.fault.BoardFault.TheVariants.{Limit};
+
+use crate::board::Board;
+use crate::fault::BoardFault;
+use crate::feed::Feed;
+use crate::seat::Seat;
+use crate::site::Site;
+use crate::turns::{Gate, Part, run_part};
+use std::alloc::{AllocError, Global};
+use std::snapshot::Snapshot;
+use std::sync::Wait;
+use std::thread;
+use std::thread::{Promise, PromisedHandle, Threads};
+
+/// What a thread of a board gives back: its seat, and how many of its events were journaled.
+#[derive(Drop)]
+pub(crate) struct Worked {
+    seat: Seat,
+    journaled: Result<u32, BoardFault>,
+}
+
+/// A thread's promise to give its seat back as it was.
+#[derive(Drop)]
+pub(crate) struct GivesBack {
+    seat: Snapshot<Seat>,
+}
+
+impl Promise<Worked> for GivesBack {
+    ghost use Rattle.fmp_hostrun.specs.Boards.{GaveBack};
+
+    ghost kept_by = { λ p r. GaveBack p.seat.value r.seat r.journaled };
+}
+
+type Handles = Vec<PromisedHandle<Worked, GivesBack>>;
+
+/// What the threads of a board are to do.
+#[derive(Clone, Copy)]
+struct Load {
+    processors: u8,
+    turns: u32,
+    ticks: u32,
+}
+
+impl Load {
+    /// The part of the thread at this place: the processors come first, and then the ticks.
+    fn part(self, place: usize) -> Part {
+        if place < self.processors as usize {
+            Part::Turns {
+                processor: place as u8 + 1,
+                turns: self.turns,
+            }
+        } else {
+            Part::Ticks(self.ticks)
+        }
+    }
+}
+
+/// Does a thread's part with its seat, and gives the seat back.
+fn work<B: Feed, G: Gate, R: Wait>(
+    rt: &R,
+    board: &B,
+    gate: &G,
+    mut seat: Seat,
+    part: Part,
+) -> Worked
+    requires { IsAt B.seats seat }
+    ensures { GaveBack seat result.seat result.journaled }
+{
+    let journaled = run_part(rt, board, gate, &mut seat, part);
+    Worked { seat, journaled }
+}
+
+/// Both counts together, or the first fault.
+fn with_more(
+    journaled: Result<u32, BoardFault>,
+    more: Result<u32, BoardFault>,
+) -> Result<u32, BoardFault>
+    requires first { IfErr journaled IsTurnFault }
+    requires second { IfErr more IsTurnFault }
+    ensures { IfErr result IsTurnFault }
+{
+    Ok(journaled?.saturating_add(more?))
+}
+
+/// Joins threads in order: their seats, and how many of their events were journaled, or the first fault.
+fn joined<R: Threads>(
+    rt: &R,
+    handles: Handles,
+    mut back: Vec<Seat>,
+) -> (Vec<Seat>, Result<u32, BoardFault>)
+    requires { (back.items ≡ []) × (vec_len handles ≤ vec_capacity back) }
+    ensures seats { result.0.items ≡ map (λ h. h.promise.seat.value) handles.items }
+    ensures capacity { vec_capacity result.0 ≡ vec_capacity back }
+    ensures fault { IfErr result.1 IsTurnFault }
+{
+    let mut journaled = Ok(0);
+    for handle in handles {
+        let worked = handle.join(rt);
+        back.push_reserved(worked.seat);
+        journaled = with_more(journaled, worked.journaled);
+    }
+    (back, journaled)
+}
+
+/// Seats behind others.
+fn with_seats(mut back: Vec<Seat>, more: Vec<Seat>) -> Vec<Seat>
+    requires { vec_len back + vec_len more ≤ vec_capacity back }
+    ensures { result.items ≡ back.items ++ more.items }
+{
+    for seat in more {
+        back.push_reserved(seat);
+    }
+    back
+}
+
+/// The lists that the threads of a board need, with room for each of its seats.
+#[derive(Drop)]
+struct Lists {
+    handles: Handles,
+    spared: Vec<Seat>,
+    back: Vec<Seat>,
+}
+
+impl Lists {
+    fn new(alloc: Global, count: usize) -> Result<Lists, AllocError>
+        ensures handles { IfOk result (λ l. (l.handles.items ≡ []) × (count ≤ vec_capacity l.handles)) }
+        ensures spared { IfOk result (λ l. (l.spared.items ≡ []) × (count ≤ vec_capacity l.spared)) }
+        ensures back { IfOk result (λ l. (l.back.items ≡ []) × (count ≤ vec_capacity l.back)) }
+    {
+        Ok(Lists {
+            handles: Vec::with_capacity(alloc, count)?,
+            spared: Vec::with_capacity(alloc, count)?,
+            back: Vec::with_capacity(alloc, count)?,
+        })
+    }
+}
+
+/// A thread for each seat: they are started one after the other, and joined. Once a thread is refused, no more are
+/// started.
+fn run_threads<B: Feed + Sync, G: Gate, R: Threads + Wait + Sync>(
+    rt: &R,
+    board: &B,
+    gate: &G,
+    seats: Vec<Seat>,
+    lists: Lists,
+    load: Load,
+) -> (Vec<Seat>, Result<u32, BoardFault>)
+    requires seats { All (IsAt B.seats) seats.items }
+    requires handles { (lists.handles.items ≡ []) × (vec_len seats ≤ vec_capacity lists.handles) }
+    requires spared { (lists.spared.items ≡ []) × (vec_len seats ≤ vec_capacity lists.spared) }
+    requires back { (lists.back.items ≡ []) × (vec_len seats ≤ vec_capacity lists.back) }
+    ensures { AreRun seats.items result.0.items result.1 }
+{
+    thread::scope(
+        thread::scope_env(),
+        rt,
+        move |scope| -> (Vec<Seat>, Result<u32, BoardFault>)
+            requires seats { All (IsAt B.seats) seats.items }
+            requires handles { (lists.handles.items ≡ []) × (vec_len seats ≤ vec_capacity lists.handles) }
+            requires spared { (lists.spared.items ≡ []) × (vec_len seats ≤ vec_capacity lists.spared) }
+            requires back { (lists.back.items ≡ []) × (vec_len seats ≤ vec_capacity lists.back) }
+            ensures { AreRun seats.items result.0.items result.1 }
+        {
+            let Lists {
+                mut handles,
+                mut spared,
+                back,
+            } = lists;
+            let mut refused = false;
+            for seat in seats {
+                if refused {
+                    spared.push_reserved(seat);
+                    continue;
+                }
+                let part = load.part(handles.len());
+                let promise = GivesBack {
+                    seat: Snapshot::of(&seat),
+                };
+                let started = scope.spawn_with(
+                    promise,
+                    move || -> Worked
+                        requires { IsAt B.seats seat }
+                        ensures { GaveBack seat result.seat result.journaled }
+                    { work(rt, board, gate, seat, part) },
+                );
+                match started {
+                    Ok(handle) => handles.push_reserved(handle),
+                    Err(_) => refused = true,
+                }
+            }
+            let (back, journaled) = joined(rt, handles, back);
+            let back = with_seats(back, spared);
+            if refused {
+                return (back, Err(BoardFault::Thread));
+            }
+            (back, journaled)
+        },
+    )
+}
+
+/// Runs a board by threads: one for each processor makes so many turns, in each of which it asks the gate, feeds
+/// `Run` of its processor and tells the gate; and one more feeds so many ticks. The seats are one for each processor,
+/// in order, and one for the ticks; they come back in their order. The answer is how many events were journaled by
+/// this call.
+///
+/// `BoardFault::Limit`, exactly where the seats are not so many; `BoardFault::Memory`, for want of memory, before any
+/// thread is started; `BoardFault::Thread` where a thread was refused: then no more are started, those that run are
+/// joined, and the seat of the refused one is lost. Else, where threads stopped at a fault, `BoardFault::Full` or
+/// `BoardFault::Held` (the gate said no 10,000 times), it is that of the least processor, or at last of the ticks. What
+/// was journaled before a fault stands.
+pub fn run_all<S: Site + Send + Sync, G: Gate, R: Threads + Wait + Sync>(
+    rt: &R,
+    alloc: Global,
+    board: &Board<'_, S>,
+    gate: &G,
+    seats: Vec<Seat>,
+    turns: u32,
+    ticks: u32,
+) -> (Vec<Seat>, Result<u32, BoardFault>)
+    requires { All (IsAt S.seats) seats.items }
+    ensures limit { (result.1 ≡ Err Limit) ↔ (length seats.items ≢ S.image.system.processors + 1) }
+    ensures seats { CameBack seats.items result.0.items result.1 }
+{
+    let processors = board.processors();
+    if seats.len() != processors as usize + 1 {
+        return (seats, Err(BoardFault::Limit));
+    }
+    let Ok(lists) = Lists::new(alloc, seats.len()) else {
+        return (seats, Err(BoardFault::Memory));
+    };
+    let load = Load {
+        processors,
+        turns,
+        ticks,
+    };
+    run_threads(rt, board, gate, seats, lists, load)
+}
