@@ -1,8 +1,10 @@
 pub mod Appending
 pub mod EventsRead
+pub mod LineBytes
 pub mod LinesOf
 pub mod ListedStates
 pub mod Numbers
 pub mod PrintedSteps
+pub mod Short
 pub mod StepsRead
 pub mod Words

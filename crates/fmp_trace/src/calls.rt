@@ -1,87 +1,101 @@
 //! Service calls and replies, as the trace writes them.
-ghost use Rattle.std.specs.Prelude.{◌≡◌, ◌++◌, codes, OnOk, OnErr};
+ghost use Rattle.std.specs.Prelude.{◌≡◌, ◌≤◌, ◌+◌, ◌*◌, ◌++◌, codes, length, take};
 ghost use Rattle.std.specs.Fmt.{signed_decimal};
 ghost use Rattle.fmp_base.specs.Texts.{more_numbers_text, numbers_text, call_text, value_text, reply_text, answer_text};
-ghost use Rattle.fmp_trace.specs.Fronts.{Begins};
 
-use crate::texts::{append, append_signed, append_word};
+use crate::texts::{LineBytes, ROOM, append, append_signed, append_word};
 use fmp_base::{Call, Reply};
-use std::alloc::AllocError;
 
 /// A comma and a number.
-fn append_next_number(number: i32, out: &mut Vec<u8>) -> Result<(), AllocError>
-    ensures ok { OnOk result (out.new.items ≡ out.old.items ++ (codes "," ++ signed_decimal number)) }
-    ensures err { OnErr result (Begins out.old.items out.new.items) }
+#[inline(always)]
+fn append_next_number(number: i32, line: &mut LineBytes, end: usize) -> usize
+    requires { end + 18 ≤ ROOM }
+    ensures text { take result line.new ≡ take end line.old ++ (codes "," ++ signed_decimal number) }
+    ensures short { result ≤ end + 18 }
 {
-    append(b",", out)?;
-    append_signed(number, out)
+    let end = append(b",", line, end);
+    append_signed(number, line, end)
 }
 
 /// Numbers, each with a comma in front.
-fn append_more_numbers(numbers: &[i32], out: &mut Vec<u8>) -> Result<(), AllocError>
-    ensures ok { OnOk result (out.new.items ≡ out.old.items ++ more_numbers_text numbers.now) }
-    ensures err { OnErr result (Begins out.old.items out.new.items) }
+fn append_more_numbers(numbers: &[i32], line: &mut LineBytes, end: usize) -> usize
+    requires { end + 18 * length numbers.now ≤ ROOM }
+    ensures text { take result line.new ≡ take end line.old ++ more_numbers_text numbers.now }
+    ensures short { result ≤ end + 18 * length numbers.now }
 {
+    let mut end = end;
     for number in numbers {
-        append_next_number(*number, out)?;
+        end = append_next_number(*number, line, end);
     }
-    Ok(())
+    end
 }
 
 /// Numbers, with commas between.
-fn append_numbers(numbers: &[i32], out: &mut Vec<u8>) -> Result<(), AllocError>
-    ensures ok { OnOk result (out.new.items ≡ out.old.items ++ numbers_text numbers.now) }
-    ensures err { OnErr result (Begins out.old.items out.new.items) }
+#[inline(always)]
+fn append_numbers(numbers: &[i32], line: &mut LineBytes, end: usize) -> usize
+    requires { end + 18 * length numbers.now ≤ ROOM }
+    ensures text { take result line.new ≡ take end line.old ++ numbers_text numbers.now }
+    ensures short { result ≤ end + 18 * length numbers.now }
 {
     match numbers {
-        [] => Ok(()),
+        [] => end,
         [first, more @ ..] => {
-            append_signed(*first, out)?;
-            append_more_numbers(more, out)
+            let end = append_signed(*first, line, end);
+            append_more_numbers(more, line, end)
         }
     }
 }
 
 /// The name of a call, and its arguments between parentheses.
-pub fn append_call(call: Call, out: &mut Vec<u8>) -> Result<(), AllocError>
-    ensures ok { OnOk result (out.new.items ≡ out.old.items ++ call_text call) }
-    ensures err { OnErr result (Begins out.old.items out.new.items) }
+#[inline(always)]
+#[tactic(auto, using(crate::proofs::Short::short_service, crate::proofs::Short::few_arguments))]
+pub fn append_call(call: Call, line: &mut LineBytes, end: usize) -> usize
+    requires { end + 84 ≤ ROOM }
+    ensures text { take result line.new ≡ take end line.old ++ call_text call }
+    ensures short { result ≤ end + 84 }
 {
-    append_word(call.service().name().as_bytes(), out)?;
-    append(b"(", out)?;
-    append_numbers(call.arguments().as_slice(), out)?;
-    append(b")", out)
+    let end = append_word(call.service().name().as_bytes(), line, end);
+    let end = append(b"(", line, end);
+    let end = append_numbers(call.arguments().as_slice(), line, end);
+    append(b")", line, end)
 }
 
-fn append_value(value: Option<i32>, out: &mut Vec<u8>) -> Result<(), AllocError>
-    ensures ok { OnOk result (out.new.items ≡ out.old.items ++ value_text value) }
-    ensures err { OnErr result (Begins out.old.items out.new.items) }
+#[inline(always)]
+fn append_value(value: Option<i32>, line: &mut LineBytes, end: usize) -> usize
+    requires { end + 18 ≤ ROOM }
+    ensures text { take result line.new ≡ take end line.old ++ value_text value }
+    ensures short { result ≤ end + 18 }
 {
     match value {
         Some(value) => {
-            append(b" ", out)?;
-            append_signed(value, out)
+            let end = append(b" ", line, end);
+            append_signed(value, line, end)
         }
-        None => Ok(()),
+        None => end,
     }
 }
 
 /// The name of the code, and the value where there is one.
-pub fn append_reply(reply: Reply, out: &mut Vec<u8>) -> Result<(), AllocError>
-    ensures ok { OnOk result (out.new.items ≡ out.old.items ++ reply_text reply) }
-    ensures err { OnErr result (Begins out.old.items out.new.items) }
+#[inline(always)]
+#[tactic(auto, using(crate::proofs::Short::short_code))]
+pub fn append_reply(reply: Reply, line: &mut LineBytes, end: usize) -> usize
+    requires { end + 26 ≤ ROOM }
+    ensures text { take result line.new ≡ take end line.old ++ reply_text reply }
+    ensures short { result ≤ end + 26 }
 {
-    append_word(reply.code.name().as_bytes(), out)?;
-    append_value(reply.value, out)
+    let end = append_word(reply.code.name().as_bytes(), line, end);
+    append_value(reply.value, line, end)
 }
 
 /// A reply, or `wait` where the caller waits.
-pub fn append_answer(reply: Option<Reply>, out: &mut Vec<u8>) -> Result<(), AllocError>
-    ensures ok { OnOk result (out.new.items ≡ out.old.items ++ answer_text reply) }
-    ensures err { OnErr result (Begins out.old.items out.new.items) }
+#[inline(always)]
+pub fn append_answer(reply: Option<Reply>, line: &mut LineBytes, end: usize) -> usize
+    requires { end + 26 ≤ ROOM }
+    ensures text { take result line.new ≡ take end line.old ++ answer_text reply }
+    ensures short { result ≤ end + 26 }
 {
     match reply {
-        Some(reply) => append_reply(reply, out),
-        None => append(b"wait", out),
+        Some(reply) => append_reply(reply, line, end),
+        None => append(b"wait", line, end),
     }
 }

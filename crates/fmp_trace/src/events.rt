@@ -1,45 +1,48 @@
 //! Steps texts, as they are written.
-ghost use Rattle.std.specs.Prelude.{◌≡◌, ◌∷◌, [], ◌++◌, OnOk, OnErr};
+ghost use Rattle.std.specs.Prelude.{◌≡◌, ◌≤◌, ◌+◌, ◌∷◌, [], ◌++◌, take, OnOk, OnErr};
 ghost use Rattle.fmp_trace.specs.Fronts.{Begins};
 ghost use Rattle.fmp_trace.specs.Steps.{event_text, steps_text};
 ghost use Rattle.fmp_trace.specs.StepsLaws.{PrintedStepsReadBack};
 
-use crate::texts::{append, append_number};
+use crate::texts::{LineBytes, ROOM, append, append_line, append_number};
 use fmp_base::Event;
 use std::alloc::AllocError;
 
-fn append_event(event: Event, out: &mut Vec<u8>) -> Result<(), AllocError>
-    ensures ok { OnOk result (out.new.items ≡ out.old.items ++ event_text event) }
-    ensures err { OnErr result (Begins out.old.items out.new.items) }
+fn append_event(event: Event, line: &mut LineBytes, end: usize) -> usize
+    requires { end + 20 ≤ ROOM }
+    ensures text { take result line.new ≡ take end line.old ++ event_text event }
+    ensures short { result ≤ end + 20 }
 {
     match event {
         Event::Run(processor) => {
-            append(b"run ", out)?;
-            append_number(u32::from(processor), out)
+            let end = append(b"run ", line, end);
+            append_number(u32::from(processor), line, end)
         }
-        Event::Tick => append(b"tick", out),
+        Event::Tick => append(b"tick", line, end),
         Event::Int(interrupt) => {
-            append(b"int ", out)?;
-            append_number(u32::from(interrupt), out)
+            let end = append(b"int ", line, end);
+            append_number(u32::from(interrupt), line, end)
         }
     }
 }
 
-/// An event, with a line feed behind.
-fn append_step(event: Event, out: &mut Vec<u8>) -> Result<(), AllocError>
-    ensures ok { OnOk result (out.new.items ≡ out.old.items ++ (event_text event ++ 10 ∷ [])) }
-    ensures err { OnErr result (Begins out.old.items out.new.items) }
+/// Puts together the line of an event, with a line feed behind, and gives its end.
+fn put_step(event: Event, line: &mut LineBytes) -> usize
+    ensures text { take result line.new ≡ event_text event ++ 10 ∷ [] }
+    ensures short { result ≤ ROOM }
 {
-    append_event(event, out)?;
-    append(b"\n", out)
+    let end = append_event(event, line, 0);
+    append(b"\n", line, end)
 }
 
 fn append_steps(events: &[Event], out: &mut Vec<u8>) -> Result<(), AllocError>
     ensures ok { OnOk result (out.new.items ≡ out.old.items ++ steps_text events.now) }
     ensures err { OnErr result (Begins out.old.items out.new.items) }
 {
+    let mut line = [0; ROOM];
     for event in events {
-        append_step(*event, out)?;
+        let end = put_step(*event, &mut line);
+        append_line(&line, end, out)?;
     }
     Ok(())
 }

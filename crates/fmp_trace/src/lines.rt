@@ -1,5 +1,5 @@
 //! The lines of the trace.
-ghost use Rattle.std.specs.Prelude.{◌≡◌, ◌+◌, ◌∷◌, [], ◌++◌, codes, decimal, OnOk, OnErr};
+ghost use Rattle.std.specs.Prelude.{◌≡◌, ◌≤◌, ◌+◌, ◌∷◌, [], ◌++◌, codes, decimal, take, OnOk, OnErr};
 ghost use Rattle.fmp_base.specs.Names.{name_text};
 ghost use Rattle.fmp_base.specs.Systems.{tables_of, cyclic_config};
 ghost use Rattle.fmp_base.specs.Texts.{processor_text, caller_name, task_name, handler_name, run_text, call_text, answer_text, fault_text, reply_text, line_body, line_text, lines_text};
@@ -10,7 +10,9 @@ use crate::names::{
     append_caller, append_cyclic_name, append_handler, append_run, append_task_name,
 };
 use crate::numeral::Numeral;
-use crate::texts::{append, append_number, append_processor, append_word};
+use crate::texts::{
+    LineBytes, ROOM, append, append_line, append_number, append_processor, append_word,
+};
 use fmp_base::{Call, Caller, Fault, Handler, Line, Reply, System};
 use std::alloc::AllocError;
 
@@ -19,40 +21,45 @@ fn append_actor(
     sys: &System,
     processor: u8,
     caller: Caller,
-    out: &mut Vec<u8>,
-) -> Result<(), AllocError>
-    ensures ok { OnOk result (out.new.items ≡
-        out.old.items ++ (processor_text processor ++ caller_name (tables_of sys.now) caller)) }
-    ensures err { OnErr result (Begins out.old.items out.new.items) }
+    line: &mut LineBytes,
+    end: usize,
+) -> usize
+    requires { end + 50 ≤ ROOM }
+    ensures text { take result line.new ≡
+        take end line.old ++ (processor_text processor ++ caller_name (tables_of sys.now) caller) }
+    ensures short { result ≤ end + 50 }
 {
-    append_processor(processor, out)?;
-    append_caller(sys, caller, out)
+    let end = append_processor(processor, line, end);
+    append_caller(sys, caller, line, end)
 }
 
 /// The name of a task, behind its processor.
-fn append_task(sys: &System, processor: u8, task: u8, out: &mut Vec<u8>) -> Result<(), AllocError>
-    ensures ok { OnOk result (out.new.items ≡
-        out.old.items ++ (processor_text processor ++ task_name (tables_of sys.now) task)) }
-    ensures err { OnErr result (Begins out.old.items out.new.items) }
+fn append_task(sys: &System, processor: u8, task: u8, line: &mut LineBytes, end: usize) -> usize
+    requires { end + 50 ≤ ROOM }
+    ensures text { take result line.new ≡
+        take end line.old ++ (processor_text processor ++ task_name (tables_of sys.now) task) }
+    ensures short { result ≤ end + 50 }
 {
-    append_processor(processor, out)?;
-    append_task_name(sys, task, out)
+    let end = append_processor(processor, line, end);
+    append_task_name(sys, task, line, end)
 }
 
-fn append_tick(clock: u32, out: &mut Vec<u8>) -> Result<(), AllocError>
-    ensures ok { OnOk result (out.new.items ≡ out.old.items ++ (codes " tick " ++ decimal clock)) }
-    ensures err { OnErr result (Begins out.old.items out.new.items) }
+fn append_tick(clock: u32, line: &mut LineBytes, end: usize) -> usize
+    requires { end + 22 ≤ ROOM }
+    ensures text { take result line.new ≡ take end line.old ++ (codes " tick " ++ decimal clock) }
+    ensures short { result ≤ end + 22 }
 {
-    append(b" tick ", out)?;
-    append_number(clock, out)
+    let end = append(b" tick ", line, end);
+    append_number(clock, line, end)
 }
 
-fn append_interrupt(place: u8, out: &mut Vec<u8>) -> Result<(), AllocError>
-    ensures ok { OnOk result (out.new.items ≡ out.old.items ++ (codes " int " ++ decimal (place + 1))) }
-    ensures err { OnErr result (Begins out.old.items out.new.items) }
+fn append_interrupt(place: u8, line: &mut LineBytes, end: usize) -> usize
+    requires { end + 21 ≤ ROOM }
+    ensures text { take result line.new ≡ take end line.old ++ (codes " int " ++ decimal (place + 1)) }
+    ensures short { result ≤ end + 21 }
 {
-    append(b" int ", out)?;
-    append_number(u32::from(place) + 1, out)
+    let end = append(b" int ", line, end);
+    append_number(u32::from(place) + 1, line, end)
 }
 
 /// A service call, behind its caller.
@@ -61,15 +68,18 @@ fn append_request(
     processor: u8,
     caller: Caller,
     call: Call,
-    out: &mut Vec<u8>,
-) -> Result<(), AllocError>
-    ensures ok { OnOk result (out.new.items ≡ out.old.items
-        ++ (processor_text processor ++ (caller_name (tables_of sys.now) caller ++ (codes " " ++ call_text call)))) }
-    ensures err { OnErr result (Begins out.old.items out.new.items) }
+    line: &mut LineBytes,
+    end: usize,
+) -> usize
+    requires { end + 135 ≤ ROOM }
+    ensures text { take result line.new ≡
+        take end line.old ++ (processor_text processor
+        ++ (caller_name (tables_of sys.now) caller ++ (codes " " ++ call_text call))) }
+    ensures short { result ≤ end + 135 }
 {
-    append_actor(sys, processor, caller, out)?;
-    append(b" ", out)?;
-    append_call(call, out)
+    let end = append_actor(sys, processor, caller, line, end);
+    let end = append(b" ", line, end);
+    append_call(call, line, end)
 }
 
 /// A service call with its answer.
@@ -79,30 +89,35 @@ fn append_called(
     caller: Caller,
     call: Call,
     reply: Option<Reply>,
-    out: &mut Vec<u8>,
-) -> Result<(), AllocError>
-    ensures ok { OnOk result (out.new.items ≡ out.old.items ++ (processor_text processor
+    line: &mut LineBytes,
+    end: usize,
+) -> usize
+    requires { end + 162 ≤ ROOM }
+    ensures text { take result line.new ≡
+        take end line.old ++ (processor_text processor
         ++ (caller_name (tables_of sys.now) caller
-        ++ (codes " " ++ (call_text call ++ (codes " " ++ answer_text reply)))))) }
-    ensures err { OnErr result (Begins out.old.items out.new.items) }
+        ++ (codes " " ++ (call_text call ++ (codes " " ++ answer_text reply))))) }
+    ensures short { result ≤ end + 162 }
 {
-    append_request(sys, processor, caller, call, out)?;
-    append(b" ", out)?;
-    append_answer(reply, out)
+    let end = append_request(sys, processor, caller, call, line, end);
+    let end = append(b" ", line, end);
+    append_answer(reply, line, end)
 }
 
 fn append_end(
     sys: &System,
     processor: u8,
     caller: Caller,
-    out: &mut Vec<u8>,
-) -> Result<(), AllocError>
-    ensures ok { OnOk result (out.new.items ≡
-        out.old.items ++ (processor_text processor ++ (caller_name (tables_of sys.now) caller ++ codes " end"))) }
-    ensures err { OnErr result (Begins out.old.items out.new.items) }
+    line: &mut LineBytes,
+    end: usize,
+) -> usize
+    requires { end + 54 ≤ ROOM }
+    ensures text { take result line.new ≡
+        take end line.old ++ (processor_text processor ++ (caller_name (tables_of sys.now) caller ++ codes " end")) }
+    ensures short { result ≤ end + 54 }
 {
-    append_actor(sys, processor, caller, out)?;
-    append(b" end", out)
+    let end = append_actor(sys, processor, caller, line, end);
+    append(b" end", line, end)
 }
 
 fn name_of_fault(fault: Fault) -> &'static [u8]
@@ -119,15 +134,18 @@ fn append_fault(
     processor: u8,
     caller: Caller,
     fault: Fault,
-    out: &mut Vec<u8>,
-) -> Result<(), AllocError>
-    ensures ok { OnOk result (out.new.items ≡ out.old.items
-        ++ (processor_text processor ++ (caller_name (tables_of sys.now) caller ++ (codes " " ++ fault_text fault)))) }
-    ensures err { OnErr result (Begins out.old.items out.new.items) }
+    line: &mut LineBytes,
+    end: usize,
+) -> usize
+    requires { end + 56 ≤ ROOM }
+    ensures text { take result line.new ≡
+        take end line.old ++ (processor_text processor
+        ++ (caller_name (tables_of sys.now) caller ++ (codes " " ++ fault_text fault))) }
+    ensures short { result ≤ end + 56 }
 {
-    append_actor(sys, processor, caller, out)?;
-    append(b" ", out)?;
-    append_word(name_of_fault(fault), out)
+    let end = append_actor(sys, processor, caller, line, end);
+    let end = append(b" ", line, end);
+    append_word(name_of_fault(fault), line, end)
 }
 
 fn append_release(
@@ -135,117 +153,124 @@ fn append_release(
     processor: u8,
     task: u8,
     reply: Reply,
-    out: &mut Vec<u8>,
-) -> Result<(), AllocError>
-    ensures ok { OnOk result (out.new.items ≡ out.old.items
-        ++ (processor_text processor ++ (task_name (tables_of sys.now) task ++ (codes " gets " ++ reply_text reply)))) }
-    ensures err { OnErr result (Begins out.old.items out.new.items) }
+    line: &mut LineBytes,
+    end: usize,
+) -> usize
+    requires { end + 82 ≤ ROOM }
+    ensures text { take result line.new ≡
+        take end line.old ++ (processor_text processor
+        ++ (task_name (tables_of sys.now) task ++ (codes " gets " ++ reply_text reply))) }
+    ensures short { result ≤ end + 82 }
 {
-    append_task(sys, processor, task, out)?;
-    append(b" gets ", out)?;
-    append_reply(reply, out)
+    let end = append_task(sys, processor, task, line, end);
+    let end = append(b" gets ", line, end);
+    append_reply(reply, line, end)
 }
 
-fn append_start(sys: &System, processor: u8, task: u8, out: &mut Vec<u8>) -> Result<(), AllocError>
-    ensures ok { OnOk result (out.new.items ≡
-        out.old.items ++ (processor_text processor ++ (task_name (tables_of sys.now) task ++ codes " starts"))) }
-    ensures err { OnErr result (Begins out.old.items out.new.items) }
+fn append_start(sys: &System, processor: u8, task: u8, line: &mut LineBytes, end: usize) -> usize
+    requires { end + 57 ≤ ROOM }
+    ensures text { take result line.new ≡
+        take end line.old ++ (processor_text processor ++ (task_name (tables_of sys.now) task ++ codes " starts")) }
+    ensures short { result ≤ end + 57 }
 {
-    append_task(sys, processor, task, out)?;
-    append(b" starts", out)
+    let end = append_task(sys, processor, task, line, end);
+    append(b" starts", line, end)
 }
 
 fn append_pending(
     sys: &System,
     processor: u8,
     cyclic: u8,
-    out: &mut Vec<u8>,
-) -> Result<(), AllocError>
-    ensures ok { OnOk result (out.new.items ≡ out.old.items
-        ++ (processor_text processor ++ (codes "cyc " ++ name_text (cyclic_config (tables_of sys.now) cyclic).name))) }
-    ensures err { OnErr result (Begins out.old.items out.new.items) }
+    line: &mut LineBytes,
+    end: usize,
+) -> usize
+    requires { end + 54 ≤ ROOM }
+    ensures text { take result line.new ≡
+        take end line.old ++ (processor_text processor
+        ++ (codes "cyc " ++ name_text (cyclic_config (tables_of sys.now) cyclic).name)) }
+    ensures short { result ≤ end + 54 }
 {
-    append_processor(processor, out)?;
-    append(b"cyc ", out)?;
-    append_cyclic_name(sys, cyclic, out)
+    let end = append_processor(processor, line, end);
+    let end = append(b"cyc ", line, end);
+    append_cyclic_name(sys, cyclic, line, end)
 }
 
 fn append_begin(
     sys: &System,
     processor: u8,
     handler: Handler,
-    out: &mut Vec<u8>,
-) -> Result<(), AllocError>
-    ensures ok { OnOk result (out.new.items ≡
-        out.old.items ++ (processor_text processor ++ (codes "begin " ++ handler_name (tables_of sys.now) handler))) }
-    ensures err { OnErr result (Begins out.old.items out.new.items) }
+    line: &mut LineBytes,
+    end: usize,
+) -> usize
+    requires { end + 56 ≤ ROOM }
+    ensures text { take result line.new ≡
+        take end line.old ++ (processor_text processor
+        ++ (codes "begin " ++ handler_name (tables_of sys.now) handler)) }
+    ensures short { result ≤ end + 56 }
 {
-    append_processor(processor, out)?;
-    append(b"begin ", out)?;
-    append_handler(sys, handler, out)
+    let end = append_processor(processor, line, end);
+    let end = append(b"begin ", line, end);
+    append_handler(sys, handler, line, end)
 }
 
 fn append_dispatch(
     sys: &System,
     processor: u8,
     task: Option<u8>,
-    out: &mut Vec<u8>,
-) -> Result<(), AllocError>
-    ensures ok { OnOk result (out.new.items ≡
-        out.old.items ++ (processor_text processor ++ (codes "> " ++ run_text (tables_of sys.now) task))) }
-    ensures err { OnErr result (Begins out.old.items out.new.items) }
+    line: &mut LineBytes,
+    end: usize,
+) -> usize
+    requires { end + 52 ≤ ROOM }
+    ensures text { take result line.new ≡
+        take end line.old ++ (processor_text processor ++ (codes "> " ++ run_text (tables_of sys.now) task)) }
+    ensures short { result ≤ end + 52 }
 {
-    append_processor(processor, out)?;
-    append(b"> ", out)?;
-    append_run(sys, task, out)
+    let end = append_processor(processor, line, end);
+    let end = append(b"> ", line, end);
+    append_run(sys, task, line, end)
 }
 
 /// A line without its number and its end.
-fn append_body(sys: &System, line: &Line, out: &mut Vec<u8>) -> Result<(), AllocError>
-    ensures ok { OnOk result (out.new.items ≡ out.old.items ++ line_body (tables_of sys.now) line.now) }
-    ensures err { OnErr result (Begins out.old.items out.new.items) }
+fn append_body(sys: &System, printed: &Line, line: &mut LineBytes, end: usize) -> usize
+    requires { end + 162 ≤ ROOM }
+    ensures text { take result line.new ≡ take end line.old ++ line_body (tables_of sys.now) printed.now }
+    ensures short { result ≤ end + 162 }
 {
-    match *line {
-        Line::Tick(clock) => append_tick(clock, out),
-        Line::Int(place) => append_interrupt(place, out),
+    match *printed {
+        Line::Tick(clock) => append_tick(clock, line, end),
+        Line::Int(place) => append_interrupt(place, line, end),
         Line::Call {
             processor,
             caller,
             call,
             reply,
-        } => append_called(sys, processor, caller, call, reply, out),
-        Line::End { processor, caller } => append_end(sys, processor, caller, out),
+        } => append_called(sys, processor, caller, call, reply, line, end),
+        Line::End { processor, caller } => append_end(sys, processor, caller, line, end),
         Line::Fault {
             processor,
             caller,
             fault,
-        } => append_fault(sys, processor, caller, fault, out),
+        } => append_fault(sys, processor, caller, fault, line, end),
         Line::Gets {
             processor,
             task,
             reply,
-        } => append_release(sys, processor, task, reply, out),
-        Line::Starts { processor, task } => append_start(sys, processor, task, out),
-        Line::Pends { processor, cyclic } => append_pending(sys, processor, cyclic, out),
-        Line::Begins { processor, handler } => append_begin(sys, processor, handler, out),
-        Line::Runs { processor, task } => append_dispatch(sys, processor, task, out),
+        } => append_release(sys, processor, task, reply, line, end),
+        Line::Starts { processor, task } => append_start(sys, processor, task, line, end),
+        Line::Pends { processor, cyclic } => append_pending(sys, processor, cyclic, line, end),
+        Line::Begins { processor, handler } => append_begin(sys, processor, handler, line, end),
+        Line::Runs { processor, task } => append_dispatch(sys, processor, task, line, end),
     }
 }
 
-/// A line, with its number in front and a line feed behind.
-fn append_line(
-    sys: &System,
-    number: &Numeral,
-    line: &Line,
-    out: &mut Vec<u8>,
-) -> Result<(), AllocError>
-    ensures ok { OnOk result (out.new.items ≡
-        out.old.items ++ (number.now ++ (line_body (tables_of sys.now) line.now ++ 10 ∷ []))) }
-    ensures err { OnErr result (Begins out.old.items out.new.items) }
+/// Puts together a line, with its number in front and a line feed behind, and gives its end.
+fn put_line(sys: &System, number: &Numeral, printed: &Line, line: &mut LineBytes) -> usize
+    ensures text { take result line.new ≡ number.now ++ (line_body (tables_of sys.now) printed.now ++ 10 ∷ []) }
+    ensures short { result ≤ ROOM }
 {
-    number.append(out)?;
-    append_body(sys, line, out)?;
-    append(b"\n", out)
+    let end = number.append(line, 0);
+    let end = append_body(sys, printed, line, end);
+    append(b"\n", line, end)
 }
 
 fn append_lines(
@@ -258,8 +283,10 @@ fn append_lines(
     ensures err { OnErr result (Begins out.old.items out.new.items) }
 {
     let numeral = Numeral::new(number);
+    let mut bytes = [0; ROOM];
     for line in lines {
-        append_line(sys, &numeral, line, out)?;
+        let end = put_line(sys, &numeral, line, &mut bytes);
+        append_line(&bytes, end, out)?;
     }
     Ok(())
 }

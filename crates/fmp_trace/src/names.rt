@@ -1,76 +1,82 @@
 //! The names of tasks and handlers.
-ghost use Rattle.std.specs.Prelude.{◌≡◌, ◌++◌, OnOk, OnErr};
+ghost use Rattle.std.specs.Prelude.{◌≡◌, ◌≤◌, ◌+◌, ◌++◌, take};
 ghost use Rattle.fmp_base.specs.Names.{name_text};
 ghost use Rattle.fmp_base.specs.Systems.{tables_of, cyclic_config};
 ghost use Rattle.fmp_base.specs.Texts.{task_name, handler_name, caller_name, run_text};
-ghost use Rattle.fmp_trace.specs.Fronts.{Begins};
 
-use crate::texts::{append, append_name, append_number};
+use crate::texts::{LineBytes, ROOM, append, append_name, append_number};
 use fmp_base::{Caller, Handler, System};
-use std::alloc::AllocError;
 
 /// The name of the task at this place, or nothing where there is none.
-pub fn append_name_at(sys: &System, task: usize, out: &mut Vec<u8>) -> Result<(), AllocError>
-    ensures ok { OnOk result (out.new.items ≡ out.old.items ++ task_name (tables_of sys.now) task) }
-    ensures err { OnErr result (Begins out.old.items out.new.items) }
+#[inline(always)]
+pub fn append_name_at(sys: &System, task: usize, line: &mut LineBytes, end: usize) -> usize
+    requires { end + 31 ≤ ROOM }
+    ensures text { take result line.new ≡ take end line.old ++ task_name (tables_of sys.now) task }
+    ensures short { result ≤ end + 31 }
 {
     match sys.tasks.get(task) {
-        Some(config) => append_name(&config.name, out),
-        None => Ok(()),
+        Some(config) => append_name(&config.name, line, end),
+        None => end,
     }
 }
 
 #[inline(always)]
-pub fn append_task_name(sys: &System, task: u8, out: &mut Vec<u8>) -> Result<(), AllocError>
-    ensures ok { OnOk result (out.new.items ≡ out.old.items ++ task_name (tables_of sys.now) task) }
-    ensures err { OnErr result (Begins out.old.items out.new.items) }
+pub fn append_task_name(sys: &System, task: u8, line: &mut LineBytes, end: usize) -> usize
+    requires { end + 31 ≤ ROOM }
+    ensures text { take result line.new ≡ take end line.old ++ task_name (tables_of sys.now) task }
+    ensures short { result ≤ end + 31 }
 {
-    append_name_at(sys, usize::from(task), out)
+    append_name_at(sys, usize::from(task), line, end)
 }
 
 /// The name of the cyclic handler at this place, or nothing where there is none.
-pub fn append_cyclic_name(sys: &System, cyclic: u8, out: &mut Vec<u8>) -> Result<(), AllocError>
-    ensures ok { OnOk result (out.new.items ≡
-        out.old.items ++ name_text (cyclic_config (tables_of sys.now) cyclic).name) }
-    ensures err { OnErr result (Begins out.old.items out.new.items) }
+pub fn append_cyclic_name(sys: &System, cyclic: u8, line: &mut LineBytes, end: usize) -> usize
+    requires { end + 31 ≤ ROOM }
+    ensures text { take result line.new ≡
+        take end line.old ++ name_text (cyclic_config (tables_of sys.now) cyclic).name }
+    ensures short { result ≤ end + 31 }
 {
     match sys.cyclics.get(usize::from(cyclic)) {
-        Some(config) => append_name(&config.name, out),
-        None => Ok(()),
+        Some(config) => append_name(&config.name, line, end),
+        None => end,
     }
 }
 
 /// The name of the task that runs, or `-`.
-pub fn append_run(sys: &System, task: Option<u8>, out: &mut Vec<u8>) -> Result<(), AllocError>
-    ensures ok { OnOk result (out.new.items ≡ out.old.items ++ run_text (tables_of sys.now) task) }
-    ensures err { OnErr result (Begins out.old.items out.new.items) }
+pub fn append_run(sys: &System, task: Option<u8>, line: &mut LineBytes, end: usize) -> usize
+    requires { end + 31 ≤ ROOM }
+    ensures text { take result line.new ≡ take end line.old ++ run_text (tables_of sys.now) task }
+    ensures short { result ≤ end + 31 }
 {
     match task {
-        Some(task) => append_task_name(sys, task, out),
-        None => append(b"-", out),
+        Some(task) => append_task_name(sys, task, line, end),
+        None => append(b"-", line, end),
     }
 }
 
 /// A cyclic handler's name, or `#i` for the handler of interrupt i.
-pub fn append_handler(sys: &System, handler: Handler, out: &mut Vec<u8>) -> Result<(), AllocError>
-    ensures ok { OnOk result (out.new.items ≡ out.old.items ++ handler_name (tables_of sys.now) handler) }
-    ensures err { OnErr result (Begins out.old.items out.new.items) }
+pub fn append_handler(sys: &System, handler: Handler, line: &mut LineBytes, end: usize) -> usize
+    requires { end + 31 ≤ ROOM }
+    ensures text { take result line.new ≡ take end line.old ++ handler_name (tables_of sys.now) handler }
+    ensures short { result ≤ end + 31 }
 {
     match handler {
         Handler::Interrupt(place) => {
-            append(b"#", out)?;
-            append_number(u32::from(place) + 1, out)
+            let end = append(b"#", line, end);
+            append_number(u32::from(place) + 1, line, end)
         }
-        Handler::Cyclic(place) => append_cyclic_name(sys, place, out),
+        Handler::Cyclic(place) => append_cyclic_name(sys, place, line, end),
     }
 }
 
-pub fn append_caller(sys: &System, caller: Caller, out: &mut Vec<u8>) -> Result<(), AllocError>
-    ensures ok { OnOk result (out.new.items ≡ out.old.items ++ caller_name (tables_of sys.now) caller) }
-    ensures err { OnErr result (Begins out.old.items out.new.items) }
+#[inline(always)]
+pub fn append_caller(sys: &System, caller: Caller, line: &mut LineBytes, end: usize) -> usize
+    requires { end + 31 ≤ ROOM }
+    ensures text { take result line.new ≡ take end line.old ++ caller_name (tables_of sys.now) caller }
+    ensures short { result ≤ end + 31 }
 {
     match caller {
-        Caller::Task(place) => append_task_name(sys, place, out),
-        Caller::Handler(handler) => append_handler(sys, handler, out),
+        Caller::Task(place) => append_task_name(sys, place, line, end),
+        Caller::Handler(handler) => append_handler(sys, handler, line, end),
     }
 }

@@ -1,48 +1,48 @@
 //! Numbers that are written many times.
-ghost use Rattle.std.specs.Prelude.{◌≡◌, ◌++◌, OnOk, OnErr, decimal};
-ghost use Rattle.fmp_trace.specs.Fronts.{Begins};
+ghost use Rattle.std.specs.Prelude.{◌≡◌, ◌≤◌, ◌++◌, ◌+◌, decimal, take};
 
-use crate::texts::append_front;
-use itoa::Buffer;
-use std::alloc::AllocError;
+use crate::texts::{LineBytes, ROOM};
+use itoa::write_digits;
 use std::marker::Model;
+
+/// The most digits of a number.
+const DIGITS: usize = 16;
 
 /// A number in decimal digits that stand ready. It is seen as the list of its digits' bytes.
 #[derive(Drop)]
 pub struct Numeral {
-    bytes: [u8; 16],
-    count: usize,
+    /// The digits end in the middle, so that as many bytes as there can be digits stand behind the place of the first.
+    bytes: [u8; 2 * DIGITS],
+    start: usize,
 }
 
 impl Model for Numeral {
-    ghost use Rattle.std.specs.Prelude.{ℕ, List, ◌≤◌, take};
+    ghost use Rattle.std.specs.Prelude.{ℕ, List, ◌≤◌, ◌-◌, take, drop};
 
     ghost Value = { List ℕ };
 
-    ghost view = { λ n. take n.count n.bytes };
+    ghost view = { λ n. take (16 - n.start) (drop n.start n.bytes) };
 
-    ghost invariant = { λ n. n.count ≤ 16 };
+    ghost invariant = { λ n. n.start ≤ 16 };
 }
 
 impl Numeral {
     pub fn new(number: u32) -> Numeral
         ensures { result ≡ decimal number }
     {
-        let mut buffer = Buffer::new();
-        let digits = buffer.format(number).as_bytes();
-        let mut bytes = [0; 16];
-        bytes[..digits.len()].copy_from_slice(digits);
-        Numeral {
-            bytes,
-            count: digits.len(),
-        }
+        let mut bytes = [0; 2 * DIGITS];
+        let start = write_digits(u64::from(number), &mut bytes, DIGITS);
+        Numeral { bytes, start }
     }
 
+    /// Puts the number into a line.
     #[inline(always)]
-    pub fn append(&self, out: &mut Vec<u8>) -> Result<(), AllocError>
-        ensures ok { OnOk result (out.new.items ≡ out.old.items ++ self.now) }
-        ensures err { OnErr result (Begins out.old.items out.new.items) }
+    pub fn append(&self, line: &mut LineBytes, end: usize) -> usize
+        requires { end + 16 ≤ ROOM }
+        ensures text { take result line.new ≡ take end line.old ++ self.now }
+        ensures short { result ≤ end + 16 }
     {
-        append_front(&self.bytes, self.count, out)
+        line[end..end + DIGITS].copy_from_slice(&self.bytes[self.start..self.start + DIGITS]);
+        end + (DIGITS - self.start)
     }
 }

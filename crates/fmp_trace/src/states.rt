@@ -1,17 +1,18 @@
 //! The states of the tasks at the end.
-ghost use Rattle.std.specs.Prelude.{◌≡◌, ◌++◌, codes, OnOk, OnErr};
+ghost use Rattle.std.specs.Prelude.{◌≡◌, ◌≤◌, ◌+◌, ◌++◌, codes, length, take, OnOk, OnErr};
 ghost use Rattle.fmp_base.specs.Systems.{tables_of};
 ghost use Rattle.fmp_base.specs.Texts.{task_name, word_text, state_text};
 ghost use Rattle.fmp_trace.specs.Fronts.{Begins};
 ghost use Rattle.fmp_trace.specs.ListedStates.{listed_states_text, ListedStatesAreStates};
 
 use crate::names::append_name_at;
-use crate::texts::{append, append_number, append_processor};
+use crate::texts::{LineBytes, ROOM, append, append_line, append_number, append_processor};
 use fmp_base::{StateWord, System, TaskState};
 use std::alloc::AllocError;
 
 fn name_of_word(word: StateWord) -> &'static [u8]
-    ensures { result.now ≡ word_text word }
+    ensures text { result.now ≡ word_text word }
+    ensures short { length result.now ≤ 17 }
 {
     match word {
         StateWord::Running => b"RUNNING",
@@ -28,39 +29,38 @@ fn append_word(
     sys: &System,
     task: usize,
     word: StateWord,
-    out: &mut Vec<u8>,
-) -> Result<(), AllocError>
-    ensures ok { OnOk result (out.new.items ≡
-        out.old.items ++ (task_name (tables_of sys.now) task ++ (codes " " ++ word_text word))) }
-    ensures err { OnErr result (Begins out.old.items out.new.items) }
+    line: &mut LineBytes,
+    end: usize,
+) -> usize
+    requires { end + 49 ≤ ROOM }
+    ensures text { take result line.new ≡
+        take end line.old ++ (task_name (tables_of sys.now) task ++ (codes " " ++ word_text word)) }
+    ensures short { result ≤ end + 49 }
 {
-    append_name_at(sys, task, out)?;
-    append(b" ", out)?;
-    append(name_of_word(word), out)
+    let end = append_name_at(sys, task, line, end);
+    let end = append(b" ", line, end);
+    append(name_of_word(word), line, end)
 }
 
-/// The line of the task at this place.
-fn append_state(
-    sys: &System,
-    task: usize,
-    state: TaskState,
-    out: &mut Vec<u8>,
-) -> Result<(), AllocError>
-    ensures ok { OnOk result (out.new.items ≡ out.old.items ++ state_text (tables_of sys.now) task state) }
-    ensures err { OnErr result (Begins out.old.items out.new.items) }
+/// Puts together the line of the task at this place, and gives its end.
+fn put_state(sys: &System, task: usize, state: TaskState, line: &mut LineBytes) -> usize
+    ensures text { take result line.new ≡ state_text (tables_of sys.now) task state }
+    ensures short { result ≤ ROOM }
 {
-    append_word(sys, task, state.word, out)?;
-    append_processor(state.processor, out)?;
-    append_number(u32::from(state.priority), out)?;
-    append(b"\n", out)
+    let end = append_word(sys, task, state.word, line, 0);
+    let end = append_processor(state.processor, line, end);
+    let end = append_number(u32::from(state.priority), line, end);
+    append(b"\n", line, end)
 }
 
 fn append_states(sys: &System, states: &[TaskState], out: &mut Vec<u8>) -> Result<(), AllocError>
     ensures ok { OnOk result (out.new.items ≡ out.old.items ++ listed_states_text (tables_of sys.now) 0 states.now) }
     ensures err { OnErr result (Begins out.old.items out.new.items) }
 {
+    let mut line = [0; ROOM];
     for (task, state) in states.iter().enumerate() {
-        append_state(sys, task, *state, out)?;
+        let end = put_state(sys, task, *state, &mut line);
+        append_line(&line, end, out)?;
     }
     Ok(())
 }

@@ -1,109 +1,149 @@
-//! Pieces of text at the end of a vector. Where memory runs out, what stood there before is still its front.
-ghost use Rattle.std.specs.Prelude.{◌≡◌, ◌≤◌, ◌<◌, ◌∷◌, [], ◌++◌, ◌+◌, OnOk, OnErr, decimal, take};
+//! Pieces of text, each put into a line behind the pieces before it. A line is an array of bytes and the place where
+//! its text ends.
+ghost use Rattle.std.specs.Prelude.{◌≡◌, ◌≤◌, ◌<◌, ◌∷◌, [], ◌++◌, ◌+◌, OnOk, OnErr, decimal, length, take};
 ghost use Rattle.std.specs.Fmt.{signed_decimal};
 ghost use Rattle.fmp_base.specs.Names.{name_text};
 ghost use Rattle.fmp_base.specs.Texts.{processor_text};
 ghost use Rattle.fmp_trace.specs.Fronts.{Begins};
 
+use crate::numeral::Numeral;
 use fmp_base::Name;
-use itoa::Buffer;
 use std::alloc::AllocError;
+
+/// Room for the longest line, and for what is copied behind its end.
+pub const ROOM: usize = 192;
+
+/// The bytes of a line. Those behind its end mean nothing.
+pub type LineBytes = [u8; ROOM];
+
+/// So many bytes are copied at once where a line is no longer.
+const SHORT: usize = 64;
 
 /// A text of any length.
 #[inline(always)]
-pub fn append(text: &[u8], out: &mut Vec<u8>) -> Result<(), AllocError>
-    ensures ok { OnOk result (out.new.items ≡ out.old.items ++ text.now) }
-    ensures err { OnErr result (Begins out.old.items out.new.items) }
+pub fn append(text: &[u8], line: &mut LineBytes, end: usize) -> usize
+    requires { end + length text.now ≤ ROOM }
+    ensures text { take result line.new ≡ take end line.old ++ text.now }
+    ensures place { result ≡ end + length text.now }
 {
-    out.extend_from_slice(text)
+    line[end..end + text.len()].copy_from_slice(text);
+    end + text.len()
 }
 
-/// The first bytes of an array. All are copied and the others cut off, since so many bytes as are known are copied
-/// without a call.
+/// The first bytes of an array. All are copied, since so many bytes as are known are copied without a call.
 #[inline(always)]
 pub fn append_front<const N: usize>(
     bytes: &[u8; N],
     count: usize,
-    out: &mut Vec<u8>,
-) -> Result<(), AllocError>
-    requires { count ≤ N }
-    ensures ok { OnOk result (out.new.items ≡ out.old.items ++ take count bytes.now) }
-    ensures err { OnErr result (Begins out.old.items out.new.items) }
+    line: &mut LineBytes,
+    end: usize,
+) -> usize
+    requires count { count ≤ N }
+    requires room { end + N ≤ ROOM }
+    ensures text { take result line.new ≡ take end line.old ++ take count bytes.now }
+    ensures place { result ≡ end + count }
 {
-    append(bytes, out)?;
-    out.truncate(out.len() - (N - count));
-    Ok(())
+    line[end..end + N].copy_from_slice(bytes);
+    end + count
 }
 
 /// A text that is mostly of 4 to 8 bytes: such a one as its first four and its last four.
 #[inline(always)]
-pub fn append_word(text: &[u8], out: &mut Vec<u8>) -> Result<(), AllocError>
-    ensures ok { OnOk result (out.new.items ≡ out.old.items ++ text.now) }
-    ensures err { OnErr result (Begins out.old.items out.new.items) }
+pub fn append_word(text: &[u8], line: &mut LineBytes, end: usize) -> usize
+    requires { end + length text.now ≤ ROOM }
+    ensures text { take result line.new ≡ take end line.old ++ text.now }
+    ensures place { result ≡ end + length text.now }
 {
     match (text.first_chunk::<4>(), text.last_chunk::<4>()) {
         (Some(first), Some(last)) if text.len() <= 8 => {
-            append_front(first, text.len() - 4, out)?;
-            append(last, out)
+            let end = append_front(first, text.len() - 4, line, end);
+            append(last, line, end)
         }
-        _ => append(text, out),
+        _ => append(text, line, end),
     }
 }
 
 /// A name.
 #[inline(always)]
-pub fn append_name(name: &Name, out: &mut Vec<u8>) -> Result<(), AllocError>
-    ensures ok { OnOk result (out.new.items ≡ out.old.items ++ name_text name.now) }
-    ensures err { OnErr result (Begins out.old.items out.new.items) }
+pub fn append_name(name: &Name, line: &mut LineBytes, end: usize) -> usize
+    requires { end + 31 ≤ ROOM }
+    ensures text { take result line.new ≡ take end line.old ++ name_text name.now }
+    ensures short { result ≤ end + 31 }
 {
-    append_front(&name.bytes, usize::from(name.length).min(Name::MAX), out)
+    append_front(
+        &name.bytes,
+        usize::from(name.length).min(Name::MAX),
+        line,
+        end,
+    )
 }
 
 /// A number below 10 as its digit.
 #[inline(always)]
-fn append_digit(digit: u8, out: &mut Vec<u8>) -> Result<(), AllocError>
-    requires { digit < 10 }
-    ensures ok { OnOk result (out.new.items ≡ out.old.items ++ (48 + digit) ∷ []) }
-    ensures err { OnErr result (Begins out.old.items out.new.items) }
+fn append_digit(digit: u8, line: &mut LineBytes, end: usize) -> usize
+    requires digit { digit < 10 }
+    requires room { end + 1 ≤ ROOM }
+    ensures text { take result line.new ≡ take end line.old ++ (48 + digit) ∷ [] }
+    ensures place { result ≡ end + 1 }
 {
-    append(&[b'0' + digit], out)
+    append(&[b'0' + digit], line, end)
 }
 
 /// A number in decimal digits.
 #[tactic(auto, using(std::proofs::lemmas::Fmt::decimal_digit))]
-pub fn append_number(number: u32, out: &mut Vec<u8>) -> Result<(), AllocError>
-    ensures ok { OnOk result (out.new.items ≡ out.old.items ++ decimal number) }
-    ensures err { OnErr result (Begins out.old.items out.new.items) }
+pub fn append_number(number: u32, line: &mut LineBytes, end: usize) -> usize
+    requires { end + 16 ≤ ROOM }
+    ensures text { take result line.new ≡ take end line.old ++ decimal number }
+    ensures short { result ≤ end + 16 }
 {
     if number < 10 {
-        return append_digit(number as u8, out);
+        return append_digit(number as u8, line, end);
     }
-    append(Buffer::new().format(number).as_bytes(), out)
+    Numeral::new(number).append(line, end)
 }
 
 /// A number in decimal digits, with `-` in front where it is negative.
 #[inline(always)]
-pub fn append_signed(number: i32, out: &mut Vec<u8>) -> Result<(), AllocError>
-    ensures ok { OnOk result (out.new.items ≡ out.old.items ++ signed_decimal number) }
-    ensures err { OnErr result (Begins out.old.items out.new.items) }
+pub fn append_signed(number: i32, line: &mut LineBytes, end: usize) -> usize
+    requires { end + 17 ≤ ROOM }
+    ensures text { take result line.new ≡ take end line.old ++ signed_decimal number }
+    ensures short { result ≤ end + 17 }
 {
     if number >= 0 {
-        return append_number(number as u32, out);
+        return append_number(number as u32, line, end);
     }
-    append(Buffer::new().format(number).as_bytes(), out)
+    let end = append(b"-", line, end);
+    append_number(number.unsigned_abs(), line, end)
 }
 
 /// The number of the processor at this place, with the blanks round it.
 #[tactic(auto, using(std::proofs::lemmas::Fmt::decimal_digit))]
 #[inline(always)]
-pub fn append_processor(place: u8, out: &mut Vec<u8>) -> Result<(), AllocError>
-    ensures ok { OnOk result (out.new.items ≡ out.old.items ++ processor_text place) }
-    ensures err { OnErr result (Begins out.old.items out.new.items) }
+pub fn append_processor(place: u8, line: &mut LineBytes, end: usize) -> usize
+    requires { end + 19 ≤ ROOM }
+    ensures text { take result line.new ≡ take end line.old ++ processor_text place }
+    ensures short { result ≤ end + 19 }
 {
     if place < 9 {
-        return append(&[b' ', b'p', b'1' + place, b' '], out);
+        return append(&[b' ', b'p', b'1' + place, b' '], line, end);
     }
-    append(b" p", out)?;
-    append_number(u32::from(place) + 1, out)?;
-    append(b" ", out)
+    let end = append(b" p", line, end);
+    let end = append_number(u32::from(place) + 1, line, end);
+    append(b" ", line, end)
+}
+
+/// Appends a line that ends at this place to a text. A short one is copied with what stands behind it, which is cut
+/// off. Where memory runs out, what stood before is still the front of the text.
+#[inline(always)]
+pub fn append_line(line: &LineBytes, end: usize, out: &mut Vec<u8>) -> Result<(), AllocError>
+    requires { end ≤ ROOM }
+    ensures ok { OnOk result (out.new.items ≡ out.old.items ++ take end line.now) }
+    ensures err { OnErr result (Begins out.old.items out.new.items) }
+{
+    if end > SHORT {
+        return out.extend_from_slice(&line[..end]);
+    }
+    out.extend_from_slice(&line[..SHORT])?;
+    out.truncate(out.len() - (SHORT - end));
+    Ok(())
 }

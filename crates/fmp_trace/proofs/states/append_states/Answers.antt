@@ -1,6 +1,6 @@
 use Rattle.fmp_trace.proofs.Appending.{begins_through, on_err_from}
 use Rattle.fmp_trace.proofs.states.append_states.Goals as goal
 
-pub returns-in_err-append_state-clause-err : goal.returns-in_err-append_state-clause-err
-returns-in_err-append_state-clause-err c =
-    on_err_from _ (begins_through c.loop-task.invariant.kept c.in_err-append_state.ensures.err)
+pub returns-in_err-append_line-clause-err : goal.returns-in_err-append_line-clause-err
+returns-in_err-append_line-clause-err c =
+    on_err_from _ (begins_through c.loop-task.invariant.kept c.in_err-append_line.ensures.err)

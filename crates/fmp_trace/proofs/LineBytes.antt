@@ -1,0 +1,20 @@
+-- Pieces that are put into the bytes of a line.
+use Rattle.std.proofs.Common.{◌≡◌, ℕ, ◌+◌, ◌≤◌, List, ◌++◌, length, take, refl, ap, sym, ◌∙◌, arith, length-take-le, take-add, take-take, take_at, drop_at}
+use Rattle.std.proofs.Math.Seq.{take-append-add}
+use Rattle.std.proofs.lemmas.Slice.{take-put_mid}
+use borrow.Rule.Slice.PartMut.{put_mid}
+
+-- the first bytes of a piece that is put behind others follow these
+pub take-put_front : (at k count end : ℕ) (line piece : List ℕ) → at ≤ length line → count ≤ length piece → end ≡ at + count
+    → take end (put_mid at k line piece) ≡ take at line ++ take count piece
+take-put_front at k count end line piece within few is =
+    let front = length-take-le at line within in
+    rw is (sym (take-take (at + count) (at + length piece) (put_mid at k line piece) (omega arith))
+    ∙ ap (take (at + count)) (take-put_mid at k line piece (at + length piece) refl within)
+    ∙ take-add at count (take at line ++ piece)
+    ∙ (λ i. take_at (take at line) piece at front i ++ take count (drop_at (take at line) piece at front i)))
+
+-- of the front of a line that was appended to a text, the last bytes are cut off
+pub take-cut_off : (end most n : ℕ) (text line : List ℕ) → end ≤ most → n ≡ length text + end → take n (text ++ take most line) ≡ text ++ take end line
+take-cut_off end most n text line below is =
+    rw is (take-append-add text (take most line) end ∙ ap (λ xs. text ++ xs) (take-take end most line below))
