@@ -1,5 +1,5 @@
 -- What a handler may call.
-use Rattle.std.proofs.Common.{◌≡◌, ap, false, true}
+use Rattle.std.proofs.Common.{◌≡◌, false}
 use Rattle.fmp_base.specs.declared.calls.Call.{Call}
 use Rattle.fmp_base.specs.declared.services.Service.{Service}
 use Rattle.fmp_base.specs.declared.services.Service.TheVariants as service

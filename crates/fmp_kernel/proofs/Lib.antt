@@ -1,6 +1,7 @@
 mod ContextLemmas
 mod CyclicLemmas
 mod GroupLemmas
+mod HeldLemmas
 mod PlaceLemmas
 mod RangeLemmas
 mod StepLemmas

@@ -1,5 +1,5 @@
 -- What holds of the contexts of bodies.
-use Rattle.std.specs.Prelude.{◌≡◌, ◌<◌, ℕ, zero, suc, List, [], ◌∷◌, Option, Some, None, length}
+use Rattle.std.specs.Prelude.{◌<◌, ℕ, zero, suc, List, [], ◌∷◌, Option, Some, None, Bool, true, false, length}
 use Rattle.fmp_base.specs.declared.bodies.HandlerContext.{HandlerContext}
 use Rattle.fmp_base.specs.declared.bodies.HandlerStart.{HandlerStart}
 use Rattle.fmp_base.specs.declared.bodies.Held.{Held}
@@ -7,7 +7,11 @@ use Rattle.fmp_base.specs.declared.bodies.Held.TheVariants.{Goes, Awaits}
 use Rattle.fmp_base.specs.declared.states.Caller.{Caller}
 use Rattle.fmp_base.specs.declared.states.Handler.{Handler}
 use Rattle.fmp_base.specs.Meanings.{Contexts, context_of, handler_start, task_body}
+use Rattle.fmp_base.specs.Stretches.{Ending}
+use Rattle.fmp_base.specs.Stretches as ends
 use Rattle.fmp_base.specs.Systems.{SystemTables}
+use Rattle.fmp_body.specs.declared.stop.Stop.{Stop}
+use Rattle.fmp_body.specs.declared.stop.Stop.TheVariants as stop
 
 -- P i holds of what is at each place i, where something is
 abbrev pub AllContexts : {A : Type 0} → (ℕ → A → Type 0) → List (Option A) → Type 0
@@ -53,3 +57,28 @@ IsThere (Some a) = Unit {0}
 -- something is kept of the caller on processor p
 abbrev pub HasContext : {C : Type 0} → Contexts C → ℕ → Caller → Type 0
 HasContext cs p who = IsThere (context_of cs p who)
+
+-- a context that goes on, or awaits a reply
+abbrev pub held_by : {C : Type 0} → Bool → C → Held C
+held_by true c = Awaits c
+held_by false c = Goes c
+
+-- the context that goes on, if one does
+abbrev pub going_context : {C : Type 0} → Option (Held C) → Option C
+going_context None = None
+going_context (Some (Awaits c)) = None
+going_context (Some (Goes c)) = Some c
+
+-- how a stretch stops
+abbrev pub stop_of : {C : Type 0} → Ending C → Stop
+stop_of (ends.Call c made) = stop.Call made
+stop_of (ends.End c) = stop.End
+stop_of (ends.Fault c fault) = stop.Fault fault
+stop_of (ends.Over kept) = stop.Over
+
+-- what is kept after a stretch from this context: with a call the one that awaits the reply, else the first one
+abbrev pub kept_after : {C : Type 0} → C → Ending C → Held C
+kept_after first (ends.Call c made) = Awaits c
+kept_after first (ends.End c) = Goes first
+kept_after first (ends.Fault c fault) = Goes first
+kept_after first (ends.Over kept) = Goes first

@@ -1,7 +1,8 @@
 -- What is seen of a kernel.
 use Rattle.std.specs.Prelude.{◌≡◌, ℕ, ◌+◌, List}
+use Rattle.fmp_base.specs.declared.bodies.Held.{Held}
 use Rattle.fmp_base.specs.declared.events.Line.{Line}
-use Rattle.fmp_base.specs.Meanings.{World}
+use Rattle.fmp_base.specs.Meanings.{Contexts, World}
 use Rattle.fmp_base.specs.States.{Progress}
 use Rattle.fmp_base.specs.Steps.{Done, Reaction, Nothing, Did}
 use Rattle.fmp_base.specs.Systems.{SystemTables}
@@ -22,6 +23,10 @@ pub record SameBodies {B C : Type 0} (old new : RunnerView B C) : Type 0 where
   pub bound : new.bound ≡ old.bound
   pub system : new.system ≡ old.system
 
+-- the same with these contexts of the bodies
+abbrev pub kept_in : {B C : Type 0} → RunnerView B C → Contexts (Held C) → RunnerView B C
+kept_in r cs = record r { world = record r.world { contexts = cs } }
+
 -- the state, and what the event has caused on the way to it
 abbrev pub progress_of : {B C : Type 0} → RunnerView B C → Progress
 progress_of r = record { state = r.world.state; lines = r.caused }
@@ -29,6 +34,10 @@ progress_of r = record { state = r.world.state; lines = r.caused }
 -- the world, and the lines of the last event
 abbrev pub done_of : {B C : Type 0} → RunnerView B C → Done C
 done_of r = record { world = r.world; lines = r.lines }
+
+-- what an event left, with these contexts of the bodies
+abbrev pub with_contexts : {C : Type 0} → Done C → Contexts (Held C) → Done C
+with_contexts d cs = record d { world = record d.world { contexts = cs } }
 
 -- what an event left, or what was before where it did nothing
 abbrev pub done_or : {C : Type 0} → Done C → Reaction C → Done C

@@ -1,18 +1,39 @@
 //! What is kept of the bodies between their stretches.
-ghost use Rattle.std.specs.Prelude.{◌≡◌, ◌<◌, length, replicate, slice_set, IfOk, OnSome, None};
-ghost use Rattle.fmp_base.specs.Meanings.{body_in, context_at, context_of, with_context};
+ghost use Rattle.std.specs.Prelude.{◌≡◌, length, replicate, slice_set, IfOk, Some, None};
+ghost use Rattle.std.specs.Option.{option_copied};
+ghost use Rattle.fmp_base.specs.declared.bodies.Held.TheVariants.{Goes};
+ghost use Rattle.fmp_base.specs.Meanings.{body_in, context_at, context_for, context_in, context_of, told as told_by, with_context, with_handler_context};
 ghost use Rattle.fmp_base.specs.Systems.{body_of};
+ghost use Rattle.fmp_kernel.specs.Contexts.{HasContext, IsThere, OfHeld, OfOption, going_context, kept_after, stop_of};
 
-use fmp_base::{Caller, Entry, HandlerContext, Held};
+use crate::kept::{self, Kept};
+use fmp_base::{Caller, Entry, Reply};
+use fmp_body::{Body, Stop};
 use std::alloc::{AllocError, Global};
 use std::marker::Model;
+
+/// What is kept of a handler that runs: the number of its body, and what is kept of that.
+#[derive(Drop)]
+struct KeptHandler<C: Copy> {
+    body: u8,
+    kept: Kept<C>,
+}
+
+impl<C: Copy> Model for KeptHandler<C> {
+    ghost use Rattle.fmp_base.specs.declared.bodies.HandlerContext.{HandlerContext};
+    ghost use Rattle.fmp_base.specs.declared.bodies.Held.{Held};
+
+    ghost Value = { HandlerContext (Held C) };
+
+    ghost view = { λ h. record { body = h.body; context = h.kept } };
+}
 
 /// What is kept of the bodies of tasks, by their places, and of the handlers that run, by the places of their
 /// processors.
 #[derive(Drop)]
 pub struct BodyContexts<C: Copy> {
-    tasks: Vec<Option<Held<C>>>,
-    handlers: Vec<Option<HandlerContext<Held<C>>>>,
+    tasks: Vec<Option<Kept<C>>>,
+    handlers: Vec<Option<KeptHandler<C>>>,
 }
 
 impl<C: Copy> Model for BodyContexts<C> {
@@ -56,81 +77,163 @@ impl<C: Copy> BodyContexts<C> {
         Ok(BodyContexts { tasks, handlers })
     }
 
-    /// What is kept of the body of a task, if anything.
-    fn of_task(&self, t: u8) -> Option<Held<C>>
-        ensures value { result ≡ context_at self.now.tasks t }
-        ensures inside { OnSome result (t < length self.now.tasks) }
-    {
-        match self.tasks.get(t as usize) {
-            Some(held) => *held,
-            None => None,
-        }
-    }
-
-    /// What is kept of the handler that runs on a processor, if anything.
-    fn of_handler(&self, p: u8) -> Option<HandlerContext<Held<C>>>
-        ensures { result ≡ context_at self.now.handlers p }
-    {
-        match self.handlers.get(p as usize) {
-            Some(context) => *context,
-            None => None,
-        }
-    }
-
     /// The number of the body of the handler that runs on a processor, or 0 where none does.
     pub fn handler_body(&self, p: u8) -> u8
         ensures { result ≡ body_in (context_at self.now.handlers p) }
     {
-        match self.of_handler(p) {
-            Some(context) => context.body,
-            None => 0,
+        match self.handlers.get(p as usize) {
+            Some(Some(handler)) => handler.body,
+            _ => 0,
         }
     }
 
-    /// What is kept of the caller on processor p, if anything.
-    pub fn of(&self, p: u8, who: Caller) -> Option<Held<C>>
-        ensures { result ≡ context_of self.now p who }
+    /// The context from which the caller on processor p goes on, unless it awaits a reply or nothing is kept of it.
+    pub fn going(&self, p: u8, who: Caller) -> Option<&C>
+        ensures { option_copied result ≡ going_context (context_of self.now p who) }
     {
         match who {
-            Caller::Task(t) => self.of_task(t),
-            Caller::Handler(_) => match self.of_handler(p) {
-                Some(context) => Some(context.context),
-                None => None,
+            Caller::Task(t) => match self.tasks.get(t as usize) {
+                Some(Some(kept)) => kept.going(),
+                _ => None,
+            },
+            Caller::Handler(_) => match self.handlers.get(p as usize) {
+                Some(Some(handler)) => handler.kept.going(),
+                _ => None,
             },
         }
     }
 
-    /// Keeps this, or nothing, of a task, where there is one.
-    pub fn set_task(&mut self, t: u8, held: Option<Held<C>>)
-        ensures { self.new ≡ record self.old { tasks = slice_set self.old.tasks t held } }
+    /// A task, where there is one, goes on from this context.
+    pub fn begin_task(&mut self, t: u8, context: C)
+        ensures { self.new ≡ record self.old { tasks = slice_set self.old.tasks t (Some (Goes context)) } }
     {
         if (t as usize) < self.tasks.len() {
-            self.tasks[t as usize] = held;
+            self.tasks[t as usize] = Some(Kept::going_from(context));
         }
     }
 
-    /// Keeps this, or nothing, of the handler that runs on a processor, where there is one.
-    pub fn set_handler(&mut self, p: u8, context: Option<HandlerContext<Held<C>>>)
-        ensures { self.new ≡ record self.old { handlers = slice_set self.old.handlers p context } }
+    /// A handler of this body begins on a processor, where there is one, and goes on from this context.
+    pub fn begin_handler(&mut self, p: u8, body: u8, context: C)
+        ensures { self.new
+            ≡ with_handler_context self.old p (Some (record { body = body; context = Goes context })) }
     {
         if (p as usize) < self.handlers.len() {
-            self.handlers[p as usize] = context;
+            let kept = Kept::going_from(context);
+            self.handlers[p as usize] = Some(KeptHandler { body, kept });
         }
     }
 
-    /// Keeps this, or nothing, of the caller on processor p.
-    pub fn set(&mut self, p: u8, who: Caller, held: Option<Held<C>>)
-        ensures { self.new ≡ with_context self.old p who held }
+    /// Nothing is kept of a handler on a processor.
+    pub fn forget_handler(&mut self, p: u8)
+        ensures { self.new ≡ with_handler_context self.old p None }
+    {
+        if (p as usize) < self.handlers.len() {
+            self.handlers[p as usize] = None;
+        }
+    }
+
+    /// The caller on processor p, of which something is kept, goes on from this context.
+    pub fn go_on_from(&mut self, p: u8, who: Caller, context: &C)
+        requires { HasContext self.old p who }
+        ensures { self.new ≡ with_context self.old p who (Some (Goes context.now)) }
     {
         match who {
-            Caller::Task(t) => self.set_task(t, held),
+            Caller::Task(t) => {
+                if let Some(kept) = &mut self.tasks[t as usize] {
+                    kept.go_on_from(context);
+                }
+            }
             Caller::Handler(_) => {
-                let body = self.handler_body(p);
-                let context = match held {
-                    Some(context) => Some(HandlerContext { body, context }),
-                    None => None,
-                };
-                self.set_handler(p, context);
+                if let Some(handler) = &mut self.handlers[p as usize] {
+                    handler.kept.go_on_from(context);
+                }
+            }
+        }
+    }
+}
+
+/// The caller on processor p, which goes on from this context, makes a stretch of at most n units of the body of its
+/// entry. Where it makes a call, the context that awaits the reply is left in place, else the first one again.
+pub fn stretch<B: Body>(
+    body: &B,
+    entry: u8,
+    n: u64,
+    contexts: &mut BodyContexts<B::Ctx>,
+    p: u8,
+    who: Caller,
+    first: &B::Ctx,
+) -> Stop
+    requires entry { B.has_entry body.now entry }
+    requires context { B.is_context body.now entry first.now }
+    requires goes { context_of contexts.old p who ≡ Some (Goes first.now) }
+    ensures stop { result ≡ stop_of ((B.meaning body.now).stretch entry n first.now) }
+    ensures contexts { contexts.new ≡ with_context contexts.old p who
+        (Some (kept_after first.now ((B.meaning body.now).stretch entry n first.now))) }
+    ensures fits { OfHeld (B.is_context body.now entry)
+        (kept_after first.now ((B.meaning body.now).stretch entry n first.now)) }
+{
+    match who {
+        Caller::Task(t) => match &mut contexts.tasks[t as usize] {
+            Some(kept) => kept::stretch(body, entry, n, kept, first),
+            None => unreachable!(),
+        },
+        Caller::Handler(_) => match &mut contexts.handlers[p as usize] {
+            Some(handler) => kept::stretch(body, entry, n, &mut handler.kept, first),
+            None => unreachable!(),
+        },
+    }
+}
+
+/// The task of which this is kept, if anything, is told a reply, where its context awaits one.
+fn tell_task<B: Body>(body: &B, entry: u8, place: &mut Option<Kept<B::Ctx>>, reply: Reply)
+    requires entry { IsThere place.old → B.has_entry body.now entry }
+    requires fits { OfOption (OfHeld (B.is_context body.now entry)) place.old }
+    ensures place { place.new ≡ told_by (B.meaning body.now) entry reply place.old }
+    ensures fits { OfOption (OfHeld (B.is_context body.now entry)) place.new }
+{
+    if let Some(kept) = place {
+        kept::tell(body, entry, kept, reply);
+    }
+}
+
+/// The handler of which this is kept, if anything, is told a reply, where its context awaits one.
+fn tell_handler<B: Body>(body: &B, entry: u8, place: &mut Option<KeptHandler<B::Ctx>>, reply: Reply)
+    requires entry { IsThere (context_in place.old) → B.has_entry body.now entry }
+    requires fits { OfOption (OfHeld (B.is_context body.now entry)) (context_in place.old) }
+    ensures place { place.new ≡ context_for (body_in place.old)
+        (told_by (B.meaning body.now) entry reply (context_in place.old)) }
+    ensures fits { OfOption (OfHeld (B.is_context body.now entry)) (context_in place.new) }
+{
+    if let Some(handler) = place {
+        kept::tell(body, entry, &mut handler.kept, reply);
+    }
+}
+
+/// The caller on processor p, whose body is that of this entry, is told a reply, where its context awaits one.
+pub fn tell<B: Body>(
+    body: &B,
+    entry: u8,
+    contexts: &mut BodyContexts<B::Ctx>,
+    p: u8,
+    who: Caller,
+    reply: Reply,
+)
+    requires entry { HasContext contexts.old p who → B.has_entry body.now entry }
+    requires fits { OfOption (OfHeld (B.is_context body.now entry)) (context_of contexts.old p who) }
+    ensures contexts { contexts.new ≡ with_context contexts.old p who
+        (told_by (B.meaning body.now) entry reply (context_of contexts.old p who)) }
+    ensures fits { OfOption (OfHeld (B.is_context body.now entry))
+        (told_by (B.meaning body.now) entry reply (context_of contexts.old p who)) }
+{
+    match who {
+        Caller::Task(t) => {
+            if (t as usize) < contexts.tasks.len() {
+                tell_task(body, entry, &mut contexts.tasks[t as usize], reply);
+            }
+        }
+        Caller::Handler(_) => {
+            if (p as usize) < contexts.handlers.len() {
+                tell_handler(body, entry, &mut contexts.handlers[p as usize], reply);
             }
         }
     }

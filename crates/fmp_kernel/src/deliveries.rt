@@ -1,12 +1,12 @@
 //! What the lines of an event mean for the bodies: fresh contexts, and replies.
 ghost use Rattle.std.specs.Prelude.{◌≡◌};
-ghost use Rattle.fmp_base.specs.Meanings.{caller_body, contexts_after, contexts_after_all, delivered_to, fresh_context as fresh_context_of, handler_begun, handler_start as start_of_handler, task_begun, told as told_by};
+ghost use Rattle.fmp_base.specs.Meanings.{caller_body, contexts_after, contexts_after_all, delivered_to, handler_begun, handler_start as start_of_handler, task_begun};
 ghost use Rattle.fmp_base.specs.Ranges.{IsInRange};
-ghost use Rattle.fmp_kernel.specs.Contexts.{Entered, Fitting, HandlerFits, IsThere, OfHeld, OfOption};
+ghost use Rattle.fmp_kernel.specs.Contexts.{Entered, Fitting};
 ghost use Rattle.fmp_kernel.specs.Rooms.{HasPlaces};
 
-use crate::contexts::{BodyContexts, body_number};
-use fmp_base::{Caller, Handler, HandlerContext, HandlerStart, Held, Line, Reply};
+use crate::contexts::{self, BodyContexts, body_number};
+use fmp_base::{Caller, Handler, HandlerStart, Line, Reply};
 use fmp_body::Body;
 use fmp_tasks::Tables;
 
@@ -66,27 +66,8 @@ fn begin_task<B: Body>(body: &B, tables: &Tables, contexts: &mut BodyContexts<B:
     if (t as usize) < tables.task_count() {
         let config = tables.task_config(t);
         let context = body.start(body_number(config.entry), config.exinf);
-        contexts.set_task(t, Some(Held::Goes(context)));
+        contexts.begin_task(t, context);
     }
-}
-
-/// The fresh context of a handler, where the system has it.
-fn fresh_context<B: Body>(
-    body: &B,
-    tables: &Tables,
-    h: Handler,
-) -> Option<HandlerContext<Held<B::Ctx>>>
-    requires range { IsInRange tables.now.system }
-    requires entries { Entered B.has_entry body.now tables.now.system }
-    ensures value { result ≡ fresh_context_of (B.meaning body.now) (start_of_handler tables.now.system h) }
-    ensures fits { OfOption (HandlerFits B.has_entry B.is_context body.now) result }
-{
-    let start = handler_start(tables, h)?;
-    let context = Held::Goes(body.start(start.body, start.exinf));
-    Some(HandlerContext {
-        body: start.body,
-        context,
-    })
 }
 
 /// Handler h has a fresh context on processor p.
@@ -104,26 +85,12 @@ fn begin_handler<B: Body>(
     ensures contexts { contexts.new ≡ handler_begun tables.now.system (B.meaning body.now) contexts.old p h }
     ensures fitting { Fitting B.has_entry B.is_context body.now tables.now.system contexts.new }
 {
-    let fresh = fresh_context(body, tables, h);
-    contexts.set_handler(p, fresh);
-}
-
-/// What is kept of a body after a reply: a context that awaits it goes on with it.
-fn told<B: Body>(
-    body: &B,
-    entry: u8,
-    held: Option<Held<B::Ctx>>,
-    reply: Reply,
-) -> Option<Held<B::Ctx>>
-    requires entry { IsThere held → B.has_entry body.now entry }
-    requires fits { OfOption (OfHeld (B.is_context body.now entry)) held }
-    ensures value { result ≡ told_by (B.meaning body.now) entry reply held }
-    ensures there { IsThere result → IsThere held }
-    ensures fits { OfOption (OfHeld (B.is_context body.now entry)) result }
-{
-    match held {
-        Some(Held::Awaits(context)) => Some(Held::Goes(body.deliver(entry, context, reply))),
-        other => other,
+    match handler_start(tables, h) {
+        Some(start) => {
+            let context = body.start(start.body, start.exinf);
+            contexts.begin_handler(p, start.body, context);
+        }
+        None => contexts.forget_handler(p),
     }
 }
 
@@ -143,10 +110,8 @@ fn tell<B: Body>(
     ensures contexts { contexts.new ≡ delivered_to tables.now.system (B.meaning body.now) contexts.old p who reply }
     ensures fitting { Fitting B.has_entry B.is_context body.now tables.now.system contexts.new }
 {
-    let held = contexts.of(p, who);
     let entry = entry_of(tables, contexts, p, who);
-    let after = told(body, entry, held, reply);
-    contexts.set(p, who, after);
+    contexts::tell(body, entry, contexts, p, who, reply);
 }
 
 /// The contexts after what a line tells.

@@ -1,22 +1,22 @@
 //! What events do: the actor of a processor runs, the clock advances, an interrupt is raised.
-ghost use Rattle.std.specs.Prelude.{◌≡◌, ◌+◌, ◌<◌, ◌≤◌, ◌^◌, ◌∷◌, []};
+ghost use Rattle.std.specs.Prelude.{◌≡◌, ◌+◌, ◌<◌, ◌≤◌, ◌^◌, ◌∷◌, [], Some};
+ghost use Rattle.fmp_base.specs.declared.bodies.Held.TheVariants.{Goes};
 ghost use Rattle.fmp_base.specs.Calls.{called};
-ghost use Rattle.fmp_base.specs.Meanings.{caller_body, with_context};
+ghost use Rattle.fmp_base.specs.Meanings.{caller_body, context_of, with_context};
 ghost use Rattle.fmp_base.specs.States.{processor_at};
 ghost use Rattle.fmp_base.specs.Steps.{Did, actor_ended, actor_of, call_made, effect_of, finished, handler_ended as ended_handler, run_by, step, stretched};
-ghost use Rattle.fmp_base.specs.Stretches.{ending};
-ghost use Rattle.fmp_body.specs.Contexts.{OfCall};
-ghost use Rattle.fmp_kernel.specs.Contexts.{HasContext};
+ghost use Rattle.fmp_kernel.specs.Contexts.{HasContext, kept_after, stop_of};
 ghost use Rattle.fmp_kernel.specs.Groups.{IsTaskOf};
-ghost use Rattle.fmp_kernel.specs.KernelViews.{SameBodies, done_of, done_or};
+ghost use Rattle.fmp_kernel.specs.KernelViews.{SameBodies, done_of, done_or, kept_in, with_contexts};
 ghost use Rattle.fmp_tasks.specs.Tables.{SameShape};
 
 use crate::calls::call;
+use crate::contexts::stretch;
 use crate::deliveries::entry_of;
 use crate::runner::Runner;
 use crate::ticks::advance;
-use fmp_base::{Answer, Call, Caller, Effect, Event, Held, Line, Processor, Stretch};
-use fmp_body::Body;
+use fmp_base::{Answer, Call, Caller, Effect, Event, Line, Processor};
+use fmp_body::{Body, Stop};
 use fmp_migrate::end_itself;
 use fmp_tasks::Tables;
 
@@ -54,21 +54,21 @@ impl<B: Body> Runner<B> {
         self.finish(own);
     }
 
-    /// The actor of processor p makes a call, with this context.
-    fn make_call(&mut self, p: u8, who: Caller, context: B::Ctx, made: Call) -> Effect
+    /// The actor of processor p makes a call, and its context awaits the reply. Where it asks for a held spin lock it
+    /// has done nothing, and goes on from the context from which it came to the call.
+    fn make_call(&mut self, p: u8, who: Caller, made: Call, first: &B::Ctx) -> Effect
         requires there { p < self.old.system.processors }
         requires caller { IsTaskOf self.old.system who }
         requires kept { HasContext self.old.world.contexts p who }
         requires context { B.is_context self.old.body (caller_body self.old.system self.old.world.contexts p who)
-            context }
+            first.now }
         ensures effect { result
-            ≡ effect_of (call_made self.old.system (B.meaning self.old.body)
-            (with_context self.old.world.contexts p who (Some (Held.Awaits context))) p who made
+            ≡ effect_of (call_made self.old.system (B.meaning self.old.body) self.old.world.contexts p who made
             (called self.old.system self.old.world.state p who made)) }
         ensures after { done_of self.new
-            ≡ done_or (done_of self.old) (call_made self.old.system (B.meaning self.old.body)
-            (with_context self.old.world.contexts p who (Some (Held.Awaits context))) p who made
-            (called self.old.system self.old.world.state p who made)) }
+            ≡ done_or (with_contexts (done_of self.old) (with_context self.old.world.contexts p who
+            (Some (Goes first.now)))) (call_made self.old.system (B.meaning self.old.body)
+            self.old.world.contexts p who made (called self.old.system self.old.world.state p who made)) }
         ensures bodies { SameBodies self.old self.new }
         ensures clock { self.new.world.state.clock ≡ self.old.world.state.clock }
     {
@@ -90,33 +90,61 @@ impl<B: Body> Runner<B> {
                 processor: p,
                 caller: who,
             },
-            Answer::Spins => return Effect::Nothing,
+            Answer::Spins => {
+                self.contexts.go_on_from(p, who, first);
+                return Effect::Nothing;
+            }
         };
-        self.contexts.set(p, who, Some(Held::Awaits(context)));
         self.finish(own);
         Effect::Done
     }
 
-    /// The actor of processor p has made this stretch: the call, end or fault is carried out.
-    fn apply_stretch(&mut self, p: u8, who: Caller, stretch: Stretch<B::Ctx>) -> Effect
+    /// The actor of processor p makes a stretch from this context, from which it goes on. Where it makes a call, its
+    /// context awaits the reply, else it is the first one again.
+    #[tactic(auto, using(crate::proofs::ContextLemmas::task_of, crate::proofs::ContextLemmas::entry_of, crate::proofs::ContextLemmas::goes_fits))]
+    fn go_on(&mut self, p: u8, who: Caller, first: &B::Ctx) -> Stop
+        requires { context_of self.old.world.contexts p who ≡ Some (Goes first.now) }
+        ensures stop { result ≡ stop_of ((B.meaning self.old.body).stretch
+            (caller_body self.old.system self.old.world.contexts p who) self.old.bound first.now) }
+        ensures kept { self.new ≡ kept_in self.old (with_context self.old.world.contexts p who
+            (Some (kept_after first.now ((B.meaning self.old.body).stretch
+            (caller_body self.old.system self.old.world.contexts p who) self.old.bound first.now)))) }
+        ensures caller { IsTaskOf self.old.system who }
+        ensures first { B.is_context self.old.body (caller_body self.old.system self.old.world.contexts p who)
+            first.now }
+    {
+        let entry = entry_of(&self.tables, &self.contexts, p, who);
+        stretch(
+            &self.body,
+            entry,
+            self.bound,
+            &mut self.contexts,
+            p,
+            who,
+            first,
+        )
+    }
+
+    /// The actor of processor p makes a stretch from this context, from which it goes on: the call, end or fault is
+    /// carried out.
+    fn make_stretch(&mut self, p: u8, who: Caller, first: &B::Ctx) -> Effect
         requires there { p < self.old.system.processors }
-        requires caller { IsTaskOf self.old.system who }
-        requires kept { HasContext self.old.world.contexts p who }
-        requires context { OfCall
-            (B.is_context self.old.body (caller_body self.old.system self.old.world.contexts p who))
-            (ending stretch) }
+        requires goes { context_of self.old.world.contexts p who ≡ Some (Goes first.now) }
         ensures effect { result
-            ≡ effect_of (stretched self.old.system (B.meaning self.old.body) self.old.world p who (ending stretch)) }
+            ≡ effect_of (stretched self.old.system (B.meaning self.old.body) self.old.world p who
+            ((B.meaning self.old.body).stretch (caller_body self.old.system self.old.world.contexts p who)
+            self.old.bound first.now)) }
         ensures after { done_of self.new
-            ≡ done_or (done_of self.old)
-            (stretched self.old.system (B.meaning self.old.body) self.old.world p who (ending stretch)) }
+            ≡ done_or (done_of self.old) (stretched self.old.system (B.meaning self.old.body) self.old.world p who
+            ((B.meaning self.old.body).stretch (caller_body self.old.system self.old.world.contexts p who)
+            self.old.bound first.now)) }
         ensures bodies { SameBodies self.old self.new }
         ensures clock { self.new.world.state.clock ≡ self.old.world.state.clock }
     {
-        match stretch {
-            Stretch::Over => Effect::Nothing,
-            Stretch::Call(context, made) => self.make_call(p, who, context, made),
-            Stretch::End(_) => {
+        match self.go_on(p, who, first) {
+            Stop::Over => Effect::Nothing,
+            Stop::Call(made) => self.make_call(p, who, made, first),
+            Stop::End => {
                 let own = Line::End {
                     processor: p,
                     caller: who,
@@ -124,7 +152,7 @@ impl<B: Body> Runner<B> {
                 self.end_actor(p, who, own);
                 Effect::Done
             }
-            Stretch::Fault(_, fault) => {
+            Stop::Fault(fault) => {
                 let own = Line::Fault {
                     processor: p,
                     caller: who,
@@ -137,7 +165,6 @@ impl<B: Body> Runner<B> {
     }
 
     /// Processor p runs its actor for a stretch.
-    #[tactic(auto, using(crate::proofs::ContextLemmas::has_context, crate::proofs::ContextLemmas::task_of, crate::proofs::ContextLemmas::entry_of, crate::proofs::ContextLemmas::goes_fits))]
     fn run(&mut self, p: u8) -> Effect
         ensures effect { result
             ≡ effect_of (run_by self.old.system (B.meaning self.old.body) self.old.bound self.old.world p
@@ -151,12 +178,11 @@ impl<B: Body> Runner<B> {
         let Some(who) = self.actor(p) else {
             return Effect::Nothing;
         };
-        let Some(Held::Goes(context)) = self.contexts.of(p, who) else {
+        let Some(context) = self.contexts.going(p, who) else {
             return Effect::Nothing;
         };
-        let entry = entry_of(&self.tables, &self.contexts, p, who);
-        let stretch = self.body.stretch(entry, self.bound, context);
-        self.apply_stretch(p, who, stretch)
+        let first = *context;
+        self.make_stretch(p, who, &first)
     }
 
     /// The clock advances by one.

@@ -12,6 +12,7 @@ ghost use Rattle.fmp_worlds.specs.Settled.{RunOnce};
 use crate::runner::Runner;
 use fmp_base::{Effect, Event, Line, System, TaskState};
 use fmp_body::Body;
+use fmp_tasks::Tables;
 use std::alloc::{AllocError, Global};
 use std::marker::Model;
 use thiserror::Error;
@@ -89,6 +90,15 @@ impl<B: Body> Kernel<B> {
         ensures { result ≡ task_state self.now.world.state t }
     {
         self.runner.state(t)
+    }
+
+    /// The tables of the system and the state of the kernel, as the last event that did something (or setup) left
+    /// them: what may be seen of them by the public calls of `Tables`, by places from 0.
+    pub fn tables(&self) -> &Tables
+        ensures system { result.now.system ≡ self.now.system }
+        ensures state { result.now.state ≡ self.now.world.state }
+    {
+        self.runner.tables()
     }
 
     /// An event has at most 519 lines.

@@ -7,6 +7,7 @@ mod calls;
 mod contexts;
 mod deliveries;
 mod events;
+mod kept;
 pub mod kernel;
 mod runner;
 mod settling;

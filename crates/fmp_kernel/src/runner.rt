@@ -126,6 +126,14 @@ impl<B: Body> Runner<B> {
         self.lines.as_slice()
     }
 
+    /// The tables of the system and the state of the kernel.
+    pub fn tables(&self) -> &Tables
+        ensures system { result.now.system ≡ self.now.system }
+        ensures state { result.now.state ≡ self.now.world.state }
+    {
+        &self.tables
+    }
+
     /// What is shown of a task.
     pub fn state(&self, t: u8) -> TaskState
         requires { t < length self.now.system.tasks }

@@ -1,16 +1,15 @@
-use Rattle.std.proofs.Common.{◌≡◌, ℕ, Option, subst, sym}
-use Rattle.fmp_base.specs.declared.bodies.Held.{Held}
-use Rattle.fmp_base.specs.Meanings.{Contexts, caller_body, context_of}
-use Rattle.fmp_kernel.specs.Contexts.{Fitting, IsThere, OfHeld, OfOption}
+use Rattle.std.proofs.Common.{ℕ, subst}
+use Rattle.fmp_base.specs.Meanings.{context_of, told}
+use Rattle.fmp_kernel.specs.Contexts.{OfHeld, OfOption}
 use Rattle.fmp_kernel.proofs.ContextLemmas.{fitting_set}
+use Rattle.fmp_kernel.proofs.HeldLemmas.{told_there}
 use Rattle.fmp_kernel.proofs.deliveries.tell.Goals as goal
 
 pub returns-clause-fitting : goal.returns-clause-fitting
 returns-clause-fitting g c =
     let cs = c.args.contexts.now in
-    let after = c.told-after.result in
-    let held = c.of-held.ensures in
-    let same = c.entry_of-entry.ensures in
-    let fits = subst (λ (n : ℕ). OfOption (OfHeld (g.B.Body.is_context c.args.body.now n)) after) same c.told-after.ensures.fits in
-    rw c.set.ensures (fitting_set cs c.args.p c.args.who after c.requires.contexts
-    (λ t. rw (← held) (c.told-after.ensures.there t)) fits)
+    let M = g.B.Body.meaning c.args.body.now in
+    let held = context_of cs c.args.p c.args.who in
+    let after = told M c.entry_of-entry.result c.args.reply held in
+    let fits = subst (λ (n : ℕ). OfOption (OfHeld (g.B.Body.is_context c.args.body.now n)) after) c.entry_of-entry.ensures c.tell.ensures.fits in
+    rw c.tell.ensures.contexts (fitting_set cs c.args.p c.args.who after c.requires.contexts (told_there M c.entry_of-entry.result c.args.reply held) fits)

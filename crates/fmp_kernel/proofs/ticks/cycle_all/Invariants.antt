@@ -1,4 +1,4 @@
-use Rattle.std.proofs.Common.{◌≡◌, ◌≤◌, ◌+◌, ◌-◌, length, vec_len, vec_capacity}
+use Rattle.std.proofs.Common.{◌≡◌, ◌≤◌, ◌+◌, ◌-◌, vec_len, vec_capacity}
 use Rattle.fmp_base.specs.States.{places_from}
 use Rattle.fmp_base.specs.Ticks.{all_cycled}
 use Rattle.fmp_kernel.proofs.ticks.cycle_all.Given as goal

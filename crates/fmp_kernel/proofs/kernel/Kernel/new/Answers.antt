@@ -1,5 +1,4 @@
-use Rattle.std.proofs.Common.{◌≡◌, ◌∙◌, ap, arith, sym, subst}
-use Rattle.fmp_base.specs.Setups.{setup}
+use Rattle.std.proofs.Common.{ap, arith, sym, subst}
 use Rattle.fmp_base.specs.States.{KernelState}
 use Rattle.fmp_base.specs.Steps.{Done}
 use Rattle.fmp_worlds.specs.Settled.{IsSettled}
