@@ -16,6 +16,7 @@ mod Loops
 mod Places
 mod Positions
 mod Printed
+mod RowNumbers
 mod Statements
 mod Variables
 mod VerifiedBodies

@@ -5,6 +5,7 @@ pub mod DepthTables
 pub mod Entries
 pub mod Laws
 pub mod Naming
+pub mod Numbers
 pub mod Runs
 pub mod Scheme
 pub mod Sizes

@@ -13,11 +13,13 @@ ghost use Rattle.fmp_codegen.specs.Compiling as spec;
 ghost use Rattle.fmp_codegen.specs.Compiling.{compiled_body, IsCompiled};
 ghost use Rattle.fmp_codegen.specs.Depths.{body_depth};
 ghost use Rattle.fmp_codegen.specs.Laws.{DoesText};
+ghost use Rattle.fmp_codegen.specs.Scopes.{HoldsNumbers};
 ghost use Rattle.fmp_codegen.specs.Sizes.{block_size};
 
 use crate::emission::{Output, emit_block, put};
 use crate::extents::block_extent;
-use crate::names::{Names, is_exinf, is_object, place_in};
+use crate::names::{Names, Objects, is_exinf, is_object, place_in};
+use crate::numbers::number_objects;
 use crate::offences::Offence;
 use crate::uses::block_offence;
 use fmp_base::System;
@@ -44,9 +46,10 @@ pub fn append<T: Drop>(list: &mut Vec<T>, item: T) -> Result<(), AllocError>
 }
 
 /// The first fault of the declared variables of a body: the 65th local, or a name of another variable or of an object.
-fn variables_offence(system: &System, variables: &[Word]) -> Option<Offence>
-    requires { IsInRange (tables_of system.now) }
-    ensures first { result ≡ spec.variables_offence (tables_of system.now) (exinf_name ∷ []) variables.now }
+fn variables_offence(objects: &Objects<'_>, variables: &[Word]) -> Option<Offence>
+    requires { HoldsNumbers objects.now }
+    ensures first { result ≡
+        spec.variables_offence (tables_of objects.now.system.now) (exinf_name ∷ []) variables.now }
     ensures few { IfNone result (length variables.now ≤ 63) }
 {
     for i in 0..variables.len() {
@@ -59,7 +62,7 @@ fn variables_offence(system: &System, variables: &[Word]) -> Option<Offence>
         }
         if is_exinf(&word.name)
             || place_in(&variables[..i], &word.name).is_some()
-            || is_object(system, &word.name)
+            || is_object(objects, &word.name)
         {
             return Some(Offence {
                 line: word.line,
@@ -91,11 +94,11 @@ fn size_of_body(body: &Body) -> Result<u16, Offence>
 }
 
 /// The number of instructions of the statements of a body, or the body's first fault, after these bodies.
-fn judge_body(system: &System, earlier: &[Body], body: &Body) -> Result<u16, Offence>
-    requires { IsInRange (tables_of system.now) }
-    ensures first { MatchResult result
-        (λ _. spec.body_offence (tables_of system.now) (map (λ b. b.name.name) earlier.now) (body_view body.now) ≡ None)
-        (λ offence. spec.body_offence (tables_of system.now) (map (λ b. b.name.name) earlier.now) (body_view body.now)
+fn judge_body(objects: &Objects<'_>, earlier: &[Body], body: &Body) -> Result<u16, Offence>
+    requires { HoldsNumbers objects.now }
+    ensures first { let tables = tables_of objects.now.system.now in MatchResult result
+        (λ _. spec.body_offence tables (map (λ b. b.name.name) earlier.now) (body_view body.now) ≡ None)
+        (λ offence. spec.body_offence tables (map (λ b. b.name.name) earlier.now) (body_view body.now)
         ≡ Some offence) }
     ensures variables { IfOk result (λ _. length body.now.variables.items ≤ 63) }
     ensures size { IfOk result (λ size. size ≡ block_size (block_view body.now.statements.items)) }
@@ -114,11 +117,11 @@ fn judge_body(system: &System, earlier: &[Body], body: &Body) -> Result<u16, Off
             why: FaultKind::TwiceNamed,
         });
     }
-    if let Some(offence) = variables_offence(system, &body.variables) {
+    if let Some(offence) = variables_offence(objects, &body.variables) {
         return Err(offence);
     }
     let names = Names {
-        system,
+        objects: *objects,
         variables: &body.variables,
     };
     if let Some(offence) = block_offence(&names, &body.statements) {
@@ -130,19 +133,20 @@ fn judge_body(system: &System, earlier: &[Body], body: &Body) -> Result<u16, Off
 /// The code of a body that has no fault and whose statements take so many instructions.
 fn compile_body(
     alloc: Global,
-    system: &System,
+    objects: &Objects<'_>,
     body: &Body,
     size: u16,
 ) -> Result<BodyCode, AllocError>
-    requires system { IsInRange (tables_of system.now) }
+    requires objects { HoldsNumbers objects.now }
     requires variables { length body.now.variables.items ≤ 63 }
     requires size { size ≡ block_size (block_view body.now.statements.items) }
     requires small { size < 65535 }
     requires low { body_depth (body_view body.now) ≤ 64 }
-    ensures { IfOk result (λ code. body_tables code ≡ compiled_body (tables_of system.now) (body_view body.now)) }
+    ensures { IfOk result (λ code. body_tables code ≡
+        compiled_body (tables_of objects.now.system.now) (body_view body.now)) }
 {
     let names = Names {
-        system,
+        objects: *objects,
         variables: &body.variables,
     };
     let mut out = Output {
@@ -173,11 +177,16 @@ pub fn compile(alloc: Global, program: &Program, system: &System) -> Result<Code
     ensures few { IfOk result (λ _. length program.now.bodies.items ≤ 255) }
     ensures low { IfOk result (λ _. AllByRecursion (λ b. body_depth (body_view b) ≤ 64) program.now.bodies.items) }
 {
+    let numbers = number_objects(alloc, system)?;
+    let objects = Objects {
+        system,
+        numbers: &numbers,
+    };
     let mut bodies = Vec::new(alloc);
     for i in 0..program.bodies.len() {
         let body = &program.bodies[i];
-        match judge_body(system, &program.bodies[..i], body) {
-            Ok(size) => append(&mut bodies, compile_body(alloc, system, body, size)?)?,
+        match judge_body(&objects, &program.bodies[..i], body) {
+            Ok(size) => append(&mut bodies, compile_body(alloc, &objects, body, size)?)?,
             Err(offence) => {
                 return Err(BuildFault::At(TextFile::Source, offence.line, offence.why));
             }

@@ -7,6 +7,7 @@ mod entries;
 mod extents;
 pub mod laws;
 mod names;
+mod numbers;
 mod offences;
 mod uses;
 

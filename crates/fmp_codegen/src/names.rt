@@ -3,13 +3,13 @@
 ghost use Rattle.std.specs.Prelude.{◌≡◌, ◌+◌, ◌<◌, ◌≤◌, ◌↔◌, IsTrue, ℕ, List, Option, Some, None, map, length, IfSome, IfNone, is_some};
 ghost use Rattle.std.specs.Str.{bytes_eq};
 ghost use Rattle.fmp_base.specs.Names.{name_text};
-ghost use Rattle.fmp_base.specs.Ranges.{IsInRange};
 ghost use Rattle.fmp_base.specs.Systems.{tables_of};
 ghost use Rattle.fmp_tasklang.specs.Scopes.{exinf_name, meaning_of, object_names, object_number, place_of};
 ghost use Rattle.fmp_codegen.specs.Compiling as spec;
 ghost use Rattle.fmp_codegen.specs.Naming.{Reads, Writes, use_offence};
-ghost use Rattle.fmp_codegen.specs.Scopes.{IsHeld, meaning_view, scope_view};
+ghost use Rattle.fmp_codegen.specs.Scopes.{HoldsNumbers, IsHeld, meaning_view, scope_view};
 
+use crate::numbers::{ObjectName, ObjectNumbers};
 use crate::offences::Offence;
 use fmp_base::{
     CyclicConfig, DataQueueConfig, FlagConfig, MailboxConfig, MessageConfig, Name, SemaphoreConfig,
@@ -131,45 +131,14 @@ pub fn place_in<T: HasName>(rows: &[T], name: &Name) -> Option<usize>
     None
 }
 
-/// The number of the object at a place.
-fn numbered(place: usize) -> u8
-    requires { place < 255 }
-    ensures { result ≡ place + 1 }
-{
-    place as u8 + 1
-}
-
 /// The number of the object of a name, in the first table that has it.
-fn object_in(system: &System, name: &Name) -> Meaning
-    requires { IsInRange (tables_of system.now) }
-    ensures { meaning_view result ≡ object_number (name_text name.now) (object_names (tables_of system.now)) }
+fn object_in(objects: &Objects<'_>, name: &Name) -> Meaning
+    requires { HoldsNumbers objects.now }
+    ensures { meaning_view result
+        ≡ object_number (name_text name.now) (object_names (tables_of objects.now.system.now)) }
 {
-    if let Some(place) = place_in(&system.tasks, name) {
-        return Meaning::Object(numbered(place));
-    }
-    if let Some(place) = place_in(&system.semaphores, name) {
-        return Meaning::Object(numbered(place));
-    }
-    if let Some(place) = place_in(&system.flags, name) {
-        return Meaning::Object(numbered(place));
-    }
-    if let Some(place) = place_in(&system.data_queues, name) {
-        return Meaning::Object(numbered(place));
-    }
-    if let Some(place) = place_in(&system.mailboxes, name) {
-        return Meaning::Object(numbered(place));
-    }
-    if let Some(place) = place_in(&system.messages, name) {
-        return Meaning::Object(numbered(place));
-    }
-    if let Some(place) = place_in(&system.shared_words, name) {
-        return Meaning::Object(numbered(place));
-    }
-    if let Some(place) = place_in(&system.spin_locks, name) {
-        return Meaning::Object(numbered(place));
-    }
-    match place_in(&system.cyclics, name) {
-        Some(place) => Meaning::Object(numbered(place)),
+    match objects.numbers.get(&ObjectName { name: *name }) {
+        Some(number) => Meaning::Object(*number),
         None => Meaning::Unknown,
     }
 }
@@ -184,10 +153,17 @@ pub enum Meaning {
     Unknown,
 }
 
+/// The objects of a system, and their numbers.
+#[derive(Clone, Copy)]
+pub struct Objects<'a> {
+    pub system: &'a System,
+    pub numbers: &'a ObjectNumbers,
+}
+
 /// The objects of a system and the declared variables of a body.
 #[derive(Clone, Copy)]
 pub struct Names<'a> {
-    pub system: &'a System,
+    pub objects: Objects<'a>,
     pub variables: &'a [Word],
 }
 
@@ -199,11 +175,11 @@ pub fn is_exinf(name: &Name) -> bool
 }
 
 /// Whether some object has this name.
-pub fn is_object(system: &System, name: &Name) -> bool
-    requires { IsInRange (tables_of system.now) }
-    ensures { result ≡ spec.is_object (tables_of system.now) name.now }
+pub fn is_object(objects: &Objects<'_>, name: &Name) -> bool
+    requires { HoldsNumbers objects.now }
+    ensures { result ≡ spec.is_object (tables_of objects.now.system.now) name.now }
 {
-    match object_in(system, name) {
+    match object_in(objects, name) {
         Meaning::Unknown => false,
         _ => true,
     }
@@ -219,7 +195,7 @@ pub fn meaning_in(names: &Names<'_>, name: &Name) -> Meaning
     }
     match place_in(names.variables, name) {
         Some(place) => Meaning::Variable(place as u8 + 1),
-        None => object_in(names.system, name),
+        None => object_in(&names.objects, name),
     }
 }
 

@@ -94,5 +94,11 @@ pub(crate) fn line_feeds(text: &[u8]) -> u32
     ensures count { result ≡ count_by (λ b. b == 10) text.now }
     ensures few { result ≤ length text.now }
 {
-    text.iter().filter(|b| **b == b'\n').count() as u32
+    let mut count = 0;
+    for b in text {
+        if *b == b'\n' {
+            count += 1;
+        }
+    }
+    count
 }

@@ -84,7 +84,7 @@ fn arguments(
 {
     let mut call = ServiceCall {
         service,
-        arguments: Vec::with_capacity(alloc, parts.len())?,
+        arguments: Vec::with_capacity(alloc, usize::from(service.arity()))?,
         out: None,
         result: None,
     };

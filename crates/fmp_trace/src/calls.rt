@@ -3,7 +3,7 @@ ghost use Rattle.std.specs.Prelude.{◌≡◌, ◌≤◌, ◌+◌, ◌*◌, ◌+
 ghost use Rattle.std.specs.Fmt.{signed_decimal};
 ghost use Rattle.fmp_base.specs.Texts.{more_numbers_text, numbers_text, call_text, value_text, reply_text, answer_text};
 
-use crate::texts::{LineBytes, ROOM, append, append_signed, append_word};
+use crate::texts::{LineBytes, ROOM, append_array, append_signed, append_word};
 use fmp_base::{Call, Reply};
 
 /// A comma and a number.
@@ -13,7 +13,7 @@ fn append_next_number(number: i32, line: &mut LineBytes, end: usize) -> usize
     ensures text { take result line.new ≡ take end line.old ++ (codes "," ++ signed_decimal number) }
     ensures short { result ≤ end + 18 }
 {
-    let end = append(b",", line, end);
+    let end = append_array(*b",", line, end);
     append_signed(number, line, end)
 }
 
@@ -55,9 +55,9 @@ pub fn append_call(call: Call, line: &mut LineBytes, end: usize) -> usize
     ensures short { result ≤ end + 84 }
 {
     let end = append_word(call.service().name().as_bytes(), line, end);
-    let end = append(b"(", line, end);
+    let end = append_array(*b"(", line, end);
     let end = append_numbers(call.arguments().as_slice(), line, end);
-    append(b")", line, end)
+    append_array(*b")", line, end)
 }
 
 #[inline(always)]
@@ -68,7 +68,7 @@ fn append_value(value: Option<i32>, line: &mut LineBytes, end: usize) -> usize
 {
     match value {
         Some(value) => {
-            let end = append(b" ", line, end);
+            let end = append_array(*b" ", line, end);
             append_signed(value, line, end)
         }
         None => end,
@@ -96,6 +96,6 @@ pub fn append_answer(reply: Option<Reply>, line: &mut LineBytes, end: usize) -> 
 {
     match reply {
         Some(reply) => append_reply(reply, line, end),
-        None => append(b"wait", line, end),
+        None => append_array(*b"wait", line, end),
     }
 }

@@ -4,7 +4,7 @@ ghost use Rattle.fmp_trace.specs.Fronts.{Begins};
 ghost use Rattle.fmp_trace.specs.Steps.{event_text, steps_text};
 ghost use Rattle.fmp_trace.specs.StepsLaws.{PrintedStepsReadBack};
 
-use crate::texts::{LineBytes, ROOM, append, append_line, append_number};
+use crate::texts::{LineBytes, ROOM, append_array, append_line, append_number};
 use fmp_base::Event;
 use std::alloc::AllocError;
 
@@ -15,12 +15,12 @@ fn append_event(event: Event, line: &mut LineBytes, end: usize) -> usize
 {
     match event {
         Event::Run(processor) => {
-            let end = append(b"run ", line, end);
+            let end = append_array(*b"run ", line, end);
             append_number(u32::from(processor), line, end)
         }
-        Event::Tick => append(b"tick", line, end),
+        Event::Tick => append_array(*b"tick", line, end),
         Event::Int(interrupt) => {
-            let end = append(b"int ", line, end);
+            let end = append_array(*b"int ", line, end);
             append_number(u32::from(interrupt), line, end)
         }
     }
@@ -32,7 +32,7 @@ fn put_step(event: Event, line: &mut LineBytes) -> usize
     ensures short { result ≤ ROOM }
 {
     let end = append_event(event, line, 0);
-    append(b"\n", line, end)
+    append_array(*b"\n", line, end)
 }
 
 fn append_steps(events: &[Event], out: &mut Vec<u8>) -> Result<(), AllocError>

@@ -11,12 +11,13 @@ use crate::names::{
 };
 use crate::numeral::Numeral;
 use crate::texts::{
-    LineBytes, ROOM, append, append_line, append_number, append_processor, append_word,
+    LineBytes, ROOM, append_array, append_line, append_number, append_processor, append_word,
 };
 use fmp_base::{Call, Caller, Fault, Handler, Line, Reply, System};
 use std::alloc::AllocError;
 
 /// The name of the task or handler that acts, behind its processor.
+#[inline(always)]
 fn append_actor(
     sys: &System,
     processor: u8,
@@ -34,6 +35,7 @@ fn append_actor(
 }
 
 /// The name of a task, behind its processor.
+#[inline(always)]
 fn append_task(sys: &System, processor: u8, task: u8, line: &mut LineBytes, end: usize) -> usize
     requires { end + 50 ≤ ROOM }
     ensures text { take result line.new ≡
@@ -49,7 +51,7 @@ fn append_tick(clock: u32, line: &mut LineBytes, end: usize) -> usize
     ensures text { take result line.new ≡ take end line.old ++ (codes " tick " ++ decimal clock) }
     ensures short { result ≤ end + 22 }
 {
-    let end = append(b" tick ", line, end);
+    let end = append_array(*b" tick ", line, end);
     append_number(clock, line, end)
 }
 
@@ -58,11 +60,12 @@ fn append_interrupt(place: u8, line: &mut LineBytes, end: usize) -> usize
     ensures text { take result line.new ≡ take end line.old ++ (codes " int " ++ decimal (place + 1)) }
     ensures short { result ≤ end + 21 }
 {
-    let end = append(b" int ", line, end);
+    let end = append_array(*b" int ", line, end);
     append_number(u32::from(place) + 1, line, end)
 }
 
 /// A service call, behind its caller.
+#[inline(always)]
 fn append_request(
     sys: &System,
     processor: u8,
@@ -78,7 +81,7 @@ fn append_request(
     ensures short { result ≤ end + 135 }
 {
     let end = append_actor(sys, processor, caller, line, end);
-    let end = append(b" ", line, end);
+    let end = append_array(*b" ", line, end);
     append_call(call, line, end)
 }
 
@@ -100,7 +103,7 @@ fn append_called(
     ensures short { result ≤ end + 162 }
 {
     let end = append_request(sys, processor, caller, call, line, end);
-    let end = append(b" ", line, end);
+    let end = append_array(*b" ", line, end);
     append_answer(reply, line, end)
 }
 
@@ -117,7 +120,7 @@ fn append_end(
     ensures short { result ≤ end + 54 }
 {
     let end = append_actor(sys, processor, caller, line, end);
-    append(b" end", line, end)
+    append_array(*b" end", line, end)
 }
 
 fn name_of_fault(fault: Fault) -> &'static [u8]
@@ -144,7 +147,7 @@ fn append_fault(
     ensures short { result ≤ end + 56 }
 {
     let end = append_actor(sys, processor, caller, line, end);
-    let end = append(b" ", line, end);
+    let end = append_array(*b" ", line, end);
     append_word(name_of_fault(fault), line, end)
 }
 
@@ -163,7 +166,7 @@ fn append_release(
     ensures short { result ≤ end + 82 }
 {
     let end = append_task(sys, processor, task, line, end);
-    let end = append(b" gets ", line, end);
+    let end = append_array(*b" gets ", line, end);
     append_reply(reply, line, end)
 }
 
@@ -174,7 +177,7 @@ fn append_start(sys: &System, processor: u8, task: u8, line: &mut LineBytes, end
     ensures short { result ≤ end + 57 }
 {
     let end = append_task(sys, processor, task, line, end);
-    append(b" starts", line, end)
+    append_array(*b" starts", line, end)
 }
 
 fn append_pending(
@@ -191,7 +194,7 @@ fn append_pending(
     ensures short { result ≤ end + 54 }
 {
     let end = append_processor(processor, line, end);
-    let end = append(b"cyc ", line, end);
+    let end = append_array(*b"cyc ", line, end);
     append_cyclic_name(sys, cyclic, line, end)
 }
 
@@ -209,7 +212,7 @@ fn append_begin(
     ensures short { result ≤ end + 56 }
 {
     let end = append_processor(processor, line, end);
-    let end = append(b"begin ", line, end);
+    let end = append_array(*b"begin ", line, end);
     append_handler(sys, handler, line, end)
 }
 
@@ -226,7 +229,7 @@ fn append_dispatch(
     ensures short { result ≤ end + 52 }
 {
     let end = append_processor(processor, line, end);
-    let end = append(b"> ", line, end);
+    let end = append_array(*b"> ", line, end);
     append_run(sys, task, line, end)
 }
 
@@ -270,7 +273,7 @@ fn put_line(sys: &System, number: &Numeral, printed: &Line, line: &mut LineBytes
 {
     let end = number.append(line, 0);
     let end = append_body(sys, printed, line, end);
-    append(b"\n", line, end)
+    append_array(*b"\n", line, end)
 }
 
 fn append_lines(

@@ -4,7 +4,7 @@ ghost use Rattle.fmp_base.specs.Names.{name_text};
 ghost use Rattle.fmp_base.specs.Systems.{tables_of, cyclic_config};
 ghost use Rattle.fmp_base.specs.Texts.{task_name, handler_name, caller_name, run_text};
 
-use crate::texts::{LineBytes, ROOM, append, append_name, append_number};
+use crate::texts::{LineBytes, ROOM, append_array, append_name, append_number};
 use fmp_base::{Caller, Handler, System};
 
 /// The name of the task at this place, or nothing where there is none.
@@ -50,7 +50,7 @@ pub fn append_run(sys: &System, task: Option<u8>, line: &mut LineBytes, end: usi
 {
     match task {
         Some(task) => append_task_name(sys, task, line, end),
-        None => append(b"-", line, end),
+        None => append_array(*b"-", line, end),
     }
 }
 
@@ -62,7 +62,7 @@ pub fn append_handler(sys: &System, handler: Handler, line: &mut LineBytes, end:
 {
     match handler {
         Handler::Interrupt(place) => {
-            let end = append(b"#", line, end);
+            let end = append_array(*b"#", line, end);
             append_number(u32::from(place) + 1, line, end)
         }
         Handler::Cyclic(place) => append_cyclic_name(sys, place, line, end),

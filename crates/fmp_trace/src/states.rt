@@ -6,7 +6,7 @@ ghost use Rattle.fmp_trace.specs.Fronts.{Begins};
 ghost use Rattle.fmp_trace.specs.ListedStates.{listed_states_text, ListedStatesAreStates};
 
 use crate::names::append_name_at;
-use crate::texts::{LineBytes, ROOM, append, append_line, append_number, append_processor};
+use crate::texts::{LineBytes, ROOM, append, append_array, append_line, append_number, append_processor};
 use fmp_base::{StateWord, System, TaskState};
 use std::alloc::AllocError;
 
@@ -38,7 +38,7 @@ fn append_word(
     ensures short { result ≤ end + 49 }
 {
     let end = append_name_at(sys, task, line, end);
-    let end = append(b" ", line, end);
+    let end = append_array(*b" ", line, end);
     append(name_of_word(word), line, end)
 }
 
@@ -50,7 +50,7 @@ fn put_state(sys: &System, task: usize, state: TaskState, line: &mut LineBytes) 
     let end = append_word(sys, task, state.word, line, 0);
     let end = append_processor(state.processor, line, end);
     let end = append_number(u32::from(state.priority), line, end);
-    append(b"\n", line, end)
+    append_array(*b"\n", line, end)
 }
 
 fn append_states(sys: &System, states: &[TaskState], out: &mut Vec<u8>) -> Result<(), AllocError>

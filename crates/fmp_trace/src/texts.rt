@@ -30,6 +30,18 @@ pub fn append(text: &[u8], line: &mut LineBytes, end: usize) -> usize
     end + text.len()
 }
 
+/// A text of a length that is known when the program is built. It is taken by value, so that no copy asks whether it
+/// lies in the line.
+#[inline(always)]
+pub fn append_array<const N: usize>(text: [u8; N], line: &mut LineBytes, end: usize) -> usize
+    requires { end + N ≤ ROOM }
+    ensures text { take result line.new ≡ take end line.old ++ text.entry }
+    ensures place { result ≡ end + N }
+{
+    line[end..end + N].copy_from_slice(&text);
+    end + N
+}
+
 /// The first bytes of an array. All are copied, since so many bytes as are known are copied without a call.
 #[inline(always)]
 pub fn append_front<const N: usize>(
@@ -43,7 +55,8 @@ pub fn append_front<const N: usize>(
     ensures text { take result line.new ≡ take end line.old ++ take count bytes.now }
     ensures place { result ≡ end + count }
 {
-    line[end..end + N].copy_from_slice(bytes);
+    let bytes = *bytes;
+    line[end..end + N].copy_from_slice(&bytes);
     end + count
 }
 
@@ -57,7 +70,7 @@ pub fn append_word(text: &[u8], line: &mut LineBytes, end: usize) -> usize
     match (text.first_chunk::<4>(), text.last_chunk::<4>()) {
         (Some(first), Some(last)) if text.len() <= 8 => {
             let end = append_front(first, text.len() - 4, line, end);
-            append(last, line, end)
+            append_array(*last, line, end)
         }
         _ => append(text, line, end),
     }
@@ -86,11 +99,21 @@ fn append_digit(digit: u8, line: &mut LineBytes, end: usize) -> usize
     ensures text { take result line.new ≡ take end line.old ++ (48 + digit) ∷ [] }
     ensures place { result ≡ end + 1 }
 {
-    append(&[b'0' + digit], line, end)
+    append_array([b'0' + digit], line, end)
+}
+
+/// A number in decimal digits, of which there are mostly several.
+fn append_digits(number: u32, line: &mut LineBytes, end: usize) -> usize
+    requires { end + 16 ≤ ROOM }
+    ensures text { take result line.new ≡ take end line.old ++ decimal number }
+    ensures short { result ≤ end + 16 }
+{
+    Numeral::new(number).append(line, end)
 }
 
 /// A number in decimal digits.
 #[tactic(auto, using(std::proofs::lemmas::Fmt::decimal_digit))]
+#[inline(always)]
 pub fn append_number(number: u32, line: &mut LineBytes, end: usize) -> usize
     requires { end + 16 ≤ ROOM }
     ensures text { take result line.new ≡ take end line.old ++ decimal number }
@@ -99,7 +122,7 @@ pub fn append_number(number: u32, line: &mut LineBytes, end: usize) -> usize
     if number < 10 {
         return append_digit(number as u8, line, end);
     }
-    Numeral::new(number).append(line, end)
+    append_digits(number, line, end)
 }
 
 /// A number in decimal digits, with `-` in front where it is negative.
@@ -112,7 +135,7 @@ pub fn append_signed(number: i32, line: &mut LineBytes, end: usize) -> usize
     if number >= 0 {
         return append_number(number as u32, line, end);
     }
-    let end = append(b"-", line, end);
+    let end = append_array(*b"-", line, end);
     append_number(number.unsigned_abs(), line, end)
 }
 
@@ -125,11 +148,11 @@ pub fn append_processor(place: u8, line: &mut LineBytes, end: usize) -> usize
     ensures short { result ≤ end + 19 }
 {
     if place < 9 {
-        return append(&[b' ', b'p', b'1' + place, b' '], line, end);
+        return append_array([b' ', b'p', b'1' + place, b' '], line, end);
     }
-    let end = append(b" p", line, end);
+    let end = append_array(*b" p", line, end);
     let end = append_number(u32::from(place) + 1, line, end);
-    append(b" ", line, end)
+    append_array(*b" ", line, end)
 }
 
 /// Appends a line that ends at this place to a text. A short one is copied with what stands behind it, which is cut

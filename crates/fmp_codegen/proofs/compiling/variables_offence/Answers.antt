@@ -12,7 +12,7 @@ use Rattle.fmp_codegen.proofs.compiling.variables_offence.Goals as goal
 
 pub loop-i-preserved : goal.loop-i-preserved
 loop-i-preserved c =
-    let tables = tables_of c.args.system.now in
+    let tables = tables_of c.args.objects.now.system.now in
     let variables = c.args.variables.now in
     let i = c.loop-i.i in
     let w = get_or variables i no_word in

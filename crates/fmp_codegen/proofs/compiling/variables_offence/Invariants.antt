@@ -8,7 +8,7 @@ abbrev pub invariant-loop-i : goal.invariant-loop-i
 invariant-loop-i l =
     record {
       rest :
-          variables_offence (tables_of l.system) (exinf_name ∷ map (λ w. w.name) (take l.i l.variables)) (drop l.i l.variables) ≡
-          variables_offence (tables_of l.system) (exinf_name ∷ []) l.variables;
+          variables_offence (tables_of l.objects.system.now) (exinf_name ∷ map (λ w. w.name) (take l.i l.variables)) (drop l.i l.variables) ≡
+          variables_offence (tables_of l.objects.system.now) (exinf_name ∷ []) l.variables;
       few : l.i ≤ 63;
     }

@@ -1,4 +1,5 @@
 use Rattle.std.proofs.Common.{rules, ◌≡◌, ◌+◌, ◌++◌, None, ap, sym, ◌∙◌, drop}
+use Rattle.fmp_tasklang.specs.declared.trees.Statement.{the_lemmas}
 use Rattle.fmp_tasklang.specs.Views.{expression_view, statement_view, block_view}
 use Rattle.fmp_codegen.specs.Naming.{uses_offence, expression_uses, statement_uses, block_uses}
 use Rattle.fmp_codegen.specs.Scopes.{scope_view}
@@ -63,3 +64,9 @@ statement_offence-returns-in-While t c =
     c.expression_offence-in-While.ensures c.block_offence-in-While.ensures c.earlier-in-While.ensures
     ∙ ap (λ st. uses_offence scope (statement_uses st))
     (sym (view-While c.args.s.now c.in-While.condition c.in-While.body c.deref-in-While.result.now c.in-While.is c.deref-in-While.ensures.value))
+
+pub statement_offence-block_offence-requires-in-IfElse : goal.statement_offence-block_offence-requires-in-IfElse
+statement_offence-block_offence-requires-in-IfElse t c = (search (rules, the_lemmas), c.requires)
+
+pub statement_offence-block_offence-requires-in-IfElse-2 : goal.statement_offence-block_offence-requires-in-IfElse-2
+statement_offence-block_offence-requires-in-IfElse-2 t c = (search (rules, the_lemmas), c.requires)
