@@ -9,9 +9,12 @@ use Rattle.fmp_base.specs.declared.states.Caller.{Caller}
 use Rattle.fmp_base.specs.declared.states.Caller.TheVariants as caller
 use Rattle.fmp_base.specs.Meanings.{Contexts, task_body, context_at, context_in, body_in, context_of, caller_body, context_for, with_context}
 use Rattle.fmp_base.specs.Systems.{SystemTables}
-use Rattle.fmp_kernel.specs.Contexts.{AllContexts, OfOption, OfHeld, HandlerFits, Fitting, Entered, IsThere, HasContext}
+use Rattle.fmp_base.specs.Stretches.{Ending}
+use Rattle.fmp_body.specs.Contexts.{OfCall}
+use Rattle.fmp_kernel.specs.Contexts.{AllContexts, OfOption, OfHeld, HandlerFits, Fitting, Entered, IsThere, HasContext, IsFor}
 use Rattle.fmp_kernel.specs.Groups.{IsTaskOf}
 use Rattle.fmp_kernel.specs.Rooms.{HasPlaces}
+use Rattle.fmp_worlds.specs.Stamps.{going_from, going_by}
 
 AllContexts-set : {A : Type 0} (P : ℕ → A → Type 0) (cs : List (Option A)) (i : ℕ) (c : Option A)
     → AllContexts P cs → OfOption (P i) c → AllContexts P (slice_set cs i c)
@@ -150,3 +153,11 @@ pub places_set : {C : Type 0} {sys : SystemTables} (cs : Contexts (Held C)) (p :
     → HasPlaces sys cs → HasPlaces sys (with_context cs p who c)
 places_set cs p (caller.Task t) c h = record { tasks = length-set _ _ _ ∙ h.tasks; handlers = h.handlers }
 places_set cs p (caller.Handler i) c h = record { tasks = h.tasks; handlers = length-set _ _ _ ∙ h.handlers }
+
+-- a stretch for the actor of p leaves a context of its body
+pub going_fits : {B C : Type 0} (is_context : B → ℕ → C → Type 0) (body : B) (sys : SystemTables) (cs : Contexts (Held C)) (p : ℕ)
+    (o : Option Caller) (who : Caller) (c : C) (x : Ending C) → o ≡ Some who → context_of cs p who ≡ Some (Goes c)
+    → IsFor is_context body x (going_by sys cs p o) → OfCall (is_context body (caller_body sys cs p who)) x
+going_fits {C = C} is_context body sys cs p o who c x e h k =
+    let there = subst (λ (o : Option Caller). IsFor is_context body x (going_by sys cs p o)) e k in
+    subst (λ (y : Option (Held C)). IsFor is_context body x (going_from (caller_body sys cs p who) y)) h there

@@ -2,22 +2,18 @@
 use Rattle.std.proofs.Common.{◌≡◌, ℕ, zero, suc, List, [], ◌∷◌, Option, Some, None, slice_set, refl, ap, sym, subst, ◌∙◌}
 use Rattle.fmp_base.specs.declared.bodies.HandlerContext.{HandlerContext}
 use Rattle.fmp_base.specs.declared.bodies.Held.{Held}
-use Rattle.fmp_base.specs.declared.bodies.Held.TheVariants.{Goes, Awaits}
-use Rattle.fmp_base.specs.declared.bodies.Fault as faults
-use Rattle.fmp_base.specs.declared.calls.Call.{Call}
+use Rattle.fmp_base.specs.declared.bodies.Held.TheVariants.{Goes}
 use Rattle.fmp_base.specs.declared.calls.Reply.{Reply}
 use Rattle.fmp_base.specs.declared.events.Line.TheVariants as line
 use Rattle.fmp_base.specs.declared.states.Caller.{Caller}
 use Rattle.fmp_base.specs.declared.states.Caller.TheVariants as caller
-use Rattle.fmp_base.specs.Calls.{called}
 use Rattle.fmp_base.specs.Meanings.{Meaning, Contexts, World, context_at, context_in, body_in, context_of, caller_body, context_for, with_context, told}
-use Rattle.fmp_base.specs.Steps.{Nothing, Did, actor_ended, call_made, finished, stretched}
+use Rattle.fmp_kernel.specs.KernelViews.{stopped_on}
+use Rattle.fmp_base.specs.Steps.{Did, actor_ended, finished, stretched}
 use Rattle.fmp_base.specs.Stretches.{Ending}
 use Rattle.fmp_base.specs.Stretches as ends
 use Rattle.fmp_base.specs.Systems.{SystemTables}
-use Rattle.fmp_body.specs.declared.stop.Stop.{Stop}
-use Rattle.fmp_body.specs.declared.stop.Stop.TheVariants as stop
-use Rattle.fmp_kernel.specs.Contexts.{IsThere, HasContext, kept_after, stop_of}
+use Rattle.fmp_kernel.specs.Contexts.{IsThere, HasContext, HasNoCall, kept_after, stop_of}
 
 -- a place is written twice, or with what stands there
 set_twice : {A : Type 0} (xs : List A) (i : ℕ) (x y : A) → slice_set (slice_set xs i x) i y ≡ slice_set xs i y
@@ -86,58 +82,25 @@ context_back {C} cs p (caller.Handler i) c h =
     ap (λ (o : Option (HandlerContext C)). record cs { handlers = slice_set cs.handlers p o }) (rebuilt (context_at cs.handlers p) c h)
     ∙ ap (λ (hs : List (Option (HandlerContext C))). record cs { handlers = hs }) (set_back cs.handlers p)
 
--- what a stretch comes to that stops so, and what it leaves of its context
-pub stretched_call : {C : Type 0} (sys : SystemTables) (M : Meaning C) (w : World C) (p : ℕ) (who : Caller) (first : C) (made : Call) (e : Ending C)
-    → stop_of e ≡ stop.Call made
-    → stretched sys M w p who e
-    ≡ call_made sys M (with_context w.contexts p who (Some (kept_after first e))) p who made (called sys w.state p who made)
-stretched_call {C} sys M w p who first made (ends.Call c asked) h =
-    let e : asked ≡ made = cc h in
-    ap (λ (m : Call). call_made sys M (with_context w.contexts p who (Some (Awaits c))) p who m (called sys w.state p who m)) e
-stretched_call sys M w p who first made (ends.End c) h = absurd (cc h)
-stretched_call sys M w p who first made (ends.Fault c fault) h = absurd (cc h)
-stretched_call sys M w p who first made (ends.Over kept) h = absurd (cc h)
+-- a stretch that stops so, and what it leaves of its context
+pub stops_so : {C : Type 0} (sys : SystemTables) (M : Meaning C) (w : World C) (p : ℕ) (who : Caller) (first : C) (x : Ending C)
+    → context_of w.contexts p who ≡ Some (Goes first)
+    → stopped_on sys M (record w { contexts = with_context w.contexts p who (Some (kept_after first x)) }) p who (stop_of x) ≡ stretched sys M w p who x
+stops_so sys M w p who first (ends.Call c made) h = refl
+stops_so {C} sys M w p who first (ends.End c) h =
+    ap (λ (cs : Contexts (Held C)). Did (finished sys M cs (line.End p who ∷ []) (actor_ended sys w.state p who))) (context_back w.contexts p who (Goes first) h)
+stops_so {C} sys M w p who first (ends.Fault c fault) h =
+    ap (λ (cs : Contexts (Held C)). Did (finished sys M cs (line.Fault p who fault ∷ []) (actor_ended sys w.state p who))) (context_back w.contexts p who (Goes first) h)
+stops_so sys M w p who first (ends.Over kept) h = refl
 
-pub stretched_end : {C : Type 0} (sys : SystemTables) (M : Meaning C) (w : World C) (p : ℕ) (who : Caller) (e : Ending C) → stop_of e ≡ stop.End
-    → stretched sys M w p who e ≡ Did (finished sys M w.contexts (line.End p who ∷ []) (actor_ended sys w.state p who))
-stretched_end sys M w p who (ends.Call c asked) h = absurd (cc h)
-stretched_end sys M w p who (ends.End c) h = refl
-stretched_end sys M w p who (ends.Fault c fault) h = absurd (cc h)
-stretched_end sys M w p who (ends.Over kept) h = absurd (cc h)
-
-pub stretched_fault : {C : Type 0} (sys : SystemTables) (M : Meaning C) (w : World C) (p : ℕ) (who : Caller) (fault : faults.Fault) (e : Ending C)
-    → stop_of e ≡ stop.Fault fault
-    → stretched sys M w p who e ≡ Did (finished sys M w.contexts (line.Fault p who fault ∷ []) (actor_ended sys w.state p who))
-stretched_fault sys M w p who fault (ends.Call c asked) h = absurd (cc h)
-stretched_fault sys M w p who fault (ends.End c) h = absurd (cc h)
-stretched_fault sys M w p who fault (ends.Fault c met) h =
-    let e : met ≡ fault = cc h in
-    ap (λ (f : faults.Fault). Did (finished sys M w.contexts (line.Fault p who f ∷ []) (actor_ended sys w.state p who))) e
-stretched_fault sys M w p who fault (ends.Over kept) h = absurd (cc h)
-
-pub stretched_over : {C : Type 0} (sys : SystemTables) (M : Meaning C) (w : World C) (p : ℕ) (who : Caller) (e : Ending C) → stop_of e ≡ stop.Over
-    → stretched sys M w p who e ≡ Nothing
-stretched_over sys M w p who (ends.Call c asked) h = absurd (cc h)
-stretched_over sys M w p who (ends.End c) h = absurd (cc h)
-stretched_over sys M w p who (ends.Fault c fault) h = absurd (cc h)
-stretched_over sys M w p who (ends.Over kept) h = refl
-
--- a stop with no call
-abbrev pub HasNoCall : Stop → Type 0
-HasNoCall (stop.Call made) = ⊥
-HasNoCall stop.End = Unit {0}
-HasNoCall (stop.Fault fault) = Unit {0}
-HasNoCall stop.Over = Unit {0}
-
-kept_first : {C : Type 0} (first : C) (e : Ending C) → HasNoCall (stop_of e) → kept_after first e ≡ Goes first
+kept_first : {C : Type 0} (first : C) (x : Ending C) → HasNoCall (stop_of x) → kept_after first x ≡ Goes first
 kept_first first (ends.Call c asked) h = absurd h
 kept_first first (ends.End c) h = refl
 kept_first first (ends.Fault c fault) h = refl
 kept_first first (ends.Over kept) h = refl
 
 -- a stretch that makes no call leaves what was kept
-pub kept_back : {C : Type 0} (cs : Contexts (Held C)) (p : ℕ) (who : Caller) (first : C) (e : Ending C) (s : Stop) → s ≡ stop_of e → HasNoCall s
-    → context_of cs p who ≡ Some (Goes first) → with_context cs p who (Some (kept_after first e)) ≡ cs
-kept_back {C} cs p who first e s k n h =
-    ap (λ (x : Held C). with_context cs p who (Some x)) (kept_first first e (subst (λ (s : Stop). HasNoCall s) k n))
-    ∙ context_back cs p who (Goes first) h
+pub kept_same : {C : Type 0} (cs : Contexts (Held C)) (p : ℕ) (who : Caller) (first : C) (x : Ending C) → HasContext cs p who
+    → HasNoCall (stop_of x) → context_of (with_context cs p who (Some (kept_after first x))) p who ≡ Some (Goes first)
+kept_same {C} cs p who first x h n =
+    context_set cs p who (kept_after first x) h ∙ ap (λ (k : Held C). Some k) (kept_first first x n)

@@ -1,8 +1,11 @@
 mod ContextLemmas
 mod CyclicLemmas
+mod FrontLemmas
 mod GroupLemmas
 mod HeldLemmas
 mod PlaceLemmas
 mod RangeLemmas
+mod StampLemmas
 mod StepLemmas
 mod TickLemmas
+mod ViewLemmas

@@ -10,8 +10,10 @@ use Rattle.fmp_base.specs.Meanings.{Contexts, context_of, handler_start, task_bo
 use Rattle.fmp_base.specs.Stretches.{Ending}
 use Rattle.fmp_base.specs.Stretches as ends
 use Rattle.fmp_base.specs.Systems.{SystemTables}
+use Rattle.fmp_body.specs.Contexts.{OfCall}
 use Rattle.fmp_body.specs.declared.stop.Stop.{Stop}
 use Rattle.fmp_body.specs.declared.stop.Stop.TheVariants as stop
+use Rattle.fmp_worlds.specs.Stamps.{Going}
 
 -- P i holds of what is at each place i, where something is
 abbrev pub AllContexts : {A : Type 0} → (ℕ → A → Type 0) → List (Option A) → Type 0
@@ -76,9 +78,21 @@ stop_of (ends.End c) = stop.End
 stop_of (ends.Fault c fault) = stop.Fault fault
 stop_of (ends.Over kept) = stop.Over
 
+-- a stop with no call
+abbrev pub HasNoCall : Stop → Type 0
+HasNoCall (stop.Call made) = ⊥
+HasNoCall stop.End = Unit {0}
+HasNoCall (stop.Fault fault) = Unit {0}
+HasNoCall stop.Over = Unit {0}
+
 -- what is kept after a stretch from this context: with a call the one that awaits the reply, else the first one
 abbrev pub kept_after : {C : Type 0} → C → Ending C → Held C
 kept_after first (ends.Call c made) = Awaits c
 kept_after first (ends.End c) = Goes first
 kept_after first (ends.Fault c fault) = Goes first
 kept_after first (ends.Over kept) = Goes first
+
+-- a stretch that ends so may be one of this actor: the context with which it makes a call is one of the actor's body
+abbrev pub IsFor : {B C : Type 0} → (B → ℕ → C → Type 0) → B → Ending C → Option (Going C) → Type 0
+IsFor is_context body x None = Unit {0}
+IsFor is_context body x (Some a) = OfCall (is_context body a.entry) x

@@ -1,11 +1,20 @@
 -- What is seen of a kernel.
-use Rattle.std.specs.Prelude.{◌≡◌, ℕ, ◌+◌, List}
+use Rattle.std.specs.Prelude.{◌≡◌, ℕ, zero, suc, ◌+◌, List, [], ◌∷◌, Option, Some, None, get_or, replicate}
 use Rattle.fmp_base.specs.declared.bodies.Held.{Held}
+use Rattle.fmp_base.specs.declared.events.Event.{Event}
 use Rattle.fmp_base.specs.declared.events.Line.{Line}
-use Rattle.fmp_base.specs.Meanings.{Contexts, World}
+use Rattle.fmp_base.specs.declared.events.Line.TheVariants as line
+use Rattle.fmp_base.specs.declared.states.Caller.{Caller}
+use Rattle.fmp_base.specs.Calls.{called}
+use Rattle.fmp_base.specs.Meanings.{Contexts, Meaning, World}
 use Rattle.fmp_base.specs.States.{Progress}
-use Rattle.fmp_base.specs.Steps.{Done, Reaction, Nothing, Did}
+use Rattle.fmp_base.specs.Steps.{Done, Reaction, Nothing, Did, actor_ended, call_made, finished, step}
 use Rattle.fmp_base.specs.Systems.{SystemTables}
+use Rattle.fmp_body.specs.declared.stop.Stop.{Stop}
+use Rattle.fmp_body.specs.declared.stop.Stop.TheVariants as stop
+use Rattle.fmp_kernel.specs.declared.actors.Actor.{Actor}
+use Rattle.fmp_kernel.specs.Stamps.{stamped}
+use Rattle.fmp_worlds.specs.Stamps.{Going, actor_at}
 
 -- what carries events out: the bodies and their bound, the tables of the system, the state with the bodies' contexts,
 -- the lines of what the event has caused so far, and those of the last event that did something (or of setup)
@@ -44,8 +53,18 @@ abbrev pub done_or : {C : Type 0} → Done C → Reaction C → Done C
 done_or d Nothing = d
 done_or d (Did e) = e
 
+-- a stretch of the actor of p stopped so, in a world that has what is kept of it then: the call, end or fault is
+-- carried out
+abbrev pub stopped_on : {C : Type 0} → SystemTables → Meaning C → World C → ℕ → Caller → Stop → Reaction C
+stopped_on sys M w p who (stop.Call made) = call_made sys M w.contexts p who made (called sys w.state p who made)
+stopped_on sys M w p who stop.End =
+    Did (finished sys M w.contexts (line.End p who ∷ []) (actor_ended sys w.state p who))
+stopped_on sys M w p who (stop.Fault fault) =
+    Did (finished sys M w.contexts (line.Fault p who fault ∷ []) (actor_ended sys w.state p who))
+stopped_on sys M w p who stop.Over = Nothing
+
 -- a kernel: its bodies and their bound, the tables of its system, its state with the bodies' contexts, the lines of the
--- last event that did something (or of setup), and how many events did something
+-- last event that did something (or of setup), how many events did something, and by place the stamps of its processors
 pub record KernelView (B C : Type 0) : Type 0 where
   pub body : B
   pub bound : ℕ
@@ -53,18 +72,57 @@ pub record KernelView (B C : Type 0) : Type 0 where
   pub world : World C
   pub lines : List Line
   pub done : ℕ
+  pub stamps : List ℕ
 
--- a kernel that has done so many events
-abbrev pub kernel_of : {B C : Type 0} → RunnerView B C → ℕ → KernelView B C
-kernel_of r done =
-    record { body = r.body; bound = r.bound; system = r.system; world = r.world; lines = r.lines; done = done }
+-- a kernel that has done so many events, with these stamps
+abbrev pub kernel_of : {B C : Type 0} → RunnerView B C → List ℕ → ℕ → KernelView B C
+kernel_of r stamps done =
+    record {
+      body = r.body;
+      bound = r.bound;
+      system = r.system;
+      world = r.world;
+      lines = r.lines;
+      done = done;
+      stamps = stamps;
+    }
 
 -- a kernel after setup
 abbrev pub view_of_setup : {B C : Type 0} → B → ℕ → SystemTables → Done C → KernelView B C
 view_of_setup body bound sys d =
-    record { body = body; bound = bound; system = sys; world = d.world; lines = d.lines; done = 0 }
+    record {
+      body = body;
+      bound = bound;
+      system = sys;
+      world = d.world;
+      lines = d.lines;
+      done = 0;
+      stamps = replicate sys.processors 0;
+    }
 
 -- a kernel after an event; where the event did nothing, the same
 abbrev pub view_after : {B C : Type 0} → KernelView B C → Reaction C → KernelView B C
 view_after k Nothing = k
-view_after k (Did d) = record k { world = d.world; lines = d.lines; done = k.done + 1 }
+view_after k (Did d) =
+    record k {
+      world = d.world;
+      lines = d.lines;
+      done = k.done + 1;
+      stamps = stamped d.lines k.world.state d.world.state k.stamps;
+    }
+
+-- a kernel after events, one after the other
+abbrev pub view_after_all : {B C : Type 0} → (B → Meaning C) → KernelView B C → List Event → KernelView B C
+view_after_all meaning k [] = k
+view_after_all meaning k (e ∷ es) =
+    view_after_all meaning (view_after k (step k.system (meaning k.body) k.bound k.world e)) es
+
+-- an actor with the stamp of its processor
+abbrev pub with_stamp : {C : Type 0} → ℕ → Option (Going C) → Option (Actor C)
+with_stamp stamp None = None
+with_stamp stamp (Some a) = Some (record { entry = a.entry; context = a.context; stamp = stamp })
+
+-- the actor of the processor of this number, with its stamp
+abbrev pub actor_in : {B C : Type 0} → KernelView B C → ℕ → Option (Actor C)
+actor_in k zero = None
+actor_in k (suc p) = with_stamp (get_or k.stamps p 0) (actor_at k.system k.world p)

@@ -3,3 +3,4 @@ pub mod Groups
 pub mod KernelViews
 pub mod NextTicks
 pub mod Rooms
+pub mod Stamps

@@ -4,7 +4,7 @@ ghost use Rattle.std.specs.Option.{option_copied};
 ghost use Rattle.fmp_base.specs.declared.bodies.Held.TheVariants.{Goes};
 ghost use Rattle.fmp_base.specs.Meanings.{body_in, context_at, context_for, context_in, context_of, told as told_by, with_context, with_handler_context};
 ghost use Rattle.fmp_base.specs.Systems.{body_of};
-ghost use Rattle.fmp_kernel.specs.Contexts.{HasContext, IsThere, OfHeld, OfOption, going_context, kept_after, stop_of};
+ghost use Rattle.fmp_kernel.specs.Contexts.{HasContext, IsThere, OfHeld, OfOption, going_context, held_by, kept_after, stop_of};
 
 use crate::kept::{self, Kept};
 use fmp_base::{Caller, Entry, Reply};
@@ -132,20 +132,20 @@ impl<C: Copy> BodyContexts<C> {
         }
     }
 
-    /// The caller on processor p, of which something is kept, goes on from this context.
-    pub fn go_on_from(&mut self, p: u8, who: Caller, context: &C)
+    /// This context is kept of the caller on processor p, of which something is kept, and awaits a reply, or does not.
+    pub fn put(&mut self, p: u8, who: Caller, context: &C, awaits: bool)
         requires { HasContext self.old p who }
-        ensures { self.new ≡ with_context self.old p who (Some (Goes context.now)) }
+        ensures { self.new ≡ with_context self.old p who (Some (held_by awaits context.now)) }
     {
         match who {
             Caller::Task(t) => {
                 if let Some(kept) = &mut self.tasks[t as usize] {
-                    kept.go_on_from(context);
+                    kept.put(context, awaits);
                 }
             }
             Caller::Handler(_) => {
                 if let Some(handler) = &mut self.handlers[p as usize] {
-                    handler.kept.go_on_from(context);
+                    handler.kept.put(context, awaits);
                 }
             }
         }

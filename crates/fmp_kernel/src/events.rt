@@ -5,17 +5,21 @@ ghost use Rattle.fmp_base.specs.Calls.{called};
 ghost use Rattle.fmp_base.specs.Meanings.{caller_body, context_of, with_context};
 ghost use Rattle.fmp_base.specs.States.{processor_at};
 ghost use Rattle.fmp_base.specs.Steps.{Did, actor_ended, actor_of, call_made, effect_of, finished, handler_ended as ended_handler, run_by, step, stretched};
-ghost use Rattle.fmp_kernel.specs.Contexts.{HasContext, kept_after, stop_of};
+ghost use Rattle.fmp_base.specs.Stretches.{ending};
+ghost use Rattle.fmp_body.specs.Contexts.{OfCall};
+ghost use Rattle.fmp_kernel.specs.Contexts.{HasContext, HasNoCall, IsFor, kept_after, stop_of};
 ghost use Rattle.fmp_kernel.specs.Groups.{IsTaskOf};
-ghost use Rattle.fmp_kernel.specs.KernelViews.{SameBodies, done_of, done_or, kept_in, with_contexts};
+ghost use Rattle.fmp_kernel.specs.KernelViews.{SameBodies, done_of, done_or, kept_in, stopped_on, with_contexts};
 ghost use Rattle.fmp_tasks.specs.Tables.{SameShape};
+ghost use Rattle.fmp_worlds.specs.Stamps.{actor_at, applied_by};
 
+use crate::actors::actor_on;
 use crate::calls::call;
 use crate::contexts::stretch;
 use crate::deliveries::entry_of;
 use crate::runner::Runner;
 use crate::ticks::advance;
-use fmp_base::{Answer, Call, Caller, Effect, Event, Line, Processor};
+use fmp_base::{Answer, Call, Caller, Effect, Event, Line, Processor, Stretch};
 use fmp_body::{Body, Stop};
 use fmp_migrate::end_itself;
 use fmp_tasks::Tables;
@@ -91,7 +95,7 @@ impl<B: Body> Runner<B> {
                 caller: who,
             },
             Answer::Spins => {
-                self.contexts.go_on_from(p, who, first);
+                self.contexts.put(p, who, first, false);
                 return Effect::Nothing;
             }
         };
@@ -125,23 +129,53 @@ impl<B: Body> Runner<B> {
         )
     }
 
-    /// The actor of processor p makes a stretch from this context, from which it goes on: the call, end or fault is
-    /// carried out.
-    fn make_stretch(&mut self, p: u8, who: Caller, first: &B::Ctx) -> Effect
-        requires there { p < self.old.system.processors }
+    /// The stretch of the actor of processor p, which goes on from this context, is handed in. Where it makes a call,
+    /// its context awaits the reply.
+    #[tactic(auto, using(crate::proofs::ContextLemmas::task_of, crate::proofs::ContextLemmas::goes_fits, crate::proofs::ContextLemmas::has_context, crate::proofs::HeldLemmas::context_back))]
+    fn take(&mut self, p: u8, who: Caller, first: &B::Ctx, stretch: Stretch<B::Ctx>) -> Stop
         requires goes { context_of self.old.world.contexts p who ≡ Some (Goes first.now) }
+        requires context { OfCall
+            (B.is_context self.old.body (caller_body self.old.system self.old.world.contexts p who))
+            (ending stretch) }
+        ensures stop { result ≡ stop_of (ending stretch) }
+        ensures kept { self.new ≡ kept_in self.old (with_context self.old.world.contexts p who
+            (Some (kept_after first.now (ending stretch)))) }
+        ensures caller { IsTaskOf self.old.system who }
+        ensures first { B.is_context self.old.body (caller_body self.old.system self.old.world.contexts p who)
+            first.now }
+    {
+        let _ = &self.tables;
+        match stretch {
+            Stretch::Over => Stop::Over,
+            Stretch::Call(context, made) => {
+                self.contexts.put(p, who, &context, true);
+                Stop::Call(made)
+            }
+            Stretch::End(_) => Stop::End,
+            Stretch::Fault(_, fault) => Stop::Fault(fault),
+        }
+    }
+
+    /// A stretch of the actor of processor p has stopped so, and left what is kept of it: the call, end or fault is
+    /// carried out. Where it was over its bound, nothing is.
+    #[tactic(auto, using(crate::proofs::HeldLemmas::context_back))]
+    fn carry_out_stop(&mut self, p: u8, who: Caller, first: &B::Ctx, stop: Stop) -> Effect
+        requires there { p < self.old.system.processors }
+        requires caller { IsTaskOf self.old.system who }
+        requires kept { HasContext self.old.world.contexts p who }
+        requires context { B.is_context self.old.body (caller_body self.old.system self.old.world.contexts p who)
+            first.now }
+        requires same { HasNoCall stop → context_of self.old.world.contexts p who ≡ Some (Goes first.now) }
         ensures effect { result
-            ≡ effect_of (stretched self.old.system (B.meaning self.old.body) self.old.world p who
-            ((B.meaning self.old.body).stretch (caller_body self.old.system self.old.world.contexts p who)
-            self.old.bound first.now)) }
+            ≡ effect_of (stopped_on self.old.system (B.meaning self.old.body) self.old.world p who stop) }
         ensures after { done_of self.new
-            ≡ done_or (done_of self.old) (stretched self.old.system (B.meaning self.old.body) self.old.world p who
-            ((B.meaning self.old.body).stretch (caller_body self.old.system self.old.world.contexts p who)
-            self.old.bound first.now)) }
+            ≡ done_or (with_contexts (done_of self.old) (with_context self.old.world.contexts p who
+            (Some (Goes first.now))))
+            (stopped_on self.old.system (B.meaning self.old.body) self.old.world p who stop) }
         ensures bodies { SameBodies self.old self.new }
         ensures clock { self.new.world.state.clock ≡ self.old.world.state.clock }
     {
-        match self.go_on(p, who, first) {
+        match stop {
             Stop::Over => Effect::Nothing,
             Stop::Call(made) => self.make_call(p, who, made, first),
             Stop::End => {
@@ -164,6 +198,52 @@ impl<B: Body> Runner<B> {
         }
     }
 
+    /// The actor of processor p makes a stretch from this context, from which it goes on: the call, end or fault is
+    /// carried out.
+    fn make_stretch(&mut self, p: u8, who: Caller, first: &B::Ctx) -> Effect
+        requires there { p < self.old.system.processors }
+        requires goes { context_of self.old.world.contexts p who ≡ Some (Goes first.now) }
+        ensures effect { result
+            ≡ effect_of (stretched self.old.system (B.meaning self.old.body) self.old.world p who
+            ((B.meaning self.old.body).stretch (caller_body self.old.system self.old.world.contexts p who)
+            self.old.bound first.now)) }
+        ensures after { done_of self.new
+            ≡ done_or (done_of self.old) (stretched self.old.system (B.meaning self.old.body) self.old.world p who
+            ((B.meaning self.old.body).stretch (caller_body self.old.system self.old.world.contexts p who)
+            self.old.bound first.now)) }
+        ensures bodies { SameBodies self.old self.new }
+        ensures clock { self.new.world.state.clock ≡ self.old.world.state.clock }
+    {
+        let stop = self.go_on(p, who, first);
+        self.carry_out_stop(p, who, first, stop)
+    }
+
+    /// The actor of processor p, which goes on from this context, has made this stretch: the call, end or fault is
+    /// carried out.
+    fn apply_stretch(
+        &mut self,
+        p: u8,
+        who: Caller,
+        first: &B::Ctx,
+        stretch: Stretch<B::Ctx>,
+    ) -> Effect
+        requires there { p < self.old.system.processors }
+        requires goes { context_of self.old.world.contexts p who ≡ Some (Goes first.now) }
+        requires context { OfCall
+            (B.is_context self.old.body (caller_body self.old.system self.old.world.contexts p who))
+            (ending stretch) }
+        ensures effect { result
+            ≡ effect_of (stretched self.old.system (B.meaning self.old.body) self.old.world p who (ending stretch)) }
+        ensures after { done_of self.new
+            ≡ done_or (done_of self.old)
+            (stretched self.old.system (B.meaning self.old.body) self.old.world p who (ending stretch)) }
+        ensures bodies { SameBodies self.old self.new }
+        ensures clock { self.new.world.state.clock ≡ self.old.world.state.clock }
+    {
+        let stop = self.take(p, who, first, stretch);
+        self.carry_out_stop(p, who, first, stop)
+    }
+
     /// Processor p runs its actor for a stretch.
     fn run(&mut self, p: u8) -> Effect
         ensures effect { result
@@ -175,7 +255,7 @@ impl<B: Body> Runner<B> {
         ensures bodies { SameBodies self.old self.new }
         ensures clock { self.new.world.state.clock ≡ self.old.world.state.clock }
     {
-        let Some(who) = self.actor(p) else {
+        let Some(who) = actor_on(&self.tables, p) else {
             return Effect::Nothing;
         };
         let Some(context) = self.contexts.going(p, who) else {
@@ -183,6 +263,29 @@ impl<B: Body> Runner<B> {
         };
         let first = *context;
         self.make_stretch(p, who, &first)
+    }
+
+    /// Processor p runs its actor, whose stretch is this one.
+    #[tactic(auto, using(crate::proofs::ContextLemmas::has_context, crate::proofs::ContextLemmas::task_of, crate::proofs::ContextLemmas::going_fits))]
+    pub fn apply(&mut self, p: u8, stretch: Stretch<B::Ctx>) -> Effect
+        requires { IsFor B.is_context self.old.body (ending stretch) (actor_at self.old.system self.old.world p) }
+        ensures effect { result
+            ≡ effect_of (applied_by self.old.system (B.meaning self.old.body) self.old.world p
+            (actor_of (processor_at self.old.world.state p)) (ending stretch)) }
+        ensures after { done_of self.new
+            ≡ done_or (done_of self.old) (applied_by self.old.system (B.meaning self.old.body) self.old.world p
+            (actor_of (processor_at self.old.world.state p)) (ending stretch)) }
+        ensures bodies { SameBodies self.old self.new }
+        ensures clock { self.new.world.state.clock ≡ self.old.world.state.clock }
+    {
+        let Some(who) = actor_on(&self.tables, p) else {
+            return Effect::Nothing;
+        };
+        let Some(context) = self.contexts.going(p, who) else {
+            return Effect::Nothing;
+        };
+        let first = *context;
+        self.apply_stretch(p, who, &first, stretch)
     }
 
     /// The clock advances by one.

@@ -4,7 +4,7 @@ ghost use Rattle.std.specs.Option.{option_copied};
 ghost use Rattle.fmp_base.specs.declared.bodies.Held.{Held};
 ghost use Rattle.fmp_base.specs.declared.bodies.Held.TheVariants.{Awaits, Goes};
 ghost use Rattle.fmp_base.specs.Meanings.{told};
-ghost use Rattle.fmp_kernel.specs.Contexts.{OfHeld, going_context, kept_after, stop_of};
+ghost use Rattle.fmp_kernel.specs.Contexts.{OfHeld, going_context, held_by, kept_after, stop_of};
 
 use fmp_base::Reply;
 use fmp_body::{Body, Stop};
@@ -48,11 +48,11 @@ impl<C: Copy> Kept<C> {
         }
     }
 
-    /// The body goes on from this context.
-    pub fn go_on_from(&mut self, context: &C)
-        ensures { self.new ≡ Goes context.now }
+    /// This context is kept, and awaits the reply to its call, or does not.
+    pub fn put(&mut self, context: &C, awaits: bool)
+        ensures { self.new ≡ held_by awaits context.now }
     {
-        self.awaits = false;
+        self.awaits = awaits;
         self.context = *context;
     }
 }

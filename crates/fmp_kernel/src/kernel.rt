@@ -1,16 +1,20 @@
 //! The kernel over lawful bodies: setup, and one event after the other.
-ghost use Rattle.std.specs.Prelude.{◌≡◌, ◌+◌, ◌<◌, ◌≤◌, ◌^◌, length, IfOk};
+ghost use Rattle.std.specs.Prelude.{◌≡◌, ◌+◌, ◌<◌, ◌≤◌, ◌^◌, length, IfOk, IfSome};
 ghost use Rattle.fmp_base.specs.Ranges.{IsInRange};
 ghost use Rattle.fmp_base.specs.Runs.{task_state};
 ghost use Rattle.fmp_base.specs.Setups.{setup};
 ghost use Rattle.fmp_base.specs.Steps.{effect_of, step};
+ghost use Rattle.fmp_base.specs.Stretches.{ending};
 ghost use Rattle.fmp_base.specs.Systems.{tables_of};
-ghost use Rattle.fmp_kernel.specs.Contexts.{Entered};
-ghost use Rattle.fmp_kernel.specs.KernelViews.{view_after, view_of_setup};
+ghost use Rattle.fmp_kernel.specs.Contexts.{Entered, IsFor};
+ghost use Rattle.fmp_kernel.specs.KernelViews.{actor_in, view_after, view_of_setup};
 ghost use Rattle.fmp_worlds.specs.Settled.{RunOnce};
+ghost use Rattle.fmp_worlds.specs.Stamps.{actor_at_number, applied};
 
+use crate::actors::Actor;
 use crate::runner::Runner;
-use fmp_base::{Effect, Event, Line, System, TaskState};
+use crate::stamps::Stamps;
+use fmp_base::{Effect, Event, Line, Stretch, System, TaskState};
 use fmp_body::Body;
 use fmp_tasks::Tables;
 use std::alloc::{AllocError, Global};
@@ -36,19 +40,22 @@ impl From<AllocError> for KernelFault {
 pub struct Kernel<B: Body> {
     runner: Runner<B>,
     done: u32,
+    stamps: Stamps,
 }
 
 impl<B: Body> Model for Kernel<B> {
     ghost use Rattle.fmp_kernel.specs.KernelViews.{KernelView, kernel_of};
     ghost use Rattle.fmp_kernel.specs.Rooms.{IsEarly};
+    ghost use Rattle.fmp_kernel.specs.Stamps.{AreStamps};
     ghost use Rattle.fmp_worlds.specs.Settled.{IsSettled};
 
     ghost Value = { KernelView B B.Ctx };
 
-    ghost view = { λ k. kernel_of k.runner k.done };
+    ghost view = { λ k. kernel_of k.runner k.stamps.counts k.done };
 
     ghost invariant = { λ k. IsEarly k.runner.world.state.clock k.done
-        × IsSettled k.runner.system k.runner.world.state };
+        × IsSettled k.runner.system k.runner.world.state
+        × AreStamps k.stamps k.runner.system.processors k.runner.world.state k.done };
 }
 
 impl<B: Body + Drop> Kernel<B> {
@@ -65,7 +72,12 @@ impl<B: Body + Drop> Kernel<B> {
     {
         let mut runner = Runner::new(alloc, body, sys, n)?;
         runner.set_up();
-        Ok(Kernel { runner, done: 0 })
+        let stamps = runner.stamps(alloc)?;
+        Ok(Kernel {
+            runner,
+            done: 0,
+            stamps,
+        })
     }
 }
 
@@ -115,6 +127,20 @@ impl<B: Body> Kernel<B> {
         let _ = &self.runner;
     }
 
+    /// The actor of the processor of this number, from 1: its running handler, else the task that it runs. None where
+    /// there is no such processor, or it has no actor. The stamp is how many done events ran the processor or left it
+    /// another actor than they found: along one run equal stamps mean the same actor in the same context.
+    pub fn actor(&self, p: u8) -> Option<Actor<B::Ctx>>
+        ensures value { result ≡ actor_in self.now p }
+        ensures entry { IfSome result (λ a. B.has_entry self.now.body a.entry) }
+        ensures context { IfSome result (λ a. B.is_context self.now.body a.entry a.context) }
+    {
+        if p == 0 {
+            return None;
+        }
+        self.runner.actor(p - 1, self.stamps.stamp(p - 1))
+    }
+
     /// One event, while fewer than 2^20 did something: whether it does something. If it does, its lines and the state
     /// after it stand here then; if it does not, nothing has changed. It takes no memory.
     pub fn step(&mut self, e: Event) -> Effect
@@ -125,9 +151,38 @@ impl<B: Body> Kernel<B> {
             ≡ view_after self.old (step self.old.system (B.meaning self.old.body) self.old.bound self.old.world e) }
     {
         let effect = self.runner.react(e);
-        if matches!(&effect, Effect::Done) {
-            self.done += 1;
+        match effect {
+            Effect::Nothing => Effect::Nothing,
+            Effect::Done => {
+                self.done += 1;
+                self.runner.count(&mut self.stamps);
+                Effect::Done
+            }
         }
-        effect
+    }
+
+    /// The run of the processor of this number, from 1, where its actor has made this stretch: as `step` of this run,
+    /// which makes the stretch itself. The stretch is one of the present actor's; where there is none, nothing happens.
+    pub fn apply(&mut self, p: u8, s: Stretch<B::Ctx>) -> Effect
+        requires early { self.old.done < 2 ^ 20 }
+        requires stretch { IsFor B.is_context self.old.body (ending s)
+            (actor_at_number self.old.system self.old.world p) }
+        ensures effect { result
+            ≡ effect_of (applied self.old.system (B.meaning self.old.body) self.old.world p (ending s)) }
+        ensures state { self.new
+            ≡ view_after self.old (applied self.old.system (B.meaning self.old.body) self.old.world p (ending s)) }
+    {
+        if p == 0 {
+            return Effect::Nothing;
+        }
+        let effect = self.runner.apply(p - 1, s);
+        match effect {
+            Effect::Nothing => Effect::Nothing,
+            Effect::Done => {
+                self.done += 1;
+                self.runner.count(&mut self.stamps);
+                Effect::Done
+            }
+        }
     }
 }

@@ -3,16 +3,20 @@
 //! from tasks and from handlers.
 #![tactic(auto)]
 
+pub mod actors;
 mod calls;
 mod contexts;
 mod deliveries;
 mod events;
 mod kept;
 pub mod kernel;
+pub mod laws;
 mod runner;
 mod settling;
+mod stamps;
 mod starting;
 mod ticks;
 
+pub use actors::Actor;
 pub use fmp_body::Body;
 pub use kernel::{Kernel, KernelFault};

@@ -1,19 +1,23 @@
 //! What carries events out: the bodies with their contexts over the tables, and room for the lines of an event.
-ghost use Rattle.std.specs.Prelude.{◌≡◌, ◌+◌, ◌≤◌, ◌<◌, ◌++◌, ◌∷◌, [], length, vec_len, vec_capacity, IfOk, OnSome};
+ghost use Rattle.std.specs.Prelude.{◌≡◌, ◌+◌, ◌≤◌, ◌<◌, ◌^◌, ◌++◌, ◌∷◌, ℕ, [], get_or, length, replicate, vec_len, vec_capacity, IfOk, IfSome};
 ghost use Rattle.fmp_base.specs.Runs.{task_state, state_word as word_of_state};
 ghost use Rattle.fmp_base.specs.Ranges.{IsInRange};
 ghost use Rattle.fmp_base.specs.Setups.{created_state, no_contexts, setup};
 ghost use Rattle.fmp_base.specs.States.{processor_at};
-ghost use Rattle.fmp_base.specs.Steps.{actor_of, finished};
+ghost use Rattle.fmp_base.specs.Steps.{finished};
 ghost use Rattle.fmp_base.specs.Systems.{tables_of};
 ghost use Rattle.fmp_kernel.specs.Contexts.{Entered};
-ghost use Rattle.fmp_kernel.specs.KernelViews.{SameBodies, done_of, progress_of};
+ghost use Rattle.fmp_kernel.specs.KernelViews.{SameBodies, done_of, progress_of, with_stamp};
+ghost use Rattle.fmp_kernel.specs.Stamps.{AreActors, AreCounted};
+ghost use Rattle.fmp_worlds.specs.Stamps.{actor_at, place_run as place_of_lines};
 
+use crate::actors::{Actor, actor_on};
 use crate::contexts::BodyContexts;
-use crate::deliveries::carry_out;
+use crate::deliveries::{carry_out, entry_of};
 use crate::settling::{is_same_task, settle};
+use crate::stamps::{Stamps, place_run};
 use crate::starting::start_active;
-use fmp_base::{Caller, Line, Phase, StateWord, System, TaskState};
+use fmp_base::{Line, Phase, StateWord, System, TaskState};
 use fmp_body::Body;
 use fmp_tasks::Tables;
 use std::alloc::{AllocError, Global};
@@ -148,20 +152,40 @@ impl<B: Body> Runner<B> {
         }
     }
 
-    /// The actor of a processor: its running handler, else the task that it runs, if any.
-    pub fn actor(&self, p: u8) -> Option<Caller>
-        ensures value { result ≡ actor_of (processor_at self.now.world.state p) }
-        ensures there { OnSome result (p < self.now.system.processors) }
+    /// The actor of processor p, with this stamp: none where it has no actor, or one that awaits a reply.
+    #[tactic(auto, using(crate::proofs::ContextLemmas::entry_of, crate::proofs::ContextLemmas::goes_fits))]
+    pub fn actor(&self, p: u8, stamp: u32) -> Option<Actor<B::Ctx>>
+        ensures value { result ≡ with_stamp stamp (actor_at self.now.system self.now.world p) }
+        ensures entry { IfSome result (λ a. B.has_entry self.now.body a.entry) }
+        ensures context { IfSome result (λ a. B.is_context self.now.body a.entry a.context) }
     {
-        if p as usize >= self.tables.processor_count() {
-            return None;
-        }
-        let cpu = self.tables.processor(p);
-        match (cpu.handler, cpu.run) {
-            (Some(h), _) => Some(Caller::Handler(h)),
-            (None, Some(t)) => Some(Caller::Task(t)),
-            (None, None) => None,
-        }
+        let who = actor_on(&self.tables, p)?;
+        let context = self.contexts.going(p, who)?;
+        let entry = entry_of(&self.tables, &self.contexts, p, who);
+        Some(Actor {
+            entry,
+            context: *context,
+            stamp,
+        })
+    }
+
+    /// Stamps 0 of the processors, with the actors that they have. `AllocError` for want of memory.
+    pub fn stamps(&self, alloc: Global) -> Result<Stamps, AllocError>
+        ensures counts { IfOk result (λ s. s.counts ≡ replicate self.now.system.processors 0) }
+        ensures actors { IfOk result (λ s. AreActors s.actors self.now.system.processors self.now.world.state) }
+    {
+        Stamps::new(alloc, &self.tables)
+    }
+
+    /// Counts the event that has just been done.
+    pub fn count(&self, stamps: &mut Stamps)
+        requires many { length stamps.old.counts ≡ self.now.system.processors }
+        requires rows { length stamps.old.actors ≡ self.now.system.processors }
+        requires few { (p : ℕ) → get_or stamps.old.counts p 0 < 2 ^ 20 }
+        ensures counts { AreCounted stamps.old stamps.new self.now.world.state (place_of_lines self.now.lines) }
+        ensures actors { AreActors stamps.new.actors self.now.system.processors self.now.world.state }
+    {
+        stamps.count(&self.tables, place_run(self.lines.as_slice()));
     }
 
     /// Ends an event or setup, of which the first lines are there: those of what it caused follow, all processors

@@ -15,13 +15,13 @@ returns-in-Spins-clause-after g c =
     let k : o.answer ≡ Spins = sym (ap (λ (o : Outcome). o.answer) e) ∙ c.in-Spins.is in
     let same = ap (λ (o : Outcome). o.progress.state) e
     ∙ ap (λ (g : Progress). g.state) (called-spins h.system h.state c.args.p c.args.who c.args.made k) in
-    rw (c.go_on_from.ensures, ← c.self.view_is, k, same) refl
+    rw (c.put.ensures, ← c.self.view_is, k, same) refl
 
 pub invariant_of-self-in-Spins : goal.invariant_of-self-in-Spins
 invariant_of-self-in-Spins g c =
     let cs = c.self.inside.contexts in
     let (room, places, entries, fitting) = c.self.invariant in
-    rw (c.go_on_from.ensures, c.call.ensures.shape.system, c.call.ensures.capacity, c.clear.ensures.capacity) (
+    rw (c.put.ensures, c.call.ensures.shape.system, c.call.ensures.capacity, c.clear.ensures.capacity) (
       room,
       places_set cs c.args.p c.args.who _ places,
       entries,

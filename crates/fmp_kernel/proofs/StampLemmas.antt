@@ -1,0 +1,208 @@
+-- Stamps that are counted once more, and what is seen of a kernel then.
+use Rattle.std.proofs.Common.{◌≡◌, ℕ, zero, suc, ◌+◌, ◌<◌, ◌≤◌, ◌^◌, List, [], ◌∷◌, Option, Some, None, Bool, true, false, ◌||◌, not, nat_lt, nat_eq, length, map, replicate, get_or, refl, sym, subst, ap, ◌∙◌, arith, get_or-set_other, get_or-set_same}
+use Rattle.std.proofs.Math.ListN.{get_or-eq_default, length-set}
+use Rattle.std.proofs.lemmas.Bool.{eqb-true}
+use Rattle.std.proofs.lemmas.Bool.Decides.{nat_tests}
+use Rattle.std.proofs.lemmas.List.{ext_get_or, length-replicate}
+use Rattle.fmp_base.specs.declared.events.Effect.TheVariants as effect
+use Rattle.fmp_base.specs.declared.events.Event.{Event}
+use Rattle.fmp_base.specs.declared.events.Line.{Line}
+use Rattle.fmp_base.specs.declared.states.Caller.{Caller}
+use Rattle.fmp_base.specs.Meanings.{Meaning}
+use Rattle.fmp_base.specs.Settles.{is_same_task}
+use Rattle.fmp_base.specs.Setups.{setup}
+use Rattle.fmp_base.specs.States.{KernelState, processor_at, places_from}
+use Rattle.fmp_base.specs.Steps.{Done, Reaction, Nothing, Did, effect_of, actor_of, step}
+use Rattle.fmp_base.specs.Systems.{SystemTables}
+use Rattle.fmp_worlds.specs.Stamps.{counts as counts_for, is_same_actor, one_if, place_run, run_place, stamp, stamp_on}
+use Rattle.fmp_kernel.specs.KernelViews.{RunnerView, KernelView, SameBodies, done_of, done_or, kernel_of, view_after, view_after_all, view_of_setup}
+use Rattle.fmp_kernel.proofs.FrontLemmas.{Names, step_names}
+use Rattle.fmp_kernel.specs.Stamps.{StampRows, AreActors, AreCounted, AreStamps, Walked, noted, stamped}
+
+get-places : (f : ℕ → ℕ) (k n i : ℕ) → i < n → get_or (map f (places_from k n)) i 0 ≡ f (k + i)
+get-places f k zero i h = absurd (omega (arith, h))
+get-places f k (suc n) zero h = let e : k ≡ k + 0 = omega arith in ap f e
+get-places f k (suc n) (suc i) h =
+    let e : k + 1 + i ≡ k + suc i = omega arith in
+    get-places f (k + 1) n i (omega (arith, h)) ∙ ap f e
+
+get_or-same : (n i k : ℕ) → get_or (replicate n k) i k ≡ k
+get_or-same zero i k = refl
+get_or-same (suc n) zero k = refl
+get_or-same (suc n) (suc i) k = get_or-same n i k
+
+length-places : (f : ℕ → ℕ) (k n : ℕ) → length (map f (places_from k n)) ≡ n
+length-places f k zero = refl
+length-places f k (suc n) = let h = length-places f (k + 1) n in omega (arith, h)
+
+-- the stamps that were counted are those after the event
+pub stamped_is : (old new : StampRows) (processors done : ℕ) (s u : KernelState) (lines : List Line) → AreStamps old processors s done
+    → AreCounted old new u (place_run lines) → new.counts ≡ stamped lines s u old.counts
+stamped_is old new processors done s u lines a c =
+    ext_get_or 0 new.counts (stamped lines s u old.counts) (c.long ∙ sym (length-places f 0 (length old.counts))) each where
+      f : ℕ → ℕ
+      f p = get_or old.counts p 0 + one_if (counts_for (place_run lines) s u p)
+
+      by_actor : ℕ → Option Caller → ℕ
+      by_actor i o = get_or old.counts i 0 + one_if (is_same_task (place_run lines) (Some i) || not (is_same_actor o (actor_of (processor_at u i))))
+
+      each : (i : ℕ) → i < length new.counts → get_or new.counts i 0 ≡ get_or (map f (places_from 0 (length old.counts))) i 0
+      each i l =
+          let inside : i < length old.counts = omega (arith, l, c.long) in
+          let e : 0 + i ≡ i = omega arith in
+          c.each i inside ∙ ap (by_actor i) (a.actors.each i (omega (arith, inside, a.many))) ∙ sym (get-places f 0 (length old.counts) i inside ∙ ap f e)
+
+-- one more processor is counted
+pub walked_on : (old r : StampRows) (s : KernelState) (ran : Option ℕ) (p : ℕ) (actor : Option Caller) (b : Bool) → p < length r.counts
+    → p < length r.actors → b ≡ is_same_task ran (Some p) → actor ≡ actor_of (processor_at s p) → Walked old r s ran p
+    → Walked old (noted r p actor b) s ran (p + 1)
+walked_on old r s ran p actor b l m e f w = record {
+  counts_long = length-set _ _ _ ∙ w.counts_long;
+  actors_long = length-set _ _ _ ∙ w.actors_long;
+  counts_left = λ q h. get_or-set_other r.counts p q _ 0 (λ (z : q ≡ p). absurd (omega (arith, h, z))) ∙ w.counts_left q (omega (arith, h));
+  actors_left = λ q h. get_or-set_other r.actors p q actor None (λ (z : q ≡ p). absurd (omega (arith, h, z))) ∙ w.actors_left q (omega (arith, h));
+  counted = λ q h. count_at q h (nat_eq q p) refl;
+  now = λ q h. actor_now q h (nat_eq q p) refl;
+} where
+  value : Bool → Option Caller → Option Caller → ℕ
+  value ran_it before after = get_or old.counts p 0 + one_if (ran_it || not (is_same_actor before after))
+
+  here : get_or (noted r p actor b).counts p 0 ≡ value (is_same_task ran (Some p)) (get_or old.actors p None) (actor_of (processor_at s p))
+  here =
+      get_or-set_same r.counts p _ 0 l
+      ∙ ap (λ (n : ℕ). n + one_if (b || not (is_same_actor (get_or r.actors p None) actor))) (w.counts_left p (omega arith))
+      ∙ ap (λ (o : Option Caller). value b o actor) (w.actors_left p (omega arith))
+      ∙ ap (λ (c : Bool). value c (get_or old.actors p None) actor) e
+      ∙ ap (λ (o : Option Caller). value (is_same_task ran (Some p)) (get_or old.actors p None) o) f
+
+  count_at : (q : ℕ) → q < p + 1 → (t : Bool) → nat_eq q p ≡ t
+      → get_or (noted r p actor b).counts q 0
+      ≡ get_or old.counts q 0 + one_if (is_same_task ran (Some q) || not (is_same_actor (get_or old.actors q None) (actor_of (processor_at s q))))
+  count_at q h true t =
+      subst (λ (v : ℕ). get_or (noted r p actor b).counts v 0 ≡ get_or old.counts v 0 + one_if (is_same_task ran (Some v) || not (is_same_actor (get_or old.actors v None) (actor_of (processor_at s v)))))
+      (sym (eqb-true q p t)) here
+  count_at q h false t =
+      get_or-set_other r.counts p q _ 0 (λ (z : q ≡ p). absurd (grind (arith, nat_tests, z, t)))
+      ∙ w.counted q (grind (arith, nat_tests, h, t))
+
+  actor_now : (q : ℕ) → q < p + 1 → (t : Bool) → nat_eq q p ≡ t
+      → get_or (noted r p actor b).actors q None ≡ actor_of (processor_at s q)
+  actor_now q h true t =
+      subst (λ (v : ℕ). get_or (noted r p actor b).actors v None ≡ actor_of (processor_at s v)) (sym (eqb-true q p t))
+      (get_or-set_same r.actors p actor None m ∙ f)
+  actor_now q h false t =
+      get_or-set_other r.actors p q actor None (λ (z : q ≡ p). absurd (grind (arith, nat_tests, z, t)))
+      ∙ w.now q (grind (arith, nat_tests, h, t))
+
+small : (b : Bool) → one_if b ≤ 1
+small true = omega arith
+small false = omega arith
+
+-- stamps that are all 0, beside the actors of a state
+pub stamps_begin : (r : StampRows) (processors : ℕ) (s : KernelState) → r.counts ≡ replicate processors 0 → AreActors r.actors processors s
+    → AreStamps r processors s 0
+stamps_begin r processors s e a =
+    record { many = ap (λ (xs : List ℕ). length xs) e ∙ length-replicate processors 0; actors = a; few = none } where
+      none : (p : ℕ) → get_or r.counts p 0 ≤ 0
+      none p =
+          let zero_here : ℕ = 0 in
+          let h : get_or r.counts p 0 ≡ zero_here = ap (λ (xs : List ℕ). get_or xs p 0) e ∙ get_or-same processors p 0 in
+          omega (arith, h)
+
+pub below : (r : StampRows) (processors done : ℕ) (s : KernelState) → AreStamps r processors s done → done < 2 ^ 20 → (p : ℕ)
+    → get_or r.counts p 0 < 2 ^ 20
+below r processors done s a l p = let h = a.few p in omega (arith, h, l)
+
+pub stamps_after : (old new : StampRows) (processors done : ℕ) (s u : KernelState) (ran : Option ℕ) → AreStamps old processors s done
+    → AreCounted old new u ran → AreActors new.actors processors u → AreStamps new processors u (done + 1)
+stamps_after old new processors done s u ran a c b =
+    record { many = c.long ∙ a.many; actors = b; few = λ p. by_test p (nat_lt p (length old.counts)) refl } where
+      by_test : (p : ℕ) (t : Bool) → nat_lt p (length old.counts) ≡ t → get_or new.counts p 0 ≤ done + 1
+      by_test p true e =
+          let l : p < length old.counts = grind (arith, nat_tests, e) in
+          let h = c.each p l in
+          let k = a.few p in
+          let one = small (is_same_task ran (Some p) || not (is_same_actor (get_or old.actors p None) (actor_of (processor_at u p)))) in
+          omega (arith, h, k, one)
+      by_test p false e =
+          let l : length new.counts ≤ p = grind (arith, nat_tests, e, c.long) in
+          let h = get_or-eq_default new.counts 0 l in
+          omega (arith, h)
+
+-- a kernel by what its last event left
+abbrev made : {B C : Type 0} → B → ℕ → SystemTables → Done C → List ℕ → ℕ → KernelView B C
+made body bound system d stamps done =
+    record { body = body; bound = bound; system = system; world = d.world; lines = d.lines; done = done; stamps = stamps }
+
+same_made : {B C : Type 0} (old new : RunnerView B C) (d : Done C) (stamps : List ℕ) (n : ℕ) → SameBodies old new → done_of new ≡ d
+    → kernel_of new stamps n ≡ made old.body old.bound old.system d stamps n
+same_made {B} {C} old new d stamps n b h =
+    ap (λ (x : B). made x new.bound new.system (done_of new) stamps n) b.body
+    ∙ ap (λ (x : ℕ). made old.body x new.system (done_of new) stamps n) b.bound
+    ∙ ap (λ (x : SystemTables). made old.body old.bound x (done_of new) stamps n) b.system
+    ∙ ap (λ (x : Done C). made old.body old.bound old.system x stamps n) h
+
+-- what is seen of a kernel after an event that is done
+pub view_done : {B C : Type 0} (x : Reaction C) (old new : RunnerView B C) (stamps later : List ℕ) (n : ℕ) → effect.Done ≡ effect_of x
+    → done_of new ≡ done_or (done_of old) x → SameBodies old new → later ≡ stamped new.lines old.world.state new.world.state stamps
+    → kernel_of new later (n + 1) ≡ view_after (kernel_of old stamps n) x
+view_done Nothing old new stamps later n e h b k = absurd (cc)
+view_done {B} {C} (Did d) old new stamps later n e h b k =
+    let same : later ≡ stamped d.lines old.world.state d.world.state stamps =
+    k ∙ ap (λ (f : Done C). stamped f.lines old.world.state f.world.state stamps) h in
+    same_made old new d later (n + 1) b h
+    ∙ ap (λ (l : List ℕ). made old.body old.bound old.system d l (n + 1)) same
+
+-- and after one that did nothing
+pub view_same : {B C : Type 0} (x : Reaction C) (old new : RunnerView B C) (stamps : List ℕ) (n : ℕ) → effect.Nothing ≡ effect_of x
+    → done_of new ≡ done_or (done_of old) x → SameBodies old new → kernel_of new stamps n ≡ kernel_of old stamps n
+view_same Nothing old new stamps n e h b = same_made old new (done_of old) stamps n b h
+view_same (Did d) old new stamps n e h b = absurd (cc)
+
+view_nothing_by : {B C : Type 0} (x : Reaction C) (k : KernelView B C) → effect.Nothing ≡ effect_of x → k ≡ view_after k x
+view_nothing_by Nothing k e = refl
+view_nothing_by (Did d) k e = absurd (cc)
+
+pub view_nothing : {B C : Type 0} (x : Reaction C) (old new : RunnerView B C) (stamps : List ℕ) (n : ℕ) → effect.Nothing ≡ effect_of x
+    → done_of new ≡ done_or (done_of old) x → SameBodies old new → kernel_of new stamps n ≡ view_after (kernel_of old stamps n) x
+view_nothing x old new stamps n e h b = view_same x old new stamps n e h b ∙ view_nothing_by x (kernel_of old stamps n) e
+
+-- the stamp of a processor after events counts those that ran it or left it another actor
+more_counted : {B C : Type 0} (meaning : B → Meaning C) (k : KernelView B C) (e : Event) (es : List Event) (p : ℕ) (r : Reaction C) → p < length k.stamps
+    → Names (run_place e) r
+    → ((v : KernelView B C) → p < length v.stamps
+    → get_or (view_after_all meaning v es).stamps p 0 ≡ get_or v.stamps p 0 + stamp v.system (meaning v.body) v.bound v.world es p)
+    → get_or (view_after_all meaning (view_after k r) es).stamps p 0
+    ≡ get_or k.stamps p 0 + stamp_on e k.world r p (λ v. stamp k.system (meaning k.body) k.bound v es p)
+more_counted meaning k e es p Nothing h n ih = ih k h
+more_counted {B} {C} meaning k e es p (Did d) h n ih =
+    let after : List ℕ = stamped d.lines k.world.state d.world.state k.stamps in
+    let f : ℕ → ℕ = λ q. get_or k.stamps q 0 + one_if (counts_for (place_run d.lines) k.world.state d.world.state q) in
+    let long : length after ≡ length k.stamps = length-places f 0 (length k.stamps) in
+    let next = ih (view_after k (Did d)) (omega (arith, h, long)) in
+    let z : 0 + p ≡ p = omega arith in
+    let here : get_or after p 0 ≡ get_or k.stamps p 0 + one_if (counts_for (run_place e) k.world.state d.world.state p) =
+    get-places f 0 (length k.stamps) p h ∙ ap f z
+    ∙ ap (λ (o : Option ℕ). get_or k.stamps p 0 + one_if (counts_for o k.world.state d.world.state p)) n in
+    let rest : ℕ = stamp k.system (meaning k.body) k.bound d.world es p in
+    let sum : get_or (view_after_all meaning (view_after k (Did d)) es).stamps p 0 ≡ get_or after p 0 + rest = next in
+    omega (arith, sum, here)
+
+pub all_counted : {B C : Type 0} (meaning : B → Meaning C) (k : KernelView B C) (es : List Event) (p : ℕ) → p < length k.stamps
+    → get_or (view_after_all meaning k es).stamps p 0 ≡ get_or k.stamps p 0 + stamp k.system (meaning k.body) k.bound k.world es p
+all_counted meaning k [] p h = omega arith
+all_counted meaning k (e ∷ es) p h =
+    more_counted meaning k e es p (step k.system (meaning k.body) k.bound k.world e) h
+    (step_names k.system (meaning k.body) k.bound k.world e) (λ v l. all_counted meaning v es p l)
+
+-- the same from setup, where all are 0
+pub counted_from_setup : {B C : Type 0} (meaning : B → Meaning C) (body : B) (n : ℕ) (sys : SystemTables) (es : List Event) (p : ℕ) → p < sys.processors
+    → get_or (view_after_all meaning (view_of_setup body n sys (setup sys (meaning body))) es).stamps p 0
+    ≡ stamp sys (meaning body) n (setup sys (meaning body)).world es p
+counted_from_setup meaning body n sys es p h =
+    let zeros : List ℕ = replicate sys.processors 0 in
+    let long : length zeros ≡ sys.processors = length-replicate sys.processors 0 in
+    let none : ℕ = 0 in
+    let zero_at : get_or zeros p 0 ≡ none = get_or-same sys.processors p 0 in
+    let all = all_counted meaning (view_of_setup body n sys (setup sys (meaning body))) es p (omega (arith, h, long)) in
+    omega (arith, all, zero_at)

@@ -1,0 +1,18 @@
+use Rattle.std.proofs.Common.{Some}
+use Rattle.fmp_base.specs.declared.bodies.Held.TheVariants.{Awaits, Goes}
+use Rattle.fmp_kernel.proofs.ContextLemmas.{fitting_set, has_context, places_set}
+use Rattle.fmp_kernel.proofs.runner.Runner.take.Goals as goal
+
+pub invariant_of-self : goal.invariant_of-self
+invariant_of-self g c =
+    let cs = c.self.inside.contexts in
+    let (room, places, entries, fitting) = c.self.invariant in
+    let goes = rw (← c.self.view_is) at c.requires.goes in
+    let fits = rw (← c.self.view_is, c.in-Call.is) at c.requires.context in
+    rw c.put.ensures (
+      room,
+      places_set cs c.args.p c.args.who _ places,
+      entries,
+      fitting_set cs c.args.p c.args.who (Some (Awaits c.in-Call.context)) fitting
+          (λ t. has_context cs c.args.p c.args.who (Goes c.args.first.now) goes) fits,
+    )

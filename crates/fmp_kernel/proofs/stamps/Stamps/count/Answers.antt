@@ -1,0 +1,20 @@
+use Rattle.std.proofs.Common.{◌∙◌, arith}
+use Rattle.fmp_kernel.proofs.StampLemmas.{walked_on}
+use Rattle.fmp_kernel.proofs.stamps.Stamps.count.Goals as goal
+
+pub loop-p-preserved : goal.loop-p-preserved
+loop-p-preserved c =
+    let i = c.loop-p.invariant in
+    rw c.note.ensures
+    (walked_on c.args.self.now c.loop-p.self c.args.tables.now.state c.args.ran c.loop-p.p c.actor_on.result c.is_same_task.result
+    (omega (arith, c.loop-p-test.true, c.processor_count-count.ensures.system, c.requires.many, i.counts_long))
+    (omega (arith, c.loop-p-test.true, c.processor_count-count.ensures.system, c.requires.rows, i.actors_long))
+    c.is_same_task.ensures c.actor_on.ensures.value i)
+
+pub returns-clause-actors : goal.returns-clause-actors
+returns-clause-actors c =
+    let i = c.loop-p.invariant in
+    record {
+      long = i.actors_long ∙ c.requires.rows;
+      each = λ p h. i.now p (omega (arith, h, c.loop-p-test.false, c.processor_count-count.ensures.system));
+    }

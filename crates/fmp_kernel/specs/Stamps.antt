@@ -1,0 +1,60 @@
+-- The stamps of the processors beside the actors that they were counted for.
+use Rattle.std.specs.Prelude.{◌≡◌, ℕ, ◌+◌, ◌<◌, ◌≤◌, List, Option, Some, None, Bool, ◌||◌, not, get_or, length, map, slice_set}
+use Rattle.fmp_base.specs.declared.events.Line.{Line}
+use Rattle.fmp_base.specs.declared.states.Caller.{Caller}
+use Rattle.fmp_base.specs.Settles.{is_same_task}
+use Rattle.fmp_base.specs.States.{KernelState, processor_at, places_from}
+use Rattle.fmp_base.specs.Steps.{actor_of}
+use Rattle.fmp_worlds.specs.Stamps.{counts as counts_for, is_same_actor, one_if, place_run}
+
+-- by the place of a processor: its actor, and its stamp
+pub record StampRows : Type 0 where
+  pub actors : List (Option Caller)
+  pub counts : List ℕ
+
+-- p has this actor now, and is counted where it ran or had another one
+abbrev pub noted : StampRows → ℕ → Option Caller → Bool → StampRows
+noted r p actor ran =
+    record {
+      actors = slice_set r.actors p actor;
+      counts = slice_set r.counts p
+          (get_or r.counts p 0 + one_if (ran || not (is_same_actor (get_or r.actors p None) actor)));
+    }
+
+-- the actors of so many processors in a state
+pub record AreActors (actors : List (Option Caller)) (processors : ℕ) (s : KernelState) : Type 0 where
+  pub long : length actors ≡ processors
+  pub each : (p : ℕ) → p < processors → get_or actors p None ≡ actor_of (processor_at s p)
+
+-- each processor was counted where it ran or has another actor in s
+pub record AreCounted (old new : StampRows) (s : KernelState) (ran : Option ℕ) : Type 0 where
+  pub long : length new.counts ≡ length old.counts
+  pub each :
+      (p : ℕ) → p < length old.counts →
+      get_or new.counts p 0
+      ≡ get_or old.counts p 0 + one_if (is_same_task ran (Some p)
+      || not (is_same_actor (get_or old.actors p None) (actor_of (processor_at s p))))
+
+-- the rows from which the processors below p were counted
+pub record Walked (old r : StampRows) (s : KernelState) (ran : Option ℕ) (p : ℕ) : Type 0 where
+  pub counts_long : length r.counts ≡ length old.counts
+  pub actors_long : length r.actors ≡ length old.actors
+  pub counts_left : (q : ℕ) → p ≤ q → get_or r.counts q 0 ≡ get_or old.counts q 0
+  pub actors_left : (q : ℕ) → p ≤ q → get_or r.actors q None ≡ get_or old.actors q None
+  pub counted :
+      (q : ℕ) → q < p →
+      get_or r.counts q 0
+      ≡ get_or old.counts q 0 + one_if (is_same_task ran (Some q)
+      || not (is_same_actor (get_or old.actors q None) (actor_of (processor_at s q))))
+  pub now : (q : ℕ) → q < p → get_or r.actors q None ≡ actor_of (processor_at s q)
+
+-- the stamps after a done event of these lines that led from s to u
+abbrev pub stamped : List Line → KernelState → KernelState → List ℕ → List ℕ
+stamped lines s u stamps =
+    map (λ p. get_or stamps p 0 + one_if (counts_for (place_run lines) s u p)) (places_from 0 (length stamps))
+
+-- a stamp for each processor, with the actors of the state, and none above the number of done events
+pub record AreStamps (r : StampRows) (processors : ℕ) (s : KernelState) (done : ℕ) : Type 0 where
+  pub many : length r.counts ≡ processors
+  pub actors : AreActors r.actors processors s
+  pub few : (p : ℕ) → get_or r.counts p 0 ≤ done

@@ -1,0 +1,117 @@
+//! The stamps of the processors: how many done events ran a processor or left it another actor.
+ghost use Rattle.std.specs.Prelude.{◌≡◌, ◌+◌, ◌<◌, ◌^◌, ◌||◌, ℕ, Some, None, length, get_or, not, replicate, slice_set, IfOk};
+ghost use Rattle.fmp_base.specs.Settles.{is_same_task as is_same_place};
+ghost use Rattle.fmp_base.specs.States.{processor_at};
+ghost use Rattle.fmp_base.specs.Steps.{actor_of};
+ghost use Rattle.fmp_kernel.specs.Stamps.{AreActors, AreCounted, noted};
+ghost use Rattle.fmp_worlds.specs.Stamps.{place_of as place_of_line, place_run as place_of_lines};
+
+use crate::actors::{actor_on, is_same_actor};
+use crate::settling::is_same_task;
+use fmp_base::{Caller, Line};
+use fmp_tasks::Tables;
+use std::alloc::{AllocError, Global};
+use std::marker::Model;
+
+/// For each processor the actor that it had after the last done event, and its stamp.
+#[derive(Drop)]
+pub struct Stamps {
+    actors: Vec<Option<Caller>>,
+    counts: Vec<u32>,
+}
+
+impl Model for Stamps {
+    ghost use Rattle.std.specs.Prelude.{◌≡◌, length};
+    ghost use Rattle.fmp_kernel.specs.Stamps.{StampRows};
+
+    ghost Value = { StampRows };
+
+    ghost view = { λ a. record { actors = a.actors.items; counts = a.counts.items } };
+
+    ghost invariant = { λ a. length a.actors.items ≡ length a.counts.items };
+}
+
+/// The processor whose actor made a line, if any.
+fn place_of(line: Line) -> Option<u8>
+    ensures { result ≡ place_of_line line }
+{
+    match line {
+        Line::Call { processor, .. } => Some(processor),
+        Line::End { processor, .. } => Some(processor),
+        Line::Fault { processor, .. } => Some(processor),
+        _ => None,
+    }
+}
+
+/// The processor that a done event ran, if any, by its lines.
+pub fn place_run(lines: &[Line]) -> Option<u8>
+    ensures { result ≡ place_of_lines lines.now }
+{
+    match lines.first() {
+        Some(line) => place_of(*line),
+        None => None,
+    }
+}
+
+/// The actors of all processors.
+fn actors(alloc: Global, tables: &Tables) -> Result<Vec<Option<Caller>>, AllocError>
+    ensures { IfOk result (λ v. AreActors v.items tables.now.system.processors tables.now.state) }
+{
+    let count = tables.processor_count() as u8;
+    let mut actors = Vec::with_capacity(alloc, count as usize)?;
+    for p in 0..count {
+        actors.push_reserved(actor_on(tables, p));
+    }
+    Ok(actors)
+}
+
+impl Stamps {
+    /// Stamps 0 of the processors, with the actors that they have. `AllocError` for want of memory.
+    pub fn new(alloc: Global, tables: &Tables) -> Result<Stamps, AllocError>
+        ensures counts { IfOk result (λ s. s.counts ≡ replicate tables.now.system.processors 0) }
+        ensures actors { IfOk result (λ s. AreActors s.actors tables.now.system.processors tables.now.state) }
+    {
+        let actors = actors(alloc, tables)?;
+        let counts = vec![in alloc; 0u32; tables.processor_count()]?;
+        Ok(Stamps { actors, counts })
+    }
+
+    /// The stamp of processor p, or 0 where there is none.
+    pub fn stamp(&self, p: u8) -> u32
+        ensures { result ≡ get_or self.now.counts p 0 }
+    {
+        match self.counts.get(p as usize) {
+            Some(stamp) => *stamp,
+            None => 0,
+        }
+    }
+
+    /// Processor p has this actor now, and a done event ran it or did not.
+    fn note(&mut self, p: u8, actor: Option<Caller>, ran: bool)
+        requires there { p < length self.old.counts }
+        requires few { get_or self.old.counts p 0 < 2 ^ 20 }
+        ensures { self.new ≡ noted self.old p actor ran }
+    {
+        let more = if ran || !is_same_actor(self.actors[p as usize], actor) {
+            1
+        } else {
+            0
+        };
+        self.actors[p as usize] = actor;
+        self.counts[p as usize] += more;
+    }
+
+    /// Counts a done event for the processor that it ran, if any, and for each that has another actor now.
+    pub fn count(&mut self, tables: &Tables, ran: Option<u8>)
+        requires many { length self.old.counts ≡ tables.now.system.processors }
+        requires rows { length self.old.actors ≡ tables.now.system.processors }
+        requires few { (p : ℕ) → get_or self.old.counts p 0 < 2 ^ 20 }
+        ensures counts { AreCounted self.old self.new tables.now.state ran }
+        ensures actors { AreActors self.new.actors tables.now.system.processors tables.now.state }
+    {
+        let count = tables.processor_count() as u8;
+        for p in 0..count {
+            self.note(p, actor_on(tables, p), is_same_task(ran, Some(p)));
+        }
+    }
+}
