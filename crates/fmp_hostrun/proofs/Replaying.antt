@@ -11,13 +11,21 @@ use Rattle.fmp_code.specs.Instructions.{BodyTables}
 use Rattle.fmp_code.specs.Machine.{code_meaning}
 use Rattle.fmp_image.specs.Images.{ImageTables}
 use Rattle.fmp_kernel.specs.KernelViews.{KernelView, done_or, view_after, view_of_setup}
-use Rattle.fmp_hostrun.specs.Replays.{IsLegal, done_after, kernel_after, reaction, replay}
+use Rattle.fmp_kernel.specs.Stamps.{stamped}
+use Rattle.fmp_hostrun.specs.Replays.{IsLegal, done_after, kernel_after, reaction, replay, stamps_after, stamps_on, stamps_or}
 
 module _ {C : Type 0} (sys : SystemTables) (M : Meaning C) (bound : ℕ) where
   after_last : (d : Done C) (es : List Event) (e : Event)
       → done_after sys M bound d (es ++ e ∷ []) ≡ done_or (done_after sys M bound d es) (step sys M bound (done_after sys M bound d es).world e)
   after_last d [] e = refl
   after_last d (x ∷ es) e = after_last (done_or d (step sys M bound d.world x)) es e
+
+  stamps_last : (d : Done C) (stamps : List ℕ) (es : List Event) (e : Event)
+      → stamps_on sys M bound d stamps (es ++ e ∷ [])
+      ≡ stamps_or (done_after sys M bound d es) (step sys M bound (done_after sys M bound d es).world e) (stamps_on sys M bound d stamps es)
+  stamps_last d stamps [] e = refl
+  stamps_last d stamps (x ∷ es) e =
+      stamps_last (done_or d (step sys M bound d.world x)) (stamps_or d (step sys M bound d.world x) stamps) es e
 
   on_first : (d : Done C) (x : Event) (es : List Event) (e : Event) (r : Reaction C)
       → ((n : Done C) → done_events sys M bound n.world (es ++ e ∷ []) ≡ done_events sys M bound n.world es ++ done_events sys M bound (done_after sys M bound n es).world (e ∷ []))
@@ -40,7 +48,7 @@ module _ {C : Type 0} (sys : SystemTables) (M : Meaning C) (bound : ℕ) where
 
 -- the kernel after setup is the replay of no event
 pub setup_replays : (i : ImageTables) (n : ℕ) → view_of_setup i.code n i.system (setup i.system (code_meaning i.code)) ≡ kernel_after i n []
-unfolding replay
+unfolding replay stamps_after
 setup_replays i n = refl
 
 pub begun : (i : ImageTables) (n : ℕ) (code : List BodyTables) (system : SystemTables) (k : KernelView (List BodyTables) MachineContext) → code ≡ i.code → system ≡ i.system
@@ -64,6 +72,12 @@ pub replay_last : (i : ImageTables) (n : ℕ) (es : List Event) (e : Event) → 
 unfolding replay reaction
 replay_last i n es e = after_last i.system (code_meaning i.code) n (setup i.system (code_meaning i.code)) es e
 
+pub stamps_follow : (i : ImageTables) (n : ℕ) (es : List Event) (e : Event)
+    → stamps_after i n (es ++ e ∷ []) ≡ stamps_or (replay i n es) (reaction i n es e) (stamps_after i n es)
+unfolding replay reaction stamps_after
+stamps_follow i n es e =
+    stamps_last i.system (code_meaning i.code) n (setup i.system (code_meaning i.code)) _ es e
+
 pub legal_last : (i : ImageTables) (n : ℕ) (es : List Event) (e : Event) (d : Done MachineContext) → IsLegal i n es → reaction i n es e ≡ Did d
     → IsLegal i n (es ++ e ∷ [])
 unfolding replay reaction
@@ -76,6 +90,11 @@ pub kernel_last : (i : ImageTables) (n : ℕ) (es : List Event) (e : Event) (d :
 kernel_last i n es e d h =
     let now : replay i n (es ++ e ∷ []) ≡ d = replay_last i n es e ∙ ap (λ (r : Reaction MachineContext). done_or (replay i n es) r) h in
     let more : length es + 1 ≡ length (es ++ e ∷ []) = omega (arith, length-append es (e ∷ [])) in
-    let with : Done MachineContext → ℕ → KernelView (List BodyTables) MachineContext =
-    λ v k. record { body = i.code; bound = n; system = i.system; world = v.world; lines = v.lines; done = k } in
-    ap (λ (v : Done MachineContext). with v (length es + 1)) (sym now) ∙ ap (λ (k : ℕ). with (replay i n (es ++ e ∷ [])) k) more
+    let next : List ℕ = stamped d.lines (replay i n es).world.state d.world.state (stamps_after i n es) in
+    let stamps : stamps_after i n (es ++ e ∷ []) ≡ next
+        = stamps_follow i n es e ∙ ap (λ (r : Reaction MachineContext). stamps_or (replay i n es) r (stamps_after i n es)) h in
+    let with : Done MachineContext → ℕ → List ℕ → KernelView (List BodyTables) MachineContext =
+    λ v k s. record { body = i.code; bound = n; system = i.system; world = v.world; lines = v.lines; done = k; stamps = s } in
+    ap (λ (v : Done MachineContext). with v (length es + 1) next) (sym now)
+    ∙ ap (λ (k : ℕ). with (replay i n (es ++ e ∷ [])) k next) more
+    ∙ ap (λ (s : List ℕ). with (replay i n (es ++ e ∷ [])) (length (es ++ e ∷ [])) s) (sym stamps)
