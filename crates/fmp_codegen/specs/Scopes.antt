@@ -12,8 +12,10 @@ use Rattle.fmp_codegen.specs.Numbers.{number_of}
 
 abbrev pub scope_view : Names → Scope
 scope_view n =
-    record
-    { objects = object_names (tables_of n.objects.system.now); variables = exinf_name ∷ map (λ w. w.name) n.variables.now }
+    record {
+      objects = object_names (tables_of n.objects.system.now);
+      variables = exinf_name ∷ map (λ w. w.name) n.variables.now;
+    }
 
 abbrev pub meaning_view : Meaning → NameMeaning
 meaning_view (meaning.Variable v) = Variable v
@@ -23,7 +25,8 @@ meaning_view meaning.Unknown = Unknown
 -- each name has the number of its object
 pub record HoldsNumbers (o : Objects) : Type 0 where
   pub held :
-      (name : Name) → number_of o.numbers.now name ≡ object_number (name_text name) (object_names (tables_of o.system.now))
+      (name : Name) →
+      number_of o.numbers.now name ≡ object_number (name_text name) (object_names (tables_of o.system.now))
 
 -- each object is found by its name, and a number of 8 bits is enough for the place of each local
 pub record IsHeld (n : Names) : Type 0 where

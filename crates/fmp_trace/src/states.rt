@@ -6,7 +6,9 @@ ghost use Rattle.fmp_trace.specs.Fronts.{Begins};
 ghost use Rattle.fmp_trace.specs.ListedStates.{listed_states_text, ListedStatesAreStates};
 
 use crate::names::append_name_at;
-use crate::texts::{LineBytes, ROOM, append, append_array, append_line, append_number, append_processor};
+use crate::texts::{
+    LineBytes, ROOM, append, append_array, append_line, append_number, append_processor,
+};
 use fmp_base::{StateWord, System, TaskState};
 use std::alloc::AllocError;
 
