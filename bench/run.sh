@@ -105,6 +105,16 @@ arithmetic() {
     echo 'run 1' > arithmetic.steps
 }
 
+# So many processors that share nothing: each has a task that counts to 500 between two calls.
+turns_by_threads=16000
+apart() { # apart PROCESSORS
+    awk -v processors="$1" 'BEGIN {
+        print "NUM_PRC(" processors ");"
+        for (p = 1; p <= processors; p++)
+            printf "CLASS(TCL_%d) { CRE_TSK(T%d,{TA_ACT,0,t,10,256,NULL}); }\n", p, p }' > "apart$1.cfg"
+    echo 'task t { var i; while (1) { i = 0; while (i < 500) { i = i + 1; } put(i); } }' > "apart$1.src"
+}
+
 # A text of so many bodies, each of just under 256 KiB, and no steps.
 text() {
     echo 'CRE_TSK(T,{TA_ACT,0,b0,10,256,NULL});' | configuration > "text$1.cfg"
@@ -191,6 +201,7 @@ row() {
 }
 
 build() { "$fmp" build "$1.cfg" "$1.src" "$1.img" > output; }
+host() { best 1 "$fmp" host "apart$1.img" "apart$1.steps" --turns $((turns_by_threads / $1)) --ticks 0; }
 simulate() { best 1 "$fmp" sim "$1.img" "$1.steps" --bound 281474976710656; }
 
 # The rows of texts without steps: they are checked, built, and their image is loaded.
@@ -215,6 +226,12 @@ done
 arithmetic
 build arithmetic
 row '`sim`: arithmetic' instructions $((15 * turns)) "$(simulate arithmetic)"
+for processors in 1 2 4 8; do
+    apart $processors
+    build apart$processors
+    row "\`host\`: processors that share nothing, $processors" events $turns_by_threads "$(host $processors)"
+    row '`sim`: its journal' events $turns_by_threads "$(simulate apart$processors)"
+done
 statements
 texts statements 'texts of all statements'
 objects

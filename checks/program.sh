@@ -92,6 +92,21 @@ run 'sim' 0 a.trace none sim a.img c.steps
 run 'sim at bound 2' 0 a.trace none sim a.img c.steps --bound 2
 run 'sim at bound 1' 0 a.setup none sim --bound=1 a.img c.steps
 run 'sim without events' 0 a.setup none sim a.img none
+# one processor makes the same journal each time: its turns that do something
+printf 'run 1\nrun 1\n' > host.want
+printf 'tick\ntick\n' > ticks.want
+printf '0 p1 T1 starts\n0 p1 > T1\n1 tick 1\n2 tick 2\nT1 RUNNING p1 10\n' > ticks.trace
+cp long.img host.journal
+run 'host' 0 a.trace none host a.img host.journal --turns 3 --ticks 0
+same 'the journal, over a longer file' host.want host.journal
+run 'sim of the journal' 0 a.trace none sim a.img host.journal
+run 'host at bound 2' 0 a.trace none host --bound=2 a.img host.journal --ticks=0 --turns=2
+same 'the journal at bound 2' host.want host.journal
+run 'host at bound 1' 0 a.setup none host a.img host.journal --turns 3 --ticks 0 --bound 1
+same 'the journal at bound 1' none host.journal
+run 'host of ticks alone' 0 ticks.trace none host a.img host.journal --turns 0 --ticks 2
+same 'the journal of ticks' ticks.want host.journal
+same 'the image that was run' a.want a.img
 same 'the configuration afterwards' kept.cfg a.cfg
 same 'the task text afterwards' kept.src b.src
 
@@ -108,6 +123,10 @@ says 'no image of a faulty text' 1 'src:3: B1' build a.cfg fault.src fault.img
 absent 'no image of a faulty text' fault.img
 printf 'run 1\nrun 2\n' > range.steps
 says 'a processor that is not there' 1 'steps:2: S2' sim a.img range.steps
+says 'no turns and no ticks' 1 'host: H4' host a.img fault.journal --turns 0 --ticks 0
+says 'a turn more than 2^20' 1 'host: H4' host a.img fault.journal --turns 1048576 --ticks 1
+says 'the image is judged before turns and ticks' 1 'image: L2' host c.steps fault.journal --turns 0 --ticks 0
+absent 'no journal of a fault' fault.journal
 
 # ---- files that cannot be read or written
 
@@ -125,6 +144,10 @@ says 'no image without its text' 3 'file: missing.src' build a.cfg missing.src n
 absent 'no image without its text' none.img
 says 'an empty configuration' 1 'cfg:1: B1' check none b.src
 says 'an empty image' 1 'image: L1' sim none c.steps
+says 'an image to host that is missing' 3 'file: missing.img' host missing.img none.journal --turns 1 --ticks 1
+absent 'no journal without its image' none.journal
+says 'JOURNAL in no folder' 3 'file: nowhere/a.journal' host a.img nowhere/a.journal --turns 1 --ticks 1
+says 'JOURNAL is a folder' 3 'file: folder' host a.img folder --turns 1 --ticks 1
 says 'OUT in no folder' 3 'file: nowhere/a.img' build a.cfg b.src nowhere/a.img
 says 'OUT is a folder' 3 'file: folder' build a.cfg b.src folder
 if [ -w /dev/full ]; then
@@ -139,6 +162,17 @@ if [ -w /dev/full ]; then
         verdict 'standard output is full' " status $got, standard error '$(cat got.errors)';"
     fi
     same 'the image is written before anything is printed' a.want a.img
+    says 'JOURNAL on a full device' 3 'file: /dev/full' host a.img /dev/full --turns 3 --ticks 0
+    rm -f host.journal
+    printf 'file: -\n' > line
+    "$fmp" host a.img host.journal --turns 3 --ticks 0 > /dev/full 2> got.errors
+    got=$?
+    if [ $got -eq 3 ] && cmp -s line got.errors; then
+        verdict 'host, standard output is full' ''
+    else
+        verdict 'host, standard output is full' " status $got, standard error '$(cat got.errors)';"
+    fi
+    same 'the journal is written before anything is printed' host.want host.journal
     "$fmp" > /dev/full 2> got.errors
     got=$?
     if [ $got -eq 3 ] && cmp -s line got.errors; then
@@ -161,6 +195,15 @@ run 'OUT is an input that is missing' 2 none refused build missing.cfg b.src mis
 same 'the configuration that was no OUT' kept.cfg a.cfg
 same 'the task text that was no OUT' kept.src b.src
 absent 'an input that was missing' missing.cfg
+refusal='the file JOURNAL is the image that is read'
+usage='fmp host [OPTIONS] --turns <T> --ticks <K> <IMAGE> <JOURNAL>'
+printf 'error: %s\n\nUsage: %s\n\nFor more information, try '"'--help'"'.\n' "$refusal" "$usage" > refused
+ln a.img hard.img
+ln -s a.img soft.img
+for journal in a.img ./a.img hard.img soft.img; do
+    run "JOURNAL is the image: $journal" 2 none refused host a.img $journal --turns 1 --ticks 1
+done
+same 'the image that was no JOURNAL' a.want a.img
 
 # ---- the command line
 
@@ -171,7 +214,10 @@ for bound in 0 281474976710657; do
     run "a bound of $bound" 2 none bound sim a.img c.steps --bound $bound
 done
 run 'a bound of 2^48' 0 a.trace none sim a.img c.steps --bound 281474976710656
-for words in run 'check a.cfg' 'build a.cfg b.src' 'sim a.img' 'check a.cfg b.src c.steps' '--frob' 'sim a.img c.steps --bound x'; do
+for words in run 'check a.cfg' 'build a.cfg b.src' 'sim a.img' 'check a.cfg b.src c.steps' '--frob' 'sim a.img c.steps --bound x' \
+    'host a.img' 'host a.img j' 'host a.img j --turns 1' 'host a.img j --ticks 1' 'host a.img --turns 1 --ticks 1' \
+    'host a.img j k --turns 1 --ticks 1' 'host a.img j --turns 1048577 --ticks 1' 'host a.img j --turns 1 --ticks 1048577' \
+    'host a.img j --turns x --ticks 1' 'host a.img j --turns 1 --ticks -1' 'host a.img j --turns 1 --ticks 1 --bound 0'; do
     # shellcheck disable=SC2086
     "$fmp" $words > got.output 2> got.errors
     got=$?
@@ -181,7 +227,7 @@ for words in run 'check a.cfg' 'build a.cfg b.src' 'sim a.img' 'check a.cfg b.sr
         verdict "words: $words" " status $got;"
     fi
 done
-for words in --help 'check --help' 'build --help' 'sim --help'; do
+for words in --help 'check --help' 'build --help' 'sim --help' 'host --help'; do
     # shellcheck disable=SC2086
     "$fmp" $words > got.output 2> got.errors
     got=$?
@@ -326,6 +372,11 @@ awk 'BEGIN { for (i = 1; i <= 1048576; i++) print i " tick " i }' > long.trace
 run 'a trace of 2^20 events' 0 long.trace none sim empty.img long.steps
 printf 'x\n' | cat long.steps - > longer.steps
 says 'one event more' 1 'steps:1048577: S3' sim empty.img longer.steps
+run '2^20 ticks by a thread' 0 long.trace none host empty.img long.journal --turns 0 --ticks 1048576
+same 'a journal of 2^20 events' long.steps long.journal
+run '2^20 turns that do nothing' 0 none none host empty.img long.journal --turns 1048576 --ticks 0
+same 'a journal of no events' none long.journal
+says 'one tick more' 1 'host: H4' host empty.img long.journal --turns 1048576 --ticks 1
 
 echo "checks/program.sh: $passed passed, $failed failed"
 [ $failed -eq 0 ]

@@ -1,6 +1,6 @@
 #!/bin/bash
 # Refuses each allocation of the proved program in turn, for each of its commands: it must then answer `memory` with status
-# 3, print nothing and write no image, or else answer as it does with memory. Then it counts the allocations of longer and
+# 3, print nothing and write no file, or else answer as it does with memory. Then it counts the allocations of longer and
 # longer runs: events take none, so only the growth of the list of events and of the trace is seen.
 #
 #   checks/refused_memory.sh
@@ -57,6 +57,8 @@ answer() {
 }
 
 memory=$(printf '3\nmemory')
+# a thread whose memory is refused by the system is a refused thread
+thread=$(printf '1\nhost: H5')
 failed=0
 
 # Each allocation of a command in turn, until it asks for fewer.
@@ -64,7 +66,7 @@ each_refused() {
     local whole at=1 said
     whole=$(answer 0 "$@")
     while said=$(answer $at "$@"); [ "$at" -le "$(cat asked)" ]; do
-        if [ "$said" != "$memory" ] && [ "$said" != "$whole" ]; then
+        if [ "$said" != "$memory" ] && [ "$said" != "$whole" ] && { [ "$1" != host ] || [ "$said" != "$thread" ]; }; then
             echo "fmp $*: allocation $at refused: $said"
             failed=1
         fi
@@ -83,6 +85,8 @@ each_refused build system.cfg fault.src made.img
 each_refused sim system.img system.steps
 each_refused sim short.img system.steps
 each_refused sim system.img fault.steps
+each_refused host system.img made.img --turns 8 --ticks 0
+each_refused host short.img made.img --turns 8 --ticks 0
 
 "$fmp" build "$root/examples/semaphore.cfg" "$root/examples/semaphore.src" turns.img > /dev/null
 for events in 1024 4096 16384 65536 262144 1048576; do

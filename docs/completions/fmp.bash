@@ -3,15 +3,16 @@ _fmp() {
     local word=${COMP_WORDS[COMP_CWORD]} before=${COMP_WORDS[COMP_CWORD-1]} words=""
     COMPREPLY=()
     if [ "$COMP_CWORD" -eq 1 ]; then
-        COMPREPLY=($(compgen -W "check build sim help -h --help -V --version" -- "$word"))
+        COMPREPLY=($(compgen -W "check build sim host help -h --help -V --version" -- "$word"))
         return
     fi
-    case $before in --bound) return ;; esac
+    case $before in --bound|--turns|--ticks|--bound) return ;; esac
     case ${COMP_WORDS[1]} in
         check) words="-h --help" ;;
         build) words="-h --help" ;;
         sim) words="--bound -h --help" ;;
-        help) COMPREPLY=($(compgen -W "check build sim" -- "$word")); return ;;
+        host) words="--turns --ticks --bound -h --help" ;;
+        help) COMPREPLY=($(compgen -W "check build sim host" -- "$word")); return ;;
     esac
     case $word in
         -*) COMPREPLY=($(compgen -W "$words" -- "$word")) ;;

@@ -3,19 +3,23 @@ use Rattle.std.specs.Prelude.{ℕ, List, [], ◌≡◌, ◌++◌, ⊤, codes, de
 use Rattle.fmp_build.specs.Building.{Builds, IsBuildFault}
 use Rattle.fmp_engine.specs.Built.{CanBuild}
 use Rattle.fmp_engine.specs.declared.fault.SimFault.TheVariants as sim
+use Rattle.fmp_engine.specs.declared.hosting.HostFault.TheVariants as host
+use Rattle.fmp_engine.specs.declared.hosting.Workload.{Workload}
+use Rattle.fmp_engine.specs.Hosting.{Hosts, HostsTexts, IsWhyHost}
 use Rattle.fmp_engine.specs.Simulations.{IsWhySim, PrintsTexts, Simulates}
 use Rattle.fmp_image.specs.Images.{ImageTables, Spells}
 use Rattle.fmp_lex.specs.declared.fault.BuildFault.TheVariants as build
 use Rattle.fmp_command.specs.declared.asking.Cmd.{Cmd}
 use Rattle.fmp_command.specs.declared.asking.Cmd.TheVariants as cmd
 use Rattle.fmp.specs.declared.perform.Exit.{Exit}
-use Rattle.fmp.specs.declared.perform.Exit.TheVariants.{Build, Sim, File, Memory}
+use Rattle.fmp.specs.declared.perform.Exit.TheVariants.{Build, Sim, Host, File, Memory}
 use Rattle.fmp.specs.declared.perform.TheConstants.{STORED_CONFIG, STORED_TASKS, STORED_STEPS, STORED_BOUND}
 
 -- the status of an end: 1 for a fault of what was read, 3 for a file and for want of memory
 abbrev pub status_of : Exit → ℕ
 status_of (Build _) = 1
 status_of (Sim _) = 1
+status_of (Host _) = 1
 status_of (File _) = 3
 status_of (Memory _) = 3
 
@@ -23,6 +27,7 @@ status_of (Memory _) = 3
 abbrev pub IsFor : List ℕ → Exit → Type 0
 IsFor name (Build _) = ⊥
 IsFor name (Sim _) = ⊥
+IsFor name (Host _) = ⊥
 IsFor name (File text) = string_bytes text ≡ name
 IsFor name (Memory _) = ⊤
 
@@ -50,6 +55,13 @@ pub record RunsImage (image steps : List ℕ) (n : ℕ) (before after : List ℕ
   pub meant : (cfg src : List ℕ) (i : ImageTables) (b : Builds cfg src i) → Spells i image
       → PrintsTexts i b.tasks.bodies steps n before after
 
+-- The file gained the journal that the threads of an image made, and what was appended is what the image prints over
+-- it; and where two texts build the image, it is what they mean over the journal.
+pub record HostsImage (image : List ℕ) (work : Workload) (file_before file_after before after : List ℕ) : Type 0 where
+  pub hosted : Hosts image work file_before file_after before after
+  pub meant : (cfg src : List ℕ) (i : ImageTables) (b : Builds cfg src i) → Spells i image
+      → HostsTexts i b.tasks.bodies work file_before file_after before after
+
 -- two texts build an image, and what was appended is what they mean over the steps that the run of the image finished
 pub record RunsTexts (cfg src steps : List ℕ) (n : ℕ) (before after : List ℕ) : Type 0 where
   pub image : ImageTables
@@ -64,6 +76,9 @@ CarriesOut (cmd.Build _ _ _) inputs file_before file_after before after =
     BuildsFile (input_at inputs 0) (input_at inputs 1) file_before file_after before after
 CarriesOut (cmd.Sim _ _ bound) inputs file_before file_after before after =
     RunsImage (input_at inputs 0) (input_at inputs 1) bound before after × (file_after ≡ file_before)
+CarriesOut (cmd.Host _ _ turns ticks bound) inputs file_before file_after before after =
+    HostsImage (input_at inputs 0) (record { turns = turns; ticks = ticks; bound = bound })
+    file_before file_after before after
 CarriesOut cmd.Stored inputs file_before file_after before after =
     RunsTexts STORED_CONFIG.now STORED_TASKS.now STORED_STEPS.now STORED_BOUND before after × (file_after ≡ file_before)
 
@@ -72,6 +87,7 @@ abbrev pub IsWhyNoImage : (cfg src : List ℕ) → Exit → Type 0
 IsWhyNoImage cfg src (Build (build.At file line why)) = IsBuildFault cfg src (build.At file line why)
 IsWhyNoImage cfg src (Build build.Memory) = ⊥
 IsWhyNoImage cfg src (Sim f) = ⊥
+IsWhyNoImage cfg src (Host f) = ⊥
 IsWhyNoImage cfg src (File name) = ⊥
 IsWhyNoImage cfg src (Memory _) = ⊤
 
@@ -80,8 +96,18 @@ abbrev pub IsWhyNoRun : (image steps : List ℕ) → Exit → Type 0
 IsWhyNoRun image steps (Build f) = ⊥
 IsWhyNoRun image steps (Sim sim.Memory) = ⊥
 IsWhyNoRun image steps (Sim f) = IsWhySim f image steps
+IsWhyNoRun image steps (Host f) = ⊥
 IsWhyNoRun image steps (File name) = ⊥
 IsWhyNoRun image steps (Memory _) = ⊤
+
+-- why an image is not run by threads
+abbrev pub IsWhyNotHosted : (image : List ℕ) → Workload → Exit → Type 0
+IsWhyNotHosted image work (Build f) = ⊥
+IsWhyNotHosted image work (Sim f) = ⊥
+IsWhyNotHosted image work (Host host.Memory) = ⊥
+IsWhyNotHosted image work (Host f) = IsWhyHost f image work
+IsWhyNotHosted image work (File name) = ⊥
+IsWhyNotHosted image work (Memory _) = ⊤
 
 -- why two texts are not built and run
 pub data IsWhyNotRun (cfg src steps : List ℕ) (e : Exit) : Type 0 where
@@ -94,4 +120,6 @@ abbrev pub IsWhyNot : Cmd → List (List ℕ) → Exit → Type 0
 IsWhyNot (cmd.Check _ _) inputs e = IsWhyNoImage (input_at inputs 0) (input_at inputs 1) e
 IsWhyNot (cmd.Build _ _ _) inputs e = IsWhyNoImage (input_at inputs 0) (input_at inputs 1) e
 IsWhyNot (cmd.Sim _ _ _) inputs e = IsWhyNoRun (input_at inputs 0) (input_at inputs 1) e
+IsWhyNot (cmd.Host _ _ turns ticks bound) inputs e =
+    IsWhyNotHosted (input_at inputs 0) (record { turns = turns; ticks = ticks; bound = bound }) e
 IsWhyNot cmd.Stored inputs e = IsWhyNotRun STORED_CONFIG.now STORED_TASKS.now STORED_STEPS.now e

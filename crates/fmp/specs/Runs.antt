@@ -10,7 +10,7 @@ use Rattle.clap.specs.declared.error.kind.ErrorKind.TheVariants.{DisplayHelp, Di
 use Rattle.fmp.specs.Commands.{inputs_of, limit_of, output_of}
 use Rattle.fmp.specs.Performed.{CarriesOut, IsWhyNot, status_of}
 use Rattle.fmp.specs.declared.perform.Exit.{Exit}
-use Rattle.fmp.specs.declared.perform.Exit.TheVariants.{Build, Sim, File, Memory}
+use Rattle.fmp.specs.declared.perform.Exit.TheVariants.{Build, Sim, Host, File, Memory}
 
 -- each text is the front of the file of its name, as far as a reading under this limit goes
 abbrev pub AreFronts : Files → (limit : Option ℕ) → (names texts : List (List ℕ)) → Type 0
@@ -33,6 +33,7 @@ IsOneOf (first ∷ names) name = (name ≡ first) ⊎ IsOneOf names name
 abbrev pub IsFailureOf : Files → (names : List (List ℕ)) → Exit → Type 0
 IsFailureOf files names (Build _) = ⊥
 IsFailureOf files names (Sim _) = ⊥
+IsFailureOf files names (Host _) = ⊥
 IsFailureOf files names (File name) = IsOneOf names (string_bytes name) × IsTrue (files.can_fail (string_bytes name))
 IsFailureOf files names (Memory _) = ⊤
 

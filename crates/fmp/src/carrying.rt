@@ -1,6 +1,6 @@
 //! Carrying out a command over files: what it reads is judged, and then its file is written.
 ghost use Rattle.std.specs.Prelude.{◌≡◌, ◌∷◌, [], IfErr, IfOk, IfSome, OnErr, OnOk, length, map};
-ghost use Rattle.fmp_command.specs.Commands.{HasBound};
+ghost use Rattle.fmp_command.specs.Commands.{KeepsRanges};
 ghost use Rattle.fmp_files.specs.Deeds.{Does};
 ghost use Rattle.fmp_files.specs.Files.{front};
 ghost use Rattle.fmp.specs.Commands.{input_count, inputs_of, output_of};
@@ -11,6 +11,8 @@ use crate::perform::{Exit, perform};
 use fmp_command::Cmd;
 use fmp_files::{Outside, ReadFault, WriteFault};
 use std::alloc::{AllocError, Global};
+use std::sync::Wait;
+use std::thread::Threads;
 
 /// The limit of a text, in bytes. So much and one byte more is read of it.
 const TEXT_MAX: usize = 1_048_576;
@@ -43,6 +45,21 @@ fn read<O: Outside>(
     }
 }
 
+/// The front of one file, as the only text.
+fn read_one<O: Outside>(
+    alloc: Global,
+    outside: &O,
+    name: &str,
+    limit: Option<usize>,
+) -> Result<Vec<Vec<u8>>, Exit>
+    ensures texts { IfOk result (λ texts.
+        AreFronts (O.files outside.now) limit (name.now ∷ []) (map (λ t. t.items) texts.items)) }
+    ensures failure { IfErr result (IsFailureOf (O.files outside.now) (name.now ∷ [])) }
+{
+    let texts = [read(alloc, outside, name, limit)?];
+    Vec::from_array(alloc, texts).map_err(|_| Exit::Memory(AllocError))
+}
+
 /// The fronts of two files.
 fn read_two<O: Outside>(
     alloc: Global,
@@ -72,6 +89,7 @@ pub fn read_inputs<O: Outside>(alloc: Global, outside: &O, cmd: &Cmd) -> Result<
             read_two(alloc, outside, config, tasks, Some(TEXT_MAX))
         }
         Cmd::Sim { image, steps, .. } => read_two(alloc, outside, image, steps, None),
+        Cmd::Host { image, .. } => read_one(alloc, outside, image, None),
         Cmd::Stored => Ok(Vec::new(alloc)),
     }
 }
@@ -88,9 +106,14 @@ fn borrowed<'a>(alloc: Global, texts: &'a [Vec<u8>]) -> Result<Vec<&'a [u8]>, Al
 }
 
 /// What a command writes to its file, and what it prints, given what was read.
-fn performed(alloc: Global, cmd: &Cmd, texts: &[Vec<u8>]) -> Result<(Vec<u8>, Vec<u8>), Exit>
+fn performed<R: Threads + Wait + Sync>(
+    rt: &R,
+    alloc: Global,
+    cmd: &Cmd,
+    texts: &[Vec<u8>],
+) -> Result<(Vec<u8>, Vec<u8>), Exit>
     requires inputs { length texts.now ≡ input_count cmd.now }
-    requires bound { HasBound cmd.now }
+    requires ranges { KeepsRanges cmd.now }
     ensures ok { IfOk result (λ made.
         CarriesOut cmd.now (map (λ t. t.items) texts.now) [] made.0.items [] made.1.items) }
     ensures err { IfErr result (IsWhyNot cmd.now (map (λ t. t.items) texts.now)) }
@@ -101,7 +124,7 @@ fn performed(alloc: Global, cmd: &Cmd, texts: &[Vec<u8>]) -> Result<(Vec<u8>, Ve
     };
     let mut file = Vec::new(alloc);
     let mut out = Vec::new(alloc);
-    match perform(alloc, cmd, &inputs, &mut file, &mut out) {
+    match perform(rt, alloc, cmd, &inputs, &mut file, &mut out) {
         Ok(()) => Ok((file, out)),
         Err(exit) => Err(exit),
     }
@@ -120,25 +143,30 @@ pub fn write_output<O: Outside>(
     ensures failure { IfErr result (IsFailureAt (O.files outside.old) (output_of cmd.now)) }
     ensures output { O.output_can_fail outside.new ≡ O.output_can_fail outside.old }
 {
-    let Cmd::Build { image, .. } = cmd else {
+    let (Cmd::Build { image: name, .. } | Cmd::Host { journal: name, .. }) = cmd else {
         return Ok(());
     };
-    match outside.write(image, bytes) {
+    match outside.write(name, bytes) {
         Ok(()) => Ok(()),
-        Err(WriteFault::Device) => Err(failed(alloc, image)),
+        Err(WriteFault::Device) => Err(failed(alloc, name)),
     }
 }
 
 /// Reads the files of a command, carries it out, writes its file, and gives what is to be printed.
-pub fn carry_out<O: Outside>(alloc: Global, outside: &mut O, cmd: &Cmd) -> Result<Vec<u8>, Exit>
-    requires { HasBound cmd.now }
+pub fn carry_out<O: Outside, R: Threads + Wait + Sync>(
+    rt: &R,
+    alloc: Global,
+    outside: &mut O,
+    cmd: &Cmd,
+) -> Result<Vec<u8>, Exit>
+    requires { KeepsRanges cmd.now }
     ensures ok { IfOk result (λ out.
         CarriedOut (O.files outside.old) cmd.now (O.done outside.old) (O.done outside.new) out.items) }
     ensures err { IfErr result (Fails (O.files outside.old) cmd.now (O.done outside.old) (O.done outside.new)) }
     ensures output { O.output_can_fail outside.new ≡ O.output_can_fail outside.old }
 {
     let texts = read_inputs(alloc, outside, cmd)?;
-    let (file, out) = performed(alloc, cmd, &texts)?;
+    let (file, out) = performed(rt, alloc, cmd, &texts)?;
     write_output(alloc, outside, cmd, &file)?;
     Ok(out)
 }

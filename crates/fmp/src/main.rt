@@ -1,5 +1,5 @@
-//! The program `fmp`: it checks the texts of a system, builds its image, and runs an image on the kernel and prints
-//! what happened.
+//! The program `fmp`: it checks the texts of a system, builds its image, and runs an image on the kernel, by the events
+//! that it reads or by threads, and prints what happened.
 //!
 //! It ends with status 0 where it did what it was asked, 1 for a fault of what it read, 2 for a mistake in the command
 //! line, and 3 where a file could not be read or written or memory ran out. What it prints is printed at once, at the
@@ -41,7 +41,7 @@ fn words_of(rt: &HostRuntime) -> Result<Vec<String>, Error> {
 fn main(rt: HostRuntime) -> ExitCode {
     let mut host = Host::new(&rt);
     let status = match words_of(&rt) {
-        Ok(words) => run(rt.alloc(), &mut host, &words),
+        Ok(words) => run(&rt, rt.alloc(), &mut host, &words),
         Err(error) => refuse(rt.alloc(), &mut host, &error),
     };
     ExitCode::from(status)

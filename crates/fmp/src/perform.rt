@@ -1,15 +1,18 @@
 //! Carrying out a command, from the bytes that were read to those that are to be written.
 ghost use Rattle.std.specs.Prelude.{◌≡◌, ◌++◌, ℕ, List, OnOk, OnErr, IfErr, codes, decimal, length, map};
 ghost use Rattle.fmp_build.specs.Building.{IsBuildFault};
+ghost use Rattle.fmp_engine.specs.Hosting.{IsWhyHost, IsWorkload};
 ghost use Rattle.fmp_engine.specs.Simulations.{IsWhySim};
-ghost use Rattle.fmp_command.specs.Commands.{HasBound, IsBound};
-ghost use Rattle.fmp.specs.Commands.{input_count};
-ghost use Rattle.fmp.specs.Performed.{BuildsFile, CarriesOut, Checks, IsWhyNoImage, IsWhyNoRun, IsWhyNot, IsWhyNotRun, RunsImage, RunsTexts, status_of};
+ghost use Rattle.fmp_command.specs.Commands.{IsBound, KeepsRanges};
+ghost use Rattle.fmp.specs.Commands.{IsAlone, input_count};
+ghost use Rattle.fmp.specs.Performed.{BuildsFile, CarriesOut, Checks, HostsImage, IsWhyNoImage, IsWhyNoRun, IsWhyNot, IsWhyNotHosted, IsWhyNotRun, RunsImage, RunsTexts, status_of};
 
 use fmp_command::Cmd;
-use fmp_engine::{SimFault, build_image, check, sim};
+use fmp_engine::{HostFault, SimFault, Workload, build_image, check, host, sim};
 use fmp_lex::BuildFault;
 use std::alloc::{AllocError, Global};
+use std::sync::Wait;
+use std::thread::Threads;
 use thiserror::Error;
 
 /// The configuration of the run that the program holds.
@@ -34,6 +37,9 @@ pub enum Exit {
     /// The image is not run.
     #[error("{0}")]
     Sim(SimFault),
+    /// The image is not run by threads.
+    #[error("{0}")]
+    Host(HostFault),
     /// A file could not be read or written.
     #[error("file: {0}")]
     File(String),
@@ -48,7 +54,7 @@ impl Exit {
         ensures { result ≡ status_of self.now }
     {
         match self {
-            Exit::Build(_) | Exit::Sim(_) => 1,
+            Exit::Build(_) | Exit::Sim(_) | Exit::Host(_) => 1,
             Exit::File(_) | Exit::Memory(_) => 3,
         }
     }
@@ -72,6 +78,17 @@ fn no_run(fault: SimFault) -> Exit
         SimFault::Load(fault) => Exit::Sim(SimFault::Load(fault)),
         SimFault::Steps(fault) => Exit::Sim(SimFault::Steps(fault)),
         SimFault::Memory => Exit::Memory(AllocError),
+    }
+}
+
+/// The end of a program that does not run an image by threads.
+fn no_host(fault: HostFault) -> Exit
+    ensures { (image : List ℕ) (work : Workload) → IsWhyHost fault image work → IsWhyNotHosted image work result }
+{
+    match fault {
+        HostFault::Load(fault) => Exit::Host(HostFault::Load(fault)),
+        HostFault::Board(fault) => Exit::Host(HostFault::Board(fault)),
+        HostFault::Memory => Exit::Memory(AllocError),
     }
 }
 
@@ -146,6 +163,26 @@ fn simulated(
     }
 }
 
+/// Runs an image by threads: the file gains the journal, and appended is what the image prints over it.
+fn hosted<R: Threads + Wait + Sync>(
+    rt: &R,
+    alloc: Global,
+    image: &[u8],
+    work: Workload,
+    file: &mut Vec<u8>,
+    out: &mut Vec<u8>,
+) -> Result<(), Exit>
+    requires { IsWorkload work }
+    ensures ok { OnOk result (HostsImage image.now work file.old.items file.new.items out.old.items out.new.items) }
+    ensures refused { IfErr result (IsWhyNotHosted image.now work) }
+    ensures err { OnErr result ((file.new.items ≡ file.old.items) × (out.new.items ≡ out.old.items)) }
+{
+    match host(rt, alloc, image, work, file, out) {
+        Ok(()) => Ok(()),
+        Err(fault) => Err(no_host(fault)),
+    }
+}
+
 /// Builds two texts and runs their image over steps, and appends what the run prints.
 fn built_and_run(
     alloc: Global,
@@ -167,17 +204,17 @@ fn built_and_run(
     }
 }
 
-/// Carries out a command on the bytes of its files, in order of its words: `file` and `out` gain what is to be
-/// written and printed. After an error neither has gained anything.
-pub fn perform(
+/// Carries out a command that starts no threads, as `perform` does.
+pub fn perform_alone(
     alloc: Global,
     cmd: &Cmd,
     inputs: &[&[u8]],
     file: &mut Vec<u8>,
     out: &mut Vec<u8>,
 ) -> Result<(), Exit>
+    requires alone { IsAlone cmd.now }
     requires inputs { length inputs.now ≡ input_count cmd.now }
-    requires bound { HasBound cmd.now }
+    requires ranges { KeepsRanges cmd.now }
     ensures ok { OnOk result
         (CarriesOut cmd.now (map (λ s. s.now) inputs.now) file.old.items file.new.items out.old.items out.new.items) }
     ensures refused { IfErr result (IsWhyNot cmd.now (map (λ s. s.now) inputs.now)) }
@@ -195,5 +232,41 @@ pub fn perform(
             STORED_BOUND,
             out,
         ),
+        Cmd::Host { .. } => unreachable!(),
+    }
+}
+
+/// Carries out a command on the bytes of its files, in order of its words: `file` and `out` gain what is to be
+/// written and printed. After an error neither has gained anything.
+pub fn perform<R: Threads + Wait + Sync>(
+    rt: &R,
+    alloc: Global,
+    cmd: &Cmd,
+    inputs: &[&[u8]],
+    file: &mut Vec<u8>,
+    out: &mut Vec<u8>,
+) -> Result<(), Exit>
+    requires inputs { length inputs.now ≡ input_count cmd.now }
+    requires ranges { KeepsRanges cmd.now }
+    ensures ok { OnOk result
+        (CarriesOut cmd.now (map (λ s. s.now) inputs.now) file.old.items file.new.items out.old.items out.new.items) }
+    ensures refused { IfErr result (IsWhyNot cmd.now (map (λ s. s.now) inputs.now)) }
+    ensures err { OnErr result ((file.new.items ≡ file.old.items) × (out.new.items ≡ out.old.items)) }
+{
+    match cmd {
+        Cmd::Host {
+            turns,
+            ticks,
+            bound,
+            ..
+        } => {
+            let work = Workload {
+                turns: *turns,
+                ticks: *ticks,
+                bound: *bound,
+            };
+            hosted(rt, alloc, inputs[0], work, file, out)
+        }
+        _ => perform_alone(alloc, cmd, inputs, file, out),
     }
 }

@@ -1,7 +1,7 @@
 //! A run of the program, from the words of its command line to its status.
 ghost use Rattle.std.specs.Prelude.{◌≡◌, ◌⊎◌, IsTrue, IsFalse, IfOk, map, string_bytes};
 ghost use Rattle.clap.specs.Words.{kind_of};
-ghost use Rattle.fmp_command.specs.Commands.{HasBound};
+ghost use Rattle.fmp_command.specs.Commands.{KeepsRanges};
 ghost use Rattle.fmp_files.specs.Deeds.{Says};
 ghost use Rattle.fmp.specs.Performed.{status_of};
 ghost use Rattle.fmp.specs.Runs.{CanBeOver, Ends, EndsCommand, EndsPrinting, EndsRefused, KeepsInputs};
@@ -10,9 +10,11 @@ use crate::carrying::{carry_out, failed};
 use crate::perform::Exit;
 use clap::Error;
 use clap::error::ErrorKind;
-use fmp_command::{Cmd, command, image_over_text};
+use fmp_command::{Cmd, command, image_over_text, journal_over_image};
 use fmp_files::{Outside, WriteFault};
 use std::alloc::{AllocError, Global};
+use std::sync::Wait;
+use std::thread::Threads;
 
 /// Says why the program ends, and gives its status.
 pub fn end<O: Outside>(outside: &mut O, exit: &Exit) -> u8
@@ -63,16 +65,21 @@ fn is_over_input<O: Outside>(outside: &O, cmd: &Cmd) -> bool
             tasks,
             image,
         } => outside.is_one_file(image, config) || outside.is_one_file(image, tasks),
+        Cmd::Host { image, journal, .. } => outside.is_one_file(journal, image),
         _ => false,
     }
 }
 
-/// Says that the image would take the place of a text that it is built of.
-fn refuse_over_input<O: Outside>(alloc: Global, outside: &mut O) -> u8
+/// Says that the file that a command writes would take the place of one that it reads.
+fn refuse_over_input<O: Outside>(alloc: Global, outside: &mut O, cmd: &Cmd) -> u8
     ensures said { Says (O.done outside.old) (O.done outside.new) }
     ensures status { (result ≡ 2) ⊎ (result ≡ 3) }
 {
-    match image_over_text(alloc) {
+    let refusal = match cmd {
+        Cmd::Host { .. } => journal_over_image(alloc),
+        _ => image_over_text(alloc),
+    };
+    match refusal {
         Ok(error) => {
             outside.say(format_args!("{error}"));
             2
@@ -82,15 +89,20 @@ fn refuse_over_input<O: Outside>(alloc: Global, outside: &mut O) -> u8
 }
 
 /// Carries out a command, writes its file and then prints, and gives the status.
-fn run_command<O: Outside>(alloc: Global, outside: &mut O, cmd: &Cmd) -> u8
-    requires { HasBound cmd.now }
+fn run_command<O: Outside, R: Threads + Wait + Sync>(
+    rt: &R,
+    alloc: Global,
+    outside: &mut O,
+    cmd: &Cmd,
+) -> u8
+    requires { KeepsRanges cmd.now }
     ensures { EndsCommand (O.files outside.old) (O.output_can_fail outside.old) cmd.now
         (O.done outside.old) (O.done outside.new) result }
 {
     if is_over_input(outside, cmd) {
-        return refuse_over_input(alloc, outside);
+        return refuse_over_input(alloc, outside, cmd);
     }
-    match carry_out(alloc, outside, cmd) {
+    match carry_out(rt, alloc, outside, cmd) {
         Ok(out) => print(alloc, outside, &out),
         Err(exit) => end(outside, &exit),
     }
@@ -108,7 +120,12 @@ fn borrowed<'a>(alloc: Global, words: &'a [String]) -> Result<Vec<&'a str>, Allo
 }
 
 /// Does what the words of a command line ask for, of which the first is the program's name, and gives the status.
-pub fn run<O: Outside>(alloc: Global, outside: &mut O, words: &[String]) -> u8
+pub fn run<O: Outside, R: Threads + Wait + Sync>(
+    rt: &R,
+    alloc: Global,
+    outside: &mut O,
+    words: &[String],
+) -> u8
     ensures { Ends (O.files outside.old) (O.output_can_fail outside.old) (map string_bytes words.now)
         (O.done outside.old) (O.done outside.new) result }
 {
@@ -117,7 +134,7 @@ pub fn run<O: Outside>(alloc: Global, outside: &mut O, words: &[String]) -> u8
         Err(error) => return end(outside, &Exit::Memory(error)),
     };
     match command(alloc, &texts) {
-        Ok(cmd) => run_command(alloc, outside, &cmd),
+        Ok(cmd) => run_command(rt, alloc, outside, &cmd),
         Err(error) => refuse(alloc, outside, &error),
     }
 }

@@ -1,15 +1,16 @@
 -- From what clap's getters say to the rows of its matches.
-use Rattle.std.proofs.Common.{◌≡◌, ◌∙◌, ◌<◌, ℕ, [], length, true, List, Option, Some, None, Result, Ok, Err, ap, ap₂, refl, sym, subst, true≢false, option_map}
+use Rattle.std.proofs.Common.{◌≡◌, ◌∙◌, ◌<◌, ◌^◌, ℕ, [], arith, length, true, List, Option, Some, None, Result, Ok, Err, IfErr, IsErrAnd, ap, ap₂, refl, sym, subst, true≢false, option_map}
 use Rattle.std.specs.Option.{IsSomeAnd, is_some, unwrap_or}
 use Rattle.std.specs.Str.Parse.{ParsesUnsigned}
 use Rattle.clap.specs.Values.{IsUnsignedIn}
 use Rattle.clap.specs.Matches.{ReadsOne}
-use Rattle.clap.specs.Words.{App, HasMatchesOf, Row, Text, fault_of, is_simple, is_simple_and_free, subcommand_of, subcommand_rows_of}
+use Rattle.clap.specs.declared.error.Error.{Error}
+use Rattle.clap.specs.Words.{App, HasKind, HasMatchesOf, Row, Text, fault_of, is_simple, is_simple_and_free, kind_of, subcommand_of, subcommand_rows_of}
 use Rattle.clap.specs.declared.parser.matches.ArgMatches.{ArgMatches}
-use Rattle.fmp_command.specs.Asked.{AsksFor, IsAsked}
+use Rattle.fmp_command.specs.Asked.{AsksFor, IsAsked, IsRefused}
 use Rattle.fmp_command.specs.Form.{fmp}
 use Rattle.fmp_command.specs.declared.asking.Cmd.{Cmd}
-use Rattle.fmp_command.specs.declared.asking.Cmd.TheVariants.{Build, Check, Sim, Stored}
+use Rattle.fmp_command.specs.declared.asking.Cmd.TheVariants.{Build, Check, Host, Sim, Stored}
 
 pub some-same : {X : Type 0} {x y : X} → Some x ≡ Some y → x ≡ y
 some-same {x} e = ap (λ o. unwrap_or o x) e
@@ -34,13 +35,14 @@ number_read gives None read n none some is = absurd (some≢none n (sym is ∙ n
 number_read gives (Some t) None n none some is = absurd (some≢none n (sym is))
 number_read gives (Some t) (Some m) n none some is = (t, refl, subst (λ (k : ℕ). gives t (Ok k)) (some-same is) (some t refl))
 
--- a text that spells a number is read
-pub number_given : {E : Type 0} (gives : List ℕ → Result ℕ E → Type 0) (text : Option (List ℕ)) (read : Option ℕ)
-    → IsSomeAnd text (IsUnsignedIn 1 281474976710656) → ((t : List ℕ) → text ≡ Some t → ReadsOne {T = ℕ} {E = E} gives t read)
-    → ((t : List ℕ) (r : Result ℕ E) → gives t r → ParsesUnsigned 64 10 t r) → is_some read ≡ true
-number_given gives None read is reads parses = absurd is
-number_given gives (Some t) (Some n) is reads parses = refl
-number_given gives (Some t) None is reads parses = let (e, given) = reads t refl in absurd (parses t (Err e) given (is.0, is.1))
+-- a text that spells a number of a range is read as one of so many bits, where the range goes no further
+pub number_given : {E : Type 0} (bits least most : ℕ) (gives : List ℕ → Result ℕ E → Type 0) (text : Option (List ℕ)) (read : Option ℕ)
+    → most < 2 ^ bits → IsSomeAnd text (IsUnsignedIn least most) → ((t : List ℕ) → text ≡ Some t → ReadsOne {T = ℕ} {E = E} gives t read)
+    → ((t : List ℕ) (r : Result ℕ E) → gives t r → ParsesUnsigned bits 10 t r) → is_some read ≡ true
+number_given bits least most gives None read fits is reads parses = absurd is
+number_given bits least most gives (Some t) (Some n) fits is reads parses = refl
+number_given bits least most gives (Some t) None fits is reads parses =
+    let (e, given) = reads t refl in absurd (parses t (Err e) given (is.0, omega (arith, is.3, fits)))
 
 -- the form is one of which clap says exactly what its matches and its errors are
 pub form_is_simple : is_simple fmp ≡ true
@@ -54,6 +56,7 @@ pub asks_for : (words : List Text) (name : Text) (rows : List Row) (cmd : Cmd) �
 asks_for words name rows (Check config tasks) long fits entered asked = (long, fits, (name, rows, entered, asked))
 asks_for words name rows (Build config tasks image) long fits entered asked = (long, fits, (name, rows, entered, asked))
 asks_for words name rows (Sim image steps bound) long fits entered asked = (long, fits, (name, rows, entered, asked))
+asks_for words name rows (Host image journal turns ticks bound) long fits entered asked = (long, fits, (name, rows, entered, asked))
 asks_for words name rows Stored long fits entered asked = absurd asked
 
 -- what stands on the other side of an option is there
@@ -61,11 +64,18 @@ pub some_beside : {A R : Type 0} (view : A → R) (o : Option A) (rows : Option 
 some_beside view None rows P e has = absurd (subst (λ r. IsSomeAnd r P) (sym e) has)
 some_beside view (Some x) rows P e has = refl
 
--- a parse of this form that succeeds has no fault
+-- a parse of this form that succeeds has no fault, and has entered the subcommand that the words name
 pub fits_form : (app : App) (words : List Text) → app ≡ fmp → (is_simple_and_free app ≡ true → fault_of app words ≡ []) → fault_of fmp words ≡ []
 fits_form app words form none = sym (ap (λ (a : App). fault_of a words) form) ∙ none (ap is_simple_and_free form ∙ form_is_free)
 
--- and has entered the subcommand that the words name
 pub enters_form : (app : App) (words : List Text) (m : ArgMatches) (seen : Option (Text × List Row)) → app ≡ fmp → HasMatchesOf app words m
     → seen ≡ subcommand_rows_of m → seen ≡ subcommand_of fmp words
 enters_form app words m seen form has is = is ∙ (has (ap is_simple form ∙ form_is_simple)).1 ∙ ap (λ (a : App). subcommand_of a words) form
+
+-- an error of such a parse is why the words are refused
+pub refused_form : {T : Type 0} (app : App) (words : List Text) (e : Error) (r : Result T Error) → app ≡ fmp → IsErrAnd r (λ x. x ≡ e)
+    → (is_simple_and_free app ≡ true → HasKind (fault_of app words) e) → IfErr r (λ x. IsRefused words (kind_of x))
+refused_form app words e (Ok x) form is fails = tt
+refused_form app words e (Err x) form is fails =
+    subst (λ (y : Error). IsRefused words (kind_of y)) (sym is)
+    (subst (λ (a : App). HasKind (fault_of a words) e) form (fails (ap is_simple_and_free form ∙ form_is_free)))

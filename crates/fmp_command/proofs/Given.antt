@@ -16,8 +16,8 @@ use Rattle.clap.specs.declared.builder.value_parser.ValueParser.TheVariants.{Uns
 use Rattle.clap.specs.declared.error.kind.ErrorKind.TheVariants.{MissingRequiredArgument}
 use Rattle.clap.specs.declared.parser.matches.ValueSource.TheVariants.{DefaultValue}
 use Rattle.clap.proofs.ValueTestLemmas.{accepts-Accepts}
-use Rattle.fmp_command.specs.Asked.{HasWords, IsGiven, IsGivenBound}
-use Rattle.fmp_command.specs.Form.{build, check, fmp, sim}
+use Rattle.fmp_command.specs.Asked.{HasWords, IsGiven, IsGivenNumber}
+use Rattle.fmp_command.specs.Form.{build, check, fmp, host, sim}
 use Rattle.fmp_command.proofs.Rows.{Each, HasValues, IsSound, IsUsualLevel, StopsAtNoHelp, at_none, found_one, level_stands, or_both}
 
 -- ---- the words for an argument
@@ -58,7 +58,7 @@ not_missing : (b : Bool) → cond b (MissingRequiredArgument ∷ []) [] ≡ [] �
 not_missing true e = cc
 not_missing false e = refl
 
--- ---- the bound
+-- ---- the numbers
 
 row_at_end : (id : Text) (rows : List Row) (row : Row) → bytes_eq row.id id ≡ true → has_row id (rows ++ row ∷ []) ≡ true
 row_at_end id [] row same = rw same refl
@@ -77,16 +77,24 @@ row_found id (r ∷ rs) has = go (bytes_eq r.id id) has (row_found id rs)
     go true h later = refl
     go false h later = later h
 
-one_value : (a : Rule) (values : List Text) → a.parser ≡ Some (Unsigned 1 281474976710656) → a.ignore_case ≡ false
-    → 0 < length values → values_fault a values ≡ [] → IsSomeAnd (option_map (λ text. text) (slice_get values 0)) (IsUnsignedIn 1 281474976710656)
-one_value a [] parser case some e = absurd (omega arith)
-one_value a (v ∷ vs) parser case some e =
-    let first : value_kinds a.ignore_case (parser_of_value a.parser) v ≡ [] = (or_both (value_kinds a.ignore_case (parser_of_value a.parser) v) _ e).0 in
-    let same : value_kinds false (Unsigned 1 281474976710656) v ≡ [] =
-    subst (λ p. value_kinds false (parser_of_value p) v ≡ []) parser (subst (λ b. value_kinds b (parser_of_value a.parser) v ≡ []) case first) in
-    accepts-Accepts false (Unsigned 1 281474976710656) v (go (accepts false (Unsigned 1 281474976710656) v) same)
+-- an argument that the words use has a row
+row_given : (id : Text) (rows : List Row) → is_given id rows ≡ true → is_some (find (λ r. bytes_eq r.id id) rows) ≡ true
+row_given id rows given = go (find (λ r. bytes_eq r.id id) rows) given
   where
-    go : (b : Bool) → cond b [] (refused_kind (Unsigned 1 281474976710656) ∷ []) ≡ [] → b ≡ true
+    go : (o : Option Row) → option_map_or (λ r. explicit_source r.source) o false ≡ true → is_some o ≡ true
+    go None g = cc
+    go (Some r) g = refl
+
+one_value : (least most : ℕ) (a : Rule) (values : List Text) → a.parser ≡ Some (Unsigned least most) → a.ignore_case ≡ false
+    → 0 < length values → values_fault a values ≡ [] → IsSomeAnd (option_map (λ text. text) (slice_get values 0)) (IsUnsignedIn least most)
+one_value least most a [] parser case some e = absurd (omega arith)
+one_value least most a (v ∷ vs) parser case some e =
+    let first : value_kinds a.ignore_case (parser_of_value a.parser) v ≡ [] = (or_both (value_kinds a.ignore_case (parser_of_value a.parser) v) _ e).0 in
+    let same : value_kinds false (Unsigned least most) v ≡ [] =
+    subst (λ p. value_kinds false (parser_of_value p) v ≡ []) parser (subst (λ b. value_kinds b (parser_of_value a.parser) v ≡ []) case first) in
+    accepts-Accepts false (Unsigned least most) v (go (accepts false (Unsigned least most) v) same)
+  where
+    go : (b : Bool) → cond b [] (refused_kind (Unsigned least most) ∷ []) ≡ [] → b ≡ true
     go true f = refl
     go false f = cc
 
@@ -109,26 +117,26 @@ no_default a rows is = go (has_row a.id rows)
     go true = refl
     go false = ap (λ ds. default_rows a.id (reading_by a) ds rows) is
 
--- the third of four arguments has a default, and the fourth has none
-third_row : (a b third fourth : Rule) (v : Text) (vs : List Text) (rows : List Row) → third.defaults ≡ v ∷ vs → fourth.defaults ≡ []
-    → has_row third.id (fold with_default rows (a ∷ b ∷ third ∷ fourth ∷ [])) ≡ true
-third_row a b third fourth v vs rows is none =
-    let before = with_default (with_default rows a) b in
-    subst (λ rs. has_row third.id rs ≡ true) (sym (no_default fourth (with_default before third) none)) (default_row third v vs before is)
+-- the last argument but one has a default, and the last has none
+late_row : (before : List Rule) (late last : Rule) (v : Text) (vs : List Text) (rows : List Row) → late.defaults ≡ v ∷ vs → last.defaults ≡ []
+    → has_row late.id (fold with_default rows (before ++ late ∷ last ∷ [])) ≡ true
+late_row [] late last v vs rows is none =
+    subst (λ rs. has_row late.id rs ≡ true) (sym (no_default last (with_default rows late) none)) (default_row late v vs rows is)
+late_row (a ∷ before) late last v vs rows is none = late_row before late last v vs (with_default rows a) is none
 
-given_number : (c : List Rule) (rows : List Row) (id : Text) (a : Rule) → arg_by_id c id ≡ Some a → a.parser ≡ Some (Unsigned 1 281474976710656)
-    → a.ignore_case ≡ false → Each (IsSound c) rows → has_row id rows ≡ true → IsGivenBound rows id
-given_number c rows id a first parser case sound has =
-    go (find (λ x. bytes_eq x.id id) rows) (λ r found. row_values c rows id a r first sound found) (row_found id rows has)
+given_number : (least most : ℕ) (c : List Rule) (rows : List Row) (id : Text) (a : Rule) → arg_by_id c id ≡ Some a → a.parser ≡ Some (Unsigned least most)
+    → a.ignore_case ≡ false → Each (IsSound c) rows → is_some (find (λ r. bytes_eq r.id id) rows) ≡ true → IsGivenNumber least most rows id
+given_number least most c rows id a first parser case sound there =
+    go (find (λ x. bytes_eq x.id id) rows) (λ r found. row_values c rows id a r first sound found) there
   where
     go : (o : Option Row) → ((r : Row) → o ≡ Some r → HasValues a r) → is_some o ≡ true
-        → IsSomeAnd (option_and_then row_text o) (IsUnsignedIn 1 281474976710656)
+        → IsSomeAnd (option_and_then row_text o) (IsUnsignedIn least most)
     go None values some = cc
     go (Some r) values some =
         let has_values = values r refl in
         let as_written : r.reading ≡ AsWritten = has_values.reading ∙ ap (λ p. reading_of (parser_of_value p)) parser in
-        subst (λ how. IsSomeAnd (option_map (read_as how) (slice_get r.values 0)) (IsUnsignedIn 1 281474976710656)) (sym as_written)
-        (one_value a r.values parser case has_values.some has_values.accepted)
+        subst (λ how. IsSomeAnd (option_map (read_as how) (slice_get r.values 0)) (IsUnsignedIn least most)) (sym as_written)
+        (one_value least most a r.values parser case has_values.some has_values.accepted)
 
 -- ---- each subcommand
 
@@ -155,6 +163,7 @@ check_fulfils words e no_help =
       check = λ is. (given_word s.rules rows (codes "CFG") _ refl stands.0 (given.0 refl), given_word s.rules rows (codes "SRC") _ refl stands.0 (given.1.0 refl));
       build = λ is. let bad : 99 ≡ 98 = ap (λ l. get_or l 0 0) is in absurd (omega arith);
       sim = λ is. let bad : 99 ≡ 115 = ap (λ l. get_or l 0 0) is in absurd (omega arith);
+      host = λ is. let bad : 99 ≡ 104 = ap (λ l. get_or l 0 0) is in absurd (omega arith);
     }
 
 build_fulfils : Fulfils (built_sub build.top)
@@ -176,6 +185,7 @@ build_fulfils words e no_help =
         given_word s.rules rows (codes "OUT") _ refl stands.0 (given.1.1.0 refl),
       );
       sim = λ is. let bad : 98 ≡ 115 = ap (λ l. get_or l 0 0) is in absurd (omega arith);
+      host = λ is. let bad : 98 ≡ 104 = ap (λ l. get_or l 0 0) is in absurd (omega arith);
     }
 
 sim_fulfils : Fulfils (built_sub sim.top)
@@ -190,15 +200,50 @@ sim_fulfils words e no_help =
     let given = required_given rows s.rules (not_missing _ stands.3) in
     let rule : ℕ → Rule = λ k. get_or s.rules k help_rule in
     let has_bound : has_row (codes "bound") rows ≡ true =
-    third_row (rule 0) (rule 1) (rule 2) (rule 3) (codes "100000") [] (settled s.rules (walk s.rules [] nothing_held words).held).rows refl refl in
+    late_row (rule 0 ∷ rule 1 ∷ []) (rule 2) (rule 3) (codes "100000") [] (settled s.rules (walk s.rules [] nothing_held words).held).rows refl refl in
     record {
-      known = inr (inr refl);
+      known = inr (inr (inl refl));
       check = λ is. let bad : 115 ≡ 99 = ap (λ l. get_or l 0 0) is in absurd (omega arith);
       build = λ is. let bad : 115 ≡ 98 = ap (λ l. get_or l 0 0) is in absurd (omega arith);
       sim = λ is. (
         given_word s.rules rows (codes "IMAGE") _ refl stands.0 (given.0 refl),
         given_word s.rules rows (codes "STEPS") _ refl stands.0 (given.1.0 refl),
-        given_number s.rules rows (codes "bound") _ refl refl refl stands.0 has_bound,
+        given_number 1 281474976710656 s.rules rows (codes "bound") _ refl refl refl stands.0 (row_found (codes "bound") rows has_bound),
+      );
+      host = λ is. let bad : 115 ≡ 104 = ap (λ l. get_or l 0 0) is in absurd (omega arith);
+    }
+
+host_fulfils : Fulfils (built_sub host.top)
+host_fulfils words e no_help =
+    let s = built_sub host.top in
+    let usual : IsUsualLevel s = record {
+      rules = (
+        (refl, inl (refl, lit< tt)),
+        (
+          (refl, inl (refl, lit< tt)),
+          ((refl, inl (refl, lit< tt)), ((refl, inl (refl, lit< tt)), ((refl, inl (refl, lit< tt)), ((refl, inr (lit< tt)), tt)))),
+        ),
+      );
+      again = refl;
+    } in
+    let rows = rows_after s.rules [] words in
+    let stands = level_stands s usual [] words false [] e in
+    let given = required_given rows s.rules (not_missing _ stands.3) in
+    let rule : ℕ → Rule = λ k. get_or s.rules k help_rule in
+    let has_bound : has_row (codes "bound") rows ≡ true =
+    late_row (rule 0 ∷ rule 1 ∷ rule 2 ∷ rule 3 ∷ []) (rule 4) (rule 5) (codes "100000") []
+    (settled s.rules (walk s.rules [] nothing_held words).held).rows refl refl in
+    record {
+      known = inr (inr (inr refl));
+      check = λ is. let bad : 104 ≡ 99 = ap (λ l. get_or l 0 0) is in absurd (omega arith);
+      build = λ is. let bad : 104 ≡ 98 = ap (λ l. get_or l 0 0) is in absurd (omega arith);
+      sim = λ is. let bad : 104 ≡ 115 = ap (λ l. get_or l 0 0) is in absurd (omega arith);
+      host = λ is. (
+        given_word s.rules rows (codes "IMAGE") _ refl stands.0 (given.0 refl),
+        given_word s.rules rows (codes "JOURNAL") _ refl stands.0 (given.1.0 refl),
+        given_number 0 1048576 s.rules rows (codes "turns") _ refl refl refl stands.0 (row_given (codes "turns") rows (given.1.1.0 refl)),
+        given_number 0 1048576 s.rules rows (codes "ticks") _ refl refl refl stands.0 (row_given (codes "ticks") rows (given.1.1.1.0 refl)),
+        given_number 1 281474976710656 s.rules rows (codes "bound") _ refl refl refl stands.0 (row_found (codes "bound") rows has_bound),
       );
     }
 
@@ -210,7 +255,7 @@ abbrev Passes : Shape → Type 0
 Passes s = (s.aliases ≡ []) × Fulfils s
 
 subs_pass : Each Passes (built fmp).subs
-subs_pass = ((refl, check_fulfils), ((refl, build_fulfils), ((refl, sim_fulfils), ((refl, help_fulfils), tt))))
+subs_pass = ((refl, check_fulfils), ((refl, build_fulfils), ((refl, sim_fulfils), ((refl, host_fulfils), ((refl, help_fulfils), tt)))))
 
 by_name : (s : Shape) (name : Text) → s.aliases ≡ [] → answers_to name (label_of s) ≡ true → s.name ≡ name
 by_name s name no_alias answers = (bytes_eq-Decides s.name name).0 (go (bytes_eq s.name name) s.aliases no_alias answers)

@@ -6,7 +6,7 @@ use Rattle.clap.specs.declared.error.kind.ErrorKind.{ErrorKind}
 use Rattle.clap.specs.declared.error.kind.ErrorKind.TheVariants.{OutOfMemory}
 use Rattle.fmp_command.specs.Form.{fmp}
 use Rattle.fmp_command.specs.declared.asking.Cmd.{Cmd}
-use Rattle.fmp_command.specs.declared.asking.Cmd.TheVariants.{Check, Build, Sim, Stored}
+use Rattle.fmp_command.specs.declared.asking.Cmd.TheVariants.{Check, Build, Sim, Host, Stored}
 
 -- the word for this argument
 abbrev pub HasWord : List Row → Text → Text → Type 0
@@ -28,6 +28,10 @@ IsAsked name rows (Build config tasks image) =
 IsAsked name rows (Sim image steps bound) =
     (name ≡ codes "sim") × HasWord rows (codes "IMAGE") (string_bytes image)
     × HasWord rows (codes "STEPS") (string_bytes steps) × HasNumber rows (codes "bound") bound
+IsAsked name rows (Host image journal turns ticks bound) =
+    (name ≡ codes "host") × HasWord rows (codes "IMAGE") (string_bytes image)
+    × HasWord rows (codes "JOURNAL") (string_bytes journal) × HasNumber rows (codes "turns") turns
+    × HasNumber rows (codes "ticks") ticks × HasNumber rows (codes "bound") bound
 IsAsked name rows Stored = ⊥
 
 -- what words ask for, of which the first is the program's name: they fit the form, and their parse enters a subcommand
@@ -41,18 +45,28 @@ AsksFor words cmd =
 abbrev pub IsGiven : List Row → Text → Type 0
 IsGiven rows id = IsSome (first_of id rows)
 
--- the word for this argument spells a number from 1 to 2^48
+-- the word for this argument spells a number of this range
+abbrev pub IsGivenNumber : (least most : ℕ) → List Row → Text → Type 0
+IsGivenNumber least most rows id = IsSomeAnd (one_of id rows) (IsUnsignedIn least most)
+
+-- a number from 1 to 2^48, or from 0 to 2^20
 abbrev pub IsGivenBound : List Row → Text → Type 0
-IsGivenBound rows id = IsSomeAnd (one_of id rows) (IsUnsignedIn 1 281474976710656)
+IsGivenBound = IsGivenNumber 1 281474976710656
+
+abbrev pub IsGivenCount : List Row → Text → Type 0
+IsGivenCount = IsGivenNumber 0 1048576
 
 -- what the words that fit the form say to the subcommand that they enter
 pub record HasWords (name : Text) (rows : List Row) : Type 0 where
-  pub known : (name ≡ codes "check") ⊎ (name ≡ codes "build") ⊎ (name ≡ codes "sim")
+  pub known : (name ≡ codes "check") ⊎ (name ≡ codes "build") ⊎ (name ≡ codes "sim") ⊎ (name ≡ codes "host")
   pub check : name ≡ codes "check" → IsGiven rows (codes "CFG") × IsGiven rows (codes "SRC")
   pub build : name ≡ codes "build"
       → IsGiven rows (codes "CFG") × IsGiven rows (codes "SRC") × IsGiven rows (codes "OUT")
   pub sim : name ≡ codes "sim"
       → IsGiven rows (codes "IMAGE") × IsGiven rows (codes "STEPS") × IsGivenBound rows (codes "bound")
+  pub host : name ≡ codes "host"
+      → IsGiven rows (codes "IMAGE") × IsGiven rows (codes "JOURNAL") × IsGivenCount rows (codes "turns")
+      × IsGivenCount rows (codes "ticks") × IsGivenBound rows (codes "bound")
 
 -- why words are refused: want of memory, or a fault of their form
 abbrev pub IsRefused : List Text → ErrorKind → Type 0

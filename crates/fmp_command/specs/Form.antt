@@ -16,6 +16,15 @@ bound = record (new_rule (codes "bound")) {
   defaults = codes "100000" ∷ [];
 }
 
+-- an option with a number from 0 to 2^20, which has to be there
+abbrev pub count : Text → Rule
+count id = record (new_rule id) {
+  long = Some id;
+  value_names = 1;
+  parser = Some (Unsigned 0 1048576);
+  required = true;
+}
+
 -- `check CFG SRC`
 abbrev pub check : App
 check = with_rule (with_rule (new_app (codes "check")) (file (codes "CFG"))) (file (codes "SRC"))
@@ -32,6 +41,13 @@ sim =
     with_rule (with_rule (with_rule (new_app (codes "sim")) (file (codes "IMAGE"))) (file (codes "STEPS")))
     bound
 
+-- `host IMAGE JOURNAL --turns T --ticks K [--bound N]`
+abbrev pub host : App
+host =
+    with_rule (with_rule (with_rule (with_rule (with_rule (new_app (codes "host"))
+    (file (codes "IMAGE"))) (file (codes "JOURNAL"))) (count (codes "turns"))) (count (codes "ticks")))
+    bound
+
 -- a version, and a command that has to be there
 abbrev pub bare_fmp : App
 bare_fmp = record (new_app (codes "fmp")) {
@@ -40,4 +56,6 @@ bare_fmp = record (new_app (codes "fmp")) {
 
 -- the whole command line
 abbrev pub fmp : App
-fmp = with_subcommand (with_subcommand (with_subcommand bare_fmp check.top) build.top) sim.top
+fmp =
+    with_subcommand (with_subcommand (with_subcommand (with_subcommand bare_fmp check.top) build.top) sim.top)
+    host.top

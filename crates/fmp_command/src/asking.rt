@@ -2,9 +2,9 @@
 ghost use Rattle.std.specs.Prelude.{◌≡◌, ◌≢◌, ◌≤◌, ◌⊎◌, ◌↔◌, IfErr, IfOk, length, map};
 ghost use Rattle.clap.specs.Words.{kind_of};
 ghost use Rattle.fmp_command.specs.Asked.{AsksFor, IsRefused};
-ghost use Rattle.fmp_command.specs.Commands.{HasBound};
+ghost use Rattle.fmp_command.specs.Commands.{KeepsRanges};
 
-use crate::form::{build_command, program};
+use crate::form::{build_command, host_command, program};
 use crate::reading::{asked, entered};
 use clap::Error;
 use clap::error::ErrorKind;
@@ -15,6 +15,9 @@ const NOT_TEXT: &str = "invalid UTF-8 was detected in one or more arguments";
 
 /// What is said of an image that would take the place of a text that it is built of.
 const IMAGE_OVER_TEXT: &str = "the file OUT is one of the two that are read";
+
+/// What is said of a journal that would take the place of the image that is run.
+const JOURNAL_OVER_IMAGE: &str = "the file JOURNAL is the image that is read";
 
 /// What the program is asked to do. Each word is the name of a file.
 #[derive(Debug, Drop, PartialEq, Eq)]
@@ -37,6 +40,16 @@ pub enum Cmd {
         steps: String,
         bound: u64,
     },
+    /// Run an image by threads, one for each of its processors, and write what happened to the file `journal`, as a
+    /// steps text. Each processor has so many `turns` and the clock so many `ticks`, each 0 to 2^20. `bound`, 1 to
+    /// 2^48, limits how many instructions a body takes between two service calls.
+    Host {
+        image: String,
+        journal: String,
+        turns: u32,
+        ticks: u32,
+        bound: u64,
+    },
     /// Build and run the texts that the program holds.
     Stored,
 }
@@ -57,13 +70,23 @@ pub fn image_over_text(alloc: Global) -> Result<Error, AllocError>
         .error(ErrorKind::ValueValidation, IMAGE_OVER_TEXT)
 }
 
+/// The error for a journal that would take the place of the image that is run, which has the status 2.
+pub fn journal_over_image(alloc: Global) -> Result<Error, AllocError>
+    ensures { IfOk result (λ e. kind_of e ≡ ErrorKind.ValueValidation) }
+{
+    host_command(alloc)?
+        .bin_name("fmp host")?
+        .error(ErrorKind::ValueValidation, JOURNAL_OVER_IMAGE)
+}
+
 /// What the words of a command line ask for, of which the first is the program's name. With no more than that it is the
 /// run of the texts that the program holds. An error has the kind of the first fault of the words' form
-/// (`ValueValidation` for a bound that is no number from 1 to 2^48), or is `OutOfMemory`.
+/// (`ValueValidation` for a bound that is no number from 1 to 2^48, or turns or ticks that are none from 0 to 2^20), or
+/// is `OutOfMemory`.
 pub fn command<'a>(alloc: Global, words: &'a [&'a str]) -> Result<Cmd, Error>
     ensures asked { IfOk result (AsksFor (map (λ word. word.now) words.entry.now)) }
     ensures refused { IfErr result (λ e. IsRefused (map (λ word. word.now) words.entry.now) (kind_of e)) }
-    ensures bound { IfOk result HasBound }
+    ensures ranges { IfOk result KeepsRanges }
     ensures stored { (result ≡ Ok Cmd.Stored) ↔ (length words.entry.now ≤ 1) }
 {
     if words.len() <= 1 {

@@ -1,7 +1,7 @@
 //! The form of the command line.
 ghost use Rattle.std.specs.Prelude.{◌≡◌, IfOk, IsFalse, codes, true};
 ghost use Rattle.clap.specs.Words.{app_of, new_app, rule_of, with_rule, with_subcommand};
-ghost use Rattle.fmp_command.specs.Form.{bare_fmp, bound, build, check, file, fmp, sim};
+ghost use Rattle.fmp_command.specs.Form.{bare_fmp, bound, build, check, count, file, fmp, host, sim};
 
 use clap::builder::ValueParser;
 use clap::{Arg, Command};
@@ -20,6 +20,16 @@ const STEPS: &str =
 /// The largest bound, 2^48.
 const BOUND_MAX: u64 = 281_474_976_710_656;
 
+/// The largest number of turns, and of ticks, 2^20.
+const COUNT_MAX: u64 = 1_048_576;
+
+/// What turns are.
+const TURNS: &str = "How many turns each processor has, 0 to 2^20: in a turn it runs to its next
+service call, as 'run P' lets it";
+
+/// What ticks are.
+const TICKS: &str = "How many ticks the clock has, 0 to 2^20";
+
 /// What a bound is.
 const BOUND: &str = "How many instructions a body may take up to its next service call, 1 to 2^48;
 a step that would take more does nothing";
@@ -29,11 +39,13 @@ const EXAMPLE_AND_CODES: &str = "Example, on the files of the folder 'examples':
   fmp check examples/queue.cfg examples/queue.src
   fmp build examples/queue.cfg examples/queue.src queue.img
   fmp sim queue.img examples/queue.steps
+  fmp host queue.img queue.journal --turns 7 --ticks 0
 
 Status, and the line on standard error with it:
   0        done; help or the version was asked for
-  1        a fault of what was read: 'cfg:3: B4 E_PAR', 'src:2: B1', 'image: L2', 'steps:4: S1'
-  2        a mistake in the command line; OUT is one of the two texts
+  1        a fault of what was read: 'cfg:3: B4 E_PAR', 'src:2: B1', 'image: L2', 'steps:4: S1';
+           no host for what is asked: 'host: H4'
+  2        a mistake in the command line; OUT is one of the two texts, JOURNAL is the image
   3        'file: NAME', a file could not be read or written ('-' is standard output); 'memory'
 Fault of a text, behind the file and the line at which it stands:
   B1       syntax: the first token that does not fit, or the end of the text
@@ -53,7 +65,10 @@ Fault of an image:
 Fault of a steps text, behind its line:
   S1       no event: 'run P', 'tick' and 'int I' are events
   S2       no processor P in the image, or I is not from 1 to 32
-  S3       line 2^20 + 1: a run has at most 2^20 events";
+  S3       line 2^20 + 1: a run has at most 2^20 events
+Fault of a host:
+  H4       the turns of all processors and the ticks are together not 1 to 2^20
+  H5       the system refused a thread";
 
 /// An example of `fmp check`.
 const CHECK_EXAMPLE: &str = "Example:
@@ -72,6 +87,13 @@ const SIM_EXAMPLE: &str = "Example, with the image of the example of 'fmp build 
   fmp sim queue.img examples/queue.steps
 
 'fmp --help' lists the faults. With a fault nothing is printed.";
+
+/// An example of `fmp host`.
+const HOST_EXAMPLE: &str = "Example, with the image of the example of 'fmp build --help':
+  fmp host queue.img queue.journal --turns 7 --ticks 0
+  fmp sim queue.img queue.journal
+
+Both print the same. 'fmp --help' lists the faults. With a fault no file is written.";
 
 /// A word that names a file, and has to be there.
 fn file_word<'a>(alloc: Global, id: &'a str, help: &'a str) -> Arg<'a>
@@ -116,6 +138,19 @@ fn bound_option<'a>(alloc: Global) -> Arg<'a>
         .value_parser(ValueParser::unsigned(1, BOUND_MAX))
         .default_value("100000")
         .help(BOUND)
+}
+
+/// The option for a number of turns or ticks, which has to be there.
+fn count_option<'a>(alloc: Global, id: &'a str, value: &'a str, help: &'a str) -> Arg<'a>
+    ensures rule { rule_of result ≡ count id.entry.now }
+    ensures local { IsFalse result.global }
+{
+    Arg::new(alloc, id)
+        .long(id)
+        .value_name(value)
+        .value_parser(ValueParser::unsigned(0, COUNT_MAX))
+        .required(true)
+        .help(help)
 }
 
 /// A command of this name, and what help says of it above and below its arguments.
@@ -189,6 +224,29 @@ fn sim_command<'a>(alloc: Global) -> Result<Command<'a>, AllocError>
     with_argument(command, bound_option(alloc))
 }
 
+/// The command `host`.
+pub fn host_command<'a>(alloc: Global) -> Result<Command<'a>, AllocError>
+    ensures { IfOk result (λ c. app_of c ≡ host) }
+{
+    let image = file_word(alloc, "IMAGE", "Image that 'fmp build' has written");
+    let journal = file_word(
+        alloc,
+        "JOURNAL",
+        "File that the events are written to, as the text of 'fmp sim'",
+    );
+    let command = named(
+        alloc,
+        "host",
+        "Runs an image by threads, one a processor: writes the events, and prints what happened",
+        HOST_EXAMPLE,
+    );
+    let command = with_argument(command, image)?;
+    let command = with_argument(command, journal)?;
+    let command = with_argument(command, count_option(alloc, "turns", "T", TURNS))?;
+    let command = with_argument(command, count_option(alloc, "ticks", "K", TICKS))?;
+    with_argument(command, bound_option(alloc))
+}
+
 /// The command line with none of its commands yet.
 fn bare<'a>(alloc: Global) -> Command<'a>
     ensures { app_of result ≡ bare_fmp }
@@ -206,5 +264,6 @@ pub fn program<'a>(alloc: Global) -> Result<Command<'a>, AllocError>
 {
     let program = with_command(bare(alloc), check_command(alloc)?)?;
     let program = with_command(program, build_command(alloc)?)?;
-    with_command(program, sim_command(alloc)?)
+    let program = with_command(program, sim_command(alloc)?)?;
+    with_command(program, host_command(alloc)?)
 }

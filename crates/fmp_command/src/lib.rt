@@ -5,4 +5,4 @@ mod asking;
 mod form;
 mod reading;
 
-pub use asking::{Cmd, command, image_over_text, not_text, status_of};
+pub use asking::{Cmd, command, image_over_text, journal_over_image, not_text, status_of};

@@ -1,8 +1,8 @@
 //! What a subcommand and its words ask for.
 ghost use Rattle.std.specs.Prelude.{◌≡◌, IfOk, codes, option_map, string_bytes};
 ghost use Rattle.clap.specs.Words.{found_of, rows_of, subcommand_rows_of};
-ghost use Rattle.fmp_command.specs.Asked.{HasNumber, HasWord, HasWords, IsAsked, IsGiven, IsGivenBound};
-ghost use Rattle.fmp_command.specs.Commands.{HasBound, IsBound};
+ghost use Rattle.fmp_command.specs.Asked.{HasNumber, HasWord, HasWords, IsAsked, IsGiven, IsGivenBound, IsGivenCount};
+ghost use Rattle.fmp_command.specs.Commands.{IsBound, IsCount, KeepsRanges};
 
 use crate::asking::Cmd;
 use clap::ArgMatches;
@@ -32,11 +32,20 @@ fn bound_of(words: &ArgMatches<'_>) -> u64
     words.get_one::<u64>("bound").unwrap()
 }
 
+/// The number of turns or ticks that the words give.
+fn count_of(words: &ArgMatches<'_>, id: &str) -> u32
+    requires { IsGivenCount (rows_of (found_of words.now)) id.now }
+    ensures number { HasNumber (rows_of (found_of words.now)) id.now result }
+    ensures range { IsCount result }
+{
+    words.get_one::<u32>(id).unwrap()
+}
+
 /// What a subcommand of this name asks for with its words.
 pub fn asked(alloc: Global, name: &str, words: &ArgMatches<'_>) -> Result<Cmd, AllocError>
     requires { HasWords name.now (rows_of (found_of words.now)) }
     ensures asked { IfOk result (IsAsked name.now (rows_of (found_of words.now))) }
-    ensures bound { IfOk result HasBound }
+    ensures ranges { IfOk result KeepsRanges }
 {
     match name {
         "check" => Ok(Cmd::Check {
@@ -48,9 +57,16 @@ pub fn asked(alloc: Global, name: &str, words: &ArgMatches<'_>) -> Result<Cmd, A
             tasks: name_of(alloc, words, "SRC")?,
             image: name_of(alloc, words, "OUT")?,
         }),
-        _ => Ok(Cmd::Sim {
+        "sim" => Ok(Cmd::Sim {
             image: name_of(alloc, words, "IMAGE")?,
             steps: name_of(alloc, words, "STEPS")?,
+            bound: bound_of(words),
+        }),
+        _ => Ok(Cmd::Host {
+            image: name_of(alloc, words, "IMAGE")?,
+            journal: name_of(alloc, words, "JOURNAL")?,
+            turns: count_of(words, "turns"),
+            ticks: count_of(words, "ticks"),
             bound: bound_of(words),
         }),
     }

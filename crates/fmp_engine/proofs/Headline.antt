@@ -1,4 +1,4 @@
--- What the image of two texts prints is what the texts mean.
+-- What the image of two texts prints, over steps or over a journal, is what the texts mean.
 use Rattle.std.proofs.Common.{◌≡◌, ℕ, List, ◌++◌, Result, Ok, Err, OnOk, ap, subst, ◌∙◌}
 use Rattle.fmp_base.specs.declared.events.Event.{Event}
 use Rattle.fmp_base.specs.Texts.{whole_text}
@@ -8,6 +8,8 @@ use Rattle.fmp_image.specs.Images.{ImageTables, Spells}
 use Rattle.fmp_image.proofs.ImageLaws.{one_image}
 use Rattle.fmp_tasklang.specs.Trees.{BodyTree}
 use Rattle.fmp_trace.specs.Steps.{steps_of}
+use Rattle.fmp_engine.specs.declared.hosting.Workload.{Workload}
+use Rattle.fmp_engine.specs.Hosting.{Hosts, HostsTexts, IsHosted}
 use Rattle.fmp_engine.specs.Simulations.{Simulates, PrintsTexts}
 
 pub prints_texts : (i : ImageTables) (bodies : List BodyTree) (image steps : List ℕ) (n : ℕ) (before after : List ℕ)
@@ -25,6 +27,24 @@ prints_texts i bodies image steps n before after s spelled law =
       finishes = like.finishes;
       text = subst (λ (j : ImageTables). after ≡ before ++ whole_text j.system (code_meaning j.code) n s.events) same s.text
           ∙ ap (λ (text : List ℕ). before ++ text) like.text;
+    }
+
+pub hosts_texts : (i : ImageTables) (bodies : List BodyTree) (image : List ℕ) (work : Workload) (file file_after out out_after : List ℕ)
+    → Hosts image work file file_after out out_after → Spells i image → ((es : List Event) → PrintsText i.system bodies i.code work.bound es)
+    → HostsTexts i bodies work file file_after out out_after
+hosts_texts i bodies image work file file_after out out_after h spelled law =
+    let same : h.loaded ≡ i = one_image h.loaded i image h.spelled spelled in
+    let made : IsHosted i work h.journal = subst (λ (j : ImageTables). IsHosted j work h.journal) same h.made in
+    let like : PrintsText i.system bodies i.code work.bound h.journal = law h.journal in
+    let all : like.finished ≡ h.journal = like.are_done ∙ made.legal.all_done in
+    record {
+      journal = h.journal;
+      made = made;
+      steps = h.steps;
+      trace = like.trace;
+      finishes = rw all at like.finishes;
+      text = subst (λ (j : ImageTables). out_after ≡ out ++ whole_text j.system (code_meaning j.code) work.bound h.journal) same h.text
+          ∙ ap (λ (text : List ℕ). out ++ text) like.text;
     }
 
 pub where_ok : {A E P Q : Type 0} (r : Result A E) → (P → Q) → OnOk r P → OnOk r Q

@@ -1,3 +1,4 @@
 pub mod Built
+pub mod Hosting
 pub mod Plays
 pub mod Simulations

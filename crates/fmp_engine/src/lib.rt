@@ -2,10 +2,13 @@
 #![tactic(auto)]
 
 mod building;
+mod events;
 mod fault;
+mod hosting;
 mod play;
 mod simulation;
 
 pub use building::{build_image, check};
 pub use fault::SimFault;
+pub use hosting::{HostFault, Workload, host};
 pub use simulation::sim;

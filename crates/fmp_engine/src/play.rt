@@ -12,26 +12,28 @@ ghost use Rattle.fmp_kernel.specs.KernelViews.{view_of_setup};
 ghost use Rattle.fmp_trace.specs.Fronts.{Begins};
 ghost use Rattle.fmp_engine.specs.Plays.{HasTaken};
 
+use crate::events::Events;
 use fmp_base::{Effect, System, TaskState};
 use fmp_body::Body;
 use fmp_kernel::Kernel;
-use fmp_trace::{Steps, print, print_states};
+use fmp_trace::{print, print_states};
 use std::alloc::{AllocError, Global};
 
-/// Takes all events of some steps on a kernel, and appends the text of their lines. Where memory runs out, what stood
-/// before is still the front of the text.
-fn take<B: Body>(
+/// Takes all events on a kernel, and appends the text of their lines. Where memory runs out, what stood before is still
+/// the front of the text.
+fn take<B: Body, E: Events>(
     sys: &System,
     kernel: &mut Kernel<B>,
-    steps: &mut Steps<'_>,
+    events: &mut E,
     out: &mut Vec<u8>,
 ) -> Result<(), AllocError>
     requires system { kernel.old.system ≡ tables_of sys.now }
-    requires few { kernel.old.done + length steps.old ≤ 2 ^ 20 }
-    ensures ok { OnOk result (HasTaken B.meaning kernel.old kernel.new steps.old out.old.items out.new.items) }
+    requires few { kernel.old.done + length (E.left events.old) ≤ 2 ^ 20 }
+    ensures ok { OnOk result
+        (HasTaken B.meaning kernel.old kernel.new (E.left events.old) out.old.items out.new.items) }
     ensures err { OnErr result (Begins out.old.items out.new.items) }
 {
-    while let Some(event) = steps.next_event() {
+    while let Some(event) = events.next_event() {
         match kernel.step(event) {
             Effect::Done => print(sys, kernel.done(), kernel.lines(), out)?,
             Effect::Nothing => {}
@@ -58,76 +60,76 @@ fn states<B: Body>(
 
 /// Appends the text of a run of a kernel after setup: its lines, those of the events that did something, and the states
 /// at the end. Where memory runs out, what stood before is still the front of the text.
-fn append_from_setup<B: Body>(
+fn append_from_setup<B: Body, E: Events>(
     alloc: Global,
     sys: &System,
     kernel: &mut Kernel<B>,
-    steps: &mut Steps<'_>,
+    events: &mut E,
     out: &mut Vec<u8>,
 ) -> Result<(), AllocError>
     requires system { kernel.old.system ≡ tables_of sys.now }
     requires fresh { kernel.old.done ≡ 0 }
     requires tasks { length sys.now.tasks.items ≤ 255 }
-    requires few { length steps.old ≤ 2 ^ 20 }
+    requires few { length (E.left events.old) ≤ 2 ^ 20 }
     ensures ok { (body : B) (n : ℕ) →
         kernel.old ≡ view_of_setup body n (tables_of sys.now) (setup (tables_of sys.now) (B.meaning body)) →
         OnOk result (out.new.items ≡
-        out.old.items ++ whole_text (tables_of sys.now) (B.meaning body) n steps.old) }
+        out.old.items ++ whole_text (tables_of sys.now) (B.meaning body) n (E.left events.old)) }
     ensures err { OnErr result (Begins out.old.items out.new.items) }
 {
     let count = sys.tasks.len() as u8;
     print(sys, 0, kernel.lines(), out)?;
-    take(sys, kernel, steps, out)?;
+    take(sys, kernel, events, out)?;
     let states = states(alloc, kernel, count)?;
     print_states(sys, states.as_slice(), out)
 }
 
 /// Appends the text of a run of a system over events. Where memory runs out, what stood before is still the front of
 /// the text.
-fn append_run<B: Body + Drop>(
+fn append_run<B: Body + Drop, E: Events>(
     alloc: Global,
     sys: &System,
     body: B,
     n: u64,
-    steps: &mut Steps<'_>,
+    events: &mut E,
     out: &mut Vec<u8>,
 ) -> Result<(), AllocError>
     requires low { 1 ≤ n }
     requires high { n ≤ 2 ^ 48 }
     requires entries { Entered B.has_entry body (tables_of sys.now) }
     requires range { IsInRange (tables_of sys.now) }
-    requires few { length steps.old ≤ 2 ^ 20 }
+    requires few { length (E.left events.old) ≤ 2 ^ 20 }
     ensures ok { OnOk result
-        (out.new.items ≡ out.old.items ++ whole_text (tables_of sys.now) (B.meaning body) n steps.old) }
+        (out.new.items ≡ out.old.items ++ whole_text (tables_of sys.now) (B.meaning body) n (E.left events.old)) }
     ensures err { OnErr result (Begins out.old.items out.new.items) }
 {
     match Kernel::new(alloc, body, sys, n) {
-        Ok(mut kernel) => append_from_setup(alloc, sys, &mut kernel, steps, out),
+        Ok(mut kernel) => append_from_setup(alloc, sys, &mut kernel, events, out),
         Err(_) => Err(AllocError),
     }
 }
 
 /// Runs a system over events within n units a stretch, and appends all that it prints. Want of memory is the only
 /// error; then nothing is appended.
-pub fn play<B: Body + Drop>(
+pub fn play<B: Body + Drop, E: Events>(
     alloc: Global,
     sys: &System,
     body: B,
     n: u64,
-    steps: &mut Steps<'_>,
+    events: &mut E,
     out: &mut Vec<u8>,
 ) -> Result<(), AllocError>
     requires low { 1 ≤ n }
     requires high { n ≤ 2 ^ 48 }
     requires entries { Entered B.has_entry body (tables_of sys.now) }
     requires range { IsInRange (tables_of sys.now) }
-    requires few { length steps.old ≤ 2 ^ 20 }
+    requires few { length (E.left events.old) ≤ 2 ^ 20 }
     ensures ok { OnOk result
-        (out.new.items ≡ out.old.items ++ whole_text (tables_of sys.now) (B.meaning body) n steps.old) }
+        (out.new.items ≡ out.old.items ++ whole_text (tables_of sys.now) (B.meaning body) n (E.left events.old)) }
     ensures err { OnErr result (out.new.items ≡ out.old.items) }
 {
     let before = out.len();
-    let played = append_run(alloc, sys, body, n, steps, out);
+    let played = append_run(alloc, sys, body, n, events, out);
     if played.is_err() {
         out.truncate(before);
     }

@@ -4,7 +4,7 @@ use Rattle.std.specs.Option.{IsSomeAnd}
 use Rattle.clap.specs.Words.{Row, Text, found_of, rows_of, subcommand_of}
 use Rattle.fmp_command.specs.Asked.{HasWords}
 use Rattle.fmp_command.specs.Form.{fmp}
-use Rattle.fmp_command.proofs.Entering.{asks_for, enters_form, fits_form, some_beside}
+use Rattle.fmp_command.proofs.Entering.{asks_for, enters_form, fits_form, refused_form, some_beside}
 use Rattle.fmp_command.proofs.Given.{form_has}
 use Rattle.fmp_command.proofs.asking.command.Goals as goal
 
@@ -23,6 +23,11 @@ asked-requires c =
     let enters = enters_form _ words c.in_ok-matches.matches _ c.in_ok-program.ensures c.in_ok-matches.ensures.matches c.entered.ensures in
     subst (λ o. IsSomeAnd (option_map (λ p. (p.0.now, rows_of (found_of p.1.now))) o) (λ (p : Text × List Row). HasWords p.0 p.1)) c.unwrap.ensures
     (subst (λ o. IsSomeAnd o (λ (p : Text × List Row). HasWords p.0 p.1)) (sym enters) (form_has words fits))
+
+pub returns-in_err-matches-clause-refused : goal.returns-in_err-matches-clause-refused
+returns-in_err-matches-clause-refused c =
+    let words = map (λ word. word.now) c.args.words.now in
+    refused_form _ words _ _ c.in_ok-program.ensures c.from_residual-in_err-matches.ensures.1 c.in_err-matches.ensures.kinds
 
 pub returns-clause-asked : goal.returns-clause-asked
 returns-clause-asked c =

@@ -1,4 +1,4 @@
-use Rattle.std.proofs.Common.{◌∙◌, ◌≤◌, ℕ, codes, subst, sym}
+use Rattle.std.proofs.Common.{◌∙◌, ◌≤◌, ℕ, codes, lit<, subst, sym}
 use Rattle.std.specs.Option.{IsSomeAnd}
 use Rattle.std.specs.Str.Parse.{ExplainsUnsignedError, HasUnsignedDigitsIfOk, ParsesUnsigned}
 use Rattle.clap.specs.Words.{IsUnsignedIn, found_of, one_text}
@@ -9,8 +9,8 @@ use Rattle.fmp_command.proofs.reading.bound_of.Goals as goal
 pub unwrap-requires : goal.unwrap-requires
 unwrap-requires c =
     let found = found_of c.args.words.now in
-    number_given (λ word read. ParsesUnsigned 64 10 word read × ExplainsUnsignedError 10 word read × HasUnsignedDigitsIfOk word read)
-    (one_text found (codes "bound")) c.get_one.result
+    number_given 64 1 281474976710656 (λ word read. ParsesUnsigned 64 10 word read × ExplainsUnsignedError 10 word read × HasUnsignedDigitsIfOk word read)
+    (one_text found (codes "bound")) c.get_one.result (lit< tt)
     (subst (λ text. IsSomeAnd text (IsUnsignedIn 1 281474976710656)) (sym (one_text-rows found (codes "bound"))) c.requires)
     c.get_one.ensures.value (λ t r given. given.0)
 

@@ -16,7 +16,7 @@ returns-clause-ok g c body n start =
     let out = c.args.out.now.items in
     let count : vec_len c.args.sys.now.tasks ≡ length c.args.sys.now.tasks.items = search rules in
     on_ok_then c.print_states.result
-    (λ written. whole g.B.Body.meaning body n sys c.args.kernel.now c.take.new.kernel c.args.steps.now out
+    (λ written. whole g.B.Body.meaning body n sys c.args.kernel.now c.take.new.kernel (g.E.Events.left c.args.events.now) out
     c.print.new.out.items c.take.new.out.items c.print_states.new.out.items c.in_ok-states.states.items
     start
     (c.in_ok-print.ensures.ok ∙ ap (λ (ls : List Line). out ++ lines_text sys 0 ls) c.lines.ensures)

@@ -7,12 +7,12 @@ use Rattle.fmp_engine.proofs.play.take.Given as goal
 abbrev pub invariant-loop-event : goal.invariant-loop-event
 invariant-loop-event g l =
     record {
-      text : l.out.items ++ text_of_events g.B.Body.meaning l.kernel l.steps ≡ l.fn.out.items ++ text_of_events g.B.Body.meaning l.fn.kernel l.fn.steps;
-      state : state_after g.B.Body.meaning l.kernel l.steps ≡ state_after g.B.Body.meaning l.fn.kernel l.fn.steps;
+      text : l.out.items ++ text_of_events g.B.Body.meaning l.kernel (g.E.Events.left l.events) ≡ l.fn.out.items ++ text_of_events g.B.Body.meaning l.fn.kernel (g.E.Events.left l.fn.events);
+      state : state_after g.B.Body.meaning l.kernel (g.E.Events.left l.events) ≡ state_after g.B.Body.meaning l.fn.kernel (g.E.Events.left l.fn.events);
       system : l.kernel.system ≡ tables_of l.sys;
       kept : Begins l.fn.out.items l.out.items;
-      few : l.kernel.done + length l.steps ≤ 2 ^ 20;
+      few : l.kernel.done + length (g.E.Events.left l.events) ≤ 2 ^ 20;
     }
 
 abbrev pub decreases-loop-event : goal.decreases-loop-event
-decreases-loop-event g l = length l.steps
+decreases-loop-event g l = length (g.E.Events.left l.events)

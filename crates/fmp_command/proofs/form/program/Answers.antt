@@ -1,0 +1,12 @@
+use Rattle.std.proofs.Common.{◌∙◌, ap₂}
+use Rattle.std.proofs.lemmas.Result.{IfOk-weaker}
+use Rattle.clap.specs.Words.{App, with_subcommand}
+use Rattle.fmp_command.proofs.form.program.Goals as goal
+
+pub returns : goal.returns
+returns c =
+    let add : App → App → App = λ a b. with_subcommand a b.top in
+    let check = c.in_ok-program.ensures ∙ ap₂ add c.bare.ensures c.in_ok-check_command.ensures in
+    let build = c.in_ok-program-2.ensures ∙ ap₂ add check c.in_ok-build_command.ensures in
+    let sim = c.in_ok-program-3.ensures ∙ ap₂ add build c.in_ok-sim_command.ensures in
+    IfOk-weaker c.with_command-4.result _ _ (λ program whole. whole ∙ ap₂ add sim c.in_ok-host_command.ensures) c.with_command-4.ensures

@@ -1,0 +1,209 @@
+//! A host: an image that is run by threads, one for each of its processors.
+ghost use Rattle.std.specs.Prelude.{◌≡◌, ◌≢◌, ◌+◌, ◌++◌, ◌≤◌, ◌^◌, List, ℕ, All, IfErr, IfOk, OnErr, OnOk, length};
+ghost use Rattle.fmp_base.specs.Texts.{whole_text};
+ghost use Rattle.fmp_build.specs.Building.{Builds};
+ghost use Rattle.fmp_code.specs.Machine.{code_meaning};
+ghost use Rattle.fmp_engine.specs.Hosting.{FitsBoard, Hosts, HostsTexts, IsHosted, IsWhyHost, IsWhyNoJournal, IsWorkload};
+ghost use Rattle.fmp_hostrun.specs.Boards.{IsAt, IsClosed, blank as blank_of};
+ghost use Rattle.fmp_hostrun.specs.declared.fault.BoardFault.TheVariants.{Limit};
+ghost use Rattle.fmp_image.specs.Images.{ImageTables, Spells};
+ghost use Rattle.fmp_trace.specs.Steps.{steps_text};
+
+use crate::events::Journal;
+use crate::play::play;
+use fmp_base::Event;
+use fmp_build::laws::built_image_prints_text;
+use fmp_hostrun::{Blank, Board, BoardFault, Closed, Gate, Seat, Site, run_all};
+use fmp_image::{Image, LoadFault, load};
+use fmp_trace::print_steps;
+use std::alloc::{AllocError, Global};
+use std::marker::Brand;
+use std::sync::Wait;
+use std::thread::Threads;
+use thiserror::Error;
+
+/// What the threads of a host are to do.
+#[derive(Clone, Copy, Debug, PartialEq, Eq)]
+pub struct Workload {
+    /// How many turns each processor has, at most 2^20.
+    pub turns: u32,
+    /// How many ticks the clock has, at most 2^20.
+    pub ticks: u32,
+    /// How many instructions a stretch of a body may take, 1 to 2^48.
+    pub bound: u64,
+}
+
+/// Why a host writes and prints nothing.
+#[derive(Clone, Copy, Debug, PartialEq, Eq, Error)]
+pub enum HostFault {
+    /// The bytes spell no image. It is never want of memory.
+    #[error("{0}")]
+    Load(LoadFault),
+    /// The turns and ticks are no events or more than a board has room for, or a thread was refused. It is never want
+    /// of memory.
+    #[error("host: {0}")]
+    Board(BoardFault),
+    /// Memory ran out.
+    #[error("memory")]
+    Memory,
+}
+
+/// A gate that lets every processor go on.
+struct OpenGate;
+
+impl Gate for OpenGate {
+    fn may_submit(&self, _p: u8, _turn: u32) -> bool {
+        true
+    }
+
+    fn answered(&self, _p: u8, _turn: u32) {}
+}
+
+/// The end of a host whose board answered with a fault.
+fn fault_of(fault: BoardFault) -> HostFault
+    ensures { (i : ImageTables) (work : Workload)
+        → (fault ≡ Limit → FitsBoard i work → ⊥) → IsWhyNoJournal result i work }
+{
+    match fault {
+        BoardFault::Memory => HostFault::Memory,
+        fault => HostFault::Board(fault),
+    }
+}
+
+/// Opens a board, runs its threads, and closes it.
+fn run_board<'a, S: Site + Send + Sync, R: Threads + Wait + Sync>(
+    rt: &R,
+    alloc: Global,
+    blank: Blank<'a>,
+    seats: Vec<Seat>,
+    work: Workload,
+) -> Result<Closed<'a>, BoardFault>
+    requires blank { blank ≡ blank_of S.image S.bound S.capacity S.seats }
+    requires seats { All (IsAt S.seats) seats.items }
+    requires count { length seats.items ≡ S.image.system.processors + 1 }
+    ensures closed { IfOk result (IsClosed S.image S.bound S.capacity S.seats) }
+    ensures fault { IfErr result (λ f. f ≢ Limit) }
+{
+    let board: Board<'a, S> = blank.open();
+    let (_, journaled) = run_all(rt, alloc, &board, &OpenGate, seats, work.turns, work.ticks);
+    match journaled {
+        Ok(_) => Ok(board.close()),
+        Err(fault) => Err(fault),
+    }
+}
+
+/// The events of the journal of a closed board.
+#[tactic(auto, using(crate::proofs::JournalLemmas::one_copied))]
+fn events_of(alloc: Global, closed: &Closed<'_>) -> Result<Vec<Event>, AllocError>
+    ensures { IfOk result (λ events. events.items ≡ closed.now.events) }
+{
+    let mut events = Vec::with_capacity(alloc, closed.len() as usize)?;
+    for i in 0..closed.len() {
+        events.push_reserved(closed.event(i));
+    }
+    Ok(events)
+}
+
+/// The journal that the threads of a board of an image make.
+fn journal_of<R: Threads + Wait + Sync>(
+    rt: &R,
+    alloc: Global,
+    image: &Image,
+    work: Workload,
+) -> Result<Vec<Event>, HostFault>
+    requires { IsWorkload work }
+    ensures journal { IfOk result (λ events. IsHosted image.now work events.items) }
+    ensures refused { IfErr result (λ f. IsWhyNoJournal f image.now work) }
+{
+    let processors = image.system().processors;
+    let capacity = u32::from(processors) * work.turns + work.ticks;
+    let (blank, seats) = match Blank::new(alloc, image, work.bound, capacity, processors + 1) {
+        Ok(made) => made,
+        Err(fault) => return Err(fault_of(fault)),
+    };
+    let closed = match run_board::<Brand, _>(rt, alloc, blank, seats, work) {
+        Ok(closed) => closed,
+        Err(fault) => return Err(fault_of(fault)),
+    };
+    match events_of(alloc, &closed) {
+        Ok(events) => Ok(events),
+        Err(_) => Err(HostFault::Memory),
+    }
+}
+
+/// Appends a journal of an image as a steps text to a file, and all that the image prints over it to the output. Where
+/// memory runs out, both stay as they were.
+fn append_journal(
+    alloc: Global,
+    image: &Image,
+    n: u64,
+    journal: &[Event],
+    file: &mut Vec<u8>,
+    out: &mut Vec<u8>,
+) -> Result<(), AllocError>
+    requires bound { (1 ≤ n) × (n ≤ 2 ^ 48) }
+    requires few { length journal.now ≤ 2 ^ 20 }
+    ensures file { OnOk result (file.new.items ≡ file.old.items ++ steps_text journal.now) }
+    ensures out { OnOk result (out.new.items
+        ≡ out.old.items ++ whole_text image.now.system (code_meaning image.now.code) n journal.now) }
+    ensures err { OnErr result ((file.new.items ≡ file.old.items) × (out.new.items ≡ out.old.items)) }
+{
+    image.keeps_rules();
+    let before = file.len();
+    print_steps(journal, file)?;
+    let mut events = Journal::new(journal);
+    let played = play(alloc, image.system(), image.vm(), n, &mut events, out);
+    if played.is_err() {
+        file.truncate(before);
+    }
+    played
+}
+
+/// Loads an image, runs it by threads, and appends the journal and what the image prints over it.
+fn append_hosted<R: Threads + Wait + Sync>(
+    rt: &R,
+    alloc: Global,
+    image: &[u8],
+    work: Workload,
+    file: &mut Vec<u8>,
+    out: &mut Vec<u8>,
+) -> Result<(), HostFault>
+    requires { IsWorkload work }
+    ensures ok { OnOk result (Hosts image.now work file.old.items file.new.items out.old.items out.new.items) }
+    ensures refused { IfErr result (λ f. IsWhyHost f image.now work) }
+    ensures err { OnErr result ((file.new.items ≡ file.old.items) × (out.new.items ≡ out.old.items)) }
+{
+    let image = match load(alloc, image) {
+        Ok(image) => image,
+        Err(LoadFault::Memory) => return Err(HostFault::Memory),
+        Err(fault) => return Err(HostFault::Load(fault)),
+    };
+    let journal = journal_of(rt, alloc, &image, work)?;
+    append_journal(alloc, &image, work.bound, &journal, file, out).map_err(|_| HostFault::Memory)
+}
+
+/// Loads an image, and runs it by threads: one for each processor makes the turns, each of which lets its processor run
+/// once, and one more makes the ticks. Then appends the journal of the events that did something to the file, as a
+/// steps text, and to the output the trace of the journal and the states of the tasks at its end.
+///
+/// The image is judged first. Then, with P processors, P * turns + ticks has to be 1 to 2^20, else it is
+/// `HostFault::Board(BoardFault::Limit)`. After an error nothing has been appended.
+pub fn host<R: Threads + Wait + Sync>(
+    rt: &R,
+    alloc: Global,
+    image: &[u8],
+    work: Workload,
+    file: &mut Vec<u8>,
+    out: &mut Vec<u8>,
+) -> Result<(), HostFault>
+    requires { IsWorkload work }
+    ensures ok { OnOk result (Hosts image.now work file.old.items file.new.items out.old.items out.new.items) }
+    // Where two texts build the image, what was appended is what they mean over the journal.
+    ensures headline { (cfg src : List ℕ) (i : ImageTables) (b : Builds cfg src i) → Spells i image.now → OnOk result
+        (HostsTexts i b.tasks.bodies work file.old.items file.new.items out.old.items out.new.items) }
+    ensures refused { IfErr result (λ f. IsWhyHost f image.now work) }
+    ensures err { OnErr result ((file.new.items ≡ file.old.items) × (out.new.items ≡ out.old.items)) }
+{
+    built_image_prints_text();
+    append_hosted(rt, alloc, image, work, file, out)
+}
