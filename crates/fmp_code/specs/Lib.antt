@@ -1,3 +1,4 @@
+pub mod Hands
 pub mod Instructions
 pub mod Laws
 pub mod Longer

@@ -2,6 +2,7 @@
 #![tactic(auto)]
 
 mod delivery;
+mod holding;
 pub mod instructions;
 pub mod laws;
 mod machine;

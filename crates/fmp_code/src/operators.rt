@@ -31,8 +31,11 @@ fn divided(x: i32, y: i32) -> Result<i32, Fault>
 {
     if y == 0 {
         Err(Fault::Division)
-    } else {
+    } else if y == -1 {
         fitted(x as i64 / y as i64)
+    } else {
+        // A quotient of 32 bits takes less time than one of 64.
+        Ok(x / y)
     }
 }
 
@@ -40,10 +43,15 @@ fn remainder(x: i32, y: i32) -> i32
     requires { is_zero y ≡ false }
     ensures { result ≡ int_rem x y }
 {
-    (x as i64 % y as i64) as i32
+    if y == -1 {
+        (x as i64 % y as i64) as i32
+    } else {
+        x % y
+    }
 }
 
 /// What a binary operator gives.
+#[inline(always)]
 pub fn apply_binary(operator: BinaryOperator, x: i32, y: i32) -> Result<i32, Fault>
     ensures { result ≡ binary_value operator x y }
 {
