@@ -1,10 +1,13 @@
 /* Stands in front of the C library's allocator and refuses one allocation: that whose number, from 1, REFUSE_AT gives.
-   At the end it writes how many were asked for into the file that REFUSE_LOG names. */
+   At the end it writes how many were asked for into the file that REFUSE_LOG names. A program that can start threads ends
+   by `_exit`, which calls no destructors, so it stands in front of that, too. */
 #define _GNU_SOURCE
 #include <errno.h>
 #include <stddef.h>
 #include <stdio.h>
 #include <stdlib.h>
+#include <sys/syscall.h>
+#include <unistd.h>
 
 extern void *__libc_malloc(size_t);
 extern void *__libc_calloc(size_t, size_t);
@@ -18,8 +21,7 @@ static int is_refused(void) {
         const char *at = getenv("REFUSE_AT");
         refused_at = at ? atol(at) : 0;
     }
-    asked += 1;
-    return asked == refused_at;
+    return __atomic_add_fetch(&asked, 1, __ATOMIC_SEQ_CST) == refused_at;
 }
 
 void *malloc(size_t size) { return is_refused() ? NULL : __libc_malloc(size); }
@@ -46,4 +48,10 @@ __attribute__((destructor)) static void tell(void) {
     if (log == NULL) return;
     fprintf(log, "%ld\n", count);
     fclose(log);
+}
+
+void _exit(int status) {
+    tell();
+    syscall(SYS_exit_group, status);
+    __builtin_unreachable();
 }
