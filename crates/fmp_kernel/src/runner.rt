@@ -217,7 +217,7 @@ impl<B: Body> Runner<B> {
     }
 
     /// Setup, where all objects have just been made: the tasks with TA_ACT start, in order of number, and all
-    /// processors settle (uITRON 4.0, section 3.12).
+    /// processors settle (uITRON 4.0, section 3.7).
     pub fn set_up(&mut self)
         requires state { self.old.world.state ≡ created_state self.old.system }
         requires contexts { self.old.world.contexts ≡ no_contexts self.old.system }

@@ -61,7 +61,7 @@ impl Model for Tables {
 }
 
 impl Tables {
-    /// The state in which a system starts, with no task started yet (uITRON 4.0, section 3.12). `AllocError` for want
+    /// The state in which a system starts, with no task started yet (uITRON 4.0, section 3.7). `AllocError` for want
     /// of memory.
     pub fn new(alloc: Global, sys: &System) -> Result<Tables, AllocError>
         requires { IsInRange (tables_of sys.now) }
