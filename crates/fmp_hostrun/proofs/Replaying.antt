@@ -92,7 +92,7 @@ kernel_last i n es e d h =
     let more : length es + 1 ≡ length (es ++ e ∷ []) = omega (arith, length-append es (e ∷ [])) in
     let next : List ℕ = stamped d.lines (replay i n es).world.state d.world.state (stamps_after i n es) in
     let stamps : stamps_after i n (es ++ e ∷ []) ≡ next
-        = stamps_follow i n es e ∙ ap (λ (r : Reaction MachineContext). stamps_or (replay i n es) r (stamps_after i n es)) h in
+    = stamps_follow i n es e ∙ ap (λ (r : Reaction MachineContext). stamps_or (replay i n es) r (stamps_after i n es)) h in
     let with : Done MachineContext → ℕ → List ℕ → KernelView (List BodyTables) MachineContext =
     λ v k s. record { body = i.code; bound = n; system = i.system; world = v.world; lines = v.lines; done = k; stamps = s } in
     ap (λ (v : Done MachineContext). with v (length es + 1) next) (sym now)

@@ -37,7 +37,7 @@ replay i n es = done_after i.system (code_meaning i.code) n (setup i.system (cod
 unfoldable pub stamps_after : ImageTables → (n : ℕ) → List Event → List ℕ
 stamps_after i n es =
     stamps_on i.system (code_meaning i.code) n (setup i.system (code_meaning i.code))
-        (replicate i.system.processors 0) es
+    (replicate i.system.processors 0) es
 
 -- what an event does after the replay of others
 unfoldable pub reaction : ImageTables → (n : ℕ) → List Event → Event → Reaction MachineContext
