@@ -291,9 +291,25 @@ module _ (c : ClassPlace) (f : List FieldTree) (t : SystemTables) where
     names_more api.CreDtq =
         let n = name_at f 0 in put_last n _ (name_later (map task_name t.tasks) _ _ n
         (name_later (map semaphore_name t.semaphores) _ _ n (name_later (map flag_name t.flags) _ _ n (name_here data_queue_name t.data_queues _ _))))
-    names_more api.CreMbx = let n = name_at f 0 in put_last n _ (name_later (map task_name t.tasks) _ _ n (name_later (map semaphore_name t.semaphores) _ _ n (name_later (map flag_name t.flags) _ _ n (name_later (map data_queue_name t.data_queues) _ _ n (name_here mailbox_name t.mailboxes _ _)))))
-    names_more api.CreMsg = let n = name_at f 0 in put_last n _ (name_later (map task_name t.tasks) _ _ n (name_later (map semaphore_name t.semaphores) _ _ n (name_later (map flag_name t.flags) _ _ n (name_later (map data_queue_name t.data_queues) _ _ n (name_later (map mailbox_name t.mailboxes) _ _ n (name_here message_name t.messages _ _))))))
-    names_more api.CreShr = let n = name_at f 0 in put_last n _ (name_later (map task_name t.tasks) _ _ n (name_later (map semaphore_name t.semaphores) _ _ n (name_later (map flag_name t.flags) _ _ n (name_later (map data_queue_name t.data_queues) _ _ n (name_later (map mailbox_name t.mailboxes) _ _ n (name_later (map message_name t.messages) _ _ n (name_here shared_word_name t.shared_words _ _)))))))
-    names_more api.CreSpn = let n = name_at f 0 in put_last n _ (name_later (map task_name t.tasks) _ _ n (name_later (map semaphore_name t.semaphores) _ _ n (name_later (map flag_name t.flags) _ _ n (name_later (map data_queue_name t.data_queues) _ _ n (name_later (map mailbox_name t.mailboxes) _ _ n (name_later (map message_name t.messages) _ _ n (name_later (map shared_word_name t.shared_words) _ _ n (name_here spin_lock_name t.spin_locks _ _))))))))
-    names_more api.CreCyc = let n = name_at f 0 in put_last n _ (name_later (map task_name t.tasks) _ _ n (name_later (map semaphore_name t.semaphores) _ _ n (name_later (map flag_name t.flags) _ _ n (name_later (map data_queue_name t.data_queues) _ _ n (name_later (map mailbox_name t.mailboxes) _ _ n (name_later (map message_name t.messages) _ _ n (name_later (map shared_word_name t.shared_words) _ _ n (name_later (map spin_lock_name t.spin_locks) _ _ n (name_last cyclic_name t.cyclics _)))))))))
+    names_more api.CreMbx = let n = name_at f 0 in put_last n _ (name_later (map task_name t.tasks) _ _ n
+        (name_later (map semaphore_name t.semaphores) _ _ n (name_later (map flag_name t.flags) _ _ n
+        (name_later (map data_queue_name t.data_queues) _ _ n (name_here mailbox_name t.mailboxes _ _)))))
+    names_more api.CreMsg = let n = name_at f 0 in put_last n _ (name_later (map task_name t.tasks) _ _ n
+        (name_later (map semaphore_name t.semaphores) _ _ n (name_later (map flag_name t.flags) _ _ n
+        (name_later (map data_queue_name t.data_queues) _ _ n (name_later (map mailbox_name t.mailboxes) _ _ n
+        (name_here message_name t.messages _ _))))))
+    names_more api.CreShr = let n = name_at f 0 in put_last n _ (name_later (map task_name t.tasks) _ _ n
+        (name_later (map semaphore_name t.semaphores) _ _ n (name_later (map flag_name t.flags) _ _ n
+        (name_later (map data_queue_name t.data_queues) _ _ n (name_later (map mailbox_name t.mailboxes) _ _ n
+        (name_later (map message_name t.messages) _ _ n (name_here shared_word_name t.shared_words _ _)))))))
+    names_more api.CreSpn = let n = name_at f 0 in put_last n _ (name_later (map task_name t.tasks) _ _ n
+        (name_later (map semaphore_name t.semaphores) _ _ n (name_later (map flag_name t.flags) _ _ n
+        (name_later (map data_queue_name t.data_queues) _ _ n (name_later (map mailbox_name t.mailboxes) _ _ n
+        (name_later (map message_name t.messages) _ _ n (name_later (map shared_word_name t.shared_words) _ _ n
+        (name_here spin_lock_name t.spin_locks _ _))))))))
+    names_more api.CreCyc = let n = name_at f 0 in put_last n _ (name_later (map task_name t.tasks) _ _ n
+        (name_later (map semaphore_name t.semaphores) _ _ n (name_later (map flag_name t.flags) _ _ n
+        (name_later (map data_queue_name t.data_queues) _ _ n (name_later (map mailbox_name t.mailboxes) _ _ n
+        (name_later (map message_name t.messages) _ _ n (name_later (map shared_word_name t.shared_words) _ _ n
+        (name_later (map spin_lock_name t.spin_locks) _ _ n (name_last cyclic_name t.cyclics _)))))))))
     names_more api.DefInh = listed

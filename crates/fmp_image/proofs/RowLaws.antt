@@ -96,7 +96,9 @@ mailbox_back n h = four n (leb-true _ _ h) where
 module _ (frame : Frame) where
   pub task_back : GoesBack task_form frame
   task_back = record {
-    exact = both_exact _ _ text_exact (both_exact _ _ byte_exact (both_exact _ _ word_exact (both_exact _ _ byte_exact (both_exact _ _ byte_exact (both_exact _ _ long_exact (both_exact _ _ byte_exact byte_exact))))));
+    exact = both_exact _ _ text_exact (both_exact _ _ byte_exact
+        (both_exact _ _ word_exact
+        (both_exact _ _ byte_exact (both_exact _ _ byte_exact (both_exact _ _ long_exact (both_exact _ _ byte_exact byte_exact))))));
     back = λ (name, (attributes, (exinf, (body, (priority, (stack, (processor, only))))))) h.
         let one = and_true _ _ h in
         let two = and_true _ _ one.1 in

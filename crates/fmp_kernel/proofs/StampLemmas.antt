@@ -79,7 +79,8 @@ walked_on old r s ran p actor b l m e f w = record {
       → get_or (noted r p actor b).counts q 0
       ≡ get_or old.counts q 0 + one_if (is_same_task ran (Some q) || not (is_same_actor (get_or old.actors q None) (actor_of (processor_at s q))))
   count_at q h true t =
-      subst (λ (v : ℕ). get_or (noted r p actor b).counts v 0 ≡ get_or old.counts v 0 + one_if (is_same_task ran (Some v) || not (is_same_actor (get_or old.actors v None) (actor_of (processor_at s v)))))
+      subst (λ (v : ℕ). get_or (noted r p actor b).counts v 0 ≡ get_or old.counts v 0 + one_if
+      (is_same_task ran (Some v) || not (is_same_actor (get_or old.actors v None) (actor_of (processor_at s v)))))
       (sym (eqb-true q p t)) here
   count_at q h false t =
       get_or-set_other r.counts p q _ 0 (λ (z : q ≡ p). absurd (grind (arith, nat_tests, z, t)))

@@ -124,7 +124,8 @@ pub fn wai_flg(
     requires me { me < length tables.old.system.tasks }
     requires limit { IsTimeLimit limit }
     ensures outcome { outcome result tables.new []
-        ≡ wai_flg_case tables.old.system tables.old.state me (task_at tables.old.state.tasks me) limit flag pattern mode }
+        ≡ wai_flg_case tables.old.system tables.old.state me
+        (task_at tables.old.state.tasks me) limit flag pattern mode }
     ensures shape { SameShape tables.old tables.new }
 {
     let Some(f) = flag_of(tables, flag) else {

@@ -99,7 +99,9 @@ pub is_linked-pushed : (y x : ℕ) (lists : List (List ℕ)) (h : ℕ) → h < l
     → is_linked y (slice_set lists h (list_at lists h ++ x ∷ [])) ≡ (is_linked y lists || nat_eq y x)
 is_linked-pushed y x [] h k = absurd (omega arith)
 is_linked-pushed y x (l ∷ ls) zero k =
-    rw (in-push y x l) (sym (or_assoc (is_in y l) (nat_eq y x) (is_linked y ls)) ∙ (ap (λ (c : Bool). is_in y l || c) (or_comm (nat_eq y x) (is_linked y ls)) ∙ or_assoc (is_in y l) (is_linked y ls) (nat_eq y x)))
+    rw (in-push y x l) (sym (or_assoc (is_in y l) (nat_eq y x) (is_linked y ls))
+    ∙ (ap (λ (c : Bool). is_in y l || c) (or_comm (nat_eq y x) (is_linked y ls))
+    ∙ or_assoc (is_in y l) (is_linked y ls) (nat_eq y x)))
 is_linked-pushed y x (l ∷ ls) (suc h) k =
     rw (is_linked-pushed y x ls h (omega arith)) (or_assoc (is_in y l) (is_linked y ls) (nat_eq y x))
 

@@ -18,12 +18,17 @@ pub Walked-step : (n : ℕ) (f : ℕ → ℕ) (x u : ℕ) (l : List ℕ) (at : O
     → f u ≤ f x → at ≡ follower u l
     → Walked f x l at
 Walked-step n f x u l at o w low e =
-    let whole : from_node at l ≡ behind u l = ap (λ (q : Option ℕ). from_node q l) e ∙ follower-rest n u l w.past o w.split in
-    let later : behind_equals f x (u ∷ behind u l) ≡ u ∷ behind_equals f x (behind u l) = rw (le-ltb (f x) (f u) low) refl in
+    let whole : from_node at l ≡ behind u l = ap (λ (q : Option ℕ). from_node q l) e
+    ∙ follower-rest n u l w.past o w.split in
+    let later : behind_equals f x (u ∷ behind u l) ≡ u ∷ behind_equals f x (behind u l) = rw
+    (le-ltb (f x) (f u) low) refl in
     record {
       past = w.past ++ u ∷ [];
-      split = w.split ∙ (sym (append_assoc w.past (u ∷ []) (behind u l)) ∙ ap (λ (q : List ℕ). (w.past ++ u ∷ []) ++ q) (sym whole));
-      rest = w.rest ∙ (ap (λ (q : List ℕ). w.past ++ q) later ∙ (sym (append_assoc w.past (u ∷ []) (behind_equals f x (behind u l))) ∙ ap (λ (q : List ℕ). (w.past ++ u ∷ []) ++ behind_equals f x q) (sym whole)));
+      split = w.split ∙ (sym (append_assoc w.past (u ∷ []) (behind u l))
+          ∙ ap (λ (q : List ℕ). (w.past ++ u ∷ []) ++ q) (sym whole));
+      rest = w.rest ∙ (ap (λ (q : List ℕ). w.past ++ q) later
+          ∙ (sym (append_assoc w.past (u ∷ []) (behind_equals f x (behind u l)))
+          ∙ ap (λ (q : List ℕ). (w.past ++ u ∷ []) ++ behind_equals f x q) (sym whole)));
     }
 
 -- each step leaves less
@@ -31,7 +36,8 @@ pub Walked-shorter : (n : ℕ) (f : ℕ → ℕ) (x u : ℕ) (l : List ℕ) (at 
     → at ≡ follower u l
     → length (from_node at l) < length (from_node (Some u) l)
 Walked-shorter n f x u l at o w e =
-    let whole : from_node at l ≡ behind u l = ap (λ (q : Option ℕ). from_node q l) e ∙ follower-rest n u l w.past o w.split in
+    let whole : from_node at l ≡ behind u l = ap (λ (q : Option ℕ). from_node q l) e
+    ∙ follower-rest n u l w.past o w.split in
     rw whole (omega arith)
 
 pub Walked-in : (f : ℕ → ℕ) (x u : ℕ) (l : List ℕ) → Walked f x l (Some u) → is_in u l ≡ true

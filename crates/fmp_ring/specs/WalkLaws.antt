@@ -48,7 +48,8 @@ apart-split n t x ts r o = by_test (nat_eq t x) refl where
   by_test : (b : Bool) → nat_eq t x ≡ b → nat_eq t x ≡ false
   by_test false e = e
   by_test true e =
-      let there : is_in t (ts ++ x ∷ r) ≡ true = subst (λ (q : ℕ). is_in q (ts ++ x ∷ r) ≡ true) (sym (nat_same t x e)) (in-split x ts r) in
+      let there : is_in t (ts ++ x ∷ r) ≡ true = subst (λ (q : ℕ). is_in q (ts ++ x ∷ r) ≡ true)
+      (sym (nat_same t x e)) (in-split x ts r) in
       let absent : is_in t (ts ++ x ∷ r) ≡ false = o.1 in
       cc
 
@@ -79,7 +80,8 @@ follower-rest n x l p o e = by_list (behind x l) refl where
   by_list : (r : List ℕ) → behind x l ≡ r → from_node (first_of r) l ≡ r
   by_list [] d = refl
   by_list (y ∷ ys) d =
-      let whole : l ≡ (p ++ x ∷ []) ++ y ∷ ys = e ∙ (ap (λ (q : List ℕ). p ++ x ∷ q) d ∙ sym (append_assoc p (x ∷ []) (y ∷ ys))) in
+      let whole : l ≡ (p ++ x ∷ []) ++ y ∷ ys = e ∙ (ap (λ (q : List ℕ). p ++ x ∷ q) d
+      ∙ sym (append_assoc p (x ∷ []) (y ∷ ys))) in
       let order : IsOrder n ((p ++ x ∷ []) ++ y ∷ ys) = subst (λ (q : List ℕ). IsOrder n q) whole o in
       ap (λ (q : List ℕ). y ∷ q)
       (subst (λ (q : List ℕ). behind y q ≡ ys) (sym whole) (behind-split n y (p ++ x ∷ []) ys order))
@@ -102,6 +104,7 @@ rest-without n x l p o e = by_list (behind x l) refl where
   by_list (y ∷ ys) d =
       let whole : l ≡ p ++ x ∷ y ∷ ys = e ∙ ap (λ (q : List ℕ). p ++ x ∷ q) d in
       let order : IsOrder n (p ++ x ∷ y ∷ ys) = subst (λ (q : List ℕ). IsOrder n q) whole o in
-      let left : without l x ≡ p ++ y ∷ ys = ap (λ (q : List ℕ). without q x) whole ∙ without-split n x p (y ∷ ys) order in
+      let left : without l x ≡ p ++ y ∷ ys = ap (λ (q : List ℕ). without q x) whole
+      ∙ without-split n x p (y ∷ ys) order in
       ap (λ (q : List ℕ). y ∷ q) (subst (λ (q : List ℕ). behind y q ≡ ys) (sym left)
       (behind-split n y p ys (IsOrder-drop n x p (y ∷ ys) order)))

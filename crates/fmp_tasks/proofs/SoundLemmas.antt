@@ -257,7 +257,9 @@ module _ {sys : SystemTables} {tasks : List TaskBlock} {order ready : List ℕ} 
           ∙ length-left_from rings.lists (home waits old) t ∙ k.heads;
       kept =
           subst (λ (q : RingLists). Kept (home waits) (order_with_head waits sys) (slice_set tasks t x) (to_end order t) q.lists) (sym e)
-          (subst (λ (y : TaskBlock). Kept (home waits) (order_with_head waits sys) (slice_set tasks t x) (to_end order t) (joined_to (order_with_head waits sys) (priority_in (slice_set tasks t x)) (left_from rings.lists (home waits y) t) (home waits x) t)) is
+          (subst (λ (y : TaskBlock). Kept (home waits) (order_with_head waits sys) (slice_set tasks t x) (to_end order t)
+          (joined_to (order_with_head waits sys) (priority_in (slice_set tasks t x)) (left_from rings.lists (home waits y) t)
+          (home waits x) t)) is
           (Kept-last (home waits) (order_with_head waits sys) tasks order rings.lists t x l k.kept));
       deadlines_kept = deadlines-set tasks t x deadlines k.deadlines_kept;
     }

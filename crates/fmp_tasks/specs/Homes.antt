@@ -49,7 +49,12 @@ home w x = if is_ready x then Some (ready_head x.processor x.priority) else wait
 -- the wait queue whose list has this place among those of the wait queues
 abbrev pub queue_with_place : ObjectCounts → ℕ → WaitQueue
 queue_with_place n h =
-    if nat_lt h n.semaphores then queue.Semaphore h else (if nat_lt h (n.semaphores + n.flags) then queue.Flag (h - n.semaphores) else (if nat_lt h (n.semaphores + n.flags + n.data_queues) then queue.Senders (h - (n.semaphores + n.flags)) else (if nat_lt h (n.semaphores + n.flags + n.data_queues + n.data_queues) then queue.Receivers (h - (n.semaphores + n.flags + n.data_queues)) else queue.Mailbox (h - (n.semaphores + n.flags + n.data_queues + n.data_queues)))))
+    if nat_lt h n.semaphores then queue.Semaphore h else
+    (if nat_lt h (n.semaphores + n.flags) then queue.Flag (h - n.semaphores) else
+    (if nat_lt h (n.semaphores + n.flags + n.data_queues) then queue.Senders (h - (n.semaphores + n.flags)) else
+    (if nat_lt h (n.semaphores + n.flags + n.data_queues + n.data_queues)
+    then queue.Receivers (h - (n.semaphores + n.flags + n.data_queues))
+    else queue.Mailbox (h - (n.semaphores + n.flags + n.data_queues + n.data_queues)))))
 
 -- the objects of a system that have wait queues
 abbrev pub counts_of : SystemTables → ObjectCounts

@@ -197,13 +197,15 @@ pub Kept-last : (home : TaskBlock → Option ℕ) (by : ℕ → QueueOrder) (xs 
     (joined_to by (priority_in (slice_set xs t x)) (left_from qs (home (task_at xs t)) t) (home x) t)
 Kept-last home by xs order qs t x lt k = record {
   each = λ h l.
-      let n : length (joined_to by (priority_in (slice_set xs t x)) (left_from qs (home (task_at xs t)) t) (home x) t) ≡ length qs =
+      let n : length (joined_to by (priority_in (slice_set xs t x)) (left_from qs (home (task_at xs t)) t)
+      (home x) t) ≡ length qs =
       length-joined_to by (priority_in (slice_set xs t x)) (left_from qs (home (task_at xs t)) t) (home x) t ∙
       length-left_from qs (home (task_at xs t)) t in
       let m : length (left_from qs (home (task_at xs t)) t) ≡ length qs = length-left_from qs (home (task_at xs t)) t in
       let l1 : h < length qs = omega arith in
       let l2 : h < length (left_from qs (home (task_at xs t)) t) = omega arith in
-      let here : is_at h (home (task_at (slice_set xs t x) t)) ≡ is_at h (home x) = ap (λ (y : TaskBlock). is_at h (home y)) (task-same xs t x lt) in
+      let here : is_at h (home (task_at (slice_set xs t x) t)) ≡ is_at h (home x) = ap
+      (λ (y : TaskBlock). is_at h (home y)) (task-same xs t x lt) in
       joined-at by (priority_in (slice_set xs t x)) (left_from qs (home (task_at xs t)) t) (home x) t h l2
       ∙ ap (λ (q : List ℕ). cond (is_at h (home x)) (enqueued (by h) (priority_in (slice_set xs t x)) t q) q)
       (left_each home by xs order qs t h l1 k)
@@ -224,7 +226,9 @@ Kept-left home by xs order qs t x k = record {
       let m : length (left_from qs (home (task_at xs t)) t) ≡ length qs = length-left_from qs (home (task_at xs t)) t in
       let l1 : h < length qs = omega arith in
       left_each home by xs order qs t h l1 k
-      ∙ sym (arranged-without (by h) (λ u. is_at h (home (task_at xs u))) (λ u. is_at h (home (task_at (slice_set xs t x) u))) (priority_in xs) (priority_in (slice_set xs t x)) t order (home-other home xs t x h) (priority-other xs t x));
+      ∙ sym (arranged-without (by h) (λ u. is_at h (home (task_at xs u)))
+      (λ u. is_at h (home (task_at (slice_set xs t x) u))) (priority_in xs)
+      (priority_in (slice_set xs t x)) t order (home-other home xs t x h) (priority-other xs t x));
 }
 
 placed-same : (f g : ℕ → ℕ) (t : ℕ) (l : List ℕ) → ((u : ℕ) → g u ≡ f u) → placed g t l ≡ placed f t l
@@ -266,13 +270,17 @@ pub Kept-stays : (home : TaskBlock → Option ℕ) (by : ℕ → QueueOrder) (xs
     → Kept home by (slice_set xs t x) order qs
 Kept-stays home by xs order qs t x lt k same stays = record {
   each = λ h l.
-      let here : is_at h (home (task_at (slice_set xs t x) t)) ≡ is_at h (home (task_at xs t)) = ap (λ (y : TaskBlock). is_at h (home y)) (task-same xs t x lt) ∙ ap (is_at h) same in
+      let here : is_at h (home (task_at (slice_set xs t x) t)) ≡ is_at h (home (task_at xs t)) = ap
+      (λ (y : TaskBlock). is_at h (home y)) (task-same xs t x lt) ∙ ap (is_at h) same in
       let all : (u : ℕ) → is_at h (home (task_at (slice_set xs t x) u)) ≡ is_at h (home (task_at xs u)) =
       everywhere (λ u. is_at h (home (task_at xs u))) (λ u. is_at h (home (task_at (slice_set xs t x) u))) t
       (home-other home xs t x h) here in
-      let now : priority_in (slice_set xs t x) t ≡ x.priority = ap (λ (y : TaskBlock). y.priority) (task-same xs t x lt) in
+      let now : priority_in (slice_set xs t x) t ≡ x.priority = ap (λ (y : TaskBlock). y.priority)
+      (task-same xs t x lt) in
       k.each h l
-      ∙ sym (ap (arranged (by h) (priority_in (slice_set xs t x))) (filter_agree (λ u. is_at h (home (task_at (slice_set xs t x) u))) (λ u. is_at h (home (task_at xs u))) all order)
+      ∙ sym (ap (arranged (by h) (priority_in (slice_set xs t x)))
+      (filter_agree (λ u. is_at h (home (task_at (slice_set xs t x) u)))
+      (λ u. is_at h (home (task_at xs u))) all order)
       ∙ arranged-stays (is_at h (home x)) (by h) (λ u. is_at h (home (task_at xs u))) (priority_in xs)
       (priority_in (slice_set xs t x)) t order (ap (is_at h) (sym same)) (priority-other xs t x)
       (λ e d. now ∙ stays h e d));
@@ -295,6 +303,7 @@ free-after home by xs order qs t k =
           let l : h < length qs = lt_of h (length qs) e in
           rw (left_each home by xs order qs t h l k) (without-gone t (queue_at_home home by xs order h))
       by_test h false e =
-          let m : length (left_from qs (home (task_at xs t)) t) ≡ length qs = length-left_from qs (home (task_at xs t)) t in
+          let m : length (left_from qs (home (task_at xs t)) t) ≡ length qs = length-left_from qs
+          (home (task_at xs t)) t in
           let l : length qs ≤ h = le_of h (length qs) e in
           rw (out-of-range (left_from qs (home (task_at xs t)) t) h (omega arith)) refl

@@ -83,7 +83,9 @@ filter-placed_in p f t (u ∷ us) e h =
       by_tests : (b c : Bool) → nat_le (f t) (f u) ≡ b → p u ≡ c → filter p (placed f t us) ≡ placed f t (filter p us)
           → filter p (cond b (t ∷ u ∷ us) (u ∷ placed f t us)) ≡ placed f t (cond c (u ∷ filter p us) (filter p us))
       by_tests true true k q rest = rw (e, q, k) refl
-      by_tests true false k q rest = rw (e, q) (sym (placed-front f t (filter p us) (AtLeast-filter p f (f t) us (AtLeast-lower f (f t) (f u) us (le_of _ _ k) h.0))))
+      by_tests true false k q rest = rw (e, q) (sym
+          (placed-front f t (filter p us) (AtLeast-filter p f (f t) us
+          (AtLeast-lower f (f t) (f u) us (le_of _ _ k) h.0))))
       by_tests false true k q rest = rw (q, k) (ap (λ (l : List ℕ). u ∷ l) rest)
       by_tests false false k q rest = rw q rest
 

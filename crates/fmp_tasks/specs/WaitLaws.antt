@@ -27,7 +27,8 @@ wait_queue-last : (sys : SystemTables) (s : KernelState) (q : WaitQueue) (t : �
     → wait_queue sys (with_last s t y) q ≡ without (wait_queue sys s q) t
 wait_queue-last sys s q t y l e =
     let gone : waits_in q (task_at (slice_set s.tasks t y) t) ≡ false = ap (waits_in q) (task-same s.tasks t y l) ∙ e in
-    let k = arranged-last (order_of sys q) (λ u. waits_in q (task_at s.tasks u)) (λ u. waits_in q (task_at (slice_set s.tasks t y) u))
+    let k = arranged-last (order_of sys q) (λ u. waits_in q (task_at s.tasks u))
+    (λ u. waits_in q (task_at (slice_set s.tasks t y) u))
     (priority_in s.tasks) (priority_in (slice_set s.tasks t y)) t s.order (waits-other q s.tasks t y)
     (priority-other s.tasks t y) in
     rw gone at k

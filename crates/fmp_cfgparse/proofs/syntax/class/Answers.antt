@@ -35,35 +35,50 @@ returns-in_err-name c =
     let ts = kinds_of c.args.tokens.now in
     let e = err_from_is_err_and c.from_residual-in_err-name.result c.from_residual-in_err-name.ensures.1 in
     rw (e.1, e.2) (find_as itself class_view c.in_err-name.field-0.0 (RightName ts c.in_ok-place.place) (RightClass ts c.args.at)
-    (λ j why x. class_as ts c.args.at (stopped j why) (thing_stop class_word open_brace (reading.Item name_of) Block (item_framed name_of) name_fills block_fills Anywhere ts c.args.at c.in_ok-next.next c.in_ok-next.ensures c.in_ok-place.place c.in_ok-place.ensures j why x)) c.in_err-name.ensures)
+    (λ j why x. class_as ts c.args.at (stopped j why) (thing_stop class_word open_brace (reading.Item name_of) Block
+    (item_framed name_of) name_fills block_fills Anywhere ts c.args.at c.in_ok-next.next c.in_ok-next.ensures c.in_ok-place.place
+    c.in_ok-place.ensures j why x)) c.in_err-name.ensures)
 
 pub returns-in_err-next-2 : goal.returns-in_err-next-2
 returns-in_err-next-2 c =
     let ts = kinds_of c.args.tokens.now in
     let e = err_from_is_err_and c.from_residual-in_err-next-2.result c.from_residual-in_err-next-2.ensures.1 in
     rw (e.1, e.2) (step_as class_view c.in_err-next-2.field-0.0 (RightToken ts right c.in_ok-name.next) (RightClass ts c.args.at)
-    (λ j why x. class_as ts c.args.at (stopped j why) (right_stop class_word open_brace (reading.Item name_of) Block (item_framed name_of) name_fills block_fills Anywhere ts c.args.at c.in_ok-next.next c.in_ok-next.ensures c.in_ok-place.place c.in_ok-place.ensures c.in_ok-name.name c.in_ok-name.next c.in_ok-name.ensures j why x)) c.in_err-next-2.ensures)
+    (λ j why x. class_as ts c.args.at (stopped j why) (right_stop class_word open_brace (reading.Item name_of) Block
+    (item_framed name_of) name_fills block_fills Anywhere ts c.args.at c.in_ok-next.next c.in_ok-next.ensures c.in_ok-place.place
+    c.in_ok-place.ensures c.in_ok-name.name c.in_ok-name.next c.in_ok-name.ensures j why x)) c.in_err-next-2.ensures)
 
 pub returns-in_err-next-3 : goal.returns-in_err-next-3
 returns-in_err-next-3 c =
     let ts = kinds_of c.args.tokens.now in
     let e = err_from_is_err_and c.from_residual-in_err-next-3.result c.from_residual-in_err-next-3.ensures.1 in
     rw (e.1, e.2) (step_as class_view c.in_err-next-3.field-0.0 (RightToken ts open_brace c.in_ok-next-2.next) (RightClass ts c.args.at)
-    (λ j why x. class_as ts c.args.at (stopped j why) (last_stop class_word open_brace (reading.Item name_of) Block (item_framed name_of) name_fills block_fills Anywhere ts c.args.at c.in_ok-next.next c.in_ok-next.ensures c.in_ok-place.place c.in_ok-place.ensures c.in_ok-name.name c.in_ok-name.next c.in_ok-name.ensures c.in_ok-next-2.next c.in_ok-next-2.ensures j why x)) c.in_err-next-3.ensures)
+    (λ j why x. class_as ts c.args.at (stopped j why) (last_stop class_word open_brace (reading.Item name_of) Block
+    (item_framed name_of) name_fills block_fills Anywhere ts c.args.at c.in_ok-next.next c.in_ok-next.ensures c.in_ok-place.place
+    c.in_ok-place.ensures c.in_ok-name.name c.in_ok-name.next c.in_ok-name.ensures c.in_ok-next-2.next c.in_ok-next-2.ensures j why x))
+    c.in_err-next-3.ensures)
 
 pub returns-in_err-apis : goal.returns-in_err-apis
 returns-in_err-apis c =
     let ts = kinds_of c.args.tokens.now in
     let e = err_from_is_err_and c.from_residual-in_err-apis.result c.from_residual-in_err-apis.ensures.1 in
     rw (e.1, e.2) (err_as apis_view class_view c.in_err-apis.field-0.0 (RightApis ts c.in_ok-next-3.next) (RightClass ts c.args.at)
-    (λ j why x. class_as ts c.args.at (stopped j why) (rest_then class_word open_brace (reading.Item name_of) Block (item_framed name_of) name_fills block_fills Anywhere ts c.args.at c.in_ok-next.next c.in_ok-next.ensures c.in_ok-place.place c.in_ok-place.ensures c.in_ok-name.name c.in_ok-name.next c.in_ok-name.ensures c.in_ok-next-2.next c.in_ok-next-2.ensures c.in_ok-next-3.next c.in_ok-next-3.ensures (stopped j why) (closed_stop (Star OneApi) close_brace (star_framed OneApi api_framed) brace_follows x))) c.in_err-apis.ensures)
+    (λ j why x. class_as ts c.args.at (stopped j why) (rest_then class_word open_brace (reading.Item name_of) Block
+    (item_framed name_of) name_fills block_fills Anywhere ts c.args.at c.in_ok-next.next c.in_ok-next.ensures c.in_ok-place.place
+    c.in_ok-place.ensures c.in_ok-name.name c.in_ok-name.next c.in_ok-name.ensures c.in_ok-next-2.next c.in_ok-next-2.ensures
+    c.in_ok-next-3.next c.in_ok-next-3.ensures (stopped j why) (closed_stop (Star OneApi) close_brace
+    (star_framed OneApi api_framed) brace_follows x))) c.in_err-apis.ensures)
 
 pub returns-in_err-next-4 : goal.returns-in_err-next-4
 returns-in_err-next-4 c =
     let ts = kinds_of c.args.tokens.now in
     let e = err_from_is_err_and c.from_residual-in_err-next-4.result c.from_residual-in_err-next-4.ensures.1 in
     rw (e.1, e.2) (step_as class_view c.in_err-next-4.field-0.0 (RightToken ts close_brace c.in_ok-apis.next) (RightClass ts c.args.at)
-    (λ j why x. class_as ts c.args.at (stopped j why) (rest_then class_word open_brace (reading.Item name_of) Block (item_framed name_of) name_fills block_fills Anywhere ts c.args.at c.in_ok-next.next c.in_ok-next.ensures c.in_ok-place.place c.in_ok-place.ensures c.in_ok-name.name c.in_ok-name.next c.in_ok-name.ensures c.in_ok-next-2.next c.in_ok-next-2.ensures c.in_ok-next-3.next c.in_ok-next-3.ensures (stopped j why) (closed_missing (Star OneApi) close_brace (star_framed OneApi api_framed) brace_follows c.in_ok-apis.ensures x))) c.in_err-next-4.ensures)
+    (λ j why x. class_as ts c.args.at (stopped j why) (rest_then class_word open_brace (reading.Item name_of) Block
+    (item_framed name_of) name_fills block_fills Anywhere ts c.args.at c.in_ok-next.next c.in_ok-next.ensures c.in_ok-place.place
+    c.in_ok-place.ensures c.in_ok-name.name c.in_ok-name.next c.in_ok-name.ensures c.in_ok-next-2.next c.in_ok-next-2.ensures
+    c.in_ok-next-3.next c.in_ok-next-3.ensures (stopped j why) (closed_missing (Star OneApi) close_brace
+    (star_framed OneApi api_framed) brace_follows c.in_ok-apis.ensures x))) c.in_err-next-4.ensures)
 
 pub returns : goal.returns
 returns c =

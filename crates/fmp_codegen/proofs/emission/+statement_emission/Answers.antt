@@ -119,8 +119,23 @@ emit_statement-emit_block-requires-in-IfElse-2 t c =
     c.deref-in-IfElse-2.result.now c.deref-in-IfElse-4.result.now c.in-IfElse.is
     c.deref-in-IfElse-2.ensures.value c.deref-in-IfElse-4.ensures.value in
     let size = ap statement_size view in
-    let depth = ap statement_depth view in
-    (search (rules, the_lemmas), (c.requires.held, (omega (arith, size, c.in_ok-emit_test-in-IfElse.ensures.len, c.in_ok-emit_block-in-IfElse.ensures.len, c.in_ok-put-in-IfElse.ensures.len, c.requires.room), omega (arith, depth, c.requires.low))))
+    let depth = ap statement_depth view in (
+      search (rules, the_lemmas),
+      (
+        c.requires.held,
+        (
+          omega (
+            arith,
+            size,
+            c.in_ok-emit_test-in-IfElse.ensures.len,
+            c.in_ok-emit_block-in-IfElse.ensures.len,
+            c.in_ok-put-in-IfElse.ensures.len,
+            c.requires.room,
+          ),
+          omega (arith, depth, c.requires.low),
+        ),
+      ),
+    )
 
 pub emit_statement-size_of_block-over-requires : goal.emit_statement-size_of_block-over-requires
 emit_statement-size_of_block-over-requires t c =

@@ -26,7 +26,8 @@ returns-in-Done-clause-state g c =
     let x = applied r.system (g.B.Body.meaning r.body) r.world c.args.p (ending c.args.s) in
     let e = c.apply-effect.ensures in
     let n = by_number r.system (g.B.Body.meaning r.body) r.world c.args.p (ending c.args.s) (omega arith) in
-    rw (← c.self.view_is) (view_done x r c.apply-effect.new.self k.stamps.counts c.count.new.stamps.counts k.done (sym c.in-Done.is ∙ e.effect ∙ ap effect_of n) (e.after ∙ ap (done_or (done_of r)) n) e.bodies
+    rw (← c.self.view_is) (view_done x r c.apply-effect.new.self k.stamps.counts c.count.new.stamps.counts k.done
+    (sym c.in-Done.is ∙ e.effect ∙ ap effect_of n) (e.after ∙ ap (done_or (done_of r)) n) e.bodies
     (stamped_is k.stamps c.count.new.stamps _ k.done _ _ _ c.self.invariant.2 c.count.ensures.counts))
 
 pub count-requires-clause-many : goal.count-requires-clause-many

@@ -22,6 +22,11 @@ invariant_of-result c =
       words = ap length c.in_ok-words.ensures ∙ length-replicate _ _;
       rows =
           AreRows-none c.args.sys.now.processors c.in_ok-words.words.items
-          (processor_at_slot (record { count = c.args.sys.now.processors; interrupts = c.in_ok-interrupt_processors.interrupt_processors.items; cyclics = c.in_ok-cyclic_processors.cyclic_processors.items }))
+          (processor_at_slot (record {
+            count = c.args.sys.now.processors;
+            interrupts =
+                c.in_ok-interrupt_processors.interrupt_processors.items;
+            cyclics = c.in_ok-cyclic_processors.cyclic_processors.items;
+          }))
           c.in_ok-interrupts.interrupts.items c.in_ok-cyclics.cyclics.items (c.args.sys.now.processors * 5) 32 c.len.result c.in_ok-words.ensures c.in_ok-interrupts.ensures c.in_ok-cyclics.ensures;
     }

@@ -17,7 +17,15 @@ invariant_of-result c =
       system = subst IsInRange (sym e) c.requires;
       tasks =
           subst (λ (s : SystemTables). Sound s c.in_ok-blocks.blocks.items c.new-2.result c.in_ok-ready.ready c.wait_queues-waits.result c.in_ok-ready.rings c.in_ok-ready.deadlines) (sym e)
-          (rw (c.in_ok-blocks.ensures, c.as_slice.ensures.value, c.new-2.ensures, c.in_ok-ready.ensures.ready, c.wait_queues-waits.ensures, c.in_ok-ready.ensures.rings, c.in_ok-ready.ensures.deadlines) (Sound-new (tables_of c.args.sys.now) c.requires));
+          (rw (
+            c.in_ok-blocks.ensures,
+            c.as_slice.ensures.value,
+            c.new-2.ensures,
+            c.in_ok-ready.ensures.ready,
+            c.wait_queues-waits.ensures,
+            c.in_ok-ready.ensures.rings,
+            c.in_ok-ready.ensures.deadlines,
+          ) (Sound-new (tables_of c.args.sys.now) c.requires));
       later = rw c.in_ok-ready.ensures.deadlines (NoneBefore-new _ _);
       semaphores = ap (λ (l : List ℕ). length l) c.in_ok-semaphores.ensures.semaphores ∙ length-map _ _ ∙ ap (λ (s : SystemTables). length s.semaphores) (sym e);
       flags = ap (λ (l : List ℕ). length l) c.in_ok-semaphores.ensures.flags ∙ length-map _ _ ∙ ap (λ (s : SystemTables). length s.flags) (sym e);

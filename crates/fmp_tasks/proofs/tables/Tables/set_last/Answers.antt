@@ -66,7 +66,8 @@ invariant_of-self c =
       later = rw c.set_deadline.ensures (NoneBefore-set _ _ _ _ after c.self.invariant.later);
       tasks =
           rw (c.to_end.ensures, c.set_deadline.ensures)
-          (Sound-last tasks c.args.t c.args.x l f c.index.result.now c.join.new.ready c.join.new.rings c.requires.in_order is (c.join.ensures.processors ∙ c.leave.ensures.processors) c.join.ensures.exact moved);
+          (Sound-last tasks c.args.t c.args.x l f c.index.result.now c.join.new.ready c.join.new.rings c.requires.in_order is
+          (c.join.ensures.processors ∙ c.leave.ensures.processors) c.join.ensures.exact moved);
       semaphores = c.self.invariant.semaphores;
       flags = c.self.invariant.flags;
       data_queues = c.self.invariant.data_queues;

@@ -36,5 +36,7 @@ pub returns-clause-order : goal.returns-clause-order
 returns-clause-order c =
     let tasks = c.self.invariant.tasks in
     rw (← c.self.view_is)
-    (subst (λ (n : ℕ). IsOrder n (arranged (order_of (tables_of c.self.inside.system) c.args.queue) (priority_in c.self.inside.blocks.items) (filter (λ t. waits_in c.args.queue (task_at c.self.inside.blocks.items t)) c.self.inside.order))) (sym tasks.configs)
+    (subst (λ (n : ℕ). IsOrder n (arranged (order_of (tables_of c.self.inside.system) c.args.queue)
+    (priority_in c.self.inside.blocks.items) (filter (λ t. waits_in c.args.queue (task_at c.self.inside.blocks.items t))
+    c.self.inside.order))) (sym tasks.configs)
     (IsOrder-queue _ _ _ _ _ tasks.distinct))
