@@ -13,13 +13,22 @@ pub struct Moment {
     pub task: u8,
 }
 
+impl Moment {
+    /// Its place in the order of deadlines and then of numbers, from 0.
+    fn rank(self) -> u64
+        ensures { result + 1 ≡ rank (Some self.when) self.task }
+    {
+        self.when as u64 * 256 + self.task as u64
+    }
+}
+
 /// Whether a moment is before another: earlier, or at the same time for a task of lower number. This is one step.
 pub fn is_before(a: Moment, b: Moment, steps: &mut Steps) -> bool
     ensures value { result ≡ nat_lt (rank (Some a.when) a.task) (rank (Some b.when) b.task) }
     ensures steps { steps.new ≡ steps.old + 1 }
 {
     steps.add_one();
-    a.when < b.when || (a.when == b.when && a.task < b.task)
+    a.rank() < b.rank()
 }
 
 /// The deadline of the task at a slot of the heap.
@@ -71,11 +80,10 @@ fn first_child(places: &Places, deadlines: &[Option<u32>], slot: usize, steps: &
 {
     let left = slot * 2 + 1;
     let right = left + 1;
-    if right < places.count() && slot_is_before(places, deadlines, right, left, steps) {
-        right
-    } else {
-        left
+    if right == places.count() {
+        return left;
     }
+    left + slot_is_before(places, deadlines, right, left, steps) as usize
 }
 
 /// The task at a slot goes down to a slot that has no children, past the first of them at each level, whatever its own
