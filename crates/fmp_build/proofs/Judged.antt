@@ -6,7 +6,6 @@ use Rattle.fmp_base.specs.Systems.{SystemTables, tables_of}
 use Rattle.fmp_lex.specs.declared.fault.BuildFault.{BuildFault}
 use Rattle.fmp_lex.specs.declared.fault.BuildFault.TheVariants as build
 use Rattle.fmp_lex.specs.declared.fault.TextFile.{TextFile}
-use Rattle.fmp_lex.specs.declared.token.Token.{Token}
 use Rattle.fmp_cfgparse.specs.Configured.{ReadConfiguration, Reads}
 use Rattle.fmp_cfgparse.specs.Configurations as configuration
 use Rattle.fmp_cfgparse.specs.Tables.{IsConfiguration}
@@ -63,12 +62,11 @@ module _ (cfg src : List ℕ) (configured : Configured) (reads : Reads cfg confi
 
     -- the entries that the code has collected
     pub collected :
-        (now uses : List EntryUse) (tokens : List Token) → now ≡ uses →
-        uses ≡ entry_uses tokens (configuration_view configured.parsed.tree) →
-        tokens ≡ configured.parsed.list.tokens.items →
+        (now uses : List EntryUse) → now ≡ uses →
+        uses ≡ entry_uses configured.parsed.list.tokens (configuration_view configured.parsed.tree) →
         now ≡ entry_uses reads.configuration.tokens reads.configuration.tree
-    collected now uses tokens same are from =
-        same ∙ are ∙ ap₂ entry_uses (from ∙ sym reads.tokens) (sym reads.tree)
+    collected now uses same are =
+        same ∙ are ∙ ap₂ entry_uses (sym reads.tokens) (sym reads.tree)
 
     module _ (entries : List EntryUse) (are : entries ≡ entry_uses reads.configuration.tokens reads.configuration.tree)
         (accepted : IsAccepted tables bodies) where

@@ -1,5 +1,5 @@
 -- Building: from the texts of a system to its image.
-use Rattle.std.specs.Prelude.{◌≡◌, ℕ, List, [], map, Some, None, Ok}
+use Rattle.std.specs.Prelude.{◌≡◌, ℕ, List, [], map, Some, None}
 use Rattle.fmp_base.specs.declared.systems.CyclicConfig.{CyclicConfig}
 use Rattle.fmp_base.specs.declared.systems.Entry.{Entry}
 use Rattle.fmp_base.specs.declared.systems.Entry.TheVariants as entry

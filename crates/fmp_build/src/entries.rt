@@ -6,7 +6,7 @@ ghost use Rattle.fmp_build.specs.Entries as spec;
 
 use fmp_cfgparse::{Class, Configuration, StaticApi, line_at, name_at, number_at, word_of};
 use fmp_codegen::EntryUse;
-use fmp_lex::{Api, Token};
+use fmp_lex::{Api, Tokens};
 use fmp_tasklang::BodyKind;
 use std::alloc::{AllocError, Global};
 
@@ -38,7 +38,7 @@ fn entry_of(line: u32, api: &StaticApi) -> Option<EntryUse>
 }
 
 /// Appends the entry of an API, at the line of the API's word.
-fn add_api(uses: &mut Vec<EntryUse>, tokens: &[Token], api: &StaticApi) -> Result<(), AllocError>
+fn add_api(uses: &mut Vec<EntryUse>, tokens: &Tokens<'_>, api: &StaticApi) -> Result<(), AllocError>
     ensures { OnOk result (uses.new.items ≡ uses.old.items ++ spec.api_uses tokens.now (api_view api.now)) }
 {
     if let Some(entry) = entry_of(line_at(tokens, api.at), api) {
@@ -47,7 +47,7 @@ fn add_api(uses: &mut Vec<EntryUse>, tokens: &[Token], api: &StaticApi) -> Resul
     Ok(())
 }
 
-fn add_class(uses: &mut Vec<EntryUse>, tokens: &[Token], class: &Class) -> Result<(), AllocError>
+fn add_class(uses: &mut Vec<EntryUse>, tokens: &Tokens<'_>, class: &Class) -> Result<(), AllocError>
     ensures { OnOk result (uses.new.items ≡ uses.old.items ++ spec.class_uses tokens.now (class_view class.now)) }
 {
     for api in &class.apis {
@@ -59,7 +59,7 @@ fn add_class(uses: &mut Vec<EntryUse>, tokens: &[Token], class: &Class) -> Resul
 /// The entries that the static APIs of a configuration name, in order of text.
 pub fn entry_uses(
     alloc: Global,
-    tokens: &[Token],
+    tokens: &Tokens<'_>,
     tree: &Configuration,
 ) -> Result<Vec<EntryUse>, AllocError>
     ensures { IfOk result (λ uses. uses.items ≡ spec.entry_uses tokens.now (configuration_view tree.now)) }

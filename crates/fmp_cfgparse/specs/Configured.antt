@@ -20,6 +20,6 @@ pub record ReadConfiguration (cfg : List ℕ) : Type 0 where
 -- the configuration is read, with these tokens, this tree and these tables
 pub record Reads (cfg : List ℕ) (c : Configured) : Type 0 where
   pub configuration : ReadConfiguration cfg
-  pub tokens : configuration.tokens ≡ c.parsed.list.tokens.items
+  pub tokens : configuration.tokens ≡ c.parsed.list.tokens
   pub tree : configuration.tree ≡ configuration_view c.parsed.tree
   pub tables : configuration.making.tables ≡ tables_of c.system

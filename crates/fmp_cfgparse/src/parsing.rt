@@ -7,16 +7,16 @@ use fmp_lex::{BuildFault, FaultKind, ReadError, TextFault, TextFile, TokenList, 
 use std::alloc::Global;
 
 /// The tokens of a text and the tree that they spell.
-#[derive(Debug, Drop)]
-pub struct Parsed {
-    pub list: TokenList,
+#[derive(Drop)]
+pub struct Parsed<'a> {
+    pub list: TokenList<'a>,
     pub tree: Configuration,
 }
 
 /// The syntax tree of a configuration with its tokens, or the first fault of its syntax: B5 for a text of more than
 /// 1,048,576 bytes, a name of more than 31 bytes or a number above 2147483647, else B1. `Memory` where an allocation is
 /// refused.
-pub fn parse(alloc: Global, text: &[u8]) -> Result<Parsed, BuildFault>
+pub fn parse<'a>(alloc: Global, text: &'a [u8]) -> Result<Parsed<'a>, BuildFault>
     ensures { IsParse text.now result }
 {
     match tokens(alloc, text) {

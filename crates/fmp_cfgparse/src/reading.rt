@@ -9,27 +9,27 @@ use crate::configuring::configure;
 use crate::objects::Stop;
 use crate::parsing::{Parsed, parse};
 use fmp_base::System;
-use fmp_lex::{BuildFault, FaultKind, TextFile, Token};
+use fmp_lex::{BuildFault, FaultKind, TextFile, Tokens};
 use std::alloc::Global;
 
 /// A configuration that is read: its tokens, its tree, and the system that it makes.
 #[derive(Drop)]
-pub struct Configured {
-    pub parsed: Parsed,
+pub struct Configured<'a> {
+    pub parsed: Parsed<'a>,
     pub system: System,
 }
 
 /// The line of the token at a place, 1 where there is none.
-pub fn line_at(tokens: &[Token], at: usize) -> u32
+pub fn line_at(tokens: &Tokens<'_>, at: usize) -> u32
     ensures { result ≡ line_of (slice_get tokens.now at) }
 {
-    match tokens.get(at) {
-        Some(token) => token.line,
+    match tokens.line(at) {
+        Some(line) => line,
         None => 1,
     }
 }
 
-fn fault_at(tokens: &[Token], at: usize, why: FaultKind) -> BuildFault
+fn fault_at(tokens: &Tokens<'_>, at: usize, why: FaultKind) -> BuildFault
     ensures { result ≡ offence_fault (slice_get tokens.now at) why }
 {
     BuildFault::At(TextFile::Configuration, line_at(tokens, at), why)
@@ -42,7 +42,7 @@ fn fault_at(tokens: &[Token], at: usize, why: FaultKind) -> BuildFault
 /// to 8, B3 for an unknown class, and at each static API, with the line of its word, B5 for the 256th of its kind, B2
 /// for a name that is used, B3 for an unknown constant, and B4 with the code that it answers. `Memory` where an
 /// allocation is refused. The tables of the system are in range, and no name and no interrupt number stands twice.
-pub fn read_configuration(alloc: Global, text: &[u8]) -> Result<Configured, BuildFault>
+pub fn read_configuration<'a>(alloc: Global, text: &'a [u8]) -> Result<Configured<'a>, BuildFault>
     ensures reads { IfOk result (Reads text.now) }
     ensures rules { IfOk result (λ c. IsConfiguration (tables_of c.system)) }
     ensures refuses { IfErr result (λ f. IsRead text.now (Err f)) }

@@ -1,5 +1,5 @@
 //! From the tokens of a configuration to its tree.
-ghost use Rattle.std.specs.Prelude.{◌≡◌, ◌≤◌, ◌<◌, ◌++◌, Some, length, slice_get, option_and_then, IfSome, IfOk, IfErr, []};
+ghost use Rattle.std.specs.Prelude.{◌≡◌, ◌+◌, ◌^◌, ◌≤◌, ◌<◌, ◌++◌, Some, length, slice_get, option_and_then, IfSome, IfOk, IfErr, []};
 ghost use Rattle.fmp_lex.specs.Forms as forms;
 ghost use Rattle.fmp_lex.specs.Reading.{kinds_of, Answers, Finds};
 ghost use Rattle.fmp_cfgparse.specs.Grammar as grammar;
@@ -11,7 +11,7 @@ use crate::tree::{Class, Configuration, Field, Item, StaticApi};
 use fmp_base::Name;
 use fmp_lex::reading::{expect_keyword, expect_symbol, is_keyword_at, is_symbol_at, kind_at};
 use fmp_lex::{
-    Api, FirstFault, GrammarFault, Keyword, ReadError, Symbol, Token, TokenKind, expect_mark,
+    Api, FirstFault, GrammarFault, Keyword, ReadError, Symbol, TokenKind, Tokens, expect_mark,
 };
 use std::alloc::Global;
 
@@ -53,35 +53,39 @@ fn api_of(kind: TokenKind) -> Option<Api>
     }
 }
 
-fn number_at(tokens: &[Token], at: usize) -> Option<i32>
+fn number_at(tokens: &Tokens<'_>, at: usize) -> Option<i32>
     ensures value { result ≡ option_and_then grammar.number_of (slice_get (kinds_of tokens.now) at) }
     ensures within { IfSome result (λ _. at < length tokens.now) }
+    ensures room { IfSome result (λ _. at + 1 < 2 ^ 64) }
 {
     number_of(kind_at(tokens, at)?)
 }
 
-fn name_at(tokens: &[Token], at: usize) -> Option<Name>
+fn name_at(tokens: &Tokens<'_>, at: usize) -> Option<Name>
     ensures value { result ≡ option_and_then grammar.name_of (slice_get (kinds_of tokens.now) at) }
     ensures within { IfSome result (λ _. at < length tokens.now) }
+    ensures room { IfSome result (λ _. at + 1 < 2 ^ 64) }
 {
     name_of(kind_at(tokens, at)?)
 }
 
-fn plain_item_at(tokens: &[Token], at: usize) -> Option<Item>
+fn plain_item_at(tokens: &Tokens<'_>, at: usize) -> Option<Item>
     ensures value { result ≡ option_and_then grammar.plain_item_of (slice_get (kinds_of tokens.now) at) }
     ensures within { IfSome result (λ _. at < length tokens.now) }
+    ensures room { IfSome result (λ _. at + 1 < 2 ^ 64) }
 {
     plain_item_of(kind_at(tokens, at)?)
 }
 
-fn api_at(tokens: &[Token], at: usize) -> Option<Api>
+fn api_at(tokens: &Tokens<'_>, at: usize) -> Option<Api>
     ensures value { result ≡ option_and_then grammar.api_of (slice_get (kinds_of tokens.now) at) }
     ensures within { IfSome result (λ _. at < length tokens.now) }
+    ensures room { IfSome result (λ _. at + 1 < 2 ^ 64) }
 {
     api_of(kind_at(tokens, at)?)
 }
 
-fn expect_number(tokens: &[Token], at: usize) -> Result<(i32, usize), FirstFault>
+fn expect_number(tokens: &Tokens<'_>, at: usize) -> Result<(i32, usize), FirstFault>
     requires { at ≤ length tokens.now }
     ensures { Finds itself result (RightNumber (kinds_of tokens.now) at) }
 {
@@ -94,7 +98,7 @@ fn expect_number(tokens: &[Token], at: usize) -> Result<(i32, usize), FirstFault
     }
 }
 
-fn expect_name(tokens: &[Token], at: usize) -> Result<(Name, usize), FirstFault>
+fn expect_name(tokens: &Tokens<'_>, at: usize) -> Result<(Name, usize), FirstFault>
     requires { at ≤ length tokens.now }
     ensures { Finds itself result (RightName (kinds_of tokens.now) at) }
 {
@@ -107,7 +111,7 @@ fn expect_name(tokens: &[Token], at: usize) -> Result<(Name, usize), FirstFault>
     }
 }
 
-fn item(tokens: &[Token], at: usize) -> Result<(Item, usize), FirstFault>
+fn item(tokens: &Tokens<'_>, at: usize) -> Result<(Item, usize), FirstFault>
     requires { at ≤ length tokens.now }
     ensures { Finds itself result (RightItem (kinds_of tokens.now) at) }
 {
@@ -124,7 +128,7 @@ fn item(tokens: &[Token], at: usize) -> Result<(Item, usize), FirstFault>
     }
 }
 
-fn value(alloc: Global, tokens: &[Token], at: usize) -> Result<(Vec<Item>, usize), ReadError>
+fn value(alloc: Global, tokens: &Tokens<'_>, at: usize) -> Result<(Vec<Item>, usize), ReadError>
     requires { at ≤ length tokens.now }
     ensures { Answers items_view result (RightValue (kinds_of tokens.now) at) }
 {
@@ -142,7 +146,7 @@ fn value(alloc: Global, tokens: &[Token], at: usize) -> Result<(Vec<Item>, usize
 
 fn part(
     alloc: Global,
-    tokens: &[Token],
+    tokens: &Tokens<'_>,
     part: Part,
     at: usize,
 ) -> Result<(Option<Field>, usize), ReadError>
@@ -178,7 +182,7 @@ fn put(fields: &mut Vec<Field>, field: Option<Field>) -> Result<(), ReadError>
 
 fn parts(
     alloc: Global,
-    tokens: &[Token],
+    tokens: &Tokens<'_>,
     parts: &[Part],
     at: usize,
 ) -> Result<(Vec<Field>, usize), ReadError>
@@ -197,11 +201,12 @@ fn parts(
 
 fn api(
     alloc: Global,
-    tokens: &[Token],
+    tokens: &Tokens<'_>,
     kind: Api,
     at: usize,
 ) -> Result<(StaticApi, usize), ReadError>
     requires at { at < length tokens.now }
+    requires room { at + 1 < 2 ^ 64 }
     requires first { option_and_then grammar.api_of (slice_get (kinds_of tokens.now) at) ≡ Some kind }
     ensures { Answers api_view result (RightApi (kinds_of tokens.now) at) }
 {
@@ -209,7 +214,7 @@ fn api(
     Ok((StaticApi { kind, at, fields }, next))
 }
 
-fn apis(alloc: Global, tokens: &[Token], at: usize) -> Result<(Vec<StaticApi>, usize), ReadError>
+fn apis(alloc: Global, tokens: &Tokens<'_>, at: usize) -> Result<(Vec<StaticApi>, usize), ReadError>
     requires { at ≤ length tokens.now }
     ensures { Answers apis_view result (RightApis (kinds_of tokens.now) at) }
 {
@@ -223,7 +228,7 @@ fn apis(alloc: Global, tokens: &[Token], at: usize) -> Result<(Vec<StaticApi>, u
     Ok((found, i))
 }
 
-fn class(alloc: Global, tokens: &[Token], at: usize) -> Result<(Class, usize), ReadError>
+fn class(alloc: Global, tokens: &Tokens<'_>, at: usize) -> Result<(Class, usize), ReadError>
     requires { at ≤ length tokens.now }
     ensures { Answers class_view result (RightClass (kinds_of tokens.now) at) }
 {
@@ -244,7 +249,7 @@ fn class(alloc: Global, tokens: &[Token], at: usize) -> Result<(Class, usize), R
     ))
 }
 
-fn classes(alloc: Global, tokens: &[Token], at: usize) -> Result<(Vec<Class>, usize), ReadError>
+fn classes(alloc: Global, tokens: &Tokens<'_>, at: usize) -> Result<(Vec<Class>, usize), ReadError>
     requires { at ≤ length tokens.now }
     ensures { Answers classes_view result (RightClasses (kinds_of tokens.now) at) }
 {
@@ -258,7 +263,7 @@ fn classes(alloc: Global, tokens: &[Token], at: usize) -> Result<(Vec<Class>, us
     Ok((found, i))
 }
 
-fn configuration(alloc: Global, tokens: &[Token]) -> Result<(Configuration, usize), ReadError>
+fn configuration(alloc: Global, tokens: &Tokens<'_>) -> Result<(Configuration, usize), ReadError>
     ensures { Answers configuration_view result (RightConfig (kinds_of tokens.now) 0) }
 {
     let next = expect_keyword(tokens, 0, Keyword::NumPrc)?;
@@ -278,7 +283,7 @@ fn configuration(alloc: Global, tokens: &[Token]) -> Result<(Configuration, usiz
 }
 
 /// The configuration that these tokens spell, or the place of their first fault.
-pub(crate) fn read_tree(alloc: Global, tokens: &[Token]) -> Result<Configuration, ReadError>
+pub(crate) fn read_tree(alloc: Global, tokens: &Tokens<'_>) -> Result<Configuration, ReadError>
     ensures { IsVerdict (kinds_of tokens.now) result }
 {
     let (tree, next) = configuration(alloc, tokens)?;

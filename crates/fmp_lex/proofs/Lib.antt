@@ -5,6 +5,7 @@ pub mod Heads
 pub mod Lines
 pub mod Lists
 pub mod Names
+pub mod Packing
 pub mod Repetitions
 pub mod Sequences
 pub mod Turns

@@ -2,6 +2,7 @@ pub mod Cutting
 pub mod Faults
 pub mod Forms
 pub mod Laws
+pub mod Packing
 pub mod Reading
 pub mod Scanning
 pub mod Words

@@ -1,9 +1,12 @@
 //! A text is cut into tokens, spaces and comments.
-ghost use Rattle.std.specs.Prelude.{◌≡◌, List, ℕ, ◌+◌, ◌-◌, ◌^◌, ◌<◌, ◌≤◌, ◌↔◌, length, slice_index, slice_range, IfOk};
+ghost use Rattle.std.specs.Prelude.{◌≡◌, List, ℕ, ◌+◌, ◌-◌, ◌^◌, ◌<◌, ◌≤◌, ◌↔◌, length, map, slice_index, slice_range, IfOk, IfSome};
+ghost use Rattle.std.specs.List.{All};
+ghost use Rattle.fmp_lex.specs.Packing.{IsPacked, IsPlain, NamesText, whole_of};
 ghost use Rattle.fmp_lex.specs.Scanning.{Saturated, IsRun, in_class};
 ghost use Rattle.fmp_lex.specs.declared.scanning.Class.TheVariants as class;
 ghost use Rattle.fmp_lex.specs.Cutting.{word_kind, hex_piece, long_symbol, short_symbol, start_of, IsPiece, number_piece, word_piece, symbol_piece, Cuts, EndsWithin, end_line_of};
 
+use crate::packed::{Packed, Tokens, pack};
 use crate::scanning::{Class, find_close, is_in, line_feeds, run_end, value_of};
 use crate::token::{LexFault, Symbol, TextFault, Token, TokenKind, TokenList};
 use crate::words::{find_api, find_constant, find_keyword, find_service};
@@ -95,6 +98,7 @@ fn begin(b: u8, c: u8) -> Start
 fn number(text: &[u8], end: usize, fits: bool, value: u64) -> Piece
     ensures piece { (n : ℕ) → Saturated value n → result ≡ number_piece text.now end fits n }
     ensures ends { (i : ℕ) → i < end → end ≤ length text.now → EndsWithin text.now i result }
+    ensures named { (i : ℕ) → NamesText text.now i result }
 {
     if end < text.len() && is_in(Class::Word, text[end]) {
         Piece::Fault(LexFault::Syntax)
@@ -110,6 +114,7 @@ fn hex_number(text: &[u8], start: usize, end: usize) -> Piece
     requires run { IsRun (in_class class.Hex) text.now start end }
     ensures piece { result ≡ hex_piece text.now start end }
     ensures ends { (i : ℕ) → i < end → EndsWithin text.now i result }
+    ensures named { (i : ℕ) → NamesText text.now i result }
 {
     if end == start {
         return Piece::Fault(LexFault::Syntax);
@@ -119,7 +124,8 @@ fn hex_number(text: &[u8], start: usize, end: usize) -> Piece
 
 /// The word that these bytes are.
 fn find_word(bytes: &[u8]) -> Option<TokenKind>
-    ensures { result ≡ word_kind bytes.now }
+    ensures word { result ≡ word_kind bytes.now }
+    ensures plain { IfSome result IsPlain }
 {
     if let Some(constant) = find_constant(bytes) {
         return Some(TokenKind::Constant(constant));
@@ -130,7 +136,10 @@ fn find_word(bytes: &[u8]) -> Option<TokenKind>
     if let Some(service) = find_service(bytes) {
         return Some(TokenKind::Service(service));
     }
-    find_keyword(bytes).map(TokenKind::Keyword)
+    match find_keyword(bytes) {
+        Some(keyword) => Some(TokenKind::Keyword(keyword)),
+        None => None,
+    }
 }
 
 /// The word or the name of these bytes, which end at `end`.
@@ -138,6 +147,8 @@ fn word(bytes: &[u8], end: usize) -> Piece
     requires { 0 < length bytes.now }
     ensures piece { result ≡ word_piece bytes.now end }
     ensures ends { (text : List ℕ) (i : ℕ) → i < end → end ≤ length text → EndsWithin text i result }
+    ensures named { (text : List ℕ) (i : ℕ) → i < end → end ≤ length text → bytes.now ≡ slice_range text i end →
+        NamesText text i result }
 {
     if let Some(kind) = find_word(bytes) {
         return Piece::Whole(kind, end);
@@ -153,6 +164,7 @@ fn sign(i: usize, b: u8, c: u8) -> Piece
     requires { i + 2 < 2 ^ 64 }
     ensures piece { result ≡ symbol_piece i b c }
     ensures ends { (text : List ℕ) → i < length text → slice_index text (i + 1) ≡ c → EndsWithin text i result }
+    ensures named { (text : List ℕ) → NamesText text i result }
 {
     if let Some(symbol) = long_sign(b, c) {
         return Piece::Whole(TokenKind::Symbol(symbol), i + 2);
@@ -168,6 +180,7 @@ fn next_piece(text: &[u8], i: usize) -> Piece
     requires inside { i < length text.now }
     ensures piece { IsPiece text.now i result }
     ensures ends { EndsWithin text.now i result }
+    ensures named { NamesText text.now i result }
 {
     let b = text[i];
     let c = if i + 1 < text.len() { text[i + 1] } else { 0 };
@@ -193,10 +206,11 @@ fn next_piece(text: &[u8], i: usize) -> Piece
 }
 
 /// The tokens of a text that is not too long.
-fn cut(alloc: Global, text: &[u8]) -> Result<Vec<Token>, AllocError>
+fn cut(alloc: Global, text: &[u8]) -> Result<Vec<Packed>, AllocError>
     requires { length text.now ≤ TEXT_MAX }
-    ensures cut { IfOk result (λ v. Cuts text.now 0 v.items) }
-    ensures only { IfOk result (λ v. (ts : List Token) → Cuts text.now 0 ts → ts ≡ v.items) }
+    ensures cut { IfOk result (λ v. Cuts text.now 0 (map whole_of v.items)) }
+    ensures only { IfOk result (λ v. (ts : List Token) → Cuts text.now 0 ts → ts ≡ map whole_of v.items) }
+    ensures packed { IfOk result (λ v. All (IsPacked text.now) v.items) }
 {
     let mut tokens = Vec::new(alloc);
     let mut line = 1;
@@ -208,22 +222,22 @@ fn cut(alloc: Global, text: &[u8]) -> Result<Vec<Token>, AllocError>
                 i = end;
             }
             Piece::Whole(kind, end) => {
-                tokens.push(Token {
+                tokens.push(pack(Token {
                     kind,
                     line,
                     start: i as u32,
                     end: end as u32,
-                })?;
+                }))?;
                 line += line_feeds(&text[i..end]);
                 i = end;
             }
             Piece::Fault(fault) => {
-                tokens.push(Token {
+                tokens.push(pack(Token {
                     kind: TokenKind::Bad(fault),
                     line,
                     start: i as u32,
                     end: i as u32,
-                })?;
+                }))?;
                 return Ok(tokens);
             }
         }
@@ -232,18 +246,18 @@ fn cut(alloc: Global, text: &[u8]) -> Result<Vec<Token>, AllocError>
 }
 
 /// The tokens of a text. The last one is `Bad` where no token stands in its place.
-pub fn tokens(alloc: Global, text: &[u8]) -> Result<TokenList, TextFault>
-    ensures cut { IfOk result (λ list. Cuts text.now 0 list.tokens.items) }
-    ensures only { IfOk result (λ list. (ts : List Token) → Cuts text.now 0 ts → ts ≡ list.tokens.items) }
+pub fn tokens<'a>(alloc: Global, text: &'a [u8]) -> Result<TokenList<'a>, TextFault>
+    ensures cut { IfOk result (λ list. Cuts text.now 0 list.tokens) }
+    ensures only { IfOk result (λ list. (ts : List Token) → Cuts text.now 0 ts → ts ≡ list.tokens) }
     ensures end_line { IfOk result (λ list. list.end_line ≡ end_line_of text.now) }
     ensures too_long { (result ≡ Err TextFault.TooLong) ↔ (TEXT_MAX < length text.now) }
 {
     if text.len() > TEXT_MAX {
         return Err(TextFault::TooLong);
     }
-    let tokens = cut(alloc, text)?;
+    let packed = cut(alloc, text)?;
     Ok(TokenList {
-        tokens,
+        tokens: Tokens::new(text, packed),
         end_line: 1 + line_feeds(text),
     })
 }

@@ -80,11 +80,11 @@ fn token_fault(kind: TokenKind, why: GrammarFault) -> FaultKind
 
 /// The fault of a text whose tokens have this first fault; behind the last token it stands at the line on which the
 /// text ends.
-pub fn fault_at(list: &TokenList, file: TextFile, fault: FirstFault) -> BuildFault
-    ensures { result ≡ fault_of file list.now.end_line (slice_get list.now.tokens.items fault.at) fault.why }
+pub fn fault_at(list: &TokenList<'_>, file: TextFile, fault: FirstFault) -> BuildFault
+    ensures { result ≡ fault_of file list.now.end_line (slice_get list.now.tokens fault.at) fault.why }
 {
-    match list.tokens.get(fault.at) {
-        Some(token) => BuildFault::At(file, token.line, token_fault(token.kind, fault.why)),
-        None => BuildFault::At(file, list.end_line, FaultKind::Syntax),
+    match (list.tokens.line(fault.at), list.tokens.kind(fault.at)) {
+        (Some(line), Some(kind)) => BuildFault::At(file, line, token_fault(kind, fault.why)),
+        _ => BuildFault::At(file, list.end_line, FaultKind::Syntax),
     }
 }

@@ -3,8 +3,9 @@ ghost use Rattle.std.specs.Prelude.{◌≤◌, length};
 ghost use Rattle.fmp_lex.specs.Forms.{mark_kind};
 ghost use Rattle.fmp_lex.specs.Reading.{kinds_of, Steps, RightToken};
 
+use crate::packed::Tokens;
 use crate::reading::{FirstFault, expect_keyword, expect_symbol};
-use crate::token::{Symbol, Token};
+use crate::token::Symbol;
 use crate::words::Keyword;
 
 /// A token that stands in every use of a form. None of them goes on with a value or an expression.
@@ -20,7 +21,7 @@ pub enum Mark {
 }
 
 /// The place behind this mark, which has to stand at a place.
-pub fn expect_mark(tokens: &[Token], at: usize, mark: Mark) -> Result<usize, FirstFault>
+pub fn expect_mark(tokens: &Tokens<'_>, at: usize, mark: Mark) -> Result<usize, FirstFault>
     requires { at ≤ length tokens.now }
     ensures { Steps result (RightToken (kinds_of tokens.now) (mark_kind mark) at) }
 {

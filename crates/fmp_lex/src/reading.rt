@@ -1,9 +1,10 @@
 //! What the grammars read of tokens, and how reading ends.
-ghost use Rattle.std.specs.Prelude.{◌≡◌, ◌<◌, ◌≤◌, IsTrue, Some, false, length, slice_get, IfSome};
+ghost use Rattle.std.specs.Prelude.{◌≡◌, ◌+◌, ◌<◌, ◌≤◌, ◌^◌, IsTrue, Some, false, length, slice_get, IfSome};
 ghost use Rattle.fmp_lex.specs.Reading.{kinds_of, Steps, RightToken};
 ghost use Rattle.fmp_lex.specs.declared.reading.ReadError.TheVariants.{Memory, Fault};
 
-use crate::token::{Symbol, Token, TokenKind};
+use crate::packed::Tokens;
+use crate::token::{Symbol, TokenKind};
 use crate::words::Keyword;
 use std::alloc::{AllocError, AllocFailed};
 
@@ -56,17 +57,19 @@ impl<T: Drop> From<AllocFailed<T>> for ReadError {
 }
 
 /// What the token at a place is.
-pub fn kind_at(tokens: &[Token], at: usize) -> Option<TokenKind>
+pub fn kind_at(tokens: &Tokens<'_>, at: usize) -> Option<TokenKind>
     ensures value { result ≡ slice_get (kinds_of tokens.now) at }
     ensures within { IfSome result (λ _. at < length tokens.now) }
+    ensures room { IfSome result (λ _. at + 1 < 2 ^ 64) }
 {
-    tokens.get(at).map(|token| token.kind)
+    tokens.kind(at)
 }
 
 /// Whether this symbol stands at a place.
-pub fn is_symbol_at(tokens: &[Token], at: usize, symbol: Symbol) -> bool
+pub fn is_symbol_at(tokens: &Tokens<'_>, at: usize, symbol: Symbol) -> bool
     ensures yes { IsTrue result → slice_get (kinds_of tokens.now) at ≡ Some (TokenKind.Symbol symbol) }
     ensures within { IsTrue result → at < length tokens.now }
+    ensures room { IsTrue result → at + 1 < 2 ^ 64 }
     ensures no { result ≡ false → slice_get (kinds_of tokens.now) at ≡ Some (TokenKind.Symbol symbol) → ⊥ }
 {
     let Some(kind) = kind_at(tokens, at) else {
@@ -79,9 +82,10 @@ pub fn is_symbol_at(tokens: &[Token], at: usize, symbol: Symbol) -> bool
 }
 
 /// Whether this keyword stands at a place.
-pub fn is_keyword_at(tokens: &[Token], at: usize, keyword: Keyword) -> bool
+pub fn is_keyword_at(tokens: &Tokens<'_>, at: usize, keyword: Keyword) -> bool
     ensures yes { IsTrue result → slice_get (kinds_of tokens.now) at ≡ Some (TokenKind.Keyword keyword) }
     ensures within { IsTrue result → at < length tokens.now }
+    ensures room { IsTrue result → at + 1 < 2 ^ 64 }
     ensures no { result ≡ false → slice_get (kinds_of tokens.now) at ≡ Some (TokenKind.Keyword keyword) → ⊥ }
 {
     let Some(kind) = kind_at(tokens, at) else {
@@ -94,7 +98,7 @@ pub fn is_keyword_at(tokens: &[Token], at: usize, keyword: Keyword) -> bool
 }
 
 /// The place behind this symbol, which has to stand at a place.
-pub fn expect_symbol(tokens: &[Token], at: usize, symbol: Symbol) -> Result<usize, FirstFault>
+pub fn expect_symbol(tokens: &Tokens<'_>, at: usize, symbol: Symbol) -> Result<usize, FirstFault>
     requires { at ≤ length tokens.now }
     ensures { Steps result (RightToken (kinds_of tokens.now) (TokenKind.Symbol symbol) at) }
 {
@@ -109,7 +113,7 @@ pub fn expect_symbol(tokens: &[Token], at: usize, symbol: Symbol) -> Result<usiz
 }
 
 /// The place behind this keyword, which has to stand at a place.
-pub fn expect_keyword(tokens: &[Token], at: usize, keyword: Keyword) -> Result<usize, FirstFault>
+pub fn expect_keyword(tokens: &Tokens<'_>, at: usize, keyword: Keyword) -> Result<usize, FirstFault>
     requires { at ≤ length tokens.now }
     ensures { Steps result (RightToken (kinds_of tokens.now) (TokenKind.Keyword keyword) at) }
 {

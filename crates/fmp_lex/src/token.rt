@@ -2,6 +2,7 @@
 ghost use Rattle.std.specs.Prelude.{◌≡◌};
 ghost use Rattle.fmp_lex.specs.declared.token.TextFault.TheVariants.{Memory};
 
+use crate::packed::Tokens;
 use crate::words::{Api, Constant, Keyword};
 use fmp_base::{Name, Service};
 use std::alloc::AllocError;
@@ -71,9 +72,9 @@ pub struct Token {
 }
 
 /// The tokens of a text, and the line on which it ends.
-#[derive(Drop, Debug)]
-pub struct TokenList {
-    pub tokens: Vec<Token>,
+#[derive(Drop)]
+pub struct TokenList<'a> {
+    pub tokens: Tokens<'a>,
     pub end_line: u32,
 }
 

@@ -1,5 +1,5 @@
 //! Bodies and whole programs of the task language.
-ghost use Rattle.std.specs.Prelude.{◌≡◌, ◌≤◌, ◌<◌, Some, length, slice_get, option_and_then};
+ghost use Rattle.std.specs.Prelude.{◌≡◌, ◌^◌, ◌+◌, ◌≤◌, ◌<◌, Some, length, slice_get, option_and_then};
 ghost use Rattle.fmp_lex.specs.Reading.{kinds_of, Answers, Finds};
 ghost use Rattle.fmp_tasklang.specs.Expressions.{lines_of};
 ghost use Rattle.fmp_tasklang.specs.Grammar.{body_kind_of};
@@ -10,10 +10,10 @@ use crate::statements::statements;
 use crate::trees::{Body, BodyKind, Program, Word};
 use crate::words::{body_kind_at, expect_word, line_at};
 use fmp_lex::reading::{expect_keyword, expect_symbol, is_keyword_at};
-use fmp_lex::{FirstFault, GrammarFault, Keyword, ReadError, Symbol, Token};
+use fmp_lex::{FirstFault, GrammarFault, Keyword, ReadError, Symbol, Tokens};
 use std::alloc::Global;
 
-fn variable(tokens: &[Token], at: usize) -> Result<(Word, usize), FirstFault>
+fn variable(tokens: &Tokens<'_>, at: usize) -> Result<(Word, usize), FirstFault>
     requires { at ≤ length tokens.now }
     ensures { Finds itself result (RightVariable (lines_of tokens.now) (kinds_of tokens.now) at) }
 {
@@ -23,7 +23,7 @@ fn variable(tokens: &[Token], at: usize) -> Result<(Word, usize), FirstFault>
     Ok((name, next))
 }
 
-fn variables(alloc: Global, tokens: &[Token], at: usize) -> Result<(Vec<Word>, usize), ReadError>
+fn variables(alloc: Global, tokens: &Tokens<'_>, at: usize) -> Result<(Vec<Word>, usize), ReadError>
     requires { at ≤ length tokens.now }
     ensures { Answers words_view result (RightVariables (lines_of tokens.now) (kinds_of tokens.now) at) }
 {
@@ -39,11 +39,12 @@ fn variables(alloc: Global, tokens: &[Token], at: usize) -> Result<(Vec<Word>, u
 
 fn body(
     alloc: Global,
-    tokens: &[Token],
+    tokens: &Tokens<'_>,
     kind: BodyKind,
     at: usize,
 ) -> Result<(Body, usize), ReadError>
     requires at { at < length tokens.now }
+    requires room { at + 1 < 2 ^ 64 }
     requires first { option_and_then body_kind_of (slice_get (kinds_of tokens.now) at) ≡ Some kind }
     ensures { Answers body_view result (RightBody (lines_of tokens.now) (kinds_of tokens.now) at) }
 {
@@ -65,7 +66,7 @@ fn body(
     ))
 }
 
-fn bodies(alloc: Global, tokens: &[Token], at: usize) -> Result<(Vec<Body>, usize), ReadError>
+fn bodies(alloc: Global, tokens: &Tokens<'_>, at: usize) -> Result<(Vec<Body>, usize), ReadError>
     requires { at ≤ length tokens.now }
     ensures { Answers bodies_view result (RightBodies (lines_of tokens.now) (kinds_of tokens.now) at) }
 {
@@ -80,7 +81,7 @@ fn bodies(alloc: Global, tokens: &[Token], at: usize) -> Result<(Vec<Body>, usiz
 }
 
 /// The program that these tokens spell, or the place of their first fault.
-pub fn read_program(alloc: Global, tokens: &[Token]) -> Result<Program, ReadError>
+pub fn read_program(alloc: Global, tokens: &Tokens<'_>) -> Result<Program, ReadError>
     ensures { IsVerdict (lines_of tokens.now) (kinds_of tokens.now) result }
 {
     let (bodies, next) = bodies(alloc, tokens, 0)?;

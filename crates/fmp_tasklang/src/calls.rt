@@ -1,5 +1,5 @@
 //! Service calls of the task language.
-ghost use Rattle.std.specs.Prelude.{◌≡◌, ◌≤◌, ◌<◌, ◌++◌, Some, [], length, map, slice_get, option_and_then, IfOk, IfErr};
+ghost use Rattle.std.specs.Prelude.{◌≡◌, ◌^◌, ◌+◌, ◌≤◌, ◌<◌, ◌++◌, Some, [], length, map, slice_get, option_and_then, IfOk, IfErr};
 ghost use Rattle.fmp_lex.specs.Reading.{kinds_of, max_depth, Answers};
 ghost use Rattle.fmp_lex.specs.Forms as forms;
 ghost use Rattle.fmp_tasklang.specs.Calls.{service_of, values_of, out_from};
@@ -13,7 +13,7 @@ use crate::trees::{Expression, ServiceCall, Word};
 use crate::words::{LOOSEST, expect_word};
 use fmp_base::Service;
 use fmp_lex::reading::expect_symbol;
-use fmp_lex::{ReadError, Symbol, Token, expect_mark};
+use fmp_lex::{ReadError, Symbol, Tokens, expect_mark};
 use std::alloc::Global;
 
 /// What a call is passed at one place.
@@ -26,7 +26,7 @@ pub enum Argument {
 
 fn part(
     alloc: Global,
-    tokens: &[Token],
+    tokens: &Tokens<'_>,
     depth: usize,
     part: Part,
     at: usize,
@@ -71,7 +71,7 @@ fn put(call: &mut ServiceCall, argument: Option<Argument>) -> Result<(), ReadErr
 
 fn arguments(
     alloc: Global,
-    tokens: &[Token],
+    tokens: &Tokens<'_>,
     depth: usize,
     service: Service,
     parts: &[Part],
@@ -100,13 +100,14 @@ fn arguments(
 /// The call of a service at a place, and the place behind it. The variable before `=` is left to the caller.
 pub fn call(
     alloc: Global,
-    tokens: &[Token],
+    tokens: &Tokens<'_>,
     depth: usize,
     service: Service,
     at: usize,
 ) -> Result<(ServiceCall, usize), ReadError>
     requires depth { depth ≤ max_depth }
     requires at { at < length tokens.now }
+    requires room { at + 1 < 2 ^ 64 }
     requires first { option_and_then service_of (slice_get (kinds_of tokens.now) at) ≡ Some service }
     ensures { Answers called_view result (RightCall (lines_of tokens.now) (kinds_of tokens.now) depth at) }
 {

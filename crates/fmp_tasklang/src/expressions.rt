@@ -1,5 +1,5 @@
 //! Expressions of the task language.
-ghost use Rattle.std.specs.Prelude.{◌≡◌, ◌≤◌, ◌<◌, ◌+◌, Some, length, slice_get, option_and_then};
+ghost use Rattle.std.specs.Prelude.{◌≡◌, ◌^◌, ◌≤◌, ◌<◌, ◌+◌, Some, length, slice_get, option_and_then};
 ghost use Rattle.fmp_lex.specs.Reading.{kinds_of, max_depth, Answers};
 ghost use Rattle.fmp_lex.specs.declared.token.Symbol.TheVariants as symbol;
 ghost use Rattle.fmp_tasklang.specs.Expressions.{lines_of, loosest, unary_of};
@@ -11,7 +11,7 @@ use crate::trees::{Expression, Link};
 use crate::words::{LOOSEST, MAX_DEPTH, expect_word, level_at, number_at, operator_at, unary_at};
 use fmp_base::UnaryOperator;
 use fmp_lex::reading::{expect_symbol, is_symbol_at};
-use fmp_lex::{FirstFault, GrammarFault, ReadError, Symbol, Token, TokenKind};
+use fmp_lex::{FirstFault, GrammarFault, ReadError, Symbol, TokenKind, Tokens};
 use std::alloc::Global;
 
 fn literal(number: i32) -> Expression
@@ -24,7 +24,7 @@ fn literal(number: i32) -> Expression
 #[cycle(expressions)]
 fn operand(
     alloc: Global,
-    tokens: &[Token],
+    tokens: &Tokens<'_>,
     depth: usize,
     at: usize,
 ) -> Result<(Expression, usize), ReadError>
@@ -48,13 +48,14 @@ fn operand(
 #[cycle(expressions)]
 fn unary(
     alloc: Global,
-    tokens: &[Token],
+    tokens: &Tokens<'_>,
     depth: usize,
     operator: UnaryOperator,
     at: usize,
 ) -> Result<(Expression, usize), ReadError>
     requires depth { depth ≤ max_depth }
     requires at { at < length tokens.now }
+    requires room { at + 1 < 2 ^ 64 }
     requires first { option_and_then unary_of (slice_get (kinds_of tokens.now) at) ≡ Some operator }
     ensures { Answers expression_view result (RightOperand (lines_of tokens.now) (kinds_of tokens.now) depth at) }
 {
@@ -72,12 +73,13 @@ fn unary(
 #[cycle(expressions)]
 fn group(
     alloc: Global,
-    tokens: &[Token],
+    tokens: &Tokens<'_>,
     depth: usize,
     at: usize,
 ) -> Result<(Expression, usize), ReadError>
     requires depth { depth ≤ max_depth }
     requires at { at < length tokens.now }
+    requires room { at + 1 < 2 ^ 64 }
     requires first { slice_get (kinds_of tokens.now) at ≡ Some (TokenKind.Symbol symbol.LeftParen) }
     ensures { Answers expression_view result (RightOperand (lines_of tokens.now) (kinds_of tokens.now) depth at) }
 {
@@ -96,7 +98,7 @@ fn group(
 #[cycle(expressions)]
 pub fn expression(
     alloc: Global,
-    tokens: &[Token],
+    tokens: &Tokens<'_>,
     depth: usize,
     level: usize,
     at: usize,
@@ -122,7 +124,7 @@ pub fn expression(
 #[cycle(expressions)]
 fn links(
     alloc: Global,
-    tokens: &[Token],
+    tokens: &Tokens<'_>,
     depth: usize,
     level: usize,
     at: usize,

@@ -1,5 +1,5 @@
 //! Statements of the task language.
-ghost use Rattle.std.specs.Prelude.{◌≡◌, ◌≤◌, ◌<◌, ◌+◌, Some, true, length, slice_get, option_and_then};
+ghost use Rattle.std.specs.Prelude.{◌≡◌, ◌^◌, ◌≤◌, ◌<◌, ◌+◌, Some, true, length, slice_get, option_and_then};
 ghost use Rattle.fmp_lex.specs.Reading.{kinds_of, max_depth, Answers};
 ghost use Rattle.fmp_lex.specs.declared.words.Keyword.TheVariants as keyword;
 ghost use Rattle.fmp_tasklang.specs.Blocks.{choice};
@@ -16,7 +16,7 @@ use crate::trees::{Expression, ServiceCall, Statement, Word};
 use crate::words::{LOOSEST, MAX_DEPTH, expect_word, jump_at, service_at};
 use fmp_base::Service;
 use fmp_lex::reading::{expect_symbol, is_keyword_at, is_symbol_at};
-use fmp_lex::{FirstFault, GrammarFault, Keyword, ReadError, Symbol, Token, TokenKind};
+use fmp_lex::{FirstFault, GrammarFault, Keyword, ReadError, Symbol, TokenKind, Tokens};
 use std::alloc::Global;
 
 /// What stands behind `name =`.
@@ -28,7 +28,7 @@ pub enum Given {
 
 fn condition(
     alloc: Global,
-    tokens: &[Token],
+    tokens: &Tokens<'_>,
     depth: usize,
     at: usize,
 ) -> Result<(Expression, usize), ReadError>
@@ -44,7 +44,7 @@ fn condition(
 
 fn source(
     alloc: Global,
-    tokens: &[Token],
+    tokens: &Tokens<'_>,
     depth: usize,
     at: usize,
 ) -> Result<(Given, usize), ReadError>
@@ -82,7 +82,7 @@ fn assign(target: Word, source: Given) -> Statement
 
 fn assignment(
     alloc: Global,
-    tokens: &[Token],
+    tokens: &Tokens<'_>,
     depth: usize,
     at: usize,
 ) -> Result<(Statement, usize), ReadError>
@@ -99,13 +99,14 @@ fn assignment(
 
 fn plain_call(
     alloc: Global,
-    tokens: &[Token],
+    tokens: &Tokens<'_>,
     depth: usize,
     service: Service,
     at: usize,
 ) -> Result<(Statement, usize), ReadError>
     requires depth { depth ≤ max_depth }
     requires at { at < length tokens.now }
+    requires room { at + 1 < 2 ^ 64 }
     requires first { option_and_then service_of (slice_get (kinds_of tokens.now) at) ≡ Some service }
     ensures { Answers statement_view result (RightPlainCall (lines_of tokens.now) (kinds_of tokens.now) depth at) }
 {
@@ -115,12 +116,13 @@ fn plain_call(
 }
 
 fn jump(
-    tokens: &[Token],
+    tokens: &Tokens<'_>,
     looped: bool,
     statement: Statement,
     at: usize,
 ) -> Result<(Statement, usize), ReadError>
     requires at { at < length tokens.now }
+    requires room { at + 1 < 2 ^ 64 }
     requires first { option_and_then (jump_of looped) (slice_get (kinds_of tokens.now) at)
         ≡ Some (statement_view statement) }
     ensures { Answers statement_view result (RightJump (kinds_of tokens.now) looped at) }
@@ -132,7 +134,7 @@ fn jump(
 #[cycle(statements)]
 fn statement(
     alloc: Global,
-    tokens: &[Token],
+    tokens: &Tokens<'_>,
     depth: usize,
     looped: bool,
     at: usize,
@@ -160,13 +162,14 @@ fn statement(
 #[cycle(statements)]
 fn while_statement(
     alloc: Global,
-    tokens: &[Token],
+    tokens: &Tokens<'_>,
     depth: usize,
     looped: bool,
     at: usize,
 ) -> Result<(Statement, usize), ReadError>
     requires depth { depth ≤ max_depth }
     requires at { at < length tokens.now }
+    requires room { at + 1 < 2 ^ 64 }
     requires first { slice_get (kinds_of tokens.now) at ≡ Some (TokenKind.Keyword keyword.While) }
     ensures { Answers statement_view result
         (RightStatement (lines_of tokens.now) (kinds_of tokens.now) depth looped at) }
@@ -179,13 +182,14 @@ fn while_statement(
 #[cycle(statements)]
 fn if_statement(
     alloc: Global,
-    tokens: &[Token],
+    tokens: &Tokens<'_>,
     depth: usize,
     looped: bool,
     at: usize,
 ) -> Result<(Statement, usize), ReadError>
     requires depth { depth ≤ max_depth }
     requires at { at < length tokens.now }
+    requires room { at + 1 < 2 ^ 64 }
     requires first { slice_get (kinds_of tokens.now) at ≡ Some (TokenKind.Keyword keyword.If) }
     ensures { Answers statement_view result (RightIf (lines_of tokens.now) (kinds_of tokens.now) depth looped at) }
 {
@@ -216,7 +220,7 @@ fn choose(
 #[cycle(statements)]
 fn else_part(
     alloc: Global,
-    tokens: &[Token],
+    tokens: &Tokens<'_>,
     depth: usize,
     looped: bool,
     at: usize,
@@ -236,7 +240,7 @@ fn else_part(
 #[cycle(statements)]
 fn other(
     alloc: Global,
-    tokens: &[Token],
+    tokens: &Tokens<'_>,
     depth: usize,
     looped: bool,
     at: usize,
@@ -263,7 +267,7 @@ fn other(
 #[cycle(statements)]
 fn block(
     alloc: Global,
-    tokens: &[Token],
+    tokens: &Tokens<'_>,
     depth: usize,
     looped: bool,
     at: usize,
@@ -293,7 +297,7 @@ fn block(
 #[cycle(statements)]
 pub fn statements(
     alloc: Global,
-    tokens: &[Token],
+    tokens: &Tokens<'_>,
     depth: usize,
     looped: bool,
     at: usize,

@@ -1,5 +1,5 @@
 //! What tokens are worth in the task language: numbers, names, operators and their levels.
-ghost use Rattle.std.specs.Prelude.{◌≡◌, ◌≤◌, ◌<◌, ℕ, None, Some, length, slice_get, option_and_then, option_map, IfSome, MatchOption};
+ghost use Rattle.std.specs.Prelude.{◌≡◌, ◌^◌, ◌+◌, ◌≤◌, ◌<◌, ℕ, None, Some, length, slice_get, option_and_then, option_map, IfSome, MatchOption};
 ghost use Rattle.fmp_lex.specs.Reading.{kinds_of, Finds};
 ghost use Rattle.fmp_tasklang.specs.Calls as calls;
 ghost use Rattle.fmp_tasklang.specs.Expressions as expressions;
@@ -12,7 +12,7 @@ ghost use Rattle.fmp_tasklang.specs.Views.{statement_view};
 use crate::trees::{BodyKind, Operator, Statement, Word};
 use fmp_base::{BinaryOperator, Name, Service, UnaryOperator};
 use fmp_lex::reading::kind_at;
-use fmp_lex::{FirstFault, GrammarFault, Keyword, Symbol, Token, TokenKind};
+use fmp_lex::{FirstFault, GrammarFault, Keyword, Symbol, TokenKind, Tokens};
 
 /// Above the levels of all operators.
 pub const LOOSEST: usize = 9;
@@ -113,47 +113,51 @@ fn body_kind_of(kind: TokenKind) -> Option<BodyKind>
 }
 
 /// The line of the token at a place.
-pub fn line_at(tokens: &[Token], at: usize) -> u32
+pub fn line_at(tokens: &Tokens<'_>, at: usize) -> u32
     ensures { result ≡ lines_of tokens.now at }
 {
-    match tokens.get(at) {
-        Some(token) => token.line,
+    match tokens.line(at) {
+        Some(line) => line,
         None => 1,
     }
 }
 
 /// The number that the token at a place stands for.
-pub fn number_at(tokens: &[Token], at: usize) -> Option<i32>
+pub fn number_at(tokens: &Tokens<'_>, at: usize) -> Option<i32>
     ensures value { result ≡ option_and_then expressions.number_of (slice_get (kinds_of tokens.now) at) }
     ensures within { IfSome result (λ _. at < length tokens.now) }
+    ensures room { IfSome result (λ _. at + 1 < 2 ^ 64) }
 {
     number_of(kind_at(tokens, at)?)
 }
 
 /// The name at a place.
-pub fn name_at(tokens: &[Token], at: usize) -> Option<Name>
+pub fn name_at(tokens: &Tokens<'_>, at: usize) -> Option<Name>
     ensures value { result ≡ option_and_then expressions.name_of (slice_get (kinds_of tokens.now) at) }
     ensures within { IfSome result (λ _. at < length tokens.now) }
+    ensures room { IfSome result (λ _. at + 1 < 2 ^ 64) }
 {
     name_of(kind_at(tokens, at)?)
 }
 
 /// The unary operator at a place.
-pub fn unary_at(tokens: &[Token], at: usize) -> Option<UnaryOperator>
+pub fn unary_at(tokens: &Tokens<'_>, at: usize) -> Option<UnaryOperator>
     ensures value { result ≡ option_and_then expressions.unary_of (slice_get (kinds_of tokens.now) at) }
     ensures within { IfSome result (λ _. at < length tokens.now) }
+    ensures room { IfSome result (λ _. at + 1 < 2 ^ 64) }
 {
     unary_of(kind_at(tokens, at)?)
 }
 
 /// The operator at a place, if it is one of this level.
-pub fn operator_at(tokens: &[Token], level: usize, at: usize) -> Option<Operator>
-    ensures { MatchOption result
+pub fn operator_at(tokens: &Tokens<'_>, level: usize, at: usize) -> Option<Operator>
+    ensures value { MatchOption result
         ((op : Operator)
         → option_and_then expressions.operator_of (slice_get (kinds_of tokens.now) at) ≡ Some (level, op)
         → ⊥)
         (λ op. (option_and_then expressions.operator_of (slice_get (kinds_of tokens.now) at) ≡ Some (level, op))
         × (at < length tokens.now)) }
+    ensures room { IfSome result (λ _. at + 1 < 2 ^ 64) }
 {
     match operator_of(kind_at(tokens, at)?) {
         Some((found, operator)) if usize::from(found) == level => Some(operator),
@@ -162,7 +166,7 @@ pub fn operator_at(tokens: &[Token], level: usize, at: usize) -> Option<Operator
 }
 
 /// The level of the operator at a place, if it is `least` or more and below `end`.
-pub fn level_at(tokens: &[Token], least: usize, end: usize, at: usize) -> Option<usize>
+pub fn level_at(tokens: &Tokens<'_>, least: usize, end: usize, at: usize) -> Option<usize>
     ensures { MatchOption result
         ((level : ℕ) → least ≤ level → level < end → (op : Operator)
         → option_and_then expressions.operator_of (slice_get (kinds_of tokens.now) at) ≡ Some (level, op)
@@ -179,32 +183,35 @@ pub fn level_at(tokens: &[Token], least: usize, end: usize, at: usize) -> Option
 }
 
 /// The service whose call begins at a place.
-pub fn service_at(tokens: &[Token], at: usize) -> Option<Service>
+pub fn service_at(tokens: &Tokens<'_>, at: usize) -> Option<Service>
     ensures value { result ≡ option_and_then calls.service_of (slice_get (kinds_of tokens.now) at) }
     ensures within { IfSome result (λ _. at < length tokens.now) }
+    ensures room { IfSome result (λ _. at + 1 < 2 ^ 64) }
 {
     service_of(kind_at(tokens, at)?)
 }
 
 /// The jump at a place, in a loop or outside.
-pub fn jump_at(tokens: &[Token], looped: bool, at: usize) -> Option<Statement>
+pub fn jump_at(tokens: &Tokens<'_>, looped: bool, at: usize) -> Option<Statement>
     ensures value { option_map statement_view result
         ≡ option_and_then (statements.jump_of looped) (slice_get (kinds_of tokens.now) at) }
     ensures within { IfSome result (λ _. at < length tokens.now) }
+    ensures room { IfSome result (λ _. at + 1 < 2 ^ 64) }
 {
     jump_of(kind_at(tokens, at)?, looped)
 }
 
 /// The kind of the body that begins at a place.
-pub fn body_kind_at(tokens: &[Token], at: usize) -> Option<BodyKind>
+pub fn body_kind_at(tokens: &Tokens<'_>, at: usize) -> Option<BodyKind>
     ensures value { result ≡ option_and_then grammar.body_kind_of (slice_get (kinds_of tokens.now) at) }
     ensures within { IfSome result (λ _. at < length tokens.now) }
+    ensures room { IfSome result (λ _. at + 1 < 2 ^ 64) }
 {
     body_kind_of(kind_at(tokens, at)?)
 }
 
 /// The name that has to stand at a place, and the place behind it.
-pub fn expect_word(tokens: &[Token], at: usize) -> Result<(Word, usize), FirstFault>
+pub fn expect_word(tokens: &Tokens<'_>, at: usize) -> Result<(Word, usize), FirstFault>
     requires { at ≤ length tokens.now }
     ensures { Finds itself result (RightWord (lines_of tokens.now) (kinds_of tokens.now) at) }
 {

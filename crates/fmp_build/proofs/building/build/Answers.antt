@@ -21,10 +21,10 @@ returns-in_err-check_entries-clause-refuses c =
     let reads = c.in_ok-configured.ensures.reads in
     let program = c.in_ok-program.program in
     let read = c.in_ok-program.ensures.read in
-    let are = collected c.args.cfg.now c.args.src.now configured reads program read c.deref-2.result.now c.in_ok-entries.entries.items
-    c.deref.result.now c.deref-2.ensures.value c.in_ok-entries.ensures c.deref.ensures.value in
+    let are = collected c.args.cfg.now c.args.src.now configured reads program read c.deref.result.now c.in_ok-entries.entries.items
+    c.deref.ensures.value c.in_ok-entries.ensures in
     let refused : IsBuildFault c.args.cfg.now c.args.src.now c.in_err-check_entries.field-0.0 =
-    entries_refused c.args.cfg.now c.args.src.now configured reads program read c.deref-2.result.now are c.in_ok-code.ensures.compiled.0
+    entries_refused c.args.cfg.now c.args.src.now configured reads program read c.deref.result.now are c.in_ok-code.ensures.compiled.0
     c.in_err-check_entries.field-0.0 c.in_err-check_entries.ensures in
     err_is (IsBuildFault c.args.cfg.now c.args.src.now) c.from_residual-in_err-check_entries.result c.in_err-check_entries.field-0.0
     c.from_residual-in_err-check_entries.ensures.1 refused
@@ -36,10 +36,10 @@ image_of-requires-clause-lawful c =
     let program = c.in_ok-program.program in
     let read = c.in_ok-program.ensures.read in
     let image = built_image (tables_of configured.system) (program_view program) in
-    let are = collected c.args.cfg.now c.args.src.now configured reads program read c.deref-2.result.now c.in_ok-entries.entries.items
-    c.deref.result.now c.deref-2.ensures.value c.in_ok-entries.ensures c.deref.ensures.value in
+    let are = collected c.args.cfg.now c.args.src.now configured reads program read c.deref.result.now c.in_ok-entries.entries.items
+    c.deref.ensures.value c.in_ok-entries.ensures in
     c.what_is_built_is_an_image.ensures c.args.cfg.now c.args.src.now image
-    (builds c.args.cfg.now c.args.src.now configured reads program read c.deref-2.result.now are c.in_ok-code.ensures.compiled.0 image
+    (builds c.args.cfg.now c.args.src.now configured reads program read c.deref.result.now are c.in_ok-code.ensures.compiled.0 image
     c.in_ok-check_entries.ensures refl)
 
 pub returns-clause-builds : goal.returns-clause-builds
@@ -48,7 +48,7 @@ returns-clause-builds c =
     let reads = c.in_ok-configured.ensures.reads in
     let program = c.in_ok-program.program in
     let read = c.in_ok-program.ensures.read in
-    let are = collected c.args.cfg.now c.args.src.now configured reads program read c.deref-2.result.now c.in_ok-entries.entries.items
-    c.deref.result.now c.deref-2.ensures.value c.in_ok-entries.ensures c.deref.ensures.value in
-    builds c.args.cfg.now c.args.src.now configured reads program read c.deref-2.result.now are c.in_ok-code.ensures.compiled.0
+    let are = collected c.args.cfg.now c.args.src.now configured reads program read c.deref.result.now c.in_ok-entries.entries.items
+    c.deref.ensures.value c.in_ok-entries.ensures in
+    builds c.args.cfg.now c.args.src.now configured reads program read c.deref.result.now are c.in_ok-code.ensures.compiled.0
     c.in_ok-image_of.field-0 c.in_ok-check_entries.ensures c.in_ok-image_of.ensures

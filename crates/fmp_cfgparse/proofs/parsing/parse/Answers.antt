@@ -15,7 +15,7 @@ not_long text list h = elim (cases_lt text_max (length text)) [
 pub returns-in-Ok : goal.returns-in-Ok
 returns-in-Ok c =
     let text = c.args.text.now in
-    let ts = c.in-Ok.list.tokens.items in
+    let ts = c.in-Ok.list.tokens in
     let short : length text ≤ text_max = not_long text c.in-Ok.list c.in-Ok.ensures.too_long in
-    let first = rw (c.in-Err-Fault.field-0-is, c.deref.ensures.value) at c.in-Err-Fault.ensures in
+    let first = rw c.in-Err-Fault.field-0-is at c.in-Err-Fault.ensures in
     parse_stopped text ts c.in-Err-Fault.fault.at c.in-Ok.list.end_line c.in-Err-Fault.fault.why c.fault_at.result short c.in-Ok.ensures.cut first c.in-Ok.ensures.end_line c.fault_at.ensures

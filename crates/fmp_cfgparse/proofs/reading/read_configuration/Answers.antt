@@ -14,7 +14,7 @@ is_read text (build.At f line why) x = inr x
 pub returns-in-Ok-configure-clause-reads : goal.returns-in-Ok-configure-clause-reads
 returns-in-Ok-configure-clause-reads c = record {
   configuration = record {
-    tokens = c.in-Ok.parsed.list.tokens.items;
+    tokens = c.in-Ok.parsed.list.tokens;
     tree = configuration_view c.in-Ok.parsed.tree;
     spelled = c.in-Ok.ensures;
     making = making_of c.in-Ok-configure.making;
@@ -28,17 +28,16 @@ returns-in-Ok-configure-clause-reads c = record {
 pub returns-in-Ok-clause-refuses : goal.returns-in-Ok-clause-refuses
 returns-in-Ok-clause-refuses c =
     let stopped = rw c.in-Err-Fault.field-0-is at c.in-Err-Fault.ensures in
-    let is = rw c.deref.ensures.value at c.fault_at.ensures in
     is_read c.args.text.now c.fault_at.result (
-      c.in-Ok.parsed.list.tokens.items,
+      c.in-Ok.parsed.list.tokens,
       configuration_view c.in-Ok.parsed.tree,
       c.in-Ok.ensures,
       record { at = c.in-Err-Fault.at; why = c.in-Err-Fault.why },
       stopped,
-      is,
+      c.fault_at.ensures,
     )
 
 pub returns-in-Ok-configure-clause-rules : goal.returns-in-Ok-configure-clause-rules
 returns-in-Ok-configure-clause-rules c =
-    made_keeps c.args.text.now c.in-Ok.parsed.list.tokens.items (configuration_view c.in-Ok.parsed.tree) (making_of c.in-Ok-configure.making)
+    made_keeps c.args.text.now c.in-Ok.parsed.list.tokens (configuration_view c.in-Ok.parsed.tree) (making_of c.in-Ok-configure.making)
     c.in-Ok.ensures c.in-Ok-configure.ensures

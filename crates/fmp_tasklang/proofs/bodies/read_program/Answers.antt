@@ -14,16 +14,16 @@ returns-in_err-bodies c =
     let e = err_from_is_err_and c.from_residual.result c.from_residual.ensures.1 in
     rw (e.1, e.2) (verdict_stopped line ts c.in_err-bodies.field-0.0 c.in_err-bodies.ensures)
 
-pub returns-then-next-tokens : goal.returns-then-next-tokens
-returns-then-next-tokens c =
+pub returns-then-next-len : goal.returns-then-next-len
+returns-then-next-len c =
     let line = lines_of c.args.tokens.now in
     let ts = kinds_of c.args.tokens.now in
-    let lt : c.in_ok-bodies.next < length ts = simp length-map (omega arith) in
+    let lt : c.in_ok-bodies.next < length ts = simp length-map (omega (arith, c.len.ensures)) in
     verdict_longer line ts (bodies_view c.in_ok-bodies.bodies) c.in_ok-bodies.next lt c.in_ok-bodies.ensures
 
 pub returns : goal.returns
 returns c =
     let line = lines_of c.args.tokens.now in
     let ts = kinds_of c.args.tokens.now in
-    let past : length ts ≤ c.in_ok-bodies.next = simp length-map (omega arith) in
+    let past : length ts ≤ c.in_ok-bodies.next = simp length-map (omega (arith, c.len.ensures)) in
     verdict_found line ts (bodies_view c.in_ok-bodies.bodies) c.in_ok-bodies.next past c.in_ok-bodies.ensures

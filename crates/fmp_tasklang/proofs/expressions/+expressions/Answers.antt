@@ -130,7 +130,7 @@ links-returns-in_err-operand m0 c =
     let k = c.links.i in
     let p = err_from_is_err_and c.from_residual-in_err-operand.result c.from_residual-in_err-operand.ensures.1 in
     rw (p.1, p.2) (err_as expression_view links_view c.in_err-operand.field-0.0 (RightExpression line ts d m (k + 1)) (RightLinks line ts d m i)
-    (λ j why x. c.links.invariant.goes (stopped j why) (links_stop line d m ts k c.in-Some.operator c.in-Some.ensures.0 j why x)) c.in_err-operand.ensures)
+    (λ j why x. c.links.invariant.goes (stopped j why) (links_stop line d m ts k c.in-Some.operator c.in-Some.ensures.value.0 j why x)) c.in_err-operand.ensures)
 
 pub links-links-preserved : goal.links-links-preserved
 links-links-preserved m0 c =
@@ -150,7 +150,7 @@ links-links-preserved m0 c =
     record {
       within = within;
       goes = rw pushed (λ o rest. push_before xs a o (RightLinks line ts d m i) (c.links.invariant.goes (map_outcome (λ (more : List LinkTree). a ∷ more) o)
-          (links_more line d m ts k c.in-Some.operator c.in-Some.ensures.0 e n x o rest)));
+          (links_more line d m ts k c.in-Some.operator c.in-Some.ensures.value.0 e n x o rest)));
     }
 
 pub links-returns : goal.links-returns
@@ -162,7 +162,7 @@ links-returns m0 c =
     let m = c.args.level in
     let k = c.links.i in
     let within : k ≤ length ts = simp length-map c.links.invariant.within in
-    rw append-nil at (c.links.invariant.goes (found [] k) (links_none line d m ts k c.in_default.ensures within))
+    rw append-nil at (c.links.invariant.goes (found [] k) (links_none line d m ts k c.in_default.ensures.value within))
 
 pub operand-returns-in-Some : goal.operand-returns-in-Some
 operand-returns-in-Some m0 c =

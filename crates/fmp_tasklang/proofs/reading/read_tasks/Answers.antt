@@ -36,11 +36,11 @@ returns-in-Ok-clause-read c =
     let text = c.args.text.now in
     let list = c.in-Ok.list in
     let short : length text ≤ text_max = not_long text list c.in-Ok.ensures.too_long in
-    let first = rw (c.in-Err-Fault.field-0-is, c.deref.ensures.value) at c.in-Err-Fault.ensures in
-    read_stopped text list.tokens.items c.in-Err-Fault.fault.at list.end_line c.in-Err-Fault.fault.why c.fault_at.result short c.in-Ok.ensures.cut first c.in-Ok.ensures.end_line c.fault_at.ensures
+    let first = rw c.in-Err-Fault.field-0-is at c.in-Err-Fault.ensures in
+    read_stopped text list.tokens c.in-Err-Fault.fault.at list.end_line c.in-Err-Fault.fault.why c.fault_at.result short c.in-Ok.ensures.cut first c.in-Ok.ensures.end_line c.fault_at.ensures
 
 pub returns-in-Ok-read_program-clause-calls : goal.returns-in-Ok-read_program-clause-calls
 returns-in-Ok-read_program-clause-calls c =
-    let tokens = c.deref.result.now in
+    let tokens = c.in-Ok.list.tokens in
     let end = length (kinds_of tokens) in
     calls_fit (lines_of tokens) (kinds_of tokens) end (program_view c.in-Ok-read_program.program) 0 end c.in-Ok-read_program.ensures.0

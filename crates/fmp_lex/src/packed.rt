@@ -1,0 +1,160 @@
+//! The tokens of a text in few bytes each: the bytes of a name stay in the text.
+ghost use Rattle.std.specs.Prelude.{◌≡◌, ℕ, List, ◌+◌, ◌<◌, ◌≤◌, ◌^◌, length, map, slice_get, option_map, IfSome};
+ghost use Rattle.std.specs.List.{All};
+ghost use Rattle.fmp_base.specs.Names.{name_from};
+ghost use Rattle.fmp_lex.specs.Packing.{IsNamed, IsPacked, Stands, TakesBytes, kind_in, whole_of, line_of};
+ghost use Rattle.fmp_lex.specs.Reading.{kinds_of};
+
+use crate::token::{LexFault, Symbol, Token, TokenKind};
+use crate::words::{Api, Constant, Keyword};
+use fmp_base::{Name, Service};
+use std::marker::Model;
+use std::snapshot::Snapshot;
+
+/// What a token is; a name by where it stands in the text.
+#[derive(Clone, Copy, Debug, PartialEq, Eq)]
+pub enum Shape {
+    Number(i32),
+    Name { length: u8, start: u32 },
+    Constant(Constant),
+    Api(Api),
+    Service(Service),
+    Keyword(Keyword),
+    Symbol(Symbol),
+    Bad(LexFault),
+}
+
+/// A token in few bytes. The whole one has no bytes: only the contracts see it.
+#[derive(Drop)]
+pub struct Packed {
+    pub shape: Shape,
+    pub line: u32,
+    pub whole: Snapshot<Token>,
+}
+
+/// The shape of a token of this kind, whose bytes stand from `start` up to `end`.
+fn shape_of(kind: TokenKind, start: usize, end: usize) -> Shape
+    requires start { start < 2 ^ 32 }
+    requires bytes { TakesBytes kind start end }
+    ensures stands { (text : List ℕ) → IsNamed text start kind end → Stands text result }
+    ensures kind { (text : List ℕ) → IsNamed text start kind end → kind ≡ kind_in text result }
+{
+    match kind {
+        TokenKind::Number(number) => Shape::Number(number),
+        TokenKind::Name(_) => Shape::Name {
+            length: (end - start) as u8,
+            start: start as u32,
+        },
+        TokenKind::Constant(constant) => Shape::Constant(constant),
+        TokenKind::Api(api) => Shape::Api(api),
+        TokenKind::Service(service) => Shape::Service(service),
+        TokenKind::Keyword(keyword) => Shape::Keyword(keyword),
+        TokenKind::Symbol(symbol) => Shape::Symbol(symbol),
+        TokenKind::Bad(fault) => Shape::Bad(fault),
+    }
+}
+
+/// The token in few bytes.
+pub(crate) fn pack(token: Token) -> Packed
+    requires bytes { TakesBytes token.kind token.start token.end }
+    ensures whole { whole_of result ≡ token }
+    ensures packed { (text : List ℕ) → IsNamed text token.start token.kind token.end → IsPacked text result }
+{
+    Packed {
+        shape: shape_of(token.kind, token.start as usize, token.end as usize),
+        line: token.line,
+        whole: Snapshot::of(&token),
+    }
+}
+
+/// What a token of this shape is in a text.
+fn kind_of(text: &[u8], shape: Shape) -> TokenKind
+    requires { Stands text.now shape }
+    ensures { result ≡ kind_in text.now shape }
+{
+    match shape {
+        Shape::Number(number) => TokenKind::Number(number),
+        Shape::Name { length, start } => {
+            let start = start as usize;
+            name_of(&text[start..start + length as usize])
+        }
+        Shape::Constant(constant) => TokenKind::Constant(constant),
+        Shape::Api(api) => TokenKind::Api(api),
+        Shape::Service(service) => TokenKind::Service(service),
+        Shape::Keyword(keyword) => TokenKind::Keyword(keyword),
+        Shape::Symbol(symbol) => TokenKind::Symbol(symbol),
+        Shape::Bad(fault) => TokenKind::Bad(fault),
+    }
+}
+
+/// The name of these bytes, of which there are 1 to 31.
+fn name_of(bytes: &[u8]) -> TokenKind
+    requires some { 0 < length bytes.now }
+    requires few { length bytes.now ≤ 31 }
+    ensures { result ≡ TokenKind.Name (name_from bytes.now) }
+{
+    match Name::new(bytes) {
+        Some(name) => TokenKind::Name(name),
+        None => TokenKind::Bad(LexFault::Limit),
+    }
+}
+
+/// The tokens of a text, in order. Contracts see the list of them.
+#[derive(Drop)]
+pub struct Tokens<'a> {
+    text: &'a [u8],
+    packed: Vec<Packed>,
+}
+
+impl<'a> Model for Tokens<'a> {
+    ghost use Rattle.std.specs.Prelude.{List, map};
+    ghost use Rattle.std.specs.List.{All};
+    ghost use Rattle.fmp_lex.specs.Packing.{IsPacked, whole_of};
+    ghost use Rattle.fmp_lex.specs.declared.token.Token.{Token as OneToken};
+
+    ghost Value = { List OneToken };
+
+    ghost view = { λ t. map whole_of t.packed.items };
+
+    ghost invariant = { λ t. All (IsPacked t.text.now) t.packed.items };
+}
+
+impl<'a> Tokens<'a> {
+    /// The tokens that stand so in the text.
+    pub(crate) fn new(text: &'a [u8], packed: Vec<Packed>) -> Tokens<'a>
+        requires { All (IsPacked text.now) packed.items }
+        ensures { result ≡ map whole_of packed.items }
+    {
+        Tokens { text, packed }
+    }
+
+    /// How many tokens there are.
+    pub fn len(&self) -> usize
+        ensures { result ≡ length self.now }
+    {
+        self.packed.len()
+    }
+
+    /// What the token at a place is.
+    pub fn kind(&self, at: usize) -> Option<TokenKind>
+        ensures value { result ≡ slice_get (kinds_of self.now) at }
+        ensures within { IfSome result (λ _. at < length self.now) }
+        ensures room { IfSome result (λ _. at + 1 < 2 ^ 64) }
+    {
+        if at >= self.packed.len() {
+            return None;
+        }
+        let packed = &self.packed[at];
+        Some(kind_of(self.text, packed.shape))
+    }
+
+    /// The line of the first byte of the token at a place, from 1.
+    pub fn line(&self, at: usize) -> Option<u32>
+        ensures { result ≡ option_map line_of (slice_get self.now at) }
+    {
+        if at >= self.packed.len() {
+            return None;
+        }
+        Some(self.packed[at].line)
+    }
+}
