@@ -1,0 +1,10 @@
+//! Steps for a system that has none: its processors in turn, and the clock where none of them goes on.
+#![tactic(auto)]
+
+mod driving;
+mod limits;
+mod plan;
+mod trying;
+
+pub use driving::{Driven, Stop, drive};
+pub use plan::Plan;

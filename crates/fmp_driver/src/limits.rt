@@ -1,0 +1,39 @@
+//! Which waits end by the clock.
+use fmp_base::{Call, Caller, Line};
+
+/// Whether a wait that begins with this call ends by the clock.
+fn has_end(call: Call) -> bool {
+    match call {
+        Call::DlyTsk { .. } => true,
+        Call::TslpTsk { limit } => limit > 0,
+        Call::TwaiSem { limit, .. } => limit > 0,
+        Call::TwaiFlg { limit, .. } => limit > 0,
+        Call::TsndDtq { limit, .. } => limit > 0,
+        Call::TrcvDtq { limit, .. } => limit > 0,
+        Call::TrcvMbx { limit, .. } => limit > 0,
+        _ => false,
+    }
+}
+
+/// Keeps of a task whether the wait that this line tells ends by the clock.
+fn note_wait(line: Line, ending: &mut [bool]) {
+    let Line::Call {
+        caller: Caller::Task(task),
+        call,
+        reply: None,
+        ..
+    } = line
+    else {
+        return;
+    };
+    if let Some(ends) = ending.get_mut(usize::from(task)) {
+        *ends = has_end(call);
+    }
+}
+
+/// Keeps of each task whether the wait that it began last ends by the clock.
+pub fn note_waits(lines: &[Line], ending: &mut [bool]) {
+    for line in lines {
+        note_wait(*line, ending);
+    }
+}

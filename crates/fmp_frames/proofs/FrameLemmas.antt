@@ -1,0 +1,122 @@
+-- One event of a run, between the frames that stand and those still to come.
+use Rattle.std.proofs.Common.{◌≡◌, refl, ℕ, ℤ, Bool, ◌+◌, ◌<◌, ◌≤◌, List, [], ◌∷◌, ◌++◌, subst, sym, arith, ap, ◌∙◌, append_assoc, map, get_or, drop, length, add-one}
+use Rattle.std.proofs.Math.Seq.{drop-cons}
+use Rattle.std.proofs.lemmas.List.{map-append}
+use Rattle.fmp_base.specs.declared.events.Effect.TheVariants as effect
+use Rattle.fmp_base.specs.declared.events.Event.{Event}
+use Rattle.fmp_base.specs.declared.events.Line.{Line}
+use Rattle.fmp_base.specs.declared.events.TaskState.{TaskState}
+use Rattle.fmp_base.specs.declared.states.Processor.{Processor}
+use Rattle.fmp_base.specs.declared.states.TaskBlock.{TaskBlock}
+use Rattle.fmp_base.specs.Meanings.{Meaning}
+use Rattle.fmp_base.specs.Steps.{Reaction, Nothing, Did, effect_of, step}
+use Rattle.fmp_kernel.specs.KernelViews.{KernelView, view_after, view_after_all}
+use Rattle.fmp_frames.specs.Frames.{FrameTable, frame_of, frames, framed_on}
+
+-- a map over a list with one more
+pub map_push : {A B : Type 0} (f : A → B) (xs ys : List A) (x : A) → ys ≡ xs ++ x ∷ [] → map f ys ≡ map f xs ++ f x ∷ []
+map_push f xs ys x e = ap (map f) e ∙ map-append f xs (x ∷ [])
+
+abbrev made : List Line → ℕ → List TaskState → List TaskBlock → List Processor → List ℕ → List ℕ → List ℤ → List Bool → List Bool → FrameTable
+made l c s b p m f w y i =
+    record {
+      lines = l;
+      clock = c;
+      states = s;
+      blocks = b;
+      processors = p;
+      semaphores = m;
+      flags = f;
+      shared_words = w;
+      pending_cyclics = y;
+      pending_interrupts = i;
+    }
+
+-- a frame is known by its parts
+pub same-frame : (a b : FrameTable) → a.lines ≡ b.lines → a.clock ≡ b.clock → a.states ≡ b.states → a.blocks ≡ b.blocks
+    → a.processors ≡ b.processors → a.semaphores ≡ b.semaphores → a.flags ≡ b.flags → a.shared_words ≡ b.shared_words
+    → a.pending_cyclics ≡ b.pending_cyclics → a.pending_interrupts ≡ b.pending_interrupts → a ≡ b
+same-frame a b e1 e2 e3 e4 e5 e6 e7 e8 e9 e10 =
+    ap (λ (x : List Line). made x a.clock a.states a.blocks a.processors a.semaphores a.flags a.shared_words a.pending_cyclics a.pending_interrupts) e1
+    ∙ ap (λ (x : ℕ). made b.lines x a.states a.blocks a.processors a.semaphores a.flags a.shared_words a.pending_cyclics a.pending_interrupts) e2
+    ∙ ap (λ (x : List TaskState). made b.lines b.clock x a.blocks a.processors a.semaphores a.flags a.shared_words a.pending_cyclics a.pending_interrupts) e3
+    ∙ ap (λ (x : List TaskBlock). made b.lines b.clock b.states x a.processors a.semaphores a.flags a.shared_words a.pending_cyclics a.pending_interrupts) e4
+    ∙ ap (λ (x : List Processor). made b.lines b.clock b.states b.blocks x a.semaphores a.flags a.shared_words a.pending_cyclics a.pending_interrupts) e5
+    ∙ ap (λ (x : List ℕ). made b.lines b.clock b.states b.blocks b.processors x a.flags a.shared_words a.pending_cyclics a.pending_interrupts) e6
+    ∙ ap (λ (x : List ℕ). made b.lines b.clock b.states b.blocks b.processors b.semaphores x a.shared_words a.pending_cyclics a.pending_interrupts) e7
+    ∙ ap (λ (x : List ℤ). made b.lines b.clock b.states b.blocks b.processors b.semaphores b.flags x a.pending_cyclics a.pending_interrupts) e8
+    ∙ ap (λ (x : List Bool). made b.lines b.clock b.states b.blocks b.processors b.semaphores b.flags b.shared_words x a.pending_interrupts) e9
+    ∙ ap (λ (x : List Bool). made b.lines b.clock b.states b.blocks b.processors b.semaphores b.flags b.shared_words b.pending_cyclics x) e10
+
+module _ {B C : Type 0} (meaning : B → Meaning C) where
+  abbrev step_of : KernelView B C → Event → Reaction C
+  step_of k e = step k.system (meaning k.body) k.bound k.world e
+
+  -- the frames that a kernel has still to give
+  abbrev pub frames_of : KernelView B C → List Event → List FrameTable
+  frames_of k es = frames k.system (meaning k.body) k.bound k.world es
+
+  abbrev pub last_of : KernelView B C → FrameTable
+  last_of k = frame_of k.system k.world.state k.lines
+
+  done_here : (k : KernelView B C) (es : List Event) (o : Reaction C) → effect.Done ≡ effect_of o
+      → framed_on k.system k.world o (λ w. frames k.system (meaning k.body) k.bound w es)
+      ≡ last_of (view_after k o) ∷ frames_of (view_after k o) es
+  done_here k es Nothing h = absurd (cc)
+  done_here k es (Did d) h = refl
+
+  nothing_here : (k : KernelView B C) (es : List Event) (o : Reaction C) → effect.Nothing ≡ effect_of o
+      → framed_on k.system k.world o (λ w. frames k.system (meaning k.body) k.bound w es) ≡ frames_of (view_after k o) es
+  nothing_here k es Nothing h = refl
+  nothing_here k es (Did d) h = absurd (cc)
+
+  system_here : (k : KernelView B C) (o : Reaction C) → (view_after k o).system ≡ k.system
+  system_here k Nothing = refl
+  system_here k (Did d) = refl
+
+  one_more : (k : KernelView B C) (o : Reaction C) → (view_after k o).done ≤ k.done + 1
+  one_more k Nothing = omega arith
+  one_more k (Did d) = omega arith
+
+  pub system-step : (k k' : KernelView B C) (e : Event) → k' ≡ view_after k (step_of k e) → k'.system ≡ k.system
+  system-step k k' e h = ap (λ (v : KernelView B C). v.system) h ∙ system_here k (step_of k e)
+
+  pub done-step : (k k' : KernelView B C) (e : Event) → k' ≡ view_after k (step_of k e) → k'.done ≤ k.done + 1
+  done-step k k' e h = subst (λ (v : KernelView B C). v.done ≤ k.done + 1) (sym h) (one_more k (step_of k e))
+
+  cut : (events : List Event) (i : ℕ) (d : Event) → i < length events → drop i events ≡ get_or events i d ∷ drop (i + 1) events
+  cut events i d h = rw add-one (drop-cons events i d h)
+
+  -- an event that did something: its frame stands
+  pub frames-done : (k k' : KernelView B C) (events : List Event) (i : ℕ) (d : Event) (all more total : List FrameTable)
+      → i < length events → effect.Done ≡ effect_of (step_of k (get_or events i d)) → k' ≡ view_after k (step_of k (get_or events i d))
+      → more ≡ all ++ last_of k' ∷ [] → all ++ frames_of k (drop i events) ≡ total → more ++ frames_of k' (drop (i + 1) events) ≡ total
+  frames-done k k' events i d all more total lt e h m so_far =
+      let o : Reaction C = step_of k (get_or events i d) in
+      let rest : List Event = drop (i + 1) events in
+      let here : frames_of k (drop i events) ≡ last_of (view_after k o) ∷ frames_of (view_after k o) rest =
+      ap (λ (es : List Event). frames_of k es) (cut events i d lt) ∙ done_here k rest o e in
+      let named : last_of (view_after k o) ∷ frames_of (view_after k o) rest ≡ last_of k' ∷ frames_of k' rest =
+      ap (λ (v : KernelView B C). last_of v ∷ frames_of v rest) (sym h) in
+      ap (λ (q : List FrameTable). q ++ frames_of k' rest) m
+      ∙ append_assoc all (last_of k' ∷ []) (frames_of k' rest)
+      ∙ ap (λ (q : List FrameTable). all ++ q) (sym (here ∙ named)) ∙ so_far
+
+  -- an event that did nothing
+  pub frames-nothing : (k k' : KernelView B C) (events : List Event) (i : ℕ) (d : Event) (all total : List FrameTable)
+      → i < length events → effect.Nothing ≡ effect_of (step_of k (get_or events i d)) → k' ≡ view_after k (step_of k (get_or events i d))
+      → all ++ frames_of k (drop i events) ≡ total → all ++ frames_of k' (drop (i + 1) events) ≡ total
+  frames-nothing k k' events i d all total lt e h so_far =
+      let o : Reaction C = step_of k (get_or events i d) in
+      let here : frames_of k (drop i events) ≡ frames_of (view_after k o) (drop (i + 1) events) =
+      ap (λ (es : List Event). frames_of k es) (cut events i d lt) ∙ nothing_here k (drop (i + 1) events) o e in
+      ap (λ (v : KernelView B C). all ++ frames_of v (drop (i + 1) events)) h
+      ∙ ap (λ (q : List FrameTable). all ++ q) (sym here) ∙ so_far
+
+  -- what stands at the end of a run, one event on
+  pub after-step : (k k' : KernelView B C) (events : List Event) (i : ℕ) (d : Event) (end : KernelView B C) → i < length events
+      → k' ≡ view_after k (step_of k (get_or events i d)) → view_after_all meaning k (drop i events) ≡ end
+      → view_after_all meaning k' (drop (i + 1) events) ≡ end
+  after-step k k' events i d end lt h so_far =
+      ap (λ (v : KernelView B C). view_after_all meaning v (drop (i + 1) events)) h
+      ∙ sym (ap (λ (es : List Event). view_after_all meaning k es) (cut events i d lt)) ∙ so_far

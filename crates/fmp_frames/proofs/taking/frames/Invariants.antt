@@ -1,0 +1,15 @@
+use Rattle.std.proofs.Common.{◌≡◌, ◌++◌, ◌+◌, ◌≤◌, ◌^◌, drop, length, map}
+use Rattle.fmp_kernel.specs.KernelViews.{view_after_all}
+use Rattle.fmp_frames.specs.Frames.{table_of}
+use Rattle.fmp_frames.proofs.FrameLemmas.{frames_of}
+use Rattle.fmp_frames.proofs.taking.frames.Given as goal
+
+abbrev pub invariant-loop-e : goal.invariant-loop-e
+invariant-loop-e g l =
+    record {
+      frames : map table_of l.all.items ++ frames_of g.B.Body.meaning l.kernel (drop l.e-index l.events)
+          ≡ frames_of g.B.Body.meaning l.fn.kernel l.events;
+      after : view_after_all g.B.Body.meaning l.kernel (drop l.e-index l.events) ≡ view_after_all g.B.Body.meaning l.fn.kernel l.events;
+      system : l.kernel.system ≡ l.fn.kernel.system;
+      few : l.kernel.done + length l.events ≤ 2 ^ 20 + l.e-index;
+    }

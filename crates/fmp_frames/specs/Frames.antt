@@ -1,0 +1,74 @@
+-- The frames of a run: what setup and each event that did something told, and the state after it.
+use Rattle.std.specs.Prelude.{ℕ, ℤ, pos, List, [], ◌∷◌, Bool, length, map, get_or}
+use Rattle.std.specs.List.{range_with_len}
+use Rattle.fmp_base.specs.declared.events.Event.{Event}
+use Rattle.fmp_base.specs.declared.events.Line.{Line}
+use Rattle.fmp_base.specs.declared.events.TaskState.{TaskState}
+use Rattle.fmp_base.specs.declared.states.Processor.{Processor}
+use Rattle.fmp_base.specs.declared.states.TaskBlock.{TaskBlock}
+use Rattle.fmp_base.specs.FlagCalls.{pattern_at}
+use Rattle.fmp_base.specs.Meanings.{Meaning, World}
+use Rattle.fmp_base.specs.Runs.{task_state}
+use Rattle.fmp_base.specs.States.{KernelState, task_at, processor_at}
+use Rattle.fmp_base.specs.Steps.{Reaction, Nothing, Did, step}
+use Rattle.fmp_base.specs.Systems.{SystemTables}
+use Rattle.fmp_base.specs.Ticks.{is_pending}
+use Rattle.fmp_frames.specs.declared.frame.Frame as declared
+
+-- what a frame shows, without memory
+pub record FrameTable : Type 0 where
+  pub lines : List Line
+  pub clock : ℕ
+  pub states : List TaskState
+  pub blocks : List TaskBlock
+  pub processors : List Processor
+  pub semaphores : List ℕ
+  pub flags : List ℕ
+  pub shared_words : List ℤ
+  pub pending_cyclics : List Bool
+  pub pending_interrupts : List Bool
+
+-- the table that a `Frame` holds
+abbrev pub table_of : declared.Frame → FrameTable
+table_of f =
+    record {
+      lines = f.lines.items;
+      clock = f.clock;
+      states = f.states.items;
+      blocks = f.blocks.items;
+      processors = f.processors.items;
+      semaphores = f.semaphores.items;
+      flags = f.flags.items;
+      shared_words = f.shared_words.items;
+      pending_cyclics = f.pending_cyclics.items;
+      pending_interrupts = f.pending_interrupts.items;
+    }
+
+-- what f says of each place below n, in order
+abbrev pub each : {A : Type 0} → (ℕ → A) → ℕ → List A
+each f n = map f (range_with_len 0 n)
+
+-- the frame of an event that told these lines and left this state
+abbrev pub frame_of : SystemTables → KernelState → List Line → FrameTable
+frame_of sys s lines =
+    record {
+      lines = lines;
+      clock = s.clock;
+      states = each (task_state s) (length sys.tasks);
+      blocks = each (task_at s.tasks) (length sys.tasks);
+      processors = each (processor_at s) sys.processors;
+      semaphores = each (λ i. get_or s.semaphores i 0) (length sys.semaphores);
+      flags = each (pattern_at s) (length sys.flags);
+      shared_words = each (λ i. get_or s.shared_words i (pos 0)) (length sys.shared_words);
+      pending_cyclics = each (is_pending s.pending_cyclics) (length sys.cyclics);
+      pending_interrupts = each (is_pending s.pending_interrupts) 32;
+    }
+
+abbrev pub framed_on : {C : Type 0} → SystemTables → World C → Reaction C → (World C → List FrameTable) → List FrameTable
+framed_on sys w Nothing rest = rest w
+framed_on sys w (Did d) rest = frame_of sys d.world.state d.lines ∷ rest d.world
+
+-- the frames of the events of a run that did something, in order
+abbrev pub frames : {C : Type 0} → SystemTables → Meaning C → (bound : ℕ) → World C → List Event → List FrameTable
+frames sys M bound w [] = []
+frames sys M bound w (e ∷ es) = framed_on sys w (step sys M bound w e) (λ v. frames sys M bound v es)

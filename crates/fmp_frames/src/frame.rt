@@ -1,0 +1,58 @@
+//! A frame: what is seen of a kernel after an event.
+ghost use Rattle.std.specs.Prelude.{◌≡◌, IfOk};
+ghost use Rattle.fmp_frames.specs.Frames.{frame_of, table_of};
+
+use crate::reading::{
+    blocks, flags, pending_cyclics, pending_interrupts, processors, semaphores, shared_words,
+    states,
+};
+use fmp_base::{Line, Processor, TaskBlock, TaskState};
+use fmp_kernel::{Body, Kernel};
+use std::alloc::{AllocError, Global};
+
+/// What setup or an event that did something told, and the state after it. Each table is in order of number.
+#[derive(Drop)]
+pub struct Frame {
+    /// What happened.
+    pub lines: Vec<Line>,
+    /// The clock.
+    pub clock: u32,
+    /// What is shown of the tasks.
+    pub states: Vec<TaskState>,
+    /// The tasks with their waits.
+    pub blocks: Vec<TaskBlock>,
+    /// The processors.
+    pub processors: Vec<Processor>,
+    /// The counts of the semaphores.
+    pub semaphores: Vec<u16>,
+    /// The patterns of the eventflags.
+    pub flags: Vec<u16>,
+    /// The values of the shared words.
+    pub shared_words: Vec<i32>,
+    /// Whether the cyclic handlers are pending.
+    pub pending_cyclics: Vec<bool>,
+    /// Whether the handlers of the interrupts from 1 to 32 are pending.
+    pub pending_interrupts: Vec<bool>,
+}
+
+/// The frame of setup, or of the last event that did something. `AllocError` for want of memory.
+pub fn last_frame<B: Body>(alloc: Global, kernel: &Kernel<B>) -> Result<Frame, AllocError>
+    ensures { IfOk result (λ f. table_of f
+        ≡ frame_of kernel.now.system kernel.now.world.state kernel.now.lines) }
+{
+    let tables = kernel.tables();
+    let mut lines = Vec::new(alloc);
+    lines.extend_from_slice(kernel.lines())?;
+    Ok(Frame {
+        lines,
+        clock: tables.clock(),
+        states: states(alloc, kernel)?,
+        blocks: blocks(alloc, tables)?,
+        processors: processors(alloc, tables)?,
+        semaphores: semaphores(alloc, tables)?,
+        flags: flags(alloc, tables)?,
+        shared_words: shared_words(alloc, tables)?,
+        pending_cyclics: pending_cyclics(alloc, tables)?,
+        pending_interrupts: pending_interrupts(alloc, tables)?,
+    })
+}

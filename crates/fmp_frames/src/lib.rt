@@ -1,0 +1,9 @@
+//! The frames of a run: what each event told, and the state after it.
+#![tactic(auto)]
+
+mod frame;
+mod reading;
+mod taking;
+
+pub use frame::{Frame, last_frame};
+pub use taking::frames;

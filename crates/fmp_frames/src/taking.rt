@@ -1,0 +1,45 @@
+//! The frames of a run on a kernel.
+ghost use Rattle.std.specs.Prelude.{◌≡◌, ◌+◌, [], ◌∷◌, ◌++◌, ◌≤◌, ◌^◌, length, map, IfOk, OnOk};
+ghost use Rattle.fmp_frames.specs.Frames.{frame_of, frames, table_of};
+ghost use Rattle.fmp_kernel.specs.KernelViews.{view_after_all};
+
+use crate::frame::{Frame, last_frame};
+use fmp_base::{Effect, Event};
+use fmp_kernel::{Body, Kernel};
+use std::alloc::{AllocError, Global};
+
+/// The frame of the last event stands behind these.
+#[tactic(auto, using(crate::proofs::FrameLemmas::map_push))]
+fn append_last<B: Body>(
+    alloc: Global,
+    kernel: &Kernel<B>,
+    all: &mut Vec<Frame>,
+) -> Result<(), AllocError>
+    ensures { OnOk result (map table_of all.new.items ≡ map table_of all.old.items
+        ++ frame_of kernel.now.system kernel.now.world.state kernel.now.lines ∷ []) }
+{
+    let frame = last_frame(alloc, kernel)?;
+    all.push(frame)?;
+    Ok(())
+}
+
+/// Takes events on a kernel, and gives the frame of each that did something, in order. `AllocError` for want of memory.
+pub fn frames<B: Body>(
+    alloc: Global,
+    kernel: &mut Kernel<B>,
+    events: &[Event],
+) -> Result<Vec<Frame>, AllocError>
+    requires { kernel.old.done + length events.now ≤ 2 ^ 20 }
+    ensures frames { IfOk result (λ fs. map table_of fs.items
+        ≡ frames kernel.old.system (B.meaning kernel.old.body) kernel.old.bound kernel.old.world events.now) }
+    ensures after { OnOk result (kernel.new ≡ view_after_all B.meaning kernel.old events.now) }
+{
+    let mut all = Vec::new(alloc);
+    for e in events {
+        match kernel.step(*e) {
+            Effect::Done => append_last(alloc, kernel, &mut all)?,
+            Effect::Nothing => {}
+        }
+    }
+    Ok(all)
+}
