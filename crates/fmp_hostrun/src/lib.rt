@@ -14,7 +14,7 @@ mod seat;
 mod site;
 mod turns;
 
-pub use blank::Blank;
+pub use blank::{Blank, kernel_of};
 pub use board::Board;
 pub use book::Book;
 pub use closed::Closed;
