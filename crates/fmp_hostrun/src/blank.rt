@@ -146,10 +146,11 @@ impl<'a> Blank<'a> {
             image,
             kernel,
             journal,
-            bound: _,
+            bound,
             capacity,
             seats,
         } = self;
-        Board::new(image, Book::new(image, kernel, journal, capacity, seats))
+        let book = Book::new(image, kernel, journal, bound, capacity, seats);
+        Board::new(image, book)
     }
 }
