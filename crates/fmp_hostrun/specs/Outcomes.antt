@@ -85,7 +85,8 @@ pub record IsWhyRefused (i : ImageTables) (n k : ℕ) (journal : List JournalEnt
   pub full : stamp_after i n journal t.processor ≡ t.actor.stamp → (f ≡ fault.Full) × (length journal ≡ k)
 
 -- what an outcome is answered after a journal
-abbrev pub AnsweredAfter : ImageTables → (n k : ℕ) → List JournalEntry → TicketState → Result Receipt BoardFault → Type 0
+abbrev pub AnsweredAfter : ImageTables → (n k : ℕ) → List JournalEntry → TicketState → Result Receipt BoardFault
+    → Type 0
 AnsweredAfter i n k before t result =
     MatchResult result
     (λ r. (stamp_after i n before t.processor ≡ t.actor.stamp) × (length before < k)

@@ -49,8 +49,8 @@ impl<'a, S: Site> Book<'a, S> {
         }
     }
 
-    /// Takes the run of an outcome's processor on the kernel, by the stretch that was made before, and journals it under
-    /// the number of a seat if it does something. The outcome's ticket was drawn after a beginning of the journal.
+    /// Takes the run of an outcome's processor on the kernel, by the stretch that was made before, and journals it
+    /// under the number of a seat if it does something. The outcome's ticket was drawn after a beginning of the journal.
     ///
     /// `BoardFault::Stale`, exactly where the stamp of the processor is no more that of the ticket; else
     /// `BoardFault::Full`, exactly where the journal has no room for one more event. Then nothing has changed.
@@ -102,8 +102,8 @@ impl<'a, S: Site> Book<'a, S> {
         }
     }
 
-    /// `enter_outcome` for an outcome of which only the board is known, and not when its ticket was drawn. So its actor is
-    /// compared whole.
+    /// `enter_outcome` for an outcome of which only the board is known, and not when its ticket was drawn. So its actor
+    /// is compared whole.
     pub(crate) fn submit(&mut self, seat: u8, outcome: Outcome) -> Result<Receipt, BoardFault>
         requires seat { seat < S.seats }
         requires outcome { IsTicketOf S.image S.bound outcome.ticket }
