@@ -1,3 +1,4 @@
+pub mod BoardFaults
 pub mod Headline
 pub mod JournalLemmas
 pub mod PlayLemmas

@@ -1,4 +1,5 @@
 pub mod Crossing
+pub mod Drawing
 pub mod Entering
 pub mod Entries
 pub mod Replaying

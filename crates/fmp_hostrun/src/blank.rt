@@ -50,8 +50,9 @@ impl<'a> Model for Blank<'a> {
         × (b.journal.items ≡ []) × (b.capacity ≤ vec_capacity b.journal) };
 }
 
-/// The kernel of an image after setup.
-fn kernel_of<'a>(alloc: Global, image: &'a Image, n: u64) -> Result<Kernel<Vm<'a>>, AllocError>
+/// The kernel of an image after setup, for whoever runs an image without a board. A stretch of a body takes at most n
+/// instructions, 1 to 2^48. `AllocError` for want of memory: no call of the kernel takes any.
+pub fn kernel_of<'a>(alloc: Global, image: &'a Image, n: u64) -> Result<Kernel<Vm<'a>>, AllocError>
     requires low { 1 ≤ n }
     requires high { n ≤ 2 ^ 48 }
     ensures { IfOk result (λ kernel. kernel ≡ kernel_after image.now n []) }
@@ -145,10 +146,11 @@ impl<'a> Blank<'a> {
             image,
             kernel,
             journal,
-            bound: _,
+            bound,
             capacity,
             seats,
         } = self;
-        Board::new(image, Book::new(image, kernel, journal, capacity, seats))
+        let book = Book::new(image, kernel, journal, bound, capacity, seats);
+        Board::new(image, book)
     }
 }

@@ -4,6 +4,7 @@ ghost use Rattle.std.specs.Prelude.{◌≡◌};
 use crate::book::Book;
 use crate::closed::Closed;
 use crate::fault::BoardFault;
+use crate::outcome::{Outcome, Ticket};
 use crate::receipt::Receipt;
 use crate::seat::Seat;
 use crate::site::Site;
@@ -22,6 +23,7 @@ pub struct Board<'a, S: Site> {
 impl<'a, S: Site> Board<'a, S> {
     ghost use Rattle.std.specs.Prelude.{◌≡◌};
     ghost use Rattle.fmp_hostrun.specs.Boards.{Fed, IsAt, IsClosed};
+    ghost use Rattle.fmp_hostrun.specs.Outcomes.{Drew, IsTicketOf, Submitted};
 
     pub(crate) fn new(image: &'a Image, book: Book<'a, S>) -> Board<'a, S>
         requires { image.now ≡ S.image }
@@ -37,6 +39,37 @@ impl<'a, S: Site> Board<'a, S> {
         ensures { result ≡ S.image.system.processors }
     {
         self.image.system().processors
+    }
+
+    /// A ticket for the stretch that the actor of processor p makes next. None where there is no such processor, or it
+    /// has no actor.
+    pub fn ticket<R: Wait>(&self, rt: &R, _seat: &mut Seat, p: u8) -> Option<Ticket<'a>>
+        requires at { IsAt S.seats _seat.old }
+        ensures at { IsAt S.seats _seat.new }
+        ensures seat { _seat.new ≡ _seat.old }
+        ensures drew { Drew S.image S.bound S.capacity S.seats p result }
+    {
+        self.book.lock(rt).ticket(p)
+    }
+
+    /// Takes the run of an outcome's processor on the kernel, by the stretch that was made outside the lock, and
+    /// journals it under the number of a seat if it does something.
+    ///
+    /// `BoardFault::Stale`, exactly where the processor has another actor by now, or that one went on; else
+    /// `BoardFault::Full`, exactly where the journal has no room for one more event. Then nothing has changed.
+    pub fn submit<R: Wait>(
+        &self,
+        rt: &R,
+        seat: &mut Seat,
+        outcome: Outcome,
+    ) -> Result<Receipt, BoardFault>
+        requires at { IsAt S.seats seat.old }
+        requires outcome { IsTicketOf S.image S.bound outcome.ticket }
+        ensures at { IsAt S.seats seat.new }
+        ensures seat { seat.new ≡ seat.old }
+        ensures submitted { Submitted S.image S.bound S.capacity S.seats outcome.ticket result }
+    {
+        self.book.lock(rt).submit(seat.number(), outcome)
     }
 
     /// Takes an event on the kernel, and journals it under the number of a seat if it does something. A `Run` works out

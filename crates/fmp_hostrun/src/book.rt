@@ -18,12 +18,13 @@ use std::marker::{Model, PhantomData};
 /// holds whenever the lock of the board is free.
 #[derive(Drop)]
 pub struct Book<'a, S: Site> {
-    image: &'a Image,
-    kernel: Kernel<Vm<'a>>,
-    journal: Vec<JournalEntry>,
-    capacity: u32,
-    seats: u8,
-    site: PhantomData<S>,
+    pub(crate) image: &'a Image,
+    pub(crate) kernel: Kernel<Vm<'a>>,
+    pub(crate) journal: Vec<JournalEntry>,
+    pub(crate) bound: u64,
+    pub(crate) capacity: u32,
+    pub(crate) seats: u8,
+    pub(crate) site: PhantomData<S>,
 }
 
 impl<'a, S: Site> Model for Book<'a, S> {
@@ -36,7 +37,8 @@ impl<'a, S: Site> Model for Book<'a, S> {
 
     ghost invariant = { λ b. (b.image.now ≡ S.image) × (b.seats ≡ S.seats)
         × HasRoom S.capacity b.capacity (vec_capacity b.journal)
-        × IsReplay S.image S.bound S.capacity S.seats b.kernel b.journal.items };
+        × IsReplay S.image S.bound S.capacity S.seats b.kernel b.journal.items
+        × (b.bound ≡ S.bound) };
 }
 
 impl<'a, S: Site> Book<'a, S> {
@@ -52,10 +54,11 @@ impl<'a, S: Site> Book<'a, S> {
         image: &'a Image,
         kernel: Kernel<Vm<'a>>,
         journal: Vec<JournalEntry>,
+        bound: u64,
         capacity: u32,
         seats: u8,
     ) -> Book<'a, S>
-        requires site { (image.now ≡ S.image) × (seats ≡ S.seats) }
+        requires site { (image.now ≡ S.image) × (seats ≡ S.seats) × (bound ≡ S.bound) }
         requires room { HasRoom S.capacity capacity (vec_capacity journal) }
         requires replay { IsReplay S.image S.bound S.capacity S.seats kernel journal.items }
         ensures { result.journal ≡ journal.items }
@@ -64,6 +67,7 @@ impl<'a, S: Site> Book<'a, S> {
             image,
             kernel,
             journal,
+            bound,
             capacity,
             seats,
             site: PhantomData,
@@ -150,6 +154,7 @@ impl<'a, S: Site> Book<'a, S> {
             image: _,
             kernel,
             journal,
+            bound: _,
             capacity: _,
             seats: _,
             site: _,

@@ -4,6 +4,9 @@ use thiserror::Error;
 /// Why a call of a board changed nothing; what `run_all` had journaled before stands.
 #[derive(Clone, Copy, Debug, PartialEq, Eq, Error)]
 pub enum BoardFault {
+    /// The actor of an outcome's processor is another one by now, or has gone on.
+    #[error("H1")]
+    Stale,
     /// The journal has as many events as it has room for.
     #[error("H2")]
     Full,

@@ -1,10 +1,13 @@
 //! What takes events from many threads.
-ghost use Rattle.std.specs.Prelude.{◌≡◌, ℕ, IfErr};
+ghost use Rattle.std.specs.Prelude.{◌≡◌, ◌⊎◌, ℕ, IfErr, IfSome};
 ghost use Rattle.fmp_hostrun.specs.Boards.{IsAt};
-ghost use Rattle.fmp_hostrun.specs.declared.fault.BoardFault.TheVariants.{Full};
+ghost use Rattle.fmp_hostrun.specs.Outcomes.{IsTicketOf};
+ghost use Rattle.fmp_hostrun.specs.declared.fault.BoardFault.TheVariants.{Full, Stale};
+ghost use Rattle.fmp_image.specs.Images.{ImageTables};
 
 use crate::board::Board;
 use crate::fault::BoardFault;
+use crate::outcome::Outcome;
 use crate::receipt::Receipt;
 use crate::seat::Seat;
 use crate::site::Site;
@@ -13,8 +16,32 @@ use std::sync::Wait;
 
 /// What takes events from many threads, as a board does.
 pub(crate) trait Feed {
+    /// The image that it runs.
+    ghost image: { ImageTables };
+
+    /// How many instructions a stretch may take.
+    ghost bound: { ℕ };
+
     /// How many seats it has.
     ghost seats: { ℕ };
+
+    /// The next stretch of the actor of processor p, if it has one. It is made outside the lock.
+    fn outcome<R: Wait>(&self, rt: &R, seat: &mut Seat, p: u8) -> Option<Outcome>
+        requires at { IsAt seats seat.old }
+        ensures seat { seat.new ≡ seat.old }
+        ensures outcome { IfSome result (λ o. IsTicketOf image bound o.ticket) };
+
+    /// Takes an outcome, under the number of a seat.
+    fn submit<R: Wait>(
+        &self,
+        rt: &R,
+        seat: &mut Seat,
+        outcome: Outcome,
+    ) -> Result<Receipt, BoardFault>
+        requires at { IsAt seats seat.old }
+        requires outcome { IsTicketOf image bound outcome.ticket }
+        ensures seat { seat.new ≡ seat.old }
+        ensures fault { IfErr result (λ f. (f ≡ Full) ⊎ (f ≡ Stale)) };
 
     /// Takes an event, under the number of a seat.
     fn feed<R: Wait>(&self, rt: &R, seat: &mut Seat, event: Event) -> Result<Receipt, BoardFault>
@@ -24,7 +51,24 @@ pub(crate) trait Feed {
 }
 
 impl<'a, S: Site> Feed for Board<'a, S> {
+    ghost image = { S.image };
+
+    ghost bound = { S.bound };
+
     ghost seats = { S.seats };
+
+    fn outcome<R: Wait>(&self, rt: &R, seat: &mut Seat, p: u8) -> Option<Outcome> {
+        Some(self.ticket(rt, seat, p)?.stretch())
+    }
+
+    fn submit<R: Wait>(
+        &self,
+        rt: &R,
+        seat: &mut Seat,
+        outcome: Outcome,
+    ) -> Result<Receipt, BoardFault> {
+        Board::submit(self, rt, seat, outcome)
+    }
 
     fn feed<R: Wait>(&self, rt: &R, seat: &mut Seat, event: Event) -> Result<Receipt, BoardFault> {
         Board::feed(self, rt, seat, event)

@@ -5,7 +5,6 @@ ghost use Rattle.fmp_hostrun.specs.Boards.{IsAt, IsTurnFault};
 
 use crate::fault::BoardFault;
 use crate::feed::Feed;
-use crate::receipt::Receipt;
 use crate::seat::Seat;
 use fmp_base::Event;
 use std::sync::Wait;
@@ -19,7 +18,7 @@ pub trait Gate: Sync {
     /// Whether this turn of processor p, counted from 1, may go on. It is asked until it says so, 10,000 times at most.
     fn may_submit(&self, p: u8, turn: u32) -> bool;
 
-    /// The board has answered this turn of processor p.
+    /// The board has answered this turn of processor p, by a receipt or by a refusal.
     fn answered(&self, p: u8, turn: u32);
 }
 
@@ -43,7 +42,8 @@ fn is_let<G: Gate>(gate: &G, p: u8, turn: u32) -> bool {
     false
 }
 
-/// One turn of processor p, once the gate lets it go on.
+/// One turn of processor p: whether an event was journaled. Its stretch is made outside the board's lock, and handed in
+/// once the gate lets the turn go on; a stale one is dropped. Without an actor the turn is over.
 fn take_turn<B: Feed, G: Gate, R: Wait>(
     rt: &R,
     board: &B,
@@ -51,17 +51,24 @@ fn take_turn<B: Feed, G: Gate, R: Wait>(
     seat: &mut Seat,
     p: u8,
     turn: u32,
-) -> Result<Receipt, BoardFault>
+) -> Result<bool, BoardFault>
     requires { IsAt B.seats seat.old }
     ensures seat { seat.new ≡ seat.old }
     ensures fault { IfErr result IsTurnFault }
 {
+    let Some(outcome) = board.outcome(rt, seat, p) else {
+        return Ok(false);
+    };
     if !is_let(gate, p, turn) {
         return Err(BoardFault::Held);
     }
-    let answer = board.feed(rt, seat, Event::Run(p));
+    let answer = board.submit(rt, seat, outcome);
     gate.answered(p, turn);
-    answer
+    match answer {
+        Ok(receipt) => Ok(receipt.number > 0),
+        Err(BoardFault::Stale) => Ok(false),
+        Err(fault) => Err(fault),
+    }
 }
 
 /// The turns of processor p: how many of its events were journaled.
@@ -80,8 +87,7 @@ fn run_turns<B: Feed, G: Gate, R: Wait>(
 {
     let mut journaled = 0;
     for turn in 0..turns {
-        let receipt = take_turn(rt, board, gate, seat, p, turn + 1)?;
-        if receipt.number > 0 {
+        if take_turn(rt, board, gate, seat, p, turn + 1)? {
             journaled += 1;
         }
     }

@@ -27,6 +27,7 @@ invariant_of-self-in-Done g c =
       subst (λ (xs : List JournalEntry). IsReplay site.image site.bound site.capacity site.seats c.step.new.self xs) (sym c.push_reserved.ensures.items)
           (replay_more site.image site.bound site.capacity site.seats kernel c.step.new.self journal (entry c.args.seat c.args.event) done.0 b.3 lt c.requires there
           (c.step.ensures.state ∙ ap (view_after kernel) done.1)),
+      b.4,
     )
 
 pub returns-in-Nothing-clause-receipt : goal.returns-in-Nothing-clause-receipt

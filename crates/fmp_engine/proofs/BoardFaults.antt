@@ -1,0 +1,16 @@
+-- Why a board gives no journal.
+use Rattle.std.proofs.Common.{◌≡◌, ◌≢◌, refl}
+use Rattle.fmp_engine.specs.Hosting.{FitsBoard, IsWhyNoBoard}
+use Rattle.fmp_engine.specs.declared.hosting.Workload.{Workload}
+use Rattle.fmp_hostrun.specs.declared.fault.BoardFault.{BoardFault}
+use Rattle.fmp_hostrun.specs.declared.fault.BoardFault.TheVariants as board
+use Rattle.fmp_image.specs.Images.{ImageTables}
+
+pub why_no_board : (f : BoardFault) (i : ImageTables) (work : Workload) → f ≢ board.Memory
+    → (f ≡ board.Limit → FitsBoard i work → ⊥) → IsWhyNoBoard f i work
+why_no_board board.Limit i work other unfit = unfit refl
+why_no_board board.Memory i work other unfit = other refl
+why_no_board board.Stale i work other unfit = tt
+why_no_board board.Full i work other unfit = tt
+why_no_board board.Thread i work other unfit = tt
+why_no_board board.Held i work other unfit = tt
