@@ -25,7 +25,7 @@ pub const STORED_TASKS: &str = "task main { put(7); }";
 /// Its events.
 pub const STORED_STEPS: &str = "run 1\nrun 1\nrun 1\n";
 
-/// Its bound.
+/// Its bound, in instructions a stretch.
 pub const STORED_BOUND: u64 = 100_000;
 
 /// Why the program ends with nothing printed: its message is one line.
@@ -49,7 +49,8 @@ pub enum Exit {
 }
 
 impl Exit {
-    /// What the program ends with.
+    /// The status that the program ends with: 1 for a fault of what was read or where there is no host for what
+    /// was asked, 3 for a file on which a call failed and for want of memory.
     pub fn status(&self) -> u8
         ensures { result ≡ status_of self.now }
     {

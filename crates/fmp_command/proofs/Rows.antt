@@ -298,8 +298,7 @@ module _ (s : Shape) (usual : IsUsualLevel s) where
   met_stands names true waiting position word h e sound = (sound, tt)
   met_stands names false waiting position word h e sound = other_stands (subcommand_met names waiting word) waiting position word h e sound
 
-  positional_stop : (o : Option Rule) (word : Text) (w : Walk) (h : Held)
-      → StopsAtNoHelp s.disable_help_subcommand w.stopped
+  positional_stop : (o : Option Rule) (word : Text) (w : Walk) (h : Held) → StopsAtNoHelp s.disable_help_subcommand w.stopped
       → StopsAtNoHelp s.disable_help_subcommand (to_positional s.rules o word w h).stopped
   positional_stop None word w h stop = stop
   positional_stop (Some a) word w h stop = tt

@@ -42,8 +42,8 @@ fn simulate(
     }
 }
 
-/// Loads an image, runs it over the events of a steps text within n instructions a stretch, and appends the trace and
-/// the states of the tasks at the end.
+/// Loads an image, runs it over the events of a steps text within n instructions a stretch, 1 to 2^48, and appends the
+/// trace and the states of the tasks at the end.
 ///
 /// The image is judged first, then the steps. After an error nothing has been appended.
 pub fn sim(
