@@ -1,5 +1,5 @@
 //! Rows of bits, kept in words of 64.
-ghost use Rattle.std.specs.Prelude.{◌≡◌, ◌≢◌, ℕ, ◌+◌, ◌*◌, ◌≤◌, ◌<◌, length};
+ghost use Rattle.std.specs.Prelude.{◌≡◌, ◌≢◌, ℕ, ◌+◌, ◌*◌, ◌≤◌, ◌<◌, length, true};
 ghost use Rattle.std.specs.Int.{bit_at};
 ghost use Rattle.fmp_spin.specs.Bits.{bit_in, as_bit, IsFirst};
 
@@ -50,4 +50,16 @@ pub fn first_bit(words: &[u64], from: usize, count: usize) -> Option<usize>
         }
     }
     None
+}
+
+/// Whether no bit of five words from one on is set.
+pub fn is_clear(words: &[u64], from: usize) -> bool
+    requires { from + 5 ≤ length words.now }
+    ensures { result ≡ true → (i : ℕ) → i < 320 → bit_in words.now (from * 64 + i) ≡ 0 }
+{
+    words[from] == 0
+        && words[from + 1] == 0
+        && words[from + 2] == 0
+        && words[from + 3] == 0
+        && words[from + 4] == 0
 }
