@@ -92,13 +92,10 @@ impl Stamps {
         requires few { get_or self.old.counts p 0 < 2 ^ 20 }
         ensures { self.new ≡ noted self.old p actor ran }
     {
-        let more = if ran || !is_same_actor(self.actors[p as usize], actor) {
-            1
-        } else {
-            0
-        };
-        self.actors[p as usize] = actor;
-        self.counts[p as usize] += more;
+        if ran || !is_same_actor(self.actors[p as usize], actor) {
+            self.actors[p as usize] = actor;
+            self.counts[p as usize] += 1;
+        }
     }
 
     /// Counts a done event for the processor that it ran, if any, and for each that has another actor now.
