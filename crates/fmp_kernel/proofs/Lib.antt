@@ -5,6 +5,7 @@ mod GroupLemmas
 mod HeldLemmas
 mod PlaceLemmas
 mod RangeLemmas
+mod SettleLemmas
 mod StampLemmas
 mod StepLemmas
 mod TickLemmas

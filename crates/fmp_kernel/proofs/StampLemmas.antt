@@ -1,20 +1,24 @@
 -- Stamps that are counted once more, and what is seen of a kernel then.
+use Rattle.std.specs.Prelude.{slice_set}
 use Rattle.std.proofs.Common.{◌≡◌, ℕ, zero, suc, ◌+◌, ◌<◌, ◌≤◌, ◌^◌, List, [], ◌∷◌, Option, Some, None, Bool, true, false, ◌||◌, not, nat_lt, nat_eq, length, map, replicate, get_or, refl, sym, subst, ap, ◌∙◌, arith, get_or-set_other, get_or-set_same}
 use Rattle.std.proofs.Math.ListN.{get_or-eq_default, length-set}
 use Rattle.std.proofs.lemmas.Bool.{eqb-true}
 use Rattle.std.proofs.lemmas.Bool.Decides.{nat_tests}
-use Rattle.std.proofs.lemmas.List.{ext_get_or, length-replicate}
+use Rattle.std.proofs.lemmas.List.{ext_get_or, length-replicate, set-get_or}
 use Rattle.fmp_base.specs.declared.events.Effect.TheVariants as effect
 use Rattle.fmp_base.specs.declared.events.Event.{Event}
 use Rattle.fmp_base.specs.declared.events.Line.{Line}
 use Rattle.fmp_base.specs.declared.states.Caller.{Caller}
+use Rattle.fmp_base.specs.declared.states.Caller.TheVariants as caller
+use Rattle.fmp_base.specs.declared.states.Handler.{Handler}
+use Rattle.fmp_base.specs.declared.states.Handler.TheVariants as handler
 use Rattle.fmp_base.specs.Meanings.{Meaning}
 use Rattle.fmp_base.specs.Settles.{is_same_task}
 use Rattle.fmp_base.specs.Setups.{setup}
 use Rattle.fmp_base.specs.States.{KernelState, processor_at, places_from}
 use Rattle.fmp_base.specs.Steps.{Done, Reaction, Nothing, Did, effect_of, actor_of, step}
 use Rattle.fmp_base.specs.Systems.{SystemTables}
-use Rattle.fmp_worlds.specs.Stamps.{counts as counts_for, is_same_actor, one_if, place_run, run_place, stamp, stamp_on}
+use Rattle.fmp_worlds.specs.Stamps.{counts as counts_for, is_same_actor, is_same_caller, is_same_handler, one_if, place_run, run_place, stamp, stamp_on}
 use Rattle.fmp_kernel.specs.KernelViews.{RunnerView, KernelView, SameBodies, done_of, done_or, kernel_of, view_after, view_after_all, view_of_setup}
 use Rattle.fmp_kernel.proofs.FrontLemmas.{Names, step_names}
 use Rattle.fmp_kernel.specs.Stamps.{StampRows, AreActors, AreCounted, AreStamps, Walked, noted, stamped}
@@ -94,6 +98,50 @@ walked_on old r s ran p actor b l m e f w = record {
   actor_now q h false t =
       get_or-set_other r.actors p q actor None (λ (z : q ≡ p). absurd (grind (arith, nat_tests, z, t)))
       ∙ w.now q (grind (arith, nat_tests, h, t))
+
+-- where a processor did not run and has the actor that it had, nothing is counted
+
+same_handler : (h i : Handler) → is_same_handler h i ≡ true → h ≡ i
+same_handler (handler.Interrupt i) (handler.Interrupt j) e = ap (λ (k : ℕ). handler.Interrupt k) (eqb-true i j e)
+same_handler (handler.Interrupt i) (handler.Cyclic d) e = cc
+same_handler (handler.Cyclic c) (handler.Interrupt j) e = cc
+same_handler (handler.Cyclic c) (handler.Cyclic d) e = ap (λ (k : ℕ). handler.Cyclic k) (eqb-true c d e)
+
+same_caller : (a b : Caller) → is_same_caller a b ≡ true → a ≡ b
+same_caller (caller.Task t) (caller.Task u) e = ap (λ (k : ℕ). caller.Task k) (eqb-true t u e)
+same_caller (caller.Task t) (caller.Handler i) e = cc
+same_caller (caller.Handler h) (caller.Task u) e = cc
+same_caller (caller.Handler h) (caller.Handler i) e = ap (λ (k : Handler). caller.Handler k) (same_handler h i e)
+
+same_actor : (a b : Option Caller) → is_same_actor a b ≡ true → a ≡ b
+same_actor None None e = refl
+same_actor None (Some b) e = cc
+same_actor (Some a) None e = cc
+same_actor (Some a) (Some b) e = ap (λ (k : Caller). Some k) (same_caller a b e)
+
+any_default : {A : Type 0} (xs : List A) (i : ℕ) (a b : A) → i < length xs → get_or xs i a ≡ get_or xs i b
+any_default [] i a b l = absurd (omega (arith, l))
+any_default (x ∷ xs) zero a b l = refl
+any_default (x ∷ xs) (suc i) a b l = any_default xs i a b (omega (arith, l))
+
+pub noted_same : (r : StampRows) (p : ℕ) (before actor : Option Caller) (ran : Bool) → p < length r.actors → ran ≡ false
+    → before ≡ get_or r.actors p before → is_same_actor before actor ≡ true → r ≡ noted r p actor ran
+noted_same r p before actor ran l e h k =
+    let was : get_or r.actors p None ≡ before = any_default r.actors p None before l ∙ sym h in
+    let actors : slice_set r.actors p actor ≡ r.actors =
+    ap (λ (o : Option Caller). slice_set r.actors p o) (sym (was ∙ same_actor before actor k)) ∙ set-get_or r.actors p None in
+    let is : is_same_actor (get_or r.actors p None) actor ≡ true = ap (λ (o : Option Caller). is_same_actor o actor) was ∙ k in
+    let test : (ran || not (is_same_actor (get_or r.actors p None) actor)) ≡ false =
+    ap (λ (b : Bool). b || not (is_same_actor (get_or r.actors p None) actor)) e ∙ ap not is in
+    let none : get_or r.counts p 0 + 0 ≡ get_or r.counts p 0 = omega arith in
+    let more : get_or r.counts p 0 + one_if (ran || not (is_same_actor (get_or r.actors p None) actor)) ≡ get_or r.counts p 0 =
+    ap (λ (b : Bool). get_or r.counts p 0 + one_if b) test ∙ none in
+    let counts : slice_set r.counts p (get_or r.counts p 0 + one_if (ran || not (is_same_actor (get_or r.actors p None) actor))) ≡ r.counts =
+    ap (λ (n : ℕ). slice_set r.counts p n) more ∙ set-get_or r.counts p 0 in
+    sym (ap (λ (xs : List (Option Caller)). rows xs (slice_set r.counts p (get_or r.counts p 0 + one_if (ran || not (is_same_actor (get_or r.actors p None) actor))))) actors
+    ∙ ap (λ (ns : List ℕ). rows r.actors ns) counts) where
+      rows : List (Option Caller) → List ℕ → StampRows
+      rows xs ns = record { actors = xs; counts = ns }
 
 small : (b : Bool) → one_if b ≤ 1
 small true = omega arith

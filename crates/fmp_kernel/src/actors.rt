@@ -2,9 +2,9 @@
 ghost use Rattle.std.specs.Prelude.{◌≡◌, ◌<◌, OnSome};
 ghost use Rattle.fmp_base.specs.States.{processor_at};
 ghost use Rattle.fmp_base.specs.Steps.{actor_of};
-ghost use Rattle.fmp_worlds.specs.Stamps.{is_same_actor as is_same, is_same_caller as is_same_of, is_same_handler as is_same_handler_of};
+ghost use Rattle.fmp_worlds.specs.Stamps.{is_same_actor as is_same, is_same_handler as is_same_handler_of};
 
-use fmp_base::{Caller, Handler};
+use fmp_base::{Caller, Handler, Processor};
 use fmp_tasks::Tables;
 
 /// The actor of a processor: the number of its body, the context from which it goes on, and the stamp of the
@@ -16,7 +16,18 @@ pub struct Actor<C> {
     pub stamp: u32,
 }
 
-/// The actor of a processor, if any.
+/// Who acts on a processor, if anyone.
+pub fn acting_on(cpu: &Processor) -> Option<Caller>
+    ensures { result ≡ actor_of cpu.now }
+{
+    match (cpu.handler, cpu.run) {
+        (Some(h), _) => Some(Caller::Handler(h)),
+        (None, Some(t)) => Some(Caller::Task(t)),
+        (None, None) => None,
+    }
+}
+
+/// The actor of processor p, if any.
 pub fn actor_on(tables: &Tables, p: u8) -> Option<Caller>
     ensures value { result ≡ actor_of (processor_at tables.now.state p) }
     ensures there { OnSome result (p < tables.now.system.processors) }
@@ -24,12 +35,7 @@ pub fn actor_on(tables: &Tables, p: u8) -> Option<Caller>
     if p as usize >= tables.processor_count() {
         return None;
     }
-    let cpu = tables.processor(p);
-    match (cpu.handler, cpu.run) {
-        (Some(h), _) => Some(Caller::Handler(h)),
-        (None, Some(t)) => Some(Caller::Task(t)),
-        (None, None) => None,
-    }
+    acting_on(&tables.processor(p))
 }
 
 /// Whether two handlers are one.
@@ -44,26 +50,20 @@ fn is_same_handler(a: Handler, b: Handler) -> bool
     }
 }
 
-/// Whether two callers are one.
-fn is_same_caller(a: Caller, b: Caller) -> bool
-    ensures { result ≡ is_same_of a b }
+/// Whether this one, if any, acts on a processor, or this is none and no one does.
+pub fn acts_on(actor: Option<Caller>, cpu: &Processor) -> bool
+    ensures { result ≡ is_same actor (actor_of cpu.now) }
 {
-    match (a, b) {
-        (Caller::Task(t), Caller::Task(u)) => t == u,
-        (Caller::Handler(h), Caller::Handler(i)) => is_same_handler(h, i),
-        (Caller::Task(_), Caller::Handler(_)) => false,
-        (Caller::Handler(_), Caller::Task(_)) => false,
-    }
-}
-
-/// Whether two actors are one, or both none.
-pub fn is_same_actor(a: Option<Caller>, b: Option<Caller>) -> bool
-    ensures { result ≡ is_same a b }
-{
-    match (a, b) {
-        (None, None) => true,
-        (Some(x), Some(y)) => is_same_caller(x, y),
-        (None, Some(_)) => false,
-        (Some(_), None) => false,
+    match actor {
+        None => cpu.handler.is_none() && cpu.run.is_none(),
+        Some(Caller::Task(t)) => match (cpu.handler, cpu.run) {
+            (None, Some(u)) => t == u,
+            (None, None) => false,
+            (Some(_), _) => false,
+        },
+        Some(Caller::Handler(h)) => match cpu.handler {
+            Some(i) => is_same_handler(h, i),
+            None => false,
+        },
     }
 }

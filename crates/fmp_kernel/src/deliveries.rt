@@ -115,16 +115,16 @@ fn tell<B: Body>(
 }
 
 /// The contexts after what a line tells.
-fn follow<B: Body>(body: &B, tables: &Tables, contexts: &mut BodyContexts<B::Ctx>, line: Line)
+fn follow<B: Body>(body: &B, tables: &Tables, contexts: &mut BodyContexts<B::Ctx>, line: &Line)
     requires range { IsInRange tables.now.system }
     requires places { HasPlaces tables.now.system contexts.old }
     requires entries { Entered B.has_entry body.now tables.now.system }
     requires contexts { Fitting B.has_entry B.is_context body.now tables.now.system contexts.old }
-    ensures contexts { contexts.new ≡ contexts_after tables.now.system (B.meaning body.now) contexts.old line }
+    ensures contexts { contexts.new ≡ contexts_after tables.now.system (B.meaning body.now) contexts.old line.now }
     ensures places { HasPlaces tables.now.system contexts.new }
     ensures fitting { Fitting B.has_entry B.is_context body.now tables.now.system contexts.new }
 {
-    match line {
+    match *line {
         Line::Starts { task, .. } => begin_task(body, tables, contexts, task),
         Line::Gets {
             processor,
@@ -162,6 +162,6 @@ pub fn carry_out<B: Body>(
     ensures fitting { Fitting B.has_entry B.is_context body.now tables.now.system contexts.new }
 {
     for line in lines {
-        follow(body, tables, contexts, *line);
+        follow(body, tables, contexts, line);
     }
 }

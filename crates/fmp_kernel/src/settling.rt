@@ -43,6 +43,7 @@ fn handler_to_begin(tables: &Tables, p: u8, cpu: &Processor) -> Option<Handler>
 /// A processor runs its most urgent ready task, or none.
 fn dispatch(tables: &mut Tables, lines: &mut Vec<Line>, p: u8, cpu: Processor)
     requires there { p < tables.old.system.processors }
+    requires is { cpu ≡ processor_at tables.old.state p }
     requires room { vec_len lines.old < vec_capacity lines.old }
     ensures progress { progress tables.new lines.new.items
         ≡ dispatched (progress tables.old lines.old.items) p cpu (top tables.old.state p) }
@@ -51,8 +52,8 @@ fn dispatch(tables: &mut Tables, lines: &mut Vec<Line>, p: u8, cpu: Processor)
     ensures capacity { vec_capacity lines.new ≡ vec_capacity lines.old }
 {
     let run = tables.top(p);
-    tables.set_processor(p, Processor { run, ..cpu });
     if !is_same_task(cpu.run, run) {
+        tables.set_processor(p, Processor { run, ..cpu });
         lines.push_reserved(Line::Runs {
             processor: p,
             task: run,

@@ -6,7 +6,7 @@ ghost use Rattle.fmp_base.specs.Steps.{actor_of};
 ghost use Rattle.fmp_kernel.specs.Stamps.{AreActors, AreCounted, noted};
 ghost use Rattle.fmp_worlds.specs.Stamps.{place_of as place_of_line, place_run as place_of_lines};
 
-use crate::actors::{actor_on, is_same_actor};
+use crate::actors::{acting_on, actor_on, acts_on};
 use crate::settling::is_same_task;
 use fmp_base::{Caller, Line};
 use fmp_tasks::Tables;
@@ -86,19 +86,18 @@ impl Stamps {
         }
     }
 
-    /// Processor p has this actor now, and a done event ran it or did not.
-    fn note(&mut self, p: u8, actor: Option<Caller>, ran: bool)
+    /// Processor p is seen to have the actor that it has now, after a done event that ran it or did not.
+    fn note(&mut self, tables: &Tables, p: u8, ran: bool)
         requires there { p < length self.old.counts }
+        requires processor { p < tables.now.system.processors }
         requires few { get_or self.old.counts p 0 < 2 ^ 20 }
-        ensures { self.new ≡ noted self.old p actor ran }
+        ensures { self.new ≡ noted self.old p (actor_of (processor_at tables.now.state p)) ran }
     {
-        let more = if ran || !is_same_actor(self.actors[p as usize], actor) {
-            1
-        } else {
-            0
-        };
-        self.actors[p as usize] = actor;
-        self.counts[p as usize] += more;
+        let cpu = tables.processor(p);
+        if ran || !acts_on(self.actors[p as usize], &cpu) {
+            self.actors[p as usize] = acting_on(&cpu);
+            self.counts[p as usize] += 1;
+        }
     }
 
     /// Counts a done event for the processor that it ran, if any, and for each that has another actor now.
@@ -111,7 +110,7 @@ impl Stamps {
     {
         let count = tables.processor_count() as u8;
         for p in 0..count {
-            self.note(p, actor_on(tables, p), is_same_task(ran, Some(p)));
+            self.note(tables, p, is_same_task(ran, Some(p)));
         }
     }
 }

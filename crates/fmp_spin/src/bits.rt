@@ -1,5 +1,5 @@
 //! Rows of bits, kept in words of 64.
-ghost use Rattle.std.specs.Prelude.{◌≡◌, ◌≢◌, ℕ, ◌+◌, ◌*◌, ◌≤◌, ◌<◌, length};
+ghost use Rattle.std.specs.Prelude.{◌≡◌, ◌≢◌, ℕ, ◌+◌, ◌*◌, ◌≤◌, ◌<◌, length, true};
 ghost use Rattle.std.specs.Int.{bit_at};
 ghost use Rattle.fmp_spin.specs.Bits.{bit_in, as_bit, IsFirst};
 
@@ -50,4 +50,25 @@ pub fn first_bit(words: &[u64], from: usize, count: usize) -> Option<usize>
         }
     }
     None
+}
+
+/// Whether five words are 0, in one test.
+fn are_zero(a: u64, b: u64, c: u64, d: u64, e: u64) -> bool
+    ensures { result ≡ true → (a ≡ 0) × (b ≡ 0) × (c ≡ 0) × (d ≡ 0) × (e ≡ 0) }
+{
+    a | b | c | d | e == 0
+}
+
+/// Whether no bit of five words from one on is set.
+pub fn is_clear(words: &[u64], from: usize) -> bool
+    requires { from + 5 ≤ length words.now }
+    ensures { result ≡ true → (i : ℕ) → i < 320 → bit_in words.now (from * 64 + i) ≡ 0 }
+{
+    are_zero(
+        words[from],
+        words[from + 1],
+        words[from + 2],
+        words[from + 3],
+        words[from + 4],
+    )
 }

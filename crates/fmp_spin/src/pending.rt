@@ -4,9 +4,10 @@ ghost use Rattle.fmp_base.specs.Ranges.{IsInRange};
 ghost use Rattle.fmp_base.specs.States.{places_from};
 ghost use Rattle.fmp_base.specs.Systems.{tables_of, defined_for};
 ghost use Rattle.fmp_base.specs.Ticks.{is_pending};
+ghost use Rattle.fmp_spin.specs.Bits.{IsFirst, bit_in};
 ghost use Rattle.fmp_spin.specs.Pending.{handler_processors, none_pending, first_handler, processor_of, HasMark, without_mark, IsSetAt};
 
-use crate::bits::{first_bit, set_bit};
+use crate::bits::{first_bit, is_clear, set_bit};
 use fmp_base::{CyclicConfig, Handler, InterruptConfig, System};
 use std::alloc::{AllocError, Global};
 use std::marker::Model;
@@ -102,6 +103,18 @@ fn clear_words(alloc: Global, count: usize) -> Result<Vec<u64>, AllocError>
     ensures { IfOk result (λ v. v.items ≡ replicate count 0) }
 {
     vec![in alloc; 0; count]
+}
+
+/// The first slot of a row whose bit is set, if any. Mostly there is none, which is seen at once.
+fn first_slot(words: &[u64], from: usize) -> Option<usize>
+    requires inside { from + 5 ≤ length words.now }
+    ensures { IsFirst (λ i. bit_in words.now (from * 64 + i)) 320 result }
+{
+    if is_clear(words, from) {
+        None
+    } else {
+        first_bit(words, from, ROW)
+    }
 }
 
 impl PendingHandlers {
@@ -207,7 +220,7 @@ impl PendingHandlers {
         ensures value { result ≡ first_handler self.now p }
         ensures there { IfSome result (λ h. HasMark self.now h) }
     {
-        match first_bit(self.words.as_slice(), p as usize * ROW, ROW) {
+        match first_slot(self.words.as_slice(), p as usize * ROW) {
             Some(slot) if slot < CYCLICS => Some(Handler::Interrupt(slot as u8)),
             Some(slot) => Some(Handler::Cyclic((slot - CYCLICS) as u8)),
             None => None,

@@ -30,9 +30,12 @@ impl Numeral {
     pub fn new(number: u32) -> Numeral
         ensures { result ≡ decimal number }
     {
-        let mut bytes = [0; 2 * DIGITS];
-        let start = write_digits(u64::from(number), &mut bytes, DIGITS);
-        Numeral { bytes, start }
+        let mut numeral = Numeral {
+            bytes: [0; 2 * DIGITS],
+            start: DIGITS,
+        };
+        numeral.start = write_digits(u64::from(number), &mut numeral.bytes, DIGITS);
+        numeral
     }
 
     /// Puts the number into a line.

@@ -86,8 +86,40 @@ fn short_run(text: &[u8]) -> Option<(u8, &[u8])>
     Some((*digit - b'0', rest))
 }
 
+/// The same where a processor has this number and the number of the line is that of an event.
+#[inline(always)]
+pub fn short_event(text: &[u8], number: u32, processors: u8) -> Option<(u8, &[u8])>
+    ensures event { IfSome result (λ run. events_of processors number (lines_of text.now)
+        ≡ in_front (Ok (Event.Run run.0)) (events_of processors (number + 1) (lines_of run.1.now))) }
+    ensures shorter { IfSome result (λ run. length run.1.now < length text.now) }
+    ensures counted { IfSome result (λ _. number ≤ 1048576) }
+{
+    let (processor, rest) = short_run(text)?;
+    if processor <= processors && number <= MOST_STEPS {
+        Some((processor, rest))
+    } else {
+        None
+    }
+}
+
+/// The event of the first line of a text, which has this number, and the text behind it.
+#[cold]
+#[inline(never)]
+pub fn long_event(text: &[u8], number: u32, processors: u8) -> Result<(Event, &[u8]), StepsFault>
+    requires { text.now ≢ [] }
+    ensures event { IfOk result (λ first. events_of processors number (lines_of text.now)
+        ≡ in_front (Ok first.0) (events_of processors (number + 1) (lines_of first.1.now))) }
+    ensures fault { IfErr result (λ fault. events_of processors number (lines_of text.now) ≡ Err fault) }
+    ensures shorter { IfOk result (λ first. length first.1.now < length text.now) }
+    ensures counted { IfOk result (λ _. number ≤ 1048576) }
+{
+    let (line, rest) = first_line(text);
+    Ok((event_at(line, number, processors)?, rest))
+}
+
 /// The event of the first line of a text, which has this number, and the text behind it. Most lines are those of
 /// `short_run`.
+#[inline]
 pub fn first_event(text: &[u8], number: u32, processors: u8) -> Result<(Event, &[u8]), StepsFault>
     requires { text.now ≢ [] }
     ensures event { IfOk result (λ first. events_of processors number (lines_of text.now)
@@ -96,13 +128,10 @@ pub fn first_event(text: &[u8], number: u32, processors: u8) -> Result<(Event, &
     ensures shorter { IfOk result (λ first. length first.1.now < length text.now) }
     ensures counted { IfOk result (λ _. number ≤ 1048576) }
 {
-    if let Some((processor, rest)) = short_run(text) {
-        if processor <= processors && number <= MOST_STEPS {
-            return Ok((Event::Run(processor), rest));
-        }
+    match short_event(text, number, processors) {
+        Some((processor, rest)) => Ok((Event::Run(processor), rest)),
+        None => long_event(text, number, processors),
     }
-    let (line, rest) = first_line(text);
-    Ok((event_at(line, number, processors)?, rest))
 }
 
 /// Reads a steps text: one event a line, each line ended by a line feed, which the last may lack. The fault is

@@ -3,7 +3,7 @@ ghost use Rattle.std.specs.Prelude.{◌≡◌, ◌∷◌, [], IfErr, IfOk, Match
 ghost use Rattle.fmp_trace.specs.Steps.{read_events, steps_of};
 
 use crate::faults::StepsFault;
-use crate::reading::first_event;
+use crate::reading::{first_event, long_event, short_event};
 use fmp_base::Event;
 use std::marker::Model;
 
@@ -67,7 +67,12 @@ impl<'a> Steps<'a> {
         if self.text.is_empty() {
             return None;
         }
-        let Ok((event, rest)) = first_event(self.text, self.number, self.processors) else {
+        if let Some((processor, rest)) = short_event(self.text, self.number, self.processors) {
+            self.text = rest;
+            self.number += 1;
+            return Some(Event::Run(processor));
+        }
+        let Ok((event, rest)) = long_event(self.text, self.number, self.processors) else {
             return None;
         };
         self.text = rest;
