@@ -33,6 +33,8 @@ pub fn frames<B: Body>(
     ensures frames { IfOk result (λ fs. map table_of fs.items
         ≡ frames kernel.old.system (B.meaning kernel.old.body) kernel.old.bound kernel.old.world events.now) }
     ensures after { OnOk result (kernel.new ≡ view_after_all B.meaning kernel.old events.now) }
+    ensures count { kernel.new.done ≤ kernel.old.done + length events.now }
+    ensures system { kernel.new.system ≡ kernel.old.system }
 {
     let mut all = Vec::new(alloc);
     for e in events {

@@ -19,5 +19,6 @@ loop-e-preserved g c =
       after = after-step g.B.Body.meaning c.loop-e.kernel c.step.new.self c.args.events.now c.loop-e.e-index _ _ c.loop-e-test.true
           c.step.ensures.state c.loop-e.invariant.after;
       system = system-step g.B.Body.meaning c.loop-e.kernel c.step.new.self _ c.step.ensures.state ∙ c.loop-e.invariant.system;
+      count = omega arith;
       few = omega arith;
     }

@@ -1,0 +1,10 @@
+//! Value change dumps: what a waveform viewer shows of a run.
+#![tactic(auto)]
+
+mod codes;
+mod dump;
+mod head;
+mod text;
+mod values;
+
+pub use dump::Waves;
