@@ -12,8 +12,8 @@ use Rattle.fmp_lex.specs.declared.token.Symbol.{Symbol}
 use Rattle.fmp_lex.specs.declared.scanning.Class.TheVariants as class
 use Rattle.fmp_lex.specs.declared.cutting.Start.{Start}
 use Rattle.fmp_lex.specs.declared.cutting.Start.TheVariants as start
-use Rattle.fmp_lex.specs.declared.cutting.Piece.{Piece}
-use Rattle.fmp_lex.specs.declared.cutting.Piece.TheVariants.{Skip, Whole, Fault}
+use Rattle.fmp_lex.specs.Cutting.{Piece}
+use Rattle.fmp_lex.specs.Cutting.{Skip, Whole, Fault}
 use Rattle.fmp_lex.specs.Scanning.{is_space, is_letter, is_digit, in_class, value_from, IsRun, Closes, IsFirstClose, NeverCloses, greatest}
 use Rattle.fmp_lex.specs.Cutting.{long_symbol, short_symbol, is_followed, number_piece, hex_piece, word_kind, word_or_name, word_piece, long_piece, symbol_piece, start_of, IsPieceOf, IsPiece, Cuts, ended, skipped, token, faulty, line_at}
 use Rattle.fmp_lex.specs.Laws.{HasOneCut}

@@ -8,6 +8,7 @@ pub mod Names
 pub mod Packing
 pub mod Repetitions
 pub mod Sequences
+pub mod Spellings
 pub mod Turns
 pub mod Unique
 pub mod Values

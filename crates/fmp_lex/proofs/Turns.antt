@@ -4,7 +4,7 @@ use Rattle.fmp_lex.specs.declared.token.Token.{Token}
 use Rattle.fmp_lex.specs.declared.token.TokenKind.{TokenKind}
 use Rattle.fmp_lex.specs.declared.token.TokenKind.TheVariants.{Bad}
 use Rattle.fmp_lex.specs.declared.token.LexFault.{LexFault}
-use Rattle.fmp_lex.specs.declared.cutting.Piece.TheVariants.{Whole, Fault}
+use Rattle.fmp_lex.specs.Cutting.{Whole, Fault}
 use Rattle.fmp_lex.specs.Cutting.{Cuts, ended, token, faulty, line_at, IsPiece}
 
 -- whatever the rest is cut into comes after the tokens so far

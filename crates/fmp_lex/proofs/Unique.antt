@@ -2,8 +2,8 @@
 use Rattle.std.proofs.Common.{◌≡◌, ℕ, ◌+◌, inl, inr, Bool, List, slice_index, refl, arith}
 use Rattle.fmp_lex.specs.declared.cutting.Start.{Start}
 use Rattle.fmp_lex.specs.declared.cutting.Start.TheVariants.{Space, LineComment, BlockComment, Word, Zero, Hex, Decimal, Other}
-use Rattle.fmp_lex.specs.declared.cutting.Piece.{Piece}
-use Rattle.fmp_lex.specs.declared.cutting.Piece.TheVariants.{Skip, Whole, Fault}
+use Rattle.fmp_lex.specs.Cutting.{Piece}
+use Rattle.fmp_lex.specs.Cutting.{Skip, Whole, Fault}
 use Rattle.fmp_lex.specs.declared.token.Token.{Token}
 use Rattle.fmp_lex.specs.Scanning.{IsRun, IsFirstClose}
 use Rattle.fmp_lex.specs.Cutting.{IsPieceOf, IsPiece, Cuts, ended, skipped, token, faulty, start_of}

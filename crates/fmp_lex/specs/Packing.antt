@@ -1,14 +1,15 @@
--- Tokens in few bytes.
-use Rattle.std.specs.Prelude.{◌≡◌, ℕ, ◌+◌, ◌<◌, ◌≤◌, List, length, slice_range}
+-- Tokens in few bytes: a name is a place in the text.
+use Rattle.std.specs.Prelude.{ℕ, ◌+◌, ◌<◌, ◌≤◌, List, length, slice_range}
 use Rattle.fmp_base.specs.Names.{name_from}
-use Rattle.fmp_lex.specs.declared.cutting.Piece.{Piece}
-use Rattle.fmp_lex.specs.declared.cutting.Piece.TheVariants.{Skip, Whole, Fault}
+use Rattle.fmp_lex.specs.declared.cutting.Segment.{Segment}
+use Rattle.fmp_lex.specs.declared.cutting.Segment.TheVariants as segment
 use Rattle.fmp_lex.specs.declared.packed.Packed.{Packed}
 use Rattle.fmp_lex.specs.declared.packed.Shape.{Shape}
 use Rattle.fmp_lex.specs.declared.packed.Shape.TheVariants as shape
 use Rattle.fmp_lex.specs.declared.token.Token.{Token}
 use Rattle.fmp_lex.specs.declared.token.TokenKind.{TokenKind}
 use Rattle.fmp_lex.specs.declared.token.TokenKind.TheVariants as kind
+use Rattle.fmp_lex.specs.Cutting.{Piece, Skip, Whole, Fault}
 
 -- what a token of this shape is in a text
 abbrev pub kind_in : List ℕ → Shape → TokenKind
@@ -26,35 +27,30 @@ abbrev pub Stands : List ℕ → Shape → Type 0
 Stands text (shape.Name size start) = (0 < size) × (size ≤ 31) × (start + size ≤ length text)
 Stands text _ = Unit {0}
 
-abbrev pub whole_of : Packed → Token
-whole_of p = p.whole.value
+-- the token of these few bytes in a text
+abbrev pub whole_in : List ℕ → Packed → Token
+whole_in text p = record { kind = kind_in text p.shape; line = p.line; start = p.start.value; end = p.end.value }
+
+-- if it is a name, the name stands in the text
+abbrev pub IsPacked : List ℕ → Packed → Type 0
+IsPacked text p = Stands text p.shape
 
 abbrev pub line_of : Token → ℕ
 line_of t = t.line
 
--- the token is in the text what its few bytes say
-pub record IsPacked (text : List ℕ) (p : Packed) : Type 0 where
-  pub stands : Stands text p.shape
-  pub kind : p.whole.value.kind ≡ kind_in text p.shape
-  pub line : p.whole.value.line ≡ p.line
+-- the piece of a text that a segment is
+abbrev pub piece_in : List ℕ → Segment → Piece
+piece_in text (segment.Skip j) = Skip j
+piece_in text (segment.Whole s j) = Whole (kind_in text s) j
+piece_in text (segment.Fault f) = Fault f
 
--- a name from i up to j has 1 to 31 bytes
-abbrev pub TakesBytes : TokenKind → ℕ → ℕ → Type 0
-TakesBytes (kind.Name name) i j = (i < j) × (j ≤ i + 31)
-TakesBytes _ i j = Unit {0}
-
--- a name is that of the bytes of the text from i up to j
-abbrev pub IsNamed : List ℕ → ℕ → TokenKind → ℕ → Type 0
-IsNamed text i (kind.Name name) j = (name ≡ name_from (slice_range text i j)) × (j ≤ length text)
-IsNamed text i _ j = Unit {0}
-
--- a name that begins at i is that of its bytes, of which there are 1 to 31
-abbrev pub NamesText : List ℕ → ℕ → Piece → Type 0
-NamesText text i (Skip j) = Unit {0}
-NamesText text i (Whole k j) = TakesBytes k i j × IsNamed text i k j
-NamesText text i (Fault f) = Unit {0}
+-- if it is a name, the name stands in the text
+abbrev pub HasName : List ℕ → Segment → Type 0
+HasName text (segment.Skip j) = Unit {0}
+HasName text (segment.Whole s j) = Stands text s
+HasName text (segment.Fault f) = Unit {0}
 
 -- a word of the language is no name
-abbrev pub IsPlain : TokenKind → Type 0
-IsPlain (kind.Name name) = ⊥
+abbrev pub IsPlain : Shape → Type 0
+IsPlain (shape.Name size start) = ⊥
 IsPlain _ = Unit {0}

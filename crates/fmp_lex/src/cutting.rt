@@ -1,14 +1,14 @@
 //! A text is cut into tokens, spaces and comments.
-ghost use Rattle.std.specs.Prelude.{◌≡◌, List, ℕ, ◌+◌, ◌-◌, ◌^◌, ◌<◌, ◌≤◌, ◌↔◌, length, map, slice_index, slice_range, IfOk, IfSome};
+ghost use Rattle.std.specs.Prelude.{◌≡◌, List, ℕ, ◌+◌, ◌-◌, ◌^◌, ◌<◌, ◌≤◌, ◌↔◌, length, map, slice_index, slice_range, option_map, IfOk, IfSome};
 ghost use Rattle.std.specs.List.{All};
-ghost use Rattle.fmp_lex.specs.Packing.{IsPacked, IsPlain, NamesText, whole_of};
+ghost use Rattle.fmp_lex.specs.Packing.{IsPacked, IsPlain, HasName, kind_in, piece_in, whole_in};
 ghost use Rattle.fmp_lex.specs.Scanning.{Saturated, IsRun, in_class};
 ghost use Rattle.fmp_lex.specs.declared.scanning.Class.TheVariants as class;
 ghost use Rattle.fmp_lex.specs.Cutting.{word_kind, hex_piece, long_symbol, short_symbol, start_of, IsPiece, number_piece, word_piece, symbol_piece, Cuts, EndsWithin, end_line_of};
 
-use crate::packed::{Packed, Tokens, pack};
+use crate::packed::{Packed, Shape, Tokens};
 use crate::scanning::{Class, find_close, is_in, line_feeds, run_end, value_of};
-use crate::token::{LexFault, Symbol, TextFault, Token, TokenKind, TokenList};
+use crate::token::{LexFault, Symbol, TextFault, Token, TokenList};
 use crate::words::{find_api, find_constant, find_keyword, find_service};
 use fmp_base::Name;
 use std::alloc::{AllocError, Global};
@@ -31,9 +31,9 @@ pub enum Start {
 
 /// A piece of a text: spaces or a comment, or a token, up to a place; or no piece begins.
 #[derive(Clone, Copy, Debug, PartialEq, Eq)]
-pub enum Piece {
+pub enum Segment {
     Skip(usize),
-    Whole(TokenKind, usize),
+    Whole(Shape, usize),
     Fault(LexFault),
 }
 
@@ -95,105 +95,112 @@ fn begin(b: u8, c: u8) -> Start
 }
 
 /// The number of this value, whose digits end at `end`.
-fn number(text: &[u8], end: usize, fits: bool, value: u64) -> Piece
-    ensures piece { (n : ℕ) → Saturated value n → result ≡ number_piece text.now end fits n }
-    ensures ends { (i : ℕ) → i < end → end ≤ length text.now → EndsWithin text.now i result }
-    ensures named { (i : ℕ) → NamesText text.now i result }
+fn number(text: &[u8], end: usize, fits: bool, value: u64) -> Segment
+    ensures piece { (n : ℕ) → Saturated value n → piece_in text.now result ≡ number_piece text.now end fits n }
+    ensures ends { (i : ℕ) → i < end → end ≤ length text.now → EndsWithin text.now i (piece_in text.now result) }
+    ensures named { HasName text.now result }
 {
     if end < text.len() && is_in(Class::Word, text[end]) {
-        Piece::Fault(LexFault::Syntax)
+        Segment::Fault(LexFault::Syntax)
     } else if fits && value <= 2_147_483_647 {
-        Piece::Whole(TokenKind::Number(value as i32), end)
+        Segment::Whole(Shape::Number(value as i32), end)
     } else {
-        Piece::Fault(LexFault::Limit)
+        Segment::Fault(LexFault::Limit)
     }
 }
 
 /// The number of the hexadecimal digits from `start` up to `end`.
-fn hex_number(text: &[u8], start: usize, end: usize) -> Piece
+fn hex_number(text: &[u8], start: usize, end: usize) -> Segment
     requires run { IsRun (in_class class.Hex) text.now start end }
-    ensures piece { result ≡ hex_piece text.now start end }
-    ensures ends { (i : ℕ) → i < end → EndsWithin text.now i result }
-    ensures named { (i : ℕ) → NamesText text.now i result }
+    ensures piece { piece_in text.now result ≡ hex_piece text.now start end }
+    ensures ends { (i : ℕ) → i < end → EndsWithin text.now i (piece_in text.now result) }
+    ensures named { HasName text.now result }
 {
     if end == start {
-        return Piece::Fault(LexFault::Syntax);
+        return Segment::Fault(LexFault::Syntax);
     }
     number(text, end, end - start <= 8, value_of(&text[start..end], 16))
 }
 
 /// The word that these bytes are.
-fn find_word(bytes: &[u8]) -> Option<TokenKind>
-    ensures word { result ≡ word_kind bytes.now }
+fn find_word(bytes: &[u8]) -> Option<Shape>
+    ensures word { (text : List ℕ) → option_map (kind_in text) result ≡ word_kind bytes.now }
     ensures plain { IfSome result IsPlain }
 {
     if let Some(constant) = find_constant(bytes) {
-        return Some(TokenKind::Constant(constant));
+        return Some(Shape::Constant(constant));
     }
     if let Some(api) = find_api(bytes) {
-        return Some(TokenKind::Api(api));
+        return Some(Shape::Api(api));
     }
     if let Some(service) = find_service(bytes) {
-        return Some(TokenKind::Service(service));
+        return Some(Shape::Service(service));
     }
     match find_keyword(bytes) {
-        Some(keyword) => Some(TokenKind::Keyword(keyword)),
+        Some(keyword) => Some(Shape::Keyword(keyword)),
         None => None,
     }
 }
 
-/// The word or the name of these bytes, which end at `end`.
-fn word(bytes: &[u8], end: usize) -> Piece
-    requires { 0 < length bytes.now }
-    ensures piece { result ≡ word_piece bytes.now end }
-    ensures ends { (text : List ℕ) (i : ℕ) → i < end → end ≤ length text → EndsWithin text i result }
-    ensures named { (text : List ℕ) (i : ℕ) → i < end → end ≤ length text → bytes.now ≡ slice_range text i end →
-        NamesText text i result }
+/// The word or the name that stands from `start` up to `end`.
+fn word(text: &[u8], start: usize, end: usize) -> Segment
+    requires some { start < end }
+    requires within { end ≤ length text.now }
+    requires short { length text.now ≤ TEXT_MAX }
+    ensures piece { piece_in text.now result ≡ word_piece (slice_range text.now start end) end }
+    ensures ends { EndsWithin text.now start (piece_in text.now result) }
+    ensures named { HasName text.now result }
 {
-    if let Some(kind) = find_word(bytes) {
-        return Piece::Whole(kind, end);
+    if let Some(shape) = find_word(&text[start..end]) {
+        return Segment::Whole(shape, end);
     }
-    match Name::new(bytes) {
-        Some(name) => Piece::Whole(TokenKind::Name(name), end),
-        None => Piece::Fault(LexFault::Limit),
+    if end - start > Name::MAX {
+        return Segment::Fault(LexFault::Limit);
     }
+    let name = Shape::Name {
+        length: (end - start) as u8,
+        start: start as u32,
+    };
+    Segment::Whole(name, end)
 }
 
 /// The longest symbol at `i`, where these two bytes stand.
-fn sign(i: usize, b: u8, c: u8) -> Piece
+fn sign(i: usize, b: u8, c: u8) -> Segment
     requires { i + 2 < 2 ^ 64 }
-    ensures piece { result ≡ symbol_piece i b c }
-    ensures ends { (text : List ℕ) → i < length text → slice_index text (i + 1) ≡ c → EndsWithin text i result }
-    ensures named { (text : List ℕ) → NamesText text i result }
+    ensures piece { (text : List ℕ) → piece_in text result ≡ symbol_piece i b c }
+    ensures ends { (text : List ℕ) → i < length text → slice_index text (i + 1) ≡ c →
+        EndsWithin text i (piece_in text result) }
+    ensures named { (text : List ℕ) → HasName text result }
 {
     if let Some(symbol) = long_sign(b, c) {
-        return Piece::Whole(TokenKind::Symbol(symbol), i + 2);
+        return Segment::Whole(Shape::Symbol(symbol), i + 2);
     }
     match short_sign(b) {
-        Some(symbol) => Piece::Whole(TokenKind::Symbol(symbol), i + 1),
-        None => Piece::Fault(LexFault::Syntax),
+        Some(symbol) => Segment::Whole(Shape::Symbol(symbol), i + 1),
+        None => Segment::Fault(LexFault::Syntax),
     }
 }
 
 /// The piece that begins at a place.
-fn next_piece(text: &[u8], i: usize) -> Piece
+fn next_piece(text: &[u8], i: usize) -> Segment
     requires inside { i < length text.now }
-    ensures piece { IsPiece text.now i result }
-    ensures ends { EndsWithin text.now i result }
-    ensures named { NamesText text.now i result }
+    requires short { length text.now ≤ TEXT_MAX }
+    ensures piece { IsPiece text.now i (piece_in text.now result) }
+    ensures ends { EndsWithin text.now i (piece_in text.now result) }
+    ensures named { HasName text.now result }
 {
     let b = text[i];
     let c = if i + 1 < text.len() { text[i + 1] } else { 0 };
     match begin(b, c) {
-        Start::Space => Piece::Skip(run_end(text, Class::Space, i + 1)),
-        Start::LineComment => Piece::Skip(run_end(text, Class::SameLine, i + 1)),
+        Start::Space => Segment::Skip(run_end(text, Class::Space, i + 1)),
+        Start::LineComment => Segment::Skip(run_end(text, Class::SameLine, i + 1)),
         Start::BlockComment => match find_close(text, i + 2) {
-            Some(end) => Piece::Skip(end + 2),
-            None => Piece::Fault(LexFault::Syntax),
+            Some(end) => Segment::Skip(end + 2),
+            None => Segment::Fault(LexFault::Syntax),
         },
         Start::Word => {
             let end = run_end(text, Class::Word, i + 1);
-            word(&text[i..end], end)
+            word(text, i, end)
         }
         Start::Zero => number(text, i + 1, true, 0),
         Start::Hex => hex_number(text, i + 2, run_end(text, Class::Hex, i + 2)),
@@ -208,8 +215,8 @@ fn next_piece(text: &[u8], i: usize) -> Piece
 /// The tokens of a text that is not too long.
 fn cut(alloc: Global, text: &[u8]) -> Result<Vec<Packed>, AllocError>
     requires { length text.now ≤ TEXT_MAX }
-    ensures cut { IfOk result (λ v. Cuts text.now 0 (map whole_of v.items)) }
-    ensures only { IfOk result (λ v. (ts : List Token) → Cuts text.now 0 ts → ts ≡ map whole_of v.items) }
+    ensures cut { IfOk result (λ v. Cuts text.now 0 (map (whole_in text.now) v.items)) }
+    ensures only { IfOk result (λ v. (ts : List Token) → Cuts text.now 0 ts → ts ≡ map (whole_in text.now) v.items) }
     ensures packed { IfOk result (λ v. All (IsPacked text.now) v.items) }
 {
     let mut tokens = Vec::new(alloc);
@@ -217,27 +224,17 @@ fn cut(alloc: Global, text: &[u8]) -> Result<Vec<Packed>, AllocError>
     let mut i = 0;
     'pieces: while i < text.len() {
         match next_piece(text, i) {
-            Piece::Skip(end) => {
+            Segment::Skip(end) => {
                 line += line_feeds(&text[i..end]);
                 i = end;
             }
-            Piece::Whole(kind, end) => {
-                tokens.push(pack(Token {
-                    kind,
-                    line,
-                    start: i as u32,
-                    end: end as u32,
-                }))?;
+            Segment::Whole(shape, end) => {
+                tokens.push(Packed::new(shape, line, i as u32, end as u32))?;
                 line += line_feeds(&text[i..end]);
                 i = end;
             }
-            Piece::Fault(fault) => {
-                tokens.push(pack(Token {
-                    kind: TokenKind::Bad(fault),
-                    line,
-                    start: i as u32,
-                    end: i as u32,
-                }))?;
+            Segment::Fault(fault) => {
+                tokens.push(Packed::new(Shape::Bad(fault), line, i as u32, i as u32))?;
                 return Ok(tokens);
             }
         }

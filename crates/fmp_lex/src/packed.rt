@@ -2,10 +2,10 @@
 ghost use Rattle.std.specs.Prelude.{◌≡◌, ℕ, List, ◌+◌, ◌<◌, ◌≤◌, ◌^◌, length, map, slice_get, option_map, IfSome};
 ghost use Rattle.std.specs.List.{All};
 ghost use Rattle.fmp_base.specs.Names.{name_from};
-ghost use Rattle.fmp_lex.specs.Packing.{IsNamed, IsPacked, Stands, TakesBytes, kind_in, whole_of, line_of};
+ghost use Rattle.fmp_lex.specs.Packing.{IsPacked, Stands, kind_in, whole_in, line_of};
 ghost use Rattle.fmp_lex.specs.Reading.{kinds_of};
 
-use crate::token::{LexFault, Symbol, Token, TokenKind};
+use crate::token::{LexFault, Symbol, TokenKind};
 use crate::words::{Api, Constant, Keyword};
 use fmp_base::{Name, Service};
 use std::marker::Model;
@@ -24,46 +24,29 @@ pub enum Shape {
     Bad(LexFault),
 }
 
-/// A token in few bytes. The whole one has no bytes: only the contracts see it.
+/// A token in few bytes. Its places have no bytes: only the contracts see them.
 #[derive(Drop)]
 pub struct Packed {
     pub shape: Shape,
     pub line: u32,
-    pub whole: Snapshot<Token>,
+    pub start: Snapshot<u32>,
+    pub end: Snapshot<u32>,
 }
 
-/// The shape of a token of this kind, whose bytes stand from `start` up to `end`.
-fn shape_of(kind: TokenKind, start: usize, end: usize) -> Shape
-    requires start { start < 2 ^ 32 }
-    requires bytes { TakesBytes kind start end }
-    ensures stands { (text : List ℕ) → IsNamed text start kind end → Stands text result }
-    ensures kind { (text : List ℕ) → IsNamed text start kind end → kind ≡ kind_in text result }
-{
-    match kind {
-        TokenKind::Number(number) => Shape::Number(number),
-        TokenKind::Name(_) => Shape::Name {
-            length: (end - start) as u8,
-            start: start as u32,
-        },
-        TokenKind::Constant(constant) => Shape::Constant(constant),
-        TokenKind::Api(api) => Shape::Api(api),
-        TokenKind::Service(service) => Shape::Service(service),
-        TokenKind::Keyword(keyword) => Shape::Keyword(keyword),
-        TokenKind::Symbol(symbol) => Shape::Symbol(symbol),
-        TokenKind::Bad(fault) => Shape::Bad(fault),
-    }
-}
-
-/// The token in few bytes.
-pub(crate) fn pack(token: Token) -> Packed
-    requires bytes { TakesBytes token.kind token.start token.end }
-    ensures whole { whole_of result ≡ token }
-    ensures packed { (text : List ℕ) → IsNamed text token.start token.kind token.end → IsPacked text result }
-{
-    Packed {
-        shape: shape_of(token.kind, token.start as usize, token.end as usize),
-        line: token.line,
-        whole: Snapshot::of(&token),
+impl Packed {
+    /// The token that stands from `start` up to `end`.
+    pub(crate) fn new(shape: Shape, line: u32, start: u32, end: u32) -> Packed
+        ensures shape { result.shape ≡ shape }
+        ensures line { result.line ≡ line }
+        ensures start { result.start.value ≡ start }
+        ensures end { result.end.value ≡ end }
+    {
+        Packed {
+            shape,
+            line,
+            start: Snapshot::of(&start),
+            end: Snapshot::of(&end),
+        }
     }
 }
 
@@ -109,12 +92,12 @@ pub struct Tokens<'a> {
 impl<'a> Model for Tokens<'a> {
     ghost use Rattle.std.specs.Prelude.{List, map};
     ghost use Rattle.std.specs.List.{All};
-    ghost use Rattle.fmp_lex.specs.Packing.{IsPacked, whole_of};
+    ghost use Rattle.fmp_lex.specs.Packing.{IsPacked, whole_in};
     ghost use Rattle.fmp_lex.specs.declared.token.Token.{Token as OneToken};
 
     ghost Value = { List OneToken };
 
-    ghost view = { λ t. map whole_of t.packed.items };
+    ghost view = { λ t. map (whole_in t.text.now) t.packed.items };
 
     ghost invariant = { λ t. All (IsPacked t.text.now) t.packed.items };
 }
@@ -123,7 +106,7 @@ impl<'a> Tokens<'a> {
     /// The tokens that stand so in the text.
     pub(crate) fn new(text: &'a [u8], packed: Vec<Packed>) -> Tokens<'a>
         requires { All (IsPacked text.now) packed.items }
-        ensures { result ≡ map whole_of packed.items }
+        ensures { result ≡ map (whole_in text.now) packed.items }
     {
         Tokens { text, packed }
     }

@@ -2,8 +2,9 @@ use Rattle.std.proofs.Common.{◌≡◌, ◌+◌, [], ◌∷◌, ◌++◌, map, 
 use Rattle.fmp_lex.specs.declared.token.Token.{Token}
 use Rattle.fmp_lex.specs.Cutting.{skipped, line_at}
 use Rattle.fmp_lex.proofs.Lines.{line_step, low_step}
-use Rattle.fmp_lex.specs.Packing.{whole_of}
-use Rattle.fmp_lex.proofs.Packing.{one_packed, all_packed}
+use Rattle.fmp_lex.specs.Packing.{kind_in, whole_in}
+use Rattle.fmp_lex.specs.declared.packed.Shape.TheVariants.{Bad}
+use Rattle.fmp_lex.proofs.Packing.{one_packed, all_packed, packed_whole}
 use Rattle.fmp_lex.proofs.Turns.{one_more, fault_last, all_cut}
 use Rattle.fmp_lex.proofs.Unique.{cuts_unique}
 use Rattle.fmp_lex.proofs.cutting.cut.Goals as goal
@@ -28,33 +29,42 @@ pieces-preserved c =
     let text = c.args.text.now in
     let i = c.pieces.i in
     let end = c.in-Whole.end in
-    let found : Token = record { kind = c.in-Whole.kind; line = c.pieces.line; start = i; end = end } in
-    let pushed : map whole_of c.push.new.self.items ≡ map whole_of c.pieces.tokens.items ++ found ∷ [] =
-    one_packed c.pieces.tokens.items c.push.new.self.items c.pack.result found c.in_ok-push-in-Whole.ensures.items c.pack.ensures.whole in
+    let kind = kind_in text c.in-Whole.shape in
+    let found : Token = record { kind = kind; line = c.pieces.line; start = i; end = end } in
+    let is : whole_in text c.new.result ≡ found =
+    packed_whole text c.new.result c.in-Whole.shape c.pieces.line i end c.new.ensures.shape c.new.ensures.line
+    c.new.ensures.start c.new.ensures.end in
+    let pushed : map (whole_in text) c.push.new.self.items ≡ map (whole_in text) c.pieces.tokens.items ++ found ∷ [] =
+    one_packed text c.pieces.tokens.items c.push.new.self.items c.new.result found c.in_ok-push-in-Whole.ensures.items is in
     record {
       within = c.in-Whole.ensures.ends.1;
       line = line_step text i end c.pieces.line _ (omega (arith, c.in-Whole.ensures.ends.0)) c.pieces.invariant.line c.line_feeds-line-in-Whole.ensures.count;
       low = low_step text i end c.pieces.line _ (omega (arith, c.in-Whole.ensures.ends.0)) c.in-Whole.ensures.ends.1 c.pieces.invariant.low c.line_feeds-line-in-Whole.ensures.few;
-      rest = λ ts d. one_more text i end c.in-Whole.kind c.pieces.line (map whole_of c.pieces.tokens.items) _ ts pushed c.pieces.invariant.line
+      rest = λ ts d. one_more text i end kind c.pieces.line (map (whole_in text) c.pieces.tokens.items) _ ts pushed c.pieces.invariant.line
           c.pieces-test.true c.in-Whole.ensures.piece c.pieces.invariant.rest d;
-      packed = all_packed text c.pieces.tokens.items c.push.new.self.items c.pack.result c.in_ok-push-in-Whole.ensures.items
-          c.pieces.invariant.packed (c.pack.ensures.packed text c.in-Whole.ensures.named.1);
+      packed = all_packed text c.pieces.tokens.items c.push.new.self.items c.new.result c.in_ok-push-in-Whole.ensures.items
+          c.pieces.invariant.packed (rw c.new.ensures.shape c.in-Whole.ensures.named);
     }
 
 pub returns-in-Fault-clause-cut : goal.returns-in-Fault-clause-cut
-returns-in-Fault-clause-cut c = fault_last c.args.text.now c.pieces.i c.in-Fault.fault c.pieces.line (map whole_of c.pieces.tokens.items) _
-    (one_packed c.pieces.tokens.items _ c.pack-in-Fault.result _ c.in_ok-push-in-Fault.ensures.items c.pack-in-Fault.ensures.whole)
+returns-in-Fault-clause-cut c =
+    let text = c.args.text.now in
+    let i = c.pieces.i in
+    let is = packed_whole text c.new-in-Fault.result (Bad c.in-Fault.fault) c.pieces.line i i c.new-in-Fault.ensures.shape c.new-in-Fault.ensures.line
+    c.new-in-Fault.ensures.start c.new-in-Fault.ensures.end in
+    fault_last text i c.in-Fault.fault c.pieces.line (map (whole_in text) c.pieces.tokens.items) _
+    (one_packed text c.pieces.tokens.items _ c.new-in-Fault.result _ c.in_ok-push-in-Fault.ensures.items is)
     c.pieces.invariant.line c.pieces-test.true c.in-Fault.ensures.piece c.pieces.invariant.rest
 
 pub returns-in-Fault-clause-only : goal.returns-in-Fault-clause-only
 returns-in-Fault-clause-only c = λ ts d. cuts_unique c.args.text.now 0 ts _ d (returns-in-Fault-clause-cut c)
 
 pub returns-in-Fault-clause-packed : goal.returns-in-Fault-clause-packed
-returns-in-Fault-clause-packed c = all_packed c.args.text.now c.pieces.tokens.items _ c.pack-in-Fault.result c.in_ok-push-in-Fault.ensures.items
-    c.pieces.invariant.packed (c.pack-in-Fault.ensures.packed c.args.text.now tt)
+returns-in-Fault-clause-packed c = all_packed c.args.text.now c.pieces.tokens.items _ c.new-in-Fault.result c.in_ok-push-in-Fault.ensures.items
+    c.pieces.invariant.packed (rw c.new-in-Fault.ensures.shape tt)
 
 pub returns-clause-cut : goal.returns-clause-cut
-returns-clause-cut c = all_cut c.args.text.now c.pieces.i (map whole_of c.pieces.tokens.items) (omega arith) c.pieces.invariant.rest
+returns-clause-cut c = all_cut c.args.text.now c.pieces.i (map (whole_in c.args.text.now) c.pieces.tokens.items) (omega arith) c.pieces.invariant.rest
 
 pub returns-clause-only : goal.returns-clause-only
 returns-clause-only c = λ ts d. cuts_unique c.args.text.now 0 ts _ d (returns-clause-cut c)

@@ -2,7 +2,7 @@ use Rattle.std.proofs.Common.{◌≡◌, ◌+◌, ◌-◌, ◌≤◌, length, Li
 use Rattle.std.specs.List.{All}
 use Rattle.fmp_lex.specs.declared.token.Token.{Token}
 use Rattle.fmp_lex.specs.Cutting.{Cuts, line_at}
-use Rattle.fmp_lex.specs.Packing.{IsPacked, whole_of}
+use Rattle.fmp_lex.specs.Packing.{IsPacked, whole_in}
 use Rattle.fmp_lex.proofs.cutting.cut.Given as goal
 
 abbrev pub invariant-pieces : goal.invariant-pieces
@@ -10,7 +10,7 @@ invariant-pieces l = record {
   within : l.i ≤ length l.text;
   line : l.line ≡ line_at l.text l.i;
   low : l.line ≤ l.i + 1;
-  rest : (ts : List Token) → Cuts l.text l.i ts → Cuts l.text 0 (map whole_of l.tokens.items ++ ts);
+  rest : (ts : List Token) → Cuts l.text l.i ts → Cuts l.text 0 (map (whole_in l.text) l.tokens.items ++ ts);
   packed : All (IsPacked l.text) l.tokens.items;
 }
 
