@@ -1,5 +1,5 @@
 //! The lines of the trace.
-ghost use Rattle.std.specs.Prelude.{◌≡◌, ◌≤◌, ◌+◌, ◌∷◌, [], ◌++◌, codes, decimal, take, OnOk, OnErr};
+ghost use Rattle.std.specs.Prelude.{◌≡◌, ◌≤◌, ◌+◌, ◌∷◌, [], ◌++◌, codes, decimal, take, IfOk, OnOk, OnErr};
 ghost use Rattle.fmp_base.specs.Names.{name_text};
 ghost use Rattle.fmp_base.specs.Systems.{tables_of, cyclic_config};
 ghost use Rattle.fmp_base.specs.Texts.{processor_text, caller_name, task_name, handler_name, run_text, call_text, answer_text, fault_text, reply_text, line_body, line_text, lines_text};
@@ -15,6 +15,9 @@ use crate::texts::{
 };
 use fmp_base::{Call, Caller, Fault, Handler, Line, Reply, System};
 use std::alloc::AllocError;
+
+/// No line has more bytes than this.
+const LONGEST: usize = 179;
 
 /// The name of the task or handler that acts, behind its processor.
 #[inline(always)]
@@ -266,16 +269,40 @@ fn append_body(sys: &System, printed: &Line, line: &mut LineBytes, end: usize) -
     }
 }
 
-/// Puts together a line, with its number in front and a line feed behind, and gives its end.
-fn put_line(sys: &System, number: &Numeral, printed: &Line, line: &mut LineBytes) -> usize
-    ensures text { take result line.new ≡ number.now ++ (line_body (tables_of sys.now) printed.now ++ 10 ∷ []) }
-    ensures short { result ≤ ROOM }
+/// A line, with its number in front and a line feed behind.
+fn put_line(
+    sys: &System,
+    number: &Numeral,
+    printed: &Line,
+    line: &mut LineBytes,
+    end: usize,
+) -> usize
+    requires { end + LONGEST ≤ ROOM }
+    ensures text { take result line.new ≡
+        take end line.old ++ (number.now ++ (line_body (tables_of sys.now) printed.now ++ 10 ∷ [])) }
+    ensures short { result ≤ end + LONGEST }
 {
-    let end = number.append(line, 0);
+    let end = number.append(line, end);
     let end = append_body(sys, printed, line, end);
     append_array(*b"\n", line, end)
 }
 
+/// Appends what is put together where there is no room for one more line, and gives the end of what is left.
+#[inline(always)]
+fn make_room(line: &LineBytes, end: usize, out: &mut Vec<u8>) -> Result<usize, AllocError>
+    requires { end ≤ ROOM }
+    ensures text { IfOk result (λ left. out.new.items ++ take left line.now ≡ out.old.items ++ take end line.now) }
+    ensures room { IfOk result (λ left. left + LONGEST ≤ ROOM) }
+    ensures kept { Begins out.old.items out.new.items }
+{
+    if end + LONGEST <= ROOM {
+        return Ok(end);
+    }
+    append_line(line, end, out)?;
+    Ok(0)
+}
+
+/// Lines are put together as long as there is room for one more, and then appended at once.
 fn append_lines(
     sys: &System,
     number: u32,
@@ -287,11 +314,12 @@ fn append_lines(
 {
     let numeral = Numeral::new(number);
     let mut bytes = [0; ROOM];
+    let mut end = 0;
     for line in lines {
-        let end = put_line(sys, &numeral, line, &mut bytes);
-        append_line(&bytes, end, out)?;
+        end = put_line(sys, &numeral, line, &mut bytes, end);
+        end = make_room(&bytes, end, out)?;
     }
-    Ok(())
+    append_line(&bytes, end, out)
 }
 
 /// Appends the lines of the event of this number, each ended by a line feed. Where memory runs out, the

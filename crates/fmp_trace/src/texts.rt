@@ -10,14 +10,14 @@ use crate::numeral::Numeral;
 use fmp_base::Name;
 use std::alloc::AllocError;
 
-/// Room for the longest line, and for what is copied behind its end.
-pub const ROOM: usize = 192;
+/// Room for the longest line, for a few short ones before it, and for what is copied behind its end.
+pub const ROOM: usize = 256;
 
 /// The bytes of a line. Those behind its end mean nothing.
 pub type LineBytes = [u8; ROOM];
 
 /// So many bytes are copied at once where a line is no longer.
-const SHORT: usize = 64;
+const SHORT: usize = 96;
 
 /// A text of any length.
 #[inline(always)]

@@ -1,11 +1,13 @@
-use Rattle.std.proofs.Common.{◌≡◌, ◌++◌, drop}
+use Rattle.std.proofs.Common.{◌≡◌, ◌≤◌, ◌+◌, ◌++◌, drop, take}
 use Rattle.fmp_base.specs.Systems.{tables_of}
 use Rattle.fmp_base.specs.Texts.{lines_text}
 use Rattle.fmp_trace.specs.Fronts.{Begins}
 use Rattle.fmp_trace.proofs.lines.append_lines.Given as goal
 
+-- what is appended so far, what is put together, and the lines that are left are the whole text
 abbrev pub invariant-loop-line : goal.invariant-loop-line
 invariant-loop-line l = record {
-  text : l.out.items ++ lines_text (tables_of l.sys) l.number (drop l.line-index l.lines) ≡ l.initial.out.items ++ lines_text (tables_of l.sys) l.number l.lines;
+  text : l.out.items ++ (take l.end l.bytes ++ lines_text (tables_of l.sys) l.number (drop l.line-index l.lines)) ≡ l.initial.out.items ++ lines_text (tables_of l.sys) l.number l.lines;
   kept : Begins l.initial.out.items l.out.items;
+  room : l.end + 179 ≤ 256;
 }

@@ -1,4 +1,4 @@
-use Rattle.std.proofs.Common.{rules, refl}
+use Rattle.std.proofs.Common.{rules}
 use Rattle.std.proofs.lemmas.Slice.{take-put_mid}
 use Rattle.fmp_trace.proofs.texts.append_array.Goals as goal
 
