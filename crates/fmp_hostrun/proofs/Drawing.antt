@@ -1,5 +1,5 @@
 -- Actors that were drawn after a beginning of a journal, and their stretches.
-use Rattle.std.proofs.Common.{◌≡◌, ◌≢◌, ℕ, zero, suc, ◌<◌, ◌≤◌, List, [], ◌∷◌, ◌++◌, Option, Some, None, Bool, true, false, true≢false, ◌&&◌, ℤ, nat_eq, MatchBool, length, get_or, slice_get, refl, sym, ap, ◌∙◌, subst, arith}
+use Rattle.std.proofs.Common.{◌≡◌, ◌≢◌, ℕ, zero, suc, ◌<◌, ◌≤◌, List, [], ◌∷◌, ◌++◌, Option, Some, None, Bool, true, false, true≢false, ◌&&◌, ℤ, nat_eq, MatchBool, get_or, refl, sym, ap, ◌∙◌, subst, arith}
 use Rattle.std.proofs.lemmas.Bool.{eqb-true}
 use Rattle.std.proofs.lemmas.Bool.Decides.{nat_tests, Decides-and, Decides-eqb, Decides-int_eq, Decides-like}
 use Rattle.std.proofs.lemmas.Slice.Eq.{slice_eq-Decides}
@@ -12,23 +12,18 @@ use Rattle.fmp_base.specs.declared.events.Event.TheVariants.{Run}
 use Rattle.fmp_base.specs.Meanings.{Meaning}
 use Rattle.fmp_base.specs.Runs.{run, run_on}
 use Rattle.fmp_base.specs.Setups.{setup}
-use Rattle.fmp_base.specs.declared.states.Processor.{Processor}
-use Rattle.fmp_base.specs.States.{idle}
-use Rattle.fmp_base.specs.Steps.{Done, Reaction, Nothing, Did, actor_of, step}
+use Rattle.fmp_base.specs.Steps.{Done, Reaction, Nothing, Did, step}
 use Rattle.fmp_base.specs.Stretches.{Ending}
-use Rattle.fmp_base.specs.Systems.{SystemTables, found}
-use Rattle.fmp_body.specs.Contexts.{OfCall}
+use Rattle.fmp_base.specs.Systems.{SystemTables}
 use Rattle.fmp_code.specs.declared.instructions.MachineContext.{MachineContext}
 use Rattle.fmp_code.specs.Instructions.{BodyTables}
 use Rattle.fmp_code.specs.Machine.{code_meaning}
-use Rattle.fmp_code.specs.Vms.{IsContext}
 use Rattle.fmp_image.specs.Images.{ImageTables}
 use Rattle.fmp_kernel.specs.declared.actors.Actor.{Actor}
-use Rattle.fmp_kernel.specs.Contexts.{IsFor}
 use Rattle.fmp_kernel.specs.KernelViews.{KernelView, actor_in, done_or, view_after, view_after_all, view_of_setup, with_stamp}
 use Rattle.fmp_row.specs.declared.entry.JournalEntry.{JournalEntry}
 use Rattle.fmp_row.specs.Seats.{events}
-use Rattle.fmp_worlds.specs.Stamps.{EndsSo, Going, actor_at, actor_at_number, applied, going_by, stamp}
+use Rattle.fmp_worlds.specs.Stamps.{EndsSo, Going, actor_at, applied, stamp}
 use Rattle.fmp_worlds.proofs.SettledLaws.{run-settled, setup-settled}
 use Rattle.fmp_worlds.proofs.StampLaws.{applied-runs, equal_stamps}
 use Rattle.fmp_hostrun.specs.Boards.{IsReplay}
@@ -62,16 +57,8 @@ is_stamped stamp (Some g) a h =
       stamp_is = ap (λ (x : Actor MachineContext). x.stamp) same;
     }
 
--- a stretch of the actor of a processor may be handed in
-pub for_actor : (k : Kernels) (p : ℕ) (a : Actor MachineContext) (x : Ending MachineContext) → actor_in k p ≡ Some a
-    → OfCall (IsContext k.body a.entry) x → IsFor IsContext k.body x (actor_at_number k.system k.world p)
-for_actor k zero a x h c = tt
-for_actor k (suc q) a x h c =
-    let s = is_stamped (get_or k.stamps q 0) (actor_at k.system k.world q) a h in
-    subst (λ (o : Option (Going MachineContext)). IsFor IsContext k.body x o) (sym s.goes) c
-
--- and then it is the run of the processor
-pub applied_runs : (k : Kernels) (p : ℕ) (a : Actor MachineContext) (x : Ending MachineContext) → actor_in k p ≡ Some a
+-- to hand in the stretch of the actor of a processor is to run the processor
+applied_runs : (k : Kernels) (p : ℕ) (a : Actor MachineContext) (x : Ending MachineContext) → actor_in k p ≡ Some a
     → x ≡ (code_meaning k.body).stretch a.entry k.bound a.context
     → applied k.system (code_meaning k.body) k.world p x ≡ step k.system (code_meaning k.body) k.bound k.world (Run p)
 applied_runs k zero a x h e = absurd (cc)
@@ -85,14 +72,6 @@ pub actor_there : (i : ImageTables) (n k m : ℕ) (kernel : Kernels) (journal : 
     → actor_in kernel p ≡ actor_after i n journal p
 actor_there i n k m kernel journal p r = ap (λ (v : Kernels). actor_in v p) r.kernel_is
 
-pub outcome_fits : (i : ImageTables) (n k m : ℕ) (kernel : Kernels) (journal : List JournalEntry) (o : OutcomeState) → IsReplay i n k m kernel journal
-    → IsOutcome o → IsTicketOf i n o.ticket → actor_after i n journal o.ticket.processor ≡ Some o.ticket.actor
-    → IsFor IsContext kernel.body o.ending (actor_at_number kernel.system kernel.world o.ticket.processor)
-outcome_fits i n k m kernel journal o r is of here =
-    let body : kernel.body ≡ o.ticket.image.code = ap (λ (v : Kernels). v.body) r.kernel_is ∙ sym (ap (λ (x : ImageTables). x.code) of.image_is) in
-    for_actor kernel o.ticket.processor o.ticket.actor o.ending (actor_there i n k m kernel journal o.ticket.processor r ∙ here)
-    (subst (λ (c : List BodyTables). OfCall (IsContext c o.ticket.actor.entry) o.ending) (sym body) is.context)
-
 pub outcome_runs : (i : ImageTables) (n k m : ℕ) (kernel : Kernels) (journal : List JournalEntry) (o : OutcomeState) → IsReplay i n k m kernel journal
     → IsOutcome o → IsTicketOf i n o.ticket → actor_after i n journal o.ticket.processor ≡ Some o.ticket.actor
     → applied kernel.system (code_meaning kernel.body) kernel.world o.ticket.processor o.ending ≡ reaction i n (events journal) (Run o.ticket.processor)
@@ -105,18 +84,6 @@ outcome_runs i n k m kernel journal o r is of here =
     ∙ ap (λ (b : ℕ). (code_meaning kernel.body).stretch o.ticket.actor.entry b o.ticket.actor.context) (sym bound) in
     applied_runs kernel o.ticket.processor o.ticket.actor o.ending (actor_there i n k m kernel journal o.ticket.processor r ∙ here) ends
     ∙ step_of_replay i n (events journal) (Run o.ticket.processor) kernel r.kernel_is
-
--- past the processors there are no actors
-get_past : {A : Type 0} (xs : List A) (p : ℕ) → length xs ≤ p → slice_get xs p ≡ None
-get_past [] p h = refl
-get_past (x ∷ xs) zero h = absurd (omega (arith, h))
-get_past (x ∷ xs) (suc p) h = get_past xs p (omega (arith, h))
-
-pub no_actor : (k : Kernels) (p : ℕ) → length k.world.state.processors < p → actor_in k p ≡ None
-no_actor k zero h = refl
-no_actor k (suc q) h =
-    ap (λ (o : Option Processor). with_stamp (get_or k.stamps q 0) (going_by k.system k.world.contexts q (actor_of (found idle o))))
-    (get_past k.world.state.processors q (omega (arith, h)))
 
 -- runs
 
@@ -143,7 +110,7 @@ stamps_of_all k (e ∷ es) = by_reaction (step k.system (code_meaning k.body) k.
   by_reaction Nothing rest = rest k
   by_reaction (Did d) rest = rest (view_after k (Did d))
 
-pub world_of : (i : ImageTables) (n : ℕ) (es : List Event)
+world_of : (i : ImageTables) (n : ℕ) (es : List Event)
     → (replay i n es).world ≡ (run i.system (code_meaning i.code) n (setup i.system (code_meaning i.code)).world es).world
 unfolding replay
 world_of i n es = world_after i.system (code_meaning i.code) n (setup i.system (code_meaning i.code)) es
@@ -157,14 +124,14 @@ stamp_of_actor i n journal (suc q) a h =
     s.stamp_is
 
 -- the stamps of a kernel count events: the law of kernels
-abbrev pub StampsCount : Type 0
+abbrev StampsCount : Type 0
 StampsCount =
     (meaning : List BodyTables → Meaning MachineContext) (body : List BodyTables) (n : ℕ) (sys : SystemTables) (es : List Event) (p : ℕ) → p < sys.processors
     → get_or (view_after_all meaning (view_of_setup body n sys (setup sys (meaning body))) es).stamps p 0 ≡ stamp sys (meaning body) n (setup sys (meaning body)).world es p
 
 module _ (law : StampsCount) where
   -- the stamp of a processor after a replay counts its events
-  pub stamp_counts : (i : ImageTables) (n : ℕ) (es : List Event) (p : ℕ) → p < i.system.processors
+  stamp_counts : (i : ImageTables) (n : ℕ) (es : List Event) (p : ℕ) → p < i.system.processors
       → get_or (stamps_after i n es) p 0 ≡ stamp i.system (code_meaning i.code) n (setup i.system (code_meaning i.code)).world es p
   unfolding stamps_after
   stamp_counts i n es p lt =
@@ -197,7 +164,7 @@ module _ (law : StampsCount) where
   by_number i n es fs (suc q) a le was same = same_place i n es fs q a (omega (arith, le)) was same
 
   -- an actor that was drawn is the present one where its stamp is
-  pub drawn_now : (i : ImageTables) (n : ℕ) (journal : List JournalEntry) (t : TicketState) → IsDrawn i n journal t
+  drawn_now : (i : ImageTables) (n : ℕ) (journal : List JournalEntry) (t : TicketState) → IsDrawn i n journal t
       → stamp_after i n journal t.processor ≡ t.actor.stamp → actor_after i n journal t.processor ≡ Some t.actor
   drawn_now i n journal t d same =
       let rest = d.begins.0 in
