@@ -88,6 +88,9 @@ impl Head {
     }
 
     fn cyclics(&mut self, sys: &System) -> Result<(), AllocError> {
+        if sys.cyclics.is_empty() {
+            return Ok(());
+        }
         self.open(b"cyclic")?;
         for config in sys.cyclics.as_slice() {
             self.open(config.name.as_bytes())?;
@@ -107,6 +110,9 @@ impl Head {
     }
 
     fn interrupts(&mut self, alloc: Global, sys: &System) -> Result<(), AllocError> {
+        if sys.interrupts.is_empty() {
+            return Ok(());
+        }
         self.open(b"interrupt")?;
         for config in sys.interrupts.as_slice() {
             self.interrupt(alloc, config.number)?;
