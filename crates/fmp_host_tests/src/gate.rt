@@ -1,0 +1,61 @@
+//! A gate that has two processors go on in turn.
+use fmp_hostrun::Gate;
+use std::sync::atomic::{AtomicU64, Ordering};
+use std::thread;
+
+/// How often a question yields while it waits.
+const MOST_YIELDS: u32 = 10_000_000;
+
+/// A gate that holds the first turn of processor 2 until the first turn of processor 1 is asked for, and that one until
+/// the board has answered processor 2. It waits inside its questions, and says no for good once one waited in vain.
+#[derive(Drop)]
+pub struct SecondFirst {
+    asked: AtomicU64,
+    answered: AtomicU64,
+    vain: AtomicU64,
+}
+
+impl SecondFirst {
+    /// A gate of which nothing was asked.
+    pub fn new() -> SecondFirst {
+        SecondFirst {
+            asked: AtomicU64::new(0),
+            answered: AtomicU64::new(0),
+            vain: AtomicU64::new(0),
+        }
+    }
+
+    /// Waits until something has happened: whether it has.
+    fn waits_for(&self, happened: &AtomicU64) -> bool {
+        for _ in 0..MOST_YIELDS {
+            if self.vain.load(Ordering::SeqCst) != 0 {
+                return false;
+            }
+            if happened.load(Ordering::SeqCst) != 0 {
+                return true;
+            }
+            thread::yield_now();
+        }
+        self.vain.store(1, Ordering::SeqCst);
+        false
+    }
+}
+
+impl Gate for SecondFirst {
+    fn may_submit(&self, p: u8, turn: u32) -> bool {
+        match (p, turn) {
+            (2, 1) => self.waits_for(&self.asked),
+            (1, 1) => {
+                self.asked.store(1, Ordering::SeqCst);
+                self.waits_for(&self.answered)
+            }
+            _ => self.vain.load(Ordering::SeqCst) == 0,
+        }
+    }
+
+    fn answered(&self, p: u8, turn: u32) {
+        if p == 2 && turn == 1 {
+            self.answered.store(1, Ordering::SeqCst);
+        }
+    }
+}

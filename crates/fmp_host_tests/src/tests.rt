@@ -1,0 +1,3 @@
+//! Boards of built images.
+mod feeding;
+mod showing;

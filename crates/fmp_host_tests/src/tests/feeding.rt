@@ -1,0 +1,100 @@
+//! Boards that one seat feeds.
+ghost use Rattle.std.specs.Prelude.{◌≡◌, All, IfOk, IfSome};
+ghost use Rattle.fmp_hostrun.specs.Boards.{IsAt, blank as blank_of};
+
+use crate::tests::showing::{BOUND, Seen, image_of};
+use fmp_base::Event;
+use fmp_hostrun::{Blank, Board, BoardFault, Closed, Receipt, Seat, Site};
+use fmp_image::Image;
+use std::alloc::Global;
+use std::marker::Brand;
+use std::process::Abort;
+use std::sync::Wait;
+use std::test::Fail;
+
+const CONFIGURATION: &str = "NUM_PRC(1); CLASS(TCL_1) { CRE_TSK(T1,{TA_ACT,0,main,10,256,NULL}); }";
+
+const TASKS: &str = "task main { put(7); }";
+
+type Answers = Vec<Result<Receipt, BoardFault>>;
+
+/// A seat of those of a board.
+fn one<S: Site>(seats: &mut Vec<Seat>) -> Option<Seat>
+    requires { All (IsAt S.seats) seats.old.items }
+    ensures { IfSome result (IsAt S.seats) }
+{
+    seats.pop()
+}
+
+/// Feeds processor 1 so often by one seat: what was answered, and the closed board.
+fn fed<'a, S: Site, R: Wait>(
+    rt: &R,
+    alloc: Global,
+    blank: Blank<'a>,
+    mut seats: Vec<Seat>,
+    times: u32,
+) -> Result<(Answers, Closed<'a>), Fail>
+    requires blank { blank ≡ blank_of S.image S.bound S.capacity S.seats }
+    requires seats { All (IsAt S.seats) seats.items }
+    ensures { IfOk result (λ r. r.1.kernel.system ≡ S.image.system) }
+{
+    let board: Board<'a, S> = blank.open();
+    let mut seat = one::<S>(&mut seats).ok_or("a seat")?;
+    let mut answers = Vec::new(alloc);
+    for _ in 0..times {
+        answers.push(board.feed(rt, &mut seat, Event::Run(1)))?;
+    }
+    Ok((answers, board.close()))
+}
+
+/// The numbers of receipts, and the names of refusals.
+fn answers_text(alloc: Global, answers: &[Result<Receipt, BoardFault>]) -> Result<String, Fail> {
+    let mut text = String::new(alloc);
+    for answer in answers {
+        match answer {
+            Ok(receipt) => text.push_str(format!(in alloc; "{} ", receipt.number)?.as_str())?,
+            Err(fault) => text.push_str(format!(in alloc; "{fault} ")?.as_str())?,
+        }
+    }
+    Ok(text)
+}
+
+/// What processor 1 is answered by a board of an image with room for k events that is fed so often, and the board then.
+fn answered<'a, R: Wait>(
+    rt: &R,
+    alloc: Global,
+    image: &'a Image,
+    k: u32,
+    times: u32,
+) -> Result<(String, Closed<'a>), Fail>
+    ensures { IfOk result (λ r. r.1.kernel.system ≡ image.now.system) }
+{
+    let (blank, seats) = Blank::new(alloc, image, BOUND, k, 1)?;
+    let (answers, closed) = fed::<Brand, R>(rt, alloc, blank, seats, times)?;
+    Ok((answers_text(alloc, &answers)?, closed))
+}
+
+/// What is seen of a board of one task with room for k events, whose processor is fed so often.
+fn seen_of_one_task<R: Wait>(rt: &R, alloc: Global, k: u32, times: u32) -> Result<Seen, Fail> {
+    let image = image_of(alloc, CONFIGURATION, TASKS)?;
+    let (answers, closed) = answered(rt, alloc, &image, k, times)?;
+    Seen::of(alloc, answers, &image, &closed)
+}
+
+#[test]
+fn three_events_on_one_task(rt: HostRuntime) -> Result<(), Fail> {
+    let seen = seen_of_one_task(&rt, rt.alloc(), 3, 3)?;
+    assert_eq!(rt; seen.answers.as_str(), "1 2 0 ");
+    assert_eq!(rt; seen.journal.as_str(), "run 1\nrun 1\n");
+    assert_eq!(rt; seen.states.as_str(), "T1 DORMANT p1 10\n");
+    Ok(())
+}
+
+#[test]
+fn a_full_board(rt: HostRuntime) -> Result<(), Fail> {
+    let seen = seen_of_one_task(&rt, rt.alloc(), 1, 2)?;
+    assert_eq!(rt; seen.answers.as_str(), "1 H2 ");
+    assert_eq!(rt; seen.journal.as_str(), "run 1\n");
+    assert_eq!(rt; seen.states.as_str(), "T1 RUNNING p1 10\n");
+    Ok(())
+}

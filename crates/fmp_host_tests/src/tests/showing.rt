@@ -1,0 +1,81 @@
+//! Images of texts, and what is seen of boards of them.
+ghost use Rattle.std.specs.Prelude.{◌≡◌};
+
+use fmp_build::build;
+use fmp_hostrun::Closed;
+use fmp_image::Image;
+use fmp_trace::{print_states, print_steps};
+use std::alloc::Global;
+use std::test::Fail;
+
+/// How many instructions a stretch of a body may take.
+pub const BOUND: u64 = 100_000;
+
+/// What is seen of a board that is closed.
+#[derive(Drop)]
+pub struct Seen {
+    /// What the calls answered.
+    pub answers: String,
+    /// The journal, as a steps text.
+    pub journal: String,
+    /// The states of the tasks.
+    pub states: String,
+}
+
+/// The image that two texts build.
+pub fn image_of(alloc: Global, cfg: &str, src: &str) -> Result<Image, Fail> {
+    let image = build(alloc, cfg.as_bytes(), src.as_bytes())?;
+    Ok(image)
+}
+
+/// The bytes of a text.
+fn text_of(alloc: Global, bytes: &[u8]) -> Result<String, Fail> {
+    let text = String::from_str(alloc, str::from_utf8(bytes)?)?;
+    Ok(text)
+}
+
+/// The journal of a closed board, as a steps text.
+fn journal_of(alloc: Global, closed: &Closed<'_>) -> Result<String, Fail> {
+    let mut events = Vec::new(alloc);
+    for i in 0..closed.len() {
+        events.push(closed.event(i))?;
+    }
+    let mut text = Vec::new(alloc);
+    print_steps(&events, &mut text)?;
+    text_of(alloc, &text)
+}
+
+/// The states of the tasks of a closed board.
+fn states_of(alloc: Global, image: &Image, closed: &Closed<'_>) -> Result<String, Fail>
+    requires { closed.now.kernel.system ≡ image.now.system }
+{
+    let mut states = Vec::new(alloc);
+    for t in 0..image.system().tasks.len().min(255) as u8 {
+        states.push(closed.kernel().state(t))?;
+    }
+    let mut text = Vec::new(alloc);
+    print_states(image.system(), &states, &mut text)?;
+    text_of(alloc, &text)
+}
+
+impl Seen {
+    ghost use Rattle.std.specs.Prelude.{◌≡◌};
+
+    /// What is seen of a closed board of an image whose calls answered so.
+    pub fn of(
+        alloc: Global,
+        answers: String,
+        image: &Image,
+        closed: &Closed<'_>,
+    ) -> Result<Seen, Fail>
+        requires { closed.now.kernel.system ≡ image.now.system }
+    {
+        let journal = journal_of(alloc, closed)?;
+        let states = states_of(alloc, image, closed)?;
+        Ok(Seen {
+            answers,
+            journal,
+            states,
+        })
+    }
+}
