@@ -64,7 +64,8 @@ frame_of sys s lines =
       pending_interrupts = each (is_pending s.pending_interrupts) 32;
     }
 
-abbrev pub framed_on : {C : Type 0} → SystemTables → World C → Reaction C → (World C → List FrameTable) → List FrameTable
+abbrev pub framed_on : {C : Type 0} → SystemTables → World C → Reaction C → (World C → List FrameTable)
+    → List FrameTable
 framed_on sys w Nothing rest = rest w
 framed_on sys w (Did d) rest = frame_of sys d.world.state d.lines ∷ rest d.world
 

@@ -53,7 +53,8 @@ pub fn processors(alloc: Global, tables: &Tables) -> Result<Vec<Processor>, Allo
 
 /// The count of each semaphore.
 pub fn semaphores(alloc: Global, tables: &Tables) -> Result<Vec<u16>, AllocError>
-    ensures { IfOk result (λ xs. xs.items ≡ each (λ i. get_or tables.now.state.semaphores i 0) (length tables.now.system.semaphores)) }
+    ensures { IfOk result (λ xs. xs.items ≡ each (λ i. get_or tables.now.state.semaphores i 0)
+        (length tables.now.system.semaphores)) }
 {
     let count = tables.semaphore_count() as u8;
     let mut xs = Vec::with_capacity(alloc, count as usize)?;
@@ -77,7 +78,8 @@ pub fn flags(alloc: Global, tables: &Tables) -> Result<Vec<u16>, AllocError>
 
 /// The value of each shared word.
 pub fn shared_words(alloc: Global, tables: &Tables) -> Result<Vec<i32>, AllocError>
-    ensures { IfOk result (λ xs. xs.items ≡ each (λ i. get_or tables.now.state.shared_words i (pos 0)) (length tables.now.system.shared_words)) }
+    ensures { IfOk result (λ xs. xs.items ≡ each (λ i. get_or tables.now.state.shared_words i (pos 0))
+        (length tables.now.system.shared_words)) }
 {
     let count = tables.shared_word_count() as u8;
     let mut xs = Vec::with_capacity(alloc, count as usize)?;
@@ -89,7 +91,8 @@ pub fn shared_words(alloc: Global, tables: &Tables) -> Result<Vec<i32>, AllocErr
 
 /// Whether each cyclic handler is pending.
 pub fn pending_cyclics(alloc: Global, tables: &Tables) -> Result<Vec<bool>, AllocError>
-    ensures { IfOk result (λ xs. xs.items ≡ each (is_pending tables.now.state.pending_cyclics) (length tables.now.system.cyclics)) }
+    ensures { IfOk result (λ xs. xs.items ≡ each (is_pending tables.now.state.pending_cyclics)
+        (length tables.now.system.cyclics)) }
 {
     let count = tables.cyclic_count() as u8;
     let mut xs = Vec::with_capacity(alloc, count as usize)?;

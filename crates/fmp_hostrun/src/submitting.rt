@@ -50,7 +50,8 @@ impl<'a, S: Site> Book<'a, S> {
     }
 
     /// Takes the run of an outcome's processor on the kernel, by the stretch that was made before, and journals it
-    /// under the number of a seat if it does something. The outcome's ticket was drawn after a beginning of the journal.
+    /// under the number of a seat if it does something. The outcome's ticket was drawn after a beginning of the
+    /// journal.
     ///
     /// `BoardFault::Stale`, exactly where the stamp of the processor is no more that of the ticket; else
     /// `BoardFault::Full`, exactly where the journal has no room for one more event. Then nothing has changed.

@@ -7,4 +7,5 @@ pub returns-then-number-le-MOST_STEPS-clause-event :
     goal.returns-then-number-le-MOST_STEPS-clause-event
 returns-then-number-le-MOST_STEPS-clause-event c =
     ap (λ text. events_of c.args.processors c.args.number (lines_of text)) c.in_ok-processor.ensures.line
-    ∙ short_run c.args.processors c.args.number c.in_ok-processor.processor c.in_ok-processor.rest.now (omega arith) c.in_ok-processor.ensures.low c.in_ok-processor.ensures.digit (omega arith) (omega arith)
+    ∙ short_run c.args.processors c.args.number c.in_ok-processor.processor c.in_ok-processor.rest.now (omega arith)
+    c.in_ok-processor.ensures.low c.in_ok-processor.ensures.digit (omega arith) (omega arith)
