@@ -7,3 +7,6 @@ new-requires-clause-entries c = rw c.vm.ensures (rw c.system.ensures.tables (ent
 
 pub returns-in-Ok : goal.returns-in-Ok
 returns-in-Ok c = begun c.args.image.now c.args.n _ _ _ c.vm.ensures c.system.ensures.tables c.in-Ok.ensures
+
+pub new-requires-clause-range : goal.new-requires-clause-range
+new-requires-clause-range c = c.system.ensures.ranges
