@@ -9,6 +9,7 @@ use std::alloc::AllocError;
 
 const SHORT: LoadFault = LoadFault::Image(ImageFault::Short);
 
+/// The first byte, and the bytes behind it. `LoadFault::Image` where there is none.
 pub fn byte_at(bytes: &[u8]) -> Result<(u8, &[u8]), LoadFault>
     ensures { Gives (λ x. (x.0, x.1.now)) result (byte.read bytes.now) }
 {
@@ -18,6 +19,8 @@ pub fn byte_at(bytes: &[u8]) -> Result<(u8, &[u8]), LoadFault>
     }
 }
 
+/// The number of 16 bits that the first two bytes are, and the bytes behind them. `LoadFault::Image` where they are
+/// fewer.
 pub fn short_at(bytes: &[u8]) -> Result<(u16, &[u8]), LoadFault>
     ensures { Gives (λ x. (x.0, x.1.now)) result (short.read bytes.now) }
 {
@@ -27,6 +30,8 @@ pub fn short_at(bytes: &[u8]) -> Result<(u16, &[u8]), LoadFault>
     Ok((LittleEndian::read_u16(bytes), &bytes[2..]))
 }
 
+/// The number of 32 bits that the first four bytes are, and the bytes behind them. `LoadFault::Image` where they are
+/// fewer.
 pub fn long_at(bytes: &[u8]) -> Result<(u32, &[u8]), LoadFault>
     ensures { Gives (λ x. (x.0, x.1.now)) result (long.read bytes.now) }
 {
@@ -36,6 +41,8 @@ pub fn long_at(bytes: &[u8]) -> Result<(u32, &[u8]), LoadFault>
     Ok((LittleEndian::read_u32(bytes), &bytes[4..]))
 }
 
+/// The signed number of 32 bits that the first four bytes are, and the bytes behind them. `LoadFault::Image` where they
+/// are fewer.
 pub fn word_at(bytes: &[u8]) -> Result<(i32, &[u8]), LoadFault>
     ensures { Gives (λ x. (x.0, x.1.now)) result (word.read bytes.now) }
 {
@@ -45,6 +52,7 @@ pub fn word_at(bytes: &[u8]) -> Result<(i32, &[u8]), LoadFault>
     Ok((LittleEndian::read_i32(bytes), &bytes[4..]))
 }
 
+/// So many bytes, and those behind them. `LoadFault::Image` where they are fewer.
 pub fn bytes_at(bytes: &[u8], size: usize) -> Result<(&[u8], &[u8]), LoadFault>
     ensures { Gives (λ x. (x.0.now, x.1.now)) result (bytes_at size bytes.now) }
 {
@@ -54,6 +62,7 @@ pub fn bytes_at(bytes: &[u8], size: usize) -> Result<(&[u8], &[u8]), LoadFault>
     Ok(bytes.split_at(size))
 }
 
+/// The bytes whose number the first byte tells, and those behind them. `LoadFault::Image` where they are fewer.
 pub fn text_at(bytes: &[u8]) -> Result<(&[u8], &[u8]), LoadFault>
     ensures { Gives (λ x. (x.0.now, x.1.now)) result (text.read bytes.now) }
 {
@@ -61,6 +70,7 @@ pub fn text_at(bytes: &[u8]) -> Result<(&[u8], &[u8]), LoadFault>
     bytes_at(rest, length as usize)
 }
 
+/// Appends a byte. `AllocError` for want of memory.
 pub fn put_byte(out: &mut Vec<u8>, number: u8) -> Result<(), AllocError>
     ensures { OnOk result (out.new.items ≡ out.old.items ++ byte.spell number) }
 {
@@ -68,6 +78,7 @@ pub fn put_byte(out: &mut Vec<u8>, number: u8) -> Result<(), AllocError>
     Ok(())
 }
 
+/// Appends a number of 16 bits in two bytes. `AllocError` for want of memory.
 pub fn put_short(out: &mut Vec<u8>, number: u16) -> Result<(), AllocError>
     ensures { OnOk result (out.new.items ≡ out.old.items ++ short.spell number) }
 {
@@ -76,6 +87,7 @@ pub fn put_short(out: &mut Vec<u8>, number: u16) -> Result<(), AllocError>
     out.extend_from_slice(&field)
 }
 
+/// Appends a number of 32 bits in four bytes. `AllocError` for want of memory.
 pub fn put_long(out: &mut Vec<u8>, number: u32) -> Result<(), AllocError>
     ensures { OnOk result (out.new.items ≡ out.old.items ++ long.spell number) }
 {
@@ -84,6 +96,7 @@ pub fn put_long(out: &mut Vec<u8>, number: u32) -> Result<(), AllocError>
     out.extend_from_slice(&field)
 }
 
+/// Appends a signed number of 32 bits in four bytes. `AllocError` for want of memory.
 pub fn put_word(out: &mut Vec<u8>, number: i32) -> Result<(), AllocError>
     ensures { OnOk result (out.new.items ≡ out.old.items ++ word.spell number) }
 {

@@ -7,12 +7,14 @@ use fmp_base::{BinaryOperator, Service, UnaryOperator};
 use fmp_code::Instruction;
 use fmp_lex::words::SERVICES;
 
+/// The operators with one operand, in the order of their numbers.
 pub const UNARY_OPERATORS: [UnaryOperator; 3] = [
     UnaryOperator::Negate,
     UnaryOperator::Not,
     UnaryOperator::Complement,
 ];
 
+/// The operators with two operands, in the order of their numbers.
 pub const BINARY_OPERATORS: [BinaryOperator; 14] = [
     BinaryOperator::Add,
     BinaryOperator::Subtract,

@@ -33,6 +33,7 @@ pub fn put_name(out: &mut Vec<u8>, name: &Name) -> Result<(), AllocError>
     put_text(out, name.as_bytes())
 }
 
+/// Whether a number is at least one number and at most another.
 pub fn in_range(least: u32, most: u32, number: u32) -> bool
     ensures { result ≡ in_range least most number }
 {

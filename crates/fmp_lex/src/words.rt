@@ -64,6 +64,7 @@ pub enum Keyword {
     Return,
 }
 
+/// All constants.
 pub const CONSTANTS: [Constant; 30] = [
     Constant::Code(Er::Ok),
     Constant::Code(Er::Sys),
@@ -97,6 +98,7 @@ pub const CONSTANTS: [Constant; 30] = [
     Constant::TpriSelf,
 ];
 
+/// All static APIs.
 pub const APIS: [Api; 10] = [
     Api::CreTsk,
     Api::CreSem,
@@ -110,6 +112,7 @@ pub const APIS: [Api; 10] = [
     Api::DefInh,
 ];
 
+/// All keywords of both texts.
 pub const KEYWORDS: [Keyword; 12] = [
     Keyword::NumPrc,
     Keyword::Class,

@@ -20,6 +20,7 @@ pub fn append_name_at(sys: &System, task: usize, line: &mut LineBytes, end: usiz
     }
 }
 
+/// Puts the name of a task behind the end of a line: where the line ends then.
 #[inline(always)]
 pub fn append_task_name(sys: &System, task: u8, line: &mut LineBytes, end: usize) -> usize
     requires { end + 31 ≤ ROOM }
@@ -69,6 +70,7 @@ pub fn append_handler(sys: &System, handler: Handler, line: &mut LineBytes, end:
     }
 }
 
+/// Puts the name of a task or handler that acts behind the end of a line: where the line ends then.
 #[inline(always)]
 pub fn append_caller(sys: &System, caller: Caller, line: &mut LineBytes, end: usize) -> usize
     requires { end + 31 ≤ ROOM }

@@ -27,6 +27,7 @@ impl Model for Numeral {
 }
 
 impl Numeral {
+    /// The digits of a number.
     #[inline(always)]
     pub fn new(number: u32) -> Numeral
         ensures { result ≡ decimal number }
