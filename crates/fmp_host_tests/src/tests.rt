@@ -1,3 +1,4 @@
 //! Boards of built images.
 mod feeding;
+mod hosting;
 mod showing;

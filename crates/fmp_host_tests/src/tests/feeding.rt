@@ -2,7 +2,7 @@
 ghost use Rattle.std.specs.Prelude.{◌≡◌, All, IfOk, IfSome};
 ghost use Rattle.fmp_hostrun.specs.Boards.{IsAt, blank as blank_of};
 
-use crate::tests::showing::{BOUND, Seen, image_of};
+use crate::tests::showing::{BOUND, Seen, board_of, image_of};
 use fmp_base::Event;
 use fmp_hostrun::{Blank, Board, BoardFault, Closed, Receipt, Seat, Site};
 use fmp_image::Image;
@@ -69,7 +69,7 @@ fn answered<'a, R: Wait>(
 ) -> Result<(String, Closed<'a>), Fail>
     ensures { IfOk result (λ r. r.1.kernel.system ≡ image.now.system) }
 {
-    let (blank, seats) = Blank::new(alloc, image, BOUND, k, 1)?;
+    let (blank, seats) = board_of(alloc, image, BOUND, k, 1)?;
     let (answers, closed) = fed::<Brand, R>(rt, alloc, blank, seats, times)?;
     Ok((answers_text(alloc, &answers)?, closed))
 }
@@ -96,5 +96,36 @@ fn a_full_board(rt: HostRuntime) -> Result<(), Fail> {
     assert_eq!(rt; seen.answers.as_str(), "1 H2 ");
     assert_eq!(rt; seen.journal.as_str(), "run 1\n");
     assert_eq!(rt; seen.states.as_str(), "T1 RUNNING p1 10\n");
+    Ok(())
+}
+
+/// What making a board with these limits answers.
+fn made(alloc: Global, image: &Image, n: u64, k: u32, m: u8) -> Result<String, Fail> {
+    match board_of(alloc, image, n, k, m) {
+        Ok((_blank, seats)) => Ok(format!(in alloc; "{} seats", seats.len())?),
+        Err(fault) => Ok(format!(in alloc; "{fault}")?),
+    }
+}
+
+#[test]
+fn limits_of_a_board(rt: HostRuntime) -> Result<(), Fail> {
+    let alloc = rt.alloc();
+    let image = image_of(alloc, CONFIGURATION, TASKS)?;
+    for (n, k, m, expected) in [
+        (1, 1, 1, "1 seats"),
+        (1 << 48, 1 << 20, 64, "64 seats"),
+        (0, 1, 1, "H4"),
+        ((1 << 48) + 1, 1, 1, "H4"),
+        (1, 0, 1, "H4"),
+        (1, (1 << 20) + 1, 1, "H4"),
+        (1, 1, 0, "H4"),
+        (1, 1, 65, "H4"),
+    ] {
+        assert_eq!(rt;
+            made(alloc, &image, n, k, m)?.as_str(),
+            expected,
+            "{n} {k} {m}"
+        );
+    }
     Ok(())
 }

@@ -1,8 +1,9 @@
 //! Images of texts, and what is seen of boards of them.
-ghost use Rattle.std.specs.Prelude.{◌≡◌};
+ghost use Rattle.std.specs.Prelude.{◌≡◌, All, IfOk};
+ghost use Rattle.fmp_hostrun.specs.Boards.{IsAt, blank as blank_of};
 
 use fmp_build::build;
-use fmp_hostrun::Closed;
+use fmp_hostrun::{Blank, BoardFault, Closed, Seat};
 use fmp_image::Image;
 use fmp_trace::{print_states, print_steps};
 use std::alloc::Global;
@@ -26,6 +27,20 @@ pub struct Seen {
 pub fn image_of(alloc: Global, cfg: &str, src: &str) -> Result<Image, Fail> {
     let image = build(alloc, cfg.as_bytes(), src.as_bytes())?;
     Ok(image)
+}
+
+/// A board of an image that is not yet open, and its seats, as `Blank::new` answers.
+pub fn board_of<'a>(
+    alloc: Global,
+    image: &'a Image,
+    n: u64,
+    k: u32,
+    m: u8,
+) -> Result<(Blank<'a>, Vec<Seat>), BoardFault>
+    ensures blank { IfOk result (λ made. made.0 ≡ blank_of image.now n k m) }
+    ensures seats { IfOk result (λ made. All (IsAt m) made.1.items) }
+{
+    Blank::new(alloc, image, n, k, m)
 }
 
 /// The bytes of a text.

@@ -1,0 +1,115 @@
+//! A board that threads run.
+ghost use Rattle.std.specs.Prelude.{◌≡◌, All, IfOk};
+ghost use Rattle.fmp_hostrun.specs.Boards.{IsAt, blank as blank_of};
+
+use crate::SecondFirst;
+use crate::tests::showing::{BOUND, Seen, board_of, image_of};
+use fmp_engine::sim;
+use fmp_hostrun::{Blank, Board, BoardFault, Closed, Seat, Site, run_all};
+use fmp_image::{Image, store};
+use std::alloc::Global;
+use std::marker::Brand;
+use std::process::Abort;
+use std::sync::Wait;
+use std::test::Fail;
+use std::thread::Threads;
+
+const CONFIGURATION: &str = "NUM_PRC(2);
+CLASS(TCL_1) { CRE_TSK(A,{TA_ACT,0,a,10,256,NULL}); CRE_SHR(W,{0}); }
+CLASS(TCL_2) { CRE_TSK(B,{TA_ACT,0,b,10,256,NULL}); }";
+
+const TASKS: &str = "task a { var v; st_shr(W,5); ld_shr(W,&v); put(v); } task b { put(9); }";
+
+/// Runs a board by threads at this gate: what was answered, and the closed board.
+fn run<'a, S: Site + Send + Sync, R: Threads + Wait + Sync>(
+    rt: &R,
+    alloc: Global,
+    blank: Blank<'a>,
+    seats: Vec<Seat>,
+    gate: &SecondFirst,
+    turns: u32,
+) -> (Result<u32, BoardFault>, Closed<'a>)
+    requires blank { blank ≡ blank_of S.image S.bound S.capacity S.seats }
+    requires seats { All (IsAt S.seats) seats.items }
+    ensures { result.1.kernel.system ≡ S.image.system }
+{
+    let board: Board<'a, S> = blank.open();
+    let (_, journaled) = run_all(rt, alloc, &board, gate, seats, turns, 0);
+    (journaled, board.close())
+}
+
+/// Runs a board of an image of two processors with four turns each, at a gate: how many events were journaled, and the
+/// board then.
+fn run_both<'a, R: Threads + Wait + Sync>(
+    rt: &R,
+    alloc: Global,
+    image: &'a Image,
+    gate: &SecondFirst,
+) -> Result<(Result<u32, BoardFault>, Closed<'a>), Fail>
+    ensures { IfOk result (λ r. r.1.kernel.system ≡ image.now.system) }
+{
+    let (blank, seats) = board_of(alloc, image, BOUND, 8, 3)?;
+    Ok(run::<Brand, R>(rt, alloc, blank, seats, gate, 4))
+}
+
+/// How many events were journaled, or the name of a refusal.
+fn journaled_text(alloc: Global, journaled: Result<u32, BoardFault>) -> Result<String, Fail> {
+    match journaled {
+        Ok(count) => Ok(format!(in alloc; "{count}")?),
+        Err(fault) => Ok(format!(in alloc; "{fault}")?),
+    }
+}
+
+/// What is seen of a board of an image of two processors that threads ran.
+fn seen_of_both<R: Threads + Wait + Sync>(
+    rt: &R,
+    alloc: Global,
+    image: &Image,
+) -> Result<Seen, Fail> {
+    let (journaled, closed) = run_both(rt, alloc, image, &SecondFirst::new())?;
+    let answers = journaled_text(alloc, journaled)?;
+    Seen::of(alloc, answers, image, &closed)
+}
+
+/// What a simulation of an image over a steps text prints.
+fn simulated(alloc: Global, image: &Image, steps: &str) -> Result<String, Fail> {
+    let mut out = Vec::new(alloc);
+    sim(
+        alloc,
+        &store(alloc, image)?,
+        steps.as_bytes(),
+        BOUND,
+        &mut out,
+    )?;
+    Ok(String::from_str(alloc, str::from_utf8(&out)?)?)
+}
+
+/// The calls and the end of task A of processor 1 in a trace.
+fn lines_of_a(alloc: Global, trace: &str) -> Result<String, Fail> {
+    let mut lines = String::new(alloc);
+    for line in trace.lines() {
+        if let Some((_, rest)) = line.split_once(" p1 A ") {
+            lines.push_str(rest)?;
+            lines.push_str("\n")?;
+        }
+    }
+    Ok(lines)
+}
+
+#[test]
+fn processors_that_wait_for_one_another(rt: HostRuntime) -> Result<(), Fail> {
+    let alloc = rt.alloc();
+    let image = image_of(alloc, CONFIGURATION, TASKS)?;
+    let seen = seen_of_both(&rt, alloc, &image)?;
+    assert_eq!(rt; seen.answers.as_str(), "6");
+    assert_eq!(rt; seen.journal.lines().count(), 6);
+    assert!(rt; seen.journal.as_str().starts_with("run 2\n"));
+    assert_eq!(rt; seen.states.as_str(), "A DORMANT p1 10\nB DORMANT p2 10\n");
+    let printed = simulated(alloc, &image, seen.journal.as_str())?;
+    assert_eq!(rt;
+        lines_of_a(alloc, printed.as_str())?.as_str(),
+        "starts\nst_shr(1,5) E_OK\nld_shr(1) E_OK 5\nput(5) E_OK\nend\n"
+    );
+    assert!(rt; printed.as_str().ends_with(seen.states.as_str()));
+    Ok(())
+}
