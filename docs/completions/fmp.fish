@@ -9,7 +9,7 @@ complete -c fmp -n '__fish_seen_subcommand_from check' -s h -l help -d 'Print he
 complete -c fmp -n '__fish_seen_subcommand_from build' -s h -l help -d 'Print help'
 complete -c fmp -n '__fish_seen_subcommand_from sim' -l bound -x -d 'How many instructions a body may take up to its next service call, 1 to 2^48; a step that would take more does nothing [default: 100000]'
 complete -c fmp -n '__fish_seen_subcommand_from sim' -s h -l help -d 'Print help'
-complete -c fmp -n '__fish_seen_subcommand_from host' -l turns -x -d 'How many turns each processor has, 0 to 2^20: in a turn it runs to its next service call, as '\''run P'\'' lets it'
+complete -c fmp -n '__fish_seen_subcommand_from host' -l turns -x -d 'How many turns each processor has, 0 to 2^20: in a turn it runs to its next service call, unless another event changes what runs there meanwhile'
 complete -c fmp -n '__fish_seen_subcommand_from host' -l ticks -x -d 'How many ticks the clock has, 0 to 2^20'
 complete -c fmp -n '__fish_seen_subcommand_from host' -l bound -x -d 'How many instructions a body may take up to its next service call, 1 to 2^48; a step that would take more does nothing [default: 100000]'
 complete -c fmp -n '__fish_seen_subcommand_from host' -s h -l help -d 'Print help'

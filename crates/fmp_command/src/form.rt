@@ -25,7 +25,7 @@ const COUNT_MAX: u64 = 1_048_576;
 
 /// What turns are.
 const TURNS: &str = "How many turns each processor has, 0 to 2^20: in a turn it runs to its next
-service call, as 'run P' lets it";
+service call, unless another event changes what runs there meanwhile";
 
 /// What ticks are.
 const TICKS: &str = "How many ticks the clock has, 0 to 2^20";
