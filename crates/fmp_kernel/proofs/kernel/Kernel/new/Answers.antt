@@ -16,3 +16,9 @@ invariant_of-result g c =
       rw c.set_up.ensures.bodies.system settled,
       stamps_begin c.in_ok-stamps.stamps _ _ c.in_ok-stamps.ensures.counts c.in_ok-stamps.ensures.actors,
     )
+
+pub new-requires-clause-entries : goal.new-requires-clause-entries
+new-requires-clause-entries g c = c.requires.entries
+
+pub new-requires-clause-range : goal.new-requires-clause-range
+new-requires-clause-range g c = c.requires.range

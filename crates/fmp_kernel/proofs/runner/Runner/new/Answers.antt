@@ -14,3 +14,6 @@ pub returns : goal.returns
 returns g c =
     rw (c.in_ok-contexts.ensures, c.task_count.ensures.configs, c.processor_count.ensures.system)
     (rw (c.in_ok-tables.ensures, c.in_ok-caused.ensures.items, c.in_ok-lines.ensures.items) refl)
+
+pub new-requires : goal.new-requires
+new-requires g c = c.requires.range

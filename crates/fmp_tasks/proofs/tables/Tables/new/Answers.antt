@@ -40,3 +40,18 @@ invariant_of-result c =
       pending_interrupts = ap (λ (h : PendingMarks). length h.interrupts) c.in_ok-cyclics.ensures.pending ∙ length-replicate 32 false;
       clock = omega arith;
     }
+
+pub wait_queues-waits-requires : goal.wait_queues-waits-requires
+wait_queues-waits-requires c = c.requires
+
+pub empty_queues-requires-clause-range : goal.empty_queues-requires-clause-range
+empty_queues-requires-clause-range c = c.requires
+
+pub empty_queues-requires-clause-waits : goal.empty_queues-requires-clause-waits
+empty_queues-requires-clause-waits c = c.wait_queues-waits.ensures
+
+pub empty_contents-requires : goal.empty_contents-requires
+empty_contents-requires c = c.requires
+
+pub idle_handlers-requires : goal.idle_handlers-requires
+idle_handlers-requires c = c.requires
