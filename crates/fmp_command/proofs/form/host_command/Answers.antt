@@ -11,3 +11,18 @@ returns c =
     let turns = c.in_ok-command-3.ensures ∙ ap₂ add journal c.count_option.ensures.rule in
     let ticks = c.in_ok-command-4.ensures ∙ ap₂ add turns c.count_option-2.ensures.rule in
     IfOk-weaker c.with_argument-5.result _ _ (λ command whole. whole ∙ ap₂ add ticks c.bound_option.ensures.rule) c.with_argument-5.ensures
+
+pub with_argument-requires : goal.with_argument-requires
+with_argument-requires c = c.file_word-image.ensures.local
+
+pub with_argument-requires-2 : goal.with_argument-requires-2
+with_argument-requires-2 c = c.file_word-journal.ensures.local
+
+pub with_argument-requires-3 : goal.with_argument-requires-3
+with_argument-requires-3 c = c.count_option.ensures.local
+
+pub with_argument-requires-4 : goal.with_argument-requires-4
+with_argument-requires-4 c = c.count_option-2.ensures.local
+
+pub with_argument-requires-5 : goal.with_argument-requires-5
+with_argument-requires-5 c = c.bound_option.ensures.local
