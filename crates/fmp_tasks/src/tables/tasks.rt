@@ -157,8 +157,9 @@ impl Tables {
             ≡ record self.old { state = rotated self.old.state (first_ready self.old.state p priority) } }
     {
         if let Some(t) = self.first_ready(p, priority) {
-            let x = self.task(t);
-            self.set_last(t, x);
+            self.ready
+                .rotate(&mut self.rings, p, priority, &mut Steps::new());
+            self.order.to_end(t);
         }
     }
 }
