@@ -34,6 +34,12 @@ read-at [] t x l e = absurd (omega arith)
 read-at (y ∷ ys) zero x l e = sym e
 read-at (y ∷ ys) (suc t) x l e = read-at ys t x (omega arith) e
 
+-- the task that was written
+pub read-set : (tasks : List TaskBlock) (t : ℕ) (x y : TaskBlock) → t < length tasks → y ≡ get_or (slice_set tasks t x) t y → y ≡ x
+read-set [] t x y l e = absurd (omega arith)
+read-set (z ∷ zs) zero x y l e = e
+read-set (z ∷ zs) (suc t) x y l e = read-set zs t x y (omega arith) e
+
 map-set : {A B : Type 0} (f : A → B) (xs : List A) (t : ℕ) (x : A) → slice_set (map f xs) t (f x) ≡ map f (slice_set xs t x)
 map-set f [] t x = refl
 map-set f (y ∷ ys) zero x = refl

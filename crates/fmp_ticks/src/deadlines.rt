@@ -3,7 +3,7 @@ ghost use Rattle.std.specs.Prelude.{◌≡◌, ◌+◌, ◌<◌, ◌≤◌, leng
 ghost use Rattle.fmp_base.specs.Links.{AddsAtMost};
 ghost use Rattle.fmp_ticks.specs.Times.{first_due as first_due_of, NoneBefore};
 
-use crate::heap::{Moment, is_before, mend, moment_at};
+use crate::heap::{is_before, mend, rank};
 use crate::places::Places;
 use crate::times::unset;
 use fmp_base::Steps;
@@ -49,8 +49,9 @@ impl TickQueue {
         let slot = self.places.slot_of(t);
         let stood = self.deadlines[t as usize].is_some();
         self.deadlines[t as usize] = Some(when);
+        self.places.set_rank(slot, rank(Some(when), t));
         let slot = if stood { slot } else { self.places.enter(slot) };
-        mend(&mut self.places, self.deadlines.as_slice(), slot, steps);
+        mend(&mut self.places, slot, steps);
     }
 
     /// A task has no deadline any more.
@@ -64,9 +65,10 @@ impl TickQueue {
         }
         let slot = self.places.slot_of(t);
         self.deadlines[t as usize] = None;
+        self.places.set_rank(slot, rank(None, t));
         self.places.leave(slot);
         if slot < self.places.count() {
-            mend(&mut self.places, self.deadlines.as_slice(), slot, steps);
+            mend(&mut self.places, slot, steps);
         }
     }
 
@@ -80,15 +82,11 @@ impl TickQueue {
         if self.places.count() == 0 {
             return None;
         }
-        let first = moment_at(&self.places, self.deadlines.as_slice(), 0);
-        let clock = Moment {
-            when: now,
-            task: first.task,
-        };
-        if is_before(clock, first, steps) {
+        let first = self.places.task(0);
+        if is_before(rank(Some(now), first), self.places.rank(0), steps) {
             None
         } else {
-            Some(first.task)
+            Some(first)
         }
     }
 }

@@ -107,8 +107,13 @@ impl Tables {
         requires in_order { is_in_order x ≡ true }
         ensures { self.new ≡ record self.old { state = with_last self.old.state t x } }
     {
-        let old = self.blocks[t as usize];
-        leave(&mut self.ready, self.waits, &mut self.rings, &old, t);
+        leave(
+            &mut self.ready,
+            self.waits,
+            &mut self.rings,
+            &self.blocks[t as usize],
+            t,
+        );
         self.blocks[t as usize] = x;
         join(
             &mut self.ready,
@@ -116,7 +121,7 @@ impl Tables {
             &mut self.rings,
             &self.system,
             self.blocks.as_slice(),
-            &x,
+            &self.blocks[t as usize],
             t,
         );
         set_deadline(&mut self.deadlines, t, x.deadline);
@@ -131,8 +136,13 @@ impl Tables {
         requires in_order { is_in_order x ≡ false }
         ensures { self.new ≡ record self.old { state = with_removed self.old.state t x } }
     {
-        let old = self.blocks[t as usize];
-        leave(&mut self.ready, self.waits, &mut self.rings, &old, t);
+        leave(
+            &mut self.ready,
+            self.waits,
+            &mut self.rings,
+            &self.blocks[t as usize],
+            t,
+        );
         self.blocks[t as usize] = x;
         set_deadline(&mut self.deadlines, t, x.deadline);
         self.order.leave(t);
@@ -147,8 +157,9 @@ impl Tables {
             ≡ record self.old { state = rotated self.old.state (first_ready self.old.state p priority) } }
     {
         if let Some(t) = self.first_ready(p, priority) {
-            let x = self.task(t);
-            self.set_last(t, x);
+            self.ready
+                .rotate(&mut self.rings, p, priority, &mut Steps::new());
+            self.order.to_end(t);
         }
     }
 }

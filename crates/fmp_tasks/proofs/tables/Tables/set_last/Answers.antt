@@ -8,7 +8,7 @@ use Rattle.fmp_ring.specs.RingLists.{is_linked}
 use Rattle.fmp_ticks.specs.ClockLaws.{NoneBefore-set}
 use Rattle.fmp_waitq.specs.declared.queues.ObjectCounts.{ObjectCounts}
 use Rattle.fmp_tasks.specs.Homes.{Fits, IsAmong, IsSomeThere, home, left_from}
-use Rattle.fmp_tasks.proofs.SoundLemmas.{Sound-last, home-among, home-free, lent, own_counts, own_processors, read-at}
+use Rattle.fmp_tasks.proofs.SoundLemmas.{Sound-last, home-among, home-free, lent, own_counts, own_processors, read-at, read-set}
 use Rattle.fmp_tasks.proofs.TopLemmas.{Fits-at}
 use Rattle.fmp_tasks.proofs.tables.Tables.set_last.Goals as goal
 
@@ -39,7 +39,8 @@ join-requires c =
     let is : task_at c.self.inside.blocks.items c.args.t ≡ c.index.result.now = read-at _ _ _ l c.index.ensures in
     let free : is_linked c.args.t (left_from c.self.inside.rings.lists (home c.self.inside.waits c.index.result.now) c.args.t) ≡ false =
     subst (λ (x : TaskBlock). is_linked c.args.t (left_from c.self.inside.rings.lists (home c.self.inside.waits x) c.args.t) ≡ false) is (home-free tasks c.args.t) in
-    record {
+    let same : c.index-2.result.now ≡ c.args.x = read-set _ _ _ _ l c.index-2.ensures in
+    rw same (record {
       urgent = f.urgent;
       least = f.least;
       processor = subst (λ (n : ℕ). c.args.x.processor < n) (sym (c.leave.ensures.processors ∙ tasks.processors)) f.processor;
@@ -50,7 +51,7 @@ join-requires c =
       queue = subst (λ (n : ObjectCounts). IsSomeThere n (queue_of c.args.x.phase)) (sym (own_counts tasks)) f.queue;
       task = rw (c.leave.ensures.rings, tasks.nodes) l;
       free = rw c.leave.ensures.rings free;
-    }
+    })
 
 pub invariant_of-self : goal.invariant_of-self
 invariant_of-self c =
@@ -60,7 +61,8 @@ invariant_of-self c =
     let f : Fits (tables_of c.self.inside.system) c.args.x = rw (← c.self.view_is) at c.requires.fits in
     let is : task_at c.self.inside.blocks.items c.args.t ≡ c.index.result.now = read-at _ _ _ l c.index.ensures in
     let after : IfSome c.args.x.deadline (λ w. c.self.inside.clock + 1 ≤ w) = rw (← c.self.view_is) at c.requires.later in
-    let moved = rw (c.leave.ensures.rings, c.as_slice.ensures.value) at c.join.ensures.rings in
+    let same : c.index-2.result.now ≡ c.args.x = read-set _ _ _ _ l c.index-2.ensures in
+    let moved = rw (c.leave.ensures.rings, c.as_slice.ensures.value, same) at c.join.ensures.rings in
     record {
       system = c.self.invariant.system;
       later = rw c.set_deadline.ensures (NoneBefore-set _ _ _ _ after c.self.invariant.later);
