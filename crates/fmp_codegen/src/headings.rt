@@ -43,7 +43,8 @@ pub fn heading_of(body: &Body) -> Heading
 
 /// The place of the body of a name, from 0, if there is one.
 pub fn body_place(headings: &[Heading], name: &Name) -> Option<usize>
-    ensures place { (bodies : List BodyTree) → AreHeadings headings.now bodies → result ≡ entries.body_place bodies name.now }
+    ensures place { (bodies : List BodyTree) → AreHeadings headings.now bodies →
+        result ≡ entries.body_place bodies name.now }
     ensures below { IfSome result (λ place. place < length headings.now) }
 {
     place_in(headings, name)
