@@ -1,5 +1,5 @@
 -- What each step of building has judged, said of the texts.
-use Rattle.std.proofs.Common.{◌≡◌, ℕ, List, [], None, Result, Ok, Err, refl, sym, ap, ap₂, ◌∙◌, subst}
+use Rattle.std.proofs.Common.{◌≡◌, ℕ, List, [], None, Result, Ok, Err, inl, inr, refl, sym, ap, ap₂, ◌∙◌, subst}
 use Rattle.std.specs.Prelude.{IfErr}
 use Rattle.std.specs.Result.{IsErrAnd}
 use Rattle.fmp_base.specs.Systems.{SystemTables, tables_of}
@@ -11,13 +11,12 @@ use Rattle.fmp_cfgparse.specs.Configurations as configuration
 use Rattle.fmp_cfgparse.specs.Tables.{IsConfiguration}
 use Rattle.fmp_cfgparse.specs.Trees.{configuration_view}
 use Rattle.fmp_cfgparse.proofs.Tables.{made_keeps}
-use Rattle.fmp_tasklang.specs.declared.trees.Program.{Program}
-use Rattle.fmp_tasklang.specs.Reading as tasks
 use Rattle.fmp_tasklang.specs.Trees.{BodyTree}
-use Rattle.fmp_tasklang.specs.Views.{program_view}
 use Rattle.fmp_codegen.specs.declared.entries.EntryUse.{EntryUse}
-use Rattle.fmp_codegen.specs.Compiling.{bodies_offence, IsAccepted, IsCompiled}
+use Rattle.fmp_codegen.specs.declared.texts.CompiledText.{CompiledText}
+use Rattle.fmp_codegen.specs.Compiling.{bodies_offence, IsAccepted}
 use Rattle.fmp_codegen.specs.Entries.{entries_offence, IsChecked}
+use Rattle.fmp_codegen.specs.Texts.{IsTextCompiled}
 use Rattle.fmp_image.specs.Images.{ImageTables}
 use Rattle.fmp_cfgparse.specs.declared.reading.Configured.{Configured}
 use Rattle.fmp_build.specs.Building.{ReadTasks, built_image, Builds, IsBuildFault, of_memory, of_configuration, of_tasks, of_bodies, of_entries}
@@ -36,29 +35,27 @@ configuration_refused cfg src build.Memory h = of_memory refl
 configuration_refused cfg src (build.At file line why) h = of_configuration h
 
 module _ (cfg src : List ℕ) (configured : Configured) (reads : Reads cfg configured) where
-  pub tasks_refused : (f : BuildFault) → tasks.IsRead src (Err f) → IsBuildFault cfg src f
-  tasks_refused build.Memory h = of_memory refl
-  tasks_refused (build.At file line why) h = of_tasks reads.configuration h
+  abbrev tables : SystemTables
+  tables = tables_of configured.system
 
-  module _ (program : Program) (read : tasks.IsRead src (Ok program)) where
-    abbrev bodies : List BodyTree
-    bodies = program_view program
+  -- a text that is refused
+  pub text_refused : (f : BuildFault) → IsTextCompiled tables src (Err f) → IsBuildFault cfg src f
+  text_refused build.Memory h = of_memory refl
+  text_refused (build.At file line why) (inl h) = of_tasks reads.configuration h
+  text_refused (build.At file line why) (inr h) =
+      of_bodies reads.configuration (record { tokens = h.1; bodies = h.2; spelled = h.3 }) (record { line = line; why = why })
+      (ap (λ (t : SystemTables). bodies_offence t [] h.2) reads.tables ∙ h.4)
+      (ap (λ (x : TextFile). build.At x line why) h.0)
 
-    abbrev tables : SystemTables
-    tables = tables_of configured.system
+  module _ (text : CompiledText) (made : IsTextCompiled tables src (Ok text)) where
+    abbrev pub bodies : List BodyTree
+    bodies = made.1
 
     abbrev written : ReadTasks src
-    written = record { tokens = read.0.0; bodies = program_view program; spelled = read.0.1 }
+    written = record { tokens = made.0; bodies = made.1; spelled = made.2 }
 
-    pub bodies_refused : (f : BuildFault) → IsCompiled tables bodies (Err f) → IsBuildFault cfg src f
-    bodies_refused build.Memory h = of_memory refl
-    bodies_refused (build.At file line why) h =
-        of_bodies reads.configuration written (record { line = line; why = why })
-        (ap (λ (t : SystemTables). bodies_offence t [] bodies) reads.tables ∙ h.1)
-        (ap (λ (x : TextFile). build.At x line why) h.0)
-
-    accepts : IsAccepted tables bodies → IsAccepted reads.configuration.making.tables bodies
-    accepts accepted = ap (λ (t : SystemTables). bodies_offence t [] bodies) reads.tables ∙ accepted
+    accepts : IsAccepted reads.configuration.making.tables bodies
+    accepts = ap (λ (t : SystemTables). bodies_offence t [] bodies) reads.tables ∙ made.3
 
     -- the entries that the code has collected
     pub collected :
@@ -68,12 +65,11 @@ module _ (cfg src : List ℕ) (configured : Configured) (reads : Reads cfg confi
     collected now uses same are =
         same ∙ are ∙ ap₂ entry_uses (sym reads.tokens) (sym reads.tree)
 
-    module _ (entries : List EntryUse) (are : entries ≡ entry_uses reads.configuration.tokens reads.configuration.tree)
-        (accepted : IsAccepted tables bodies) where
+    module _ (entries : List EntryUse) (are : entries ≡ entry_uses reads.configuration.tokens reads.configuration.tree) where
       pub entries_refused : (f : BuildFault) → IsChecked {R = Unit {0}} bodies entries (Err f) → IsBuildFault cfg src f
       entries_refused build.Memory h = of_memory refl
       entries_refused (build.At file line why) h =
-          of_entries reads.configuration written (record { line = line; why = why }) (accepts accepted)
+          of_entries reads.configuration written (record { line = line; why = why }) accepts
           (ap (entries_offence bodies) (sym are) ∙ h.1)
           (ap (λ (x : TextFile). build.At x line why) h.0)
 
@@ -81,7 +77,7 @@ module _ (cfg src : List ℕ) (configured : Configured) (reads : Reads cfg confi
       builds i none is = record {
         configuration = reads.configuration;
         tasks = written;
-        accepted = accepts accepted;
+        accepted = accepts;
         entered = ap (entries_offence bodies) (sym are) ∙ none;
         image = is ∙ ap (λ (t : SystemTables). built_image t bodies) (sym reads.tables);
       }

@@ -1,5 +1,6 @@
 mod BodyRules
 mod Built
+mod BuiltHeads
 mod CodeWords
 mod Entering
 mod EntryRules

@@ -17,6 +17,7 @@ use Rattle.fmp_tasklang.specs.declared.trees.BodyKind as language
 use Rattle.fmp_tasklang.specs.declared.trees.BodyKind.TheVariants as written
 use Rattle.fmp_tasklang.specs.Reading.{Tasks}
 use Rattle.fmp_tasklang.specs.Trees.{BodyTree}
+use Rattle.fmp_codegen.specs.declared.headings.Heading.{Heading}
 use Rattle.fmp_codegen.specs.declared.offences.Offence.{Offence}
 use Rattle.fmp_codegen.specs.Compiling.{bodies_offence, compiled, IsAccepted}
 use Rattle.fmp_codegen.specs.Depths.{body_depth}
@@ -58,6 +59,10 @@ built_kind written.Handler = kind.Handler
 -- what an image says of a body: its kind, and how many operands it needs
 abbrev pub built_head : BodyTree → BodyHead
 built_head b = record { kind = built_kind b.kind; depth = body_depth b }
+
+-- the same of its heading
+abbrev pub head_of : Heading → BodyHead
+head_of h = record { kind = built_kind h.kind; depth = h.depth }
 
 abbrev pub built_heads : List BodyTree → List BodyHead
 built_heads bodies = map built_head bodies

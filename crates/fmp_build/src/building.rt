@@ -1,11 +1,11 @@
 //! Two texts are read, compiled and put together to an image.
-ghost use Rattle.std.specs.Prelude.{◌≡◌, ◌≤◌, length, IfOk, IfErr};
+ghost use Rattle.std.specs.Prelude.{◌≡◌, ◌≤◌, List, length, IfOk, IfErr};
 ghost use Rattle.std.specs.List.{AllByRecursion};
 ghost use Rattle.fmp_base.specs.Systems.{tables_of};
-ghost use Rattle.fmp_tasklang.specs.Views.{body_view, program_view};
+ghost use Rattle.fmp_tasklang.specs.Trees.{BodyTree};
 ghost use Rattle.fmp_code.specs.Instructions.{code_tables};
 ghost use Rattle.fmp_codegen.specs.Compiling.{compiled};
-ghost use Rattle.fmp_codegen.specs.Depths.{body_depth};
+ghost use Rattle.fmp_codegen.specs.Headings.{AreHeadings};
 ghost use Rattle.fmp_image.specs.Images.{IsImage};
 ghost use Rattle.fmp_build.specs.Building.{Builds, IsBuildFault, built_image};
 
@@ -15,30 +15,24 @@ use crate::laws::what_is_built_is_an_image;
 use crate::tables::build_tables;
 use fmp_base::System;
 use fmp_cfgparse::read_configuration;
-use fmp_code::Code;
-use fmp_codegen::{check_entries, compile};
+use fmp_codegen::{CompiledText, check_headings, compile_text};
 use fmp_image::Image;
 use fmp_lex::BuildFault;
-use fmp_tasklang::{Program, read_tasks};
 use std::alloc::{AllocError, Global};
 
 /// The image of a system and of the code of its bodies.
-fn image_of(
-    alloc: Global,
-    system: System,
-    program: &Program,
-    code: Code,
-) -> Result<Image, AllocError>
-    requires few { length program.now.bodies.items ≤ 255 }
-    requires low { AllByRecursion (λ b. body_depth (body_view b) ≤ 64) program.now.bodies.items }
-    requires code { code_tables code ≡ compiled (tables_of system) (program_view program.now) }
-    requires lawful { IsImage (built_image (tables_of system) (program_view program.now)) }
-    ensures { IfOk result (λ image. image ≡ built_image (tables_of system) (program_view program.now)) }
+fn image_of(alloc: Global, system: System, text: CompiledText) -> Result<Image, AllocError>
+    requires few { length text.headings.items ≤ 255 }
+    requires low { AllByRecursion (λ h. h.depth ≤ 64) text.headings.items }
+    requires lawful { (bodies : List BodyTree) × AreHeadings text.headings.items bodies ×
+        (code_tables text.code ≡ compiled (tables_of system) bodies) × IsImage (built_image (tables_of system) bodies) }
+    ensures { IfOk result (λ image. (bodies : List BodyTree) → AreHeadings text.headings.items bodies →
+        code_tables text.code ≡ compiled (tables_of system) bodies → image ≡ built_image (tables_of system) bodies) }
 {
-    let heads = built_heads(alloc, program)?;
+    let heads = built_heads(alloc, &text.headings)?;
     let mut built = system;
-    build_tables(program, &mut built);
-    Ok(Image::new(built, code, heads))
+    build_tables(&text.headings, &mut built);
+    Ok(Image::new(built, text.code, heads))
 }
 
 /// The image of the system that a configuration describes, its bodies given by a task text; or the first fault of the
@@ -49,11 +43,10 @@ pub fn build(alloc: Global, cfg: &[u8], src: &[u8]) -> Result<Image, BuildFault>
     ensures refuses { IfErr result (IsBuildFault cfg.now src.now) }
 {
     let configured = read_configuration(alloc, cfg)?;
-    let program = read_tasks(alloc, src)?;
-    let code = compile(alloc, &program, &configured.system)?;
+    let text = compile_text(alloc, src, &configured.system)?;
     let parsed = &configured.parsed;
     let entries = entry_uses(alloc, &parsed.list.tokens, &parsed.tree)?;
-    check_entries(alloc, &program, &entries)?;
+    check_headings(&text.headings, &entries)?;
     what_is_built_is_an_image();
-    Ok(image_of(alloc, configured.system, &program, code)?)
+    Ok(image_of(alloc, configured.system, text)?)
 }

@@ -1,14 +1,14 @@
 //! What an image says of the bodies of a text.
 
-ghost use Rattle.std.specs.Prelude.{◌≡◌, ◌≤◌, IfOk};
+ghost use Rattle.std.specs.Prelude.{◌≡◌, ◌≤◌, List, IfOk};
 ghost use Rattle.std.specs.List.{AllByRecursion};
-ghost use Rattle.fmp_tasklang.specs.Views.{body_view, program_view};
-ghost use Rattle.fmp_codegen.specs.Depths.{body_depth as depth_of};
+ghost use Rattle.fmp_tasklang.specs.Trees.{BodyTree};
+ghost use Rattle.fmp_codegen.specs.Headings.{AreHeadings};
 ghost use Rattle.fmp_build.specs.Building as spec;
 
-use fmp_codegen::body_depth;
+use fmp_codegen::Heading;
 use fmp_image::{BodyHead, BodyKind};
-use fmp_tasklang::{Body, BodyKind as WrittenKind, Program};
+use fmp_tasklang::BodyKind as WrittenKind;
 use std::alloc::{AllocError, Global};
 
 fn built_kind(kind: WrittenKind) -> BodyKind
@@ -20,24 +20,25 @@ fn built_kind(kind: WrittenKind) -> BodyKind
     }
 }
 
-fn built_head(body: &Body) -> BodyHead
-    requires { depth_of (body_view body.now) ≤ 64 }
-    ensures { result ≡ spec.built_head (body_view body.now) }
+fn built_head(heading: &Heading) -> BodyHead
+    requires { heading.now.depth ≤ 64 }
+    ensures { result ≡ spec.head_of heading.now }
 {
     BodyHead {
-        kind: built_kind(body.kind),
-        depth: body_depth(body) as u8,
+        kind: built_kind(heading.kind),
+        depth: heading.depth as u8,
     }
 }
 
 /// The kind and the depth of each body.
-pub fn built_heads(alloc: Global, program: &Program) -> Result<Vec<BodyHead>, AllocError>
-    requires { AllByRecursion (λ b. depth_of (body_view b) ≤ 64) program.now.bodies.items }
-    ensures { IfOk result (λ heads. heads.items ≡ spec.built_heads (program_view program.now)) }
+pub fn built_heads(alloc: Global, headings: &[Heading]) -> Result<Vec<BodyHead>, AllocError>
+    requires { AllByRecursion (λ h. h.depth ≤ 64) headings.now }
+    ensures { IfOk result (λ heads. (bodies : List BodyTree) → AreHeadings headings.now bodies →
+        heads.items ≡ spec.built_heads bodies) }
 {
-    let mut heads = Vec::new(alloc);
-    for body in &program.bodies {
-        heads.push(built_head(body))?;
+    let mut heads = Vec::with_capacity(alloc, headings.len())?;
+    for heading in headings {
+        heads.push(built_head(heading))?;
     }
     Ok(heads)
 }

@@ -2,17 +2,12 @@
 use Rattle.std.proofs.Common.{◌≡◌, ℕ, zero, suc, ◌+◌, ◌<◌, ◌≤◌, List, [], ◌∷◌, ◌++◌, Option, Some, None, length, take, drop, get_or, map, refl, sym, ap, ◌∙◌, subst, arith}
 use Rattle.std.proofs.lemmas.List.{take_more}
 use Rattle.fmp_base.specs.declared.names.Name.{Name}
-use Rattle.fmp_base.specs.Names.{name_text}
 use Rattle.fmp_base.specs.Systems.{SystemTables}
 use Rattle.fmp_tasklang.specs.declared.trees.Body.{Body}
 use Rattle.fmp_tasklang.specs.Trees.{BodyTree}
-use Rattle.fmp_tasklang.specs.Scopes.{place_of}
-use Rattle.fmp_tasklang.specs.Texts.{body_at}
 use Rattle.fmp_tasklang.specs.Views.{body_view}
 use Rattle.fmp_code.specs.Instructions.{BodyTables}
 use Rattle.fmp_code.specs.Verify.{Verified}
-use Rattle.fmp_codegen.specs.declared.entries.EntryUse.{EntryUse}
-use Rattle.fmp_codegen.specs.Entries.{body_place}
 use Rattle.fmp_codegen.specs.declared.offences.Offence.{Offence}
 use Rattle.fmp_tasklang.specs.CallForms.{CallsFit}
 use Rattle.fmp_codegen.specs.Compiling.{body_offence, bodies_offence, compiled, IsAccepted}
@@ -87,23 +82,3 @@ pub all-compiled :
     code ≡ compiled tables (map body_view bodies)
 all-compiled tables bodies i last code h =
     sym (append-nil code) ∙ sym (ap (λ bs. code ++ compiled tables (map body_view bs)) (drop-all bodies i last)) ∙ h
-
--- ---- entries
-
-pub names-viewed :
-    (bodies : List Body) → map (λ (b : BodyTree). b.name.name) (map body_view bodies) ≡ map (λ (b : Body). b.name.name) bodies
-names-viewed [] = refl
-names-viewed (b ∷ bs) = ap (λ ns. b.name.name ∷ ns) (names-viewed bs)
-
-pub viewed-at :
-    (bodies : List Body) (k : ℕ) (b : Body) → k < length bodies → b ≡ get_or bodies k b →
-    body_at (map body_view bodies) k ≡ body_view b
-viewed-at [] k b h e = absurd (omega (arith, h))
-viewed-at (x ∷ xs) zero b h e = ap body_view (sym e)
-viewed-at (x ∷ xs) (suc k) b h e = viewed-at xs k b (omega (arith, h)) e
-
--- the fault of an entry whose body is at a place
-pub entry-at :
-    (bodies : List Body) (u : EntryUse) (o : Option ℕ) → o ≡ place_of (name_text u.name) (map (λ (b : Body). b.name.name) bodies) →
-    body_place (map body_view bodies) u.name ≡ o
-entry-at bodies u o h = ap (place_of (name_text u.name)) (names-viewed bodies) ∙ sym h

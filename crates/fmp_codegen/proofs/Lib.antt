@@ -8,6 +8,7 @@ mod Entering
 mod Expressions
 mod Fits
 mod Greatest
+mod Headed
 mod Judging
 mod KnownNames
 mod Lengths
@@ -18,6 +19,7 @@ mod Positions
 mod Printed
 mod RowNumbers
 mod Statements
+mod TextMaking
 mod Variables
 mod VerifiedBodies
 mod ViewTrees

@@ -1,6 +1,6 @@
 //! The code of the bodies of a text, or the first fault in them.
 
-ghost use Rattle.std.specs.Prelude.{◌≡◌, ◌+◌, ◌<◌, ◌≤◌, ◌++◌, ◌∷◌, [], Some, None, map, length, IfOk, OnOk, IfNone, MatchResult};
+ghost use Rattle.std.specs.Prelude.{◌≡◌, ◌+◌, ◌<◌, ◌≤◌, ◌++◌, ◌∷◌, [], Some, None, map, min, length, IfOk, OnOk, IfNone, MatchResult};
 ghost use Rattle.std.specs.List.{AllByRecursion};
 ghost use Rattle.fmp_base.specs.Ranges.{IsInRange};
 ghost use Rattle.fmp_base.specs.Systems.{tables_of};
@@ -17,8 +17,8 @@ ghost use Rattle.fmp_codegen.specs.Scopes.{HoldsNumbers};
 ghost use Rattle.fmp_codegen.specs.Sizes.{block_size};
 
 use crate::emission::{Output, emit_block, put};
-use crate::extents::block_extent;
-use crate::names::{Names, Objects, is_exinf, is_object, place_in};
+use crate::extents::{Extent, block_extent};
+use crate::names::{HasName, Names, Objects, is_exinf, is_object, place_in};
 use crate::numbers::number_objects;
 use crate::offences::Offence;
 use crate::uses::block_offence;
@@ -73,14 +73,14 @@ fn variables_offence(objects: &Objects<'_>, variables: &[Word]) -> Option<Offenc
     None
 }
 
-/// The number of instructions of the statements of a body, or the fault of a body that takes too many instructions or
-/// operands.
-fn size_of_body(body: &Body) -> Result<u16, Offence>
+/// What the statements of a body take, or the fault of a body that takes too many instructions or operands.
+fn extent_of_body(body: &Body) -> Result<Extent, Offence>
     ensures first { MatchResult result
         (λ _. spec.size_offence (body_view body.now) ≡ None)
         (λ offence. spec.size_offence (body_view body.now) ≡ Some offence) }
-    ensures size { IfOk result (λ size. size ≡ block_size (block_view body.now.statements.items)) }
-    ensures small { IfOk result (λ size. size < 65535) }
+    ensures size { IfOk result (λ extent. extent.size ≡ block_size (block_view body.now.statements.items)) }
+    ensures small { IfOk result (λ extent. extent.size < 65535) }
+    ensures depth { IfOk result (λ extent. extent.depth ≡ min (body_depth (body_view body.now)) 1073741824) }
     ensures low { IfOk result (λ _. body_depth (body_view body.now) ≤ 64) }
 {
     let extent = block_extent(&body.statements);
@@ -90,19 +90,23 @@ fn size_of_body(body: &Body) -> Result<u16, Offence>
             why: FaultKind::Limit,
         });
     }
-    Ok(extent.size as u16)
+    Ok(extent)
 }
 
-/// The number of instructions of the statements of a body, or the body's first fault, after these bodies.
-fn judge_body(objects: &Objects<'_>, earlier: &[Body], body: &Body) -> Result<u16, Offence>
+/// What the statements of a body take, or the body's first fault, after bodies of these names.
+pub fn judge_body<T: HasName>(
+    objects: &Objects<'_>,
+    earlier: &[T],
+    body: &Body,
+) -> Result<Extent, Offence>
     requires { HoldsNumbers objects.now }
     ensures first { let tables = tables_of objects.now.system.now in MatchResult result
-        (λ _. spec.body_offence tables (map (λ b. b.name.name) earlier.now) (body_view body.now) ≡ None)
-        (λ offence. spec.body_offence tables (map (λ b. b.name.name) earlier.now) (body_view body.now)
-        ≡ Some offence) }
+        (λ _. spec.body_offence tables (map T.name_of earlier.now) (body_view body.now) ≡ None)
+        (λ offence. spec.body_offence tables (map T.name_of earlier.now) (body_view body.now) ≡ Some offence) }
     ensures variables { IfOk result (λ _. length body.now.variables.items ≤ 63) }
-    ensures size { IfOk result (λ size. size ≡ block_size (block_view body.now.statements.items)) }
-    ensures small { IfOk result (λ size. size < 65535) }
+    ensures size { IfOk result (λ extent. extent.size ≡ block_size (block_view body.now.statements.items)) }
+    ensures small { IfOk result (λ extent. extent.size < 65535) }
+    ensures depth { IfOk result (λ extent. extent.depth ≡ min (body_depth (body_view body.now)) 1073741824) }
     ensures low { IfOk result (λ _. body_depth (body_view body.now) ≤ 64) }
 {
     if earlier.len() >= MOST_BODIES {
@@ -127,11 +131,11 @@ fn judge_body(objects: &Objects<'_>, earlier: &[Body], body: &Body) -> Result<u1
     if let Some(offence) = block_offence(&names, &body.statements) {
         return Err(offence);
     }
-    size_of_body(body)
+    extent_of_body(body)
 }
 
 /// The code of a body that has no fault and whose statements take so many instructions.
-fn compile_body(
+pub fn compile_body(
     alloc: Global,
     objects: &Objects<'_>,
     body: &Body,
@@ -186,7 +190,10 @@ pub fn compile(alloc: Global, program: &Program, system: &System) -> Result<Code
     for i in 0..program.bodies.len() {
         let body = &program.bodies[i];
         match judge_body(&objects, &program.bodies[..i], body) {
-            Ok(size) => append(&mut bodies, compile_body(alloc, &objects, body, size)?)?,
+            Ok(extent) => {
+                let code = compile_body(alloc, &objects, body, extent.size as u16)?;
+                append(&mut bodies, code)?;
+            }
             Err(offence) => {
                 return Err(BuildFault::At(TextFile::Source, offence.line, offence.why));
             }

@@ -29,6 +29,7 @@ pub struct Output {
 }
 
 /// Appends an instruction.
+#[inline(always)]
 pub fn put(out: &mut Output, instruction: Instruction, depth: u8) -> Result<(), AllocError>
     ensures code { OnOk result (out.new.instructions.items ≡ out.old.instructions.items ++ instruction ∷ []) }
     ensures len { OnOk result (length out.new.instructions.items ≡ length out.old.instructions.items + 1) }

@@ -1,17 +1,18 @@
 //! The bodies that the static APIs name as entries.
 
-ghost use Rattle.std.specs.Prelude.{◌≡◌, ℕ, ◌<◌, ◌≤◌, min, map, length, IfSome};
-ghost use Rattle.fmp_tasklang.specs.Views.{body_view, program_view};
-ghost use Rattle.fmp_codegen.specs.Depths.{body_depth as spec_depth};
+ghost use Rattle.std.specs.Prelude.{◌≡◌, ℕ, List, min};
+ghost use Rattle.fmp_tasklang.specs.Trees.{BodyTree};
+ghost use Rattle.fmp_tasklang.specs.Views.{program_view};
 ghost use Rattle.fmp_codegen.specs.Entries as spec;
 ghost use Rattle.fmp_codegen.specs.Entries.{IsChecked};
+ghost use Rattle.fmp_codegen.specs.Headings.{AreHeadings};
 
 use crate::compiling::append;
-use crate::extents::block_extent;
+use crate::headings::{Heading, heading_of};
 use crate::names::place_in;
 use fmp_base::Name;
 use fmp_lex::{BuildFault, FaultKind, TextFile};
-use fmp_tasklang::{Body, BodyKind, Program};
+use fmp_tasklang::{BodyKind, Program};
 use std::alloc::Global;
 
 /// The entry of a static API: CRE_TSK, CRE_CYC or DEF_INH.
@@ -39,50 +40,44 @@ fn is_kind(kind: BodyKind, wanted: BodyKind) -> bool
 
 /// Whether a stack has four bytes for each operand; the operands are counted up to 2^30.
 #[tactic(auto, using(crate::proofs::Entering::holds_some))]
-fn holds(stack: Option<u32>, depth: usize) -> bool
-    requires { depth ≤ 1073741824 }
+fn holds(stack: Option<u32>, depth: u32) -> bool
     ensures { (needed : ℕ) → depth ≡ min needed 1073741824 → result ≡ spec.holds stack needed }
 {
     match stack {
         None => true,
-        Some(bytes) => 4 * depth <= bytes as usize,
+        Some(bytes) => 4 * u64::from(depth) <= u64::from(bytes),
     }
 }
 
-/// How many operands a body needs, counted up to 2^30.
-pub fn body_depth(body: &Body) -> usize
-    ensures { result ≡ min (spec_depth (body_view body.now)) 1073741824 }
-{
-    block_extent(&body.statements).depth
-}
-
-/// The place of the body of a name, from 0, if there is one.
-pub fn body_place(program: &Program, name: &Name) -> Option<usize>
-    ensures place { result ≡ spec.body_place (program_view program.now) name.now }
-    ensures below { IfSome result (λ place. place < length program.now.bodies.items) }
-{
-    place_in(&program.bodies, name)
-}
-
 /// The fault of an entry, if it has one.
-fn entry_fault(bodies: &[Body], depths: &[usize], entry: &EntryUse) -> Option<FaultKind>
-    requires { depths.now ≡ map (λ b. min (spec_depth (body_view b)) 1073741824) bodies.now }
-    ensures { result
-        ≡ spec.entry_fault (map body_view bodies.now) entry.now
-        (spec.body_place (map body_view bodies.now) entry.now.name) }
+fn entry_fault(headings: &[Heading], entry: &EntryUse) -> Option<FaultKind>
+    ensures { (bodies : List BodyTree) → AreHeadings headings.now bodies →
+        result ≡ spec.entry_fault bodies entry.now (spec.body_place bodies entry.now.name) }
 {
-    match place_in(bodies, &entry.name) {
+    match place_in(headings, &entry.name) {
         None => Some(FaultKind::UnknownName),
         Some(place) => {
-            if !is_kind(bodies[place].kind, entry.kind) {
+            if !is_kind(headings[place].kind, entry.kind) {
                 return Some(FaultKind::WrongEntryKind);
             }
-            if !holds(entry.stack, depths[place]) {
+            if !holds(entry.stack, headings[place].depth) {
                 return Some(FaultKind::StackTooSmall);
             }
             None
         }
     }
+}
+
+/// Whether the bodies of these headings fit the static APIs that name them, or the first fault, as in `check_entries`.
+pub fn check_headings(headings: &[Heading], entries: &[EntryUse]) -> Result<(), BuildFault>
+    ensures { (bodies : List BodyTree) → AreHeadings headings.now bodies → IsChecked bodies entries.now result }
+{
+    for entry in entries {
+        if let Some(why) = entry_fault(headings, entry) {
+            return Err(BuildFault::At(TextFile::Configuration, entry.line, why));
+        }
+    }
+    Ok(())
 }
 
 /// Whether the bodies that the static APIs name fit, or the first fault in order of the APIs in the text, at the line
@@ -95,14 +90,9 @@ pub fn check_entries(
 ) -> Result<(), BuildFault>
     ensures { IsChecked (program_view program.now) entries.now result }
 {
-    let mut depths = Vec::new(alloc);
+    let mut headings = Vec::new(alloc);
     for body in &program.bodies {
-        append(&mut depths, body_depth(body))?;
+        append(&mut headings, heading_of(body))?;
     }
-    for entry in entries {
-        if let Some(why) = entry_fault(&program.bodies, &depths, entry) {
-            return Err(BuildFault::At(TextFile::Configuration, entry.line, why));
-        }
-    }
-    Ok(())
+    check_headings(&headings, entries)
 }

@@ -9,6 +9,7 @@ ghost use Rattle.fmp_codegen.specs.Compiling as spec;
 ghost use Rattle.fmp_codegen.specs.Naming.{Reads, Writes, use_offence};
 ghost use Rattle.fmp_codegen.specs.Scopes.{HoldsNumbers, IsHeld, meaning_view, scope_view};
 
+use crate::headings::Heading;
 use crate::numbers::{ObjectName, ObjectNumbers};
 use crate::offences::Offence;
 use fmp_base::{
@@ -114,6 +115,14 @@ impl HasName for Body {
 
     fn name(&self) -> &Name {
         &self.name.name
+    }
+}
+
+impl HasName for Heading {
+    ghost name_of = { λ h. h.name };
+
+    fn name(&self) -> &Name {
+        &self.name
     }
 }
 

@@ -1,5 +1,5 @@
 -- Tokens in few bytes: a name is a place in the text.
-use Rattle.std.specs.Prelude.{ℕ, ◌+◌, ◌<◌, ◌≤◌, List, length, slice_range}
+use Rattle.std.specs.Prelude.{ℕ, pos, ◌+◌, ◌<◌, ◌≤◌, List, length, slice_range}
 use Rattle.fmp_base.specs.Names.{name_from}
 use Rattle.fmp_lex.specs.declared.cutting.Segment.{Segment}
 use Rattle.fmp_lex.specs.declared.cutting.Segment.TheVariants as segment
@@ -13,7 +13,7 @@ use Rattle.fmp_lex.specs.Cutting.{Piece, Skip, Whole, Fault}
 
 -- what a token of this shape is in a text
 abbrev pub kind_in : List ℕ → Shape → TokenKind
-kind_in text (shape.Number n) = kind.Number n
+kind_in text (shape.Number n) = kind.Number (pos n)
 kind_in text (shape.Name size start) = kind.Name (name_from (slice_range text start (start + size)))
 kind_in text (shape.Constant c) = kind.Constant c
 kind_in text (shape.Api a) = kind.Api a

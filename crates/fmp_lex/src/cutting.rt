@@ -8,6 +8,7 @@ ghost use Rattle.fmp_lex.specs.Cutting.{word_kind, hex_piece, long_symbol, short
 
 use crate::packed::{Packed, Shape, Tokens};
 use crate::scanning::{Class, find_close, is_in, line_feeds, run_end, value_of};
+use crate::small::{Four, Three};
 use crate::token::{LexFault, Symbol, TextFault, Token, TokenList};
 use crate::words::{find_api, find_constant, find_keyword, find_service};
 use fmp_base::Name;
@@ -30,7 +31,7 @@ pub enum Start {
 }
 
 /// A piece of a text: spaces or a comment, or a token, up to a place; or no piece begins.
-#[derive(Clone, Copy, Debug, PartialEq, Eq)]
+#[derive(Drop)]
 pub enum Segment {
     Skip(usize),
     Whole(Shape, usize),
@@ -103,7 +104,7 @@ fn number(text: &[u8], end: usize, fits: bool, value: u64) -> Segment
     if end < text.len() && is_in(Class::Word, text[end]) {
         Segment::Fault(LexFault::Syntax)
     } else if fits && value <= 2_147_483_647 {
-        Segment::Whole(Shape::Number(value as i32), end)
+        Segment::Whole(Shape::Number(Four::new(value as u32)), end)
     } else {
         Segment::Fault(LexFault::Limit)
     }
@@ -159,7 +160,7 @@ fn word(text: &[u8], start: usize, end: usize) -> Segment
     }
     let name = Shape::Name {
         length: (end - start) as u8,
-        start: start as u32,
+        start: Three::new(start as u32),
     };
     Segment::Whole(name, end)
 }

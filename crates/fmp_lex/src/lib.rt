@@ -10,6 +10,7 @@ mod marks;
 mod packed;
 pub mod reading;
 mod scanning;
+mod small;
 pub mod token;
 pub mod words;
 

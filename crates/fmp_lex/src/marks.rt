@@ -21,6 +21,7 @@ pub enum Mark {
 }
 
 /// The place behind this mark, which has to stand at a place.
+#[inline(always)]
 pub fn expect_mark(tokens: &Tokens<'_>, at: usize, mark: Mark) -> Result<usize, FirstFault>
     requires { at ≤ length tokens.now }
     ensures { Steps result (RightToken (kinds_of tokens.now) (mark_kind mark) at) }

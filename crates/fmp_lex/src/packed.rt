@@ -5,6 +5,7 @@ ghost use Rattle.fmp_base.specs.Names.{name_from};
 ghost use Rattle.fmp_lex.specs.Packing.{IsPacked, Stands, kind_in, whole_in, line_of};
 ghost use Rattle.fmp_lex.specs.Reading.{kinds_of};
 
+use crate::small::{Four, Three};
 use crate::token::{LexFault, Symbol, TokenKind};
 use crate::words::{Api, Constant, Keyword};
 use fmp_base::{Name, Service};
@@ -12,10 +13,10 @@ use std::marker::Model;
 use std::snapshot::Snapshot;
 
 /// What a token is; a name by where it stands in the text.
-#[derive(Clone, Copy, Debug, PartialEq, Eq)]
+#[derive(Drop)]
 pub enum Shape {
-    Number(i32),
-    Name { length: u8, start: u32 },
+    Number(Four),
+    Name { length: u8, start: Three },
     Constant(Constant),
     Api(Api),
     Service(Service),
@@ -28,7 +29,7 @@ pub enum Shape {
 #[derive(Drop)]
 pub struct Packed {
     pub shape: Shape,
-    pub line: u32,
+    pub line: Three,
     pub start: Snapshot<u32>,
     pub end: Snapshot<u32>,
 }
@@ -36,6 +37,7 @@ pub struct Packed {
 impl Packed {
     /// The token that stands from `start` up to `end`.
     pub(crate) fn new(shape: Shape, line: u32, start: u32, end: u32) -> Packed
+        requires { line < 16777216 }
         ensures shape { result.shape ≡ shape }
         ensures line { result.line ≡ line }
         ensures start { result.start.value ≡ start }
@@ -43,7 +45,7 @@ impl Packed {
     {
         Packed {
             shape,
-            line,
+            line: Three::new(line),
             start: Snapshot::of(&start),
             end: Snapshot::of(&end),
         }
@@ -51,22 +53,22 @@ impl Packed {
 }
 
 /// What a token of this shape is in a text.
-fn kind_of(text: &[u8], shape: Shape) -> TokenKind
-    requires { Stands text.now shape }
-    ensures { result ≡ kind_in text.now shape }
+fn kind_of(text: &[u8], shape: &Shape) -> TokenKind
+    requires { Stands text.now shape.now }
+    ensures { result ≡ kind_in text.now shape.now }
 {
     match shape {
-        Shape::Number(number) => TokenKind::Number(number),
+        Shape::Number(number) => TokenKind::Number(number.get()),
         Shape::Name { length, start } => {
-            let start = start as usize;
-            name_of(&text[start..start + length as usize])
+            let start = start.get() as usize;
+            name_of(&text[start..start + *length as usize])
         }
-        Shape::Constant(constant) => TokenKind::Constant(constant),
-        Shape::Api(api) => TokenKind::Api(api),
-        Shape::Service(service) => TokenKind::Service(service),
-        Shape::Keyword(keyword) => TokenKind::Keyword(keyword),
-        Shape::Symbol(symbol) => TokenKind::Symbol(symbol),
-        Shape::Bad(fault) => TokenKind::Bad(fault),
+        Shape::Constant(constant) => TokenKind::Constant(*constant),
+        Shape::Api(api) => TokenKind::Api(*api),
+        Shape::Service(service) => TokenKind::Service(*service),
+        Shape::Keyword(keyword) => TokenKind::Keyword(*keyword),
+        Shape::Symbol(symbol) => TokenKind::Symbol(*symbol),
+        Shape::Bad(fault) => TokenKind::Bad(*fault),
     }
 }
 
@@ -128,7 +130,7 @@ impl<'a> Tokens<'a> {
             return None;
         }
         let packed = &self.packed[at];
-        Some(kind_of(self.text, packed.shape))
+        Some(kind_of(self.text, &packed.shape))
     }
 
     /// The line of the first byte of the token at a place, from 1.
@@ -138,6 +140,6 @@ impl<'a> Tokens<'a> {
         if at >= self.packed.len() {
             return None;
         }
-        Some(self.packed[at].line)
+        Some(self.packed[at].line.get())
     }
 }

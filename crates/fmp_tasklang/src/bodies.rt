@@ -37,7 +37,8 @@ fn variables(alloc: Global, tokens: &Tokens<'_>, at: usize) -> Result<(Vec<Word>
     Ok((found, i))
 }
 
-fn body(
+/// The body at a place, of the kind that its first token tells, and the place behind it.
+pub fn body(
     alloc: Global,
     tokens: &Tokens<'_>,
     kind: BodyKind,

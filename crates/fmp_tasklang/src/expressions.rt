@@ -22,6 +22,7 @@ fn literal(number: i32) -> Expression
 
 /// The operand at a place, where so many levels of nesting are open, and the place behind it.
 #[cycle(expressions)]
+#[inline(always)]
 fn operand(
     alloc: Global,
     tokens: &Tokens<'_>,

@@ -12,7 +12,9 @@ mod statements;
 pub mod trees;
 mod words;
 
+pub use bodies::body;
 pub use reading::read_tasks;
 pub use trees::{
     Body, BodyKind, Expression, Link, Operator, Program, ServiceCall, Statement, Word,
 };
+pub use words::body_kind_at;

@@ -211,6 +211,7 @@ pub fn body_kind_at(tokens: &Tokens<'_>, at: usize) -> Option<BodyKind>
 }
 
 /// The name that has to stand at a place, and the place behind it.
+#[inline(always)]
 pub fn expect_word(tokens: &Tokens<'_>, at: usize) -> Result<(Word, usize), FirstFault>
     requires { at ≤ length tokens.now }
     ensures { Finds itself result (RightWord (lines_of tokens.now) (kinds_of tokens.now) at) }

@@ -1,7 +1,6 @@
 use Rattle.std.proofs.Common.{◌≡◌, map, take}
-use Rattle.fmp_tasklang.specs.Views.{body_view}
-use Rattle.fmp_build.specs.Building as spec
+use Rattle.fmp_build.specs.Building.{head_of}
 use Rattle.fmp_build.proofs.heads.built_heads.Given as goal
 
-abbrev pub invariant-loop-body : goal.invariant-loop-body
-invariant-loop-body l = l.heads.items ≡ spec.built_heads (map body_view (take l.body-index l.program.bodies.items))
+abbrev pub invariant-loop-heading : goal.invariant-loop-heading
+invariant-loop-heading l = l.heads.items ≡ map head_of (take l.heading-index l.headings)

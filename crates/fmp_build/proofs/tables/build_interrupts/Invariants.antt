@@ -1,9 +1,11 @@
-use Rattle.std.proofs.Common.{◌≡◌, ◌++◌, map, take, drop}
-use Rattle.fmp_tasklang.specs.Views.{program_view}
+use Rattle.std.proofs.Common.{◌≡◌, List, ◌++◌, map, take, drop}
+use Rattle.fmp_tasklang.specs.Trees.{BodyTree}
+use Rattle.fmp_codegen.specs.Headings.{AreHeadings}
 use Rattle.fmp_build.specs.Building.{built_interrupt}
 use Rattle.fmp_build.proofs.tables.build_interrupts.Given as goal
 
 abbrev pub invariant-loop-interrupt : goal.invariant-loop-interrupt
 invariant-loop-interrupt l =
     let rows = l.initial.interrupts in
-    l.interrupts ≡ map (built_interrupt (program_view l.program)) (take l.interrupt-index rows) ++ drop l.interrupt-index rows
+    (bodies : List BodyTree) → AreHeadings l.headings bodies →
+    l.interrupts ≡ map (built_interrupt bodies) (take l.interrupt-index rows) ++ drop l.interrupt-index rows

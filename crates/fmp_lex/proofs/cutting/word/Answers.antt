@@ -14,4 +14,4 @@ returns-clause-piece c =
     let some = c.requires.some in
     let whole : c.args.start + (c.args.end - c.args.start) ≡ c.args.end = omega arith in
     let size = range_length text c.args.start c.args.end c.requires.within in
-    rw whole (name_short (slice_range text c.args.start c.args.end) c.args.end (c.in_default.ensures.word text) (omega (arith, size, c.if-end-start-gt-MAX.false)))
+    rw (c.new.ensures, whole) (name_short (slice_range text c.args.start c.args.end) c.args.end (c.in_default.ensures.word text) (omega (arith, size, c.if-end-start-gt-MAX.false)))

@@ -1,0 +1,170 @@
+-- Bodies are made one after another.
+use Rattle.std.proofs.Common.{◌≡◌, ℕ, List, [], ◌∷◌, ◌++◌, Option, Some, None, Result, Ok, Err, inl, inr, ◌<◌, ◌≤◌, ◌↔◌, length, map, slice_get, true, false, refl, sym, ap, ◌∙◌, append_assoc, append-nil, arith}
+use Rattle.std.specs.Prelude.{IfOk, is_some}
+use Rattle.std.specs.List.{AllByRecursion}
+use Rattle.std.proofs.lemmas.Bool.{cases_lt}
+use Rattle.std.proofs.lemmas.List.{map-append}
+use Rattle.fmp_base.specs.declared.names.Name.{Name}
+use Rattle.fmp_base.specs.Systems.{SystemTables}
+use Rattle.fmp_lex.specs.declared.fault.BuildFault.{BuildFault}
+use Rattle.fmp_lex.specs.declared.fault.BuildFault.TheVariants as build
+use Rattle.fmp_lex.specs.declared.fault.TextFile.TheVariants as file
+use Rattle.fmp_lex.specs.declared.reading.GrammarFault.{GrammarFault}
+use Rattle.fmp_lex.specs.declared.reading.ReadError.{ReadError}
+use Rattle.fmp_lex.specs.declared.reading.ReadError.TheVariants.{Memory, Fault}
+use Rattle.fmp_lex.specs.declared.token.TextFault.TheVariants as text_fault
+use Rattle.fmp_lex.specs.declared.token.Token.{Token}
+use Rattle.fmp_lex.specs.declared.token.TokenKind.{TokenKind}
+use Rattle.fmp_lex.specs.declared.token.TokenList.{TokenList}
+use Rattle.fmp_lex.specs.Cutting.{Cuts, end_line_of}
+use Rattle.fmp_lex.specs.Faults.{Spells, text_max, fault_of, IsSyntaxFault}
+use Rattle.fmp_lex.specs.Reading.{Outcome, stopped, Answers, kinds_of, IsFirstFault}
+use Rattle.fmp_lex.proofs.Wholes.{whole_stopped}
+use Rattle.fmp_tasklang.specs.Grammar.{Bodies}
+use Rattle.fmp_tasklang.specs.Reading.{EndsBodies, RightBodies, Tasks}
+use Rattle.fmp_tasklang.specs.Views.{body_view}
+use Rattle.fmp_tasklang.proofs.BodyPaths.{ends_there}
+use Rattle.fmp_tasklang.specs.Trees.{BodyTree}
+use Rattle.fmp_code.specs.declared.instructions.BodyCode.{BodyCode}
+use Rattle.fmp_code.specs.Instructions.{BodyTables, body_tables}
+use Rattle.fmp_codegen.specs.declared.headings.Heading.{Heading}
+use Rattle.fmp_codegen.specs.declared.offences.Offence.{Offence}
+use Rattle.fmp_codegen.specs.declared.texts.CompiledText.{CompiledText}
+use Rattle.fmp_codegen.specs.declared.texts.Made.{Made}
+use Rattle.fmp_codegen.specs.Compiling.{body_offence, bodies_offence, compiled_body, compiled}
+use Rattle.fmp_codegen.specs.Headings.{heading_of, AreHeadings}
+use Rattle.fmp_codegen.specs.Naming.{first_offence}
+use Rattle.fmp_codegen.specs.Texts.{AreMade, IsMadeUpTo, IsMadeOf, MadeText, IsTextCompiled}
+use Rattle.fmp_codegen.proofs.Headed.{names-of, length-headed, low-headed}
+use Rattle.fmp_codegen.proofs.Limits.{few-bodies}
+
+first-none : (o : Option Offence) → first_offence o None ≡ o
+first-none None = refl
+first-none (Some o) = refl
+
+first-assoc : (a b c : Option Offence) → first_offence a (first_offence b c) ≡ first_offence (first_offence a b) c
+first-assoc None b c = refl
+first-assoc (Some o) b c = refl
+
+abbrev names : List BodyTree → List Name
+names bodies = map (λ (b : BodyTree). b.name.name) bodies
+
+-- the first fault where a body stands behind others
+last_offence :
+    (tables : SystemTables) (before : List Name) (bodies : List BodyTree) (b : BodyTree) →
+    bodies_offence tables before (bodies ++ b ∷ []) ≡
+    first_offence (bodies_offence tables before bodies) (body_offence tables (before ++ names bodies) b)
+last_offence tables before [] b =
+    first-none (body_offence tables before b) ∙ ap (λ ns. body_offence tables ns b) (sym (append-nil before))
+last_offence tables before (x ∷ xs) b =
+    let one = x.name.name ∷ [] in
+    let first = body_offence tables before x in
+    let more = bodies_offence tables (before ++ one) xs in
+    ap (first_offence first) (last_offence tables (before ++ one) xs b)
+    ∙ first-assoc first more (body_offence tables ((before ++ one) ++ names xs) b)
+    ∙ ap (λ ns. first_offence (first_offence first more) (body_offence tables ns b)) (append_assoc before one (names xs))
+
+module _ (tables : SystemTables) (bodies : List BodyTree) (b : BodyTree) where
+  abbrev one_more : List BodyTree
+  one_more = bodies ++ b ∷ []
+
+  -- behind a fault nothing changes
+  pub made-stays : (made : Made) (o : Offence) → made.offence ≡ Some o → AreMade tables made bodies → AreMade tables made one_more
+  made-stays made o is h = record {
+    offence = is ∙ ap (λ x. first_offence x (body_offence tables (names bodies) b)) (sym is ∙ h.offence) ∙ sym (last_offence tables [] bodies b);
+    headings = λ none. let e : Some o ≡ None = sym is ∙ none in absurd (cc);
+    code = λ none. let e : Some o ≡ None = sym is ∙ none in absurd (cc);
+  }
+
+  module _ (made new : Made) (fine : made.offence ≡ None) (h : AreMade tables made bodies) where
+    abbrev judged : Option Offence
+    judged = body_offence tables (map (λ (x : Heading). x.name) made.headings.items) b
+
+    all_judged : bodies_offence tables [] one_more ≡ judged
+    all_judged =
+        last_offence tables [] bodies b
+        ∙ ap (λ x. first_offence x (body_offence tables (names bodies) b)) (sym h.offence ∙ fine)
+        ∙ ap (λ ns. body_offence tables ns b) (sym (names-of made.headings.items bodies (h.headings fine)))
+
+    -- a body with a fault
+    pub made-stops : (o : Offence) → judged ≡ Some o → new.offence ≡ Some o → AreMade tables new one_more
+    made-stops o is now = record {
+      offence = now ∙ sym is ∙ sym all_judged;
+      headings = λ none. let e : Some o ≡ None = sym now ∙ none in absurd (cc);
+      code = λ none. let e : Some o ≡ None = sym now ∙ none in absurd (cc);
+    }
+
+    -- a body without a fault
+    pub made-more :
+        judged ≡ None → new.offence ≡ made.offence → new.headings.items ≡ made.headings.items ++ heading_of b ∷ [] →
+        map body_tables new.bodies.items ≡ map body_tables made.bodies.items ++ compiled_body tables b ∷ [] →
+        AreMade tables new one_more
+    made-more is same headings code = record {
+      offence = same ∙ fine ∙ sym is ∙ sym all_judged;
+      headings = λ none. headings ∙ ap (λ hs. hs ++ heading_of b ∷ []) (h.headings fine) ∙ sym (map-append heading_of bodies (b ∷ []));
+      code = λ none. code ∙ ap (λ cs. cs ++ compiled_body tables b ∷ []) (h.code fine) ∙ sym (map-append (compiled_body tables) bodies (b ∷ []));
+    }
+
+-- what the reader of a body answered, handed on
+pub read-error :
+    (tables : SystemTables) (line : ℕ → ℕ) (ts : List TokenKind) (e : ReadError) (P : Outcome BodyTree → Type 0) →
+    ((j : ℕ) (why : GrammarFault) → P (stopped j why) → RightBodies line ts 0 (stopped j why)) →
+    Answers body_view (Err e) P → IsMadeUpTo tables line ts (Err e)
+read-error tables line ts Memory P f a = tt
+read-error tables line ts (Fault e) P f a = f e.at e.why a
+
+pub made-stopped :
+    (tables : SystemTables) (line : ℕ → ℕ) (ts : List TokenKind) (e : ReadError) → IsMadeUpTo tables line ts (Err e) →
+    IsMadeOf tables line ts (Err e)
+made-stopped tables line ts Memory a = tt
+made-stopped tables line ts (Fault f) a = whole_stopped (Bodies line) EndsBodies (ends_there line) ts f.at f.why a
+
+-- what is answered of the bodies that a text spells
+module _ (tables : SystemTables) (made : Made) (bodies : List BodyTree) (are : AreMade tables made bodies) where
+  pub text-few : (r : Result CompiledText BuildFault) → MadeText made r → IfOk r (λ c. length c.headings.items ≤ 255)
+  text-few (Ok c) h =
+      let few = few-bodies tables bodies (sym are.offence ∙ h.0) in
+      let long : length c.headings.items ≡ length bodies = ap length (h.1 ∙ are.headings h.0) ∙ length-headed bodies in
+      omega (arith, few, long)
+  text-few (Err f) h = tt
+
+  pub text-low : (r : Result CompiledText BuildFault) → MadeText made r → IfOk r (λ c. AllByRecursion (λ (h : Heading). h.depth ≤ 64) c.headings.items)
+  text-low (Ok c) h = low-headed tables bodies c.headings.items (sym are.offence ∙ h.0) (h.1 ∙ are.headings h.0)
+  text-low (Err f) h = tt
+
+  pub text-compiled :
+      (text : List ℕ) (ts : List Token) → Spells Tasks text ts bodies → (r : Result CompiledText BuildFault) → MadeText made r →
+      IsTextCompiled tables text r
+  text-compiled text ts spelled (Ok c) h =
+      (ts, bodies, spelled, sym are.offence ∙ h.0, h.1 ∙ are.headings h.0, h.2 ∙ are.code h.0)
+  text-compiled text ts spelled (Err build.Memory) h = tt
+  text-compiled text ts spelled (Err (build.At f line why)) h = inr (h.0, ts, bodies, spelled, sym are.offence ∙ h.1)
+
+pub not_long : (text : List ℕ) (list : TokenList) → ((Ok list ≡ Err text_fault.TooLong) ↔ (text_max < length text)) → length text ≤ text_max
+not_long text list h = elim (cases_lt text_max (length text)) [
+  | inl lt ↦ let e = h.1 lt in absurd (cc)
+  | inr le ↦ le
+]
+
+text-fault : (tables : SystemTables) (text : List ℕ) (f : BuildFault) → IsSyntaxFault file.Source Tasks text f → IsTextCompiled tables text (Err f)
+text-fault tables text build.Memory x = tt
+text-fault tables text (build.At f line why) x = inl x
+
+pub text-stopped : (tables : SystemTables) (text : List ℕ) (ts : List Token) (j end_line : ℕ) (why : GrammarFault) (f : BuildFault) → length text ≤ text_max →
+    Cuts text 0 ts → IsFirstFault (Tasks ts) (kinds_of ts) j why → end_line ≡ end_line_of text → f ≡ fault_of file.Source end_line (slice_get ts j) why →
+    IsTextCompiled tables text (Err f)
+text-stopped tables text ts j end_line why f short cut first line is =
+    text-fault tables text f (inr (short, (ts, cut, j, why, first, is ∙ ap (λ n. fault_of file.Source n (slice_get ts j) why) line)))
+
+pub some-there : (o : Option Offence) → is_some o ≡ true → (x : Offence) × (o ≡ Some x)
+some-there None h = absurd (cc)
+some-there (Some x) h = (x, refl)
+
+pub none-there : (o : Option Offence) → is_some o ≡ false → o ≡ None
+none-there None h = refl
+none-there (Some x) h = absurd (cc)
+
+pub code-more :
+    (before after : List BodyCode) (x : BodyCode) (t : BodyTables) → after ≡ before ++ x ∷ [] → body_tables x ≡ t →
+    map body_tables after ≡ map body_tables before ++ t ∷ []
+code-more before after x t pushed is = rw (pushed, map-append, is) refl

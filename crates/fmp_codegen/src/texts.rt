@@ -1,0 +1,148 @@
+//! From a task text to the code of its bodies. Each body is read, judged and compiled before the next one is read, so
+//! that no more than one syntax tree is held at once.
+
+ghost use Rattle.std.specs.Prelude.{◌≡◌, ◌≤◌, ◌++◌, ◌∷◌, [], List, length, IfOk, OnOk};
+ghost use Rattle.std.specs.List.{AllByRecursion};
+ghost use Rattle.fmp_base.specs.Ranges.{IsInRange};
+ghost use Rattle.fmp_base.specs.Systems.{tables_of};
+ghost use Rattle.fmp_lex.specs.Reading.{kinds_of};
+ghost use Rattle.fmp_tasklang.specs.Expressions.{lines_of};
+ghost use Rattle.fmp_tasklang.specs.Trees.{BodyTree};
+ghost use Rattle.fmp_tasklang.specs.Views.{body_view};
+ghost use Rattle.fmp_codegen.specs.Scopes.{HoldsNumbers};
+ghost use Rattle.fmp_codegen.specs.Texts.{AreMade, IsMadeUpTo, IsMadeOf, IsTextCompiled, MadeText};
+
+use crate::compiling::{append, compile_body, judge_body};
+use crate::headings::{Heading, heading_with};
+use crate::names::Objects;
+use crate::numbers::number_objects;
+use crate::offences::Offence;
+use fmp_base::System;
+use fmp_code::{BodyCode, Code};
+use fmp_lex::{
+    BuildFault, FaultKind, FirstFault, GrammarFault, ReadError, TextFault, TextFile, Tokens,
+    fault_at, tokens,
+};
+use fmp_tasklang::{Body, body, body_kind_at};
+use std::alloc::{AllocError, Global};
+
+/// The code of the bodies of a text, and what is known of each body beside it.
+#[derive(Debug, Drop)]
+pub struct CompiledText {
+    pub headings: Vec<Heading>,
+    pub code: Code,
+}
+
+/// What is made of the bodies that are read so far: their code, or the first fault in them.
+#[derive(Debug, Drop)]
+pub struct Made {
+    pub headings: Vec<Heading>,
+    pub bodies: Vec<BodyCode>,
+    pub offence: Option<Offence>,
+}
+
+/// Judges a body that stands behind those before it, and compiles it where there is no fault.
+fn add_body(
+    alloc: Global,
+    objects: &Objects<'_>,
+    made: &mut Made,
+    body: &Body,
+) -> Result<(), AllocError>
+    requires { HoldsNumbers objects.now }
+    ensures { let tables = tables_of objects.now.system.now in OnOk result ((bodies : List BodyTree) →
+        AreMade tables made.old bodies → AreMade tables made.new (bodies ++ body_view body.now ∷ [])) }
+{
+    if made.offence.is_some() {
+        return Ok(());
+    }
+    match judge_body(objects, &made.headings, body) {
+        Ok(extent) => {
+            let code = compile_body(alloc, objects, body, extent.size as u16)?;
+            append(&mut made.bodies, code)?;
+            append(&mut made.headings, heading_with(body, extent.depth))?;
+        }
+        Err(offence) => made.offence = Some(offence),
+    }
+    Ok(())
+}
+
+/// What is made of the bodies at the head of these tokens, and the place behind them.
+fn compile_bodies(
+    alloc: Global,
+    tokens: &Tokens<'_>,
+    objects: &Objects<'_>,
+) -> Result<(Made, usize), ReadError>
+    requires { HoldsNumbers objects.now }
+    ensures { IsMadeUpTo (tables_of objects.now.system.now) (lines_of tokens.now) (kinds_of tokens.now) result }
+{
+    let mut made = Made {
+        headings: Vec::new(alloc),
+        bodies: Vec::new(alloc),
+        offence: None,
+    };
+    let mut i = 0;
+    'bodies: while let Some(kind) = body_kind_at(tokens, i) {
+        let (one, next) = body(alloc, tokens, kind, i)?;
+        add_body(alloc, objects, &mut made, &one)?;
+        i = next;
+    }
+    Ok((made, i))
+}
+
+/// What is made of the program that these tokens spell, or the place of their first fault.
+fn compile_tokens(
+    alloc: Global,
+    tokens: &Tokens<'_>,
+    objects: &Objects<'_>,
+) -> Result<Made, ReadError>
+    requires { HoldsNumbers objects.now }
+    ensures { IsMadeOf (tables_of objects.now.system.now) (lines_of tokens.now) (kinds_of tokens.now) result }
+{
+    let (made, next) = compile_bodies(alloc, tokens, objects)?;
+    if next < tokens.len() {
+        return Err(ReadError::Fault(FirstFault {
+            at: next,
+            why: GrammarFault::Syntax,
+        }));
+    }
+    Ok(made)
+}
+
+/// The code of a text whose bodies were read, or the first fault in them.
+fn answer(made: Made) -> Result<CompiledText, BuildFault>
+    ensures { MadeText made result }
+{
+    match made.offence {
+        Some(offence) => Err(BuildFault::At(TextFile::Source, offence.line, offence.why)),
+        None => Ok(CompiledText {
+            headings: made.headings,
+            code: Code {
+                bodies: made.bodies,
+            },
+        }),
+    }
+}
+
+/// The code of the bodies that a task text spells over the objects of a system, or the first fault of the text: that of
+/// its syntax, or else the first in its bodies. The faults are those of `read_tasks` and then those of `compile`.
+pub fn compile_text(alloc: Global, text: &[u8], system: &System) -> Result<CompiledText, BuildFault>
+    requires { IsInRange (tables_of system.now) }
+    ensures compiled { IsTextCompiled (tables_of system.now) text.now result }
+    ensures few { IfOk result (λ made. length made.headings.items ≤ 255) }
+    ensures low { IfOk result (λ made. AllByRecursion (λ h. h.depth ≤ 64) made.headings.items) }
+{
+    let numbers = number_objects(alloc, system)?;
+    let objects = Objects {
+        system,
+        numbers: &numbers,
+    };
+    match tokens(alloc, text) {
+        Ok(list) => match compile_tokens(alloc, &list.tokens, &objects) {
+            Ok(made) => answer(made),
+            Err(ReadError::Memory) => Err(BuildFault::Memory),
+            Err(ReadError::Fault(fault)) => Err(fault_at(&list, TextFile::Source, fault)),
+        },
+        Err(TextFault::TooLong) => Err(BuildFault::At(TextFile::Source, 1, FaultKind::Limit)),
+        Err(TextFault::Memory) => Err(BuildFault::Memory),
+    }
+}
