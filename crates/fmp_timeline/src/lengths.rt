@@ -1,0 +1,62 @@
+//! Lengths in a picture.
+use std::ops::{Add, Sub};
+
+/// A length or a place in tenths of a pixel. What leaves the range of numbers stops at its end.
+#[derive(Clone, Copy, Debug, PartialEq, Eq)]
+pub struct Tenths(pub i32);
+
+/// So many whole pixels.
+pub fn px(pixels: u32) -> Tenths {
+    Tenths(i32::try_from(pixels).unwrap_or(i32::MAX).saturating_mul(10))
+}
+
+impl Tenths {
+    /// The half, cut to a tenth.
+    pub fn half(self) -> Tenths {
+        Tenths(self.0.checked_div(2).unwrap_or(0))
+    }
+
+    /// The same length to the other side.
+    pub fn back(self) -> Tenths {
+        Tenths(0) - self
+    }
+
+    /// So many times this.
+    pub fn times(self, count: u32) -> Tenths {
+        Tenths(
+            self.0
+                .saturating_mul(i32::try_from(count).unwrap_or(i32::MAX)),
+        )
+    }
+
+    /// The greater of two.
+    pub fn or_more(self, other: Tenths) -> Tenths {
+        if self.0 < other.0 { other } else { self }
+    }
+
+    /// The smaller of two.
+    pub fn or_less(self, other: Tenths) -> Tenths {
+        if other.0 < self.0 { other } else { self }
+    }
+
+    /// Whether this is less.
+    pub fn is_below(self, other: Tenths) -> bool {
+        self.0 < other.0
+    }
+}
+
+impl Add for Tenths {
+    type Output = Tenths;
+
+    fn add(self, other: Tenths) -> Tenths {
+        Tenths(self.0.saturating_add(other.0))
+    }
+}
+
+impl Sub for Tenths {
+    type Output = Tenths;
+
+    fn sub(self, other: Tenths) -> Tenths {
+        Tenths(self.0.saturating_sub(other.0))
+    }
+}

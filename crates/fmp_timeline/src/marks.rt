@@ -1,0 +1,195 @@
+//! What events do to tasks and handlers: marks in their lanes, and links between them.
+use fmp_base::{Call, Caller, Er, Fault, Handler, Line, Reply};
+
+/// What a mark says.
+#[derive(Clone, Copy, Debug, PartialEq, Eq)]
+pub enum Sign {
+    /// A task started.
+    Start,
+    /// An activation was queued.
+    Queued,
+    /// A wait ended well.
+    Released,
+    /// A wakeup was queued.
+    WakeupQueued,
+    /// A wait ended by its time limit.
+    TimedOut,
+    /// A wait was broken off.
+    BrokenOff,
+    /// A call did not wait and got nothing.
+    Polled,
+    /// A call was refused with this code.
+    Refused(Er),
+    /// A body stopped with a fault.
+    Faulted(Fault),
+    /// A body ended.
+    Ended,
+    /// A task was terminated.
+    Terminated,
+    /// A task has this priority now.
+    Priority(u8),
+    /// An interrupt was requested.
+    Requested,
+    /// A cyclic handler became due.
+    Due,
+}
+
+impl Sign {
+    /// Whether the mark stands where the task was before the event, not where it is after it.
+    pub fn stands_before(self) -> bool {
+        matches!(
+            self,
+            Sign::Polled | Sign::Refused(_) | Sign::Faulted(_) | Sign::Ended | Sign::Terminated
+        )
+    }
+
+    /// Whether something went wrong.
+    pub fn is_wrong(self) -> bool {
+        matches!(self, Sign::Refused(_) | Sign::Faulted(_))
+    }
+}
+
+/// A mark at an event.
+#[derive(Clone, Copy, Debug, PartialEq, Eq)]
+pub struct Mark {
+    pub event: u32,
+    pub sign: Sign,
+}
+
+/// A service call at an event.
+#[derive(Clone, Copy, Debug, PartialEq, Eq)]
+pub struct Made {
+    pub event: u32,
+    pub call: Call,
+    pub reply: Option<Reply>,
+}
+
+/// What one did to another at an event.
+#[derive(Clone, Copy, Debug, PartialEq, Eq)]
+pub enum Bond {
+    /// It started the other.
+    Starts,
+    /// It released the other, or queued a wakeup.
+    Releases,
+    /// It migrated the other.
+    Migrates,
+    /// It terminated, suspended or resumed the other, or changed its priority.
+    Changes,
+}
+
+/// A line from the one who did something to the task that it was done to.
+#[derive(Clone, Copy, Debug, PartialEq, Eq)]
+pub struct Link {
+    pub event: u32,
+    pub from: Caller,
+    pub task: u8,
+    pub bond: Bond,
+}
+
+/// A task that is assigned to another processor from an event on.
+#[derive(Clone, Copy, Debug, PartialEq, Eq)]
+pub struct Migration {
+    pub event: u32,
+    pub task: u8,
+    pub from: u8,
+    pub to: u8,
+}
+
+/// The one whose call, end or fault an event is.
+pub fn actor_of(lines: &[Line]) -> Option<Caller> {
+    match lines.first()? {
+        Line::Call { caller, .. } | Line::End { caller, .. } | Line::Fault { caller, .. } => {
+            Some(*caller)
+        }
+        _ => None,
+    }
+}
+
+/// The task that a call names by this number, where 0 is the caller.
+pub fn task_named(number: i32, caller: Caller) -> Option<u8> {
+    match (number, caller) {
+        (0, Caller::Task(task)) => Some(task),
+        _ => u8::try_from(number.checked_sub(1)?).ok(),
+    }
+}
+
+/// What an accepted call does to a task, if it names one to do something to.
+pub fn bond_of(call: Call) -> Option<(i32, Bond)> {
+    match call {
+        Call::ActTsk { task } | Call::IactTsk { task } | Call::MactTsk { task, .. } => {
+            Some((task, Bond::Starts))
+        }
+        Call::WupTsk { task } | Call::IwupTsk { task } => Some((task, Bond::Releases)),
+        Call::MigTsk { task, .. } => Some((task, Bond::Migrates)),
+        Call::TerTsk { task }
+        | Call::ChgPri { task, .. }
+        | Call::SusTsk { task }
+        | Call::RsmTsk { task } => Some((task, Bond::Changes)),
+        _ => None,
+    }
+}
+
+/// Whether one of these lines says that this task starts or is released.
+pub fn moves(lines: &[Line], place: u8) -> bool {
+    lines.iter().any(|line| match line {
+        Line::Starts { task, .. } | Line::Gets { task, .. } => *task == place,
+        _ => false,
+    })
+}
+
+/// The mark of a code that a call answers at once.
+pub fn answer_sign(code: Er) -> Option<Sign> {
+    match code {
+        Er::Ok => None,
+        Er::Tmout | Er::Rlwai => Some(Sign::Polled),
+        _ => Some(Sign::Refused(code)),
+    }
+}
+
+/// The mark of a code that a released task gets.
+fn release_sign(code: Er) -> Sign {
+    match code {
+        Er::Ok => Sign::Released,
+        Er::Tmout => Sign::TimedOut,
+        _ => Sign::BrokenOff,
+    }
+}
+
+/// The mark of a line, and in whose lane it stands; a call has its marks beside these.
+pub fn line_sign(line: Line) -> Option<(Caller, Sign)> {
+    match line {
+        Line::Int(place) => Some((Caller::Handler(Handler::Interrupt(place)), Sign::Requested)),
+        Line::Call {
+            caller,
+            reply: Some(reply),
+            ..
+        } => Some((caller, answer_sign(reply.code)?)),
+        Line::End { caller, .. } => Some((caller, Sign::Ended)),
+        Line::Fault { caller, fault, .. } => Some((caller, Sign::Faulted(fault))),
+        Line::Gets { task, reply, .. } => Some((Caller::Task(task), release_sign(reply.code))),
+        Line::Starts { task, .. } => Some((Caller::Task(task), Sign::Start)),
+        Line::Pends { cyclic, .. } => {
+            Some((Caller::Handler(Handler::Cyclic(cyclic)), Sign::Due))
+        }
+        _ => None,
+    }
+}
+
+/// The link of a line to a task that the actor starts or releases.
+pub fn line_link(line: Line, event: u32, actor: Option<Caller>) -> Option<Link> {
+    let (task, bond) = match line {
+        Line::Starts { task, .. } => (task, Bond::Starts),
+        Line::Gets { task, .. } => (task, Bond::Releases),
+        _ => return None,
+    };
+    let from = actor?;
+    if from == Caller::Task(task) {
+        return None;
+    }
+    Some(Link {
+        event,
+        from,
+        task,
+        bond,
+    })
+}

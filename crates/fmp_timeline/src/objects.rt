@@ -1,0 +1,316 @@
+//! The objects of a run: their values, and the tasks that wait for them in the order of their queues.
+use crate::marks::task_named;
+use crate::names::Topic;
+use crate::states::Moment;
+use crate::tracks::Track;
+use fmp_base::{Call, Caller, Er, Line, Phase, QueueOrder, System, TaskBlock, WaitCause};
+use std::alloc::{AllocError, Global};
+
+/// What the lane of an object shows.
+#[derive(Clone, Copy, Debug, PartialEq, Eq)]
+pub struct ObjectShown {
+    /// The count, the pattern, the words or letters that are queued, or the word.
+    pub value: i32,
+    /// Where the tasks that wait for it begin among all that were noted.
+    pub start: usize,
+    /// Where they end.
+    pub end: usize,
+}
+
+/// An object: what it is, how its tasks queue, what it is now, and what it was.
+#[derive(Drop)]
+pub struct Object {
+    pub topic: Topic,
+    order: QueueOrder,
+    /// The most words that it holds, of a data queue.
+    most: i32,
+    now: ObjectShown,
+    /// Whether its queue is other than before.
+    moved: bool,
+    pub track: Track<ObjectShown>,
+}
+
+/// A wait of a task for an object.
+#[derive(Clone, Copy, Debug, PartialEq, Eq)]
+struct Wait {
+    topic: Topic,
+    /// Its priority, where these queue by priority, or 0.
+    rank: u8,
+    /// The event at which the task took its place in the queue.
+    since: u32,
+}
+
+/// All objects of a system, and the waits of its tasks.
+#[derive(Drop)]
+pub struct Objects {
+    pub all: Vec<Object>,
+    waits: Vec<Option<Wait>>,
+    /// Lists of tasks that waited for an object, one behind another.
+    pub waiting: Vec<u8>,
+}
+
+/// What a wait is for, if it is for an object.
+fn topic_of(cause: WaitCause) -> Option<Topic> {
+    match cause {
+        WaitCause::Sleep | WaitCause::Delay => None,
+        WaitCause::Semaphore(place) => Some(Topic::Semaphore(place)),
+        WaitCause::Flag { flag, .. } => Some(Topic::Flag(flag)),
+        WaitCause::Sending { queue, .. } | WaitCause::Receiving(queue) => {
+            Some(Topic::DataQueue(queue))
+        }
+        WaitCause::Mailbox(place) => Some(Topic::Mailbox(place)),
+    }
+}
+
+/// The object of which an accepted call that releases nobody queues one more, or one less.
+fn level_change(call: Call) -> Option<(Topic, i32)> {
+    let (place, queue, change) = match call {
+        Call::SndDtq { queue, .. }
+        | Call::PsndDtq { queue, .. }
+        | Call::TsndDtq { queue, .. }
+        | Call::FsndDtq { queue, .. }
+        | Call::IpsndDtq { queue, .. }
+        | Call::IfsndDtq { queue, .. } => (queue, true, 1),
+        Call::RcvDtq { queue } | Call::PrcvDtq { queue } | Call::TrcvDtq { queue, .. } => {
+            (queue, true, -1)
+        }
+        Call::SndMbx { mailbox, .. } => (mailbox, false, 1),
+        Call::RcvMbx { mailbox } | Call::PrcvMbx { mailbox } | Call::TrcvMbx { mailbox, .. } => {
+            (mailbox, false, -1)
+        }
+        _ => return None,
+    };
+    let place = u8::try_from(place.checked_sub(1)?).ok()?;
+    let topic = if queue {
+        Topic::DataQueue(place)
+    } else {
+        Topic::Mailbox(place)
+    };
+    Some((topic, change))
+}
+
+/// The call of an event that was accepted, and who made it.
+fn accepted(lines: &[Line]) -> Option<(Call, Caller)> {
+    match lines.first()? {
+        Line::Call {
+            caller,
+            call,
+            reply: Some(reply),
+            ..
+        } if reply.code == Er::Ok => Some((*call, *caller)),
+        _ => None,
+    }
+}
+
+/// The task whose place in its queue an event takes anew, by a call that sets its priority.
+fn replaced_task(lines: &[Line]) -> Option<u8> {
+    match accepted(lines)? {
+        (Call::ChgPri { task, .. }, caller) => task_named(task, caller),
+        _ => None,
+    }
+}
+
+/// Whether an event released a task.
+fn releases(lines: &[Line]) -> bool {
+    lines.iter().any(|line| matches!(line, Line::Gets { .. }))
+}
+
+/// The tasks that wait for an object, in the order of its queue.
+fn queue_of(alloc: Global, waits: &[Option<Wait>], topic: Topic) -> Result<Vec<u8>, AllocError> {
+    let mut keyed: Vec<(u8, u32, u8)> = Vec::new(alloc);
+    for (task, wait) in (0u8..255).zip(waits) {
+        if let Some(wait) = wait
+            && wait.topic == topic
+        {
+            keyed.push((wait.rank, wait.since, task))?;
+        }
+    }
+    keyed.sort_unstable();
+    let mut queue = Vec::new(alloc);
+    for (_, _, task) in keyed.as_slice() {
+        queue.push(*task)?;
+    }
+    Ok(queue)
+}
+
+impl Objects {
+    fn add(
+        &mut self,
+        alloc: Global,
+        topic: Topic,
+        order: QueueOrder,
+        (value, most): (i32, i32),
+    ) -> Result<(), AllocError> {
+        let now = ObjectShown {
+            value,
+            start: 0,
+            end: 0,
+        };
+        self.all.push(Object {
+            topic,
+            order,
+            most,
+            now,
+            moved: false,
+            track: Track::new(alloc),
+        })?;
+        Ok(())
+    }
+
+    /// The objects of a system, or none where they are not wanted. `AllocError` for want of memory.
+    pub fn new(alloc: Global, sys: &System, wanted: bool) -> Result<Objects, AllocError> {
+        let mut objects = Objects {
+            all: Vec::new(alloc),
+            waits: vec![in alloc; None; sys.tasks.len()]?,
+            waiting: Vec::new(alloc),
+        };
+        if !wanted {
+            return Ok(objects);
+        }
+        for (i, config) in (0u8..255).zip(sys.semaphores.as_slice()) {
+            objects.add(alloc, Topic::Semaphore(i), config.order, (0, 0))?;
+        }
+        for (i, config) in (0u8..255).zip(sys.flags.as_slice()) {
+            objects.add(alloc, Topic::Flag(i), config.order, (0, 0))?;
+        }
+        objects.add_queues(alloc, sys)?;
+        for (i, _) in (0u8..255).zip(sys.shared_words.as_slice()) {
+            objects.add(alloc, Topic::SharedWord(i), QueueOrder::Fifo, (0, 0))?;
+        }
+        Ok(objects)
+    }
+
+    fn add_queues(&mut self, alloc: Global, sys: &System) -> Result<(), AllocError> {
+        for (i, config) in (0u8..255).zip(sys.data_queues.as_slice()) {
+            let most = i32::from(config.capacity);
+            self.add(alloc, Topic::DataQueue(i), config.order, (0, most))?;
+        }
+        for (i, config) in (0u8..255).zip(sys.mailboxes.as_slice()) {
+            self.add(alloc, Topic::Mailbox(i), config.order, (0, i32::MAX))?;
+        }
+        Ok(())
+    }
+
+    /// How the tasks that wait for this object queue.
+    fn order_of(&self, topic: Topic) -> QueueOrder {
+        let object = self.all.iter().find(|object| object.topic == topic);
+        object.map_or(QueueOrder::Fifo, |object| object.order)
+    }
+
+    /// The wait of a task after an event, if it waits for an object. It keeps its place where nothing moved it.
+    fn wait_of(
+        &self,
+        event: u32,
+        block: &TaskBlock,
+        old: Option<Wait>,
+        moved: bool,
+    ) -> Option<Wait> {
+        let Phase::Waiting(cause) = block.phase else {
+            return None;
+        };
+        let topic = topic_of(cause)?;
+        let in_order = matches!(cause, WaitCause::Receiving(_));
+        let ranked = !in_order && self.order_of(topic) == QueueOrder::Priority;
+        let rank = if ranked { block.priority } else { 0 };
+        let stays = |wait: &Wait| wait.topic == topic && wait.rank == rank && !(ranked && moved);
+        let since = old.filter(stays).map_or(event, |wait| wait.since);
+        Some(Wait { topic, rank, since })
+    }
+
+    /// Notes that the queue of an object is other than before.
+    fn note_move(&mut self, wait: Option<Wait>) {
+        let Some(wait) = wait else {
+            return;
+        };
+        for object in self.all.iter_mut() {
+            if object.topic == wait.topic {
+                object.moved = true;
+            }
+        }
+    }
+
+    /// The waits after an event.
+    fn take_waits(&mut self, event: u32, moment: &Moment<'_>) {
+        let replaced = replaced_task(moment.lines);
+        for (task, block) in (0u8..255).zip(moment.blocks) {
+            let place = usize::from(task);
+            let old = self.waits.get(place).copied().flatten();
+            let new = self.wait_of(event, block, old, replaced == Some(task));
+            if new != old {
+                self.note_move(old);
+                self.note_move(new);
+                if let Some(wait) = self.waits.get_mut(place) {
+                    *wait = new;
+                }
+            }
+        }
+    }
+
+    /// The words and letters that are queued after an event.
+    fn take_levels(&mut self, lines: &[Line]) {
+        if releases(lines) {
+            return;
+        }
+        let Some((topic, change)) = accepted(lines).and_then(|(call, _)| level_change(call)) else {
+            return;
+        };
+        for object in self.all.iter_mut() {
+            if object.topic == topic {
+                let level = object.now.value.saturating_add(change);
+                object.now.value = level.max(0).min(object.most);
+            }
+        }
+    }
+
+    /// The values after an event.
+    fn take_values(&mut self, moment: &Moment<'_>) {
+        for object in self.all.iter_mut() {
+            let value = match object.topic {
+                Topic::Semaphore(i) => moment.semaphores.get(usize::from(i)).map(|x| i32::from(*x)),
+                Topic::Flag(i) => moment.flags.get(usize::from(i)).map(|x| i32::from(*x)),
+                Topic::SharedWord(i) => moment.shared_words.get(usize::from(i)).copied(),
+                _ => None,
+            };
+            object.now.value = value.unwrap_or(object.now.value);
+        }
+    }
+
+    /// The queues that are other than before.
+    fn take_queues(&mut self, alloc: Global) -> Result<(), AllocError> {
+        for object in self.all.iter_mut() {
+            if object.moved {
+                let queue = queue_of(alloc, &self.waits, object.topic)?;
+                object.now.start = self.waiting.len();
+                self.waiting.extend_from_slice(&queue)?;
+                object.now.end = self.waiting.len();
+                object.moved = false;
+            }
+        }
+        Ok(())
+    }
+
+    /// One moment more. `AllocError` for want of memory.
+    pub fn show(
+        &mut self,
+        alloc: Global,
+        event: u32,
+        moment: &Moment<'_>,
+    ) -> Result<(), AllocError> {
+        if self.all.is_empty() {
+            return Ok(());
+        }
+        self.take_levels(moment.lines);
+        self.take_values(moment);
+        self.take_waits(event, moment);
+        self.take_queues(alloc)?;
+        for object in self.all.iter_mut() {
+            object.track.show(event, object.now)?;
+        }
+        Ok(())
+    }
+
+    /// The tasks that wait for an object, in the order of its queue.
+    pub fn waiting_for(&self, shown: &ObjectShown) -> &[u8] {
+        self.waiting.get(shown.start..shown.end).unwrap_or(&[])
+    }
+}

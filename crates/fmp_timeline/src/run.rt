@@ -1,0 +1,258 @@
+//! A run as it is drawn: the states of its lanes over its events, and what its events did.
+use crate::marks::{
+    Bond, Link, Made, Mark, Migration, Sign, actor_of, bond_of, line_link, line_sign, moves,
+    task_named,
+};
+use crate::objects::Objects;
+use crate::page::Span;
+use crate::spins::Spins;
+use crate::states::{Handling, Moment, Occupant, TaskShown};
+use crate::tracks::Track;
+use fmp_base::{Call, Caller, Er, Handler, Line, Lock, System};
+use std::alloc::{AllocError, Global};
+
+/// Numbers of tasks, of cyclic handlers and of interrupts end here.
+const PLACES: usize = 256;
+
+/// An event: what its axis shows, and where its lines end in the text.
+#[derive(Clone, Copy, Debug, PartialEq, Eq)]
+pub struct Note {
+    /// The clock after it.
+    pub clock: u32,
+    /// The place of the interrupt that it requested.
+    pub interrupt: Option<u8>,
+    /// Whether the clock went on.
+    pub ticks: bool,
+    /// Where its lines end.
+    pub end: usize,
+}
+
+/// What a task or a handler did, and what came to it.
+#[derive(Drop)]
+pub struct Deeds {
+    pub marks: Vec<Mark>,
+    pub calls: Vec<Made>,
+}
+
+/// A run so far: what each event did, and the states between them.
+#[derive(Drop)]
+pub struct Run {
+    pub notes: Vec<Note>,
+    pub text: Vec<u8>,
+    pub tasks: Vec<Track<TaskShown>>,
+    pub occupants: Vec<Track<Occupant>>,
+    pub locks: Vec<Track<Lock>>,
+    pub dispatches: Vec<Track<bool>>,
+    pub cyclics: Vec<Track<Handling>>,
+    pub interrupts: Vec<Track<Handling>>,
+    /// The priorities of the tasks after the last event.
+    pub priorities: Vec<u8>,
+    /// Of tasks, cyclic handlers and interrupts, by `place_of`.
+    pub deeds: Vec<Deeds>,
+    pub links: Vec<Link>,
+    pub migrations: Vec<Migration>,
+    pub spins: Spins,
+    pub objects: Objects,
+    /// The events at which a call was refused or a body at fault.
+    pub wrong: Vec<u32>,
+}
+
+/// The place of a task or handler among all.
+fn place_of(caller: Caller) -> usize {
+    match caller {
+        Caller::Task(task) => usize::from(task),
+        Caller::Handler(Handler::Cyclic(cyclic)) => PLACES + usize::from(cyclic),
+        Caller::Handler(Handler::Interrupt(place)) => 2 * PLACES + usize::from(place),
+    }
+}
+
+/// So many tracks with no states.
+fn tracks<S: Copy + PartialEq + Drop>(
+    alloc: Global,
+    count: usize,
+) -> Result<Vec<Track<S>>, AllocError> {
+    let mut all = Vec::with_capacity(alloc, count)?;
+    for _track in 0..count {
+        all.push(Track::new(alloc))?;
+    }
+    Ok(all)
+}
+
+fn no_deeds(alloc: Global) -> Result<Vec<Deeds>, AllocError> {
+    let mut all = Vec::new(alloc);
+    for _actor in 0..3 * PLACES {
+        all.push(Deeds {
+            marks: Vec::new(alloc),
+            calls: Vec::new(alloc),
+        })?;
+    }
+    Ok(all)
+}
+
+impl Run {
+    /// A run of a system before its setup, with its objects or without. `AllocError` for want of memory, as of each
+    /// call below.
+    pub fn new(alloc: Global, sys: &System, objects: bool) -> Result<Run, AllocError> {
+        let processors = usize::from(sys.processors);
+        Ok(Run {
+            notes: Vec::new(alloc),
+            text: Vec::new(alloc),
+            tasks: tracks(alloc, sys.tasks.len())?,
+            occupants: tracks(alloc, processors)?,
+            locks: tracks(alloc, processors)?,
+            dispatches: tracks(alloc, processors)?,
+            cyclics: tracks(alloc, sys.cyclics.len())?,
+            interrupts: tracks(alloc, 32)?,
+            priorities: vec![in alloc; 0; sys.tasks.len()]?,
+            deeds: no_deeds(alloc)?,
+            links: Vec::new(alloc),
+            migrations: Vec::new(alloc),
+            spins: Spins::new(alloc, processors)?,
+            objects: Objects::new(alloc, sys, objects)?,
+            wrong: Vec::new(alloc),
+        })
+    }
+
+    /// The number of the next event; setup has 0.
+    pub fn next_event(&self) -> u32 {
+        u32::try_from(self.notes.len()).unwrap_or(u32::MAX)
+    }
+
+    /// What a task or a handler did, and what came to it.
+    pub fn deeds_of(&self, caller: Caller) -> Option<&Deeds> {
+        self.deeds.get(place_of(caller))
+    }
+
+    /// The states of a handler.
+    pub fn handling(&self, handler: Handler) -> Option<&Track<Handling>> {
+        match handler {
+            Handler::Cyclic(place) => self.cyclics.get(usize::from(place)),
+            Handler::Interrupt(place) => self.interrupts.get(usize::from(place)),
+        }
+    }
+
+    /// Whether a handler pends or runs after some event of a panel.
+    pub fn is_handling(&self, handler: Handler, span: &Span) -> bool {
+        let Some(track) = self.handling(handler) else {
+            return false;
+        };
+        let idle = Handling {
+            runs: false,
+            pends: false,
+        };
+        let places = track.places(span.first, span.last);
+        places.len() > 1 || track.at(span.first) != Some(idle)
+    }
+
+    fn mark(&mut self, event: u32, at: Caller, sign: Sign) -> Result<(), AllocError> {
+        if let Some(deeds) = self.deeds.get_mut(place_of(at)) {
+            deeds.marks.push(Mark { event, sign })?;
+        }
+        if sign.is_wrong() {
+            self.wrong.push(event)?;
+        }
+        Ok(())
+    }
+
+    /// The marks and the links of the lines.
+    pub fn take_lines(&mut self, event: u32, lines: &[Line]) -> Result<(), AllocError> {
+        let actor = actor_of(lines);
+        for line in lines {
+            if let Some((at, sign)) = line_sign(*line) {
+                self.mark(event, at, sign)?;
+            }
+            if let Some(link) = line_link(*line, event, actor) {
+                self.links.push(link)?;
+            }
+        }
+        Ok(())
+    }
+
+    /// The mark of an accepted call on a task, which has no line.
+    fn quiet_sign(&self, call: Call, task: u8, moment: &Moment<'_>) -> Option<Sign> {
+        let moved = moves(moment.lines, task);
+        match call {
+            Call::ActTsk { .. } | Call::IactTsk { .. } | Call::MactTsk { .. } if !moved => {
+                Some(Sign::Queued)
+            }
+            Call::WupTsk { .. } | Call::IwupTsk { .. } if !moved => Some(Sign::WakeupQueued),
+            Call::TerTsk { .. } => Some(Sign::Terminated),
+            Call::ChgPri { .. } => {
+                let state = moment.states.get(usize::from(task))?;
+                let old = self.priorities.get(usize::from(task))?;
+                (*old != state.priority).then_some(Sign::Priority(state.priority))
+            }
+            _ => None,
+        }
+    }
+
+    /// Whether a task is assigned to another processor than before.
+    fn is_moved(&self, task: u8, moment: &Moment<'_>) -> bool {
+        let place = usize::from(task);
+        let before = self.tasks.get(place).and_then(|track| track.last());
+        match (before, moment.states.get(place)) {
+            (Some(before), Some(after)) => before.processor != after.processor,
+            _ => false,
+        }
+    }
+
+    /// What an accepted call does to a task beside its lines.
+    fn take_effect(
+        &mut self,
+        event: u32,
+        caller: Caller,
+        call: Call,
+        moment: &Moment<'_>,
+    ) -> Result<(), AllocError> {
+        let Some((number, bond)) = bond_of(call) else {
+            return Ok(());
+        };
+        let Some(task) = task_named(number, caller) else {
+            return Ok(());
+        };
+        let sign = self.quiet_sign(call, task, moment);
+        if let Some(sign) = sign {
+            self.mark(event, Caller::Task(task), sign)?;
+        }
+        let seen = match bond {
+            Bond::Starts | Bond::Releases => sign.is_some(),
+            Bond::Migrates => self.is_moved(task, moment),
+            Bond::Changes => true,
+        };
+        if seen && caller != Caller::Task(task) {
+            self.links.push(Link {
+                event,
+                from: caller,
+                task,
+                bond,
+            })?;
+        }
+        Ok(())
+    }
+
+    /// The call of an event.
+    pub fn take_call(&mut self, event: u32, moment: &Moment<'_>) -> Result<(), AllocError> {
+        let Some(
+            Line::Call {
+                caller,
+                call,
+                reply,
+                ..
+            },
+        ) = moment.lines.first()
+        else {
+            return Ok(());
+        };
+        if let Some(deeds) = self.deeds.get_mut(place_of(*caller)) {
+            deeds.calls.push(Made {
+                event,
+                call: *call,
+                reply: *reply,
+            })?;
+        }
+        match reply {
+            Some(reply) if reply.code == Er::Ok => self.take_effect(event, *caller, *call, moment),
+            _ => Ok(()),
+        }
+    }
+}
