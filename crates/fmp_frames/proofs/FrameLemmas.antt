@@ -12,6 +12,7 @@ use Rattle.fmp_base.specs.Meanings.{Meaning}
 use Rattle.fmp_base.specs.Steps.{Reaction, Nothing, Did, effect_of, step}
 use Rattle.fmp_kernel.specs.KernelViews.{KernelView, view_after, view_after_all}
 use Rattle.fmp_frames.specs.Frames.{FrameTable, frame_of, frames, framed_on}
+use Rattle.fmp_frames.specs.Showing.{HasShown}
 
 -- a map over a list with one more
 pub map_push : {A B : Type 0} (f : A → B) (xs ys : List A) (x : A) → ys ≡ xs ++ x ∷ [] → map f ys ≡ map f xs ++ f x ∷ []
@@ -120,3 +121,20 @@ module _ {B C : Type 0} (meaning : B → Meaning C) where
   after-step k k' events i d end lt h so_far =
       ap (λ (v : KernelView B C). view_after_all meaning v (drop (i + 1) events)) h
       ∙ sym (ap (λ (es : List Event). view_after_all meaning k es) (cut events i d lt)) ∙ so_far
+
+  -- to be shown all frames from an event on that did something is to be shown its frame and then those behind it
+  pub shown-done : {V : Type 0} (shown : V → FrameTable → V → Type 0) (k k' : KernelView B C) (events : List Event) (i : ℕ) (d : Event) (v u last : V)
+      → i < length events → effect.Done ≡ effect_of (step_of k (get_or events i d)) → k' ≡ view_after k (step_of k (get_or events i d))
+      → shown v (last_of k') u → HasShown shown u (frames_of k' (drop (i + 1) events)) last
+      → HasShown shown v (frames_of k (drop i events)) last
+  shown-done shown k k' events i d v u last lt e h one rest =
+      subst (λ (fs : List FrameTable). HasShown shown v fs last)
+      (frames-done k k' events i d [] (last_of k' ∷ []) (frames_of k (drop i events)) lt e h refl refl) (u, one, rest)
+
+  -- and from one on that did nothing
+  pub shown-nothing : {V : Type 0} (shown : V → FrameTable → V → Type 0) (k k' : KernelView B C) (events : List Event) (i : ℕ) (d : Event) (v last : V)
+      → i < length events → effect.Nothing ≡ effect_of (step_of k (get_or events i d)) → k' ≡ view_after k (step_of k (get_or events i d))
+      → HasShown shown v (frames_of k' (drop (i + 1) events)) last → HasShown shown v (frames_of k (drop i events)) last
+  shown-nothing shown k k' events i d v last lt e h rest =
+      subst (λ (fs : List FrameTable). HasShown shown v fs last)
+      (frames-nothing k k' events i d [] (frames_of k (drop i events)) lt e h refl) rest

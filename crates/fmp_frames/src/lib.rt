@@ -3,7 +3,9 @@
 
 mod frame;
 mod reading;
+mod showing;
 mod taking;
 
 pub use frame::{Frame, last_frame};
+pub use showing::{Viewer, show_all};
 pub use taking::frames;

@@ -1,0 +1,12 @@
+use Rattle.std.proofs.Common.{◌+◌, ◌≤◌, ◌^◌, drop, length}
+use Rattle.fmp_frames.specs.Showing.{HasShown}
+use Rattle.fmp_frames.proofs.FrameLemmas.{frames_of}
+use Rattle.fmp_frames.proofs.showing.show_all.Given as goal
+
+abbrev pub invariant-loop-e : goal.invariant-loop-e
+invariant-loop-e g l =
+    record {
+      shown : (last : _) → HasShown g.V.Viewer.shown l.viewer (frames_of g.B.Body.meaning l.kernel (drop l.e-index l.events)) last
+          → HasShown g.V.Viewer.shown l.fn.viewer (frames_of g.B.Body.meaning l.fn.kernel l.events) last;
+      few : l.kernel.done + length l.events ≤ 2 ^ 20 + l.e-index;
+    }

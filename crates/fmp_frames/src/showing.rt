@@ -1,0 +1,53 @@
+//! A run, shown frame by frame.
+ghost use Rattle.std.specs.Prelude.{◌≡◌, ◌+◌, ◌≤◌, ◌^◌, length, OnOk};
+ghost use Rattle.fmp_frames.specs.Frames.{FrameTable, frame_of, frames, table_of};
+ghost use Rattle.fmp_frames.specs.Showing.{HasShown};
+
+use crate::frame::{Frame, last_frame};
+use fmp_base::{Effect, Event};
+use fmp_kernel::{Body, Kernel};
+use std::alloc::{AllocError, Global};
+
+/// What a run is shown to, frame by frame.
+pub trait Viewer {
+    /// What it becomes by a frame.
+    ghost shown: { Self → FrameTable → Self → Type 0 };
+
+    /// One frame more. `AllocError` for want of memory.
+    fn show(&mut self, alloc: Global, frame: &Frame) -> Result<(), AllocError>
+        ensures { OnOk result (shown self.old (table_of frame.now) self.new) };
+}
+
+/// Shows the frame of the last event that did something.
+fn show_last<B: Body, V: Viewer>(
+    alloc: Global,
+    kernel: &Kernel<B>,
+    viewer: &mut V,
+) -> Result<(), AllocError>
+    ensures { OnOk result (V.shown viewer.old
+        (frame_of kernel.now.system kernel.now.world.state kernel.now.lines) viewer.new) }
+{
+    let frame = last_frame(alloc, kernel)?;
+    viewer.show(alloc, &frame)
+}
+
+/// Takes events on a kernel, and shows the frame of each that did something, in order. `AllocError` for want of memory.
+pub fn show_all<B: Body, V: Viewer>(
+    alloc: Global,
+    kernel: &mut Kernel<B>,
+    events: &[Event],
+    viewer: &mut V,
+) -> Result<(), AllocError>
+    requires { kernel.old.done + length events.now ≤ 2 ^ 20 }
+    ensures { OnOk result (HasShown V.shown viewer.old
+        (frames kernel.old.system (B.meaning kernel.old.body) kernel.old.bound kernel.old.world events.now)
+        viewer.new) }
+{
+    for e in events {
+        match kernel.step(*e) {
+            Effect::Done => show_last(alloc, kernel, viewer)?,
+            Effect::Nothing => {}
+        }
+    }
+    Ok(())
+}
