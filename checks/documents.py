@@ -14,6 +14,7 @@ says what a block is, and how it is checked:
     calls [handler]                  rows `STATEMENTS -> ANSWER, ..`: what a task (a handler) of the bench is answered
     faults cfg|src|steps|image       rows `TEXT -> FAULT`
     console                          commands behind `$ `, each with what it prints, in a copy of examples/
+    rust FILE                        code of this file of crates/, as it stands there
     bytes                            the image of the last system of blocks, in hexadecimal digits
     grammar, sh                      not checked: rules of a grammar, and commands of the toolchain
 
@@ -31,7 +32,7 @@ import tempfile
 from pathlib import Path
 
 ROOT = Path(__file__).resolve().parent.parent
-DOCUMENTS = ("README.md", "examples/README.md", "docs/LANGUAGE.md")
+DOCUMENTS = ("README.md", "examples/README.md", "docs/LANGUAGE.md", "docs/LIBRARY.md")
 FENCE = re.compile(r"^```(\w*) *(.*)$")
 REPEAT = re.compile(r"\[(\d+) times: (.*?)\]")
 CALL = re.compile(r"^\| \d+ \| `(\w+)\((.*?)\)` \|")
@@ -318,6 +319,11 @@ class Checker:
             if command is not None:
                 self.verdict(line, command, "\n".join(wanted), self.program.shell(command))
             command, wanted = row[2:], []
+
+    def check_rust(self, line, info, text):
+        path = ROOT / "crates" / info
+        stands = path.is_file() and f"\n{text}" in path.read_text()
+        self.verdict(line, f"code of {info}", True, stands)
 
     def check_grammar(self, line, info, text):
         pass

@@ -1,0 +1,2 @@
+pub mod PulseLemmas
+pub mod Pulses

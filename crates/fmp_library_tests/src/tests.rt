@@ -1,0 +1,4 @@
+//! The programs, each run on a small system.
+
+mod pulses;
+mod running;
