@@ -1,5 +1,5 @@
 -- Pulses are lawful bodies, and there is one for each task and handler.
-use Rattle.std.proofs.Common.{◌≡◌, ℕ, zero, suc, ◌≤◌, true, false, arith, refl}
+use Rattle.std.proofs.Common.{◌≡◌, ℕ, zero, suc, ◌≤◌, false, arith, refl}
 use Rattle.std.specs.Prelude.{Option, None, Some}
 use Rattle.fmp_base.specs.Stretches.{is_over}
 use Rattle.fmp_base.specs.declared.bodies.HandlerStart.{HandlerStart}
