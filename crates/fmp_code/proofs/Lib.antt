@@ -1,8 +1,12 @@
 pub mod Bodies
 pub mod CallsMade
 pub mod Conjunctions
+pub mod Filling
+pub mod Frames
 pub mod OperandLists
+pub mod Operations
 pub mod Places
 pub mod Requests
 pub mod Steps
 pub mod Stops
+pub mod Tables

@@ -3,6 +3,7 @@ pub mod Instructions
 pub mod Laws
 pub mod Longer
 pub mod Machine
+pub mod Registers
 pub mod Stretches
 pub mod Verify
 pub mod Vms

@@ -1,13 +1,18 @@
 //! Stack code, the verifier that says which code is fit to run, and the machine that runs it.
 #![tactic(auto)]
 
+mod decoded;
+mod decoder;
 mod delivery;
+mod frame;
 mod holding;
 pub mod instructions;
 pub mod laws;
 mod machine;
 mod operands;
 pub mod operators;
+mod registers;
+mod table;
 mod verifier;
 mod vm;
 
