@@ -2,13 +2,14 @@
 """Makes the manual page and the completions of shells from the command line's own description, and tells whether those
 that stand in docs/ are these.
 
-    checks/manual.py [--write] [PROGRAM]
+    checks/manual.py [--write] [--of NAME] [PROGRAM]
 
-PROGRAM is crates/fmp/out/fmp where it is not given, as `rt ci` or `rt run` leaves it. With `--write` the files are
-written: after each change of the command line or of its help. Without it they are compared, the completion of bash is
-tried, and `make install` is run into a folder of its own.
+NAME is fmp, or fmp_view. PROGRAM is crates/NAME/out/NAME where it is not given, as `rt ci` or `rt run` leaves it. With
+`--write` the files are written: after each change of the command line or of its help. Without it they are compared, the
+completion of bash is tried, and `make install` is run into a folder of its own.
 """
 
+import argparse
 import filecmp
 import os
 import re
@@ -19,14 +20,28 @@ from dataclasses import dataclass, field
 from pathlib import Path
 
 ROOT = Path(__file__).resolve().parent.parent
-FILES = {"man/fmp.1": "page", "completions/fmp.bash": "bash", "completions/_fmp": "zsh", "completions/fmp.fish": "fish"}
-INSTALLED = {
-    "share/man/man1/fmp.1": "man/fmp.1",
-    "share/bash-completion/completions/fmp": "completions/fmp.bash",
-    "share/zsh/site-functions/_fmp": "completions/_fmp",
-    "share/fish/vendor_completions.d/fmp.fish": "completions/fmp.fish",
-}
+PROGRAMS = {"fmp": "PROGRAM", "fmp_view": "VIEW"}  # with the word of the Makefile for each
 SECTIONS = ("Commands", "Arguments", "Options")
+
+
+def files(name):
+    """The files that are made for the program of this name, and how."""
+    return {
+        f"man/{name}.1": page,
+        f"completions/{name}.bash": bash,
+        f"completions/_{name}": zsh,
+        f"completions/{name}.fish": fish,
+    }
+
+
+def installed(name):
+    """Where they are installed."""
+    return {
+        f"share/man/man1/{name}.1": f"man/{name}.1",
+        f"share/bash-completion/completions/{name}": f"completions/{name}.bash",
+        f"share/zsh/site-functions/_{name}": f"completions/_{name}",
+        f"share/fish/vendor_completions.d/{name}.fish": f"completions/{name}.fish",
+    }
 
 
 @dataclass
@@ -82,16 +97,17 @@ def read_help(text):
     return read
 
 
-def helped(program, *words):
+def helped(name, program, *words):
     """The help of these words from the program called by its own name, whatever its file is called."""
-    done = subprocess.run(["fmp", *words, "--help"], executable=program, capture_output=True, check=True)
+    done = subprocess.run([name, *words, "--help"], executable=program, capture_output=True, check=True)
     return read_help(done.stdout.decode())
 
 
 @dataclass
 class Manual:
-    """The whole command line: its own help and that of each of its commands."""
+    """The whole command line of a program: its own help and that of each of its commands."""
 
+    name: str
     top: Help
     commands: dict
 
@@ -100,10 +116,10 @@ class Manual:
         return {name: command.items["Options"] for name, command in self.commands.items()}
 
 
-def described(program):
-    top = helped(program)
-    names = [item.form for item in top.items["Commands"] if item.form != "help"]
-    return Manual(top, {name: helped(program, name) for name in names})
+def described(name, program):
+    top = helped(name, program)
+    commands = [item.form for item in top.items["Commands"] if item.form != "help"]
+    return Manual(name, top, {command: helped(name, program, command) for command in commands})
 
 
 # The manual page
@@ -125,11 +141,13 @@ def as_it_stands(lines):
 def page(manual):
     top = manual.top
     short = re.split("[:.]", top.about)[0]
-    lines = ['.TH FMP 1 "" "fmp" "User Commands"', ".SH NAME", f"fmp \\- {roff(short[0].lower() + short[1:])}"]
+    lines = [f'.TH {manual.name.upper()} 1 "" "fmp" "User Commands"', ".SH NAME"]
+    lines.append(f"{manual.name} \\- {roff(short[0].lower() + short[1:])}")
     lines.append(".SH SYNOPSIS")
     for command in manual.commands.values():
         lines += [f"\\fB{roff(command.usage)}\\fR", ".br"]
-    lines += ["\\fBfmp\\fR", ".SH DESCRIPTION", roff(top.about), ".SH COMMANDS"]
+    lines += [f"\\fB{manual.name}\\fR"] if "With no command" in top.about else []
+    lines += [".SH DESCRIPTION", roff(top.about), ".SH COMMANDS"]
     for name, command in manual.commands.items():
         lines += [f".SS {name}", roff(command.about)]
         lines += listed(command.items["Arguments"])
@@ -152,8 +170,8 @@ def bash(manual):
     valued = "|".join(it.names()[-1] for options in manual.options().values() for it in options if it.takes())
     first = " ".join([*manual.commands, "help", *(it for item in manual.top.items["Options"] for it in item.names())])
     return "\n".join([
-        "# Completion of fmp for bash. Made by checks/manual.py from the program's help.",
-        "_fmp() {",
+        f"# Completion of {manual.name} for bash. Made by checks/manual.py from the program's help.",
+        f"_{manual.name}() {{",
         '    local word=${COMP_WORDS[COMP_CWORD]} before=${COMP_WORDS[COMP_CWORD-1]} words=""',
         "    COMPREPLY=()",
         '    if [ "$COMP_CWORD" -eq 1 ]; then',
@@ -170,7 +188,7 @@ def bash(manual):
         '        *) COMPREPLY=($(compgen -f -- "$word")) ;;',
         "    esac",
         "}",
-        "complete -o filenames -F _fmp fmp",
+        f"complete -o filenames -F _{manual.name} {manual.name}",
     ]) + "\n"
 
 
@@ -182,8 +200,9 @@ def zsh(manual):
     def named(text):
         return quoted(text.replace("[", "\\[").replace("]", "\\]").replace(":", "\\:"))
 
-    lines = ["#compdef fmp", "# Completion of fmp for zsh. Made by checks/manual.py from the program's help."]
-    lines += ["_fmp() {", "    local -a commands", "    commands=("]
+    name = manual.name
+    lines = [f"#compdef {name}", f"# Completion of {name} for zsh. Made by checks/manual.py from the program's help."]
+    lines += [f"_{name}() {{", "    local -a commands", "    commands=("]
     lines += [f"        '{name}:{named(command.about)}'" for name, command in manual.commands.items()]
     lines += ["    )", "    if (( CURRENT == 2 )); then", "        _describe command commands", "        return"]
     lines += ["    fi", "    case $words[2] in"]
@@ -196,7 +215,7 @@ def zsh(manual):
         lines += [f"        {name})", "            _arguments \\"]
         lines += [f"                {word} \\" for word in given[:-1]]
         lines += [f"                {given[-1]}", "            ;;"]
-    lines += ["        help) _describe command commands ;;", "    esac", "}", '_fmp "$@"']
+    lines += ["        help) _describe command commands ;;", "    esac", "}", f'_{manual.name} "$@"']
     return "\n".join(lines) + "\n"
 
 
@@ -204,11 +223,11 @@ def fish(manual):
     def one(condition, item):
         words = [f"-s {it[1:]}" if not it.startswith("--") else f"-l {it[2:]}" for it in item.names()]
         value = " -x" if item.takes() else ""
-        return f"complete -c fmp -n '{condition}' {' '.join(words)}{value} -d '{quoted(item.text)}'"
+        return f"complete -c {manual.name} -n '{condition}' {' '.join(words)}{value} -d '{quoted(item.text)}'"
 
-    lines = ["# Completion of fmp for fish. Made by checks/manual.py from the program's help."]
+    lines = [f"# Completion of {manual.name} for fish. Made by checks/manual.py from the program's help."]
     for name, command in manual.commands.items():
-        lines.append(f"complete -c fmp -f -n __fish_use_subcommand -a {name} -d '{quoted(command.about)}'")
+        lines.append(f"complete -c {manual.name} -f -n __fish_use_subcommand -a {name} -d '{quoted(command.about)}'")
     lines += [one("__fish_use_subcommand", item) for item in manual.top.items["Options"]]
     for name, options in manual.options().items():
         lines += [one(f"__fish_seen_subcommand_from {name}", item) for item in options]
@@ -230,51 +249,57 @@ class Verdicts:
             print(f"FAILED: {what}")
 
 
-def completed(script, *words):
-    """What bash completes these words to."""
+def completed(name, *words):
+    """What bash completes these words to, behind the program's name."""
+    script, words = ROOT / f"docs/completions/{name}.bash", [name, *words]
     given = f"COMP_WORDS=({' '.join(words)}); COMP_CWORD={len(words) - 1}"
-    command = f'. "{script}"; {given}; _fmp; echo "${{COMPREPLY[@]}}"'
+    command = f'. "{script}"; {given}; _{name}; echo "${{COMPREPLY[@]}}"'
     return subprocess.run(["bash", "-c", command], capture_output=True, cwd=ROOT / "docs").stdout.decode().split()
 
 
 def check_completion(verdicts, manual):
-    script = ROOT / "docs/completions/fmp.bash"
+    of = manual.name
     for name, options in manual.options().items():
-        verdicts.verdict(f"bash completes {name}", name in completed(script, "fmp", name[:2]))
+        verdicts.verdict(f"bash completes {name}", name in completed(of, name[:2]))
         words = {word for option in options for word in option.names() if word.startswith("--")}
-        verdicts.verdict(f"bash completes the options of {name}", words <= set(completed(script, "fmp", name, "--")))
-        verdicts.verdict(f"bash completes files of {name}", "LANGUAGE.md" in completed(script, "fmp", name, "LANG"))
+        verdicts.verdict(f"bash completes the options of {name}", words <= set(completed(of, name, "--")))
+        verdicts.verdict(f"bash completes files of {name}", "LANGUAGE.md" in completed(of, name, "LANG"))
 
 
-def check_install(verdicts, program):
+def check_install(verdicts, name, program):
     with tempfile.TemporaryDirectory() as room:
-        words = ["make", "-s", "-C", ROOT, "install", f"PREFIX={room}", f"PROGRAM={program}"]
+        words = ["make", "-s", "-C", ROOT, "install", f"PREFIX={room}", f"{PROGRAMS[name]}={program}"]
         done = subprocess.run(words, capture_output=True)
         said = done.stdout.decode()
         verdicts.verdict(f"make install: {done.stderr.decode()}", done.returncode == 0)
-        copies = {f"{room}/{target}": ROOT / "docs" / source for target, source in INSTALLED.items()}
-        for target, source in {**copies, f"{room}/bin/fmp": program}.items():
+        copies = {f"{room}/{target}": ROOT / "docs" / source for target, source in installed(name).items()}
+        for target, source in {**copies, f"{room}/bin/{name}": program}.items():
             same = os.path.exists(target) and filecmp.cmp(target, source, shallow=False)
             verdicts.verdict(f"make install copies {source}", same)
             verdicts.verdict(f"make install says where it puts {source}", target in said)
 
 
 def main():
-    words = [word for word in sys.argv[1:] if word != "--write"]
-    program = Path(words[0] if words else ROOT / "crates/fmp/out/fmp").resolve()
+    parser = argparse.ArgumentParser(description="Makes the manual page and the completions, or compares them.")
+    parser.add_argument("program", metavar="PROGRAM", nargs="?", type=Path, help="crates/NAME/out/NAME")
+    parser.add_argument("--of", metavar="NAME", choices=PROGRAMS, default="fmp", help="fmp, or fmp_view")
+    parser.add_argument("--write", action="store_true", help="write the files")
+    options = parser.parse_args()
+    name = options.of
+    program = (options.program or ROOT / f"crates/{name}/out/{name}").resolve()
     if not os.access(program, os.X_OK):
         sys.exit(f"checks/manual.py: there is no program {program}")
-    manual, verdicts = described(program), Verdicts()
+    manual, verdicts = described(name, program), Verdicts()
     verdicts.verdict("the help tells its commands", len(manual.commands) > 2)
-    for name, make in FILES.items():
-        path, text = ROOT / "docs" / name, globals()[make](manual)
-        if "--write" in sys.argv:
+    for file, make in files(name).items():
+        path, text = ROOT / "docs" / file, make(manual)
+        if options.write:
             path.parent.mkdir(exist_ok=True)
             path.write_text(text)
         stands = path.exists() and path.read_text() == text
-        verdicts.verdict(f"docs/{name} is not what the help tells: checks/manual.py --write makes it", stands)
+        verdicts.verdict(f"docs/{file} is not what the help tells: checks/manual.py --write makes it", stands)
     check_completion(verdicts, manual)
-    check_install(verdicts, program)
+    check_install(verdicts, name, program)
     print(f"checks/manual.py: {verdicts.passed} passed, {verdicts.failed} failed")
     sys.exit(1 if verdicts.failed else 0)
 

@@ -1,0 +1,232 @@
+#!/bin/sh
+# Runs the proved program that looks at systems on the examples, and compares its status, its standard output, its standard
+# error and the files that it leaves, each to the byte. What is expected is written out here, worked out by hand from the
+# rules and the traces of the examples, never taken from the program.
+#
+#   checks/view.sh [PROGRAM [FMP]]
+#
+# PROGRAM is crates/fmp_view/out/fmp_view and FMP is crates/fmp/out/fmp where they are not given.
+set -u
+root=$(cd "$(dirname "$0")/.." && pwd)
+view=${1:-$root/crates/fmp_view/out/fmp_view}
+fmp=${2:-$root/crates/fmp/out/fmp}
+case $view in /*) ;; *) view=$PWD/$view ;; esac
+case $fmp in /*) ;; *) fmp=$PWD/$fmp ;; esac
+for program in "$view" "$fmp"; do
+    if [ ! -x "$program" ]; then
+        echo "checks/view.sh: there is no program $program" >&2
+        exit 2
+    fi
+done
+room=$(mktemp -d)
+trap 'rm -rf "$room"' EXIT
+cd "$room" || exit 2
+LC_ALL=C
+export LC_ALL
+passed=0
+failed=0
+
+verdict() { # verdict NAME PROBLEM: the case passed where the problem is empty
+    if [ -z "$2" ]; then
+        passed=$((passed + 1))
+    else
+        failed=$((failed + 1))
+        echo "FAILED: $1: $2"
+    fi
+}
+
+# run NAME STATUS WORD..: the program on these words ends with this status, and prints the file 'wanted' and says the file
+# 'said', both to the byte; the two are empty before the next case.
+run() {
+    name=$1 wanted=$2
+    shift 2
+    "$view" "$@" > output 2> errors < /dev/null
+    status=$?
+    problem=
+    [ $status -eq "$wanted" ] || problem="status $status; "
+    cmp -s wanted output || problem="${problem}it prints other than it should; "
+    cmp -s said errors || problem="${problem}it says '$(head -c 200 errors)'"
+    verdict "$name" "$problem"
+    : > wanted
+    : > said
+}
+: > wanted
+: > said
+
+for system in queue watchdog interrupt; do
+    "$fmp" build "$root/examples/$system.cfg" "$root/examples/$system.src" $system.img > built || exit 2
+    cp "$root/examples/$system.steps" .
+done
+
+# What a code means.
+cat > wanted <<'END'
+E_TMOUT: polling failure or time-out
+  when: What was waited for was not there at once, or not within the time limit.
+  example: pol_sem(1) with count 0.
+END
+run 'code: E_TMOUT' 0 code E_TMOUT
+cat > wanted <<'END'
+L2: no image
+  when: The first four bytes are not FMPI.
+  example: A text in place of an image.
+END
+run 'code: L2' 0 code L2
+
+# Of one processor there is one order: two tasks that both end.
+printf 'run 1\nrun 1\nrun 1\nrun 1\nrun 1\nrun 1\n' > wanted
+printf 'quiet: no processor goes on, and the clock changes nothing\n' > said
+run 'drive: queue' 0 drive queue.img
+printf 'run 1\nrun 1\n' > wanted
+printf 'as many events as were asked for are done\n' > said
+run 'drive: two events' 0 drive queue.img --events 2
+printf 'as many events as were asked for are done\n' > said
+run 'drive: no events' 0 drive queue.img --events=0
+
+# The trace of the queue: PRODUCER calls twice, is preempted at both calls and ends; CONSUMER waits once, and ends.
+cat > wanted <<'END'
+task      starts   calls   waits  time-outs  preemptions  events   share
+PRODUCER       1       2       0          0            2       3   50.0%
+CONSUMER       1       2       1          0            0       3   50.0%
+END
+run 'stats: queue' 0 stats queue.img queue.steps
+printf 'run 1\nrun 1\n' > two.steps
+cat > wanted <<'END'
+task      starts   calls   waits  time-outs  preemptions  events   share
+PRODUCER       1       1       0          0            1       1   50.0%
+CONSUMER       1       1       1          0            0       1   50.0%
+END
+run 'stats: two events' 0 stats queue.img two.steps
+
+run 'waves: queue' 0 waves queue.img queue.steps queue.vcd
+cat > values <<'END'
+$enddefinitions $end
+#0
+$dumpvars
+b00000000000000000000000000000000 !
+b00000001 "
+b000000000 #
+b000000000 $
+1%
+b00 &
+b010 '
+1(
+b0001 )
+b01010 *
+b000 +
+b00000000 ,
+b000 -
+0.
+b0001 /
+b00101 0
+b000 1
+b00000000 2
+b00000000 3
+$end
+#1
+b00000010 "
+b001 '
+0(
+b010 -
+1.
+#2
+b00000001 "
+b010 '
+1(
+b011 -
+0.
+b110 1
+b00000001 2
+b00000001 3
+#3
+b00000010 "
+b001 '
+0(
+b010 -
+1.
+b000 1
+b00000000 2
+b00000000 3
+#4
+#5
+b00000001 "
+b010 '
+1(
+b000 -
+0.
+#6
+b00000000 "
+b000 '
+0(
+#7
+END
+sed -n '/^.enddefinitions/,$p' queue.vcd | cmp -s - values
+verdict 'waves: values' "$([ $? -eq 0 ] || echo 'they are other than they should be')"
+cat > names <<'END'
+$scope module fmp $end
+$var wire 32 ! clock $end
+$scope module p1 $end
+$var wire 8 " run $end
+$var wire 9 # handler $end
+$var wire 9 $ lock $end
+$var wire 1 % dispatch $end
+$var wire 2 & refused $end
+$upscope $end
+$scope module tasks $end
+$scope module PRODUCER $end
+$var wire 3 ' state $end
+$var wire 1 ( running $end
+$var wire 4 ) processor $end
+$var wire 5 * priority $end
+$var wire 3 + wait_kind $end
+$var wire 8 , wait_object $end
+$upscope $end
+$scope module CONSUMER $end
+$var wire 3 - state $end
+$var wire 1 . running $end
+$var wire 4 / processor $end
+$var wire 5 0 priority $end
+$var wire 3 1 wait_kind $end
+$var wire 8 2 wait_object $end
+$upscope $end
+$upscope $end
+$scope module objects $end
+$scope module QUEUE $end
+$var wire 8 3 waiting $end
+$upscope $end
+$upscope $end
+$upscope $end
+END
+sed -n '/^.scope module fmp/,/^.enddefinitions/p' queue.vcd | sed '$d' | cmp -s - names
+verdict 'waves: names' "$([ $? -eq 0 ] || echo 'they are other than they should be')"
+
+# Faults, as `fmp` has them.
+printf 'FMP' > short.img
+echo 'image: L1' > said
+run 'stats: a short image' 1 stats short.img queue.steps
+printf 'run 1\nrun one\n' > wrong.steps
+echo 'steps:2: S1' > said
+run 'waves: a wrong step' 1 waves queue.img wrong.steps none.vcd
+verdict 'waves: no file after a fault' "$([ ! -e none.vcd ] || echo 'there is one')"
+echo 'file: none.img' > said
+run 'drive: no image' 3 drive none.img
+cp queue.img same.img
+"$view" waves same.img queue.steps same.img > output 2> errors
+[ $? -eq 2 ] && grep -q 'the file OUT is one of the two that are read' errors && cmp -s queue.img same.img
+verdict 'waves: over the image' "$([ $? -eq 0 ] || echo 'it is not refused')"
+"$view" code B9 > output 2> errors
+[ $? -eq 2 ] && grep -q 'no code is printed so' errors
+verdict 'code: none' "$([ $? -eq 0 ] || echo 'it is not refused')"
+
+# Each step of a drive does something: a run of them has as many events.
+for seed in 1 2 3 4 5 6 7 8; do
+    for system in queue watchdog interrupt; do
+        "$view" drive $system.img --events 60 --seed $seed > driven 2> errors
+        "$fmp" sim $system.img driven > trace
+        steps=$(wc -l < driven)
+        events=$(grep '^[0-9]' trace | tail -1 | cut -d ' ' -f 1)
+        verdict "drive: $system by $seed" "$([ "$steps" -eq "$events" ] || echo "$steps steps, $events events")"
+    done
+done
+
+echo "checks/view.sh: $passed passed, $failed failed"
+[ $failed -eq 0 ]

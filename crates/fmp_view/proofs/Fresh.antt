@@ -1,0 +1,6 @@
+-- Kernels on which nothing is done yet.
+use Rattle.std.proofs.Common.{ℕ, ◌≡◌, ◌+◌, ◌≤◌, ◌^◌, arith}
+
+-- there is room for as many events as a run has at most
+pub room : (done n : ℕ) → done ≡ 0 → n ≤ 2 ^ 20 → done + n ≤ 2 ^ 20
+room done n fresh few = omega (arith, fresh, few)

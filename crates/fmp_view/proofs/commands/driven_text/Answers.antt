@@ -1,0 +1,10 @@
+use Rattle.fmp_view.proofs.commands.driven_text.Goals as goal
+
+pub driven-requires-clause-low : goal.driven-requires-clause-low
+driven-requires-clause-low c = c.kept_bound.ensures.low
+
+pub driven-requires-clause-high : goal.driven-requires-clause-high
+driven-requires-clause-high c = c.kept_bound.ensures.high
+
+pub driven-requires-clause-few : goal.driven-requires-clause-few
+driven-requires-clause-few c = c.kept_events.ensures

@@ -1,0 +1,182 @@
+//! What each command reads of bytes and makes of them.
+ghost use Rattle.std.specs.Prelude.{◌≡◌, ◌+◌, ◌≤◌, ◌^◌, IfOk, length};
+ghost use Rattle.fmp_stats.specs.Counting.{counts_of, first_counts};
+ghost use Rattle.fmp_view.specs.Shown.{WasShown};
+ghost use Rattle.fmp_waves.specs.Values.{values_of};
+
+use crate::asking::{kept_bound, kept_events};
+use crate::driving::driven;
+use crate::opening::{events_of, fresh_kernel, image_of};
+use fmp_base::{Event, System};
+use fmp_driver::Stop;
+use fmp_engine::SimFault;
+use fmp_frames::{Viewer, last_frame, show_all};
+use fmp_glossary::{explain, topic_named};
+use fmp_image::Image;
+use fmp_kernel::{Body, Kernel};
+use fmp_stats::Tallies;
+use fmp_trace::print_steps;
+use fmp_waves::Waves;
+use std::alloc::{AllocError, Global};
+
+/// Want of memory, as a fault.
+fn made<T>(outcome: Result<T, AllocError>) -> Result<T, SimFault> {
+    match outcome {
+        Ok(x) => Ok(x),
+        Err(_) => Err(SimFault::Memory),
+    }
+}
+
+/// What the code of this word means; none where no code is printed so.
+pub fn code(alloc: Global, word: &str) -> Result<Option<Vec<u8>>, AllocError> {
+    let Some(topic) = topic_named(word.as_bytes()) else {
+        return Ok(None);
+    };
+    let mut out = Vec::new(alloc);
+    explain(alloc, topic, &mut out)?;
+    Ok(Some(out))
+}
+
+/// The text of steps that run an image, and why they stop.
+#[tactic(none)]
+fn driven_text(
+    alloc: Global,
+    image: &Image,
+    events: u32,
+    seed: Option<u64>,
+    bound: u64,
+) -> Result<(Vec<u8>, Stop), AllocError> {
+    let driven = driven(alloc, image, kept_events(events), seed, kept_bound(bound))?;
+    let mut out = Vec::new(alloc);
+    print_steps(&driven.steps, &mut out)?;
+    Ok((out, driven.stop))
+}
+
+/// Steps that run the image of these bytes, and why they stop.
+#[tactic(none)]
+pub fn steps(
+    alloc: Global,
+    image: &[u8],
+    events: u32,
+    seed: Option<u64>,
+    bound: u64,
+) -> Result<(Vec<u8>, Stop), SimFault> {
+    let image = image_of(alloc, image)?;
+    made(driven_text(alloc, &image, events, seed, bound))
+}
+
+/// What is counted of a run of a kernel over events.
+#[tactic(none)]
+fn tallied<B: Body>(
+    alloc: Global,
+    kernel: &mut Kernel<B>,
+    events: &[Event],
+) -> Result<Tallies, AllocError>
+    requires { kernel.old.done + length events.now ≤ 2 ^ 20 }
+    ensures { IfOk result (λ tallies. WasShown (λ x f. counts_of x ≡ first_counts f)
+        ⟦<Tallies as Viewer>⟧.shown B.meaning kernel.old events.now tallies) }
+{
+    let setup = last_frame(alloc, kernel)?;
+    let mut tallies = Tallies::new(alloc, &setup)?;
+    show_all(alloc, kernel, events, &mut tallies)?;
+    Ok(tallies)
+}
+
+/// The table of a run of a kernel of this system over events.
+#[tactic(none)]
+fn table_on<B: Body>(
+    alloc: Global,
+    sys: &System,
+    kernel: &mut Kernel<B>,
+    events: &[Event],
+) -> Result<Vec<u8>, AllocError>
+    requires { kernel.old.done + length events.now ≤ 2 ^ 20 }
+{
+    let tallies = tallied(alloc, kernel, events)?;
+    let mut out = Vec::new(alloc);
+    tallies.append_table(alloc, sys, &mut out)?;
+    Ok(out)
+}
+
+/// The waves of a run of a kernel of this system over events.
+#[tactic(none)]
+fn waved<B: Body>(
+    alloc: Global,
+    sys: &System,
+    kernel: &mut Kernel<B>,
+    events: &[Event],
+) -> Result<Waves, AllocError>
+    requires { kernel.old.done + length events.now ≤ 2 ^ 20 }
+    ensures { IfOk result (λ waves. WasShown (λ x f. x.values.items ≡ values_of f x.variables.items)
+        ⟦<Waves as Viewer>⟧.shown B.meaning kernel.old events.now waves) }
+{
+    let setup = last_frame(alloc, kernel)?;
+    let mut waves = Waves::new(alloc, sys, &setup)?;
+    show_all(alloc, kernel, events, &mut waves)?;
+    Ok(waves)
+}
+
+/// The waveform of a run of a kernel of this system over events.
+#[tactic(none)]
+fn dump_on<B: Body>(
+    alloc: Global,
+    sys: &System,
+    kernel: &mut Kernel<B>,
+    events: &[Event],
+) -> Result<Vec<u8>, AllocError>
+    requires { kernel.old.done + length events.now ≤ 2 ^ 20 }
+{
+    waved(alloc, sys, kernel, events)?.finish()
+}
+
+/// The table of a run of an image over events.
+#[tactic(none)]
+fn table_of(
+    alloc: Global,
+    image: &Image,
+    events: &[Event],
+    bound: u64,
+) -> Result<Vec<u8>, AllocError>
+    requires { length events.now ≤ 2 ^ 20 }
+{
+    let mut kernel = fresh_kernel(alloc, image, kept_bound(bound))?;
+    table_on(alloc, image.system(), &mut kernel, events)
+}
+
+/// The waveform of a run of an image over events.
+#[tactic(none)]
+fn dump_of(
+    alloc: Global,
+    image: &Image,
+    events: &[Event],
+    bound: u64,
+) -> Result<Vec<u8>, AllocError>
+    requires { length events.now ≤ 2 ^ 20 }
+{
+    let mut kernel = fresh_kernel(alloc, image, kept_bound(bound))?;
+    dump_on(alloc, image.system(), &mut kernel, events)
+}
+
+/// The table of a run of an image over a steps text.
+fn table_over(alloc: Global, image: &Image, steps: &[u8], bound: u64) -> Result<Vec<u8>, SimFault> {
+    let events = events_of(alloc, steps, image.system().processors)?;
+    made(table_of(alloc, image, &events, bound))
+}
+
+/// The waveform of a run of an image over a steps text.
+fn dump_over(alloc: Global, image: &Image, steps: &[u8], bound: u64) -> Result<Vec<u8>, SimFault> {
+    let events = events_of(alloc, steps, image.system().processors)?;
+    made(dump_of(alloc, image, &events, bound))
+}
+
+/// The table of a run of the image of these bytes over a steps text.
+pub fn stats(alloc: Global, image: &[u8], steps: &[u8], bound: u64) -> Result<Vec<u8>, SimFault> {
+    let image = image_of(alloc, image)?;
+    table_over(alloc, &image, steps, bound)
+}
+
+/// The waveform of a run of the image of these bytes over a steps text.
+pub fn waves(alloc: Global, image: &[u8], steps: &[u8], bound: u64) -> Result<Vec<u8>, SimFault> {
+    let image = image_of(alloc, image)?;
+    dump_over(alloc, &image, steps, bound)
+}

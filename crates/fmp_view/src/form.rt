@@ -1,0 +1,130 @@
+//! The form of the command line.
+use clap::builder::ValueParser;
+use clap::{Arg, Command};
+use std::alloc::{AllocError, Global};
+
+/// What the program is.
+const ABOUT: &str =
+    "Looks at systems of 'fmp': what a code means, steps that run a system, a run as a table
+or as a waveform.";
+
+/// An example, and what the program's answers mean.
+const EXAMPLE_AND_STATUS: &str = "Example, with the image of the example of 'fmp build --help':
+  fmp_view code E_PAR
+  fmp_view drive queue.img --events 20 > queue.steps
+  fmp_view stats queue.img queue.steps
+  fmp_view waves queue.img queue.steps queue.vcd
+
+Status, and the line on standard error with it:
+  0        done; help or the version was asked for
+  1        a fault of what was read: 'image: L2', 'steps:4: S1'
+  2        a mistake in the command line; a word that is no code; OUT is a file that is read
+  3        'file: NAME', a file could not be read or written ('-' is standard output); 'memory'";
+
+/// What a steps text is.
+const STEPS: &str = "Text of the events, one a line, as 'fmp sim' reads it";
+
+/// What a number of events is.
+const EVENTS: &str = "How many events are done at most, 0 to 2^20";
+
+/// What a seed is.
+const SEED: &str = "Order at random by this number, with ticks and the system's interrupts between;
+without it the processors run in turn, and the clock ticks where all of them are idle";
+
+/// What a bound is.
+const BOUND: &str = "How many instructions a body may take up to its next service call, 1 to 2^48;
+a step that would take more does nothing";
+
+/// The largest bound, 2^48.
+pub const BOUND_MAX: u64 = 281_474_976_710_656;
+
+/// The largest number of events, 2^20.
+pub const EVENTS_MAX: u32 = 1_048_576;
+
+/// A word that has to be there.
+fn word<'a>(alloc: Global, id: &'a str, help: &'a str) -> Arg<'a> {
+    Arg::new(alloc, id).required(true).help(help)
+}
+
+/// An option with a number in this range.
+fn number<'a>(
+    alloc: Global,
+    id: &'a str,
+    value: &'a str,
+    low: u64,
+    high: u64,
+    help: &'a str,
+) -> Arg<'a> {
+    Arg::new(alloc, id)
+        .long(id)
+        .value_name(value)
+        .value_parser(ValueParser::unsigned(low, high))
+        .help(help)
+}
+
+/// The option for the bound.
+fn bound<'a>(alloc: Global) -> Arg<'a> {
+    number(alloc, "bound", "N", 1, BOUND_MAX, BOUND).default_value("100000")
+}
+
+/// The word for an image.
+fn image<'a>(alloc: Global) -> Arg<'a> {
+    word(alloc, "IMAGE", "Image that 'fmp build' has written")
+}
+
+/// A command with the words for a run, and the option for its bound.
+fn of_run<'a>(alloc: Global, command: Command<'a>) -> Result<Command<'a>, AllocError> {
+    let command = command.arg(image(alloc))?;
+    let command = command.arg(word(alloc, "STEPS", STEPS))?;
+    command.arg(bound(alloc))
+}
+
+fn code_command<'a>(alloc: Global) -> Result<Command<'a>, AllocError> {
+    Command::new(alloc, "code")
+        .about("Says what a code means, when it comes, and an example")
+        .arg(word(
+            alloc,
+            "CODE",
+            "A code as it is printed: E_PAR, F_OVF, B4, L2, S1, H4",
+        ))
+}
+
+fn drive_command<'a>(alloc: Global) -> Result<Command<'a>, AllocError> {
+    let command = Command::new(alloc, "drive").about(
+        "Prints a steps text that runs a system until it is quiet, or so many events are done",
+    );
+    let command = command.arg(image(alloc))?;
+    let events = number(alloc, "events", "N", 0, u64::from(EVENTS_MAX), EVENTS);
+    let command = command.arg(events.default_value("1000"))?;
+    let command = command.arg(number(alloc, "seed", "S", 0, u64::MAX, SEED))?;
+    command.arg(bound(alloc))
+}
+
+fn stats_command<'a>(alloc: Global) -> Result<Command<'a>, AllocError> {
+    let command = Command::new(alloc, "stats").about(
+        "Prints for each task of a run its starts, calls, waits, time-outs, preemptions and share",
+    );
+    of_run(alloc, command)
+}
+
+/// The command `waves`.
+pub fn waves_command<'a>(alloc: Global) -> Result<Command<'a>, AllocError> {
+    let command = Command::new(alloc, "waves").about(
+        "Writes a run as a value change dump, which waveform viewers show",
+    );
+    of_run(alloc, command)?.arg(word(alloc, "OUT", "File that the dump is written to"))
+}
+
+/// The whole command line.
+pub fn program<'a>(alloc: Global) -> Result<Command<'a>, AllocError> {
+    let program = Command::new(alloc, "fmp_view")
+        .version("0.1.0")
+        .about(ABOUT)
+        .after_help(EXAMPLE_AND_STATUS)
+        .subcommand_required(true)
+        .arg_required_else_help(true);
+    let program = program.subcommand(code_command(alloc)?)?;
+    let program = program.subcommand(drive_command(alloc)?)?;
+    let program = program.subcommand(stats_command(alloc)?)?;
+    program.subcommand(waves_command(alloc)?)
+}

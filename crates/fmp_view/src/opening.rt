@@ -1,0 +1,45 @@
+//! The image, and the events of a steps text.
+ghost use Rattle.std.specs.Prelude.{◌≡◌, ◌≤◌, ◌^◌, IfOk, length};
+
+use fmp_base::Event;
+use fmp_code::Vm;
+use fmp_engine::SimFault;
+use fmp_hostrun::kernel_of;
+use fmp_image::{Image, LoadFault, load};
+use fmp_kernel::Kernel;
+use fmp_trace::{StepsFault, read_steps};
+use std::alloc::{AllocError, Global};
+
+/// The image that these bytes spell, or the fault that `fmp sim` has of them.
+pub fn image_of(alloc: Global, bytes: &[u8]) -> Result<Image, SimFault> {
+    match load(alloc, bytes) {
+        Ok(image) => Ok(image),
+        Err(LoadFault::Memory) => Err(SimFault::Memory),
+        Err(fault) => Err(SimFault::Load(fault)),
+    }
+}
+
+/// The events of a steps text for so many processors, or the fault that `fmp sim` has of it.
+pub fn events_of(alloc: Global, text: &[u8], processors: u8) -> Result<Vec<Event>, SimFault>
+    ensures { IfOk result (λ events. length events.items ≤ 2 ^ 20) }
+{
+    match read_steps(alloc, text, processors) {
+        Ok(events) => Ok(events),
+        Err(StepsFault::Memory) => Err(SimFault::Memory),
+        Err(fault) => Err(SimFault::Steps(fault)),
+    }
+}
+
+/// The kernel of an image after setup, on which nothing is done yet. `AllocError` for want of memory.
+#[tactic(none)]
+pub fn fresh_kernel<'a>(
+    alloc: Global,
+    image: &'a Image,
+    n: u64,
+) -> Result<Kernel<Vm<'a>>, AllocError>
+    requires low { 1 ≤ n }
+    requires high { n ≤ 2 ^ 48 }
+    ensures { IfOk result (λ kernel. kernel.done ≡ 0) }
+{
+    kernel_of(alloc, image, n)
+}

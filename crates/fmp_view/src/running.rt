@@ -1,0 +1,183 @@
+//! A run of the program, from the words of its command line to its status.
+use crate::asking::{Cmd, Run, command, no_code, out_over_input};
+use crate::commands::{code, stats, steps, waves};
+use crate::exit::{Exit, failed};
+use clap::Error;
+use clap::error::ErrorKind;
+use fmp_driver::Stop;
+use fmp_files::{Outside, ReadFault, WriteFault};
+use std::alloc::{AllocError, Global};
+
+/// Says why the program ends, and gives its status.
+fn end<O: Outside>(outside: &mut O, exit: &Exit) -> u8 {
+    outside.say(format_args!("{exit}\n"));
+    exit.status()
+}
+
+/// Prints all that there is to print, and gives the status.
+fn print<O: Outside>(alloc: Global, outside: &mut O, bytes: &[u8]) -> u8 {
+    match outside.print(bytes) {
+        Ok(()) => 0,
+        Err(WriteFault::Device) => end(outside, &failed(alloc, "-")),
+    }
+}
+
+/// Says what is wrong with the words of the command line, or prints what they ask to be shown.
+pub fn refuse<O: Outside>(alloc: Global, outside: &mut O, error: &Error) -> u8 {
+    match error.kind() {
+        ErrorKind::OutOfMemory => end(outside, &Exit::Memory(AllocError)),
+        ErrorKind::DisplayHelp | ErrorKind::DisplayVersion => match error.to_string(alloc) {
+            Ok(text) => print(alloc, outside, text.as_bytes()),
+            Err(_) => end(outside, &Exit::Memory(AllocError)),
+        },
+        _ => {
+            outside.say(format_args!("{error}"));
+            2
+        }
+    }
+}
+
+/// Refuses words that have the right form.
+fn refuse_so<O: Outside>(alloc: Global, outside: &mut O, refusal: Result<Error, AllocError>) -> u8 {
+    match refusal {
+        Ok(error) => refuse(alloc, outside, &error),
+        Err(error) => end(outside, &Exit::Memory(error)),
+    }
+}
+
+/// The bytes of a file.
+fn read<O: Outside>(alloc: Global, outside: &O, name: &str) -> Result<Vec<u8>, Exit> {
+    match outside.read(alloc, name, None) {
+        Ok(bytes) => Ok(bytes),
+        Err(ReadFault::Device) => Err(failed(alloc, name)),
+        Err(ReadFault::Memory) => Err(Exit::Memory(AllocError)),
+    }
+}
+
+/// What a drive prints, and why it stopped.
+fn driven_steps<O: Outside>(
+    alloc: Global,
+    outside: &O,
+    image: &str,
+    events: u32,
+    seed: Option<u64>,
+    bound: u64,
+) -> Result<(Vec<u8>, Stop), Exit> {
+    let image = read(alloc, outside, image)?;
+    match steps(alloc, &image, events, seed, bound) {
+        Ok(made) => Ok(made),
+        Err(fault) => Err(Exit::Sim(fault)),
+    }
+}
+
+/// The bytes of the two files of a run.
+fn read_run<O: Outside>(alloc: Global, outside: &O, run: &Run) -> Result<(Vec<u8>, Vec<u8>), Exit> {
+    let image = read(alloc, outside, &run.image)?;
+    let steps = read(alloc, outside, &run.steps)?;
+    Ok((image, steps))
+}
+
+/// The table of a run.
+fn run_stats<O: Outside>(alloc: Global, outside: &O, run: &Run) -> Result<Vec<u8>, Exit> {
+    let (image, steps) = read_run(alloc, outside, run)?;
+    match stats(alloc, &image, &steps, run.bound) {
+        Ok(table) => Ok(table),
+        Err(fault) => Err(Exit::Sim(fault)),
+    }
+}
+
+/// The waveform of a run.
+fn run_waves<O: Outside>(alloc: Global, outside: &O, run: &Run) -> Result<Vec<u8>, Exit> {
+    let (image, steps) = read_run(alloc, outside, run)?;
+    match waves(alloc, &image, &steps, run.bound) {
+        Ok(dump) => Ok(dump),
+        Err(fault) => Err(Exit::Sim(fault)),
+    }
+}
+
+/// Says why a drive has stopped.
+fn say_stop<O: Outside>(outside: &mut O, stop: Stop) {
+    match stop {
+        Stop::Quiet => outside.say("quiet: no processor goes on, and the clock changes nothing\n"),
+        Stop::Enough => outside.say("as many events as were asked for are done\n"),
+    }
+}
+
+fn run_drive<O: Outside>(
+    alloc: Global,
+    outside: &mut O,
+    made: Result<(Vec<u8>, Stop), Exit>,
+) -> u8 {
+    match made {
+        Ok((text, stop)) => {
+            say_stop(outside, stop);
+            print(alloc, outside, &text)
+        }
+        Err(exit) => end(outside, &exit),
+    }
+}
+
+/// Writes a dump to its file.
+fn write_waves<O: Outside>(alloc: Global, outside: &mut O, run: &Run, out: &str) -> u8 {
+    if outside.is_one_file(out, &run.image) || outside.is_one_file(out, &run.steps) {
+        return refuse_so(alloc, outside, out_over_input(alloc));
+    }
+    let dump = match run_waves(alloc, outside, run) {
+        Ok(dump) => dump,
+        Err(exit) => return end(outside, &exit),
+    };
+    match outside.write(out, &dump) {
+        Ok(()) => 0,
+        Err(WriteFault::Device) => end(outside, &failed(alloc, out)),
+    }
+}
+
+fn say_code<O: Outside>(alloc: Global, outside: &mut O, word: &str) -> u8 {
+    match code(alloc, word) {
+        Ok(Some(text)) => print(alloc, outside, &text),
+        Ok(None) => refuse_so(alloc, outside, no_code(alloc)),
+        Err(error) => end(outside, &Exit::Memory(error)),
+    }
+}
+
+/// Carries out a command, and gives the status.
+fn carry_out<O: Outside>(alloc: Global, outside: &mut O, cmd: &Cmd) -> u8 {
+    match cmd {
+        Cmd::Code(word) => say_code(alloc, outside, word),
+        Cmd::Drive {
+            image,
+            events,
+            seed,
+            bound,
+        } => {
+            let made = driven_steps(alloc, outside, image, *events, *seed, *bound);
+            run_drive(alloc, outside, made)
+        }
+        Cmd::Stats(run) => match run_stats(alloc, outside, run) {
+            Ok(table) => print(alloc, outside, &table),
+            Err(exit) => end(outside, &exit),
+        },
+        Cmd::Waves(run, out) => write_waves(alloc, outside, run, out),
+    }
+}
+
+/// The same words, borrowed.
+fn borrowed<'a>(alloc: Global, words: &'a [String]) -> Result<Vec<&'a str>, AllocError> {
+    let mut texts = Vec::new(alloc);
+    for word in words {
+        texts.push(word.as_str())?;
+    }
+    Ok(texts)
+}
+
+/// Does what the words of a command line ask for, of which the first is the program's name, and gives the status.
+pub fn run<O: Outside>(alloc: Global, outside: &mut O, words: &[String]) -> u8 {
+    let texts = match borrowed(alloc, words) {
+        Ok(texts) => texts,
+        Err(error) => return end(outside, &Exit::Memory(error)),
+    };
+    match command(alloc, &texts) {
+        Ok(cmd) => carry_out(alloc, outside, &cmd),
+        Err(error) => refuse(alloc, outside, &error),
+    }
+}
