@@ -1,8 +1,6 @@
-//! Each call once, with ample memory.
-ghost use Rattle.std.specs.Prelude.{◌≡◌};
-
-use crate::TickQueue;
+//! Deadlines by hand.
 use fmp_base::Steps;
+use fmp_ticks::TickQueue;
 use std::test::Fail;
 
 #[test]
