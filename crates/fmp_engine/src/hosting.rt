@@ -78,10 +78,10 @@ fn run_board<'a, S: Site + Send + Sync, R: Threads + Wait + Sync>(
     seats: Vec<Seat>,
     work: Workload,
 ) -> Result<Closed<'a>, BoardFault>
-    requires blank { blank ≡ blank_of S.image S.bound S.capacity S.seats }
-    requires seats { All (IsAt S.seats) seats.items }
+    requires blank { blank ≡ blank_of S.image S.bound S.row_id }
+    requires seats { All (IsAt S.row_id) seats.items }
     requires count { length seats.items ≡ S.image.system.processors + 1 }
-    ensures closed { IfOk result (IsClosed S.image S.bound S.capacity S.seats) }
+    ensures closed { IfOk result (IsClosed S.image S.bound S.row_id.capacity S.row_id.seats) }
     ensures fault { IfErr result (λ f. f ≢ Limit) }
 {
     let board: Board<'a, S> = blank.open();

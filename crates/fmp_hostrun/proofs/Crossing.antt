@@ -18,7 +18,8 @@ use Rattle.fmp_kernel.specs.contracts.runner.Runner as Runner
 use Rattle.fmp_kernel.specs.contracts.runner.Runner.TheInside as runner
 use Rattle.fmp_ready.proofs.queues.ReadyQueues.TheSendSync as ready
 use Rattle.fmp_ring.proofs.rings.Rings.TheSendSync as rings
-use Rattle.fmp_row.proofs.entry.JournalEntry.TheSendSync as entry
+use Rattle.fmp_row.proofs.row.Row.TheSendSync as row
+use Rattle.fmp_row.proofs.scribe.Scribe.TheSendSync as scribe
 use Rattle.fmp_spin.proofs.pending.PendingHandlers.TheSendSync as pending
 use Rattle.fmp_spin.proofs.processors.Processors.TheSendSync as processors
 use Rattle.fmp_tasks.proofs.words.Words.TheSendSync as words
@@ -66,7 +67,7 @@ module _ (κ : NamedLft) (S : RattleType) (g : site.Ghosts S.Denot) where
       view_send (book.the_row κ S g) _ _ _ _
       (recorded_send (book.the_field κ S g).row _ _ (book.the_type κ S g).to_one
       (struct_send (shape (book.the_type κ S g))
-      (search (image.the_sync, kernel_send, vm.the_send, context.the_send, entry.the_send, crosses, sendable) depth 40)))
+      (search (image.the_sync, kernel_send, vm.the_send, context.the_send, scribe.the_send, crosses, sendable) depth 40)))
 
   pub board_sync : IsSend S → IsSync (Board.the_row κ S g)
-  board_sync s = let inner = book_send s in search (image.the_sync, crosses, sendable) depth 20
+  board_sync s = let inner = book_send s in search (image.the_sync, row.the_sync, crosses, sendable) depth 20

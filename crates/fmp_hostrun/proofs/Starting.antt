@@ -1,9 +1,10 @@
 -- Seats for which threads are started, one after the other.
-use Rattle.std.proofs.Common.{◌≡◌, ℕ, List, [], ◌∷◌, ◌++◌, Bool, true, false, true≢false, Err, length, refl, ap, sym, ◌∙◌, subst, append_assoc, arith}
+use Rattle.std.proofs.Common.{◌≡◌, List, [], ◌∷◌, ◌++◌, Bool, true, false, true≢false, Err, length, refl, ap, sym, ◌∙◌, subst, append_assoc, arith}
 use Rattle.std.proofs.lemmas.List.{append-nil}
 use Rattle.std.proofs.lemmas.List.Elements.{All-tail}
 use Rattle.std.specs.List.{All}
-use Rattle.fmp_hostrun.specs.Boards.{SeatState, IsAt, CameBack}
+use Rattle.fmp_row.specs.Seats.{RowId, SeatState}
+use Rattle.fmp_hostrun.specs.Boards.{IsAt, CameBack}
 use Rattle.fmp_hostrun.specs.declared.fault.BoardFault.TheVariants as fault
 
 -- seats: those whose threads were started, the one whose thread was refused, those that were spared then, and the rest
@@ -58,5 +59,5 @@ all_but_one true seats first started spared rest back is s none same b =
     }
 
 -- the rest are seats of the board too
-pub seats_at : (m : ℕ) (rest next : List SeatState) (x : SeatState) → All (IsAt m) rest → rest ≡ x ∷ next → All (IsAt m) next
-seats_at m rest next x all r = All-tail (IsAt m) x next (subst (All (IsAt m)) r all)
+pub seats_at : (row : RowId) (rest next : List SeatState) (x : SeatState) → All (IsAt row) rest → rest ≡ x ∷ next → All (IsAt row) next
+seats_at row rest next x all r = All-tail (IsAt row) x next (subst (All (IsAt row)) r all)

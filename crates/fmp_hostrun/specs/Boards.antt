@@ -1,5 +1,5 @@
 -- What contracts see of boards and their seats, and what their calls answer.
-use Rattle.std.specs.Prelude.{◌≡◌, ◌≢◌, ◌⊎◌, ℕ, ◌≤◌, ◌<◌, ◌^◌, List, ◌∷◌, ◌++◌, length, slice_get, Some, Result, Err, IfErr, MatchResult}
+use Rattle.std.specs.Prelude.{◌≡◌, ◌≢◌, ◌⊎◌, ℕ, ◌≤◌, ◌<◌, ◌^◌, List, ◌∷◌, ◌++◌, length, Result, Err, IfErr, MatchResult}
 use Rattle.std.specs.List.{All}
 use Rattle.fmp_base.specs.declared.events.Event.{Event}
 use Rattle.fmp_code.specs.declared.instructions.MachineContext.{MachineContext}
@@ -7,7 +7,7 @@ use Rattle.fmp_code.specs.Instructions.{BodyTables}
 use Rattle.fmp_image.specs.Images.{ImageTables}
 use Rattle.fmp_kernel.specs.KernelViews.{KernelView}
 use Rattle.fmp_row.specs.declared.entry.JournalEntry.{JournalEntry}
-use Rattle.fmp_row.specs.Seats.{events}
+use Rattle.fmp_row.specs.Seats.{RowId, SeatState, events}
 use Rattle.fmp_hostrun.specs.declared.fault.BoardFault.{BoardFault}
 use Rattle.fmp_hostrun.specs.declared.fault.BoardFault.TheVariants as fault
 use Rattle.fmp_hostrun.specs.declared.receipt.Receipt.{Receipt}
@@ -18,17 +18,11 @@ use Rattle.fmp_hostrun.specs.Replays.{IsLegal, kernel_after, reaction}
 pub record BookState : Type 0 where
   pub journal : List JournalEntry
 
--- a seat: its number
-pub record SeatState : Type 0 where
-  pub number : ℕ
-
--- a board that is not yet open: its image, the instructions that a stretch may take, the events and the seats that it
--- has room for
+-- a board that is not yet open: its image, the instructions that a stretch may take, and its row
 pub record BlankState : Type 0 where
   pub image : ImageTables
   pub bound : ℕ
-  pub capacity : ℕ
-  pub seats : ℕ
+  pub row : RowId
 
 -- a closed board: the kernel, and the events of the journal
 pub record ClosedState : Type 0 where
@@ -47,11 +41,11 @@ pub record IsReplay (i : ImageTables) (n k m : ℕ) (kernel : KernelView (List B
   pub kernel_is : kernel ≡ kernel_after i n (events journal)
   pub journal_is : IsJournal i n k m journal
 
--- there is room for all events of a board, no more than a kernel takes
-pub record HasRoom (k capacity room : ℕ) : Type 0 where
-  pub capacity_is : capacity ≡ k
-  pub reserved : k ≤ room
-  pub most : k ≤ 2 ^ 20
+-- a row has words for no more events than a kernel takes
+pub record IsRoom (row : RowId) (capacity seats : ℕ) : Type 0 where
+  pub capacity_is : capacity ≡ row.capacity
+  pub seats_is : seats ≡ row.seats
+  pub most : row.capacity ≤ 2 ^ 20
 
 -- the limits of a board
 pub record InRange (n k m : ℕ) : Type 0 where
@@ -62,14 +56,9 @@ pub record InRange (n k m : ℕ) : Type 0 where
   pub some_seats : 1 ≤ m
   pub most_seats : m ≤ 64
 
--- m seats, numbered from 0
-pub record AreNew (m : ℕ) (seats : List SeatState) : Type 0 where
-  pub count : length seats ≡ m
-  pub each : (number : ℕ) → number < m → slice_get seats number ≡ Some (record { number = number })
-
--- a seat of a board of m seats
-abbrev pub IsAt : (m : ℕ) → SeatState → Type 0
-IsAt m s = s.number < m
+-- a seat of the board of a row
+abbrev pub IsAt : RowId → SeatState → Type 0
+IsAt row s = s.row ≡ row
 
 -- the answer to an event: after a journal with room its receipt there, and after a full one the refusal
 abbrev pub Fed : ImageTables → (n k m : ℕ) → Event → Result Receipt BoardFault → Type 0
@@ -96,8 +85,8 @@ pub record CameBack (seats back : List SeatState) (result : Result ℕ BoardFaul
 abbrev pub IsTurnFault : BoardFault → Type 0
 IsTurnFault f = (f ≡ fault.Full) ⊎ (f ≡ fault.Held)
 
-abbrev pub blank : ImageTables → (n k m : ℕ) → BlankState
-blank i n k m = record { image = i; bound = n; capacity = k; seats = m }
+abbrev pub blank : ImageTables → (n : ℕ) → RowId → BlankState
+blank i n row = record { image = i; bound = n; row = row }
 
 -- a closed board: its kernel is the replay of its journal
 pub record IsClosed (i : ImageTables) (n k m : ℕ) (closed : ClosedState) : Type 0 where

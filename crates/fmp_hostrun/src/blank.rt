@@ -1,17 +1,18 @@
 //! A board that is not yet open.
 ghost use Rattle.std.specs.Prelude.{◌≡◌, ◌<◌, ◌≤◌, ◌^◌, [], IfOk, MatchResult, All, vec_capacity};
-ghost use Rattle.fmp_hostrun.specs.Boards.{AreNew, InRange, IsAt};
+ghost use Rattle.fmp_hostrun.specs.Boards.{InRange, IsAt};
+ghost use Rattle.fmp_row.specs.Seats.{AreNew};
 ghost use Rattle.fmp_hostrun.specs.Replays.{kernel_after};
 
 use crate::board::Board;
 use crate::book::Book;
 use crate::fault::BoardFault;
-use crate::seat::Seat;
 use crate::site::Site;
+use fmp_base::Event;
 use fmp_code::Vm;
 use fmp_image::Image;
 use fmp_kernel::Kernel;
-use fmp_row::JournalEntry;
+use fmp_row::{EmptyRow, Row, Scribe, Seat};
 use std::alloc::{AllocError, Global};
 use std::marker::Model;
 
@@ -24,12 +25,14 @@ const CAPACITY_MAX: u32 = 1_048_576;
 /// The most seats that a board may have.
 const SEATS_MAX: u8 = 64;
 
-/// A board that is not yet open: the kernel of its image after setup, and a journal that is empty.
+/// A board that is not yet open: the kernel of its image after setup, and a row in which nothing is written.
 #[derive(Drop)]
 pub struct Blank<'a> {
     image: &'a Image,
     kernel: Kernel<Vm<'a>>,
-    journal: Vec<JournalEntry>,
+    row: Row,
+    scribe: Scribe,
+    room: Vec<Event>,
     bound: u64,
     capacity: u32,
     seats: u8,
@@ -37,17 +40,16 @@ pub struct Blank<'a> {
 
 impl<'a> Model for Blank<'a> {
     ghost use Rattle.std.specs.Prelude.{◌≡◌, ◌≤◌, [], vec_capacity};
-    ghost use Rattle.fmp_hostrun.specs.Boards.{BlankState, InRange};
-    ghost use Rattle.fmp_hostrun.specs.Replays.{kernel_after};
+    ghost use Rattle.fmp_row.specs.Seats.{new_scribe};
+    ghost use Rattle.fmp_hostrun.specs.Boards.{BlankState, InRange, IsReplay, IsRoom};
 
     ghost Value = { BlankState };
 
-    ghost view = { λ b. record
-        { image = b.image.now; bound = b.bound; capacity = b.capacity; seats = b.seats } };
+    ghost view = { λ b. record { image = b.image.now; bound = b.bound; row = b.row } };
 
-    ghost invariant = { λ b. InRange b.bound b.capacity b.seats
-        × (b.kernel ≡ kernel_after b.image.now b.bound [])
-        × (b.journal.items ≡ []) × (b.capacity ≤ vec_capacity b.journal) };
+    ghost invariant = { λ b. InRange b.bound b.row.capacity b.row.seats
+        × IsReplay b.image.now b.bound b.row.capacity b.row.seats b.kernel [] × (b.scribe ≡ new_scribe b.row)
+        × IsRoom b.row b.capacity b.seats × (b.room.items ≡ []) × (b.row.capacity ≤ vec_capacity b.room) };
 }
 
 /// The kernel of an image after setup, for whoever runs an image without a board. A stretch of a body takes at most n
@@ -64,22 +66,66 @@ pub fn kernel_of<'a>(alloc: Global, image: &'a Image, n: u64) -> Result<Kernel<V
     }
 }
 
-/// So many seats, numbered from 0.
-#[tactic(auto, using(crate::proofs::Seating::one_more, crate::proofs::Seating::begin))]
-fn new_seats(alloc: Global, count: u8) -> Result<Vec<Seat>, AllocError>
-    ensures { IfOk result (λ seats. AreNew count seats.items) }
-{
-    let mut seats = Vec::with_capacity(alloc, count as usize)?;
-    for number in 0..count {
-        seats.push_reserved(Seat::new(number));
-    }
-    Ok(seats)
-}
-
 impl<'a> Blank<'a> {
-    ghost use Rattle.std.specs.Prelude.{◌≡◌, IfOk, MatchResult, All};
-    ghost use Rattle.fmp_hostrun.specs.Boards.{AreNew, InRange, IsAt, blank};
+    ghost use Rattle.std.specs.Prelude.{◌≡◌, ◌≤◌, [], IfOk, MatchResult, All, vec_capacity};
+    ghost use Rattle.fmp_hostrun.specs.Boards.{InRange, IsAt, IsReplay, IsRoom, blank};
+    ghost use Rattle.fmp_row.specs.Seats.{AreNew, RowId, new_scribe};
     ghost use Rattle.fmp_hostrun.specs.declared.fault.BoardFault.TheVariants.{Memory, Limit};
+
+    /// A blank of these parts.
+    fn of(
+        image: &'a Image,
+        kernel: Kernel<Vm<'a>>,
+        row: Row,
+        scribe: Scribe,
+        room: Vec<Event>,
+        bound: u64,
+        limits: (u32, u8),
+    ) -> Blank<'a>
+        requires range { InRange bound row.capacity row.seats }
+        requires kernel { IsReplay image.now bound row.capacity row.seats kernel [] }
+        requires scribe { scribe ≡ new_scribe row }
+        requires limits { IsRoom row limits.0 limits.1 }
+        requires room { (room.items ≡ []) × (row.capacity ≤ vec_capacity room) }
+        ensures { result ≡ blank image.now bound row }
+    {
+        let (capacity, seats) = limits;
+        Blank {
+            image,
+            kernel,
+            row,
+            scribe,
+            room,
+            bound,
+            capacity,
+            seats,
+        }
+    }
+
+    /// A blank with this kernel, and its seats.
+    #[tactic(auto, using(crate::proofs::Blanks::range_of, crate::proofs::Blanks::room_of))]
+    fn with_kernel(
+        alloc: Global,
+        image: &'a Image,
+        kernel: Kernel<Vm<'a>>,
+        n: u64,
+        k: u32,
+        m: u8,
+    ) -> Result<(Blank<'a>, Vec<Seat>), AllocError>
+        requires range { InRange n k m }
+        requires kernel { (row : RowId) → IsReplay image.now n row.capacity row.seats kernel [] }
+        ensures blank { IfOk result (λ made. made.0 ≡ blank image.now n made.0.row) }
+        ensures row { IfOk result (λ made. (made.0.row.capacity ≡ k) × (made.0.row.seats ≡ m)) }
+        ensures seats { IfOk result (λ made. AreNew made.0.row made.1.items) }
+        ensures at { IfOk result (λ made. All (IsAt made.0.row) made.1.items) }
+    {
+        let room = Vec::with_capacity(alloc, k as usize)?;
+        let EmptyRow { row, scribe, seats } = EmptyRow::new(alloc, k, m)?;
+        Ok((
+            Blank::of(image, kernel, row, scribe, room, n, (k, m)),
+            seats,
+        ))
+    }
 
     /// All that a board takes in memory.
     fn made(
@@ -90,20 +136,13 @@ impl<'a> Blank<'a> {
         m: u8,
     ) -> Result<(Blank<'a>, Vec<Seat>), AllocError>
         requires { InRange n k m }
-        ensures { IfOk result (λ made. (made.0 ≡ blank image.now n k m) × AreNew m made.1.items) }
+        ensures blank { IfOk result (λ made. made.0 ≡ blank image.now n made.0.row) }
+        ensures row { IfOk result (λ made. (made.0.row.capacity ≡ k) × (made.0.row.seats ≡ m)) }
+        ensures seats { IfOk result (λ made. AreNew made.0.row made.1.items) }
+        ensures at { IfOk result (λ made. All (IsAt made.0.row) made.1.items) }
     {
         let kernel = kernel_of(alloc, image, n)?;
-        let journal = Vec::with_capacity(alloc, k as usize)?;
-        let seats = new_seats(alloc, m)?;
-        let blank = Blank {
-            image,
-            kernel,
-            journal,
-            bound: n,
-            capacity: k,
-            seats: m,
-        };
-        Ok((blank, seats))
+        Blank::with_kernel(alloc, image, kernel, n, k, m)
     }
 
     /// A board of an image that is not yet open, and its seats, numbered from 0: stretches of bodies take at most n
@@ -119,9 +158,10 @@ impl<'a> Blank<'a> {
         m: u8,
     ) -> Result<(Blank<'a>, Vec<Seat>), BoardFault>
         ensures made { MatchResult result
-            (λ made. InRange n k m × (made.0 ≡ blank image.now n k m) × AreNew m made.1.items)
+            (λ made. InRange n k m × (made.0 ≡ blank image.now n made.0.row)
+            × (made.0.row.capacity ≡ k) × (made.0.row.seats ≡ m) × AreNew made.0.row made.1.items)
             (λ f. (InRange n k m → f ≡ Memory) × ((InRange n k m → ⊥) → f ≡ Limit)) }
-        ensures seats { IfOk result (λ made. All (IsAt m) made.1.items) }
+        ensures seats { IfOk result (λ made. All (IsAt made.0.row) made.1.items) }
     {
         let in_range = 1 <= n
             && n <= BOUND_MAX
@@ -140,17 +180,19 @@ impl<'a> Blank<'a> {
 
     /// Opens the board, for the site that stands for it.
     pub fn open<S: Site>(self) -> Board<'a, S>
-        requires { self ≡ blank S.image S.bound S.capacity S.seats }
+        requires { self ≡ blank S.image S.bound S.row_id }
     {
         let Blank {
             image,
             kernel,
-            journal,
+            row,
+            scribe,
+            room,
             bound,
             capacity,
             seats,
         } = self;
-        let book = Book::new(image, kernel, journal, bound, capacity, seats);
-        Board::new(image, book)
+        let book = Book::new(image, kernel, scribe, bound, capacity, seats);
+        Board::new(image, row, room, book)
     }
 }

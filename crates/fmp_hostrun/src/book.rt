@@ -1,6 +1,7 @@
 //! What lies under the lock of a board: the kernel and its journal.
 ghost use Rattle.std.specs.Prelude.{◌≡◌, ◌<◌, ◌≤◌, [], length, vec_capacity};
-ghost use Rattle.fmp_hostrun.specs.Boards.{HasRoom, IsReplay};
+ghost use Rattle.fmp_hostrun.specs.Boards.{IsReplay, IsRoom};
+ghost use Rattle.fmp_row.specs.Seats.{events};
 
 use crate::closed::Closed;
 use crate::fault::BoardFault;
@@ -10,7 +11,7 @@ use fmp_base::{Effect, Event};
 use fmp_code::Vm;
 use fmp_image::Image;
 use fmp_kernel::Kernel;
-use fmp_row::JournalEntry;
+use fmp_row::{JournalEntry, Scribe};
 use std::marker::{Model, PhantomData};
 
 /// The kernel of a board, and the journal of the events that did something on it. Its type keeps that the image and the
@@ -20,7 +21,7 @@ use std::marker::{Model, PhantomData};
 pub struct Book<'a, S: Site> {
     pub(crate) image: &'a Image,
     pub(crate) kernel: Kernel<Vm<'a>>,
-    pub(crate) journal: Vec<JournalEntry>,
+    pub(crate) scribe: Scribe,
     pub(crate) bound: u64,
     pub(crate) capacity: u32,
     pub(crate) seats: u8,
@@ -29,22 +30,22 @@ pub struct Book<'a, S: Site> {
 
 impl<'a, S: Site> Model for Book<'a, S> {
     ghost use Rattle.std.specs.Prelude.{◌≡◌, vec_capacity};
-    ghost use Rattle.fmp_hostrun.specs.Boards.{BookState, HasRoom, IsReplay};
+    ghost use Rattle.fmp_hostrun.specs.Boards.{BookState, IsReplay, IsRoom};
 
     ghost Value = { BookState };
 
-    ghost view = { λ b. record { journal = b.journal.items } };
+    ghost view = { λ b. record { journal = b.scribe.journal } };
 
-    ghost invariant = { λ b. (b.image.now ≡ S.image) × (b.seats ≡ S.seats)
-        × HasRoom S.capacity b.capacity (vec_capacity b.journal)
-        × IsReplay S.image S.bound S.capacity S.seats b.kernel b.journal.items
+    ghost invariant = { λ b. (b.image.now ≡ S.image) × (b.scribe.row ≡ S.row_id)
+        × IsRoom S.row_id b.capacity b.seats
+        × IsReplay S.image S.bound S.row_id.capacity S.row_id.seats b.kernel b.scribe.journal
         × (b.bound ≡ S.bound) };
 }
 
 impl<'a, S: Site> Book<'a, S> {
-    ghost use Rattle.std.specs.Prelude.{◌≡◌, ◌<◌, ◌≤◌, length, IfOk, OnOk, OnErr, MatchResult};
+    ghost use Rattle.std.specs.Prelude.{◌≡◌, ◌<◌, ◌≤◌, ◌↔◌, [], length, slice_get, vec_capacity, IfOk, IsTrue, OnOk, OnErr, MatchResult};
     ghost use Rattle.fmp_hostrun.specs.declared.fault.BoardFault.TheVariants.{Full};
-    ghost use Rattle.fmp_hostrun.specs.Boards.{HasRoom, IsJournal, IsReplay};
+    ghost use Rattle.fmp_hostrun.specs.Boards.{IsJournal, IsReplay, IsRoom};
     ghost use Rattle.fmp_hostrun.specs.Receipts.{journal_after, receipt_of};
     ghost use Rattle.fmp_hostrun.specs.Replays.{kernel_after, reaction};
     ghost use Rattle.fmp_row.specs.Seats.{events};
@@ -53,20 +54,20 @@ impl<'a, S: Site> Book<'a, S> {
     pub(crate) fn new(
         image: &'a Image,
         kernel: Kernel<Vm<'a>>,
-        journal: Vec<JournalEntry>,
+        scribe: Scribe,
         bound: u64,
         capacity: u32,
         seats: u8,
     ) -> Book<'a, S>
-        requires site { (image.now ≡ S.image) × (seats ≡ S.seats) × (bound ≡ S.bound) }
-        requires room { HasRoom S.capacity capacity (vec_capacity journal) }
-        requires replay { IsReplay S.image S.bound S.capacity S.seats kernel journal.items }
-        ensures { result.journal ≡ journal.items }
+        requires site { (image.now ≡ S.image) × (scribe.row ≡ S.row_id) × (bound ≡ S.bound) }
+        requires room { IsRoom S.row_id capacity seats }
+        requires replay { IsReplay S.image S.bound S.row_id.capacity S.row_id.seats kernel scribe.journal }
+        ensures { result.journal ≡ scribe.journal }
     {
         Book {
             image,
             kernel,
-            journal,
+            scribe,
             bound,
             capacity,
             seats,
@@ -83,14 +84,14 @@ impl<'a, S: Site> Book<'a, S> {
 
     /// How many events it has room for.
     pub fn capacity(&self) -> u32
-        ensures { result ≡ S.capacity }
+        ensures { result ≡ S.row_id.capacity }
     {
         self.capacity
     }
 
     /// How many seats the board has.
     pub fn seats(&self) -> u8
-        ensures { result ≡ S.seats }
+        ensures { result ≡ S.row_id.seats }
     {
         self.seats
     }
@@ -102,30 +103,45 @@ impl<'a, S: Site> Book<'a, S> {
         &self.kernel
     }
 
-    /// The journal: each entry did something at its place.
-    pub fn journal(&self) -> &[JournalEntry]
-        ensures journal { result.now ≡ self.now.journal }
-        ensures legal { IsJournal S.image S.bound S.capacity S.seats result.now }
+    /// How many events the journal has.
+    pub fn len(&self) -> u32
+        ensures { result ≡ length self.now.journal }
     {
-        self.journal.as_slice()
+        self.scribe.len()
+    }
+
+    /// Whether the journal has no events.
+    pub fn is_empty(&self) -> bool
+        ensures { IsTrue result ↔ (self.now.journal ≡ []) }
+    {
+        self.scribe.is_empty()
+    }
+
+    /// The entry at a place of the journal, from 0, if there is one. Each did something at its place.
+    pub fn entry(&mut self, place: u32) -> Option<JournalEntry>
+        ensures entry { result ≡ slice_get self.old.journal place }
+        ensures same { self.new ≡ self.old }
+        ensures legal { IsJournal S.image S.bound S.row_id.capacity S.row_id.seats self.old.journal }
+    {
+        self.scribe.entry(place)
     }
 
     /// Takes an event on the kernel, and journals it under the number of a seat if it does something.
     ///
     /// `BoardFault::Full`, exactly where the journal has no room for one more event; then nothing has changed.
     pub fn enter(&mut self, seat: u8, event: Event) -> Result<Receipt, BoardFault>
-        requires { seat < S.seats }
-        ensures full { MatchResult result (λ _. length self.old.journal < S.capacity)
-            (λ f. (f ≡ Full) × (length self.old.journal ≡ S.capacity)) }
+        requires { seat < S.row_id.seats }
+        ensures full { MatchResult result (λ _. length self.old.journal < S.row_id.capacity)
+            (λ f. (f ≡ Full) × (length self.old.journal ≡ S.row_id.capacity)) }
         ensures receipt { IfOk result (λ r. r
             ≡ receipt_of (length self.old.journal) (reaction S.image S.bound (events self.old.journal) event)) }
         ensures journal { OnOk result (self.new.journal
             ≡ journal_after self.old.journal (entry seat event)
             (reaction S.image S.bound (events self.old.journal) event)) }
         ensures same { OnErr result (self.new ≡ self.old) }
-        ensures legal { IsJournal S.image S.bound S.capacity S.seats self.old.journal }
+        ensures legal { IsJournal S.image S.bound S.row_id.capacity S.row_id.seats self.old.journal }
     {
-        if self.journal.len() >= self.capacity as usize {
+        if self.scribe.is_full() {
             return Err(BoardFault::Full);
         }
         match self.kernel.step(event) {
@@ -135,9 +151,9 @@ impl<'a, S: Site> Book<'a, S> {
                 reply: None,
             }),
             Effect::Done => {
-                self.journal.push_reserved(JournalEntry { seat, event });
+                self.scribe.write(seat, event);
                 Ok(Receipt {
-                    number: self.journal.len() as u32,
+                    number: self.scribe.len(),
                     effect: Effect::Done,
                     reply: call_reply(self.kernel.lines()),
                 })
@@ -145,20 +161,36 @@ impl<'a, S: Site> Book<'a, S> {
         }
     }
 
-    pub(crate) fn into_closed(self) -> Closed<'a>
+    /// The kernel, and the events of the journal in a list that has room for them.
+    pub(crate) fn into_closed(self, room: Vec<Event>) -> Closed<'a>
+        requires { (room.items ≡ []) × (S.row_id.capacity ≤ vec_capacity room) }
         ensures kernel { result.kernel ≡ kernel_after S.image S.bound (events self.entry.journal) }
         ensures events { result.events ≡ events self.entry.journal }
-        ensures legal { IsJournal S.image S.bound S.capacity S.seats self.entry.journal }
+        ensures legal { IsJournal S.image S.bound S.row_id.capacity S.row_id.seats self.entry.journal }
     {
         let Book {
             image: _,
             kernel,
-            journal,
+            mut scribe,
             bound: _,
             capacity: _,
             seats: _,
             site: _,
         } = self;
-        Closed::new(kernel, journal)
+        let events = copied(&mut scribe, room);
+        Closed::new(kernel, events)
     }
+}
+
+/// The events that a scribe wrote, in a list that has room for them.
+fn copied(scribe: &mut Scribe, mut room: Vec<Event>) -> Vec<Event>
+    requires { (room.items ≡ []) × (length scribe.old.journal ≤ vec_capacity room) }
+    ensures { result.items ≡ events scribe.old.journal }
+{
+    for place in 0..scribe.len() {
+        if let Some(entry) = scribe.entry(place) {
+            room.push_reserved(entry.event);
+        }
+    }
+    room
 }

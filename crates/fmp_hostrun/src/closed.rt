@@ -4,34 +4,30 @@ ghost use Rattle.std.specs.Prelude.{◌≡◌, ◌<◌, ◌≤◌, ◌^◌, leng
 use fmp_base::Event;
 use fmp_code::Vm;
 use fmp_kernel::Kernel;
-use fmp_row::JournalEntry;
 use std::marker::Model;
 
 /// The kernel and the journal of a board that is closed.
 #[derive(Drop)]
 pub struct Closed<'a> {
     kernel: Kernel<Vm<'a>>,
-    journal: Vec<JournalEntry>,
+    journal: Vec<Event>,
 }
 
 impl<'a> Model for Closed<'a> {
     ghost use Rattle.std.specs.Prelude.{◌≤◌, ◌^◌, length};
     ghost use Rattle.fmp_hostrun.specs.Boards.{ClosedState};
-    ghost use Rattle.fmp_row.specs.Seats.{events};
 
     ghost Value = { ClosedState };
 
-    ghost view = { λ c. record { kernel = c.kernel; events = events c.journal.items } };
+    ghost view = { λ c. record { kernel = c.kernel; events = c.journal.items } };
 
     ghost invariant = { λ c. length c.journal.items ≤ 2 ^ 20 };
 }
 
 impl<'a> Closed<'a> {
-    ghost use Rattle.fmp_row.specs.Seats.{events};
-
-    pub(crate) fn new(kernel: Kernel<Vm<'a>>, journal: Vec<JournalEntry>) -> Closed<'a>
+    pub(crate) fn new(kernel: Kernel<Vm<'a>>, journal: Vec<Event>) -> Closed<'a>
         requires { length journal.items ≤ 2 ^ 20 }
-        ensures { result ≡ record { kernel = kernel.entry; events = events journal.items } }
+        ensures { result ≡ record { kernel = kernel.entry; events = journal.items } }
     {
         Closed { kernel, journal }
     }
@@ -49,7 +45,7 @@ impl<'a> Closed<'a> {
         requires { i < length self.now.events }
         ensures { slice_get self.now.events i ≡ Some result }
     {
-        self.journal[i as usize].event
+        self.journal[i as usize]
     }
 
     /// The kernel.

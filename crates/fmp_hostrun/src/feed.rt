@@ -4,14 +4,15 @@ ghost use Rattle.fmp_hostrun.specs.Boards.{IsAt};
 ghost use Rattle.fmp_hostrun.specs.Outcomes.{IsTicketOf};
 ghost use Rattle.fmp_hostrun.specs.declared.fault.BoardFault.TheVariants.{Full, Stale};
 ghost use Rattle.fmp_image.specs.Images.{ImageTables};
+ghost use Rattle.fmp_row.specs.Seats.{RowId};
 
 use crate::board::Board;
 use crate::fault::BoardFault;
 use crate::outcome::Outcome;
 use crate::receipt::Receipt;
-use crate::seat::Seat;
 use crate::site::Site;
 use fmp_base::Event;
+use fmp_row::Seat;
 use std::sync::Wait;
 
 /// What takes events from many threads, as a board does.
@@ -22,12 +23,12 @@ pub(crate) trait Feed {
     /// How many instructions a stretch may take.
     ghost bound: { ℕ };
 
-    /// How many seats it has.
-    ghost seats: { ℕ };
+    /// Its row.
+    ghost row_id: { RowId };
 
     /// The next stretch of the actor of processor p, if it has one. It is made outside the lock.
     fn outcome<R: Wait>(&self, rt: &R, seat: &mut Seat, p: u8) -> Option<Outcome>
-        requires at { IsAt seats seat.old }
+        requires at { IsAt row_id seat.old }
         ensures seat { seat.new ≡ seat.old }
         ensures outcome { IfSome result (λ o. IsTicketOf image bound o.ticket) };
 
@@ -38,14 +39,14 @@ pub(crate) trait Feed {
         seat: &mut Seat,
         outcome: Outcome,
     ) -> Result<Receipt, BoardFault>
-        requires at { IsAt seats seat.old }
+        requires at { IsAt row_id seat.old }
         requires outcome { IsTicketOf image bound outcome.ticket }
         ensures seat { seat.new ≡ seat.old }
         ensures fault { IfErr result (λ f. (f ≡ Full) ⊎ (f ≡ Stale)) };
 
     /// Takes an event, under the number of a seat.
     fn feed<R: Wait>(&self, rt: &R, seat: &mut Seat, event: Event) -> Result<Receipt, BoardFault>
-        requires at { IsAt seats seat.old }
+        requires at { IsAt row_id seat.old }
         ensures seat { seat.new ≡ seat.old }
         ensures fault { IfErr result (λ f. f ≡ Full) };
 }
@@ -55,7 +56,7 @@ impl<'a, S: Site> Feed for Board<'a, S> {
 
     ghost bound = { S.bound };
 
-    ghost seats = { S.seats };
+    ghost row_id = { S.row_id };
 
     fn outcome<R: Wait>(&self, rt: &R, seat: &mut Seat, p: u8) -> Option<Outcome> {
         Some(self.ticket(rt, seat, p)?.stretch())

@@ -6,9 +6,9 @@ ghost use Rattle.fmp_hostrun.specs.declared.fault.BoardFault.TheVariants.{Limit}
 use crate::board::Board;
 use crate::fault::BoardFault;
 use crate::feed::Feed;
-use crate::seat::Seat;
 use crate::site::Site;
 use crate::turns::{Gate, Part, run_part};
+use fmp_row::Seat;
 use std::alloc::{AllocError, Global};
 use std::snapshot::Snapshot;
 use std::sync::Wait;
@@ -66,7 +66,7 @@ fn work<B: Feed, G: Gate, R: Wait>(
     mut seat: Seat,
     part: Part,
 ) -> Worked
-    requires { IsAt B.seats seat }
+    requires { IsAt B.row_id seat }
     ensures { GaveBack seat result.seat result.journaled }
 {
     let journaled = run_part(rt, board, gate, &mut seat, part);
@@ -148,7 +148,7 @@ fn run_threads<B: Feed + Sync, G: Gate, R: Threads + Wait + Sync>(
     lists: Lists,
     load: Load,
 ) -> (Vec<Seat>, Result<u32, BoardFault>)
-    requires seats { All (IsAt B.seats) seats.items }
+    requires seats { All (IsAt B.row_id) seats.items }
     requires handles { (lists.handles.items ≡ []) × (vec_len seats ≤ vec_capacity lists.handles) }
     requires spared { (lists.spared.items ≡ []) × (vec_len seats ≤ vec_capacity lists.spared) }
     requires back { (lists.back.items ≡ []) × (vec_len seats ≤ vec_capacity lists.back) }
@@ -158,7 +158,7 @@ fn run_threads<B: Feed + Sync, G: Gate, R: Threads + Wait + Sync>(
         thread::scope_env(),
         rt,
         move |scope| -> (Vec<Seat>, Result<u32, BoardFault>)
-            requires seats { All (IsAt B.seats) seats.items }
+            requires seats { All (IsAt B.row_id) seats.items }
             requires handles { (lists.handles.items ≡ []) × (vec_len seats ≤ vec_capacity lists.handles) }
             requires spared { (lists.spared.items ≡ []) × (vec_len seats ≤ vec_capacity lists.spared) }
             requires back { (lists.back.items ≡ []) × (vec_len seats ≤ vec_capacity lists.back) }
@@ -182,13 +182,14 @@ fn run_threads<B: Feed + Sync, G: Gate, R: Threads + Wait + Sync>(
                 let started = scope.spawn_with(
                     promise,
                     move || -> Worked
-                        requires { IsAt B.seats seat }
+                        requires { IsAt B.row_id seat }
                         ensures { GaveBack seat result.seat result.journaled }
                     { work(rt, board, gate, seat, part) },
                 );
                 match started {
                     Ok(handle) => handles.push_reserved(handle),
-                    Err(_) => refused = true,
+                    // What is refused is dropped here, and the seat with it.
+                    Err(_refusal) => refused = true,
                 }
             }
             let (back, journaled) = joined(rt, handles, back);
@@ -221,7 +222,7 @@ pub fn run_all<S: Site + Send + Sync, G: Gate, R: Threads + Wait + Sync>(
     turns: u32,
     ticks: u32,
 ) -> (Vec<Seat>, Result<u32, BoardFault>)
-    requires { All (IsAt S.seats) seats.items }
+    requires { All (IsAt S.row_id) seats.items }
     ensures limit { (result.1 ≡ Err Limit) ↔ (length seats.items ≢ S.image.system.processors + 1) }
     ensures seats { CameBack seats.items result.0.items result.1 }
 {

@@ -16,7 +16,6 @@ use crate::site::Site;
 use fmp_base::{Effect, Event};
 use fmp_code::{MachineContext, Vm};
 use fmp_kernel::laws::stamps_count_events;
-use fmp_row::JournalEntry;
 
 impl<'a, S: Site> Book<'a, S> {
     /// A ticket for the stretch that the actor of processor p makes next. None where there is no such processor, or it
@@ -25,7 +24,7 @@ impl<'a, S: Site> Book<'a, S> {
         ensures ticket { MatchOption result (actor_after S.image S.bound self.now.journal p ≡ None)
             (λ t. IsTicketOf S.image S.bound t × (t.processor ≡ p)
             × (actor_after S.image S.bound self.now.journal p ≡ Some t.actor)) }
-        ensures legal { IsJournal S.image S.bound S.capacity S.seats self.now.journal }
+        ensures legal { IsJournal S.image S.bound S.row_id.capacity S.row_id.seats self.now.journal }
     {
         if p as usize > self.kernel.tables().processor_count() {
             return None;
@@ -56,19 +55,19 @@ impl<'a, S: Site> Book<'a, S> {
     /// `BoardFault::Stale`, exactly where the stamp of the processor is no more that of the ticket; else
     /// `BoardFault::Full`, exactly where the journal has no room for one more event. Then nothing has changed.
     pub fn enter_outcome(&mut self, seat: u8, outcome: Outcome) -> Result<Receipt, BoardFault>
-        requires seat { seat < S.seats }
+        requires seat { seat < S.row_id.seats }
         requires drawn { IsDrawn S.image S.bound self.old.journal outcome.ticket }
-        ensures answer { AnsweredAfter S.image S.bound S.capacity self.old.journal outcome.ticket result }
+        ensures answer { AnsweredAfter S.image S.bound S.row_id.capacity self.old.journal outcome.ticket result }
         ensures journal { OnOk result (self.new.journal
             ≡ journal_after self.old.journal (entry seat (Run outcome.ticket.processor))
             (reaction S.image S.bound (events self.old.journal) (Run outcome.ticket.processor))) }
         ensures same { OnErr result (self.new ≡ self.old) }
-        ensures legal { IsJournal S.image S.bound S.capacity S.seats self.old.journal }
+        ensures legal { IsJournal S.image S.bound S.row_id.capacity S.row_id.seats self.old.journal }
     {
         if !self.has_stamp(&outcome) {
             return Err(BoardFault::Stale);
         }
-        if self.journal.len() >= self.capacity as usize {
+        if self.scribe.is_full() {
             return Err(BoardFault::Full);
         }
         let event = Event::Run(outcome.processor());
@@ -79,9 +78,9 @@ impl<'a, S: Site> Book<'a, S> {
                 reply: None,
             }),
             Effect::Done => {
-                self.journal.push_reserved(JournalEntry { seat, event });
+                self.scribe.write(seat, event);
                 Ok(Receipt {
-                    number: self.journal.len() as u32,
+                    number: self.scribe.len(),
                     effect: Effect::Done,
                     reply: call_reply(self.kernel.lines()),
                 })
@@ -95,7 +94,7 @@ impl<'a, S: Site> Book<'a, S> {
             (actor_after S.image S.bound self.now.journal outcome.now.ticket.processor ≡ Some outcome.now.ticket.actor)
             (actor_after S.image S.bound self.now.journal outcome.now.ticket.processor
             ≢ Some outcome.now.ticket.actor) }
-        ensures legal { IsJournal S.image S.bound S.capacity S.seats self.now.journal }
+        ensures legal { IsJournal S.image S.bound S.row_id.capacity S.row_id.seats self.now.journal }
     {
         match self.kernel.actor(outcome.processor()) {
             Some(actor) => actor == outcome.actor(),
@@ -106,9 +105,9 @@ impl<'a, S: Site> Book<'a, S> {
     /// `enter_outcome` for an outcome of which only the board is known, and not when its ticket was drawn. So its actor
     /// is compared whole.
     pub(crate) fn submit(&mut self, seat: u8, outcome: Outcome) -> Result<Receipt, BoardFault>
-        requires seat { seat < S.seats }
+        requires seat { seat < S.row_id.seats }
         requires outcome { IsTicketOf S.image S.bound outcome.ticket }
-        ensures { Submitted S.image S.bound S.capacity S.seats outcome.ticket result }
+        ensures { Submitted S.image S.bound S.row_id.capacity S.row_id.seats outcome.ticket result }
     {
         if !self.has_actor(&outcome) {
             return Err(BoardFault::Stale);

@@ -5,8 +5,8 @@ ghost use Rattle.fmp_hostrun.specs.Boards.{IsAt, IsTurnFault};
 
 use crate::fault::BoardFault;
 use crate::feed::Feed;
-use crate::seat::Seat;
 use fmp_base::Event;
+use fmp_row::Seat;
 use std::sync::Wait;
 use std::thread;
 
@@ -52,7 +52,7 @@ fn take_turn<B: Feed, G: Gate, R: Wait>(
     p: u8,
     turn: u32,
 ) -> Result<bool, BoardFault>
-    requires { IsAt B.seats seat.old }
+    requires { IsAt B.row_id seat.old }
     ensures seat { seat.new ≡ seat.old }
     ensures fault { IfErr result IsTurnFault }
 {
@@ -80,7 +80,7 @@ fn run_turns<B: Feed, G: Gate, R: Wait>(
     p: u8,
     turns: u32,
 ) -> Result<u32, BoardFault>
-    requires { IsAt B.seats seat.old }
+    requires { IsAt B.row_id seat.old }
     ensures seat { seat.new ≡ seat.old }
     ensures most { IfOk result (λ journaled. journaled ≤ turns) }
     ensures fault { IfErr result IsTurnFault }
@@ -101,7 +101,7 @@ fn run_ticks<B: Feed, R: Wait>(
     seat: &mut Seat,
     ticks: u32,
 ) -> Result<u32, BoardFault>
-    requires { IsAt B.seats seat.old }
+    requires { IsAt B.row_id seat.old }
     ensures seat { seat.new ≡ seat.old }
     ensures most { IfOk result (λ journaled. journaled ≤ ticks) }
     ensures fault { IfErr result IsTurnFault }
@@ -124,7 +124,7 @@ pub(crate) fn run_part<B: Feed, G: Gate, R: Wait>(
     seat: &mut Seat,
     part: Part,
 ) -> Result<u32, BoardFault>
-    requires { IsAt B.seats seat.old }
+    requires { IsAt B.row_id seat.old }
     ensures seat { seat.new ≡ seat.old }
     ensures fault { IfErr result IsTurnFault }
 {

@@ -19,9 +19,10 @@ const TASKS: &str = "task main { put(7); }";
 type Answers = Vec<Result<Receipt, BoardFault>>;
 
 /// A seat of those of a board.
-fn one<S: Site>(seats: &mut Vec<Seat>) -> Option<Seat>
-    requires { All (IsAt S.seats) seats.old.items }
-    ensures { IfSome result (IsAt S.seats) }
+pub fn one<S: Site>(seats: &mut Vec<Seat>) -> Option<Seat>
+    requires { All (IsAt S.row_id) seats.old.items }
+    ensures seat { IfSome result (IsAt S.row_id) }
+    ensures others { All (IsAt S.row_id) seats.new.items }
 {
     seats.pop()
 }
@@ -34,8 +35,8 @@ fn fed<'a, S: Site, R: Wait>(
     mut seats: Vec<Seat>,
     times: u32,
 ) -> Result<(Answers, Closed<'a>), Fail>
-    requires blank { blank ≡ blank_of S.image S.bound S.capacity S.seats }
-    requires seats { All (IsAt S.seats) seats.items }
+    requires blank { blank ≡ blank_of S.image S.bound S.row_id }
+    requires seats { All (IsAt S.row_id) seats.items }
     ensures { IfOk result (λ r. r.1.kernel.system ≡ S.image.system) }
 {
     let board: Board<'a, S> = blank.open();

@@ -14,11 +14,11 @@ use std::sync::Wait;
 use std::test::Fail;
 use std::thread::Threads;
 
-const CONFIGURATION: &str = "NUM_PRC(2);
+pub const CONFIGURATION: &str = "NUM_PRC(2);
 CLASS(TCL_1) { CRE_TSK(A,{TA_ACT,0,a,10,256,NULL}); CRE_SHR(W,{0}); }
 CLASS(TCL_2) { CRE_TSK(B,{TA_ACT,0,b,10,256,NULL}); }";
 
-const TASKS: &str = "task a { var v; st_shr(W,5); ld_shr(W,&v); put(v); } task b { put(9); }";
+pub const TASKS: &str = "task a { var v; st_shr(W,5); ld_shr(W,&v); put(v); } task b { put(9); }";
 
 /// Runs a board by threads at this gate: what was answered, and the closed board.
 fn run<'a, S: Site + Send + Sync, R: Threads + Wait + Sync>(
@@ -29,8 +29,8 @@ fn run<'a, S: Site + Send + Sync, R: Threads + Wait + Sync>(
     gate: &SecondFirst,
     turns: u32,
 ) -> (Result<u32, BoardFault>, Closed<'a>)
-    requires blank { blank ≡ blank_of S.image S.bound S.capacity S.seats }
-    requires seats { All (IsAt S.seats) seats.items }
+    requires blank { blank ≡ blank_of S.image S.bound S.row_id }
+    requires seats { All (IsAt S.row_id) seats.items }
     ensures { result.1.kernel.system ≡ S.image.system }
 {
     let board: Board<'a, S> = blank.open();

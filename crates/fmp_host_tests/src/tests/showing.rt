@@ -2,6 +2,7 @@
 ghost use Rattle.std.specs.Prelude.{◌≡◌, All, IfOk};
 ghost use Rattle.fmp_hostrun.specs.Boards.{IsAt, blank as blank_of};
 
+use fmp_base::Event;
 use fmp_build::build;
 use fmp_hostrun::{Blank, BoardFault, Closed, Seat};
 use fmp_image::Image;
@@ -37,8 +38,8 @@ pub fn board_of<'a>(
     k: u32,
     m: u8,
 ) -> Result<(Blank<'a>, Vec<Seat>), BoardFault>
-    ensures blank { IfOk result (λ made. made.0 ≡ blank_of image.now n k m) }
-    ensures seats { IfOk result (λ made. All (IsAt m) made.1.items) }
+    ensures blank { IfOk result (λ made. made.0 ≡ blank_of image.now n made.0.row) }
+    ensures seats { IfOk result (λ made. All (IsAt made.0.row) made.1.items) }
 {
     Blank::new(alloc, image, n, k, m)
 }
@@ -49,15 +50,20 @@ fn text_of(alloc: Global, bytes: &[u8]) -> Result<String, Fail> {
     Ok(text)
 }
 
+/// Events as a steps text.
+pub fn steps_of(alloc: Global, events: &[Event]) -> Result<String, Fail> {
+    let mut text = Vec::new(alloc);
+    print_steps(events, &mut text)?;
+    text_of(alloc, &text)
+}
+
 /// The journal of a closed board, as a steps text.
 fn journal_of(alloc: Global, closed: &Closed<'_>) -> Result<String, Fail> {
     let mut events = Vec::new(alloc);
     for i in 0..closed.len() {
         events.push(closed.event(i))?;
     }
-    let mut text = Vec::new(alloc);
-    print_steps(&events, &mut text)?;
-    text_of(alloc, &text)
+    steps_of(alloc, &events)
 }
 
 /// The states of the tasks of a closed board.

@@ -2,4 +2,4 @@ use Rattle.fmp_hostrun.specs.Boards.{IsAt}
 use Rattle.fmp_host_tests.proofs.tests.feeding.fed.Given as goal
 
 abbrev pub invariant-loop : goal.invariant-loop
-invariant-loop g l = IsAt g.S.Site.seats l.seat
+invariant-loop g l = IsAt g.S.Site.row_id l.seat

@@ -1,4 +1,4 @@
-use Rattle.std.proofs.Common.{◌≡◌, ◌+◌, ◌<◌, List, length, sym, ap, ◌∙◌, subst, arith, rules, length-append}
+use Rattle.std.proofs.Common.{◌≡◌, ◌+◌, ◌<◌, List, length, sym, ap, ◌∙◌, subst, rules, length-append}
 use Rattle.fmp_base.specs.Steps.{Did, step}
 use Rattle.fmp_code.specs.Machine.{code_meaning}
 use Rattle.fmp_kernel.specs.KernelViews.{view_after}
@@ -15,17 +15,17 @@ pub invariant_of-self-in-Done : goal.invariant_of-self-in-Done
 invariant_of-self-in-Done g c =
     let b = c.self.invariant in
     let kernel = c.self.inside.kernel in
-    let journal = c.self.inside.journal.items in
+    let journal = c.self.inside.scribe.journal in
     let site = g.S.Site in
     let done = done_by (step kernel.system (code_meaning kernel.body) kernel.bound kernel.world c.args.event) (sym c.in-Done.is ∙ c.step.ensures.effect) in
-    let lt : length journal < site.capacity = omega (arith, b.2.capacity_is, c.if-len-self.false, c.len.ensures) in
+    let lt : length journal < site.row_id.capacity = search rules in
     let there : reaction site.image site.bound (events journal) c.args.event ≡ Did done.0 =
-    sym (step_there site.image site.bound site.capacity site.seats kernel journal c.args.event b.3) ∙ done.1 in (
+    sym (step_there site.image site.bound site.row_id.capacity site.row_id.seats kernel journal c.args.event b.3) ∙ done.1 in (
       b.0,
-      b.1,
-      record { capacity_is = b.2.capacity_is; reserved = omega (arith, b.2.reserved, c.push_reserved.ensures.capacity); most = b.2.most },
-      subst (λ (xs : List JournalEntry). IsReplay site.image site.bound site.capacity site.seats c.step.new.self xs) (sym c.push_reserved.ensures.items)
-          (replay_more site.image site.bound site.capacity site.seats kernel c.step.new.self journal (entry c.args.seat c.args.event) done.0 b.3 lt c.requires there
+      ap (λ v. v.row) c.write.ensures ∙ b.1,
+      b.2,
+      subst (λ (xs : List JournalEntry). IsReplay site.image site.bound site.row_id.capacity site.row_id.seats c.step.new.self xs) (sym (ap (λ v. v.journal) c.write.ensures))
+          (replay_more site.image site.bound site.row_id.capacity site.row_id.seats kernel c.step.new.self journal (entry c.args.seat c.args.event) done.0 b.3 lt c.requires there
           (c.step.ensures.state ∙ ap (view_after kernel) done.1)),
       b.4,
     )
@@ -34,17 +34,17 @@ pub returns-in-Nothing-clause-receipt : goal.returns-in-Nothing-clause-receipt
 returns-in-Nothing-clause-receipt g c =
     let b = c.self.invariant in
     let site = g.S.Site in
-    let there = step_there site.image site.bound site.capacity site.seats c.self.inside.kernel c.self.inside.journal.items c.args.event b.3 in
-    let was : c.args.self.now.journal ≡ c.self.inside.journal.items = search rules in
+    let there = step_there site.image site.bound site.row_id.capacity site.row_id.seats c.self.inside.kernel c.self.inside.scribe.journal c.args.event b.3 in
+    let was : c.args.self.now.journal ≡ c.self.inside.scribe.journal = search rules in
     rw was (receipt_nothing _ _ (sym there ∙ nothing_by _ (sym c.in-Nothing.is ∙ c.step.ensures.effect)))
 
 pub returns-in-Nothing-clause-journal : goal.returns-in-Nothing-clause-journal
 returns-in-Nothing-clause-journal g c =
     let b = c.self.invariant in
     let site = g.S.Site in
-    let journal = c.self.inside.journal.items in
-    let there = step_there site.image site.bound site.capacity site.seats c.self.inside.kernel journal c.args.event b.3 in
-    let was : c.args.self.now.journal ≡ c.self.inside.journal.items = search rules in
+    let journal = c.self.inside.scribe.journal in
+    let there = step_there site.image site.bound site.row_id.capacity site.row_id.seats c.self.inside.kernel journal c.args.event b.3 in
+    let was : c.args.self.now.journal ≡ c.self.inside.scribe.journal = search rules in
     rw was (sym (ap (journal_after journal (entry c.args.seat c.args.event)) (sym there ∙ nothing_by _ (sym c.in-Nothing.is ∙ c.step.ensures.effect))))
 
 pub returns-in-Done-clause-receipt : goal.returns-in-Done-clause-receipt
@@ -52,13 +52,13 @@ returns-in-Done-clause-receipt g c =
     let b = c.self.invariant in
     let site = g.S.Site in
     let kernel = c.self.inside.kernel in
-    let journal = c.self.inside.journal.items in
+    let journal = c.self.inside.scribe.journal in
     let done = done_by (step kernel.system (code_meaning kernel.body) kernel.bound kernel.world c.args.event) (sym c.in-Done.is ∙ c.step.ensures.effect) in
     let there : reaction site.image site.bound (events journal) c.args.event ≡ Did done.0 =
-    sym (step_there site.image site.bound site.capacity site.seats kernel journal c.args.event b.3) ∙ done.1 in
+    sym (step_there site.image site.bound site.row_id.capacity site.row_id.seats kernel journal c.args.event b.3) ∙ done.1 in
     let lines : c.step.new.self.lines ≡ done.0.lines = ap (λ v. v.lines) (c.step.ensures.state ∙ ap (view_after kernel) done.1) in
-    let count : c.len-in-Done.result ≡ length journal + 1 = search (rules, length-append) in
-    let was : c.args.self.now.journal ≡ c.self.inside.journal.items = search rules in
+    let count : c.len.result ≡ length journal + 1 = search (rules, length-append) in
+    let was : c.args.self.now.journal ≡ c.self.inside.scribe.journal = search rules in
     rw was (receipt_done _ done.0 _ _ _ there count (c.call_reply.ensures ∙ ap call_reply (c.lines.ensures ∙ lines)))
 
 pub returns-in-Done-clause-journal : goal.returns-in-Done-clause-journal
@@ -66,9 +66,9 @@ returns-in-Done-clause-journal g c =
     let b = c.self.invariant in
     let site = g.S.Site in
     let kernel = c.self.inside.kernel in
-    let journal = c.self.inside.journal.items in
+    let journal = c.self.inside.scribe.journal in
     let done = done_by (step kernel.system (code_meaning kernel.body) kernel.bound kernel.world c.args.event) (sym c.in-Done.is ∙ c.step.ensures.effect) in
     let there : reaction site.image site.bound (events journal) c.args.event ≡ Did done.0 =
-    sym (step_there site.image site.bound site.capacity site.seats kernel journal c.args.event b.3) ∙ done.1 in
-    let was : c.args.self.now.journal ≡ c.self.inside.journal.items = search rules in
-    rw was (c.push_reserved.ensures.items ∙ sym (ap (journal_after journal (entry c.args.seat c.args.event)) there))
+    sym (step_there site.image site.bound site.row_id.capacity site.row_id.seats kernel journal c.args.event b.3) ∙ done.1 in
+    let was : c.args.self.now.journal ≡ c.self.inside.scribe.journal = search rules in
+    rw was (ap (λ v. v.journal) c.write.ensures ∙ sym (ap (journal_after journal (entry c.args.seat c.args.event)) there))

@@ -1,4 +1,4 @@
-use Rattle.std.proofs.Common.{◌≡◌, ◌+◌, ◌<◌, List, [], ◌∷◌, ◌++◌, ℕ, length, Some, sym, ap, ◌∙◌, subst, arith, rules, length-append}
+use Rattle.std.proofs.Common.{◌≡◌, ◌+◌, ◌<◌, List, [], ◌∷◌, ◌++◌, ℕ, length, Some, sym, ap, ◌∙◌, subst, rules, length-append}
 use Rattle.fmp_base.specs.declared.events.Event.TheVariants.{Run}
 use Rattle.fmp_base.specs.Stretches.{ending}
 use Rattle.fmp_code.specs.Machine.{code_meaning}
@@ -20,17 +20,17 @@ returns-in-Nothing-clause-answer g c =
     let b = c.self.invariant in
     let site = g.S.Site in
     let kernel = c.self.inside.kernel in
-    let journal = c.self.inside.journal.items in
+    let journal = c.self.inside.scribe.journal in
     let o = c.args.outcome in
     let p = o.ticket.processor in
     let was : c.args.self.now.journal ≡ journal = search rules in
     let here : actor_after site.image site.bound c.args.self.now.journal p ≡ Some o.ticket.actor = search rules in
     let there = rw was at here in
-    let lt : length journal < site.capacity = omega (arith, b.2.capacity_is, c.if-len-self.false, c.len.ensures) in
+    let lt : length journal < site.row_id.capacity = search rules in
     let runs : applied kernel.system (code_meaning kernel.body) kernel.world c.processor-2.result (ending c.stretch.result) ≡ reaction site.image site.bound (events journal) (Run p) =
     ap (λ q. applied kernel.system (code_meaning kernel.body) kernel.world q (ending c.stretch.result)) c.processor-2.ensures
     ∙ ap (λ x. applied kernel.system (code_meaning kernel.body) kernel.world p x) c.stretch.ensures.ending
-    ∙ outcome_runs site.image site.bound site.capacity site.seats kernel journal o b.3 c.stretch.ensures.outcome c.requires.drawn.is_of there in
+    ∙ outcome_runs site.image site.bound site.row_id.capacity site.row_id.seats kernel journal o b.3 c.stretch.ensures.outcome c.requires.drawn.is_of there in
     rw was (
       stamp_of_actor site.image site.bound journal p o.ticket.actor there,
       lt,
@@ -42,7 +42,7 @@ returns-in-Nothing-clause-journal g c =
     let b = c.self.invariant in
     let site = g.S.Site in
     let kernel = c.self.inside.kernel in
-    let journal = c.self.inside.journal.items in
+    let journal = c.self.inside.scribe.journal in
     let o = c.args.outcome in
     let p = o.ticket.processor in
     let was : c.args.self.now.journal ≡ journal = search rules in
@@ -50,7 +50,7 @@ returns-in-Nothing-clause-journal g c =
     let runs : applied kernel.system (code_meaning kernel.body) kernel.world c.processor-2.result (ending c.stretch.result) ≡ reaction site.image site.bound (events journal) (Run p) =
     ap (λ q. applied kernel.system (code_meaning kernel.body) kernel.world q (ending c.stretch.result)) c.processor-2.ensures
     ∙ ap (λ x. applied kernel.system (code_meaning kernel.body) kernel.world p x) c.stretch.ensures.ending
-    ∙ outcome_runs site.image site.bound site.capacity site.seats kernel journal o b.3 c.stretch.ensures.outcome c.requires.drawn.is_of (rw was at here) in
+    ∙ outcome_runs site.image site.bound site.row_id.capacity site.row_id.seats kernel journal o b.3 c.stretch.ensures.outcome c.requires.drawn.is_of (rw was at here) in
     rw was (sym (ap (journal_after journal (entry c.args.seat (Run p))) (sym runs ∙ nothing_by _ (sym c.in-Nothing.is ∙ c.apply.ensures.effect))))
 
 pub invariant_of-self-in-Done : goal.invariant_of-self-in-Done
@@ -58,24 +58,24 @@ invariant_of-self-in-Done g c =
     let b = c.self.invariant in
     let site = g.S.Site in
     let kernel = c.self.inside.kernel in
-    let journal = c.self.inside.journal.items in
+    let journal = c.self.inside.scribe.journal in
     let o = c.args.outcome in
     let p = o.ticket.processor in
     let was : c.args.self.now.journal ≡ journal = search rules in
     let here : actor_after site.image site.bound c.args.self.now.journal p ≡ Some o.ticket.actor = search rules in
-    let lt : length journal < site.capacity = omega (arith, b.2.capacity_is, c.if-len-self.false, c.len.ensures) in
+    let lt : length journal < site.row_id.capacity = search rules in
     let runs : applied kernel.system (code_meaning kernel.body) kernel.world c.processor-2.result (ending c.stretch.result) ≡ reaction site.image site.bound (events journal) (Run p) =
     ap (λ q. applied kernel.system (code_meaning kernel.body) kernel.world q (ending c.stretch.result)) c.processor-2.ensures
     ∙ ap (λ x. applied kernel.system (code_meaning kernel.body) kernel.world p x) c.stretch.ensures.ending
-    ∙ outcome_runs site.image site.bound site.capacity site.seats kernel journal o b.3 c.stretch.ensures.outcome c.requires.drawn.is_of (rw was at here) in
+    ∙ outcome_runs site.image site.bound site.row_id.capacity site.row_id.seats kernel journal o b.3 c.stretch.ensures.outcome c.requires.drawn.is_of (rw was at here) in
     let done = done_by (applied kernel.system (code_meaning kernel.body) kernel.world c.processor-2.result (ending c.stretch.result)) (sym c.in-Done.is ∙ c.apply.ensures.effect) in
-    let items : c.push_reserved.new.self.items ≡ journal ++ entry c.args.seat (Run p) ∷ [] =
-    c.push_reserved.ensures.items ∙ ap (λ (q : ℕ). journal ++ entry c.args.seat (Run q) ∷ []) c.processor.ensures in (
+    let items : c.write.new.self.journal ≡ journal ++ entry c.args.seat (Run p) ∷ [] =
+    ap (λ v. v.journal) c.write.ensures ∙ ap (λ (q : ℕ). journal ++ entry c.args.seat (Run q) ∷ []) c.processor.ensures in (
       b.0,
-      b.1,
-      record { capacity_is = b.2.capacity_is; reserved = omega (arith, b.2.reserved, c.push_reserved.ensures.capacity); most = b.2.most },
-      subst (λ (xs : List JournalEntry). IsReplay site.image site.bound site.capacity site.seats c.apply.new.self xs) (sym items)
-          (replay_more site.image site.bound site.capacity site.seats kernel c.apply.new.self journal (entry c.args.seat (Run p)) done.0 b.3 lt c.requires.seat (sym runs ∙ done.1)
+      ap (λ v. v.row) c.write.ensures ∙ b.1,
+      b.2,
+      subst (λ (xs : List JournalEntry). IsReplay site.image site.bound site.row_id.capacity site.row_id.seats c.apply.new.self xs) (sym items)
+          (replay_more site.image site.bound site.row_id.capacity site.row_id.seats kernel c.apply.new.self journal (entry c.args.seat (Run p)) done.0 b.3 lt c.requires.seat (sym runs ∙ done.1)
           (c.apply.ensures.state ∙ ap (view_after kernel) done.1)),
       b.4,
     )
@@ -85,20 +85,20 @@ returns-clause-answer g c =
     let b = c.self.invariant in
     let site = g.S.Site in
     let kernel = c.self.inside.kernel in
-    let journal = c.self.inside.journal.items in
+    let journal = c.self.inside.scribe.journal in
     let o = c.args.outcome in
     let p = o.ticket.processor in
     let was : c.args.self.now.journal ≡ journal = search rules in
     let here : actor_after site.image site.bound c.args.self.now.journal p ≡ Some o.ticket.actor = search rules in
     let there = rw was at here in
-    let lt : length journal < site.capacity = omega (arith, b.2.capacity_is, c.if-len-self.false, c.len.ensures) in
+    let lt : length journal < site.row_id.capacity = search rules in
     let runs : applied kernel.system (code_meaning kernel.body) kernel.world c.processor-2.result (ending c.stretch.result) ≡ reaction site.image site.bound (events journal) (Run p) =
     ap (λ q. applied kernel.system (code_meaning kernel.body) kernel.world q (ending c.stretch.result)) c.processor-2.ensures
     ∙ ap (λ x. applied kernel.system (code_meaning kernel.body) kernel.world p x) c.stretch.ensures.ending
-    ∙ outcome_runs site.image site.bound site.capacity site.seats kernel journal o b.3 c.stretch.ensures.outcome c.requires.drawn.is_of there in
+    ∙ outcome_runs site.image site.bound site.row_id.capacity site.row_id.seats kernel journal o b.3 c.stretch.ensures.outcome c.requires.drawn.is_of there in
     let done = done_by (applied kernel.system (code_meaning kernel.body) kernel.world c.processor-2.result (ending c.stretch.result)) (sym c.in-Done.is ∙ c.apply.ensures.effect) in
     let lines : c.apply.new.self.lines ≡ done.0.lines = ap (λ v. v.lines) (c.apply.ensures.state ∙ ap (view_after kernel) done.1) in
-    let count : c.len-in-Done.result ≡ length journal + 1 = search (rules, length-append) in
+    let count : c.len.result ≡ length journal + 1 = search (rules, length-append) in
     rw was (
       stamp_of_actor site.image site.bound journal p o.ticket.actor there,
       lt,
@@ -110,7 +110,7 @@ returns-clause-journal g c =
     let b = c.self.invariant in
     let site = g.S.Site in
     let kernel = c.self.inside.kernel in
-    let journal = c.self.inside.journal.items in
+    let journal = c.self.inside.scribe.journal in
     let o = c.args.outcome in
     let p = o.ticket.processor in
     let was : c.args.self.now.journal ≡ journal = search rules in
@@ -118,8 +118,8 @@ returns-clause-journal g c =
     let runs : applied kernel.system (code_meaning kernel.body) kernel.world c.processor-2.result (ending c.stretch.result) ≡ reaction site.image site.bound (events journal) (Run p) =
     ap (λ q. applied kernel.system (code_meaning kernel.body) kernel.world q (ending c.stretch.result)) c.processor-2.ensures
     ∙ ap (λ x. applied kernel.system (code_meaning kernel.body) kernel.world p x) c.stretch.ensures.ending
-    ∙ outcome_runs site.image site.bound site.capacity site.seats kernel journal o b.3 c.stretch.ensures.outcome c.requires.drawn.is_of (rw was at here) in
+    ∙ outcome_runs site.image site.bound site.row_id.capacity site.row_id.seats kernel journal o b.3 c.stretch.ensures.outcome c.requires.drawn.is_of (rw was at here) in
     let done = done_by (applied kernel.system (code_meaning kernel.body) kernel.world c.processor-2.result (ending c.stretch.result)) (sym c.in-Done.is ∙ c.apply.ensures.effect) in
-    let items : c.push_reserved.new.self.items ≡ journal ++ entry c.args.seat (Run p) ∷ [] =
-    c.push_reserved.ensures.items ∙ ap (λ (q : ℕ). journal ++ entry c.args.seat (Run q) ∷ []) c.processor.ensures in
+    let items : c.write.new.self.journal ≡ journal ++ entry c.args.seat (Run p) ∷ [] =
+    ap (λ v. v.journal) c.write.ensures ∙ ap (λ (q : ℕ). journal ++ entry c.args.seat (Run q) ∷ []) c.processor.ensures in
     rw was (items ∙ sym (ap (journal_after journal (entry c.args.seat (Run p))) (sym runs ∙ done.1)))

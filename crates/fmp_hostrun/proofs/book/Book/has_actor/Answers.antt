@@ -8,7 +8,7 @@ pub returns-in-Some-clause-test : goal.returns-in-Some-clause-test
 returns-in-Some-clause-test g c =
     let b = c.self.invariant in
     let p = c.args.outcome.now.ticket.processor in
-    let was : c.args.self.now.journal ≡ c.self.inside.journal.items = search rules in
+    let was : c.args.self.now.journal ≡ c.self.inside.scribe.journal = search rules in
     let found : actor_in c.self.inside.kernel p ≡ Some c.in-Some.actor =
     ap (actor_in c.self.inside.kernel) (sym c.processor.ensures) ∙ sym c.actor.ensures.value ∙ c.in-Some.is in
     let test = Decides-at c.eq.result _ c.eq.ensures (same_actor c.in-Some.actor c.actor-in-Some.result) in

@@ -1,6 +1,6 @@
 use Rattle.std.proofs.Common.{◌≡◌, [], ◌∷◌, ◌++◌, map, ap, sym, ◌∙◌, rules}
 use Rattle.std.proofs.lemmas.List.{map-append}
-use Rattle.fmp_hostrun.specs.Boards.{SeatState}
+use Rattle.fmp_row.specs.Seats.{SeatState}
 use Rattle.fmp_hostrun.proofs.Starting.{seats_at, one_spared, one_started, one_refused, all_but_one}
 use Rattle.fmp_hostrun.proofs.running.fn.run_threads.scope.Goals as goal
 

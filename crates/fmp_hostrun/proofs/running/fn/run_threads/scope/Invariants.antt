@@ -11,7 +11,7 @@ invariant-loop-seat g l =
     record {
       started : Started l.refused (into_iter_items first) (map (λ h. h.promise.seat.value) l.handles.items) l.spared.items (into_iter_items rest);
       size : into_iter_len rest ≡ length (into_iter_items rest);
-      at : All (IsAt g.B.Feed.seats) (into_iter_items rest);
+      at : All (IsAt g.B.Feed.row_id) (into_iter_items rest);
       count : vec_len l.handles + vec_len l.spared + into_iter_len rest ≤ into_iter_len first;
       room : into_iter_len first ≤ vec_capacity l.handles;
       spare_room : into_iter_len first ≤ vec_capacity l.spared;
