@@ -4,7 +4,7 @@ ghost use Rattle.fmp_text_tests.specs.Alone.{IsCompiledAlone};
 use fmp_base::System;
 use fmp_code::Code;
 use fmp_codegen::compile;
-use fmp_lex::BuildFault;
+use fmp_lex::{BuildFault, tokens};
 use fmp_tasklang::read_tasks;
 use std::alloc::Global;
 
@@ -18,5 +18,8 @@ pub fn compile_alone(alloc: Global, text: &[u8]) -> Result<Code, BuildFault>
         Ok(program) => program,
         Err(fault) => return Err(fault),
     };
-    compile(alloc, &program, &system)
+    match tokens(alloc, text) {
+        Ok(list) => compile(alloc, &list.tokens, &program, &system),
+        Err(_) => Err(BuildFault::Memory),
+    }
 }

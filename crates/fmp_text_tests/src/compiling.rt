@@ -4,6 +4,7 @@ use crate::texts::text_of;
 use fmp_base::Name;
 use fmp_code::{Code, verify};
 use fmp_codegen::{EntryUse, check_entries};
+use fmp_lex::tokens;
 use fmp_tasklang::{BodyKind, Program, read_tasks};
 use std::alloc::Global;
 use std::test::Fail;
@@ -76,10 +77,10 @@ fn limits_of_size_and_depth(rt: HostRuntime) -> Result<(), Fail> {
     Ok(())
 }
 
-/// An entry of line 7: of a task with a stack, or of a handler.
+/// An entry of the first token: of a task with a stack, or of a handler.
 fn entry_of(body: &str, stack: Option<u32>) -> Result<EntryUse, Fail> {
     Ok(EntryUse {
-        line: 7,
+        at: 0,
         name: Name::new(body.as_bytes()).ok_or("a name")?,
         kind: match stack {
             Some(_) => BodyKind::Task,
@@ -90,7 +91,8 @@ fn entry_of(body: &str, stack: Option<u32>) -> Result<EntryUse, Fail> {
 }
 
 fn checked(alloc: Global, program: &Program, entry: EntryUse) -> Result<String, Fail> {
-    match check_entries(alloc, program, &[entry]) {
+    let list = tokens(alloc, b"\n\n\n\n\n\n CRE_TSK")?;
+    match check_entries(alloc, &list.tokens, program, &[entry]) {
         Ok(()) => Ok(format!(in alloc; "ok")?),
         Err(fault) => Ok(format!(in alloc; "{fault}")?),
     }

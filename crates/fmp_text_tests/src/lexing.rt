@@ -1,6 +1,6 @@
 //! Texts and their tokens.
 use crate::texts::text_of;
-use fmp_lex::{TextFault, TokenKind, tokens};
+use fmp_lex::{Place, TextFault, TokenKind, tokens};
 use std::alloc::Global;
 use std::test::Fail;
 
@@ -115,15 +115,49 @@ fn lines_and_comments(rt: HostRuntime) -> Result<(), Fail> {
             let list = tokens(rt.alloc(), text.as_bytes())?;
             let mut found = String::new(rt.alloc());
             for at in 0..list.tokens.len() {
-                if let Some(line) = list.tokens.line(at) {
-                    found.push_str(format!(in rt.alloc(); " {line}")?.as_str())?;
+                if let Some(place) = list.tokens.place(at) {
+                    found.push_str(format!(in rt.alloc(); " {}", place.line)?.as_str())?;
                 }
             }
-            let end_line = list.end_line;
-            found.push_str(format!(in rt.alloc(); " / {end_line}")?.as_str())?;
+            found.push_str(format!(in rt.alloc(); " / {}", list.end.line)?.as_str())?;
             assert_eq!(rt; found.as_str(), expected, "{row}");
         }
     }
+    Ok(())
+}
+
+/// Texts, where their tokens stand, and after `/` where they end: a line, and the bytes from one place up to another.
+const PLACES: &str = " => / 1 0..0
+x~ => 1 0..1 / 2 2..2
+ab~ 12==_c => 1 0..2 2 4..6 2 6..8 2 8..10 / 2 10..10
+a /*~*/ 0x1f; // ~ => 1 0..1 2 8..12 2 12..13 / 3 18..18
+sus_tsk(TSK_SELF) $ b => 1 0..7 1 7..8 1 8..16 1 16..17 1 18..18 / 1 21..21
+a /* => 1 0..1 1 2..2 / 1 4..4
+99999999999 => 1 0..0 / 1 11..11";
+
+#[test]
+fn places(rt: HostRuntime) -> Result<(), Fail> {
+    for row in PLACES.lines() {
+        if let Some((text, expected)) = row.split_once(" =>") {
+            let text = text_of(rt.alloc(), text)?;
+            let list = tokens(rt.alloc(), text.as_bytes())?;
+            let mut found = String::new(rt.alloc());
+            for at in 0..list.tokens.len() {
+                if let Some(place) = list.tokens.place(at) {
+                    push_place(rt.alloc(), &mut found, place)?;
+                }
+            }
+            found.push_str(" /")?;
+            push_place(rt.alloc(), &mut found, list.end)?;
+            assert_eq!(rt; found.as_str(), expected, "{row}");
+        }
+    }
+    Ok(())
+}
+
+fn push_place(alloc: Global, found: &mut String, place: Place) -> Result<(), Fail> {
+    let Place { line, start, end } = place;
+    found.push_str(format!(in alloc; " {line} {start}..{end}")?.as_str())?;
     Ok(())
 }
 
@@ -133,9 +167,9 @@ fn longest_text(rt: HostRuntime) -> Result<(), Fail> {
     let spaces = " ".repeat(alloc, 1_048_576)?;
     let list = tokens(alloc, spaces.as_bytes())?;
     assert_eq!(rt; list.tokens.len(), 0);
-    assert_eq!(rt; list.end_line, 1);
+    assert_eq!(rt; list.end.line, 1);
     let lines = "\n".repeat(alloc, 1_048_576)?;
-    assert_eq!(rt; tokens(alloc, lines.as_bytes())?.end_line, 1_048_577);
+    assert_eq!(rt; tokens(alloc, lines.as_bytes())?.end.line, 1_048_577);
     let longer = " ".repeat(alloc, 1_048_577)?;
     assert!(rt; matches!(tokens(alloc, longer.as_bytes()), Err(TextFault::TooLong)));
     Ok(())

@@ -90,7 +90,7 @@ fn trees(rt: HostRuntime) -> Result<(), Fail> {
     let text = b"\ntask m {\nput(1 - 2 - 3 * TA_CLR); }";
     let program = read_tasks(rt.alloc(), text)?;
     let body = program.bodies.first().ok_or("a body")?;
-    assert_eq!(rt; (body.line, body.name.line), (2, 2));
+    assert_eq!(rt; (body.at, body.name.at), (0, 1));
     let Some(Statement::Call(call)) = body.statements.first() else {
         return Err("no call".into());
     };
