@@ -5,8 +5,8 @@ use Rattle.fmp_lex.specs.declared.fault.FaultKind.{FaultKind}
 use Rattle.fmp_lex.specs.declared.fault.FaultKind.TheVariants as fault
 use Rattle.fmp_lex.specs.declared.fault.TextFile.{TextFile}
 use Rattle.fmp_lex.specs.declared.fault.TextFile.TheVariants as file
+use Rattle.fmp_lex.specs.declared.place.Place.{Place}
 use Rattle.fmp_diagnosis.specs.declared.excerpt.Excerpt.{Excerpt}
-use Rattle.fmp_diagnosis.specs.declared.reports.Place.{Place}
 use Rattle.fmp_diagnosis.specs.declared.sentence.Texts.{Texts}
 use Rattle.fmp_diagnosis.specs.Excerpts.{IsExcerpt}
 

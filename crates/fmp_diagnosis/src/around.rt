@@ -79,7 +79,7 @@ pub fn name_at(tokens: &Tokens<'_>, at: usize) -> Option<Name> {
 
 /// The line of the token at a place, from 1.
 pub fn line_of(tokens: &Tokens<'_>, at: usize) -> Option<u32> {
-    tokens.line(at)
+    tokens.place(at).map(|place| place.line)
 }
 
 /// Whether two names have the same letters.

@@ -23,6 +23,6 @@ mod words;
 
 pub use excerpt::{Excerpt, excerpt_at};
 pub use nearness::nearest;
-pub use reports::{FileNames, Place, report};
+pub use reports::{FileNames, report};
 pub use sentence::{Texts, say_fault};
 pub use warnings::warnings_of;

@@ -5,7 +5,7 @@ ghost use Rattle.fmp_diagnosis.specs.Reports.{IsReport};
 
 use crate::excerpt::{Excerpt, excerpt_at};
 use crate::sentence::{Texts, say_fault};
-use fmp_lex::{FaultKind, TextFile};
+use fmp_lex::{FaultKind, Place, TextFile};
 use itoa::Buffer;
 use std::alloc::{AllocError, Global};
 
@@ -16,17 +16,6 @@ pub struct FileNames<'a> {
     pub cfg: &'a str,
     /// The file of the bodies.
     pub src: &'a str,
-}
-
-/// Where a fault of a text stands: at a token, or where the text ends.
-#[derive(Clone, Copy)]
-pub struct Place {
-    /// The line of the first byte, from 1.
-    pub line: u32,
-    /// The first byte, from 0.
-    pub start: u32,
-    /// The byte behind the last one; `start` where no token stands.
-    pub end: u32,
 }
 
 fn append_number(number: u64, out: &mut Vec<u8>) -> Result<(), AllocError>
