@@ -2,7 +2,7 @@ use Rattle.std.proofs.Common.{◌+◌, ◌≤◌, length}
 use Rattle.fmp_base.specs.Queues.{priority_in}
 use Rattle.fmp_ring.specs.Places.{Walked}
 use Rattle.fmp_ring.specs.RingLists.{list_at, from_node}
-use Rattle.fmp_waitq.proofs.place.place.Given as goal
+use Rattle.fmp_waitq.proofs.place.place_from.Given as goal
 
 abbrev pub invariant-loop-at : goal.invariant-loop-at
 invariant-loop-at l =
@@ -10,7 +10,7 @@ invariant-loop-at l =
     record {
       walked : Walked (priority_in l.blocks) l.t list l.at;
       least : l.fn.steps ≤ l.steps;
-      most : l.steps + length (from_node l.at list) ≤ l.fn.steps + 1 + length list;
+      most : l.steps + length (from_node l.at list) ≤ l.fn.steps + length list;
     }
 
 abbrev pub decreases-loop-at : goal.decreases-loop-at
