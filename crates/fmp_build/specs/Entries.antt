@@ -8,8 +8,8 @@ use Rattle.fmp_cfgparse.specs.Values.{number_at, name_at, held}
 use Rattle.fmp_tasklang.specs.declared.trees.BodyKind.TheVariants.{Task, Handler}
 use Rattle.fmp_codegen.specs.declared.entries.EntryUse.{EntryUse}
 
--- The entry of a static API with these fields, whose word is this token: CRE_TSK names a task's body and its stack, CRE_CYC and
--- DEF_INH a handler's.
+-- The entry of a static API with these fields, whose word is this token: CRE_TSK names a task's body and its stack,
+-- CRE_CYC and DEF_INH a handler's.
 abbrev pub entry_of : Api → (at : ℕ) → List FieldTree → Option EntryUse
 entry_of api.CreTsk at f =
     Some (record { at = at; name = name_at f 3; kind = Task; stack = Some (held 4294967295 (number_at f 5)) })

@@ -74,7 +74,8 @@ compiled tables bodies = map (compiled_body tables) bodies
 abbrev pub IsAccepted : SystemTables → List BodyTree → Type 0
 IsAccepted tables bodies = bodies_offence tables [] bodies ≡ None
 
--- what compiling answers: the code of bodies without a fault, or the first fault, where these are the tokens of the text
+-- what compiling answers: the code of bodies without a fault, or the first fault, where these are the tokens of the
+-- text
 abbrev pub IsCompiled : SystemTables → List Token → List BodyTree → Result declared.Code BuildFault → Type 0
 IsCompiled tables ts bodies (Ok code) = IsAccepted tables bodies × (code_tables code ≡ compiled tables bodies)
 IsCompiled tables ts bodies (Err build.Memory) = Unit {0}

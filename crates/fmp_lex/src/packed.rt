@@ -1,4 +1,5 @@
-//! The tokens of a text in few bytes each: the bytes of a name stay in the text, and lines and ends are worked out of it.
+//! The tokens of a text in few bytes each: the bytes of a name stay in the text, and lines and ends are worked out of
+//! it.
 ghost use Rattle.std.specs.Prelude.{◌≡◌, ℕ, List, ◌+◌, ◌<◌, ◌≤◌, ◌^◌, length, map, slice_get, option_map, IfSome};
 ghost use Rattle.std.specs.List.{All};
 ghost use Rattle.fmp_base.specs.Names.{name_from};

@@ -14,7 +14,8 @@ use Rattle.fmp_waitq.specs.WaitLists.{queue_at, IsThere}
 
 -- none stands in a queue twice, and each but t that waits there and is as urgent stands behind none that is less urgent
 -- than t
-pub record IsOrdered (w : WaitQueues) (tasks : List TaskBlock) (rings : RingLists) (q : WaitQueue) (t : ℕ) : Type 0 where
+pub record IsOrdered (w : WaitQueues) (tasks : List TaskBlock) (rings : RingLists) (q : WaitQueue)
+    (t : ℕ) : Type 0 where
   pub once : IsOrder rings.nodes (queue_at w rings q)
   pub behind :
       (u : ℕ) → u < length tasks → nat_eq u t ≡ false → waits_in q (task_at tasks u) ≡ true →

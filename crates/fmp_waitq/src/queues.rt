@@ -109,8 +109,9 @@ impl WaitQueues {
         }
     }
 
-    /// Puts a task, which stands in no list, into a queue of priority order, where one that is at least as urgent stands
-    /// behind none that is less urgent: after all that are at least as urgent. It looks at those behind that one alone.
+    /// Puts a task, which stands in no list, into a queue of priority order, where one that is at least as urgent
+    /// stands behind none that is less urgent: after all that are at least as urgent. It looks at those behind that
+    /// one alone.
     pub fn join_behind(
         self,
         rings: &mut Rings,
