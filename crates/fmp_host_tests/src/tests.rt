@@ -2,4 +2,3 @@
 mod feeding;
 mod hosting;
 mod showing;
-mod tickets;
