@@ -2,6 +2,7 @@
 use Rattle.std.specs.Prelude.{ℕ, List, [], ◌∷◌, ◌++◌, length, Bool, true, false, not, is_some, ◌&&◌, ◌||◌, nat_eq, nat_le}
 use Rattle.std.specs.List.{list_all, list_any}
 use Rattle.std.specs.Str.{bytes_eq}
+use Rattle.std.specs.Hash as fed
 use Rattle.fmp_base.specs.Names.{name_text}
 use Rattle.fmp_lex.specs.Scanning.{is_letter, is_word}
 use Rattle.fmp_lex.specs.Words.{constant_named, api_named, service_named, keyword_named}
@@ -29,6 +30,11 @@ same_key (key.Name a) (key.Name b) = bytes_eq (name_text a) (name_text b)
 same_key (key.Name a) (key.Interrupt j) = false
 same_key (key.Interrupt i) (key.Name b) = false
 same_key (key.Interrupt i) (key.Interrupt j) = nat_eq i j
+
+-- what a key is hashed by
+abbrev pub key_input : Key → List (List ℕ)
+key_input (key.Name a) = fed.slice fed.u8 (name_text a)
+key_input (key.Interrupt i) = fed.u8 i
 
 -- whether a key is among those that stand already
 abbrev pub is_taken : Key → List Key → Bool

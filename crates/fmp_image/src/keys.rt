@@ -1,16 +1,21 @@
 //! Names that an object can have, and what may stand only once in an image.
 
-ghost use Rattle.std.specs.Prelude.{◌≡◌, true, false, MatchOption};
+ghost use Rattle.std.specs.Prelude.{◌≡◌, ◌++◌, ◌∷◌, [], true, false, MatchOption, OnOk};
 ghost use Rattle.std.specs.List.{list_all};
 ghost use Rattle.fmp_base.specs.Names.{name_text, name_from};
 ghost use Rattle.fmp_lex.specs.Scanning.{is_letter, is_word};
-ghost use Rattle.fmp_image.specs.Keys.{begins_and_goes_on, is_reserved, is_name, same_key, is_taken};
+ghost use Rattle.fmp_image.specs.Keys.{begins_and_goes_on, is_reserved, is_name, key_input, same_key, is_taken};
+ghost use Rattle.fmp_image.specs.KeyLaws.{are_alike, are_partly_alike, hashed_alike};
 
 use fmp_base::Name;
 use fmp_lex::words::{find_api, find_constant, find_keyword, find_service};
+use indexmap::IndexSet;
+use std::alloc::AllocFailed;
+use std::hash::{Hash, Hasher};
 
-/// What may stand only once in an image: the name of an object, or the number of an interrupt with a handler.
-#[derive(Clone, Copy, Debug, PartialEq, Eq)]
+/// What may stand only once in an image: the name of an object, or the number of an interrupt with a handler. Two names
+/// are the same where their bytes are.
+#[derive(Clone, Copy, Debug)]
 pub enum Key {
     Name(Name),
     Interrupt(u8),
@@ -70,20 +75,54 @@ pub fn name_of(text: &[u8]) -> Option<Name>
     if is_name(text) { Name::new(text) } else { None }
 }
 
-fn same_key(a: &Key, b: &Key) -> bool
-    ensures { result ≡ same_key a.now b.now }
-{
-    match (a, b) {
-        (Key::Name(x), Key::Name(y)) => x.as_bytes() == y.as_bytes(),
-        (Key::Interrupt(i), Key::Interrupt(j)) => *i == *j,
-        (Key::Name(_), Key::Interrupt(_)) => false,
-        (Key::Interrupt(_), Key::Name(_)) => false,
+impl PartialEq for Key {
+    ghost eq = { same_key };
+
+    ghost laws = { are_partly_alike };
+
+    fn eq(&self, other: &Key) -> bool {
+        match (self, other) {
+            (Key::Name(x), Key::Name(y)) => x.as_bytes() == y.as_bytes(),
+            (Key::Interrupt(i), Key::Interrupt(j)) => *i == *j,
+            (Key::Name(_), Key::Interrupt(_)) => false,
+            (Key::Interrupt(_), Key::Name(_)) => false,
+        }
     }
 }
 
+impl Eq for Key {
+    ghost laws = { are_alike };
+}
+
+impl Hash for Key {
+    ghost hash_input = { key_input };
+
+    ghost respects_eq = { hashed_alike };
+
+    fn hash<H: Hasher>(&self, state: &mut H) {
+        match self {
+            Key::Name(name) => name.as_bytes().hash(state),
+            Key::Interrupt(number) => number.hash(state),
+        }
+    }
+}
+
+/// The keys that stand in an image already, in their order.
+pub type TakenKeys = IndexSet<Key>;
+
 /// Whether a key stands among these.
-pub fn is_taken(key: &Key, taken: &[Key]) -> bool
-    ensures { result ≡ is_taken key.now taken.now }
+pub fn is_taken(key: &Key, taken: &TakenKeys) -> bool
+    ensures { result ≡ is_taken key.now taken.now.keys }
 {
-    taken.iter().any(|other| same_key(key, other))
+    taken.contains(key)
+}
+
+#[tactic(auto, using(crate::specs::KeyLaws::put_last))]
+/// Enters a key that does not stand among these behind them.
+pub fn take(key: Key, taken: &mut TakenKeys) -> Result<(), AllocFailed<Key>>
+    requires { is_taken key taken.old.keys ≡ false }
+    ensures { OnOk result (taken.new.keys ≡ taken.old.keys ++ key ∷ []) }
+{
+    taken.insert(key)?;
+    Ok(())
 }

@@ -12,6 +12,7 @@ use crate::fault::{ImageFault, LoadFault};
 use crate::fields::{byte_at, bytes_at, short_at};
 use crate::heads::BodyHead;
 use crate::image::Image;
+use crate::keys::TakenKeys;
 use crate::rows::{TABLE, in_range, read_table};
 use fmp_base::System;
 use fmp_code::Code;
@@ -53,7 +54,7 @@ fn read_tables<'a>(
         ((tables (frame_of processors heads.now) []).read bytes.now) }
     ensures numbers { IfOk result (λ x. (x.0.processors ≡ processors) × (x.0.queue_limit ≡ 1)) }
 {
-    let mut taken = Vec::new(alloc);
+    let mut taken = TakenKeys::new(alloc);
     let (tasks, rest) = read_table(alloc, processors, heads, &mut taken, bytes)?;
     let (semaphores, rest) = read_table(alloc, processors, heads, &mut taken, rest)?;
     let (flags, rest) = read_table(alloc, processors, heads, &mut taken, rest)?;

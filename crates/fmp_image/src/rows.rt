@@ -11,7 +11,7 @@ ghost use Rattle.fmp_image.specs.declared.keys.Key as spec_key;
 use crate::fault::{ImageFault, LoadFault};
 use crate::fields::{byte_at, put_byte, put_text};
 use crate::heads::BodyHead;
-use crate::keys::{Key, is_taken};
+use crate::keys::{Key, TakenKeys, is_taken, take};
 use fmp_base::Name;
 use std::alloc::{AllocError, Global};
 
@@ -74,12 +74,12 @@ pub fn read_rows<'a, R: Row>(
     processors: u8,
     heads: &[BodyHead],
     count: u8,
-    taken: &mut Vec<Key>,
+    taken: &mut TakenKeys,
     bytes: &'a [u8],
 ) -> Result<(Vec<R>, &'a [u8]), LoadFault>
     ensures read { Gives (λ x. (x.0.items, x.1.now)) result
-        (rows_at (R.field (frame_of processors heads.now)) R.key_of count taken.old.items bytes.now) }
-    ensures taken { IfOk result (λ x. taken.new.items ≡ taken.old.items ++ map R.key_of x.0.items) }
+        (rows_at (R.field (frame_of processors heads.now)) R.key_of count taken.old.keys bytes.now) }
+    ensures taken { IfOk result (λ x. taken.new.keys ≡ taken.old.keys ++ map R.key_of x.0.items) }
 {
     let mut rows = Vec::new(alloc);
     let mut rest = bytes;
@@ -89,7 +89,7 @@ pub fn read_rows<'a, R: Row>(
         if is_taken(&key, taken) {
             return Err(TABLE);
         }
-        taken.push(key)?;
+        take(key, taken)?;
         rows.push(row)?;
         rest = after;
     }
@@ -101,12 +101,12 @@ pub fn read_table<'a, R: Row>(
     alloc: Global,
     processors: u8,
     heads: &[BodyHead],
-    taken: &mut Vec<Key>,
+    taken: &mut TakenKeys,
     bytes: &'a [u8],
 ) -> Result<(Vec<R>, &'a [u8]), LoadFault>
     ensures read { Gives (λ x. (x.0.items, x.1.now)) result
-        ((table (R.field (frame_of processors heads.now)) R.key_of taken.old.items).read bytes.now) }
-    ensures taken { IfOk result (λ x. taken.new.items ≡ taken.old.items ++ map R.key_of x.0.items) }
+        ((table (R.field (frame_of processors heads.now)) R.key_of taken.old.keys).read bytes.now) }
+    ensures taken { IfOk result (λ x. taken.new.keys ≡ taken.old.keys ++ map R.key_of x.0.items) }
 {
     let (count, rest) = byte_at(bytes)?;
     read_rows(alloc, processors, heads, count, taken, rest)
