@@ -106,10 +106,10 @@ impl<B: Body + Drop> Runner<B> {
               lines = [];
             }) }
     {
-        let tables = Tables::new(alloc, sys)?;
-        let contexts = BodyContexts::new(alloc, tables.task_count(), tables.processor_count())?;
+        let contexts = BodyContexts::new(alloc, sys.tasks.as_slice().len(), usize::from(sys.processors))?;
         let caused = Vec::with_capacity(alloc, 510)?;
         let lines = Vec::with_capacity(alloc, 519)?;
+        let tables = Tables::new(alloc, sys)?;
         Ok(Runner {
             body,
             bound: n,
