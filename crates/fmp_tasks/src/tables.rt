@@ -73,11 +73,15 @@ impl Tables {
         let system = copied_system(alloc, sys)?;
         let blocks = created_blocks(alloc, sys.tasks.as_slice())?;
         let waits = wait_queues(sys);
-        let (ready, rings, deadlines) = empty_queues(alloc, sys, waits)?;
-        let (semaphores, flags, shared_words) = initial_values(alloc, sys)?;
-        let (words, mailboxes) = empty_contents(alloc, sys)?;
+        let queues = empty_queues(alloc, sys, waits)?;
+        let values = initial_values(alloc, sys)?;
+        let contents = empty_contents(alloc, sys)?;
+        let handlers = idle_handlers(alloc, sys)?;
         let processors = Processors::new(alloc, sys.processors)?;
-        let (cyclics, pending) = idle_handlers(alloc, sys)?;
+        let (ready, rings, deadlines) = queues;
+        let (semaphores, flags, shared_words) = values;
+        let (words, mailboxes) = contents;
+        let (cyclics, pending) = handlers;
         Ok(Tables {
             system,
             blocks,
