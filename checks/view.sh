@@ -151,6 +151,7 @@ b00101 0
 b000 1
 b00000000 2
 b00000000 3
+b00000000 4
 $end
 #1
 b00000010 "
@@ -166,7 +167,7 @@ b011 -
 0.
 b110 1
 b00000001 2
-b00000001 3
+b00000001 4
 #3
 b00000010 "
 b001 '
@@ -175,7 +176,7 @@ b010 -
 1.
 b000 1
 b00000000 2
-b00000000 3
+b00000000 4
 #4
 #5
 b00000001 "
@@ -221,7 +222,8 @@ $upscope $end
 $upscope $end
 $scope module objects $end
 $scope module QUEUE $end
-$var wire 8 3 waiting $end
+$var wire 8 3 words $end
+$var wire 8 4 waiting $end
 $upscope $end
 $upscope $end
 $upscope $end
@@ -318,6 +320,73 @@ b000 '
 END
 sed -n '/priority/,$p' held.vcd | cmp -s - values
 verdict 'waves: held, values' "$([ $? -eq 0 ] || echo 'they are other than they should be')"
+
+# A task that sends two words and takes one out, and sends a message and takes it out: what the queues hold then.
+cat > lengths.cfg <<'END'
+NUM_PRC(1);
+CLASS(TCL_1) {
+    CRE_TSK(A, { TA_ACT, 0, a, 10, 256, NULL });
+    CRE_DTQ(D, { 0, 2, NULL });
+    CRE_MBX(M, { 0, 1, NULL });
+    CRE_MSG(G, { 1 });
+}
+END
+cat > lengths.src <<'END'
+task a { var x; psnd_dtq(D, 5); psnd_dtq(D, 6); snd_mbx(M, G); prcv_dtq(D, &x); prcv_mbx(M, &x); }
+END
+for step in 1 2 3 4 5 6; do echo 'run 1'; done > lengths.steps
+"$fmp" build lengths.cfg lengths.src lengths.img > built || exit 2
+run 'waves: lengths' 0 waves lengths.img lengths.steps lengths.vcd
+cat > values <<'END'
+$scope module objects $end
+$scope module D $end
+$var wire 8 - words $end
+$var wire 8 . waiting $end
+$upscope $end
+$scope module M $end
+$var wire 8 / messages $end
+$var wire 8 0 waiting $end
+$upscope $end
+$upscope $end
+$upscope $end
+$enddefinitions $end
+#0
+$dumpvars
+b00000000000000000000000000000000 !
+b00000001 "
+b000000000 #
+b000000000 $
+1%
+b00 &
+b010 '
+1(
+b0001 )
+b01010 *
+b000 +
+b00000000 ,
+b00000000 -
+b00000000 .
+b00000000 /
+b00000000 0
+$end
+#1
+b00000001 -
+#2
+b00000010 -
+#3
+b00000001 /
+#4
+b00000001 -
+#5
+b00000000 /
+#6
+b00000000 "
+b000 '
+0(
+#7
+END
+sed -n '/module objects/,$p' lengths.vcd | cmp -s - values
+verdict 'waves: lengths, values' "$([ $? -eq 0 ] || echo 'they are other than they should be')"
 
 # Faults, as `fmp` has them.
 printf 'FMP' > short.img

@@ -18,8 +18,9 @@ use Rattle.fmp_frames.specs.Showing.{HasShown}
 pub map_push : {A B : Type 0} (f : A → B) (xs ys : List A) (x : A) → ys ≡ xs ++ x ∷ [] → map f ys ≡ map f xs ++ f x ∷ []
 map_push f xs ys x e = ap (map f) e ∙ map-append f xs (x ∷ [])
 
-abbrev made : List Line → ℕ → List TaskState → List TaskBlock → List Processor → List ℕ → List ℕ → List ℤ → List Bool → List Bool → FrameTable
-made l c s b p m f w y i =
+abbrev made : List Line → ℕ → List TaskState → List TaskBlock → List Processor → List ℕ → List ℕ → List ℕ
+    → List ℕ → List ℤ → List Bool → List Bool → FrameTable
+made l c s b p m f q x w y i =
     record {
       lines = l;
       clock = c;
@@ -28,6 +29,8 @@ made l c s b p m f w y i =
       processors = p;
       semaphores = m;
       flags = f;
+      data_queues = q;
+      mailboxes = x;
       shared_words = w;
       pending_cyclics = y;
       pending_interrupts = i;
@@ -35,19 +38,21 @@ made l c s b p m f w y i =
 
 -- a frame is known by its parts
 pub same-frame : (a b : FrameTable) → a.lines ≡ b.lines → a.clock ≡ b.clock → a.states ≡ b.states → a.blocks ≡ b.blocks
-    → a.processors ≡ b.processors → a.semaphores ≡ b.semaphores → a.flags ≡ b.flags → a.shared_words ≡ b.shared_words
-    → a.pending_cyclics ≡ b.pending_cyclics → a.pending_interrupts ≡ b.pending_interrupts → a ≡ b
-same-frame a b e1 e2 e3 e4 e5 e6 e7 e8 e9 e10 =
-    ap (λ (x : List Line). made x a.clock a.states a.blocks a.processors a.semaphores a.flags a.shared_words a.pending_cyclics a.pending_interrupts) e1
-    ∙ ap (λ (x : ℕ). made b.lines x a.states a.blocks a.processors a.semaphores a.flags a.shared_words a.pending_cyclics a.pending_interrupts) e2
-    ∙ ap (λ (x : List TaskState). made b.lines b.clock x a.blocks a.processors a.semaphores a.flags a.shared_words a.pending_cyclics a.pending_interrupts) e3
-    ∙ ap (λ (x : List TaskBlock). made b.lines b.clock b.states x a.processors a.semaphores a.flags a.shared_words a.pending_cyclics a.pending_interrupts) e4
-    ∙ ap (λ (x : List Processor). made b.lines b.clock b.states b.blocks x a.semaphores a.flags a.shared_words a.pending_cyclics a.pending_interrupts) e5
-    ∙ ap (λ (x : List ℕ). made b.lines b.clock b.states b.blocks b.processors x a.flags a.shared_words a.pending_cyclics a.pending_interrupts) e6
-    ∙ ap (λ (x : List ℕ). made b.lines b.clock b.states b.blocks b.processors b.semaphores x a.shared_words a.pending_cyclics a.pending_interrupts) e7
-    ∙ ap (λ (x : List ℤ). made b.lines b.clock b.states b.blocks b.processors b.semaphores b.flags x a.pending_cyclics a.pending_interrupts) e8
-    ∙ ap (λ (x : List Bool). made b.lines b.clock b.states b.blocks b.processors b.semaphores b.flags b.shared_words x a.pending_interrupts) e9
-    ∙ ap (λ (x : List Bool). made b.lines b.clock b.states b.blocks b.processors b.semaphores b.flags b.shared_words b.pending_cyclics x) e10
+    → a.processors ≡ b.processors → a.semaphores ≡ b.semaphores → a.flags ≡ b.flags → a.data_queues ≡ b.data_queues
+    → a.mailboxes ≡ b.mailboxes → a.shared_words ≡ b.shared_words → a.pending_cyclics ≡ b.pending_cyclics → a.pending_interrupts ≡ b.pending_interrupts → a ≡ b
+same-frame a b e1 e2 e3 e4 e5 e6 e7 e8 e9 e10 e11 e12 =
+    ap (λ (x : List Line). made x a.clock a.states a.blocks a.processors a.semaphores a.flags a.data_queues a.mailboxes a.shared_words a.pending_cyclics a.pending_interrupts) e1
+    ∙ ap (λ (x : ℕ). made b.lines x a.states a.blocks a.processors a.semaphores a.flags a.data_queues a.mailboxes a.shared_words a.pending_cyclics a.pending_interrupts) e2
+    ∙ ap (λ (x : List TaskState). made b.lines b.clock x a.blocks a.processors a.semaphores a.flags a.data_queues a.mailboxes a.shared_words a.pending_cyclics a.pending_interrupts) e3
+    ∙ ap (λ (x : List TaskBlock). made b.lines b.clock b.states x a.processors a.semaphores a.flags a.data_queues a.mailboxes a.shared_words a.pending_cyclics a.pending_interrupts) e4
+    ∙ ap (λ (x : List Processor). made b.lines b.clock b.states b.blocks x a.semaphores a.flags a.data_queues a.mailboxes a.shared_words a.pending_cyclics a.pending_interrupts) e5
+    ∙ ap (λ (x : List ℕ). made b.lines b.clock b.states b.blocks b.processors x a.flags a.data_queues a.mailboxes a.shared_words a.pending_cyclics a.pending_interrupts) e6
+    ∙ ap (λ (x : List ℕ). made b.lines b.clock b.states b.blocks b.processors b.semaphores x a.data_queues a.mailboxes a.shared_words a.pending_cyclics a.pending_interrupts) e7
+    ∙ ap (λ (x : List ℕ). made b.lines b.clock b.states b.blocks b.processors b.semaphores b.flags x a.mailboxes a.shared_words a.pending_cyclics a.pending_interrupts) e8
+    ∙ ap (λ (x : List ℕ). made b.lines b.clock b.states b.blocks b.processors b.semaphores b.flags b.data_queues x a.shared_words a.pending_cyclics a.pending_interrupts) e9
+    ∙ ap (λ (x : List ℤ). made b.lines b.clock b.states b.blocks b.processors b.semaphores b.flags b.data_queues b.mailboxes x a.pending_cyclics a.pending_interrupts) e10
+    ∙ ap (λ (x : List Bool). made b.lines b.clock b.states b.blocks b.processors b.semaphores b.flags b.data_queues b.mailboxes b.shared_words x a.pending_interrupts) e11
+    ∙ ap (λ (x : List Bool). made b.lines b.clock b.states b.blocks b.processors b.semaphores b.flags b.data_queues b.mailboxes b.shared_words b.pending_cyclics x) e12
 
 module _ {B C : Type 0} (meaning : B → Meaning C) where
   abbrev step_of : KernelView B C → Event → Reaction C

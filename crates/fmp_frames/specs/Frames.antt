@@ -6,7 +6,9 @@ use Rattle.fmp_base.specs.declared.events.Line.{Line}
 use Rattle.fmp_base.specs.declared.events.TaskState.{TaskState}
 use Rattle.fmp_base.specs.declared.states.Processor.{Processor}
 use Rattle.fmp_base.specs.declared.states.TaskBlock.{TaskBlock}
+use Rattle.fmp_base.specs.DataQueueCalls.{words_at}
 use Rattle.fmp_base.specs.FlagCalls.{pattern_at}
+use Rattle.fmp_base.specs.MailboxCalls.{messages_at}
 use Rattle.fmp_base.specs.Meanings.{Meaning, World}
 use Rattle.fmp_base.specs.Runs.{task_state}
 use Rattle.fmp_base.specs.States.{KernelState, task_at, processor_at}
@@ -24,6 +26,8 @@ pub record FrameTable : Type 0 where
   pub processors : List Processor
   pub semaphores : List ℕ
   pub flags : List ℕ
+  pub data_queues : List ℕ
+  pub mailboxes : List ℕ
   pub shared_words : List ℤ
   pub pending_cyclics : List Bool
   pub pending_interrupts : List Bool
@@ -39,6 +43,8 @@ table_of f =
       processors = f.processors.items;
       semaphores = f.semaphores.items;
       flags = f.flags.items;
+      data_queues = f.data_queues.items;
+      mailboxes = f.mailboxes.items;
       shared_words = f.shared_words.items;
       pending_cyclics = f.pending_cyclics.items;
       pending_interrupts = f.pending_interrupts.items;
@@ -47,6 +53,14 @@ table_of f =
 -- what f says of each place below n, in order
 abbrev pub each : {A : Type 0} → (ℕ → A) → ℕ → List A
 each f n = map f (range_with_len 0 n)
+
+-- how many words data queue d holds
+abbrev pub word_count : KernelState → ℕ → ℕ
+word_count s d = length (words_at s d)
+
+-- how many messages are in a mailbox
+abbrev pub message_count : KernelState → ℕ → ℕ
+message_count s mailbox = length (messages_at s mailbox)
 
 -- the frame of an event that told these lines and left this state
 abbrev pub frame_of : SystemTables → KernelState → List Line → FrameTable
@@ -59,6 +73,8 @@ frame_of sys s lines =
       processors = each (processor_at s) sys.processors;
       semaphores = each (λ i. get_or s.semaphores i 0) (length sys.semaphores);
       flags = each (pattern_at s) (length sys.flags);
+      data_queues = each (word_count s) (length sys.data_queues);
+      mailboxes = each (message_count s) (length sys.mailboxes);
       shared_words = each (λ i. get_or s.shared_words i (pos 0)) (length sys.shared_words);
       pending_cyclics = each (is_pending s.pending_cyclics) (length sys.cyclics);
       pending_interrupts = each (is_pending s.pending_interrupts) 32;

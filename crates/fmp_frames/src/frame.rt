@@ -3,8 +3,8 @@ ghost use Rattle.std.specs.Prelude.{◌≡◌, IfOk};
 ghost use Rattle.fmp_frames.specs.Frames.{frame_of, table_of};
 
 use crate::reading::{
-    blocks, flags, pending_cyclics, pending_interrupts, processors, semaphores, shared_words,
-    states,
+    blocks, data_queues, flags, mailboxes, pending_cyclics, pending_interrupts, processors,
+    semaphores, shared_words, states,
 };
 use fmp_base::{Line, Processor, TaskBlock, TaskState};
 use fmp_kernel::{Body, Kernel};
@@ -27,6 +27,10 @@ pub struct Frame {
     pub semaphores: Vec<u16>,
     /// The patterns of the eventflags.
     pub flags: Vec<u16>,
+    /// How many words the data queues hold.
+    pub data_queues: Vec<u8>,
+    /// How many messages are in the mailboxes.
+    pub mailboxes: Vec<u8>,
     /// The values of the shared words.
     pub shared_words: Vec<i32>,
     /// Whether the cyclic handlers are pending.
@@ -51,6 +55,8 @@ pub fn last_frame<B: Body>(alloc: Global, kernel: &Kernel<B>) -> Result<Frame, A
         processors: processors(alloc, tables)?,
         semaphores: semaphores(alloc, tables)?,
         flags: flags(alloc, tables)?,
+        data_queues: data_queues(alloc, tables)?,
+        mailboxes: mailboxes(alloc, tables)?,
         shared_words: shared_words(alloc, tables)?,
         pending_cyclics: pending_cyclics(alloc, tables)?,
         pending_interrupts: pending_interrupts(alloc, tables)?,

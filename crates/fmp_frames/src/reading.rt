@@ -4,7 +4,7 @@ ghost use Rattle.fmp_base.specs.FlagCalls.{pattern_at};
 ghost use Rattle.fmp_base.specs.Runs.{task_state};
 ghost use Rattle.fmp_base.specs.States.{processor_at, task_at};
 ghost use Rattle.fmp_base.specs.Ticks.{is_pending};
-ghost use Rattle.fmp_frames.specs.Frames.{each};
+ghost use Rattle.fmp_frames.specs.Frames.{each, message_count, word_count};
 
 use fmp_base::{Processor, TaskBlock, TaskState};
 use fmp_kernel::{Body, Kernel};
@@ -72,6 +72,32 @@ pub fn flags(alloc: Global, tables: &Tables) -> Result<Vec<u16>, AllocError>
     let mut xs = Vec::with_capacity(alloc, count as usize)?;
     for i in 0..count {
         xs.push(tables.pattern(i))?;
+    }
+    Ok(xs)
+}
+
+/// How many words each data queue holds.
+pub fn data_queues(alloc: Global, tables: &Tables) -> Result<Vec<u8>, AllocError>
+    ensures { IfOk result (λ xs. xs.items ≡ each (word_count tables.now.state)
+        (length tables.now.system.data_queues)) }
+{
+    let count = tables.data_queue_count() as u8;
+    let mut xs = Vec::with_capacity(alloc, count as usize)?;
+    for i in 0..count {
+        xs.push(tables.data_queue_length(i))?;
+    }
+    Ok(xs)
+}
+
+/// How many messages are in each mailbox.
+pub fn mailboxes(alloc: Global, tables: &Tables) -> Result<Vec<u8>, AllocError>
+    ensures { IfOk result (λ xs. xs.items ≡ each (message_count tables.now.state)
+        (length tables.now.system.mailboxes)) }
+{
+    let count = tables.mailbox_count() as u8;
+    let mut xs = Vec::with_capacity(alloc, count as usize)?;
+    for i in 0..count {
+        xs.push(tables.mailbox_length(i))?;
     }
     Ok(xs)
 }

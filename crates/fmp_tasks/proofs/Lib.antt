@@ -5,4 +5,5 @@ pub mod RotateLemmas
 pub mod SoundLemmas
 pub mod StandLemmas
 pub mod TopLemmas
+pub mod WalkLemmas
 pub mod WordLemmas

@@ -1,5 +1,5 @@
 //! The rings of messages in mailboxes.
-ghost use Rattle.std.specs.Prelude.{◌≡◌, ◌<◌, length, slice_set, false};
+ghost use Rattle.std.specs.Prelude.{◌≡◌, ◌<◌, ◌≤◌, length, slice_set, false};
 ghost use Rattle.fmp_base.specs.MailboxCalls.{enqueued, message_priority, is_queued};
 ghost use Rattle.fmp_base.specs.Systems.{tables_of};
 ghost use Rattle.fmp_ring.specs.Places.{IsPlace};
@@ -31,6 +31,22 @@ fn place(rings: &Rings, sys: &System, x: u16, g: u16, steps: &mut Steps) -> Opti
         at = rings.next(u, steps);
     }
     None
+}
+
+/// How many messages are in a mailbox. Walks over them.
+pub fn length_of(rings: &Rings, x: u16) -> u8
+    requires mailbox { x < length rings.now.lists }
+    requires few { rings.now.nodes ≤ 255 }
+    ensures { result ≡ length (list_at rings.now.lists x) }
+{
+    let mut steps = Steps::new();
+    let mut count = 0;
+    let mut at = rings.first(x, &mut steps);
+    while let Some(u) = at {
+        count += 1;
+        at = rings.next(u, &mut steps);
+    }
+    count
 }
 
 /// Puts a message, which is in no mailbox, into one, last or after those that are at least as urgent.

@@ -33,10 +33,10 @@ impl Words {
     }
 
     /// How many words there are.
-    pub fn len(&self) -> usize
+    pub fn len(&self) -> u8
         ensures { result ≡ length self.now }
     {
-        self.ring.len()
+        self.ring.len() as u8
     }
 
     /// The oldest word, if any.

@@ -1,5 +1,5 @@
 -- What the variables of a dump show of a frame.
-use Rattle.std.specs.Prelude.{ℕ, ◌+◌, ◌*◌, ◌-◌, List, Option, None, Some, Bool, true, false, not, ◌&&◌, nat_eq, nat_lt, length, get_or, slice_get, pos, map}
+use Rattle.std.specs.Prelude.{ℕ, ◌+◌, ◌*◌, List, Option, None, Some, Bool, true, false, not, ◌&&◌, nat_eq, nat_lt, length, get_or, slice_get, pos, map}
 use Rattle.std.specs.List.{filter}
 use Rattle.std.specs.Int.{cast_unsigned, w32}
 use Rattle.fmp_base.specs.declared.codes.Er.{Er}
@@ -166,6 +166,8 @@ value_of f (show.Interrupt i) =
     handling (length (filter (runs_interrupt i) f.processors)) (get_or f.pending_interrupts i false)
 value_of f (show.Count s) = get_or f.semaphores s 0
 value_of f (show.Pattern g) = get_or f.flags g 0
+value_of f (show.DataQueue d) = get_or f.data_queues d 0
+value_of f (show.Mailbox m) = get_or f.mailboxes m 0
 value_of f (show.Word w) = cast_unsigned w32 (get_or f.shared_words w (pos 0))
 value_of f (show.Waiting x) = length (filter (waits_for x) f.blocks)
 

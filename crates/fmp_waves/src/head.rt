@@ -143,10 +143,12 @@ impl Head {
 
     fn queues(&mut self, sys: &System) -> Result<(), AllocError> {
         for (place, config) in sys.data_queues.iter().enumerate() {
-            self.group(&config.name, &[Variable::Waiting(Object::DataQueue(place))])?;
+            let waiting = Variable::Waiting(Object::DataQueue(place));
+            self.group(&config.name, &[Variable::DataQueue(place), waiting])?;
         }
         for (place, config) in sys.mailboxes.iter().enumerate() {
-            self.group(&config.name, &[Variable::Waiting(Object::Mailbox(place))])?;
+            let waiting = Variable::Waiting(Object::Mailbox(place));
+            self.group(&config.name, &[Variable::Mailbox(place), waiting])?;
         }
         Ok(())
     }

@@ -70,6 +70,15 @@ fn count_at(counts: &[u16], place: usize) -> u32
     }
 }
 
+fn length_at(lengths: &[u8], place: usize) -> u8
+    ensures { result ≡ get_or lengths.now place 0 }
+{
+    match lengths.get(place) {
+        Some(length) => *length,
+        None => 0,
+    }
+}
+
 fn word_at(words: &[i32], place: usize) -> i32
     ensures { result ≡ get_or words.now place (pos 0) }
 {
@@ -192,6 +201,8 @@ fn value_of(frame: &Frame, variable: Variable) -> u64
         )),
         Variable::Count(place) => u64::from(count_at(&frame.semaphores, place)),
         Variable::Pattern(place) => u64::from(count_at(&frame.flags, place)),
+        Variable::DataQueue(place) => u64::from(length_at(&frame.data_queues, place)),
+        Variable::Mailbox(place) => u64::from(length_at(&frame.mailboxes, place)),
         Variable::Word(place) => u64::from(word_at(&frame.shared_words, place).cast_unsigned()),
         Variable::Waiting(object) => waiting(&frame.blocks, object) as u64,
     }

@@ -44,6 +44,10 @@ pub enum Variable {
     Count(usize),
     /// The pattern of an eventflag.
     Pattern(usize),
+    /// How many words a data queue holds.
+    DataQueue(usize),
+    /// How many messages are in a mailbox.
+    Mailbox(usize),
     /// The value of a shared word, as 32 bits.
     Word(usize),
     /// How many tasks wait for an object.
@@ -59,7 +63,11 @@ impl Variable {
             Variable::State(_) | Variable::WaitKind(_) => 3,
             Variable::Processor(_) => 4,
             Variable::Priority(_) => 5,
-            Variable::Run(_) | Variable::WaitObject(_) | Variable::Waiting(_) => 8,
+            Variable::Run(_)
+            | Variable::WaitObject(_)
+            | Variable::DataQueue(_)
+            | Variable::Mailbox(_)
+            | Variable::Waiting(_) => 8,
             Variable::Handler(_) | Variable::Lock(_) => 9,
             Variable::Count(_) | Variable::Pattern(_) => 16,
             Variable::Clock | Variable::Word(_) => 32,
@@ -84,6 +92,8 @@ impl Variable {
             Variable::Cyclic(_) | Variable::Interrupt(_) => "handling",
             Variable::Count(_) => "count",
             Variable::Pattern(_) => "pattern",
+            Variable::DataQueue(_) => "words",
+            Variable::Mailbox(_) => "messages",
             Variable::Word(_) => "value",
             Variable::Waiting(_) => "waiting",
         }

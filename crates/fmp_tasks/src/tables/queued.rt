@@ -6,7 +6,7 @@ ghost use Rattle.fmp_base.specs.Queues.{first_of};
 ghost use Rattle.fmp_base.specs.Systems.{mailbox_config};
 ghost use Rattle.fmp_ring.specs.RingLists.{behind_first};
 
-use crate::messages::put;
+use crate::messages::{length_of, put};
 use crate::tables::Tables;
 use fmp_base::Steps;
 use fmp_ring::as_byte;
@@ -21,12 +21,20 @@ impl Tables {
         self.words.len()
     }
 
+    /// How many words a data queue holds.
+    pub fn data_queue_length(&self, d: u8) -> u8
+        requires { d < length self.now.system.data_queues }
+        ensures { result ≡ length (words_at self.now.state d) }
+    {
+        self.words[d as usize].len()
+    }
+
     /// Whether a data queue has room for a word.
     pub fn has_room(&self, d: u8) -> bool
         requires { d < length self.now.system.data_queues }
         ensures { result ≡ has_room self.now.system self.now.state d }
     {
-        self.words[d as usize].len() < self.system.data_queues[d as usize].capacity as usize
+        self.words[d as usize].len() < self.system.data_queues[d as usize].capacity
     }
 
     /// The oldest word of a data queue, if any.
@@ -87,6 +95,14 @@ impl Tables {
         ensures { result ≡ is_queued g self.now.state.mailboxes }
     {
         self.mailboxes.is_linked(g as u16, &mut Steps::new())
+    }
+
+    /// How many messages are in a mailbox. Walks over them.
+    pub fn mailbox_length(&self, x: u8) -> u8
+        requires { x < length self.now.system.mailboxes }
+        ensures { result ≡ length (messages_at self.now.state x) }
+    {
+        length_of(&self.mailboxes, x as u16)
     }
 
     /// The first message in a mailbox, if any.

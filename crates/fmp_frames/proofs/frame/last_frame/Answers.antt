@@ -11,6 +11,8 @@ returns g c =
     (rw (system, state) at c.in_ok-processors.ensures)
     (rw (system, state) at c.in_ok-semaphores.ensures)
     (rw (system, state) at c.in_ok-flags.ensures)
+    (rw (system, state) at c.in_ok-data_queues.ensures)
+    (rw (system, state) at c.in_ok-mailboxes.ensures)
     (rw (system, state) at c.in_ok-shared_words.ensures)
     (rw (system, state) at c.in_ok-pending_cyclics.ensures)
     (rw state at c.in_ok-pending_interrupts.ensures)
