@@ -1,5 +1,7 @@
 -- How long the texts of the tables are.
-use Rattle.std.proofs.Common.{◌≤◌, length, rules}
+use Rattle.std.proofs.Common.{ℕ, ◌<◌, ◌≤◌, ◌^◌, arith, length, rules}
+use Rattle.std.specs.Prelude.{decimal}
+use Rattle.std.proofs.lemmas.Fmt.{length-decimal-le}
 use Rattle.fmp_base.specs.declared.codes.Er.{Er}
 use Rattle.fmp_base.specs.declared.codes.Er.TheVariants as er
 use Rattle.fmp_base.specs.declared.services.Service.{Service}
@@ -9,8 +11,8 @@ use Rattle.fmp_base.specs.declared.calls.Call.TheVariants as call
 use Rattle.fmp_base.specs.Codes.{code_name}
 use Rattle.fmp_base.specs.Services.{service_name, arguments_of}
 
--- the name of a service call has at most ten bytes
-pub short_service : (s : Service) → length (service_name s) ≤ 10
+-- the name of a service call has at most nine bytes
+pub short_service : (s : Service) → length (service_name s) ≤ 9
 short_service service.Put = search rules
 short_service service.LdShr = search rules
 short_service service.StShr = search rules
@@ -131,8 +133,8 @@ few_arguments (call.IpsndDtq queue word) = search rules
 few_arguments (call.IfsndDtq queue word) = search rules
 few_arguments (call.IrotRdq priority) = search rules
 
--- the name of a code has at most eight bytes
-pub short_code : (e : Er) → length (code_name e) ≤ 8
+-- the name of a code has at most seven bytes
+pub short_code : (e : Er) → length (code_name e) ≤ 7
 short_code er.Ok = search rules
 short_code er.Sys = search rules
 short_code er.Nospt = search rules
@@ -145,3 +147,11 @@ short_code er.Obj = search rules
 short_code er.Qovr = search rules
 short_code er.Rlwai = search rules
 short_code er.Tmout = search rules
+
+-- a number has at most ten digits
+pub short_number : (n : ℕ) → n < 2 ^ 32 → length (decimal n) ≤ 10
+short_number n h = length-decimal-le 10 n (omega arith) (omega (arith, h)) (omega (arith, h))
+
+-- and at most three where it is at most 256
+pub short_byte : (n : ℕ) → n ≤ 256 → length (decimal n) ≤ 3
+short_byte n h = length-decimal-le 3 n (omega arith) (omega (arith, h)) (omega (arith, h))

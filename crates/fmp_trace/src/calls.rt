@@ -1,5 +1,5 @@
 //! Service calls and replies, as the trace writes them.
-ghost use Rattle.std.specs.Prelude.{◌≡◌, ◌≤◌, ◌+◌, ◌*◌, ◌++◌, codes, length, take};
+ghost use Rattle.std.specs.Prelude.{◌≡◌, ◌≤◌, ◌+◌, ◌-◌, ◌*◌, ◌++◌, codes, length, take};
 ghost use Rattle.std.specs.Fmt.{signed_decimal};
 ghost use Rattle.fmp_base.specs.Texts.{more_numbers_text, numbers_text, call_text, value_text, reply_text, answer_text};
 
@@ -11,7 +11,7 @@ use fmp_base::{Call, Reply};
 fn append_next_number(number: i32, line: &mut LineBytes, end: usize) -> usize
     requires { end + 18 ≤ ROOM }
     ensures text { take result line.new ≡ take end line.old ++ (codes "," ++ signed_decimal number) }
-    ensures short { result ≤ end + 18 }
+    ensures short { result ≤ end + 12 }
 {
     let end = append_array(*b",", line, end);
     append_signed(number, line, end)
@@ -21,7 +21,7 @@ fn append_next_number(number: i32, line: &mut LineBytes, end: usize) -> usize
 fn append_more_numbers(numbers: &[i32], line: &mut LineBytes, end: usize) -> usize
     requires { end + 18 * length numbers.now ≤ ROOM }
     ensures text { take result line.new ≡ take end line.old ++ more_numbers_text numbers.now }
-    ensures short { result ≤ end + 18 * length numbers.now }
+    ensures short { result ≤ end + 12 * length numbers.now }
 {
     let mut end = end;
     for number in numbers {
@@ -35,7 +35,7 @@ fn append_more_numbers(numbers: &[i32], line: &mut LineBytes, end: usize) -> usi
 fn append_numbers(numbers: &[i32], line: &mut LineBytes, end: usize) -> usize
     requires { end + 18 * length numbers.now ≤ ROOM }
     ensures text { take result line.new ≡ take end line.old ++ numbers_text numbers.now }
-    ensures short { result ≤ end + 18 * length numbers.now }
+    ensures short { result ≤ end + (12 * length numbers.now - 1) }
 {
     match numbers {
         [] => end,
@@ -52,7 +52,7 @@ fn append_numbers(numbers: &[i32], line: &mut LineBytes, end: usize) -> usize
 pub fn append_call(call: Call, line: &mut LineBytes, end: usize) -> usize
     requires { end + 84 ≤ ROOM }
     ensures text { take result line.new ≡ take end line.old ++ call_text call }
-    ensures short { result ≤ end + 84 }
+    ensures short { result ≤ end + 58 }
 {
     let end = append_word(call.service().name().as_bytes(), line, end);
     let end = append_array(*b"(", line, end);
@@ -64,7 +64,7 @@ pub fn append_call(call: Call, line: &mut LineBytes, end: usize) -> usize
 fn append_value(value: Option<i32>, line: &mut LineBytes, end: usize) -> usize
     requires { end + 18 ≤ ROOM }
     ensures text { take result line.new ≡ take end line.old ++ value_text value }
-    ensures short { result ≤ end + 18 }
+    ensures short { result ≤ end + 12 }
 {
     match value {
         Some(value) => {
@@ -81,7 +81,7 @@ fn append_value(value: Option<i32>, line: &mut LineBytes, end: usize) -> usize
 pub fn append_reply(reply: Reply, line: &mut LineBytes, end: usize) -> usize
     requires { end + 26 ≤ ROOM }
     ensures text { take result line.new ≡ take end line.old ++ reply_text reply }
-    ensures short { result ≤ end + 26 }
+    ensures short { result ≤ end + 19 }
 {
     let end = append_word(reply.code.name().as_bytes(), line, end);
     append_value(reply.value, line, end)
@@ -92,7 +92,7 @@ pub fn append_reply(reply: Reply, line: &mut LineBytes, end: usize) -> usize
 pub fn append_answer(reply: Option<Reply>, line: &mut LineBytes, end: usize) -> usize
     requires { end + 26 ≤ ROOM }
     ensures text { take result line.new ≡ take end line.old ++ answer_text reply }
-    ensures short { result ≤ end + 26 }
+    ensures short { result ≤ end + 19 }
 {
     match reply {
         Some(reply) => append_reply(reply, line, end),

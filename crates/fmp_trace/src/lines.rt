@@ -1,9 +1,10 @@
 //! The lines of the trace.
-ghost use Rattle.std.specs.Prelude.{◌≡◌, ◌≤◌, ◌+◌, ◌∷◌, [], ◌++◌, codes, decimal, take, IfOk, OnOk, OnErr};
+ghost use Rattle.std.specs.Prelude.{◌≡◌, ◌<◌, ◌≤◌, ◌+◌, ◌∷◌, [], ◌++◌, codes, decimal, length, take, vec_capacity, vec_len, IfOk, OnOk, OnErr};
 ghost use Rattle.fmp_base.specs.Names.{name_text};
 ghost use Rattle.fmp_base.specs.Systems.{tables_of, cyclic_config};
 ghost use Rattle.fmp_base.specs.Texts.{processor_text, caller_name, task_name, handler_name, run_text, call_text, answer_text, fault_text, reply_text, line_body, line_text, lines_text};
 ghost use Rattle.fmp_trace.specs.Fronts.{Begins};
+ghost use Rattle.fmp_trace.specs.Rooms.{lines_room};
 
 use crate::calls::{append_answer, append_call, append_reply};
 use crate::names::{
@@ -17,7 +18,11 @@ use fmp_base::{Call, Caller, Fault, Handler, Line, Reply, System};
 use std::alloc::AllocError;
 
 /// No line has more bytes than this.
-const LONGEST: usize = 179;
+const LONGEST: usize = 127;
+
+/// Putting a line together writes no further than this behind where it begins: a short piece is copied with bytes
+/// behind its end.
+const REACH: usize = 179;
 
 /// The name of the task or handler that acts, behind its processor.
 #[inline(always)]
@@ -31,7 +36,7 @@ fn append_actor(
     requires { end + 50 ≤ ROOM }
     ensures text { take result line.new ≡
         take end line.old ++ (processor_text processor ++ caller_name (tables_of sys.now) caller) }
-    ensures short { result ≤ end + 50 }
+    ensures short { result ≤ end + 37 }
 {
     let end = append_processor(processor, line, end);
     append_caller(sys, caller, line, end)
@@ -81,7 +86,7 @@ fn append_request(
     ensures text { take result line.new ≡
         take end line.old ++ (processor_text processor
         ++ (caller_name (tables_of sys.now) caller ++ (codes " " ++ call_text call))) }
-    ensures short { result ≤ end + 135 }
+    ensures short { result ≤ end + 96 }
 {
     let end = append_actor(sys, processor, caller, line, end);
     let end = append_array(*b" ", line, end);
@@ -103,7 +108,7 @@ fn append_called(
         take end line.old ++ (processor_text processor
         ++ (caller_name (tables_of sys.now) caller
         ++ (codes " " ++ (call_text call ++ (codes " " ++ answer_text reply))))) }
-    ensures short { result ≤ end + 162 }
+    ensures short { result ≤ end + 116 }
 {
     let end = append_request(sys, processor, caller, call, line, end);
     let end = append_array(*b" ", line, end);
@@ -240,7 +245,7 @@ fn append_dispatch(
 fn append_body(sys: &System, printed: &Line, line: &mut LineBytes, end: usize) -> usize
     requires { end + 162 ≤ ROOM }
     ensures text { take result line.new ≡ take end line.old ++ line_body (tables_of sys.now) printed.now }
-    ensures short { result ≤ end + 162 }
+    ensures short { result ≤ end + 116 }
 {
     match *printed {
         Line::Tick(clock) => append_tick(clock, line, end),
@@ -277,7 +282,8 @@ fn put_line(
     line: &mut LineBytes,
     end: usize,
 ) -> usize
-    requires { end + LONGEST ≤ ROOM }
+    requires room { end + REACH ≤ ROOM }
+    requires number { length number.now ≤ 10 }
     ensures text { take result line.new ≡
         take end line.old ++ (number.now ++ (line_body (tables_of sys.now) printed.now ++ 10 ∷ [])) }
     ensures short { result ≤ end + LONGEST }
@@ -292,10 +298,13 @@ fn put_line(
 fn make_room(line: &LineBytes, end: usize, out: &mut Vec<u8>) -> Result<usize, AllocError>
     requires { end ≤ ROOM }
     ensures text { IfOk result (λ left. out.new.items ++ take left line.now ≡ out.old.items ++ take end line.now) }
-    ensures room { IfOk result (λ left. left + LONGEST ≤ ROOM) }
+    ensures room { IfOk result (λ left. left + REACH ≤ ROOM) }
     ensures kept { Begins out.old.items out.new.items }
+    ensures full { OnErr result (vec_capacity out.old < vec_len out.old + end + 96) }
+    ensures len { IfOk result (λ left. vec_len out.new + left ≡ vec_len out.old + end) }
+    ensures capacity { vec_capacity out.old ≤ vec_capacity out.new }
 {
-    if end + LONGEST <= ROOM {
+    if end + REACH <= ROOM {
         return Ok(end);
     }
     append_line(line, end, out)?;
@@ -311,6 +320,7 @@ fn append_lines(
 ) -> Result<(), AllocError>
     ensures ok { OnOk result (out.new.items ≡ out.old.items ++ lines_text (tables_of sys.now) number lines.now) }
     ensures err { OnErr result (Begins out.old.items out.new.items) }
+    ensures full { OnErr result (vec_capacity out.old < vec_len out.old + lines_room (length lines.now)) }
 {
     let mut bytes = [0; ROOM];
     let mut end = 0;
@@ -323,10 +333,11 @@ fn append_lines(
 }
 
 /// Appends the lines of the event of this number, each ended by a line feed. Where memory runs out, the
-/// text stays as it was.
+/// text stays as it was; it never does where the text has room for so many lines.
 pub fn print(sys: &System, number: u32, lines: &[Line], out: &mut Vec<u8>) -> Result<(), AllocError>
     ensures ok { OnOk result (out.new.items ≡ out.old.items ++ lines_text (tables_of sys.now) number lines.now) }
     ensures err { OnErr result (out.new.items ≡ out.old.items) }
+    ensures full { OnErr result (vec_capacity out.old < vec_len out.old + lines_room (length lines.now)) }
 {
     let before = out.len();
     let printed = append_lines(sys, number, lines, out);

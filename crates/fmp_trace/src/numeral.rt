@@ -1,5 +1,5 @@
 //! Numbers that are written many times.
-ghost use Rattle.std.specs.Prelude.{◌≡◌, ◌≤◌, ◌++◌, ◌+◌, decimal, take};
+ghost use Rattle.std.specs.Prelude.{◌≡◌, ◌≤◌, ◌++◌, ◌+◌, decimal, length, take};
 
 use crate::texts::{LineBytes, ROOM};
 use itoa::write_digits;
@@ -45,6 +45,7 @@ impl Numeral {
     pub fn append(&self, line: &mut LineBytes, end: usize) -> usize
         requires { end + 16 ≤ ROOM }
         ensures text { take result line.new ≡ take end line.old ++ self.now }
+        ensures place { result ≡ end + length self.now }
         ensures short { result ≤ end + 16 }
     {
         line[end..end + DIGITS].copy_from_slice(&self.bytes[self.start..self.start + DIGITS]);

@@ -1,6 +1,6 @@
 //! Pieces of text, each put into a line behind the pieces before it. A line is an array of bytes and the place where
 //! its text ends.
-ghost use Rattle.std.specs.Prelude.{◌≡◌, ◌≤◌, ◌<◌, ◌∷◌, [], ◌++◌, ◌+◌, OnOk, OnErr, decimal, length, take};
+ghost use Rattle.std.specs.Prelude.{◌≡◌, ◌≤◌, ◌<◌, ◌∷◌, [], ◌++◌, ◌+◌, OnOk, OnErr, decimal, length, take, vec_capacity, vec_len};
 ghost use Rattle.std.specs.Fmt.{signed_decimal};
 ghost use Rattle.fmp_base.specs.Names.{name_text};
 ghost use Rattle.fmp_base.specs.Texts.{processor_text};
@@ -106,18 +106,19 @@ fn append_digit(digit: u8, line: &mut LineBytes, end: usize) -> usize
 fn append_digits(number: u32, line: &mut LineBytes, end: usize) -> usize
     requires { end + 16 ≤ ROOM }
     ensures text { take result line.new ≡ take end line.old ++ decimal number }
-    ensures short { result ≤ end + 16 }
+    ensures place { result ≡ end + length (decimal number) }
 {
     Numeral::new(number).append(line, end)
 }
 
-/// A number in decimal digits.
-#[tactic(auto, using(std::proofs::lemmas::Fmt::decimal_digit))]
+/// A number in decimal digits, at most ten.
+#[tactic(auto, using(std::proofs::lemmas::Fmt::decimal_digit, crate::proofs::Short::short_number))]
 #[inline(always)]
 pub fn append_number(number: u32, line: &mut LineBytes, end: usize) -> usize
     requires { end + 16 ≤ ROOM }
     ensures text { take result line.new ≡ take end line.old ++ decimal number }
-    ensures short { result ≤ end + 16 }
+    ensures place { result ≡ end + length (decimal number) }
+    ensures short { result ≤ end + 10 }
 {
     if number < 10 {
         return append_digit(number as u8, line, end);
@@ -130,7 +131,7 @@ pub fn append_number(number: u32, line: &mut LineBytes, end: usize) -> usize
 pub fn append_signed(number: i32, line: &mut LineBytes, end: usize) -> usize
     requires { end + 17 ≤ ROOM }
     ensures text { take result line.new ≡ take end line.old ++ signed_decimal number }
-    ensures short { result ≤ end + 17 }
+    ensures short { result ≤ end + 11 }
 {
     if number >= 0 {
         return append_number(number as u32, line, end);
@@ -140,12 +141,12 @@ pub fn append_signed(number: i32, line: &mut LineBytes, end: usize) -> usize
 }
 
 /// The number of the processor at this place, with the blanks round it.
-#[tactic(auto, using(std::proofs::lemmas::Fmt::decimal_digit))]
+#[tactic(auto, using(std::proofs::lemmas::Fmt::decimal_digit, crate::proofs::Short::short_byte))]
 #[inline(always)]
 pub fn append_processor(place: u8, line: &mut LineBytes, end: usize) -> usize
     requires { end + 19 ≤ ROOM }
     ensures text { take result line.new ≡ take end line.old ++ processor_text place }
-    ensures short { result ≤ end + 19 }
+    ensures short { result ≤ end + 6 }
 {
     if place < 9 {
         return append_array([b' ', b'p', b'1' + place, b' '], line, end);
@@ -156,12 +157,16 @@ pub fn append_processor(place: u8, line: &mut LineBytes, end: usize) -> usize
 }
 
 /// Appends a line that ends at this place to a text. A short one is copied with what stands behind it, which is cut
-/// off. Where memory runs out, what stood before is still the front of the text.
+/// off. Where memory runs out, what stood before is still the front of the text; it never does where the text has room
+/// for the line and for 96 bytes more.
 #[inline(always)]
 pub fn append_line(line: &LineBytes, end: usize, out: &mut Vec<u8>) -> Result<(), AllocError>
     requires { end ≤ ROOM }
     ensures ok { OnOk result (out.new.items ≡ out.old.items ++ take end line.now) }
     ensures err { OnErr result (Begins out.old.items out.new.items) }
+    ensures full { OnErr result (vec_capacity out.old < vec_len out.old + end + 96) }
+    ensures len { OnOk result (vec_len out.new ≡ vec_len out.old + end) }
+    ensures capacity { vec_capacity out.old ≤ vec_capacity out.new }
 {
     if end > SHORT {
         return out.extend_from_slice(&line[..end]);

@@ -1,15 +1,19 @@
-use Rattle.std.proofs.Common.{◌≡◌, ℕ, suc, List, [], ◌+◌, ◌++◌, ◌∷◌, ◌∙◌, ap, sym, arith, drop, get_or, take}
+use Rattle.std.proofs.Common.{◌≡◌, ℕ, suc, List, [], ◌+◌, ◌++◌, ◌∷◌, ◌∙◌, ap, sym, arith, drop, get_or, rules, take}
 use Rattle.std.proofs.Math.Seq.{drop-cons}
 use Rattle.fmp_base.specs.declared.events.Line.{Line}
 use Rattle.fmp_base.specs.declared.events.Line.TheVariants as line
 use Rattle.fmp_base.specs.Systems.{tables_of}
 use Rattle.fmp_base.specs.Texts.{line_body, line_text, lines_text}
 use Rattle.fmp_trace.proofs.Appending.{begins_through, left_behind, on_err_from, on_err_through, one_more}
+use Rattle.fmp_trace.proofs.Short.{short_number}
 use Rattle.fmp_trace.proofs.lines.append_lines.Goals as goal
 
 pub returns-in_err-end-clause-err : goal.returns-in_err-end-clause-err
 returns-in_err-end-clause-err c =
     on_err_from _ (begins_through c.loop-line.invariant.kept c.make_room.ensures.kept)
+
+pub put_line-end-requires-clause-number : goal.put_line-end-requires-clause-number
+put_line-end-requires-clause-number c = rw c.new-numeral.ensures (short_number c.args.number (search rules))
 
 pub loop-line-preserved : goal.loop-line-preserved
 loop-line-preserved c =
@@ -36,6 +40,8 @@ loop-line-preserved c =
           ∙ one_more before piece (take c.put_line-end.result c.put_line-end.new.line) _ rest whole c.put_line-end.ensures.text same;
       kept = begins_through i.kept c.make_room.ensures.kept;
       room = c.in_ok-end.ensures.room;
+      size = omega (arith, i.size, c.put_line-end.ensures.short, c.in_ok-end.ensures.len);
+      capacity = omega (arith, i.capacity, c.make_room.ensures.capacity);
     }
 
 pub returns-clause-err : goal.returns-clause-err

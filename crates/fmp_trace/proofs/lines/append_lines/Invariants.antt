@@ -1,4 +1,5 @@
-use Rattle.std.proofs.Common.{◌≡◌, ◌≤◌, ◌+◌, ◌++◌, drop, take}
+use Rattle.std.proofs.Common.{◌≡◌, ◌≤◌, ◌+◌, ◌*◌, ◌++◌, drop, take, vec_len}
+use Rattle.std.specs.Prelude.{vec_capacity}
 use Rattle.fmp_base.specs.Systems.{tables_of}
 use Rattle.fmp_base.specs.Texts.{lines_text}
 use Rattle.fmp_trace.specs.Fronts.{Begins}
@@ -10,4 +11,6 @@ invariant-loop-line l = record {
   text : l.out.items ++ (take l.end l.bytes ++ lines_text (tables_of l.sys) l.number (drop l.line-index l.lines)) ≡ l.initial.out.items ++ lines_text (tables_of l.sys) l.number l.lines;
   kept : Begins l.initial.out.items l.out.items;
   room : l.end + 179 ≤ 256;
+  size : vec_len l.out + l.end ≤ vec_len l.initial.out + 127 * l.line-index;
+  capacity : vec_capacity l.initial.out ≤ vec_capacity l.out;
 }
