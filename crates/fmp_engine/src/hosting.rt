@@ -1,5 +1,5 @@
 //! A host: an image that is run by threads, one for each of its processors.
-ghost use Rattle.std.specs.Prelude.{◌≡◌, ◌≢◌, ◌+◌, ◌++◌, ◌≤◌, ◌^◌, List, ℕ, All, IfErr, IfOk, OnErr, OnOk, length};
+ghost use Rattle.std.specs.Prelude.{◌≡◌, ◌≢◌, ◌<◌, ◌+◌, ◌++◌, ◌≤◌, ◌^◌, List, ℕ, All, IfErr, IfOk, OnErr, OnOk, length};
 ghost use Rattle.fmp_base.specs.Texts.{whole_text};
 ghost use Rattle.fmp_build.specs.Building.{Builds};
 ghost use Rattle.fmp_code.specs.Machine.{code_meaning};
@@ -70,6 +70,18 @@ fn fault_of(fault: BoardFault) -> HostFault
     }
 }
 
+/// Closes a board, to which the last of these seats is handed in.
+fn closed<'a, S: Site>(board: Board<'a, S>, mut seats: Vec<Seat>) -> Closed<'a>
+    requires at { All (IsAt S.row_id) seats.items }
+    requires some { 0 < length seats.items }
+    ensures { IsClosed S.image S.bound S.row_id.capacity S.row_id.seats result }
+{
+    let Some(mut seat) = seats.pop() else {
+        unreachable!()
+    };
+    board.close(&mut seat)
+}
+
 /// Opens a board, runs its threads, and closes it.
 fn run_board<'a, S: Site + Send + Sync, R: Threads + Wait + Sync>(
     rt: &R,
@@ -85,9 +97,10 @@ fn run_board<'a, S: Site + Send + Sync, R: Threads + Wait + Sync>(
     ensures fault { IfErr result (λ f. f ≢ Limit) }
 {
     let board: Board<'a, S> = blank.open();
-    let (_, journaled) = run_all(rt, alloc, &board, &OpenGate, seats, work.turns, work.ticks);
+    let (seats, journaled) =
+        run_all(rt, alloc, &board, &OpenGate, seats, work.turns, work.ticks);
     match journaled {
-        Ok(_) => Ok(board.close()),
+        Ok(_) => Ok(closed(board, seats)),
         Err(fault) => Err(fault),
     }
 }

@@ -3,6 +3,7 @@ ghost use Rattle.std.specs.Prelude.{◌≡◌, All, IfOk};
 ghost use Rattle.fmp_hostrun.specs.Boards.{IsAt, blank as blank_of};
 
 use crate::SecondFirst;
+use crate::tests::feeding::one;
 use crate::tests::showing::{BOUND, Seen, board_of, image_of};
 use fmp_engine::sim;
 use fmp_hostrun::{Blank, Board, BoardFault, Closed, Seat, Site, run_all};
@@ -28,14 +29,15 @@ fn run<'a, S: Site + Send + Sync, R: Threads + Wait + Sync>(
     seats: Vec<Seat>,
     gate: &SecondFirst,
     turns: u32,
-) -> (Result<u32, BoardFault>, Closed<'a>)
+) -> Result<(Result<u32, BoardFault>, Closed<'a>), Fail>
     requires blank { blank ≡ blank_of S.image S.bound S.row_id }
     requires seats { All (IsAt S.row_id) seats.items }
-    ensures { result.1.kernel.system ≡ S.image.system }
+    ensures { IfOk result (λ r. r.1.kernel.system ≡ S.image.system) }
 {
     let board: Board<'a, S> = blank.open();
-    let (_, journaled) = run_all(rt, alloc, &board, gate, seats, turns, 0);
-    (journaled, board.close())
+    let (mut seats, journaled) = run_all(rt, alloc, &board, gate, seats, turns, 0);
+    let mut seat = one::<S>(&mut seats).ok_or("a seat")?;
+    Ok((journaled, board.close(&mut seat)))
 }
 
 /// Runs a board of an image of two processors with four turns each, at a gate: how many events were journaled, and the
@@ -49,7 +51,7 @@ fn run_both<'a, R: Threads + Wait + Sync>(
     ensures { IfOk result (λ r. r.1.kernel.system ≡ image.now.system) }
 {
     let (blank, seats) = board_of(alloc, image, BOUND, 8, 3)?;
-    Ok(run::<Brand, R>(rt, alloc, blank, seats, gate, 4))
+    run::<Brand, R>(rt, alloc, blank, seats, gate, 4)
 }
 
 /// How many events were journaled, or the name of a refusal.

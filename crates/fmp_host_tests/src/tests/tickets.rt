@@ -1,7 +1,8 @@
 //! Boards whose stretches are made outside the lock, and a seat that follows them.
 ghost use Rattle.std.specs.Prelude.{◌≡◌, All, IfOk, IfSome};
 ghost use Rattle.fmp_hostrun.specs.Boards.{IsAt, blank as blank_of};
-ghost use Rattle.fmp_hostrun.specs.Outcomes.{IsTicketOf};
+ghost use Rattle.fmp_hostrun.specs.Outcomes.{IsDrawn};
+ghost use mathlib.Core.List.{IsPrefix};
 
 use crate::tests::feeding::one;
 use crate::tests::hosting::{CONFIGURATION, TASKS};
@@ -15,12 +16,10 @@ use std::process::Abort;
 use std::sync::Wait;
 use std::test::Fail;
 
-/// What was answered to three calls of a board, and the events that another seat followed then.
+/// What was answered to the calls of a seat, and the events that another followed once they had met.
 #[derive(Drop)]
 struct Answers {
-    fed: Result<Receipt, BoardFault>,
-    submitted: Result<Receipt, BoardFault>,
-    again: Result<Receipt, BoardFault>,
+    calls: Vec<Result<Receipt, BoardFault>>,
     followed: Vec<Event>,
 }
 
@@ -33,7 +32,8 @@ fn outcome_of<S: Site, R: Wait>(
 ) -> Result<Outcome, Fail>
     requires { IsAt S.row_id seat.old }
     ensures at { IsAt S.row_id seat.new }
-    ensures outcome { IfOk result (λ o. IsTicketOf S.image S.bound o.ticket) }
+    ensures drawn { IfOk result (λ o. IsDrawn S.image S.bound seat.new.seen o.ticket) }
+    ensures grows { IsPrefix seat.old.seen seat.new.seen }
 {
     let ticket = board.ticket(rt, seat, p).ok_or("a ticket")?;
     Ok(ticket.stretch())
@@ -58,13 +58,42 @@ fn followed<S: Site>(
     Ok(events)
 }
 
-/// Makes the same stretch of processor 1 twice, has processor 2 run, and then submits both outcomes. Another seat
-/// follows.
+/// Feeds a run of processor 2 so often, and then submits both outcomes.
+#[tactic(auto, using(fmp_hostrun::proofs::Visiting::drawn_later, fmp_hostrun::proofs::Visiting::prefix_then))]
+fn submitted<S: Site, R: Wait>(
+    rt: &R,
+    alloc: Global,
+    board: &Board<'_, S>,
+    seat: &mut Seat,
+    runs: u32,
+    first: Outcome,
+    second: Outcome,
+) -> Result<Vec<Result<Receipt, BoardFault>>, Fail>
+    requires at { IsAt S.row_id seat.old }
+    requires first { IsDrawn S.image S.bound seat.old.seen first.ticket }
+    requires second { IsDrawn S.image S.bound seat.old.seen second.ticket }
+    ensures { IsAt S.row_id seat.new }
+{
+    let mut calls = Vec::with_capacity(alloc, runs as usize + 2)?;
+    for _ in 0..runs {
+        calls.push(board.feed(rt, seat, Event::Run(2)))?;
+    }
+    let answer = board.submit(rt, seat, first);
+    let again = board.submit(rt, seat, second);
+    calls.push(answer)?;
+    calls.push(again)?;
+    Ok(calls)
+}
+
+/// Makes the same stretch of processor 1 twice, has processor 2 run so often, and then submits both outcomes. Another
+/// seat meets this one, and follows.
+#[tactic(auto, using(fmp_hostrun::proofs::Visiting::drawn_later))]
 fn answered<'a, S: Site, R: Wait>(
     rt: &R,
     alloc: Global,
     blank: Blank<'a>,
     mut seats: Vec<Seat>,
+    runs: u32,
 ) -> Result<(Answers, Closed<'a>), Fail>
     requires blank { blank ≡ blank_of S.image S.bound S.row_id }
     requires seats { All (IsAt S.row_id) seats.items }
@@ -75,52 +104,83 @@ fn answered<'a, S: Site, R: Wait>(
     let mut seat = one::<S>(&mut seats).ok_or("a seat")?;
     let first = outcome_of(rt, &board, &mut seat, 1)?;
     let second = outcome_of(rt, &board, &mut seat, 1)?;
-    let answers = Answers {
-        fed: board.feed(rt, &mut seat, Event::Run(2)),
-        submitted: board.submit(rt, &mut seat, first),
-        again: board.submit(rt, &mut seat, second),
-        followed: followed(alloc, &board, &mut reader, 8)?,
-    };
-    Ok((answers, board.close()))
+    let calls = submitted(rt, alloc, &board, &mut seat, runs, first, second)?;
+    board.meet(rt, &mut seat, &mut reader);
+    let followed = followed(alloc, &board, &mut reader, 8)?;
+    Ok((Answers { calls, followed }, board.close(&mut seat)))
 }
 
-/// What a board of an image answers to stretches that were made outside its lock, and the board then.
+/// What a board of an image with room for k events answers to stretches that were made outside its lock, and the board
+/// then.
 fn answered_by<'a, R: Wait>(
     rt: &R,
     alloc: Global,
     image: &'a Image,
+    k: u32,
+    runs: u32,
 ) -> Result<(Answers, Closed<'a>), Fail>
     ensures { IfOk result (λ r. r.1.kernel.system ≡ image.now.system) }
 {
-    let (blank, seats) = board_of(alloc, image, BOUND, 8, 2)?;
-    answered::<Brand, R>(rt, alloc, blank, seats)
+    let (blank, seats) = board_of(alloc, image, BOUND, k, 2)?;
+    answered::<Brand, R>(rt, alloc, blank, seats, runs)
+}
+
+/// What was answered, the events that were followed, and the journal and the states in the end.
+fn seen_of<R: Wait>(
+    rt: &R,
+    alloc: Global,
+    tasks: &str,
+    k: u32,
+    runs: u32,
+) -> Result<(Answers, Seen), Fail> {
+    let image = image_of(alloc, CONFIGURATION, tasks)?;
+    let (answers, closed) = answered_by(rt, alloc, &image, k, runs)?;
+    let seen = Seen::of(alloc, String::new(alloc), &image, &closed)?;
+    Ok((answers, seen))
+}
+
+/// What is answered to the event at this place of the journal, from 1, whose call replies E_OK.
+fn done(number: u32) -> Result<Receipt, BoardFault> {
+    Ok(Receipt {
+        number,
+        effect: Effect::Done,
+        reply: Some(Reply {
+            code: Er::Ok,
+            value: None,
+        }),
+    })
 }
 
 #[test]
 fn an_outcome_after_another_processors_run(rt: HostRuntime) -> Result<(), Fail> {
     let alloc = rt.alloc();
-    let image = image_of(alloc, CONFIGURATION, TASKS)?;
-    let (answers, closed) = answered_by(&rt, alloc, &image)?;
-    let replied = Some(Reply {
-        code: Er::Ok,
-        value: None,
-    });
-    for (number, answer) in [(1, answers.fed), (2, answers.submitted)] {
-        let receipt = Receipt {
-            number,
-            effect: Effect::Done,
-            reply: replied,
-        };
-        assert_eq!(rt; answer, Ok(receipt));
-    }
+    let (answers, seen) = seen_of(&rt, alloc, TASKS, 8, 1)?;
     // The processor has gone on since the second ticket was drawn.
-    assert_eq!(rt; answers.again, Err(BoardFault::Stale));
+    let expected = [done(1), done(2), Err(BoardFault::Stale)];
+    assert_eq!(rt; answers.calls.as_slice(), expected.as_slice());
     assert_eq!(rt;
         steps_of(alloc, &answers.followed)?.as_str(),
         "run 2\nrun 1\n"
     );
-    let seen = Seen::of(alloc, String::new(alloc), &image, &closed)?;
     assert_eq!(rt; seen.journal.as_str(), "run 2\nrun 1\n");
+    assert_eq!(rt; seen.states.as_str(), "A RUNNING p1 10\nB RUNNING p2 10\n");
+    Ok(())
+}
+
+#[test]
+fn an_outcome_of_a_task_that_was_suspended_and_resumed(rt: HostRuntime) -> Result<(), Fail> {
+    let alloc = rt.alloc();
+    let tasks = "task a { put(1); } task b { sus_tsk(A); rsm_tsk(A); }";
+    let (answers, seen) = seen_of(&rt, alloc, tasks, 2, 2)?;
+    // The actor is the same, and the row is full.
+    let stale = Err(BoardFault::Stale);
+    let expected = [done(1), done(2), stale, stale];
+    assert_eq!(rt; answers.calls.as_slice(), expected.as_slice());
+    assert_eq!(rt;
+        steps_of(alloc, &answers.followed)?.as_str(),
+        "run 2\nrun 2\n"
+    );
+    assert_eq!(rt; seen.journal.as_str(), "run 2\nrun 2\n");
     assert_eq!(rt; seen.states.as_str(), "A RUNNING p1 10\nB RUNNING p2 10\n");
     Ok(())
 }
