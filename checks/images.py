@@ -1,7 +1,7 @@
 #!/usr/bin/env python3
 """Compares what the program makes of changed images with a reader of images that shares nothing with it.
 
-    checks/images.py [--program PATH] [--seed SEED] [--samples COUNT]
+    checks/images.py [--program PATH] [--seed SEED] [--samples COUNT] [--least]
 
 takes two images: that of the smallest system of one task, and one with a row in each table, whose fields stand at
 their limits. Each is cut to every length, gets one byte more, and has every byte set to every value; then come COUNT
@@ -9,7 +9,8 @@ samples (5000) of two changed bytes of each, and as many of bytes changed, cut o
 come the images of image_limits.py: rows, names, instructions, calls and sizes at their limits and past them. For each,
 `fmp sim` over no steps must answer the first fault that image_format.py finds, status and text, or print what the
 tables imply: the lines of setup and the states. Where one task alone has started, so must its first runs, up to a
-call that is not `put`. And the tables that were read must spell the same bytes again.
+call that is not `put`. And the tables that were read must spell the same bytes again. With --least only the bytes of the
+first image are set.
 
 It prints how many were compared and what they answered. At the first difference it prints the image and both
 answers, and its status is 1.
@@ -213,6 +214,7 @@ def main():
     parser.add_argument("--program", metavar="PATH", type=Path, default=PROGRAM, help="the program to compare")
     parser.add_argument("--seed", type=int, default=1, help="the seed of the samples (1)")
     parser.add_argument("--samples", metavar="COUNT", type=int, default=5000, help="samples of each kind (5000)")
+    parser.add_argument("--least", action="store_true", help="only the image of one task, with one byte changed")
     options = parser.parse_args()
     path = options.program.resolve()
     if not path.is_file():
@@ -220,7 +222,8 @@ def main():
     began, total = time.monotonic(), Counter()
     compare_built(path)
     with ProcessPoolExecutor(PROCESSES) as pool:
-        for name, images in groups(options.seed, options.samples):
+        kinds = [("one task, at most one byte", single_changes("one task", ONE_TASK))]
+        for name, images in kinds if options.least else groups(options.seed, options.samples):
             answers = compare_group(pool, path, images)
             total += answers
             counted = ", ".join(f"{kind} {answers[kind]}" for kind in sorted(answers))

@@ -360,6 +360,16 @@ awk '{ print } /CRE_TSK\(T255/ { print "CRE_TSK(T256,{TA_ACT,0,d,1,256,NULL});" 
 line=$(awk '/CRE_TSK\(T256/ { print NR }' too_many.cfg)
 says 'one task more' 1 "cfg:$line: B5" check too_many.cfg many.src
 
+# ---- want of memory: 12 MiB are enough for a short text, and not for the calls of a long one
+
+printf '#!/bin/sh\nulimit -v 12288\nexec "%s" "$@"\n' "$fmp" > scant
+chmod +x scant
+whole=$fmp fmp=./scant
+awk 'BEGIN { print "task main {"; for (i = 0; i < 130000; i++) print "put(7);"; print "}" }' > calls.src
+run 'little memory' 0 ok none check a.cfg b.src
+says 'too little memory' 3 'memory' check a.cfg calls.src
+fmp=$whole
+
 # ---- a trace of 2^20 events
 
 printf 'NUM_PRC(1);\n' > empty.cfg

@@ -71,6 +71,18 @@ L2: no image
   example: A text in place of an image.
 END
 run 'code: L2' 0 code L2
+cat > wanted <<'END'
+E_PAR: parameter error
+  when: A value is out of its range: a priority, a time limit, a pattern, a mode, a size.
+  example: chg_pri(1, 17), since priorities end at 16.
+END
+run 'code: E_PAR' 0 code E_PAR
+cat > wanted <<'END'
+B7: entry of the other kind
+  when: A task names a handler as its entry, or a handler a task.
+  example: CRE_TSK whose entry is declared by 'handler'.
+END
+run 'code: B7' 0 code B7
 
 # Of one processor there is one order: two tasks that both end.
 printf 'run 1\nrun 1\nrun 1\nrun 1\nrun 1\nrun 1\n' > wanted
@@ -96,6 +108,24 @@ PRODUCER       1       1       0          0            1       1   50.0%
 CONSUMER       1       1       1          0            0       1   50.0%
 END
 run 'stats: two events' 0 stats queue.img two.steps
+
+# Of the 18 events of the watchdog 5 are ticks; a wait that ends by its limit is a time-out, and WORKER is preempted at
+# each call that wakes WATCHDOG.
+cat > wanted <<'END'
+task      starts   calls   waits  time-outs  preemptions  events   share
+WATCHDOG       1       7       4          1            0       7   38.8%
+WORKER         2       6       3          0            3       6   33.3%
+END
+run 'stats: watchdog' 0 stats watchdog.img watchdog.steps
+
+# Of the 15 events of the interrupts 2 are interrupts and 4 are the handler's, which wakes DRIVER and so preempts OTHER.
+cat > wanted <<'END'
+task    starts   calls   waits  time-outs  preemptions  events   share
+MAIN         1       3       0          0            0       4   26.6%
+DRIVER       1       4       2          0            0       4   26.6%
+OTHER        1       1       0          0            2       1    6.6%
+END
+run 'stats: interrupt' 0 stats interrupt.img interrupt.steps
 
 run 'waves: queue' 0 waves queue.img queue.steps queue.vcd
 cat > values <<'END'
@@ -199,6 +229,96 @@ END
 sed -n '/^.scope module fmp/,/^.enddefinitions/p' queue.vcd | sed '$d' | cmp -s - names
 verdict 'waves: names' "$([ $? -eq 0 ] || echo 'they are other than they should be')"
 
+# A task that disables dispatching, takes of a semaphore, writes a word, is refused a priority, locks the processor, and
+# ends by a fault; between, an interrupt that pends until the processor is unlocked.
+cat > held.cfg <<'END'
+NUM_PRC(1);
+CLASS(TCL_1) {
+    CRE_TSK(A, { TA_ACT, 0, a, 10, 256, NULL });
+    CRE_SEM(S, { 0, 3, 9 });
+    CRE_SHR(W, { -1 });
+    DEF_INH(3, { 0, h });
+}
+END
+cat > held.src <<'END'
+task a { var x; dis_dsp(); pol_sem(S); st_shr(W, 1); chg_pri(A, 17); loc_cpu(); unl_cpu(); x = 1 / 0; }
+handler h { }
+END
+for step in 'run 1' 'run 1' 'run 1' 'run 1' 'run 1' 'int 3' 'run 1' 'run 1' 'run 1'; do echo "$step"; done > held.steps
+"$fmp" build held.cfg held.src held.img > built || exit 2
+run 'waves: held' 0 waves held.img held.steps held.vcd
+cat > values <<'END'
+$var wire 5 * priority $end
+$var wire 3 + wait_kind $end
+$var wire 8 , wait_object $end
+$upscope $end
+$upscope $end
+$scope module interrupt $end
+$scope module i3 $end
+$var wire 2 - handling $end
+$upscope $end
+$upscope $end
+$scope module objects $end
+$scope module S $end
+$var wire 16 . count $end
+$var wire 8 / waiting $end
+$upscope $end
+$scope module W $end
+$var integer 32 0 value $end
+$upscope $end
+$upscope $end
+$upscope $end
+$enddefinitions $end
+#0
+$dumpvars
+b00000000000000000000000000000000 !
+b00000001 "
+b000000000 #
+b000000000 $
+1%
+b00 &
+b010 '
+1(
+b0001 )
+b01010 *
+b000 +
+b00000000 ,
+b00 -
+b0000000000000011 .
+b00000000 /
+b11111111111111111111111111111111 0
+$end
+#1
+0%
+#2
+b0000000000000010 .
+#3
+b00000000000000000000000000000001 0
+#4
+b01 &
+#5
+b000000001 $
+b00 &
+#6
+b01 -
+#7
+b100000011 #
+b000000000 $
+b10 -
+#8
+b000000000 #
+b00 -
+#9
+b00000000 "
+1%
+b10 &
+b000 '
+0(
+#10
+END
+sed -n '/priority/,$p' held.vcd | cmp -s - values
+verdict 'waves: held, values' "$([ $? -eq 0 ] || echo 'they are other than they should be')"
+
 # Faults, as `fmp` has them.
 printf 'FMP' > short.img
 echo 'image: L1' > said
@@ -213,9 +333,11 @@ cp queue.img same.img
 "$view" waves same.img queue.steps same.img > output 2> errors
 [ $? -eq 2 ] && grep -q 'the file OUT is one of the two that are read' errors && cmp -s queue.img same.img
 verdict 'waves: over the image' "$([ $? -eq 0 ] || echo 'it is not refused')"
-"$view" code B9 > output 2> errors
-[ $? -eq 2 ] && grep -q 'no code is printed so' errors
-verdict 'code: none' "$([ $? -eq 0 ] || echo 'it is not refused')"
+for code in B9 E_PA; do
+    "$view" code $code > output 2> errors
+    [ $? -eq 2 ] && grep -q 'no code is printed so' errors
+    verdict "code: $code" "$([ $? -eq 0 ] || echo 'it is not refused')"
+done
 
 # Each step of a drive does something: a run of them has as many events.
 for seed in 1 2 3 4 5 6 7 8; do

@@ -84,7 +84,7 @@ CarriesOut cmd.Stored inputs file_before file_after before after =
 
 -- why two texts build no image
 abbrev pub IsWhyNoImage : (cfg src : List ℕ) → Exit → Type 0
-IsWhyNoImage cfg src (Build (build.At file line why)) = IsBuildFault cfg src (build.At file line why)
+IsWhyNoImage cfg src (Build (build.At file place why)) = IsBuildFault cfg src (build.At file place why)
 IsWhyNoImage cfg src (Build build.Memory) = ⊥
 IsWhyNoImage cfg src (Sim f) = ⊥
 IsWhyNoImage cfg src (Host f) = ⊥

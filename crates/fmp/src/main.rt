@@ -7,18 +7,8 @@
 #![tactic(auto)]
 
 mod carrying;
-#[cfg(test)]
-mod check_tests;
-#[cfg(test)]
-mod image_tests;
 mod perform;
-#[cfg(test)]
-mod processor_tests;
-#[cfg(test)]
-mod run_tests;
 mod running;
-#[cfg(test)]
-mod tests;
 
 use clap::Error;
 use fmp_command::not_text;

@@ -66,7 +66,7 @@ fn no_image(fault: BuildFault) -> Exit
     ensures { (cfg src : List ℕ) → IsBuildFault cfg src fault → IsWhyNoImage cfg src result }
 {
     match fault {
-        BuildFault::At(file, line, why) => Exit::Build(BuildFault::At(file, line, why)),
+        BuildFault::At(file, place, why) => Exit::Build(BuildFault::At(file, place, why)),
         BuildFault::Memory => Exit::Memory(AllocError),
     }
 }

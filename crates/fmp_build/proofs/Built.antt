@@ -3,7 +3,6 @@ use Rattle.std.proofs.Common.{◌≡◌, ℕ, List, length, refl, sym, subst}
 use Rattle.fmp_base.specs.Systems.{SystemTables}
 use Rattle.fmp_lex.specs.Reading.{kinds_of}
 use Rattle.fmp_tasklang.specs.CallForms.{CallsFit}
-use Rattle.fmp_tasklang.specs.Expressions.{lines_of}
 use Rattle.fmp_tasklang.specs.Trees.{BodyTree}
 use Rattle.fmp_tasklang.proofs.CallForms.{calls_fit}
 use Rattle.fmp_code.specs.Verify.{Verified}
@@ -23,7 +22,7 @@ use Rattle.fmp_build.proofs.Walks.{each_enters}
 text_calls : (src : List ℕ) (t : ReadTasks src) → CallsFit t.bodies
 text_calls src t =
     let n = length (kinds_of t.tokens) in
-    calls_fit (lines_of t.tokens) (kinds_of t.tokens) n t.bodies 0 n t.spelled.2
+    calls_fit (kinds_of t.tokens) n t.bodies 0 n t.spelled.2
 
 pub built_is_image :
     ((body : BodyTree) → codegen.greatest (body_depths body) ≡ body_depth body) →
@@ -35,6 +34,6 @@ built_is_image needed verified cfg src i b =
     let bodies = b.tasks.bodies in
     let rules = read_keeps cfg c in
     subst IsImage (sym b.image)
-    (lawful needed t bodies (compiled t bodies) rules (each_enters bodies c.tokens c.tree c.making c.makes b.entered)
+    (lawful needed t bodies (compiled t bodies) rules (each_enters bodies c.tree c.making c.makes b.entered)
     (few-bodies t bodies b.accepted) refl (verified t bodies b.accepted (text_calls src b.tasks))
     (compiled_words t rules.ranges bodies (text_words src b.tasks)))

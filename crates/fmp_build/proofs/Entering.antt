@@ -14,9 +14,9 @@ use Rattle.fmp_tasklang.specs.Trees.{BodyTree}
 use Rattle.fmp_codegen.specs.declared.entries.EntryUse.{EntryUse}
 use Rattle.fmp_codegen.specs.Entries.{body_place, entry_fault}
 
--- the entry of an API at line 1
+-- the entry of an API whose word is the first token
 abbrev pub wanted : Name → BodyKind → Option ℕ → EntryUse
-wanted name kind stack = record { line = 1; name = name; kind = kind; stack = stack }
+wanted name kind stack = record { at = 0; name = name; kind = kind; stack = stack }
 
 -- an entry names a body of this kind, for whose operands this stack has room
 abbrev pub Enters : List BodyTree → BodyKind → Option ℕ → Entry → Type 0

@@ -4,8 +4,8 @@ use Rattle.fmp_lex.specs.declared.fault.BuildFault.{BuildFault}
 use Rattle.fmp_lex.specs.declared.fault.BuildFault.TheVariants as build
 use Rattle.fmp_lex.specs.declared.fault.TextFile.TheVariants as file
 use Rattle.fmp_lex.specs.declared.token.Token.{Token}
-use Rattle.fmp_lex.specs.Cutting.{end_line_of}
 use Rattle.fmp_lex.specs.Faults.{IsSyntaxFault, fault_of}
+use Rattle.fmp_lex.specs.Places.{text_end}
 use Rattle.fmp_lex.specs.Reading.{kinds_of, IsWhole, IsFirstFault}
 use Rattle.fmp_lex.proofs.Repetitions.{star_framed}
 use Rattle.fmp_lex.proofs.Sequences.{Framed}
@@ -16,14 +16,14 @@ use Rattle.fmp_cfgparse.specs.Configurations.{IsFault}
 use Rattle.fmp_cfgparse.specs.Configuring as walk
 use Rattle.fmp_cfgparse.specs.Configuring.{configured}
 use Rattle.fmp_cfgparse.proofs.OneAnswer.{one_first, not_whole, one_spelled, not_spelled, one_answer}
-use Rattle.fmp_tasklang.specs.Expressions.{lines_of}
-use Rattle.fmp_tasklang.specs.Reading.{Tasks}
+use Rattle.fmp_tasklang.specs.Grammar.{Bodies}
 use Rattle.fmp_tasklang.specs.Trees.{BodyTree}
 use Rattle.fmp_tasklang.proofs.BodyPaths.{body_framed}
 use Rattle.fmp_tasklang.proofs.Single.{one_program}
 use Rattle.fmp_codegen.specs.declared.offences.Offence.{Offence}
 use Rattle.fmp_codegen.specs.Compiling.{bodies_offence}
 use Rattle.fmp_codegen.specs.Entries.{entries_offence}
+use Rattle.fmp_codegen.specs.Naming.{fault_in}
 use Rattle.fmp_image.specs.Images.{ImageTables}
 use Rattle.fmp_build.specs.Building.{ReadTasks, built_image, Builds, IsBuildFault, of_memory, of_configuration, of_tasks, of_bodies, of_entries}
 use Rattle.fmp_build.specs.Entries.{entry_uses}
@@ -52,8 +52,8 @@ module _ {cfg : List ℕ} where
 
 -- ---- the task text
 
-tasks_framed : (ts : List Token) → Framed (Tasks ts)
-tasks_framed ts = star_framed _ (body_framed (lines_of ts))
+tasks_framed : Framed Bodies
+tasks_framed = star_framed _ body_framed
 
 record SameTasks {src : List ℕ} (a b : ReadTasks src) : Type 0 where
   tokens : a.tokens ≡ b.tokens
@@ -65,18 +65,18 @@ module _ {src : List ℕ} where
       let same = cuts_unique src 0 a.tokens b.tokens a.spelled.1 b.spelled.1 in
       record {
         tokens = same;
-        bodies = one_program (lines_of b.tokens) (kinds_of b.tokens) b.bodies a.bodies b.spelled.2
-            (subst (λ zs. IsWhole (Tasks zs) (kinds_of zs) a.bodies) same a.spelled.2);
+        bodies = one_program (kinds_of b.tokens) b.bodies a.bodies b.spelled.2
+            (subst (λ zs. IsWhole Bodies (kinds_of zs) a.bodies) same a.spelled.2);
       }
 
-  no_syntax_fault : (t : ReadTasks src) (f : BuildFault) → IsSyntaxFault file.Source Tasks src f → ⊥
+  no_syntax_fault : (t : ReadTasks src) (f : BuildFault) → IsSyntaxFault file.Source Bodies src f → ⊥
   no_syntax_fault t f (inl x) = let short = t.spelled.0 in let long = x.0 in absurd (omega arith)
   no_syntax_fault t f (inr x) =
       let same = cuts_unique src 0 x.1.0 t.tokens x.1.1 t.spelled.1 in
-      let first = subst (λ zs. IsFirstFault (Tasks zs) (kinds_of zs) x.1.2 x.1.3) same x.1.4 in
-      not_whole (Tasks t.tokens) (tasks_framed t.tokens) (kinds_of t.tokens) x.1.2 x.1.3 t.bodies first t.spelled.2
+      let first = subst (λ zs. IsFirstFault Bodies (kinds_of zs) x.1.2 x.1.3) same x.1.4 in
+      not_whole Bodies tasks_framed (kinds_of t.tokens) x.1.2 x.1.3 t.bodies first t.spelled.2
 
-  one_syntax_fault : (f g : BuildFault) → IsSyntaxFault file.Source Tasks src f → IsSyntaxFault file.Source Tasks src g → f ≡ g
+  one_syntax_fault : (f g : BuildFault) → IsSyntaxFault file.Source Bodies src f → IsSyntaxFault file.Source Bodies src g → f ≡ g
   one_syntax_fault f g (inl a) (inl b) = a.1 ∙ sym b.1
   one_syntax_fault f g (inl a) (inr b) = let long = a.0 in let short = b.0 in absurd (omega arith)
   one_syntax_fault f g (inr a) (inl b) = let short = a.0 in let long = b.0 in absurd (omega arith)
@@ -84,10 +84,10 @@ module _ {src : List ℕ} where
       let x = a.1 in
       let y = b.1 in
       let same = cuts_unique src 0 y.0 x.0 y.1 x.1 in
-      let first = subst (λ zs. IsFirstFault (Tasks zs) (kinds_of zs) y.2 y.3) same y.4 in
-      let one = one_first (Tasks x.0) (tasks_framed x.0) (kinds_of x.0) x.2 y.2 x.3 y.3 x.4 first in
-      x.5 ∙ (ap₂ (λ j why. fault_of file.Source (end_line_of src) (slice_get x.0 j) why) one.0 one.1 ∙
-      (ap (λ zs. fault_of file.Source (end_line_of src) (slice_get zs y.2) y.3) (sym same) ∙ sym y.5))
+      let first = subst (λ zs. IsFirstFault Bodies (kinds_of zs) y.2 y.3) same y.4 in
+      let one = one_first Bodies tasks_framed (kinds_of x.0) x.2 y.2 x.3 y.3 x.4 first in
+      x.5 ∙ (ap₂ (λ j why. fault_of file.Source (text_end src) (slice_get x.0 j) why) one.0 one.1 ∙
+      (ap (λ zs. fault_of file.Source (text_end src) (slice_get zs y.2) y.3) (sym same) ∙ sym y.5))
 
 -- ---- both
 
@@ -96,10 +96,9 @@ module _ {cfg src : List ℕ} (c d : ReadConfiguration cfg) (t u : ReadTasks src
   same_bodies_offence =
       ap₂ (λ (m : Making) (bs : List BodyTree). bodies_offence m.tables [] bs) (one_configuration c d).making (one_text t u).bodies
 
-  same_entries_offence : entries_offence t.bodies (entry_uses c.tokens c.tree) ≡ entries_offence u.bodies (entry_uses d.tokens d.tree)
+  same_entries_offence : entries_offence t.bodies (entry_uses c.tree) ≡ entries_offence u.bodies (entry_uses d.tree)
   same_entries_offence =
-      let one = one_configuration c d in
-      ap₂ entries_offence (one_text t u).bodies (ap₂ entry_uses one.tokens one.tree)
+      ap₂ entries_offence (one_text t u).bodies (ap entry_uses (one_configuration c d).tree)
 
   same_image : built_image c.making.tables t.bodies ≡ built_image d.making.tables u.bodies
   same_image = ap₂ (λ (m : Making) (bs : List BodyTree). built_image m.tables bs) (one_configuration c d).making (one_text t u).bodies
@@ -138,13 +137,13 @@ module _ (cfg src : List ℕ) where
   one_fault f g (of_bodies c t o x is) (of_configuration y) m n = absurd (no_fault c g y)
   one_fault f g (of_bodies c t o x is) (of_tasks d y) m n = absurd (no_syntax_fault t g y)
   one_fault f g (of_bodies c t o x is) (of_bodies d u p y js) m n =
-      is ∙ (ap (λ (q : Offence). build.At file.Source q.line q.why) (agree _ _ o p (same_bodies_offence c d t u) x y) ∙ sym js)
+      is ∙ (ap₂ (fault_in file.Source) (one_text t u).tokens (agree _ _ o p (same_bodies_offence c d t u) x y) ∙ sym js)
   one_fault f g (of_bodies c t o x is) (of_entries d u p ok y js) m n = absurd (differ _ _ o (same_bodies_offence d c u t) ok x)
   one_fault f g (of_entries c t o ok x is) (of_configuration y) m n = absurd (no_fault c g y)
   one_fault f g (of_entries c t o ok x is) (of_tasks d y) m n = absurd (no_syntax_fault t g y)
   one_fault f g (of_entries c t o ok x is) (of_bodies d u p y js) m n = absurd (differ _ _ p (same_bodies_offence c d t u) ok y)
   one_fault f g (of_entries c t o ok x is) (of_entries d u p also y js) m n =
-      is ∙ (ap (λ (q : Offence). build.At file.Configuration q.line q.why) (agree _ _ o p (same_entries_offence c d t u) x y) ∙ sym js)
+      is ∙ (ap₂ (fault_in file.Configuration) (one_configuration c d).tokens (agree _ _ o p (same_entries_offence c d t u) x y) ∙ sym js)
 
 pub one_answer_of_both : (cfg src : List ℕ) → HaveOneAnswer cfg src
 one_answer_of_both cfg src = record { one_image = one_image cfg src; one_fault = one_fault cfg src; not_both = not_both cfg src }

@@ -39,8 +39,8 @@ module _ (a b : SystemTables) (same : object_names a ≡ object_names b) where
   variables_same : (names : List Name) (ws : List Word) → variables_offence a names ws ≡ variables_offence b names ws
   variables_same names [] = refl
   variables_same names (w ∷ ws) =
-      let limit : Offence = record { line = w.line; why = fault.Limit } in
-      let twice : Offence = record { line = w.line; why = fault.TwiceNamed } in
+      let limit : Offence = record { at = w.at; why = fault.Limit } in
+      let twice : Offence = record { at = w.at; why = fault.TwiceNamed } in
       ap₂ (λ (object : Bool) (rest : Option Offence).
       if nat_le 64 (length names) then Some limit else (if is_among w.name names || object then Some twice else rest))
       (object_same w.name) (variables_same (names ++ w.name ∷ []) ws)
@@ -52,8 +52,8 @@ module _ (a b : SystemTables) (same : object_names a ≡ object_names b) where
 
   body_same : (names : List Name) (body : BodyTree) → body_offence a names body ≡ body_offence b names body
   body_same names body =
-      let limit : Offence = record { line = body.line; why = fault.Limit } in
-      let twice : Offence = record { line = body.name.line; why = fault.TwiceNamed } in
+      let limit : Offence = record { at = body.at; why = fault.Limit } in
+      let twice : Offence = record { at = body.name.at; why = fault.TwiceNamed } in
       ap₂ (λ (variables : Option Offence) (scope : Scope).
       if nat_le 255 (length names) then Some limit
       else (if is_among body.name.name names then Some twice

@@ -16,7 +16,7 @@ use Rattle.fmp_tasklang.specs.declared.trees.Operator.TheVariants as operator
 use Rattle.fmp_tasklang.specs.declared.trees.Word.{Word}
 use Rattle.fmp_tasklang.specs.Blocks.{block_of, choice}
 use Rattle.fmp_tasklang.specs.Calls.{call_parts, ArgumentTree, value, out, values_of, Called, call_tree, OnePart, Parts, OneCall}
-use Rattle.fmp_tasklang.specs.Expressions.{number_of, lines_of, IsOperand, a_number, a_name, a_group, a_unary, IsExpression, an_operand, a_chain, AreLinks, no_link, a_link}
+use Rattle.fmp_tasklang.specs.Expressions.{number_of, IsOperand, a_number, a_name, a_group, a_unary, IsExpression, an_operand, a_chain, AreLinks, no_link, a_link}
 use Rattle.fmp_tasklang.specs.Grammar.{Bodies}
 use Rattle.fmp_tasklang.specs.Statements.{jump_of, IsStatement, an_assignment, a_call, a_jump, an_if, a_while, IsIf, if_chosen, IsElse, no_else, an_else, IsOther, a_block, another_if, IsBlock, braces, AreStatements, no_statement, a_statement}
 use Rattle.fmp_tasklang.specs.Trees.{ExpressionTree, number, named, unary, binary, both, either, StatementTree, assign, service_call, if_then, if_else, while, break, continue, return, Block, empty, next, BodyTree}
@@ -103,27 +103,27 @@ choice_words :
 choice_words e body None test first second = (test, first)
 choice_words e body (Some b) test first second = (test, (first, second))
 
-module _ (line : ℕ → ℕ) (ts : List TokenKind) (limit : ℕ) (known : AllByRecursion IsKnown ts) where
+module _ (ts : List TokenKind) (limit : ℕ) (known : AllByRecursion IsKnown ts) where
   mutual
-    operand_words : {d i : ℕ} {e : ExpressionTree} {j : ℕ} → IsOperand line ts limit d i e j → ExpressionHasWords e
+    operand_words : {d i : ℕ} {e : ExpressionTree} {j : ℕ} → IsOperand ts limit d i e j → ExpressionHasWords e
     operand_words {i = i} (a_number x) = subst NumberFits x.0 (number_at (slice_get ts i) (known_at ts i known))
     operand_words (a_name x) = tt
     operand_words (a_group allows left x right) = expression_words x
     operand_words (a_unary allows op x) = operand_words x
 
-    expression_words : {d l i : ℕ} {e : ExpressionTree} {j : ℕ} → IsExpression line ts limit d l i e j → ExpressionHasWords e
+    expression_words : {d l i : ℕ} {e : ExpressionTree} {j : ℕ} → IsExpression ts limit d l i e j → ExpressionHasWords e
     expression_words (an_operand tightest x) = operand_words x
     expression_words (a_chain {first = first} {links = links} level x rest is) =
         subst ExpressionHasWords (sym is) (chain_words first links (expression_words x) (links_words rest))
 
-    links_words : {d m i : ℕ} {ls : List LinkTree} {j : ℕ} → AreLinks line ts limit d m i ls j → AllByRecursion LinkHasWords ls
+    links_words : {d m i : ℕ} {ls : List LinkTree} {j : ℕ} → AreLinks ts limit d m i ls j → AllByRecursion LinkHasWords ls
     links_words no_link = tt
     links_words (a_link op x rest) = (expression_words x, links_words rest)
 
   -- ---- calls
 
   part_words :
-      (d : ℕ) (p : Part) (a : Option ArgumentTree) (more : List ArgumentTree) (i k : ℕ) → OnePart line d p ts limit i a k →
+      (d : ℕ) (p : Part) (a : Option ArgumentTree) (more : List ArgumentTree) (i k : ℕ) → OnePart d p ts limit i a k →
       AllByRecursion ExpressionHasWords (values_of more) → AllByRecursion ExpressionHasWords (values_of (put a more))
   part_words d (part.Mark m) None more i k x h = h
   part_words d (part.Mark m) (Some (value e)) more i k x h = absurd x
@@ -136,7 +136,7 @@ module _ (line : ℕ → ℕ) (ts : List TokenKind) (limit : ℕ) (known : AllBy
   part_words d (part.Out m) (Some (out w)) more i k x h = h
 
   parts_words :
-      (d : ℕ) (ps : List Part) (i : ℕ) (args : List ArgumentTree) (j : ℕ) → Parts line d ps ts limit i args j →
+      (d : ℕ) (ps : List Part) (i : ℕ) (args : List ArgumentTree) (j : ℕ) → Parts d ps ts limit i args j →
       AllByRecursion ExpressionHasWords (values_of args)
   parts_words d [] i args j x = subst (λ (a : List ArgumentTree). AllByRecursion ExpressionHasWords (values_of a)) (sym x.0) tt
   parts_words d (p ∷ ps) i args j x =
@@ -144,7 +144,7 @@ module _ (line : ℕ → ℕ) (ts : List TokenKind) (limit : ℕ) (known : AllBy
       (part_words d p x.0 x.1 i x.3 x.4 (parts_words d ps x.3 x.1 j x.5))
 
   call_words :
-      (d : ℕ) (result : Option Word) (c : Called) (i j : ℕ) → OneCall line d ts limit i c j →
+      (d : ℕ) (result : Option Word) (c : Called) (i j : ℕ) → OneCall d ts limit i c j →
       StatementHasWords (service_call (call_tree result c))
   call_words d result c i j x =
       subst (λ (z : Called). AllByRecursion ExpressionHasWords z.arguments) (sym x.1) (parts_words d (call_parts c.service) x.2 x.0 j x.4)
@@ -152,39 +152,39 @@ module _ (line : ℕ → ℕ) (ts : List TokenKind) (limit : ℕ) (known : AllBy
   -- ---- statements
 
   mutual
-    statement_words : {d : ℕ} {loop : Bool} {i : ℕ} {s : StatementTree} {j : ℕ} → IsStatement line ts limit d loop i s j → StatementHasWords s
+    statement_words : {d : ℕ} {loop : Bool} {i : ℕ} {s : StatementTree} {j : ℕ} → IsStatement ts limit d loop i s j → StatementHasWords s
     statement_words (an_assignment a r e semi) = expression_words e
     statement_words {d = d} (a_call r a c b res call semi is) = subst StatementHasWords (sym is) (call_words d r c a b call)
     statement_words {loop = loop} {i = i} (a_jump x semi) = subst JumpHasWords x.0 (token_jump loop (slice_get ts i))
     statement_words (an_if s) = if_words s
     statement_words (a_while x test body) = (expression_words test.2.1, block_words body)
 
-    if_words : {d : ℕ} {loop : Bool} {i : ℕ} {s : StatementTree} {j : ℕ} → IsIf line ts limit d loop i s j → StatementHasWords s
+    if_words : {d : ℕ} {loop : Bool} {i : ℕ} {s : StatementTree} {j : ℕ} → IsIf ts limit d loop i s j → StatementHasWords s
     if_words (if_chosen {e = e} {body = body} {other = other} x test block els is) =
         subst StatementHasWords (sym is) (choice_words e body other (expression_words test.2.1) (block_words block) (else_words els))
 
-    else_words : {d : ℕ} {loop : Bool} {i : ℕ} {o : Option Block} {j : ℕ} → IsElse line ts limit d loop i o j → ElseHasWords o
+    else_words : {d : ℕ} {loop : Bool} {i : ℕ} {o : Option Block} {j : ℕ} → IsElse ts limit d loop i o j → ElseHasWords o
     else_words no_else = tt
     else_words (an_else x other) = other_words other
 
-    other_words : {d : ℕ} {loop : Bool} {i : ℕ} {b : Block} {j : ℕ} → IsOther line ts limit d loop i b j → BlockHasWords b
+    other_words : {d : ℕ} {loop : Bool} {i : ℕ} {b : Block} {j : ℕ} → IsOther ts limit d loop i b j → BlockHasWords b
     other_words (a_block b) = block_words b
     other_words (another_if allows f is) = subst BlockHasWords (sym is) (if_words f, tt)
 
-    block_words : {d : ℕ} {loop : Bool} {i : ℕ} {b : Block} {j : ℕ} → IsBlock line ts limit d loop i b j → BlockHasWords b
+    block_words : {d : ℕ} {loop : Bool} {i : ℕ} {b : Block} {j : ℕ} → IsBlock ts limit d loop i b j → BlockHasWords b
     block_words (braces allows left ss right is) = subst BlockHasWords (sym is) (statements_words ss)
 
     statements_words :
-        {d : ℕ} {loop : Bool} {i : ℕ} {ss : List StatementTree} {j : ℕ} → AreStatements line ts limit d loop i ss j →
+        {d : ℕ} {loop : Bool} {i : ℕ} {ss : List StatementTree} {j : ℕ} → AreStatements ts limit d loop i ss j →
         BlockHasWords (block_of ss)
     statements_words no_statement = tt
     statements_words (a_statement s rest) = (statement_words s, statements_words rest)
 
-  bodies_words : (bs : List BodyTree) (i j : ℕ) → Bodies line ts limit i bs j → AllByRecursion BodyHasWords bs
+  bodies_words : (bs : List BodyTree) (i j : ℕ) → Bodies ts limit i bs j → AllByRecursion BodyHasWords bs
   bodies_words [] i j x = tt
   bodies_words (b ∷ bs) i j x = (subst BlockHasWords (sym x.1.10) (statements_words x.1.12), bodies_words bs x.0 j x.2)
 
 -- each number of a text that is read
 pub text_words : (src : List ℕ) (t : ReadTasks src) → AllByRecursion BodyHasWords t.bodies
 text_words src t =
-    bodies_words (lines_of t.tokens) (kinds_of t.tokens) (length (kinds_of t.tokens)) (cuts_known src 0 t.tokens t.spelled.1) t.bodies 0 (length (kinds_of t.tokens)) t.spelled.2
+    bodies_words (kinds_of t.tokens) (length (kinds_of t.tokens)) (cuts_known src 0 t.tokens t.spelled.1) t.bodies 0 (length (kinds_of t.tokens)) t.spelled.2

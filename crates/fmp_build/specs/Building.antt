@@ -15,13 +15,14 @@ use Rattle.fmp_cfgparse.specs.Configurations.{IsFault}
 use Rattle.fmp_cfgparse.specs.Configured.{ReadConfiguration}
 use Rattle.fmp_tasklang.specs.declared.trees.BodyKind as language
 use Rattle.fmp_tasklang.specs.declared.trees.BodyKind.TheVariants as written
-use Rattle.fmp_tasklang.specs.Reading.{Tasks}
+use Rattle.fmp_tasklang.specs.Grammar.{Bodies}
 use Rattle.fmp_tasklang.specs.Trees.{BodyTree}
 use Rattle.fmp_codegen.specs.declared.headings.Heading.{Heading}
 use Rattle.fmp_codegen.specs.declared.offences.Offence.{Offence}
 use Rattle.fmp_codegen.specs.Compiling.{bodies_offence, compiled, IsAccepted}
 use Rattle.fmp_codegen.specs.Depths.{body_depth}
 use Rattle.fmp_codegen.specs.Entries.{body_place, entries_offence}
+use Rattle.fmp_codegen.specs.Naming.{fault_in}
 use Rattle.fmp_image.specs.declared.heads.BodyHead.{BodyHead}
 use Rattle.fmp_image.specs.declared.heads.BodyKind.{BodyKind}
 use Rattle.fmp_image.specs.declared.heads.BodyKind.TheVariants as kind
@@ -71,7 +72,7 @@ built_heads bodies = map built_head bodies
 pub record ReadTasks (src : List ℕ) : Type 0 where
   pub tokens : List Token
   pub bodies : List BodyTree
-  pub spelled : Spells Tasks src tokens bodies
+  pub spelled : Spells Bodies src tokens bodies
 
 -- the image of tables and bodies
 abbrev pub built_image : SystemTables → List BodyTree → ImageTables
@@ -82,7 +83,7 @@ pub record Builds (cfg src : List ℕ) (i : ImageTables) : Type 0 where
   pub configuration : ReadConfiguration cfg
   pub tasks : ReadTasks src
   pub accepted : IsAccepted configuration.making.tables tasks.bodies
-  pub entered : entries_offence tasks.bodies (entry_uses configuration.tokens configuration.tree) ≡ None
+  pub entered : entries_offence tasks.bodies (entry_uses configuration.tree) ≡ None
   pub image : i ≡ built_image configuration.making.tables tasks.bodies
 
 -- Why two texts build none. The configuration is judged first, its syntax and what it makes; then the syntax of the
@@ -90,15 +91,15 @@ pub record Builds (cfg src : List ℕ) (i : ImageTables) : Type 0 where
 pub data IsBuildFault (cfg src : List ℕ) (f : BuildFault) : Type 0 where
   of_memory : f ≡ build.Memory → IsBuildFault cfg src f
   of_configuration : IsFault cfg f → IsBuildFault cfg src f
-  of_tasks : ReadConfiguration cfg → IsSyntaxFault file.Source Tasks src f → IsBuildFault cfg src f
+  of_tasks : ReadConfiguration cfg → IsSyntaxFault file.Source Bodies src f → IsBuildFault cfg src f
   of_bodies :
       (c : ReadConfiguration cfg) (t : ReadTasks src) (o : Offence) →
       bodies_offence c.making.tables [] t.bodies ≡ Some o →
-      f ≡ build.At file.Source o.line o.why →
+      f ≡ fault_in file.Source t.tokens o →
       IsBuildFault cfg src f
   of_entries :
       (c : ReadConfiguration cfg) (t : ReadTasks src) (o : Offence) →
       IsAccepted c.making.tables t.bodies →
-      entries_offence t.bodies (entry_uses c.tokens c.tree) ≡ Some o →
-      f ≡ build.At file.Configuration o.line o.why →
+      entries_offence t.bodies (entry_uses c.tree) ≡ Some o →
+      f ≡ fault_in file.Configuration c.tokens o →
       IsBuildFault cfg src f

@@ -1,37 +1,35 @@
 -- The bodies that the static APIs of a configuration name.
-use Rattle.std.specs.Prelude.{ℕ, List, [], ◌∷◌, Option, Some, None, slice_get}
+use Rattle.std.specs.Prelude.{ℕ, List, [], ◌∷◌, Option, Some, None}
 use Rattle.std.specs.List.{flat_map}
-use Rattle.fmp_lex.specs.declared.token.Token.{Token}
 use Rattle.fmp_lex.specs.declared.words.Api.{Api}
 use Rattle.fmp_lex.specs.declared.words.Api.TheVariants as api
-use Rattle.fmp_cfgparse.specs.Configurations.{line_of}
 use Rattle.fmp_cfgparse.specs.Trees.{FieldTree, ApiTree, ClassTree, ConfigurationTree}
 use Rattle.fmp_cfgparse.specs.Values.{number_at, name_at, held}
 use Rattle.fmp_tasklang.specs.declared.trees.BodyKind.TheVariants.{Task, Handler}
 use Rattle.fmp_codegen.specs.declared.entries.EntryUse.{EntryUse}
 
--- The entry of a static API with these fields, at this line: CRE_TSK names a task's body and its stack, CRE_CYC and
--- DEF_INH a handler's.
-abbrev pub entry_of : Api → (line : ℕ) → List FieldTree → Option EntryUse
-entry_of api.CreTsk line f =
-    Some (record { line = line; name = name_at f 3; kind = Task; stack = Some (held 4294967295 (number_at f 5)) })
-entry_of api.CreCyc line f = Some (record { line = line; name = name_at f 3; kind = Handler; stack = None })
-entry_of api.DefInh line f = Some (record { line = line; name = name_at f 2; kind = Handler; stack = None })
-entry_of _ line f = None
+-- The entry of a static API with these fields, whose word is this token: CRE_TSK names a task's body and its stack,
+-- CRE_CYC and DEF_INH a handler's.
+abbrev pub entry_of : Api → (at : ℕ) → List FieldTree → Option EntryUse
+entry_of api.CreTsk at f =
+    Some (record { at = at; name = name_at f 3; kind = Task; stack = Some (held 4294967295 (number_at f 5)) })
+entry_of api.CreCyc at f = Some (record { at = at; name = name_at f 3; kind = Handler; stack = None })
+entry_of api.DefInh at f = Some (record { at = at; name = name_at f 2; kind = Handler; stack = None })
+entry_of _ at f = None
 
 -- an entry, if there is one
 abbrev pub alone : Option EntryUse → List EntryUse
 alone None = []
 alone (Some u) = u ∷ []
 
--- the entry of an API, at the line of the API's word
-abbrev pub api_uses : List Token → ApiTree → List EntryUse
-api_uses tokens a = alone (entry_of a.kind (line_of (slice_get tokens a.at)) a.fields)
+-- the entry of an API
+abbrev pub api_uses : ApiTree → List EntryUse
+api_uses a = alone (entry_of a.kind a.at a.fields)
 
 -- the entries that the APIs of a class name, in order of text
-abbrev pub class_uses : List Token → ClassTree → List EntryUse
-class_uses tokens c = flat_map (api_uses tokens) c.apis
+abbrev pub class_uses : ClassTree → List EntryUse
+class_uses c = flat_map api_uses c.apis
 
 -- the entries that the APIs of a configuration name, in order of text
-abbrev pub entry_uses : List Token → ConfigurationTree → List EntryUse
-entry_uses tokens tree = flat_map (class_uses tokens) tree.classes
+abbrev pub entry_uses : ConfigurationTree → List EntryUse
+entry_uses tree = flat_map class_uses tree.classes

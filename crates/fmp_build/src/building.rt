@@ -45,8 +45,8 @@ pub fn build(alloc: Global, cfg: &[u8], src: &[u8]) -> Result<Image, BuildFault>
     let configured = read_configuration(alloc, cfg)?;
     let text = compile_text(alloc, src, &configured.system)?;
     let parsed = &configured.parsed;
-    let entries = entry_uses(alloc, &parsed.list.tokens, &parsed.tree)?;
-    check_headings(&text.headings, &entries)?;
+    let entries = entry_uses(alloc, &parsed.tree)?;
+    check_headings(&parsed.list.tokens, &text.headings, &entries)?;
     what_is_built_is_an_image();
     Ok(image_of(alloc, configured.system, text)?)
 }

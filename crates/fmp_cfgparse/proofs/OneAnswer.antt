@@ -10,13 +10,13 @@ use Rattle.fmp_lex.specs.declared.reading.GrammarFault.{GrammarFault}
 use Rattle.fmp_lex.specs.declared.reading.GrammarFault.TheVariants.{Syntax, Depth}
 use Rattle.fmp_lex.specs.declared.token.Token.{Token}
 use Rattle.fmp_lex.specs.declared.token.TokenKind.{TokenKind}
-use Rattle.fmp_lex.specs.Cutting.{end_line_of}
-use Rattle.fmp_lex.specs.Faults.{Spells, IsSyntaxFault, fault_of}
+use Rattle.fmp_lex.specs.Faults.{Spells, IsSyntaxFault, fault_of, offence_fault}
+use Rattle.fmp_lex.specs.Places.{text_end}
 use Rattle.fmp_lex.specs.Reading.{Rel, kinds_of, IsWhole, Begins, IsFirstFault}
 use Rattle.fmp_lex.proofs.Sequences.{Framed}
 use Rattle.fmp_lex.proofs.Unique.{cuts_unique}
 use Rattle.fmp_cfgparse.specs.Apis.{Making}
-use Rattle.fmp_cfgparse.specs.Configurations.{Describes, IsOffence, IsFault, offence_fault}
+use Rattle.fmp_cfgparse.specs.Configurations.{Describes, IsOffence, IsFault}
 use Rattle.fmp_cfgparse.specs.Configuring.{Offence, configured}
 use Rattle.fmp_cfgparse.specs.Grammar.{Config}
 use Rattle.fmp_cfgparse.specs.Laws.{HasOneAnswer}
@@ -63,10 +63,10 @@ module _ {A : Type 0} (X : Rel A) (framed : Framed X) where
   not_whole ts j Depth a f x = f.3 a x
 
 abbrev pub Faulty : List ℕ → BuildFault → Type 0
-Faulty = IsSyntaxFault file.Configuration (λ ts. Config)
+Faulty = IsSyntaxFault file.Configuration Config
 
 abbrev pub Spelled : List ℕ → List Token → ConfigurationTree → Type 0
-Spelled = Spells (λ ts. Config)
+Spelled = Spells Config
 
 pub one_spelled : (text : List ℕ) (ts us : List Token) (t u : ConfigurationTree) → Spelled text ts t → Spelled text us u → (us ≡ ts) × (u ≡ t)
 one_spelled text ts us t u x y =
@@ -89,15 +89,15 @@ one_faulty text f g (inr a) (inr b) =
     let same = cuts_unique text 0 y.0 x.0 y.1 x.1 in
     let first = subst (λ zs. IsFirstFault Config (kinds_of zs) y.2 y.3) same y.4 in
     let one = one_first Config config_framed (kinds_of x.0) x.2 y.2 x.3 y.3 x.4 first in
-    x.5 ∙ (ap₂ (λ j why. fault_of file.Configuration (end_line_of text) (slice_get x.0 j) why) one.0 one.1 ∙
-    (ap (λ zs. fault_of file.Configuration (end_line_of text) (slice_get zs y.2) y.3) (sym same) ∙ sym y.5))
+    x.5 ∙ (ap₂ (λ j why. fault_of file.Configuration (text_end text) (slice_get x.0 j) why) one.0 one.1 ∙
+    (ap (λ zs. fault_of file.Configuration (text_end text) (slice_get zs y.2) y.3) (sym same) ∙ sym y.5))
 
 one_offence : (text : List ℕ) (f g : BuildFault) → IsOffence text f → IsOffence text g → f ≡ g
 one_offence text f g x y =
     let one = one_spelled text x.0 y.0 x.1 y.1 x.2 y.2 in
     let both : ◌≡◌ {A = Result Making Offence} (Err y.3) (Err x.3) = sym y.4 ∙ (ap configured one.1 ∙ x.4) in
     let same : x.3 ≡ y.3 = cc in
-    x.5 ∙ (ap₂ (λ ts (o : Offence). offence_fault (slice_get ts o.at) o.why) (sym one.0) same ∙ sym y.5)
+    x.5 ∙ (ap₂ (λ ts (o : Offence). offence_fault file.Configuration (slice_get ts o.at) o.why) (sym one.0) same ∙ sym y.5)
 
 one_fault : (text : List ℕ) (f g : BuildFault) → IsFault text f → IsFault text g → f ≡ g
 one_fault text f g (inl a) (inl b) = one_faulty text f g a b

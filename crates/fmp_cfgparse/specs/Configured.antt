@@ -13,7 +13,7 @@ use Rattle.fmp_cfgparse.specs.Trees.{ConfigurationTree, configuration_view}
 pub record ReadConfiguration (cfg : List ℕ) : Type 0 where
   pub tokens : List Token
   pub tree : ConfigurationTree
-  pub spelled : Spells (λ ts. Config) cfg tokens tree
+  pub spelled : Spells Config cfg tokens tree
   pub making : Making
   pub makes : configured tree ≡ Ok making
 

@@ -10,6 +10,6 @@ use Rattle.fmp_cfgparse.specs.Trees.{configuration_view}
 
 -- the answer of the first pass
 abbrev pub IsParse : List ℕ → Result Parsed BuildFault → Type 0
-IsParse text (Ok p) = Spells (λ ts. Config) text p.list.tokens (configuration_view p.tree)
+IsParse text (Ok p) = Spells Config text p.list.tokens (configuration_view p.tree)
 IsParse text (Err build.Memory) = Unit {0}
-IsParse text (Err (build.At f line why)) = IsSyntaxFault file.Configuration (λ ts. Config) text (build.At f line why)
+IsParse text (Err (build.At f place why)) = IsSyntaxFault file.Configuration Config text (build.At f place why)

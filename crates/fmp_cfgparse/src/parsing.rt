@@ -3,7 +3,7 @@ ghost use Rattle.fmp_cfgparse.specs.Parsing.{IsParse};
 
 use crate::syntax::read_tree;
 use crate::tree::Configuration;
-use fmp_lex::{BuildFault, FaultKind, ReadError, TextFault, TextFile, TokenList, fault_at, tokens};
+use fmp_lex::{BuildFault, ReadError, TextFault, TextFile, TokenList, fault_at, tokens, too_long};
 use std::alloc::Global;
 
 /// The tokens of a text and the tree that they spell.
@@ -25,11 +25,7 @@ pub fn parse<'a>(alloc: Global, text: &'a [u8]) -> Result<Parsed<'a>, BuildFault
             Err(ReadError::Memory) => Err(BuildFault::Memory),
             Err(ReadError::Fault(fault)) => Err(fault_at(&list, TextFile::Configuration, fault)),
         },
-        Err(TextFault::TooLong) => Err(BuildFault::At(
-            TextFile::Configuration,
-            1,
-            FaultKind::Limit,
-        )),
+        Err(TextFault::TooLong) => Err(too_long(TextFile::Configuration)),
         Err(TextFault::Memory) => Err(BuildFault::Memory),
     }
 }

@@ -1,7 +1,7 @@
 //! From the bytes of a configuration to its system.
-ghost use Rattle.std.specs.Prelude.{◌≡◌, slice_get, Err, IfOk, IfErr};
+ghost use Rattle.std.specs.Prelude.{Err, IfOk, IfErr};
 ghost use Rattle.fmp_base.specs.Systems.{tables_of};
-ghost use Rattle.fmp_cfgparse.specs.Configurations.{IsRead, line_of, offence_fault};
+ghost use Rattle.fmp_cfgparse.specs.Configurations.{IsRead};
 ghost use Rattle.fmp_cfgparse.specs.Configured.{Reads};
 ghost use Rattle.fmp_cfgparse.specs.Tables.{IsConfiguration};
 
@@ -9,7 +9,7 @@ use crate::configuring::configure;
 use crate::objects::Stop;
 use crate::parsing::{Parsed, parse};
 use fmp_base::System;
-use fmp_lex::{BuildFault, FaultKind, TextFile, Tokens};
+use fmp_lex::{BuildFault, TextFile, offence_at};
 use std::alloc::Global;
 
 /// A configuration that is read: its tokens, its tree, and the system that it makes.
@@ -19,27 +19,11 @@ pub struct Configured<'a> {
     pub system: System,
 }
 
-/// The line of the token at a place, 1 where there is none.
-pub fn line_at(tokens: &Tokens<'_>, at: usize) -> u32
-    ensures { result ≡ line_of (slice_get tokens.now at) }
-{
-    match tokens.line(at) {
-        Some(line) => line,
-        None => 1,
-    }
-}
-
-fn fault_at(tokens: &Tokens<'_>, at: usize, why: FaultKind) -> BuildFault
-    ensures { result ≡ offence_fault (slice_get tokens.now at) why }
-{
-    BuildFault::At(TextFile::Configuration, line_at(tokens, at), why)
-}
-
 /// A configuration with the system that it describes (uITRON 4.0, static APIs), or its first fault.
 ///
 /// The text has at most 1,048,576 bytes. Faults of syntax come first: B1 or B5 at the first token that no configuration
 /// has in its place, or B1 at the end of the text. Then, in order of text, B5 for a number of processors other than 1
-/// to 8, B3 for an unknown class, and at each static API, with the line of its word, B5 for the 256th of its kind, B2
+/// to 8, B3 for an unknown class, and at each static API, with the place of its word, B5 for the 256th of its kind, B2
 /// for a name that is used, B3 for an unknown constant, and B4 with the code that it answers. `Memory` where an
 /// allocation is refused. The tables of the system are in range, and no name and no interrupt number stands twice.
 pub fn read_configuration<'a>(alloc: Global, text: &'a [u8]) -> Result<Configured<'a>, BuildFault>
@@ -54,7 +38,12 @@ pub fn read_configuration<'a>(alloc: Global, text: &'a [u8]) -> Result<Configure
                 system: making.system,
             }),
             Err(Stop::Memory) => Err(BuildFault::Memory),
-            Err(Stop::Fault(at, why)) => Err(fault_at(&parsed.list.tokens, at, why)),
+            Err(Stop::Fault(at, why)) => Err(offence_at(
+                &parsed.list.tokens,
+                TextFile::Configuration,
+                at,
+                why,
+            )),
         },
         Err(fault) => Err(fault),
     }

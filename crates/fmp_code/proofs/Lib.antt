@@ -1,6 +1,7 @@
 pub mod Bodies
 pub mod CallsMade
 pub mod Conjunctions
+pub mod Fetching
 pub mod Filling
 pub mod Frames
 pub mod OperandLists

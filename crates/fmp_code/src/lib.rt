@@ -12,7 +12,9 @@ mod machine;
 mod operands;
 pub mod operators;
 mod registers;
+mod source;
 mod table;
+mod verified;
 mod verifier;
 mod vm;
 

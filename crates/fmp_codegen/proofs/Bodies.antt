@@ -49,9 +49,9 @@ body-accepted tables names body h =
     let uses = uses_offence (scope_of tables body) (block_uses body.statements) in
     let variables = variables_offence tables (exinf_name ∷ []) body.variables in
     let after = first_offence uses (size_offence body) in
-    let twice : Offence = record { line = body.name.line; why = fault.TwiceNamed } in
+    let twice : Offence = record { at = body.name.at; why = fault.TwiceNamed } in
     let named = if is_among body.name.name names then Some twice else first_offence variables after in
-    let many : Offence = record { line = body.line; why = fault.Limit } in
+    let many : Offence = record { at = body.at; why = fault.Limit } in
     let all = skips (is_among body.name.name names) twice (first_offence variables after) (skips (nat_le 255 (length names)) many named h) in
     let rest = none-second variables after all in
     record {

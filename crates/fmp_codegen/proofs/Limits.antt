@@ -22,8 +22,8 @@ use Rattle.fmp_codegen.proofs.VerifiedBodies.{not-taken, is_small}
 -- a body without a fault is no 256th
 not-last : (tables : SystemTables) (names : List Name) (body : BodyTree) → body_offence tables names body ≡ None → length names < 255
 not-last tables names body h =
-    let limit : Offence = record { line = body.line; why = fault.Limit } in
-    let twice : Offence = record { line = body.name.line; why = fault.TwiceNamed } in
+    let limit : Offence = record { at = body.at; why = fault.Limit } in
+    let twice : Offence = record { at = body.name.at; why = fault.TwiceNamed } in
     let uses = uses_offence (scope_of tables body) (block_uses body.statements) in
     let after = first_offence (variables_offence tables (exinf_name ∷ []) body.variables) (first_offence uses (size_offence body)) in
     let rest = if is_among body.name.name names then Some twice else after in

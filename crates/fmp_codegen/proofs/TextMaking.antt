@@ -16,12 +16,14 @@ use Rattle.fmp_lex.specs.declared.token.TextFault.TheVariants as text_fault
 use Rattle.fmp_lex.specs.declared.token.Token.{Token}
 use Rattle.fmp_lex.specs.declared.token.TokenKind.{TokenKind}
 use Rattle.fmp_lex.specs.declared.token.TokenList.{TokenList}
-use Rattle.fmp_lex.specs.Cutting.{Cuts, end_line_of}
+use Rattle.fmp_lex.specs.declared.place.Place.{Place}
+use Rattle.fmp_lex.specs.Cutting.{Cuts}
 use Rattle.fmp_lex.specs.Faults.{Spells, text_max, fault_of, IsSyntaxFault}
+use Rattle.fmp_lex.specs.Places.{text_end}
 use Rattle.fmp_lex.specs.Reading.{Outcome, stopped, Answers, kinds_of, IsFirstFault}
 use Rattle.fmp_lex.proofs.Wholes.{whole_stopped}
 use Rattle.fmp_tasklang.specs.Grammar.{Bodies}
-use Rattle.fmp_tasklang.specs.Reading.{EndsBodies, RightBodies, Tasks}
+use Rattle.fmp_tasklang.specs.Reading.{EndsBodies, RightBodies}
 use Rattle.fmp_tasklang.specs.Views.{body_view}
 use Rattle.fmp_tasklang.proofs.BodyPaths.{ends_there}
 use Rattle.fmp_tasklang.specs.Trees.{BodyTree}
@@ -107,38 +109,38 @@ module _ (tables : SystemTables) (bodies : List BodyTree) (b : BodyTree) where
 
 -- what the reader of a body answered, handed on
 pub read-error :
-    (tables : SystemTables) (line : ℕ → ℕ) (ts : List TokenKind) (e : ReadError) (P : Outcome BodyTree → Type 0) →
-    ((j : ℕ) (why : GrammarFault) → P (stopped j why) → RightBodies line ts 0 (stopped j why)) →
-    Answers body_view (Err e) P → IsMadeUpTo tables line ts (Err e)
-read-error tables line ts Memory P f a = tt
-read-error tables line ts (Fault e) P f a = f e.at e.why a
+    (tables : SystemTables) (ts : List TokenKind) (e : ReadError) (P : Outcome BodyTree → Type 0) →
+    ((j : ℕ) (why : GrammarFault) → P (stopped j why) → RightBodies ts 0 (stopped j why)) →
+    Answers body_view (Err e) P → IsMadeUpTo tables ts (Err e)
+read-error tables ts Memory P f a = tt
+read-error tables ts (Fault e) P f a = f e.at e.why a
 
 pub made-stopped :
-    (tables : SystemTables) (line : ℕ → ℕ) (ts : List TokenKind) (e : ReadError) → IsMadeUpTo tables line ts (Err e) →
-    IsMadeOf tables line ts (Err e)
-made-stopped tables line ts Memory a = tt
-made-stopped tables line ts (Fault f) a = whole_stopped (Bodies line) EndsBodies (ends_there line) ts f.at f.why a
+    (tables : SystemTables) (ts : List TokenKind) (e : ReadError) → IsMadeUpTo tables ts (Err e) →
+    IsMadeOf tables ts (Err e)
+made-stopped tables ts Memory a = tt
+made-stopped tables ts (Fault f) a = whole_stopped Bodies EndsBodies ends_there ts f.at f.why a
 
 -- what is answered of the bodies that a text spells
-module _ (tables : SystemTables) (made : Made) (bodies : List BodyTree) (are : AreMade tables made bodies) where
-  pub text-few : (r : Result CompiledText BuildFault) → MadeText made r → IfOk r (λ c. length c.headings.items ≤ 255)
+module _ (tables : SystemTables) (made : Made) (bodies : List BodyTree) (are : AreMade tables made bodies) (ts : List Token) where
+  pub text-few : (r : Result CompiledText BuildFault) → MadeText ts made r → IfOk r (λ c. length c.headings.items ≤ 255)
   text-few (Ok c) h =
       let few = few-bodies tables bodies (sym are.offence ∙ h.0) in
       let long : length c.headings.items ≡ length bodies = ap length (h.1 ∙ are.headings h.0) ∙ length-headed bodies in
       omega (arith, few, long)
   text-few (Err f) h = tt
 
-  pub text-low : (r : Result CompiledText BuildFault) → MadeText made r → IfOk r (λ c. AllByRecursion (λ (h : Heading). h.depth ≤ 64) c.headings.items)
+  pub text-low : (r : Result CompiledText BuildFault) → MadeText ts made r → IfOk r (λ c. AllByRecursion (λ (h : Heading). h.depth ≤ 64) c.headings.items)
   text-low (Ok c) h = low-headed tables bodies c.headings.items (sym are.offence ∙ h.0) (h.1 ∙ are.headings h.0)
   text-low (Err f) h = tt
 
   pub text-compiled :
-      (text : List ℕ) (ts : List Token) → Spells Tasks text ts bodies → (r : Result CompiledText BuildFault) → MadeText made r →
+      (text : List ℕ) → Spells Bodies text ts bodies → (r : Result CompiledText BuildFault) → MadeText ts made r →
       IsTextCompiled tables text r
-  text-compiled text ts spelled (Ok c) h =
+  text-compiled text spelled (Ok c) h =
       (ts, bodies, spelled, sym are.offence ∙ h.0, h.1 ∙ are.headings h.0, h.2 ∙ are.code h.0)
-  text-compiled text ts spelled (Err build.Memory) h = tt
-  text-compiled text ts spelled (Err (build.At f line why)) h = inr (h.0, ts, bodies, spelled, sym are.offence ∙ h.1)
+  text-compiled text spelled (Err build.Memory) h = tt
+  text-compiled text spelled (Err (build.At f place why)) h = inr (ts, bodies, spelled, h.0, sym are.offence ∙ h.1, h.2)
 
 pub not_long : (text : List ℕ) (list : TokenList) → ((Ok list ≡ Err text_fault.TooLong) ↔ (text_max < length text)) → length text ≤ text_max
 not_long text list h = elim (cases_lt text_max (length text)) [
@@ -146,15 +148,15 @@ not_long text list h = elim (cases_lt text_max (length text)) [
   | inr le ↦ le
 ]
 
-text-fault : (tables : SystemTables) (text : List ℕ) (f : BuildFault) → IsSyntaxFault file.Source Tasks text f → IsTextCompiled tables text (Err f)
+text-fault : (tables : SystemTables) (text : List ℕ) (f : BuildFault) → IsSyntaxFault file.Source Bodies text f → IsTextCompiled tables text (Err f)
 text-fault tables text build.Memory x = tt
-text-fault tables text (build.At f line why) x = inl x
+text-fault tables text (build.At f place why) x = inl x
 
-pub text-stopped : (tables : SystemTables) (text : List ℕ) (ts : List Token) (j end_line : ℕ) (why : GrammarFault) (f : BuildFault) → length text ≤ text_max →
-    Cuts text 0 ts → IsFirstFault (Tasks ts) (kinds_of ts) j why → end_line ≡ end_line_of text → f ≡ fault_of file.Source end_line (slice_get ts j) why →
+pub text-stopped : (tables : SystemTables) (text : List ℕ) (ts : List Token) (j : ℕ) (end : Place) (why : GrammarFault) (f : BuildFault) → length text ≤ text_max →
+    Cuts text 0 ts → IsFirstFault Bodies (kinds_of ts) j why → end ≡ text_end text → f ≡ fault_of file.Source end (slice_get ts j) why →
     IsTextCompiled tables text (Err f)
-text-stopped tables text ts j end_line why f short cut first line is =
-    text-fault tables text f (inr (short, (ts, cut, j, why, first, is ∙ ap (λ n. fault_of file.Source n (slice_get ts j) why) line)))
+text-stopped tables text ts j end why f short cut first there is =
+    text-fault tables text f (inr (short, (ts, cut, j, why, first, is ∙ ap (λ p. fault_of file.Source p (slice_get ts j) why) there)))
 
 pub some-there : (o : Option Offence) → is_some o ≡ true → (x : Offence) × (o ≡ Some x)
 some-there None h = absurd (cc)

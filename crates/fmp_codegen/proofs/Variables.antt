@@ -29,7 +29,7 @@ among-cons n m ns =
     ∙ some-raised (bytes_eq (name_text n) (name_text m)) (place_of (name_text n) ns)
 
 abbrev pub no_word : Word
-no_word = record { name = record { length = 0; bytes = [] }; line = 0 }
+no_word = record { name = record { length = 0; bytes = [] }; at = 0 }
 
 both-false : (a b c : Bool) → a ≡ false → b ≡ false → c ≡ false → ((a || b) || c) ≡ false
 both-false a b c p q r = ap (λ t. (t || b) || c) p ∙ ap (λ t. t || c) q ∙ r
@@ -50,12 +50,12 @@ module _ (tables : SystemTables) (vars : List Word) (i : ℕ) (w : Word) (within
 
   unrolled :
       judged i ≡
-      (if many then Some (record { line = w.line; why = fault.Limit })
-      else (if twice then Some (record { line = w.line; why = fault.TwiceNamed }) else judged (i + 1)))
+      (if many then Some (record { at = w.at; why = fault.Limit })
+      else (if twice then Some (record { at = w.at; why = fault.TwiceNamed }) else judged (i + 1)))
   unrolled =
       ap (variables_offence tables (locals_before i)) (drop-step vars i w within is)
-      ∙ ap (λ ns. if many then Some (record { line = w.line; why = fault.Limit })
-      else (if twice then Some (record { line = w.line; why = fault.TwiceNamed })
+      ∙ ap (λ ns. if many then Some (record { at = w.at; why = fault.Limit })
+      else (if twice then Some (record { at = w.at; why = fault.TwiceNamed })
       else variables_offence tables (exinf_name ∷ ns) (drop (i + 1) vars)))
       (sym (take-step (λ (v : Word). v.name) vars i w within is))
 
@@ -75,6 +75,6 @@ module _ (tables : SystemTables) (vars : List Word) (i : ℕ) (w : Word) (within
       ap (λ t. t || is_object tables w.name) (among-cons w.name exinf_name (map (λ (v : Word). v.name) (take i vars)))
       ∙ both-false _ _ _ first among object in
       sym (unrolled
-      ∙ ap (λ t. if t then Some (record { line = w.line; why = fault.Limit }) else (if twice then Some (record { line = w.line; why = fault.TwiceNamed }) else judged (i + 1))) (few h)
-      ∙ ap (λ t. if t then Some (record { line = w.line; why = fault.TwiceNamed }) else judged (i + 1)) other)
+      ∙ ap (λ t. if t then Some (record { at = w.at; why = fault.Limit }) else (if twice then Some (record { at = w.at; why = fault.TwiceNamed }) else judged (i + 1))) (few h)
+      ∙ ap (λ t. if t then Some (record { at = w.at; why = fault.TwiceNamed }) else judged (i + 1)) other)
       ∙ before

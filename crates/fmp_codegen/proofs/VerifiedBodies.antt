@@ -38,8 +38,8 @@ few_locals :
     length names ≤ 64 → length names + length ws ≤ 64
 few_locals tables names [] h le = omega (arith, le)
 few_locals tables names (w ∷ ws) h le =
-    let limit : Offence = record { line = w.line; why = fault.Limit } in
-    let twice : Offence = record { line = w.line; why = fault.TwiceNamed } in
+    let limit : Offence = record { at = w.at; why = fault.Limit } in
+    let twice : Offence = record { at = w.at; why = fault.TwiceNamed } in
     let more = variables_offence tables (names ++ w.name ∷ []) ws in
     let test = is_among w.name names || is_object tables w.name in
     let rest = if test then Some twice else more in
@@ -58,7 +58,7 @@ pub record Small (body : BodyTree) : Type 0 where
 
 pub is_small : (body : BodyTree) → size_offence body ≡ None → Small body
 is_small body h =
-    let limit : Offence = record { line = body.line; why = fault.Limit } in
+    let limit : Offence = record { at = body.at; why = fault.Limit } in
     let tests = or-false (nat_lt 65535 (body_size body)) (nat_lt 64 (body_depth body))
     (not-taken (nat_lt 65535 (body_size body) || nat_lt 64 (body_depth body)) limit None h) in
     record { size = ltb-false 65535 (body_size body) tests.0; depth = ltb-false 64 (body_depth body) tests.1 }

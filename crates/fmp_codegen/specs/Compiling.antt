@@ -7,6 +7,7 @@ use Rattle.fmp_lex.specs.declared.fault.BuildFault.{BuildFault}
 use Rattle.fmp_lex.specs.declared.fault.BuildFault.TheVariants as build
 use Rattle.fmp_lex.specs.declared.fault.FaultKind.TheVariants as fault
 use Rattle.fmp_lex.specs.declared.fault.TextFile.TheVariants as file
+use Rattle.fmp_lex.specs.declared.token.Token.{Token}
 use Rattle.fmp_tasklang.specs.declared.trees.Word.{Word}
 use Rattle.fmp_tasklang.specs.Trees.{BodyTree}
 use Rattle.fmp_tasklang.specs.Scopes.{place_of, object_number, object_names, exinf_name, scope_of}
@@ -15,7 +16,7 @@ use Rattle.fmp_code.specs.Instructions.{BodyTables, code_tables}
 use Rattle.fmp_codegen.specs.Depths.{body_depth}
 use Rattle.fmp_codegen.specs.DepthTables.{body_depths}
 use Rattle.fmp_codegen.specs.declared.offences.Offence.{Offence}
-use Rattle.fmp_codegen.specs.Naming.{first_offence, uses_offence, block_uses, reads}
+use Rattle.fmp_codegen.specs.Naming.{fault_in, first_offence, uses_offence, block_uses, reads}
 use Rattle.fmp_codegen.specs.Scheme.{body_code}
 use Rattle.fmp_codegen.specs.Sizes.{body_size}
 
@@ -31,9 +32,9 @@ is_object tables name = reads (object_number (name_text name) (object_names tabl
 abbrev pub variables_offence : SystemTables → List Name → List Word → Option Offence
 variables_offence tables locals [] = None
 variables_offence tables locals (w ∷ ws) =
-    if nat_le 64 (length locals) then Some (record { line = w.line; why = fault.Limit })
+    if nat_le 64 (length locals) then Some (record { at = w.at; why = fault.Limit })
     else (if is_among w.name locals || is_object tables w.name then Some (record {
-      line = w.line;
+      at = w.at;
       why = fault.TwiceNamed;
     })
     else variables_offence tables (locals ++ w.name ∷ []) ws)
@@ -42,15 +43,15 @@ variables_offence tables locals (w ∷ ws) =
 abbrev pub size_offence : BodyTree → Option Offence
 size_offence body =
     if nat_lt 65535 (body_size body) || nat_lt 64 (body_depth body)
-    then Some (record { line = body.line; why = fault.Limit })
+    then Some (record { at = body.at; why = fault.Limit })
     else None
 
 -- the first fault of a body, after bodies of these names: the 256th, a name of another body, then those of its
 -- variables, of the names that it uses, and of its size
 abbrev pub body_offence : SystemTables → List Name → BodyTree → Option Offence
 body_offence tables names body =
-    if nat_le 255 (length names) then Some (record { line = body.line; why = fault.Limit })
-    else (if is_among body.name.name names then Some (record { line = body.name.line; why = fault.TwiceNamed })
+    if nat_le 255 (length names) then Some (record { at = body.at; why = fault.Limit })
+    else (if is_among body.name.name names then Some (record { at = body.name.at; why = fault.TwiceNamed })
     else first_offence (variables_offence tables (exinf_name ∷ []) body.variables)
     (first_offence (uses_offence (scope_of tables body) (block_uses body.statements)) (size_offence body)))
 
@@ -73,9 +74,10 @@ compiled tables bodies = map (compiled_body tables) bodies
 abbrev pub IsAccepted : SystemTables → List BodyTree → Type 0
 IsAccepted tables bodies = bodies_offence tables [] bodies ≡ None
 
--- what compiling answers: the code of bodies without a fault, or the first fault
-abbrev pub IsCompiled : SystemTables → List BodyTree → Result declared.Code BuildFault → Type 0
-IsCompiled tables bodies (Ok code) = IsAccepted tables bodies × (code_tables code ≡ compiled tables bodies)
-IsCompiled tables bodies (Err build.Memory) = Unit {0}
-IsCompiled tables bodies (Err (build.At f line why)) =
-    (f ≡ file.Source) × (bodies_offence tables [] bodies ≡ Some (record { line = line; why = why }))
+-- what compiling answers: the code of bodies without a fault, or the first fault, where these are the tokens of the
+-- text
+abbrev pub IsCompiled : SystemTables → List Token → List BodyTree → Result declared.Code BuildFault → Type 0
+IsCompiled tables ts bodies (Ok code) = IsAccepted tables bodies × (code_tables code ≡ compiled tables bodies)
+IsCompiled tables ts bodies (Err build.Memory) = Unit {0}
+IsCompiled tables ts bodies (Err (build.At f place why)) =
+    (o : Offence) × (bodies_offence tables [] bodies ≡ Some o) × (build.At f place why ≡ fault_in file.Source ts o)

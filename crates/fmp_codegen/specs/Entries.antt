@@ -7,6 +7,7 @@ use Rattle.fmp_lex.specs.declared.fault.BuildFault.TheVariants as build
 use Rattle.fmp_lex.specs.declared.fault.FaultKind.{FaultKind}
 use Rattle.fmp_lex.specs.declared.fault.FaultKind.TheVariants as fault
 use Rattle.fmp_lex.specs.declared.fault.TextFile.TheVariants as file
+use Rattle.fmp_lex.specs.declared.token.Token.{Token}
 use Rattle.fmp_tasklang.specs.declared.trees.BodyKind.{BodyKind}
 use Rattle.fmp_tasklang.specs.declared.trees.BodyKind.TheVariants.{Task, Handler}
 use Rattle.fmp_tasklang.specs.Trees.{BodyTree}
@@ -15,7 +16,7 @@ use Rattle.fmp_tasklang.specs.Texts.{body_at}
 use Rattle.fmp_codegen.specs.declared.entries.EntryUse.{EntryUse}
 use Rattle.fmp_codegen.specs.declared.offences.Offence.{Offence}
 use Rattle.fmp_codegen.specs.Depths.{body_depth}
-use Rattle.fmp_codegen.specs.Naming.{first_offence}
+use Rattle.fmp_codegen.specs.Naming.{fault_in, first_offence}
 
 -- the place of the body of a name
 abbrev pub body_place : List BodyTree → Name → Option ℕ
@@ -42,19 +43,20 @@ abbrev pub entry_fault : List BodyTree → EntryUse → Option ℕ → Option Fa
 entry_fault bodies u None = Some fault.UnknownName
 entry_fault bodies u (Some k) = body_fault u (body_at bodies k)
 
-abbrev pub at_line : ℕ → Option FaultKind → Option Offence
-at_line line None = None
-at_line line (Some why) = Some (record { line = line; why = why })
+-- the fault at this token, if there is one
+abbrev pub at_token : ℕ → Option FaultKind → Option Offence
+at_token at None = None
+at_token at (Some why) = Some (record { at = at; why = why })
 
 -- the first fault of entries, in order of their APIs in the text
 abbrev pub entries_offence : List BodyTree → List EntryUse → Option Offence
 entries_offence bodies [] = None
 entries_offence bodies (u ∷ us) =
-    first_offence (at_line u.line (entry_fault bodies u (body_place bodies u.name))) (entries_offence bodies us)
+    first_offence (at_token u.at (entry_fault bodies u (body_place bodies u.name))) (entries_offence bodies us)
 
--- what checking entries answers: none has a fault, or the first fault
-abbrev pub IsChecked : {R : Type 0} → List BodyTree → List EntryUse → Result R BuildFault → Type 0
-IsChecked bodies entries (Ok r) = entries_offence bodies entries ≡ None
-IsChecked bodies entries (Err build.Memory) = Unit {0}
-IsChecked bodies entries (Err (build.At f line why)) =
-    (f ≡ file.Configuration) × (entries_offence bodies entries ≡ Some (record { line = line; why = why }))
+-- what checking entries answers: none has a fault, or the first fault, where these are the tokens of the configuration
+abbrev pub IsChecked : {R : Type 0} → List Token → List BodyTree → List EntryUse → Result R BuildFault → Type 0
+IsChecked ts bodies entries (Ok r) = entries_offence bodies entries ≡ None
+IsChecked ts bodies entries (Err build.Memory) = Unit {0}
+IsChecked ts bodies entries (Err (build.At f place why)) =
+    (o : Offence) × (entries_offence bodies entries ≡ Some o) × (build.At f place why ≡ fault_in file.Configuration ts o)

@@ -1,12 +1,20 @@
 -- The names that the bodies of a text use, in order of text, and what is wrong with them.
-use Rattle.std.specs.Prelude.{List, [], ◌∷◌, ◌++◌, take, drop, Option, Some, None, Bool, true, false, if◌then◌else◌}
+use Rattle.std.specs.Prelude.{List, [], ◌∷◌, ◌++◌, slice_get, take, drop, Option, Some, None, Bool, true, false, if◌then◌else◌}
 use Rattle.fmp_base.specs.Services.{out_place}
 use Rattle.fmp_base.specs.Systems.{found}
+use Rattle.fmp_lex.specs.declared.fault.BuildFault.{BuildFault}
 use Rattle.fmp_lex.specs.declared.fault.FaultKind.TheVariants as fault
+use Rattle.fmp_lex.specs.declared.fault.TextFile.{TextFile}
+use Rattle.fmp_lex.specs.declared.token.Token.{Token}
+use Rattle.fmp_lex.specs.Faults.{offence_fault}
 use Rattle.fmp_tasklang.specs.declared.trees.Word.{Word}
 use Rattle.fmp_tasklang.specs.Trees.{ExpressionTree, number, named, unary, binary, both, either, CallTree, StatementTree, assign, service_call, if_then, if_else, while, break, continue, return, Block, empty, next}
 use Rattle.fmp_codegen.specs.declared.offences.Offence.{Offence}
 use Rattle.fmp_tasklang.specs.Scopes.{Scope, NameMeaning, Variable, Object, Unknown, meaning_of}
+
+-- the fault of a text that an offence is, where these are the tokens of the text
+abbrev pub fault_in : TextFile → List Token → Offence → BuildFault
+fault_in file ts o = offence_fault file (slice_get ts o.at) o.why
 
 -- the first of two, if there is one
 abbrev pub first_offence : Option Offence → Option Offence → Option Offence
@@ -31,9 +39,9 @@ writes Unknown = false
 -- a name that is read is a variable or an object, one that is written a variable
 abbrev pub use_offence : Scope → NameUse → Option Offence
 use_offence scope (Reads w) =
-    if reads (meaning_of scope w.name) then None else Some (record { line = w.line; why = fault.UnknownName })
+    if reads (meaning_of scope w.name) then None else Some (record { at = w.at; why = fault.UnknownName })
 use_offence scope (Writes w) =
-    if writes (meaning_of scope w.name) then None else Some (record { line = w.line; why = fault.UnknownName })
+    if writes (meaning_of scope w.name) then None else Some (record { at = w.at; why = fault.UnknownName })
 
 -- the first unknown name
 abbrev pub uses_offence : Scope → List NameUse → Option Offence

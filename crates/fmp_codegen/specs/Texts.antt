@@ -11,13 +11,15 @@ use Rattle.fmp_lex.specs.declared.token.TokenKind.{TokenKind}
 use Rattle.fmp_lex.specs.Faults.{Spells, IsSyntaxFault}
 use Rattle.fmp_lex.specs.Reading.{found, stopped, IsWhole, IsFirstFault}
 use Rattle.fmp_tasklang.specs.Grammar.{Bodies}
-use Rattle.fmp_tasklang.specs.Reading.{Tasks, RightBodies}
+use Rattle.fmp_tasklang.specs.Reading.{RightBodies}
 use Rattle.fmp_tasklang.specs.Trees.{BodyTree}
 use Rattle.fmp_code.specs.Instructions.{body_tables, code_tables}
+use Rattle.fmp_codegen.specs.declared.offences.Offence.{Offence}
 use Rattle.fmp_codegen.specs.declared.texts.CompiledText.{CompiledText}
 use Rattle.fmp_codegen.specs.declared.texts.Made.{Made}
 use Rattle.fmp_codegen.specs.Compiling.{bodies_offence, compiled, IsAccepted}
 use Rattle.fmp_codegen.specs.Headings.{AreHeadings}
+use Rattle.fmp_codegen.specs.Naming.{fault_in}
 
 -- after bodies that were read stands their first fault, or else their headings and their code
 pub record AreMade (tables : SystemTables) (made : Made) (bodies : List BodyTree) : Type 0 where
@@ -26,34 +28,33 @@ pub record AreMade (tables : SystemTables) (made : Made) (bodies : List BodyTree
   pub code : made.offence ≡ None → map body_tables made.bodies.items ≡ compiled tables bodies
 
 -- the bodies at the head of the tokens are made, up to a place where none begins, or the first fault stands there
-abbrev pub IsMadeUpTo : SystemTables → (ℕ → ℕ) → List TokenKind → Result (Made × ℕ) ReadError → Type 0
-IsMadeUpTo tables line ts (Ok x) =
-    (bodies : List BodyTree) × AreMade tables x.0 bodies × RightBodies line ts 0 (found bodies x.1)
-IsMadeUpTo tables line ts (Err errors.Memory) = Unit {0}
-IsMadeUpTo tables line ts (Err (errors.Fault f)) = RightBodies line ts 0 (stopped f.at f.why)
+abbrev pub IsMadeUpTo : SystemTables → List TokenKind → Result (Made × ℕ) ReadError → Type 0
+IsMadeUpTo tables ts (Ok x) =
+    (bodies : List BodyTree) × AreMade tables x.0 bodies × RightBodies ts 0 (found bodies x.1)
+IsMadeUpTo tables ts (Err errors.Memory) = Unit {0}
+IsMadeUpTo tables ts (Err (errors.Fault f)) = RightBodies ts 0 (stopped f.at f.why)
 
 -- the bodies that the tokens spell are made, or the first fault stands there
-abbrev pub IsMadeOf : SystemTables → (ℕ → ℕ) → List TokenKind → Result Made ReadError → Type 0
-IsMadeOf tables line ts (Ok made) = (bodies : List BodyTree) × AreMade tables made bodies × IsWhole (Bodies line) ts bodies
-IsMadeOf tables line ts (Err errors.Memory) = Unit {0}
-IsMadeOf tables line ts (Err (errors.Fault f)) = IsFirstFault (Bodies line) ts f.at f.why
+abbrev pub IsMadeOf : SystemTables → List TokenKind → Result Made ReadError → Type 0
+IsMadeOf tables ts (Ok made) = (bodies : List BodyTree) × AreMade tables made bodies × IsWhole Bodies ts bodies
+IsMadeOf tables ts (Err errors.Memory) = Unit {0}
+IsMadeOf tables ts (Err (errors.Fault f)) = IsFirstFault Bodies ts f.at f.why
 
--- the code that is made, or the first fault
-abbrev pub MadeText : Made → Result CompiledText BuildFault → Type 0
-MadeText made (Ok c) =
+-- the code that is made, or the first fault, where these are the tokens of the text
+abbrev pub MadeText : List Token → Made → Result CompiledText BuildFault → Type 0
+MadeText ts made (Ok c) =
     (made.offence ≡ None) × (c.headings.items ≡ made.headings.items)
     × (code_tables c.code ≡ map body_tables made.bodies.items)
-MadeText made (Err build.Memory) = ⊥
-MadeText made (Err (build.At f line why)) = (f ≡ file.Source) × (made.offence ≡ Some (record { line = line; why = why }))
+MadeText ts made (Err f) = (o : Offence) × (made.offence ≡ Some o) × (f ≡ fault_in file.Source ts o)
 
 -- The text spells bodies without a fault, and these are their headings and their code; or this is the first fault of
 -- its syntax, or else of the bodies that it spells.
 abbrev pub IsTextCompiled : SystemTables → List ℕ → Result CompiledText BuildFault → Type 0
 IsTextCompiled tables text (Ok c) =
-    (ts : List Token) × (bodies : List BodyTree) × Spells Tasks text ts bodies × IsAccepted tables bodies ×
+    (ts : List Token) × (bodies : List BodyTree) × Spells Bodies text ts bodies × IsAccepted tables bodies ×
     AreHeadings c.headings.items bodies × (code_tables c.code ≡ compiled tables bodies)
 IsTextCompiled tables text (Err build.Memory) = Unit {0}
-IsTextCompiled tables text (Err (build.At f line why)) =
-    IsSyntaxFault file.Source Tasks text (build.At f line why) ⊎
-    ((f ≡ file.Source) × (ts : List Token) × (bodies : List BodyTree) × Spells Tasks text ts bodies ×
-    (bodies_offence tables [] bodies ≡ Some (record { line = line; why = why })))
+IsTextCompiled tables text (Err (build.At f place why)) =
+    IsSyntaxFault file.Source Bodies text (build.At f place why) ⊎
+    ((ts : List Token) × (bodies : List BodyTree) × Spells Bodies text ts bodies ×
+    (o : Offence) × (bodies_offence tables [] bodies ≡ Some o) × (build.At f place why ≡ fault_in file.Source ts o))

@@ -20,11 +20,11 @@ use crate::emission::{Output, emit_block, put};
 use crate::extents::{Extent, block_extent};
 use crate::names::{HasName, Names, Objects, is_exinf, is_object, place_in};
 use crate::numbers::number_objects;
-use crate::offences::Offence;
+use crate::offences::{Offence, source_fault};
 use crate::uses::block_offence;
 use fmp_base::System;
 use fmp_code::{BodyCode, Code, Instruction};
-use fmp_lex::{BuildFault, FaultKind, TextFile};
+use fmp_lex::{BuildFault, FaultKind, Tokens};
 use fmp_tasklang::{Body, Program, Word};
 use std::alloc::{AllocError, Global};
 
@@ -56,7 +56,7 @@ fn variables_offence(objects: &Objects<'_>, variables: &[Word]) -> Option<Offenc
         let word = variables[i];
         if i >= MOST_VARIABLES {
             return Some(Offence {
-                line: word.line,
+                at: word.at,
                 why: FaultKind::Limit,
             });
         }
@@ -65,7 +65,7 @@ fn variables_offence(objects: &Objects<'_>, variables: &[Word]) -> Option<Offenc
             || is_object(objects, &word.name)
         {
             return Some(Offence {
-                line: word.line,
+                at: word.at,
                 why: FaultKind::TwiceNamed,
             });
         }
@@ -86,7 +86,7 @@ fn extent_of_body(body: &Body) -> Result<Extent, Offence>
     let extent = block_extent(&body.statements);
     if extent.size >= MOST_INSTRUCTIONS || extent.depth > MOST_OPERANDS {
         return Err(Offence {
-            line: body.line,
+            at: body.at,
             why: FaultKind::Limit,
         });
     }
@@ -111,13 +111,13 @@ pub fn judge_body<T: HasName>(
 {
     if earlier.len() >= MOST_BODIES {
         return Err(Offence {
-            line: body.line,
+            at: body.at,
             why: FaultKind::Limit,
         });
     }
     if place_in(earlier, &body.name.name).is_some() {
         return Err(Offence {
-            line: body.name.line,
+            at: body.name.at,
             why: FaultKind::TwiceNamed,
         });
     }
@@ -166,16 +166,21 @@ pub fn compile_body(
     })
 }
 
-/// The code of the bodies of a text, which does what they do.
+/// The code of the bodies of a text, which does what they do. These are the tokens of the text.
 ///
-/// Bodies are judged in order of text. A fault stands at its line of the task text: `Limit` for the 256th body at its
-/// first line, for the 65th local at its name, and for more than 65535 instructions or 64 operands at the body's
-/// first line, after all of its names; `TwiceNamed` for a body with the name of another one, and for a variable with
+/// Bodies are judged in order of text. A fault stands at its token of the task text: `Limit` for the 256th body at its
+/// first word, for the 65th local at its name, and for more than 65535 instructions or 64 operands at the body's
+/// first word, after all of its names; `TwiceNamed` for a body with the name of another one, and for a variable with
 /// the name of another variable, of `exinf` or of an object; `UnknownName` for a name that is neither a variable nor
 /// an object, or is no variable where it is written.
-pub fn compile(alloc: Global, program: &Program, system: &System) -> Result<Code, BuildFault>
+pub fn compile(
+    alloc: Global,
+    tokens: &Tokens<'_>,
+    program: &Program,
+    system: &System,
+) -> Result<Code, BuildFault>
     requires { IsInRange (tables_of system.now) }
-    ensures compiled { IsCompiled (tables_of system.now) (program_view program.now) result }
+    ensures compiled { IsCompiled (tables_of system.now) tokens.now (program_view program.now) result }
     ensures tied { IfOk result (λ code. DoesText (tables_of system.now) (program_view program.now) (code_tables code)) }
     ensures verified { CallsFit (program_view program.now) → IfOk result (λ code. Verified (code_tables code)) }
     ensures few { IfOk result (λ _. length program.now.bodies.items ≤ 255) }
@@ -195,7 +200,7 @@ pub fn compile(alloc: Global, program: &Program, system: &System) -> Result<Code
                 append(&mut bodies, code)?;
             }
             Err(offence) => {
-                return Err(BuildFault::At(TextFile::Source, offence.line, offence.why));
+                return Err(source_fault(tokens, offence));
             }
         }
     }

@@ -11,15 +11,15 @@ use crate::compiling::append;
 use crate::headings::{Heading, heading_of};
 use crate::names::place_in;
 use fmp_base::Name;
-use fmp_lex::{BuildFault, FaultKind, TextFile};
+use fmp_lex::{BuildFault, FaultKind, TextFile, Tokens, offence_at};
 use fmp_tasklang::{BodyKind, Program};
 use std::alloc::Global;
 
 /// The entry of a static API: CRE_TSK, CRE_CYC or DEF_INH.
 #[derive(Clone, Copy, Debug, PartialEq, Eq)]
 pub struct EntryUse {
-    /// The line of the word of the API, from 1.
-    pub line: u32,
+    /// The place of the word of the API in the list of tokens of the configuration.
+    pub at: usize,
     /// The body that it names.
     pub name: Name,
     /// The kind of body that it wants.
@@ -69,30 +69,37 @@ fn entry_fault(headings: &[Heading], entry: &EntryUse) -> Option<FaultKind>
 }
 
 /// Whether the bodies of these headings fit the static APIs that name them, or the first fault, as in `check_entries`.
-pub fn check_headings(headings: &[Heading], entries: &[EntryUse]) -> Result<(), BuildFault>
-    ensures { (bodies : List BodyTree) → AreHeadings headings.now bodies → IsChecked bodies entries.now result }
+pub fn check_headings(
+    tokens: &Tokens<'_>,
+    headings: &[Heading],
+    entries: &[EntryUse],
+) -> Result<(), BuildFault>
+    ensures { (bodies : List BodyTree) → AreHeadings headings.now bodies →
+        IsChecked tokens.now bodies entries.now result }
 {
     for entry in entries {
         if let Some(why) = entry_fault(headings, entry) {
-            return Err(BuildFault::At(TextFile::Configuration, entry.line, why));
+            return Err(offence_at(tokens, TextFile::Configuration, entry.at, why));
         }
     }
     Ok(())
 }
 
-/// Whether the bodies that the static APIs name fit, or the first fault in order of the APIs in the text, at the line
-/// of its API in the configuration: `UnknownName` for an entry that names no body, `WrongEntryKind` for a body of the
-/// other kind, `StackTooSmall` for a task whose stack has fewer than four bytes for each operand of its body.
+/// Whether the bodies that the static APIs name fit, or the first fault in order of the APIs in the text, at the word
+/// of its API among these tokens of the configuration: `UnknownName` for an entry that names no body, `WrongEntryKind`
+/// for a body of the other kind, `StackTooSmall` for a task whose stack has fewer than four bytes for each operand of
+/// its body.
 pub fn check_entries(
     alloc: Global,
+    tokens: &Tokens<'_>,
     program: &Program,
     entries: &[EntryUse],
 ) -> Result<(), BuildFault>
-    ensures { IsChecked (program_view program.now) entries.now result }
+    ensures { IsChecked tokens.now (program_view program.now) entries.now result }
 {
     let mut headings = Vec::new(alloc);
     for body in &program.bodies {
         append(&mut headings, heading_of(body))?;
     }
-    check_headings(&headings, entries)
+    check_headings(tokens, &headings, entries)
 }

@@ -217,7 +217,7 @@ pub fn read_offence(names: &Names<'_>, word: &Word) -> Option<Offence>
         Meaning::Variable(_) => None,
         Meaning::Object(_) => None,
         Meaning::Unknown => Some(Offence {
-            line: word.line,
+            at: word.at,
             why: FaultKind::UnknownName,
         }),
     }
@@ -231,7 +231,7 @@ pub fn write_offence(names: &Names<'_>, word: &Word) -> Option<Offence>
     match meaning_in(names, &word.name) {
         Meaning::Variable(_) => None,
         _ => Some(Offence {
-            line: word.line,
+            at: word.at,
             why: FaultKind::UnknownName,
         }),
     }

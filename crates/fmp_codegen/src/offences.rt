@@ -1,9 +1,19 @@
-//! A fault of a task text beside its line.
-use fmp_lex::FaultKind;
+//! A fault of a task text beside its token.
+ghost use Rattle.std.specs.Prelude.{◌≡◌};
+ghost use Rattle.fmp_codegen.specs.Naming.{fault_in};
 
-/// A fault of the task text and its line, from 1.
+use fmp_lex::{BuildFault, FaultKind, TextFile, Tokens, offence_at};
+
+/// A fault of the task text and the place of its token in the list of tokens.
 #[derive(Clone, Copy, Debug, PartialEq, Eq)]
 pub struct Offence {
-    pub line: u32,
+    pub at: u32,
     pub why: FaultKind,
+}
+
+/// The fault of a task text with these tokens, with the place of its token.
+pub fn source_fault(tokens: &Tokens<'_>, offence: Offence) -> BuildFault
+    ensures { result ≡ fault_in TextFile.Source tokens.now offence }
+{
+    offence_at(tokens, TextFile::Source, offence.at as usize, offence.why)
 }

@@ -6,7 +6,6 @@ ghost use Rattle.std.specs.List.{AllByRecursion};
 ghost use Rattle.fmp_base.specs.Ranges.{IsInRange};
 ghost use Rattle.fmp_base.specs.Systems.{tables_of};
 ghost use Rattle.fmp_lex.specs.Reading.{kinds_of};
-ghost use Rattle.fmp_tasklang.specs.Expressions.{lines_of};
 ghost use Rattle.fmp_tasklang.specs.Trees.{BodyTree};
 ghost use Rattle.fmp_tasklang.specs.Views.{body_view};
 ghost use Rattle.fmp_codegen.specs.Scopes.{HoldsNumbers};
@@ -16,12 +15,12 @@ use crate::compiling::{append, compile_body, judge_body};
 use crate::headings::{Heading, heading_with};
 use crate::names::Objects;
 use crate::numbers::number_objects;
-use crate::offences::Offence;
+use crate::offences::{Offence, source_fault};
 use fmp_base::System;
 use fmp_code::{BodyCode, Code};
 use fmp_lex::{
-    BuildFault, FaultKind, FirstFault, GrammarFault, ReadError, TextFault, TextFile, Tokens,
-    fault_at, tokens,
+    BuildFault, FirstFault, GrammarFault, ReadError, TextFault, TextFile, Tokens, fault_at, tokens,
+    too_long,
 };
 use fmp_tasklang::{Body, body, body_kind_at};
 use std::alloc::{AllocError, Global};
@@ -73,7 +72,7 @@ fn compile_bodies(
     objects: &Objects<'_>,
 ) -> Result<(Made, usize), ReadError>
     requires { HoldsNumbers objects.now }
-    ensures { IsMadeUpTo (tables_of objects.now.system.now) (lines_of tokens.now) (kinds_of tokens.now) result }
+    ensures { IsMadeUpTo (tables_of objects.now.system.now) (kinds_of tokens.now) result }
 {
     let mut made = Made {
         headings: Vec::new(alloc),
@@ -96,7 +95,7 @@ fn compile_tokens(
     objects: &Objects<'_>,
 ) -> Result<Made, ReadError>
     requires { HoldsNumbers objects.now }
-    ensures { IsMadeOf (tables_of objects.now.system.now) (lines_of tokens.now) (kinds_of tokens.now) result }
+    ensures { IsMadeOf (tables_of objects.now.system.now) (kinds_of tokens.now) result }
 {
     let (made, next) = compile_bodies(alloc, tokens, objects)?;
     if next < tokens.len() {
@@ -109,11 +108,11 @@ fn compile_tokens(
 }
 
 /// The code of a text whose bodies were read, or the first fault in them.
-fn answer(made: Made) -> Result<CompiledText, BuildFault>
-    ensures { MadeText made result }
+fn answer(tokens: &Tokens<'_>, made: Made) -> Result<CompiledText, BuildFault>
+    ensures { MadeText tokens.now made result }
 {
     match made.offence {
-        Some(offence) => Err(BuildFault::At(TextFile::Source, offence.line, offence.why)),
+        Some(offence) => Err(source_fault(tokens, offence)),
         None => Ok(CompiledText {
             headings: made.headings,
             code: Code {
@@ -138,11 +137,11 @@ pub fn compile_text(alloc: Global, text: &[u8], system: &System) -> Result<Compi
     };
     match tokens(alloc, text) {
         Ok(list) => match compile_tokens(alloc, &list.tokens, &objects) {
-            Ok(made) => answer(made),
+            Ok(made) => answer(&list.tokens, made),
             Err(ReadError::Memory) => Err(BuildFault::Memory),
             Err(ReadError::Fault(fault)) => Err(fault_at(&list, TextFile::Source, fault)),
         },
-        Err(TextFault::TooLong) => Err(BuildFault::At(TextFile::Source, 1, FaultKind::Limit)),
+        Err(TextFault::TooLong) => Err(too_long(TextFile::Source)),
         Err(TextFault::Memory) => Err(BuildFault::Memory),
     }
 }

@@ -5,8 +5,6 @@
 mod device;
 mod outside;
 mod reading;
-#[cfg(test)]
-mod tests;
 mod writing;
 
 pub use device::{Device, Failed, Sink, Source};

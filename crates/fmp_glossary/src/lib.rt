@@ -2,8 +2,6 @@
 #![tactic(auto)]
 
 mod explanations;
-#[cfg(test)]
-mod tests;
 mod topics;
 
 pub use explanations::explain;

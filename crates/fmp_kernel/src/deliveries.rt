@@ -96,6 +96,7 @@ fn begin_handler<B: Body>(
 
 /// The caller on processor p is told a reply, where its context awaits one.
 #[tactic(auto, using(crate::proofs::ContextLemmas::fits_of, crate::proofs::ContextLemmas::entry_of_context, crate::proofs::ContextLemmas::fitting_set))]
+#[inline(always)]
 fn tell<B: Body>(
     body: &B,
     tables: &Tables,

@@ -159,6 +159,7 @@ impl<B: Body> Runner<B> {
     /// A stretch of the actor of processor p has stopped so, and left what is kept of it: the call, end or fault is
     /// carried out. Where it was over its bound, nothing is.
     #[tactic(auto, using(crate::proofs::HeldLemmas::context_back))]
+    #[inline(always)]
     fn carry_out_stop(&mut self, p: u8, who: Caller, first: &B::Ctx, stop: Stop) -> Effect
         requires there { p < self.old.system.processors }
         requires caller { IsTaskOf self.old.system who }

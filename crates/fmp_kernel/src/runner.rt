@@ -178,6 +178,7 @@ impl<B: Body> Runner<B> {
     }
 
     /// Counts the event that has just been done.
+    #[inline(always)]
     pub fn count(&self, stamps: &mut Stamps)
         requires many { length stamps.old.counts ≡ self.now.system.processors }
         requires rows { length stamps.old.actors ≡ self.now.system.processors }

@@ -101,6 +101,7 @@ impl Stamps {
     }
 
     /// Counts a done event for the processor that it ran, if any, and for each that has another actor now.
+    #[inline(always)]
     pub fn count(&mut self, tables: &Tables, ran: Option<u8>)
         requires many { length self.old.counts ≡ tables.now.system.processors }
         requires rows { length self.old.actors ≡ tables.now.system.processors }

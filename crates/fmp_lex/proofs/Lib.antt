@@ -2,7 +2,6 @@ pub mod Answered
 pub mod Existence
 pub mod FirstBytes
 pub mod Heads
-pub mod Lines
 pub mod Lists
 pub mod Names
 pub mod Packing

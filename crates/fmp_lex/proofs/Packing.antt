@@ -1,13 +1,16 @@
 -- Packed tokens.
-use Rattle.std.proofs.Common.{◌≡◌, ℕ, zero, suc, ◌<◌, List, [], ◌∷◌, ◌++◌, length, map, slice_get, get_or, Some, refl, arith}
+use Rattle.std.proofs.Common.{◌≡◌, ℕ, zero, suc, ◌+◌, ◌<◌, List, [], ◌∷◌, ◌++◌, length, length-append, map, slice_get, get_or, Some, option_map, refl, sym, ap, ◌∙◌, arith}
 use Rattle.std.specs.List.{All}
 use Rattle.std.proofs.lemmas.List.{map-append}
 use Rattle.std.proofs.lemmas.List.Elements.{All-append}
 use Rattle.std.proofs.lemmas.Option.{slice_get-map, slice_get-get_or}
 use Rattle.fmp_lex.specs.declared.packed.Packed.{Packed}
 use Rattle.fmp_lex.specs.declared.packed.Shape.{Shape}
+use Rattle.fmp_lex.specs.declared.place.Place.{Place}
 use Rattle.fmp_lex.specs.declared.token.Token.{Token}
-use Rattle.fmp_lex.specs.Packing.{IsPacked, kind_in, whole_in}
+use Rattle.fmp_lex.specs.Cutting.{Piece, IsPiece, line_at}
+use Rattle.fmp_lex.specs.Packing.{IsPacked, Stands, end_after, kind_in, whole_in}
+use Rattle.fmp_lex.specs.Places.{place_of}
 use Rattle.fmp_lex.specs.Reading.{kind_of, kinds_of}
 
 -- the kind of a token is that of its shape
@@ -21,6 +24,10 @@ pub one_packed : (text : List ℕ) (before after : List Packed) (p : Packed) (t 
     whole_in text p ≡ t → map (whole_in text) after ≡ map (whole_in text) before ++ t ∷ []
 one_packed text before after p t pushed is = rw (pushed, map-append, is) refl
 
+-- it is one longer
+pub one_longer : (before after : List Packed) (p : Packed) → after ≡ before ++ p ∷ [] → length after ≡ length before + 1
+one_longer before after p pushed = ap length pushed ∙ length-append before (p ∷ [])
+
 all_one : {X : Type 0} (P : X → Type 0) (x : X) → P x → All P (x ∷ [])
 all_one P x one zero d lt = one
 all_one P x one (suc k) d lt = absurd (omega arith)
@@ -29,7 +36,31 @@ pub all_packed : (text : List ℕ) (before after : List Packed) (p : Packed) →
     IsPacked text p → All (IsPacked text) after
 all_packed text before after p pushed all one = rw pushed (All-append (IsPacked text) before (p ∷ []) all (all_one (IsPacked text) p one))
 
--- the token of a shape, a line and two places
-pub packed_whole : (text : List ℕ) (p : Packed) (s : Shape) (line i j : ℕ) → p.shape ≡ s → p.line ≡ line → p.start.value ≡ i →
-    p.end.value ≡ j → whole_in text p ≡ record { kind = kind_in text s; line = line; start = i; end = j }
-packed_whole text p s line i j a b c d = rw (a, b, c, d) refl
+-- the token of a shape and two places
+pub packed_whole : (text : List ℕ) (p : Packed) (s : Shape) (i j : ℕ) → p.shape ≡ s → p.start ≡ i →
+    p.end.value ≡ j → whole_in text p ≡ record { kind = kind_in text s; line = line_at text i; start = i; end = j }
+packed_whole text p s i j a b c = rw (a, b, c) refl
+
+-- it is packed where it is a piece of the text
+pub is_packed : (text : List ℕ) (p : Packed) (s : Shape) (i : ℕ) (q : Piece) → p.shape ≡ s → p.start ≡ i → p.end.value ≡ end_after i q →
+    Stands text s → i < length text → IsPiece text i q → IsPacked text p
+is_packed text p s i q a b c stands lt is =
+    (rw a stands, rw b lt, (q, rw b is, rw b c))
+
+-- a token of a list
+pub one_of_all : (text : List ℕ) (ps : List Packed) (k : ℕ) (d p : Packed) → All (IsPacked text) ps → k < length ps → p ≡ get_or ps k d →
+    IsPacked text p
+one_of_all text ps k d p all lt is = rw is (all k d lt)
+
+place_is : (place : Place) (line start end : ℕ) → place.line ≡ line → place.start ≡ start → place.end ≡ end →
+    place ≡ record { line = line; start = start; end = end }
+place_is place line start end a b c = rw (← a, ← b, ← c) refl
+
+-- where it stands
+pub packed_place : (text : List ℕ) (ps : List Packed) (k : ℕ) (d p : Packed) (place : Place) → k < length ps → p ≡ get_or ps k d →
+    IsPacked text p → place.line ≡ line_at text p.start → place.start ≡ p.start →
+    ((q : Piece) → IsPiece text p.start q → place.end ≡ end_after p.start q) → Some place ≡ option_map place_of (slice_get (map (whole_in text) ps) k)
+packed_place text ps k d p place lt is packed line start end =
+    let q = packed.2 in
+    let same = place_is place (line_at text p.start) p.start p.end.value line start (end q.0 q.1 ∙ sym q.2) in
+    rw (slice_get-map (whole_in text) ps k, slice_get-get_or ps k d lt, ← is, same) refl

@@ -11,17 +11,17 @@ use Rattle.fmp_lex.specs.Cutting.{Cuts, ended, token, faulty, line_at, IsPiece}
 abbrev pub Goes : List ℕ → ℕ → List Token → Type 0
 Goes text i before = (ts : List Token) → Cuts text i ts → Cuts text 0 (before ++ ts)
 
-pub one_more : (text : List ℕ) (i end : ℕ) (kind : TokenKind) (line : ℕ) (before after ts : List Token) →
-    after ≡ before ++ record { kind = kind; line = line; start = i; end = end } ∷ [] → line ≡ line_at text i →
+pub one_more : (text : List ℕ) (i end : ℕ) (kind : TokenKind) (before after ts : List Token) →
+    after ≡ before ++ record { kind = kind; line = line_at text i; start = i; end = end } ∷ [] →
     i < length text → IsPiece text i (Whole kind end) → Goes text i before → Cuts text end ts → Cuts text 0 (after ++ ts)
-one_more text i end kind line before after ts pushed at lt is goes d =
-    rw (pushed, at, append_assoc) (goes (record { kind = kind; line = line_at text i; start = i; end = end } ∷ ts) (token i end kind ts lt is d))
+one_more text i end kind before after ts pushed lt is goes d =
+    rw (pushed, append_assoc) (goes (record { kind = kind; line = line_at text i; start = i; end = end } ∷ ts) (token i end kind ts lt is d))
 
-pub fault_last : (text : List ℕ) (i : ℕ) (fault : LexFault) (line : ℕ) (before after : List Token) →
-    after ≡ before ++ record { kind = Bad fault; line = line; start = i; end = i } ∷ [] → line ≡ line_at text i →
+pub fault_last : (text : List ℕ) (i : ℕ) (fault : LexFault) (before after : List Token) →
+    after ≡ before ++ record { kind = Bad fault; line = line_at text i; start = i; end = i } ∷ [] →
     i < length text → IsPiece text i (Fault fault) → Goes text i before → Cuts text 0 after
-fault_last text i fault line before after pushed at lt is goes =
-    rw (pushed, at) (goes (record { kind = Bad fault; line = line_at text i; start = i; end = i } ∷ []) (faulty i fault lt is))
+fault_last text i fault before after pushed lt is goes =
+    rw (pushed) (goes (record { kind = Bad fault; line = line_at text i; start = i; end = i } ∷ []) (faulty i fault lt is))
 
 pub all_cut : (text : List ℕ) (i : ℕ) (before : List Token) → length text ≤ i → Goes text i before → Cuts text 0 before
 all_cut text i before past goes = rw append-nil at (goes [] (ended i past))

@@ -5,13 +5,15 @@ use Rattle.fmp_lex.specs.declared.fault.BuildFault.TheVariants as build
 use Rattle.fmp_lex.specs.declared.fault.FaultKind.{FaultKind}
 use Rattle.fmp_lex.specs.declared.fault.FaultKind.TheVariants as fault
 use Rattle.fmp_lex.specs.declared.fault.TextFile.{TextFile}
+use Rattle.fmp_lex.specs.declared.place.Place.{Place}
 use Rattle.fmp_lex.specs.declared.reading.GrammarFault.{GrammarFault}
 use Rattle.fmp_lex.specs.declared.reading.GrammarFault.TheVariants.{Syntax, Depth}
 use Rattle.fmp_lex.specs.declared.token.LexFault.TheVariants.{Limit}
 use Rattle.fmp_lex.specs.declared.token.Token.{Token}
 use Rattle.fmp_lex.specs.declared.token.TokenKind.{TokenKind}
 use Rattle.fmp_lex.specs.declared.token.TokenKind.TheVariants as kind
-use Rattle.fmp_lex.specs.Cutting.{Cuts, end_line_of}
+use Rattle.fmp_lex.specs.Cutting.{Cuts}
+use Rattle.fmp_lex.specs.Places.{text_start, text_end, place_of, place_or_start}
 use Rattle.fmp_lex.specs.Reading.{Rel, kinds_of, IsWhole, IsFirstFault}
 
 -- the greatest number of bytes of a text
@@ -25,18 +27,22 @@ token_fault _ Syntax = fault.Syntax
 token_fault _ Depth = fault.Limit
 
 -- the fault of a token, or of the end of the text where there is none
-abbrev pub fault_of : TextFile → ℕ → Option Token → GrammarFault → BuildFault
-fault_of file end_line (Some t) why = build.At file t.line (token_fault t.kind why)
-fault_of file end_line None why = build.At file end_line fault.Syntax
+abbrev pub fault_of : TextFile → Place → Option Token → GrammarFault → BuildFault
+fault_of file end (Some t) why = build.At file (place_of t) (token_fault t.kind why)
+fault_of file end None why = build.At file end fault.Syntax
 
--- The tokens of the text spell this by the grammar X, which may look at their lines.
-abbrev pub Spells : {A : Type 0} → (List Token → Rel A) → List ℕ → List Token → A → Type 0
-Spells X text ts a = (length text ≤ text_max) × Cuts text 0 ts × IsWhole (X ts) (kinds_of ts) a
+-- the fault of what a tree has at a token; wherever a tree names a token there is one
+abbrev pub offence_fault : TextFile → Option Token → FaultKind → BuildFault
+offence_fault file token why = build.At file (place_or_start token) why
+
+-- the tokens of the text spell this by the grammar X
+abbrev pub Spells : {A : Type 0} → Rel A → List ℕ → List Token → A → Type 0
+Spells X text ts a = (length text ≤ text_max) × Cuts text 0 ts × IsWhole X (kinds_of ts) a
 
 -- The first fault of a text that spells nothing by the grammar X: it is too long, or that of its tokens.
-abbrev pub IsSyntaxFault : {A : Type 0} → TextFile → (List Token → Rel A) → List ℕ → BuildFault → Type 0
+abbrev pub IsSyntaxFault : {A : Type 0} → TextFile → Rel A → List ℕ → BuildFault → Type 0
 IsSyntaxFault file X text f =
-    ((text_max < length text) × (f ≡ build.At file 1 fault.Limit)) ⊎
+    ((text_max < length text) × (f ≡ build.At file text_start fault.Limit)) ⊎
     ((length text ≤ text_max) ×
-    ((ts : List Token) × Cuts text 0 ts × (j : ℕ) × (why : GrammarFault) × IsFirstFault (X ts) (kinds_of ts) j why ×
-    (f ≡ fault_of file (end_line_of text) (slice_get ts j) why)))
+    ((ts : List Token) × Cuts text 0 ts × (j : ℕ) × (why : GrammarFault) × IsFirstFault X (kinds_of ts) j why ×
+    (f ≡ fault_of file (text_end text) (slice_get ts j) why)))

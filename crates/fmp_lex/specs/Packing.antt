@@ -1,5 +1,5 @@
 -- Tokens in few bytes: a name is a place in the text.
-use Rattle.std.specs.Prelude.{ℕ, pos, ◌+◌, ◌<◌, ◌≤◌, List, length, slice_range}
+use Rattle.std.specs.Prelude.{◌≡◌, ℕ, pos, ◌+◌, ◌<◌, ◌≤◌, List, length, slice_range}
 use Rattle.fmp_base.specs.Names.{name_from}
 use Rattle.fmp_lex.specs.declared.cutting.Segment.{Segment}
 use Rattle.fmp_lex.specs.declared.cutting.Segment.TheVariants as segment
@@ -9,7 +9,7 @@ use Rattle.fmp_lex.specs.declared.packed.Shape.TheVariants as shape
 use Rattle.fmp_lex.specs.declared.token.Token.{Token}
 use Rattle.fmp_lex.specs.declared.token.TokenKind.{TokenKind}
 use Rattle.fmp_lex.specs.declared.token.TokenKind.TheVariants as kind
-use Rattle.fmp_lex.specs.Cutting.{Piece, Skip, Whole, Fault}
+use Rattle.fmp_lex.specs.Cutting.{Piece, Skip, Whole, Fault, IsPiece, line_at}
 
 -- what a token of this shape is in a text
 abbrev pub kind_in : List ℕ → Shape → TokenKind
@@ -29,14 +29,20 @@ Stands text _ = Unit {0}
 
 -- the token of these few bytes in a text
 abbrev pub whole_in : List ℕ → Packed → Token
-whole_in text p = record { kind = kind_in text p.shape; line = p.line; start = p.start.value; end = p.end.value }
+whole_in text p =
+    record { kind = kind_in text p.shape; line = line_at text p.start; start = p.start; end = p.end.value }
 
--- if it is a name, the name stands in the text
+-- where a piece ends that begins at i; where no token stands, it has no bytes
+abbrev pub end_after : ℕ → Piece → ℕ
+end_after i (Skip j) = j
+end_after i (Whole k j) = j
+end_after i (Fault f) = i
+
+-- the token is the piece that begins at its start; if it is a name, the name stands in the text
 abbrev pub IsPacked : List ℕ → Packed → Type 0
-IsPacked text p = Stands text p.shape
-
-abbrev pub line_of : Token → ℕ
-line_of t = t.line
+IsPacked text p =
+    Stands text p.shape × (p.start < length text)
+    × ((q : Piece) × IsPiece text p.start q × (p.end.value ≡ end_after p.start q))
 
 -- the piece of a text that a segment is
 abbrev pub piece_in : List ℕ → Segment → Piece

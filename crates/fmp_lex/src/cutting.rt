@@ -1,12 +1,14 @@
 //! A text is cut into tokens, spaces and comments.
 ghost use Rattle.std.specs.Prelude.{◌≡◌, List, ℕ, ◌+◌, ◌-◌, ◌^◌, ◌<◌, ◌≤◌, ◌↔◌, length, map, slice_index, slice_range, option_map, IfOk, IfSome};
 ghost use Rattle.std.specs.List.{All};
-ghost use Rattle.fmp_lex.specs.Packing.{IsPacked, IsPlain, HasName, kind_in, piece_in, whole_in};
+ghost use Rattle.fmp_lex.specs.Packing.{IsPacked, IsPlain, HasName, end_after, kind_in, piece_in, whole_in};
+ghost use Rattle.fmp_lex.specs.Places.{text_end};
 ghost use Rattle.fmp_lex.specs.Scanning.{Saturated, IsRun, in_class};
 ghost use Rattle.fmp_lex.specs.declared.scanning.Class.TheVariants as class;
-ghost use Rattle.fmp_lex.specs.Cutting.{word_kind, hex_piece, long_symbol, short_symbol, start_of, IsPiece, number_piece, word_piece, symbol_piece, Cuts, EndsWithin, end_line_of};
+ghost use Rattle.fmp_lex.specs.Cutting.{word_kind, hex_piece, long_symbol, short_symbol, start_of, Piece, IsPiece, number_piece, word_piece, symbol_piece, Cuts, EndsWithin, line_at};
 
 use crate::packed::{Packed, Shape, Tokens};
+use crate::place::Place;
 use crate::scanning::{Class, find_close, is_in, line_feeds, run_end, value_of};
 use crate::small::{Four, Three};
 use crate::token::{LexFault, Symbol, TextFault, Token, TokenList};
@@ -213,29 +215,66 @@ fn next_piece(text: &[u8], i: usize) -> Segment
     }
 }
 
+/// Where the piece ends that begins here.
+fn piece_end(text: &[u8], start: usize) -> usize
+    requires inside { start < length text.now }
+    requires short { length text.now ≤ TEXT_MAX }
+    ensures end { (p : Piece) → IsPiece text.now start p → result ≡ end_after start p }
+    ensures within { result ≤ length text.now }
+{
+    match next_piece(text, start) {
+        Segment::Skip(end) => end,
+        Segment::Whole(_, end) => end,
+        Segment::Fault(_) => start,
+    }
+}
+
+/// Where the piece stands that begins here.
+pub(crate) fn place_of_piece(text: &[u8], start: usize) -> Place
+    requires inside { start < length text.now }
+    requires short { length text.now ≤ TEXT_MAX }
+    ensures line { result.line ≡ line_at text.now start }
+    ensures start { result.start ≡ start }
+    ensures end { (p : Piece) → IsPiece text.now start p → result.end ≡ end_after start p }
+{
+    Place {
+        line: 1 + line_feeds(&text[..start]),
+        start: start as u32,
+        end: piece_end(text, start) as u32,
+    }
+}
+
+/// Where a text ends.
+fn end_of(text: &[u8]) -> Place
+    requires { length text.now ≤ TEXT_MAX }
+    ensures { result ≡ text_end text.now }
+{
+    Place {
+        line: 1 + line_feeds(text),
+        start: text.len() as u32,
+        end: text.len() as u32,
+    }
+}
+
 /// The tokens of a text that is not too long.
 fn cut(alloc: Global, text: &[u8]) -> Result<Vec<Packed>, AllocError>
     requires { length text.now ≤ TEXT_MAX }
     ensures cut { IfOk result (λ v. Cuts text.now 0 (map (whole_in text.now) v.items)) }
     ensures only { IfOk result (λ v. (ts : List Token) → Cuts text.now 0 ts → ts ≡ map (whole_in text.now) v.items) }
     ensures packed { IfOk result (λ v. All (IsPacked text.now) v.items) }
+    ensures few { IfOk result (λ v. length v.items ≤ length text.now) }
 {
     let mut tokens = Vec::new(alloc);
-    let mut line = 1;
     let mut i = 0;
     'pieces: while i < text.len() {
         match next_piece(text, i) {
-            Segment::Skip(end) => {
-                line += line_feeds(&text[i..end]);
-                i = end;
-            }
+            Segment::Skip(end) => i = end,
             Segment::Whole(shape, end) => {
-                tokens.push(Packed::new(shape, line, i as u32, end as u32))?;
-                line += line_feeds(&text[i..end]);
+                tokens.push(Packed::new(shape, i as u32, end as u32))?;
                 i = end;
             }
             Segment::Fault(fault) => {
-                tokens.push(Packed::new(Shape::Bad(fault), line, i as u32, i as u32))?;
+                tokens.push(Packed::new(Shape::Bad(fault), i as u32, i as u32))?;
                 return Ok(tokens);
             }
         }
@@ -247,7 +286,7 @@ fn cut(alloc: Global, text: &[u8]) -> Result<Vec<Packed>, AllocError>
 pub fn tokens<'a>(alloc: Global, text: &'a [u8]) -> Result<TokenList<'a>, TextFault>
     ensures cut { IfOk result (λ list. Cuts text.now 0 list.tokens) }
     ensures only { IfOk result (λ list. (ts : List Token) → Cuts text.now 0 ts → ts ≡ list.tokens) }
-    ensures end_line { IfOk result (λ list. list.end_line ≡ end_line_of text.now) }
+    ensures end { IfOk result (λ list. list.end ≡ text_end text.now) }
     ensures too_long { (result ≡ Err TextFault.TooLong) ↔ (TEXT_MAX < length text.now) }
 {
     if text.len() > TEXT_MAX {
@@ -256,6 +295,6 @@ pub fn tokens<'a>(alloc: Global, text: &'a [u8]) -> Result<TokenList<'a>, TextFa
     let packed = cut(alloc, text)?;
     Ok(TokenList {
         tokens: Tokens::new(text, packed),
-        end_line: 1 + line_feeds(text),
+        end: end_of(text),
     })
 }

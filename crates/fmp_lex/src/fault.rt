@@ -1,8 +1,11 @@
-//! Faults of texts: the file, the line and what is wrong there.
+//! Faults of texts: the file, the place and what is wrong there.
 ghost use Rattle.std.specs.Prelude.{◌≡◌, slice_get};
-ghost use Rattle.fmp_lex.specs.Faults.{token_fault, fault_of};
+ghost use Rattle.fmp_lex.specs.Faults.{token_fault, fault_of, offence_fault};
+ghost use Rattle.fmp_lex.specs.Places.{text_start};
 ghost use Rattle.fmp_lex.specs.declared.fault.BuildFault.TheVariants.{Memory};
 
+use crate::packed::Tokens;
+use crate::place::Place;
 use crate::reading::{FirstFault, GrammarFault};
 use crate::token::{LexFault, TokenKind, TokenList};
 use fmp_base::Er;
@@ -19,7 +22,7 @@ pub enum TextFile {
     Source,
 }
 
-/// What is wrong at a line of a text.
+/// What is wrong at a place of a text.
 #[derive(Clone, Copy, Debug, PartialEq, Eq)]
 pub enum FaultKind {
     /// No well-formed text goes on so.
@@ -54,8 +57,8 @@ impl Display for FaultKind {
 /// Why no system is built from two texts.
 #[derive(Debug, Drop, PartialEq, Eq, Error)]
 pub enum BuildFault {
-    #[error("{0}:{1}: {2}")]
-    At(TextFile, u32, FaultKind),
+    #[error("{0}:{line}: {2}", line = .1.line)]
+    At(TextFile, Place, FaultKind),
     #[error("memory")]
     Memory,
 }
@@ -78,13 +81,41 @@ fn token_fault(kind: TokenKind, why: GrammarFault) -> FaultKind
     }
 }
 
-/// The fault of a text whose tokens have this first fault; behind the last token it stands at the line on which the
-/// text ends.
-pub fn fault_at(list: &TokenList<'_>, file: TextFile, fault: FirstFault) -> BuildFault
-    ensures { result ≡ fault_of file list.now.end_line (slice_get list.now.tokens fault.at) fault.why }
+/// Where a text begins.
+fn text_start() -> Place
+    ensures { result ≡ text_start }
 {
-    match (list.tokens.line(fault.at), list.tokens.kind(fault.at)) {
-        (Some(line), Some(kind)) => BuildFault::At(file, line, token_fault(kind, fault.why)),
-        _ => BuildFault::At(file, list.end_line, FaultKind::Syntax),
+    Place {
+        line: 1,
+        start: 0,
+        end: 0,
+    }
+}
+
+/// The fault of a text that has more bytes than a text may have: it stands where the text begins.
+pub fn too_long(file: TextFile) -> BuildFault
+    ensures { result ≡ BuildFault.At file text_start FaultKind.Limit }
+{
+    BuildFault::At(file, text_start(), FaultKind::Limit)
+}
+
+/// The fault of what a tree has at the token at this place in the list, with the token's place in the text.
+pub fn offence_at(tokens: &Tokens<'_>, file: TextFile, at: usize, why: FaultKind) -> BuildFault
+    ensures { result ≡ offence_fault file (slice_get tokens.now at) why }
+{
+    let place = match tokens.place(at) {
+        Some(place) => place,
+        None => text_start(),
+    };
+    BuildFault::At(file, place, why)
+}
+
+/// The fault of a text whose tokens have this first fault; behind the last token it stands where the text ends.
+pub fn fault_at(list: &TokenList<'_>, file: TextFile, fault: FirstFault) -> BuildFault
+    ensures { result ≡ fault_of file list.now.end (slice_get list.now.tokens fault.at) fault.why }
+{
+    match list.tokens.kind(fault.at) {
+        Some(kind) => offence_at(&list.tokens, file, fault.at, token_fault(kind, fault.why)),
+        None => BuildFault::At(file, list.end, FaultKind::Syntax),
     }
 }

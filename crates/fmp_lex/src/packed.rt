@@ -1,10 +1,14 @@
-//! The tokens of a text in few bytes each: the bytes of a name stay in the text.
+//! The tokens of a text in few bytes each: the bytes of a name stay in the text, and lines and ends are worked out of
+//! it.
 ghost use Rattle.std.specs.Prelude.{◌≡◌, ℕ, List, ◌+◌, ◌<◌, ◌≤◌, ◌^◌, length, map, slice_get, option_map, IfSome};
 ghost use Rattle.std.specs.List.{All};
 ghost use Rattle.fmp_base.specs.Names.{name_from};
-ghost use Rattle.fmp_lex.specs.Packing.{IsPacked, Stands, kind_in, whole_in, line_of};
+ghost use Rattle.fmp_lex.specs.Packing.{IsPacked, Stands, kind_in, whole_in};
+ghost use Rattle.fmp_lex.specs.Places.{place_of};
 ghost use Rattle.fmp_lex.specs.Reading.{kinds_of};
 
+use crate::cutting::place_of_piece;
+use crate::place::Place;
 use crate::small::{Four, Three};
 use crate::token::{LexFault, Symbol, TokenKind};
 use crate::words::{Api, Constant, Keyword};
@@ -25,28 +29,25 @@ pub enum Shape {
     Bad(LexFault),
 }
 
-/// A token in few bytes. Its places have no bytes: only the contracts see them.
+/// A token in few bytes. Its end has none: only the contracts see it.
 #[derive(Drop)]
 pub struct Packed {
     pub shape: Shape,
-    pub line: Three,
-    pub start: Snapshot<u32>,
+    pub start: Three,
     pub end: Snapshot<u32>,
 }
 
 impl Packed {
     /// The token that stands from `start` up to `end`.
-    pub(crate) fn new(shape: Shape, line: u32, start: u32, end: u32) -> Packed
-        requires { line < 16777216 }
+    pub(crate) fn new(shape: Shape, start: u32, end: u32) -> Packed
+        requires { start < 16777216 }
         ensures shape { result.shape ≡ shape }
-        ensures line { result.line ≡ line }
-        ensures start { result.start.value ≡ start }
+        ensures start { result.start ≡ start }
         ensures end { result.end.value ≡ end }
     {
         Packed {
             shape,
-            line: Three::new(line),
-            start: Snapshot::of(&start),
+            start: Three::new(start),
             end: Snapshot::of(&end),
         }
     }
@@ -92,7 +93,7 @@ pub struct Tokens<'a> {
 }
 
 impl<'a> Model for Tokens<'a> {
-    ghost use Rattle.std.specs.Prelude.{List, map};
+    ghost use Rattle.std.specs.Prelude.{List, ◌≤◌, length, map};
     ghost use Rattle.std.specs.List.{All};
     ghost use Rattle.fmp_lex.specs.Packing.{IsPacked, whole_in};
     ghost use Rattle.fmp_lex.specs.declared.token.Token.{Token as OneToken};
@@ -101,13 +102,17 @@ impl<'a> Model for Tokens<'a> {
 
     ghost view = { λ t. map (whole_in t.text.now) t.packed.items };
 
-    ghost invariant = { λ t. All (IsPacked t.text.now) t.packed.items };
+    ghost invariant = { λ t. (length t.text.now ≤ 1048576)
+        × (length t.packed.items ≤ length t.text.now)
+        × All (IsPacked t.text.now) t.packed.items };
 }
 
 impl<'a> Tokens<'a> {
     /// The tokens that stand so in the text.
     pub(crate) fn new(text: &'a [u8], packed: Vec<Packed>) -> Tokens<'a>
-        requires { All (IsPacked text.now) packed.items }
+        requires short { length text.now ≤ 1048576 }
+        requires few { length packed.items ≤ length text.now }
+        requires packed { All (IsPacked text.now) packed.items }
         ensures { result ≡ map (whole_in text.now) packed.items }
     {
         Tokens { text, packed }
@@ -125,6 +130,7 @@ impl<'a> Tokens<'a> {
         ensures value { result ≡ slice_get (kinds_of self.now) at }
         ensures within { IfSome result (λ _. at < length self.now) }
         ensures room { IfSome result (λ _. at + 1 < 2 ^ 64) }
+        ensures few { IfSome result (λ _. at < 2 ^ 32) }
     {
         if at >= self.packed.len() {
             return None;
@@ -133,13 +139,14 @@ impl<'a> Tokens<'a> {
         Some(kind_of(self.text, &packed.shape))
     }
 
-    /// The line of the first byte of the token at a place, from 1.
-    pub fn line(&self, at: usize) -> Option<u32>
-        ensures { result ≡ option_map line_of (slice_get self.now at) }
+    /// Where the token at a place of the list stands in the text. The text is read from its begin.
+    pub fn place(&self, at: usize) -> Option<Place>
+        ensures { result ≡ option_map place_of (slice_get self.now at) }
     {
         if at >= self.packed.len() {
             return None;
         }
-        Some(self.packed[at].line.get())
+        let start = self.packed[at].start.get() as usize;
+        Some(place_of_piece(self.text, start))
     }
 }

@@ -61,6 +61,7 @@ pub fn kind_at(tokens: &Tokens<'_>, at: usize) -> Option<TokenKind>
     ensures value { result ≡ slice_get (kinds_of tokens.now) at }
     ensures within { IfSome result (λ _. at < length tokens.now) }
     ensures room { IfSome result (λ _. at + 1 < 2 ^ 64) }
+    ensures few { IfSome result (λ _. at < 2 ^ 32) }
 {
     tokens.kind(at)
 }

@@ -3,6 +3,7 @@ ghost use Rattle.std.specs.Prelude.{◌≡◌};
 ghost use Rattle.fmp_lex.specs.declared.token.TextFault.TheVariants.{Memory};
 
 use crate::packed::Tokens;
+use crate::place::Place;
 use crate::words::{Api, Constant, Keyword};
 use fmp_base::{Name, Service};
 use std::alloc::AllocError;
@@ -71,11 +72,11 @@ pub struct Token {
     pub end: u32,
 }
 
-/// The tokens of a text, and the line on which it ends.
+/// The tokens of a text, and where it ends.
 #[derive(Drop)]
 pub struct TokenList<'a> {
     pub tokens: Tokens<'a>,
-    pub end_line: u32,
+    pub end: Place,
 }
 
 /// Why a text is not cut into tokens at all.

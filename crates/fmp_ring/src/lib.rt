@@ -7,6 +7,3 @@ pub mod rings;
 
 pub use nodes::as_byte;
 pub use rings::Rings;
-
-#[cfg(test)]
-mod tests;

@@ -14,6 +14,3 @@ pub use entry::{JournalEntry, words_read_back};
 pub use row::{EmptyRow, Row};
 pub use scribe::Scribe;
 pub use seat::Seat;
-
-#[cfg(test)]
-mod tests;

@@ -4,8 +4,6 @@
 mod counting;
 mod table;
 mod tallies;
-#[cfg(test)]
-mod tests;
 
 pub use counting::Tally;
 pub use tallies::Tallies;

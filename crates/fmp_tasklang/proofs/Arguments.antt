@@ -33,24 +33,24 @@ no_operator mark.Comma = refl
 no_operator mark.Semicolon = refl
 no_operator mark.Null = refl
 
-module _ (line : ℕ → ℕ) (d : ℕ) where
+module _ (d : ℕ) where
   -- `&`, a word and a mark
   abbrev pub Outs : Mark → Rel Word
-  Outs m = Behind ampersand (Closed (OneWord line) (mark_kind m))
+  Outs m = Behind ampersand (Closed OneWord (mark_kind m))
 
-  ended_framed : (m : Mark) → Framed (Ended line d (mark_kind m))
-  ended_framed m = closed_framed (OneExpression line d loosest) (mark_kind m) (expression_framed line d loosest)
+  ended_framed : (m : Mark) → Framed (Ended d (mark_kind m))
+  ended_framed m = closed_framed (OneExpression d loosest) (mark_kind m) (expression_framed d loosest)
 
-  pub marked_fills : (m : Mark) → Fills (Closed (OneWord line) (mark_kind m))
-  marked_fills m = closed_fills (OneWord line) (mark_kind m) (word_framed line) (word_fills line)
+  pub marked_fills : (m : Mark) → Fills (Closed OneWord (mark_kind m))
+  marked_fills m = closed_fills OneWord (mark_kind m) word_framed word_fills
 
   outs_framed : (m : Mark) → Framed (Outs m)
-  outs_framed m = behind_framed ampersand (Closed (OneWord line) (mark_kind m)) (closed_framed (OneWord line) (mark_kind m) (word_framed line))
+  outs_framed m = behind_framed ampersand (Closed OneWord (mark_kind m)) (closed_framed OneWord (mark_kind m) word_framed)
 
   outs_fills : (m : Mark) → Fills (Outs m)
-  outs_fills m = behind_fills ampersand (Closed (OneWord line) (mark_kind m)) (marked_fills m)
+  outs_fills m = behind_fills ampersand (Closed OneWord (mark_kind m)) (marked_fills m)
 
-  part_up : (p : Part) (us : List TokenKind) (limit i : ℕ) (a : Option ArgumentTree) (j : ℕ) → OnePart line d p us limit i a j → i ≤ j
+  part_up : (p : Part) (us : List TokenKind) (limit i : ℕ) (a : Option ArgumentTree) (j : ℕ) → OnePart d p us limit i a j → i ≤ j
   part_up (part.Mark m) us limit i None j x = omega (arith, x.1)
   part_up (part.Mark m) us limit i (Some (value e)) j x = absurd x
   part_up (part.Mark m) us limit i (Some (out w)) j x = absurd x
@@ -62,7 +62,7 @@ module _ (line : ℕ → ℕ) (d : ℕ) where
   part_up (part.Out m) us limit i (Some (out w)) j x = (outs_framed m).up us limit i w j x
 
   part_same : (p : Part) (ts us : List TokenKind) (limit lower i : ℕ) (a : Option ArgumentTree) (j : ℕ) → lower ≤ limit
-      → OnePart line d p ts limit i a j → Same j ts us → OnePart line d p us lower i a j
+      → OnePart d p ts limit i a j → Same j ts us → OnePart d p us lower i a j
   part_same (part.Mark m) ts us limit lower i None j low x same = (token_framed (mark_kind m)).same ts us limit lower i tt j low x same
   part_same (part.Mark m) ts us limit lower i (Some (value e)) j low x same = absurd x
   part_same (part.Mark m) ts us limit lower i (Some (out w)) j low x same = absurd x
@@ -73,78 +73,78 @@ module _ (line : ℕ → ℕ) (d : ℕ) where
   part_same (part.Out m) ts us limit lower i (Some (value e)) j low x same = absurd x
   part_same (part.Out m) ts us limit lower i (Some (out w)) j low x same = (outs_framed m).same ts us limit lower i w j low x same
 
-  part_framed : (p : Part) → Framed (OnePart line d p)
+  part_framed : (p : Part) → Framed (OnePart d p)
   part_framed p = record { up = part_up p; same = part_same p }
 
-  part_fills : (p : Part) → Fills (OnePart line d p)
+  part_fills : (p : Part) → Fills (OnePart d p)
   part_fills (part.Mark m) us limit low = let x = token_fills (mark_kind m) us limit low in
       record { other = x.other; same = x.same; long = x.long; tree = None; reads = x.reads }
-  part_fills (part.Value m) us limit low = let x = ended_fills line d (mark_kind m) us limit low in
+  part_fills (part.Value m) us limit low = let x = ended_fills d (mark_kind m) us limit low in
       record { other = x.other; same = x.same; long = x.long; tree = Some (value x.tree); reads = x.reads }
   part_fills (part.Out m) us limit low = let x = outs_fills m us limit low in
       record { other = x.other; same = x.same; long = x.long; tree = Some (out x.tree); reads = x.reads }
 
   -- the three kinds of parts
   module _ (ts : List TokenKind) (i : ℕ) (m : Mark) where
-    mark_back : (us : List TokenKind) (limit : ℕ) (e : Option ArgumentTree) (j : ℕ) → OnePart line d (part.Mark m) us limit i e j →
+    mark_back : (us : List TokenKind) (limit : ℕ) (e : Option ArgumentTree) (j : ℕ) → OnePart d (part.Mark m) us limit i e j →
         (a : Unit {0}) × (e ≡ None) × OneToken (mark_kind m) us limit i a j × Unit {0}
     mark_back us limit None j x = (tt, refl, x, tt)
     mark_back us limit (Some (value e)) j x = absurd x
     mark_back us limit (Some (out w)) j x = absurd x
 
-    pub mark_as : (o : Outcome (Unit {0})) → RightToken ts (mark_kind m) i o → RightPart line ts d (part.Mark m) i (map_outcome (λ (a : Unit {0}). None) o)
-    mark_as o x = right_as (OneToken (mark_kind m)) (OnePart line d (part.Mark m)) (λ a. None) (λ us limit a j r. r)
+    pub mark_as : (o : Outcome (Unit {0})) → RightToken ts (mark_kind m) i o → RightPart ts d (part.Mark m) i (map_outcome (λ (a : Unit {0}). None) o)
+    mark_as o x = right_as (OneToken (mark_kind m)) (OnePart d (part.Mark m)) (λ a. None) (λ us limit a j r. r)
         (λ us limit e j at r ends. mark_back us limit e j r) o x
 
-    value_back : (us : List TokenKind) (limit : ℕ) (e : Option ArgumentTree) (j : ℕ) → OnePart line d (part.Value m) us limit i e j →
-        (a : ExpressionTree) × (e ≡ Some (value a)) × Ended line d (mark_kind m) us limit i a j × Unit {0}
+    value_back : (us : List TokenKind) (limit : ℕ) (e : Option ArgumentTree) (j : ℕ) → OnePart d (part.Value m) us limit i e j →
+        (a : ExpressionTree) × (e ≡ Some (value a)) × Ended d (mark_kind m) us limit i a j × Unit {0}
     value_back us limit None j x = absurd x
     value_back us limit (Some (value e)) j x = (e, refl, x, tt)
     value_back us limit (Some (out w)) j x = absurd x
 
-    value_as : (o : Outcome ExpressionTree) → Right (At (Ended line d (mark_kind m)) i) Anywhere ts i o →
-        RightPart line ts d (part.Value m) i (map_outcome (λ (a : ExpressionTree). Some (value a)) o)
-    value_as o x = right_as (Ended line d (mark_kind m)) (OnePart line d (part.Value m)) (λ a. Some (value a)) (λ us limit a j r. r)
+    value_as : (o : Outcome ExpressionTree) → Right (At (Ended d (mark_kind m)) i) Anywhere ts i o →
+        RightPart ts d (part.Value m) i (map_outcome (λ (a : ExpressionTree). Some (value a)) o)
+    value_as o x = right_as (Ended d (mark_kind m)) (OnePart d (part.Value m)) (λ a. Some (value a)) (λ us limit a j r. r)
         (λ us limit e j at r ends. value_back us limit e j r) o x
 
-    pub value_stop : (j : ℕ) (why : GrammarFault) → RightExpression line ts d loosest i (stopped j why) → RightPart line ts d (part.Value m) i (stopped j why)
-    value_stop j why x = value_as (stopped j why) (ended_stop line d (mark_kind m) (no_operator m) ts i j why x)
+    pub value_stop : (j : ℕ) (why : GrammarFault) → RightExpression ts d loosest i (stopped j why) → RightPart ts d (part.Value m) i (stopped j why)
+    value_stop j why x = value_as (stopped j why) (ended_stop d (mark_kind m) (no_operator m) ts i j why x)
 
-    module _ (e : ExpressionTree) (k : ℕ) (x : RightExpression line ts d loosest i (found e k)) where
-      pub value_unmarked : (j : ℕ) (why : GrammarFault) → RightToken ts (mark_kind m) k (stopped j why) → RightPart line ts d (part.Value m) i (stopped j why)
-      value_unmarked j why y = value_as (stopped j why) (ended_then line d (mark_kind m) (no_operator m) ts i e k x (stopped j why) y)
+    module _ (e : ExpressionTree) (k : ℕ) (x : RightExpression ts d loosest i (found e k)) where
+      pub value_unmarked : (j : ℕ) (why : GrammarFault) → RightToken ts (mark_kind m) k (stopped j why) → RightPart ts d (part.Value m) i (stopped j why)
+      value_unmarked j why y = value_as (stopped j why) (ended_then d (mark_kind m) (no_operator m) ts i e k x (stopped j why) y)
 
-      pub value_found : (j : ℕ) → RightToken ts (mark_kind m) k (found tt j) → RightPart line ts d (part.Value m) i (found (Some (value e)) j)
-      value_found j y = value_as (found e j) (ended_then line d (mark_kind m) (no_operator m) ts i e k x (found tt j) y)
+      pub value_found : (j : ℕ) → RightToken ts (mark_kind m) k (found tt j) → RightPart ts d (part.Value m) i (found (Some (value e)) j)
+      value_found j y = value_as (found e j) (ended_then d (mark_kind m) (no_operator m) ts i e k x (found tt j) y)
 
-    out_back : (us : List TokenKind) (limit : ℕ) (e : Option ArgumentTree) (j : ℕ) → OnePart line d (part.Out m) us limit i e j →
+    out_back : (us : List TokenKind) (limit : ℕ) (e : Option ArgumentTree) (j : ℕ) → OnePart d (part.Out m) us limit i e j →
         (a : Word) × (e ≡ Some (out a)) × Outs m us limit i a j × Unit {0}
     out_back us limit None j x = absurd x
     out_back us limit (Some (value e)) j x = absurd x
     out_back us limit (Some (out w)) j x = (w, refl, x, tt)
 
-    out_as : (o : Outcome Word) → Right (At (Outs m) i) Anywhere ts i o → RightPart line ts d (part.Out m) i (map_outcome (λ (a : Word). Some (out a)) o)
-    out_as o x = right_as (Outs m) (OnePart line d (part.Out m)) (λ a. Some (out a)) (λ us limit a j r. r)
+    out_as : (o : Outcome Word) → Right (At (Outs m) i) Anywhere ts i o → RightPart ts d (part.Out m) i (map_outcome (λ (a : Word). Some (out a)) o)
+    out_as o x = right_as (Outs m) (OnePart d (part.Out m)) (λ a. Some (out a)) (λ us limit a j r. r)
         (λ us limit e j at r ends. out_back us limit e j r) o x
 
-    pub out_missing : (j : ℕ) (why : GrammarFault) → RightToken ts ampersand i (stopped j why) → RightPart line ts d (part.Out m) i (stopped j why)
-    out_missing j why x = out_as (stopped j why) (behind_stop ampersand (Closed (OneWord line) (mark_kind m)) (marked_fills m) x)
+    pub out_missing : (j : ℕ) (why : GrammarFault) → RightToken ts ampersand i (stopped j why) → RightPart ts d (part.Out m) i (stopped j why)
+    out_missing j why x = out_as (stopped j why) (behind_stop ampersand (Closed OneWord (mark_kind m)) (marked_fills m) x)
 
     module _ (k : ℕ) (x : RightToken ts ampersand i (found tt k)) where
-      pub out_stop : (j : ℕ) (why : GrammarFault) → RightWord line ts k (stopped j why) → RightPart line ts d (part.Out m) i (stopped j why)
-      out_stop j why y = out_as (stopped j why) (behind_then ampersand (Closed (OneWord line) (mark_kind m)) x (stopped j why)
-          (closed_stop (OneWord line) (mark_kind m) (word_framed line) (λ us limit n b m y ends. tt) y))
+      pub out_stop : (j : ℕ) (why : GrammarFault) → RightWord ts k (stopped j why) → RightPart ts d (part.Out m) i (stopped j why)
+      out_stop j why y = out_as (stopped j why) (behind_then ampersand (Closed OneWord (mark_kind m)) x (stopped j why)
+          (closed_stop OneWord (mark_kind m) word_framed (λ us limit n b m y ends. tt) y))
 
-      module _ (w : Word) (l : ℕ) (y : RightWord line ts k (found w l)) where
-        pub out_unmarked : (j : ℕ) (why : GrammarFault) → RightToken ts (mark_kind m) l (stopped j why) → RightPart line ts d (part.Out m) i (stopped j why)
-        out_unmarked j why z = out_as (stopped j why) (behind_then ampersand (Closed (OneWord line) (mark_kind m)) x (stopped j why)
-            (closed_missing (OneWord line) (mark_kind m) (word_framed line) (λ us limit n b m y ends. tt) y z))
+      module _ (w : Word) (l : ℕ) (y : RightWord ts k (found w l)) where
+        pub out_unmarked : (j : ℕ) (why : GrammarFault) → RightToken ts (mark_kind m) l (stopped j why) → RightPart ts d (part.Out m) i (stopped j why)
+        out_unmarked j why z = out_as (stopped j why) (behind_then ampersand (Closed OneWord (mark_kind m)) x (stopped j why)
+            (closed_missing OneWord (mark_kind m) word_framed (λ us limit n b m y ends. tt) y z))
 
-        pub out_found : (j : ℕ) → RightToken ts (mark_kind m) l (found tt j) → RightPart line ts d (part.Out m) i (found (Some (out w)) j)
-        out_found j z = out_as (found w j) (behind_then ampersand (Closed (OneWord line) (mark_kind m)) x (found w j)
-            (closed_found (OneWord line) (mark_kind m) (word_framed line) (λ us limit n b m y ends. tt) y z))
+        pub out_found : (j : ℕ) → RightToken ts (mark_kind m) l (found tt j) → RightPart ts d (part.Out m) i (found (Some (out w)) j)
+        out_found j z = out_as (found w j) (behind_then ampersand (Closed OneWord (mark_kind m)) x (found w j)
+            (closed_found OneWord (mark_kind m) word_framed (λ us limit n b m y ends. tt) y z))
 
-  parts_up : (ps : List Part) (us : List TokenKind) (limit i : ℕ) (args : List ArgumentTree) (j : ℕ) → Parts line d ps us limit i args j → i ≤ j
+  parts_up : (ps : List Part) (us : List TokenKind) (limit i : ℕ) (args : List ArgumentTree) (j : ℕ) → Parts d ps us limit i args j → i ≤ j
   parts_up [] us limit i args j x = omega (arith, x.1)
   parts_up (p ∷ ps) us limit i args j x =
       let one = part_up p us limit i x.0 x.3 x.4 in
@@ -152,19 +152,19 @@ module _ (line : ℕ → ℕ) (d : ℕ) where
       omega arith
 
   parts_same : (ps : List Part) (ts us : List TokenKind) (limit lower i : ℕ) (args : List ArgumentTree) (j : ℕ)
-      → lower ≤ limit → Parts line d ps ts limit i args j → Same j ts us → Parts line d ps us lower i args j
+      → lower ≤ limit → Parts d ps ts limit i args j → Same j ts us → Parts d ps us lower i args j
   parts_same [] ts us limit lower i args j low x same = x
   parts_same (p ∷ ps) ts us limit lower i args j low x same =
       let rest = parts_up ps ts limit x.3 x.1 j x.5 in
       (x.0, x.1, x.2, x.3, part_same p ts us limit lower i x.0 x.3 low x.4 (fewer x.3 j ts us rest same), parts_same ps ts us limit lower x.3 x.1 j low x.5 same)
 
-  pub parts_framed : (ps : List Part) → Framed (Parts line d ps)
+  pub parts_framed : (ps : List Part) → Framed (Parts d ps)
   parts_framed ps = record { up = parts_up ps; same = parts_same ps }
 
-  pub parts_fills : (ps : List Part) → Fills (Parts line d ps)
+  pub parts_fills : (ps : List Part) → Fills (Parts d ps)
   parts_fills [] us limit low = record { other = us; same = λ k lt. refl; long = omega arith; tree = []; reads = (refl, refl) }
   parts_fills (p ∷ ps) us limit low =
-      let x = seq_fills (OnePart line d p) (Parts line d ps) (part_framed p) (part_fills p) (parts_fills ps) us limit low in
+      let x = seq_fills (OnePart d p) (Parts d ps) (part_framed p) (part_fills p) (parts_fills ps) us limit low in
       record {
         other = x.other;
         same = x.same;
@@ -175,23 +175,23 @@ module _ (line : ℕ → ℕ) (d : ℕ) where
 
   -- a part, and then the outcome of the others
   module _ (p : Part) (ps : List Part) (ts : List TokenKind) (i : ℕ) where
-    parts_as : (o : Outcome (Option ArgumentTree × List ArgumentTree)) → Right (At (Seq (OnePart line d p) (Parts line d ps)) i) Anywhere ts i o →
-        RightParts line ts d (p ∷ ps) i (map_outcome (λ (q : Option ArgumentTree × List ArgumentTree). put q.0 q.1) o)
-    parts_as o x = right_as (Seq (OnePart line d p) (Parts line d ps)) (Parts line d (p ∷ ps)) (λ q. put q.0 q.1)
+    parts_as : (o : Outcome (Option ArgumentTree × List ArgumentTree)) → Right (At (Seq (OnePart d p) (Parts d ps)) i) Anywhere ts i o →
+        RightParts ts d (p ∷ ps) i (map_outcome (λ (q : Option ArgumentTree × List ArgumentTree). put q.0 q.1) o)
+    parts_as o x = right_as (Seq (OnePart d p) (Parts d ps)) (Parts d (p ∷ ps)) (λ q. put q.0 q.1)
         (λ us limit q j s. (q.0, q.1, refl, s.0, s.1, s.2))
         (λ us limit e j at r ends. ((r.0, r.1), r.2, (r.3, r.4, r.5), ends)) o x
 
-    pub parts_then : (a : Option ArgumentTree) (k : ℕ) → RightPart line ts d p i (found a k) → (o : Outcome (List ArgumentTree)) → RightParts line ts d ps k o →
-        RightParts line ts d (p ∷ ps) i (map_outcome (put a) o)
+    pub parts_then : (a : Option ArgumentTree) (k : ℕ) → RightPart ts d p i (found a k) → (o : Outcome (List ArgumentTree)) → RightParts ts d ps k o →
+        RightParts ts d (p ∷ ps) i (map_outcome (put a) o)
     parts_then a k x (found more j) rest =
-        parts_as (found (a, more) j) (seq_then (OnePart line d p) (Parts line d ps) (part_framed p) (λ us limit n b m y ends. tt) x (found more j) rest)
+        parts_as (found (a, more) j) (seq_then (OnePart d p) (Parts d ps) (part_framed p) (λ us limit n b m y ends. tt) x (found more j) rest)
     parts_then a k x (stopped j why) rest =
-        parts_as (stopped j why) (seq_then (OnePart line d p) (Parts line d ps) (part_framed p) (λ us limit n b m y ends. tt) x (stopped j why) rest)
+        parts_as (stopped j why) (seq_then (OnePart d p) (Parts d ps) (part_framed p) (λ us limit n b m y ends. tt) x (stopped j why) rest)
 
-    pub parts_stop : (j : ℕ) (why : GrammarFault) → RightPart line ts d p i (stopped j why) → RightParts line ts d (p ∷ ps) i (stopped j why)
-    parts_stop j why x = parts_as (stopped j why) (seq_stop (OnePart line d p) (Parts line d ps) (part_framed p) (parts_fills ps) (λ us limit n b m y ends. tt) x)
+    pub parts_stop : (j : ℕ) (why : GrammarFault) → RightPart ts d p i (stopped j why) → RightParts ts d (p ∷ ps) i (stopped j why)
+    parts_stop j why x = parts_as (stopped j why) (seq_stop (OnePart d p) (Parts d ps) (part_framed p) (parts_fills ps) (λ us limit n b m y ends. tt) x)
 
-  pub parts_none : (ps : List Part) (ts : List TokenKind) (i : ℕ) → ps ≡ [] → i ≤ length ts → RightParts line ts d ps i (found [] i)
+  pub parts_none : (ps : List Part) (ts : List TokenKind) (i : ℕ) → ps ≡ [] → i ≤ length ts → RightParts ts d ps i (found [] i)
   parts_none ps ts i none within = rw none (record {
     from = omega arith;
     within = within;
@@ -200,12 +200,12 @@ module _ (line : ℕ → ℕ) (d : ℕ) where
   })
 
   -- the parts of a call are its arguments
-  pub arguments_as : (s : Service) (ps : List Part) (ts : List TokenKind) (i : ℕ) (o : Outcome (List ArgumentTree)) → RightParts line ts d ps i o →
-      RightArguments line ts d s ps i (map_outcome (called s) o)
-  arguments_as s ps ts i o x = right_as (Parts line d ps) (Arguments line d s ps) (called s) (λ us limit args j r. (args, refl, r))
+  pub arguments_as : (s : Service) (ps : List Part) (ts : List TokenKind) (i : ℕ) (o : Outcome (List ArgumentTree)) → RightParts ts d ps i o →
+      RightArguments ts d s ps i (map_outcome (called s) o)
+  arguments_as s ps ts i o x = right_as (Parts d ps) (Arguments d s ps) (called s) (λ us limit args j r. (args, refl, r))
       (λ us limit c j at r ends. (r.0, r.1, r.2, tt)) o x
 
-  arguments_framed : (s : Service) (ps : List Part) → Framed (Arguments line d s ps)
+  arguments_framed : (s : Service) (ps : List Part) → Framed (Arguments d s ps)
   arguments_framed s ps = record {
     up = λ us limit i c j x. parts_up ps us limit i x.0 j x.2;
     same = λ ts us limit lower i c j low x same. (x.0, x.1, parts_same ps ts us limit lower i x.0 j low x.2 same);
@@ -217,38 +217,38 @@ module _ (line : ℕ → ℕ) (d : ℕ) where
     name = token_there service_of (slice_get ts i) s is
 
     abbrev Passed : Rel Called
-    Passed = Behind name.0 (Arguments line d s (call_parts s))
+    Passed = Behind name.0 (Arguments d s (call_parts s))
 
     one_service : (a : Service) → Some a ≡ Some s → a ≡ s
     one_service a e = cc
 
-    call_back : (us : List TokenKind) (limit : ℕ) (c : Called) (j : ℕ) → slice_get us i ≡ slice_get ts i → OneCall line d us limit i c j → Passed us limit i c j
+    call_back : (us : List TokenKind) (limit : ℕ) (c : Called) (j : ℕ) → slice_get us i ≡ slice_get ts i → OneCall d us limit i c j → Passed us limit i c j
     call_back us limit c j at r =
         let one = one_service c.service (sym r.3.0 ∙ (ap (option_and_then service_of) at ∙ is)) in (
           r.2,
           (at ∙ name.1, r.3.1),
-          (r.0, subst (λ z. c ≡ called z r.0) one r.1, subst (λ z. Parts line d (call_parts z) us limit r.2 r.0 j) one r.4),
+          (r.0, subst (λ z. c ≡ called z r.0) one r.1, subst (λ z. Parts d (call_parts z) us limit r.2 r.0 j) one r.4),
         )
 
-    call_to : (us : List TokenKind) (limit : ℕ) (c : Called) (j : ℕ) → Passed us limit i c j → OneCall line d us limit i c j
+    call_to : (us : List TokenKind) (limit : ℕ) (c : Called) (j : ℕ) → Passed us limit i c j → OneCall d us limit i c j
     call_to us limit c j r =
         let one : s ≡ c.service = sym (ap (λ (z : Called). z.service) r.2.1) in (
           r.2.0,
           subst (λ z. c ≡ called z r.2.0) one r.2.1,
           r.0,
           (ap (option_and_then service_of) r.1.0 ∙ (name.2 ∙ ap (λ z. Some z) one), r.1.1),
-          subst (λ z. Parts line d (call_parts z) us limit r.0 r.2.0 j) one r.2.2,
+          subst (λ z. Parts d (call_parts z) us limit r.0 r.2.0 j) one r.2.2,
         )
 
-    pub call_as : (o : Outcome Called) → RightArguments line ts d s (call_parts s) (i + 1) o → RightCall line ts d i o
-    call_as (found c j) x = right_as Passed (OneCall line d) (λ c. c) (λ us limit c j r. call_to us limit c j r)
+    pub call_as : (o : Outcome Called) → RightArguments ts d s (call_parts s) (i + 1) o → RightCall ts d i o
+    call_as (found c j) x = right_as Passed (OneCall d) (λ c. c) (λ us limit c j r. call_to us limit c j r)
         (λ us limit c j at r ends. (c, refl, call_back us limit c j at r, tt)) (found c j)
-        (behind_then name.0 (Arguments line d s (call_parts s)) (token_found name.0 ts i name.1) (found c j) x)
-    call_as (stopped j why) x = right_as Passed (OneCall line d) (λ c. c) (λ us limit c j r. call_to us limit c j r)
+        (behind_then name.0 (Arguments d s (call_parts s)) (token_found name.0 ts i name.1) (found c j) x)
+    call_as (stopped j why) x = right_as Passed (OneCall d) (λ c. c) (λ us limit c j r. call_to us limit c j r)
         (λ us limit c j at r ends. (c, refl, call_back us limit c j at r, tt)) (stopped j why)
-        (behind_then name.0 (Arguments line d s (call_parts s)) (token_found name.0 ts i name.1) (stopped j why) x)
+        (behind_then name.0 (Arguments d s (call_parts s)) (token_found name.0 ts i name.1) (stopped j why) x)
 
-  pub call_framed : Framed (OneCall line d)
+  pub call_framed : Framed (OneCall d)
   call_framed = record {
     up = λ us limit i c j x. let up = parts_up (call_parts c.service) us limit x.2 x.0 j x.4 in omega (arith, x.3.1);
     same = λ ts us limit lower i c j low x same.

@@ -25,218 +25,217 @@ use Rattle.fmp_tasklang.proofs.StatementFrames.{open_brace, close_brace, semicol
 abbrev pub var_word : TokenKind
 var_word = kind.Keyword keyword.Var
 
-module _ (line : ℕ → ℕ) where
-  -- var name ;
-  abbrev Ended : Rel Word
-  Ended = Closed (OneWord line) semicolon
+-- var name ;
+abbrev Ended : Rel Word
+Ended = Closed OneWord semicolon
 
-  ended_framed : Framed Ended
-  ended_framed = closed_framed (OneWord line) semicolon (word_framed line)
+ended_framed : Framed Ended
+ended_framed = closed_framed OneWord semicolon word_framed
 
-  ended_fills : Fills Ended
-  ended_fills = closed_fills (OneWord line) semicolon (word_framed line) (word_fills line)
+ended_fills : Fills Ended
+ended_fills = closed_fills OneWord semicolon word_framed word_fills
 
-  pub variable_framed : Framed (OneVariable line)
-  variable_framed = behind_framed var_word Ended ended_framed
+pub variable_framed : Framed OneVariable
+variable_framed = behind_framed var_word Ended ended_framed
 
-  module _ (ts : List TokenKind) (i : ℕ) where
-    pub variable_missing : (j : ℕ) (why : GrammarFault) → RightToken ts var_word i (stopped j why) → RightVariable line ts i (stopped j why)
-    variable_missing j why x = behind_stop var_word Ended ended_fills x
+module _ (ts : List TokenKind) (i : ℕ) where
+  pub variable_missing : (j : ℕ) (why : GrammarFault) → RightToken ts var_word i (stopped j why) → RightVariable ts i (stopped j why)
+  variable_missing j why x = behind_stop var_word Ended ended_fills x
 
-    module _ (k : ℕ) (x : RightToken ts var_word i (found tt k)) where
-      pub variable_stop : (j : ℕ) (why : GrammarFault) → RightWord line ts k (stopped j why) → RightVariable line ts i (stopped j why)
-      variable_stop j why y = behind_then var_word Ended x (stopped j why) (closed_stop (OneWord line) semicolon (word_framed line) (λ us limit n b m y ends. tt) y)
+  module _ (k : ℕ) (x : RightToken ts var_word i (found tt k)) where
+    pub variable_stop : (j : ℕ) (why : GrammarFault) → RightWord ts k (stopped j why) → RightVariable ts i (stopped j why)
+    variable_stop j why y = behind_then var_word Ended x (stopped j why) (closed_stop OneWord semicolon word_framed (λ us limit n b m y ends. tt) y)
 
-      module _ (w : Word) (l : ℕ) (y : RightWord line ts k (found w l)) where
-        pub variable_open : (j : ℕ) (why : GrammarFault) → RightToken ts semicolon l (stopped j why) → RightVariable line ts i (stopped j why)
-        variable_open j why z = behind_then var_word Ended x (stopped j why) (closed_missing (OneWord line) semicolon (word_framed line) (λ us limit n b m y ends. tt) y z)
+    module _ (w : Word) (l : ℕ) (y : RightWord ts k (found w l)) where
+      pub variable_open : (j : ℕ) (why : GrammarFault) → RightToken ts semicolon l (stopped j why) → RightVariable ts i (stopped j why)
+      variable_open j why z = behind_then var_word Ended x (stopped j why) (closed_missing OneWord semicolon word_framed (λ us limit n b m y ends. tt) y z)
 
-        pub variable_found : (j : ℕ) → RightToken ts semicolon l (found tt j) → RightVariable line ts i (found w j)
-        variable_found j z = behind_then var_word Ended x (found w j) (closed_found (OneWord line) semicolon (word_framed line) (λ us limit n b m y ends. tt) y z)
+      pub variable_found : (j : ℕ) → RightToken ts semicolon l (found tt j) → RightVariable ts i (found w j)
+      variable_found j z = behind_then var_word Ended x (found w j) (closed_found OneWord semicolon word_framed (λ us limit n b m y ends. tt) y z)
 
-    module _ (is : slice_get ts i ≡ Some var_word) where
-      pub variables_more : (w : Word) (k : ℕ) → RightVariable line ts i (found w k) → (o : Outcome (List Word)) → RightVariables line ts k o →
-          RightVariables line ts i (map_outcome (λ (more : List Word). w ∷ more) o)
-      variables_more w k x o rest = star_more (OneVariable line) Anywhere EndsVariables ts i variable_framed (λ us limit n b m y ends. tt) (λ us at ends. ends (at ∙ is)) w k x o rest
+  module _ (is : slice_get ts i ≡ Some var_word) where
+    pub variables_more : (w : Word) (k : ℕ) → RightVariable ts i (found w k) → (o : Outcome (List Word)) → RightVariables ts k o →
+        RightVariables ts i (map_outcome (λ (more : List Word). w ∷ more) o)
+    variables_more w k x o rest = star_more OneVariable Anywhere EndsVariables ts i variable_framed (λ us limit n b m y ends. tt) (λ us at ends. ends (at ∙ is)) w k x o rest
 
-      pub variables_stop : (j : ℕ) (why : GrammarFault) → RightVariable line ts i (stopped j why) → RightVariables line ts i (stopped j why)
-      variables_stop j why x = star_stop (OneVariable line) Anywhere EndsVariables ts i variable_framed (λ us limit n b m y ends. tt) (λ us at ends. ends (at ∙ is)) j why x
+    pub variables_stop : (j : ℕ) (why : GrammarFault) → RightVariable ts i (stopped j why) → RightVariables ts i (stopped j why)
+    variables_stop j why x = star_stop OneVariable Anywhere EndsVariables ts i variable_framed (λ us limit n b m y ends. tt) (λ us at ends. ends (at ∙ is)) j why x
 
-    pub variables_none : (slice_get ts i ≡ Some var_word → ⊥) → i ≤ length ts → RightVariables line ts i (found [] i)
-    variables_none is_not within = star_none (OneVariable line) ts i (λ us limit a k at x. is_not (sym at ∙ x.1.0)) within
+  pub variables_none : (slice_get ts i ≡ Some var_word → ⊥) → i ≤ length ts → RightVariables ts i (found [] i)
+  variables_none is_not within = star_none OneVariable ts i (λ us limit a k at x. is_not (sym at ∙ x.1.0)) within
 
-  pub variable_longer : (us : List TokenKind) (limit i : ℕ) (w : Word) (j : ℕ) → OneVariable line us limit i w j → i < j
-  variable_longer us limit i w j x = let up = ended_framed.up us limit x.0 w j x.2 in omega (arith, x.1.1)
+pub variable_longer : (us : List TokenKind) (limit i : ℕ) (w : Word) (j : ℕ) → OneVariable us limit i w j → i < j
+variable_longer us limit i w j x = let up = ended_framed.up us limit x.0 w j x.2 in omega (arith, x.1.1)
 
-  -- name { {var name ;} {stmt} }
-  abbrev Inner : Rel (List StatementTree)
-  Inner = Closed (Star (OneStatement line 0 false)) close_brace
+-- name { {var name ;} {stmt} }
+abbrev Inner : Rel (List StatementTree)
+Inner = Closed (Star (OneStatement 0 false)) close_brace
 
-  abbrev Declared : Rel (List Word × List StatementTree)
-  Declared = Seq (Star (OneVariable line)) Inner
+abbrev Declared : Rel (List Word × List StatementTree)
+Declared = Seq (Star OneVariable) Inner
 
-  abbrev Rest : Rel (Word × (List Word × List StatementTree))
-  Rest = Seq (OneWord line) (Behind open_brace Declared)
+abbrev Rest : Rel (Word × (List Word × List StatementTree))
+Rest = Seq OneWord (Behind open_brace Declared)
 
-  statements_framed : Framed (Star (OneStatement line 0 false))
-  statements_framed = star_framed (OneStatement line 0 false) (statement_framed line 0 false)
+statements_framed : Framed (Star (OneStatement 0 false))
+statements_framed = star_framed (OneStatement 0 false) (statement_framed 0 false)
 
-  inner_framed : Framed Inner
-  inner_framed = closed_framed (Star (OneStatement line 0 false)) close_brace statements_framed
+inner_framed : Framed Inner
+inner_framed = closed_framed (Star (OneStatement 0 false)) close_brace statements_framed
 
-  variables_framed : Framed (Star (OneVariable line))
-  variables_framed = star_framed (OneVariable line) variable_framed
+variables_framed : Framed (Star OneVariable)
+variables_framed = star_framed OneVariable variable_framed
 
-  rest_framed : Framed Rest
-  rest_framed = seq_framed (OneWord line) (Behind open_brace Declared) (word_framed line) (behind_framed open_brace Declared
-      (seq_framed (Star (OneVariable line)) Inner variables_framed inner_framed))
+rest_framed : Framed Rest
+rest_framed = seq_framed OneWord (Behind open_brace Declared) word_framed (behind_framed open_brace Declared
+    (seq_framed (Star OneVariable) Inner variables_framed inner_framed))
 
-  inner_fills : Fills Inner
-  inner_fills = closed_fills (Star (OneStatement line 0 false)) close_brace statements_framed (star_fills (OneStatement line 0 false))
+inner_fills : Fills Inner
+inner_fills = closed_fills (Star (OneStatement 0 false)) close_brace statements_framed (star_fills (OneStatement 0 false))
 
-  declared_fills : Fills Declared
-  declared_fills = seq_fills (Star (OneVariable line)) Inner variables_framed (star_fills (OneVariable line)) inner_fills
+declared_fills : Fills Declared
+declared_fills = seq_fills (Star OneVariable) Inner variables_framed (star_fills OneVariable) inner_fills
 
-  braces_fills : Fills (Behind open_brace Declared)
-  braces_fills = behind_fills open_brace Declared declared_fills
+braces_fills : Fills (Behind open_brace Declared)
+braces_fills = behind_fills open_brace Declared declared_fills
 
-  -- behind the variables there is none
-  no_jump_var : BeginsNone line false (Some var_word)
-  no_jump_var = record {
-    no_name = refl;
-    no_service = refl;
-    no_jump = refl;
-    no_if = λ e. absurd (cc);
-    no_while = λ e. absurd (cc);
-  }
+-- behind the variables there is none
+no_jump_var : BeginsNone false (Some var_word)
+no_jump_var = record {
+  no_name = refl;
+  no_service = refl;
+  no_jump = refl;
+  no_if = λ e. absurd (cc);
+  no_while = λ e. absurd (cc);
+}
 
-  pub variables_follow : Follows EndsVariables Inner Anywhere
-  variables_follow us limit k [] j x ends = λ is.
-      let e : Some close_brace ≡ Some var_word = sym x.2.0 ∙ (ap (slice_get us) x.1 ∙ is) in absurd (cc)
-  variables_follow us limit k (s ∷ ss) j x ends = λ is. none_begins line us limit 0 false (subst (λ o. BeginsNone line false o) (sym is) no_jump_var) x.1.1
+pub variables_follow : Follows EndsVariables Inner Anywhere
+variables_follow us limit k [] j x ends = λ is.
+    let e : Some close_brace ≡ Some var_word = sym x.2.0 ∙ (ap (slice_get us) x.1 ∙ is) in absurd (cc)
+variables_follow us limit k (s ∷ ss) j x ends = λ is. none_begins us limit 0 false (subst (λ o. BeginsNone false o) (sym is) no_jump_var) x.1.1
 
-  abbrev body_of : ℕ → BodyKind → Word × (List Word × List StatementTree) → BodyTree
-  body_of i b p = record { kind = b; line = line i; name = p.0; variables = p.1.0; statements = block_of p.1.1 }
+abbrev body_of : ℕ → BodyKind → Word × (List Word × List StatementTree) → BodyTree
+body_of i b p = record { kind = b; at = i; name = p.0; variables = p.1.0; statements = block_of p.1.1 }
 
-  -- what stands behind the first word of a body
-  abbrev rest_tree : BodyTree → List StatementTree → Word × (List Word × List StatementTree)
-  rest_tree b ss = (b.name, (b.variables, ss))
+-- what stands behind the first word of a body
+abbrev rest_tree : BodyTree → List StatementTree → Word × (List Word × List StatementTree)
+rest_tree b ss = (b.name, (b.variables, ss))
 
-  rest_from : (us : List TokenKind) (limit i : ℕ) (b : BodyTree) (j : ℕ) (x : OneBody line us limit i b j) → Rest us limit x.1 (rest_tree b x.9) j
-  rest_from us limit i b j x = (x.3, x.4, (x.5, x.6, (x.7, x.8, (x.11, to_star line us limit 0 false x.12, x.13))))
+rest_from : (us : List TokenKind) (limit i : ℕ) (b : BodyTree) (j : ℕ) (x : OneBody us limit i b j) → Rest us limit x.1 (rest_tree b x.9) j
+rest_from us limit i b j x = (x.3, x.4, (x.5, x.6, (x.7, x.8, (x.11, to_star us limit 0 false x.12, x.13))))
 
-  pub body_framed : Framed (OneBody line)
-  body_framed = record {
-    up = λ us limit i b j x. let up = rest_framed.up us limit x.1 (rest_tree b x.9) j (rest_from us limit i b j x) in omega (arith, x.2.1);
-    same = λ ts us limit lower i b j low x same.
-        let up = rest_framed.up ts limit x.1 (rest_tree b x.9) j (rest_from ts limit i b j x) in
-        let first = (item_framed body_kind_of).same ts us limit lower i b.kind x.1 low x.2 (fewer x.1 j ts us up same) in
-        let r = rest_framed.same ts us limit lower x.1 (rest_tree b x.9) j low (rest_from ts limit i b j x) same in
-        (x.0, x.1, first, r.0, r.1, r.2.0, r.2.1, r.2.2.0, r.2.2.1, x.9, x.10, r.2.2.2.0, from_star line us lower 0 false r.2.2.0 x.9 r.2.2.2.0 r.2.2.2.1, r.2.2.2.2);
-  }
+pub body_framed : Framed OneBody
+body_framed = record {
+  up = λ us limit i b j x. let up = rest_framed.up us limit x.1 (rest_tree b x.9) j (rest_from us limit i b j x) in omega (arith, x.2.1);
+  same = λ ts us limit lower i b j low x same.
+      let up = rest_framed.up ts limit x.1 (rest_tree b x.9) j (rest_from ts limit i b j x) in
+      let first = (item_framed body_kind_of).same ts us limit lower i b.kind x.1 low x.2 (fewer x.1 j ts us up same) in
+      let r = rest_framed.same ts us limit lower x.1 (rest_tree b x.9) j low (rest_from ts limit i b j x) same in
+      (x.0, x.1, first, r.0, r.1, r.2.0, r.2.1, r.2.2.0, r.2.2.1, x.9, x.10, r.2.2.2.0, from_star us lower 0 false r.2.2.0 x.9 r.2.2.2.0 r.2.2.2.1, r.2.2.2.2);
+}
 
-  module _ (ts : List TokenKind) (i : ℕ) (b : BodyKind) (is : option_and_then body_kind_of (slice_get ts i) ≡ Some b) where
-    abbrev word : (t : TokenKind) × (slice_get ts i ≡ Some t) × (body_kind_of t ≡ Some b)
-    word = token_there body_kind_of (slice_get ts i) b is
+module _ (ts : List TokenKind) (i : ℕ) (b : BodyKind) (is : option_and_then body_kind_of (slice_get ts i) ≡ Some b) where
+  abbrev word : (t : TokenKind) × (slice_get ts i ≡ Some t) × (body_kind_of t ≡ Some b)
+  word = token_there body_kind_of (slice_get ts i) b is
 
-    one_kind : (a : BodyKind) → Some a ≡ Some b → a ≡ b
-    one_kind a e = cc
+  one_kind : (a : BodyKind) → Some a ≡ Some b → a ≡ b
+  one_kind a e = cc
 
-    body_to : (us : List TokenKind) (limit : ℕ) (p : Word × (List Word × List StatementTree)) (j : ℕ) → Behind word.0 Rest us limit i p j → OneBody line us limit i (body_of i b p) j
-    body_to us limit p j r = (
-      refl,
-      r.0,
-      (ap (option_and_then body_kind_of) r.1.0 ∙ word.2, r.1.1),
-      r.2.0,
-      r.2.1,
-      r.2.2.0,
-      r.2.2.1,
-      r.2.2.2.0,
-      r.2.2.2.1,
-      p.1.1,
-      refl,
-      r.2.2.2.2.0,
-      from_star line us limit 0 false r.2.2.2.0 p.1.1 r.2.2.2.2.0 r.2.2.2.2.1,
-      r.2.2.2.2.2,
-    )
+  body_to : (us : List TokenKind) (limit : ℕ) (p : Word × (List Word × List StatementTree)) (j : ℕ) → Behind word.0 Rest us limit i p j → OneBody us limit i (body_of i b p) j
+  body_to us limit p j r = (
+    refl,
+    r.0,
+    (ap (option_and_then body_kind_of) r.1.0 ∙ word.2, r.1.1),
+    r.2.0,
+    r.2.1,
+    r.2.2.0,
+    r.2.2.1,
+    r.2.2.2.0,
+    r.2.2.2.1,
+    p.1.1,
+    refl,
+    r.2.2.2.2.0,
+    from_star us limit 0 false r.2.2.2.0 p.1.1 r.2.2.2.2.0 r.2.2.2.2.1,
+    r.2.2.2.2.2,
+  )
 
-    body_back : (us : List TokenKind) (limit : ℕ) (e : BodyTree) (j : ℕ) → slice_get us i ≡ slice_get ts i → OneBody line us limit i e j →
-        (p : Word × (List Word × List StatementTree)) × (e ≡ body_of i b p) × Behind word.0 Rest us limit i p j × Unit {0}
-    body_back us limit e j at r =
-        let one = one_kind e.kind (sym r.2.0 ∙ (ap (option_and_then body_kind_of) at ∙ is)) in (
-          rest_tree e r.9,
-          ap₂ (λ (k : BodyKind) (q : ℕ × _). record { kind = k; line = q.0; name = e.name; variables = e.variables; statements = q.1 }) one (ap₂ (λ u v. (u, v)) r.0 r.10),
-          (r.1, (at ∙ word.1, r.2.1), rest_from us limit i e j r),
-          tt,
-        )
+  body_back : (us : List TokenKind) (limit : ℕ) (e : BodyTree) (j : ℕ) → slice_get us i ≡ slice_get ts i → OneBody us limit i e j →
+      (p : Word × (List Word × List StatementTree)) × (e ≡ body_of i b p) × Behind word.0 Rest us limit i p j × Unit {0}
+  body_back us limit e j at r =
+      let one = one_kind e.kind (sym r.2.0 ∙ (ap (option_and_then body_kind_of) at ∙ is)) in (
+        rest_tree e r.9,
+        ap₂ (λ (k : BodyKind) (q : ℕ × _). record { kind = k; at = q.0; name = e.name; variables = e.variables; statements = q.1 }) one (ap₂ (λ u v. (u, v)) r.0 r.10),
+        (r.1, (at ∙ word.1, r.2.1), rest_from us limit i e j r),
+        tt,
+      )
 
-    body_as : (o : Outcome (Word × (List Word × List StatementTree))) → Right (At Rest (i + 1)) Anywhere ts (i + 1) o → RightBody line ts i (map_outcome (body_of i b) o)
-    body_as o x = right_as (Behind word.0 Rest) (OneBody line) (body_of i b) (λ us limit p j r. body_to us limit p j r)
-        (λ us limit e j at r ends. body_back us limit e j at r) o (behind_then word.0 Rest (token_found word.0 ts i word.1) o x)
+  body_as : (o : Outcome (Word × (List Word × List StatementTree))) → Right (At Rest (i + 1)) Anywhere ts (i + 1) o → RightBody ts i (map_outcome (body_of i b) o)
+  body_as o x = right_as (Behind word.0 Rest) OneBody (body_of i b) (λ us limit p j r. body_to us limit p j r)
+      (λ us limit e j at r ends. body_back us limit e j at r) o (behind_then word.0 Rest (token_found word.0 ts i word.1) o x)
 
-    pub body_name : (j : ℕ) (why : GrammarFault) → RightWord line ts (i + 1) (stopped j why) → RightBody line ts i (stopped j why)
-    body_name j why x = body_as (stopped j why) (seq_stop (OneWord line) (Behind open_brace Declared) (word_framed line) braces_fills (λ us limit n b m y ends. tt) x)
+  pub body_name : (j : ℕ) (why : GrammarFault) → RightWord ts (i + 1) (stopped j why) → RightBody ts i (stopped j why)
+  body_name j why x = body_as (stopped j why) (seq_stop OneWord (Behind open_brace Declared) word_framed braces_fills (λ us limit n b m y ends. tt) x)
 
-    module _ (w : Word) (k : ℕ) (x : RightWord line ts (i + 1) (found w k)) where
-      after_name : (o : Outcome (List Word × List StatementTree)) → Right (At (Behind open_brace Declared) k) Anywhere ts k o →
-          RightBody line ts i (map_outcome (λ (q : List Word × List StatementTree). body_of i b (w, q)) o)
-      after_name (found q j) y = body_as (found (w, q) j) (seq_then (OneWord line) (Behind open_brace Declared) (word_framed line) (λ us limit n b m y ends. tt) x (found q j) y)
-      after_name (stopped j why) y = body_as (stopped j why) (seq_then (OneWord line) (Behind open_brace Declared) (word_framed line) (λ us limit n b m y ends. tt) x (stopped j why) y)
+  module _ (w : Word) (k : ℕ) (x : RightWord ts (i + 1) (found w k)) where
+    after_name : (o : Outcome (List Word × List StatementTree)) → Right (At (Behind open_brace Declared) k) Anywhere ts k o →
+        RightBody ts i (map_outcome (λ (q : List Word × List StatementTree). body_of i b (w, q)) o)
+    after_name (found q j) y = body_as (found (w, q) j) (seq_then OneWord (Behind open_brace Declared) word_framed (λ us limit n b m y ends. tt) x (found q j) y)
+    after_name (stopped j why) y = body_as (stopped j why) (seq_then OneWord (Behind open_brace Declared) word_framed (λ us limit n b m y ends. tt) x (stopped j why) y)
 
-      pub body_open : (j : ℕ) (why : GrammarFault) → RightToken ts open_brace k (stopped j why) → RightBody line ts i (stopped j why)
-      body_open j why y = after_name (stopped j why) (behind_stop open_brace Declared declared_fills y)
+    pub body_open : (j : ℕ) (why : GrammarFault) → RightToken ts open_brace k (stopped j why) → RightBody ts i (stopped j why)
+    body_open j why y = after_name (stopped j why) (behind_stop open_brace Declared declared_fills y)
 
-      module _ (l : ℕ) (y : RightToken ts open_brace k (found tt l)) where
-        pub body_variables : (j : ℕ) (why : GrammarFault) → RightVariables line ts l (stopped j why) → RightBody line ts i (stopped j why)
-        body_variables j why z = after_name (stopped j why) (behind_then open_brace Declared y (stopped j why)
-            (seq_stop (Star (OneVariable line)) Inner variables_framed inner_fills variables_follow z))
+    module _ (l : ℕ) (y : RightToken ts open_brace k (found tt l)) where
+      pub body_variables : (j : ℕ) (why : GrammarFault) → RightVariables ts l (stopped j why) → RightBody ts i (stopped j why)
+      body_variables j why z = after_name (stopped j why) (behind_then open_brace Declared y (stopped j why)
+          (seq_stop (Star OneVariable) Inner variables_framed inner_fills variables_follow z))
 
-        module _ (vs : List Word) (m : ℕ) (z : RightVariables line ts l (found vs m)) where
-          after_variables : (o : Outcome (List StatementTree)) → Right (At Inner m) Anywhere ts m o →
-              RightBody line ts i (map_outcome (λ (ss : List StatementTree). body_of i b (w, (vs, ss))) o)
-          after_variables (found ss j) v = after_name (found (vs, ss) j) (behind_then open_brace Declared y (found (vs, ss) j)
-              (seq_then (Star (OneVariable line)) Inner variables_framed variables_follow z (found ss j) v))
-          after_variables (stopped j why) v = after_name (stopped j why) (behind_then open_brace Declared y (stopped j why)
-              (seq_then (Star (OneVariable line)) Inner variables_framed variables_follow z (stopped j why) v))
+      module _ (vs : List Word) (m : ℕ) (z : RightVariables ts l (found vs m)) where
+        after_variables : (o : Outcome (List StatementTree)) → Right (At Inner m) Anywhere ts m o →
+            RightBody ts i (map_outcome (λ (ss : List StatementTree). body_of i b (w, (vs, ss))) o)
+        after_variables (found ss j) v = after_name (found (vs, ss) j) (behind_then open_brace Declared y (found (vs, ss) j)
+            (seq_then (Star OneVariable) Inner variables_framed variables_follow z (found ss j) v))
+        after_variables (stopped j why) v = after_name (stopped j why) (behind_then open_brace Declared y (stopped j why)
+            (seq_then (Star OneVariable) Inner variables_framed variables_follow z (stopped j why) v))
 
-          pub body_statements : (j : ℕ) (why : GrammarFault) → RightStatements line ts 0 false m (stopped j why) → RightBody line ts i (stopped j why)
-          body_statements j why v = after_variables (stopped j why) (closed_stop (Star (OneStatement line 0 false)) close_brace statements_framed (λ us limit n b m y ends. y.0) v)
+        pub body_statements : (j : ℕ) (why : GrammarFault) → RightStatements ts 0 false m (stopped j why) → RightBody ts i (stopped j why)
+        body_statements j why v = after_variables (stopped j why) (closed_stop (Star (OneStatement 0 false)) close_brace statements_framed (λ us limit n b m y ends. y.0) v)
 
-          module _ (ss : List StatementTree) (n : ℕ) (v : RightStatements line ts 0 false m (found ss n)) where
-            pub body_closed : (j : ℕ) (why : GrammarFault) → RightToken ts close_brace n (stopped j why) → RightBody line ts i (stopped j why)
-            body_closed j why u = after_variables (stopped j why) (closed_missing (Star (OneStatement line 0 false)) close_brace statements_framed (λ us limit n b m y ends. y.0) v u)
+        module _ (ss : List StatementTree) (n : ℕ) (v : RightStatements ts 0 false m (found ss n)) where
+          pub body_closed : (j : ℕ) (why : GrammarFault) → RightToken ts close_brace n (stopped j why) → RightBody ts i (stopped j why)
+          body_closed j why u = after_variables (stopped j why) (closed_missing (Star (OneStatement 0 false)) close_brace statements_framed (λ us limit n b m y ends. y.0) v u)
 
-            pub body_found : (j : ℕ) → RightToken ts close_brace n (found tt j) → RightBody line ts i (found (body_of i b (w, (vs, ss))) j)
-            body_found j u = after_variables (found ss j) (closed_found (Star (OneStatement line 0 false)) close_brace statements_framed (λ us limit n b m y ends. y.0) v u)
+          pub body_found : (j : ℕ) → RightToken ts close_brace n (found tt j) → RightBody ts i (found (body_of i b (w, (vs, ss))) j)
+          body_found j u = after_variables (found ss j) (closed_found (Star (OneStatement 0 false)) close_brace statements_framed (λ us limit n b m y ends. y.0) v u)
 
-    goes_on : (us : List TokenKind) → slice_get us i ≡ slice_get ts i → EndsBodies us i → ⊥
-    goes_on us at ends = let e : None ≡ Some b = sym ends ∙ (ap (option_and_then body_kind_of) at ∙ is) in absurd (cc)
+  goes_on : (us : List TokenKind) → slice_get us i ≡ slice_get ts i → EndsBodies us i → ⊥
+  goes_on us at ends = let e : None ≡ Some b = sym ends ∙ (ap (option_and_then body_kind_of) at ∙ is) in absurd (cc)
 
-    pub bodies_more : (e : BodyTree) (k : ℕ) → RightBody line ts i (found e k) → (o : Outcome (List BodyTree)) → RightBodies line ts k o →
-        RightBodies line ts i (map_outcome (λ (more : List BodyTree). e ∷ more) o)
-    bodies_more e k x o rest = star_more (OneBody line) Anywhere EndsBodies ts i body_framed (λ us limit n b m y ends. tt) goes_on e k x o rest
+  pub bodies_more : (e : BodyTree) (k : ℕ) → RightBody ts i (found e k) → (o : Outcome (List BodyTree)) → RightBodies ts k o →
+      RightBodies ts i (map_outcome (λ (more : List BodyTree). e ∷ more) o)
+  bodies_more e k x o rest = star_more OneBody Anywhere EndsBodies ts i body_framed (λ us limit n b m y ends. tt) goes_on e k x o rest
 
-    pub bodies_stop : (j : ℕ) (why : GrammarFault) → RightBody line ts i (stopped j why) → RightBodies line ts i (stopped j why)
-    bodies_stop j why x = star_stop (OneBody line) Anywhere EndsBodies ts i body_framed (λ us limit n b m y ends. tt) goes_on j why x
+  pub bodies_stop : (j : ℕ) (why : GrammarFault) → RightBody ts i (stopped j why) → RightBodies ts i (stopped j why)
+  bodies_stop j why x = star_stop OneBody Anywhere EndsBodies ts i body_framed (λ us limit n b m y ends. tt) goes_on j why x
 
-  pub bodies_none : (ts : List TokenKind) (i : ℕ) → None ≡ option_and_then body_kind_of (slice_get ts i) → i ≤ length ts → RightBodies line ts i (found [] i)
-  bodies_none ts i none within = star_none (OneBody line) ts i
-      (λ us limit b k at x. let e : None ≡ Some b.kind = none ∙ (ap (option_and_then body_kind_of) (sym at) ∙ x.2.0) in absurd (cc)) within
+pub bodies_none : (ts : List TokenKind) (i : ℕ) → None ≡ option_and_then body_kind_of (slice_get ts i) → i ≤ length ts → RightBodies ts i (found [] i)
+bodies_none ts i none within = star_none OneBody ts i
+    (λ us limit b k at x. let e : None ≡ Some b.kind = none ∙ (ap (option_and_then body_kind_of) (sym at) ∙ x.2.0) in absurd (cc)) within
 
-  pub body_longer : (us : List TokenKind) (limit i : ℕ) (b : BodyTree) (j : ℕ) → OneBody line us limit i b j → i < j
-  body_longer us limit i b j x = let up = rest_framed.up us limit x.1 (rest_tree b x.9) j (rest_from us limit i b j x) in omega (arith, x.2.1)
+pub body_longer : (us : List TokenKind) (limit i : ℕ) (b : BodyTree) (j : ℕ) → OneBody us limit i b j → i < j
+body_longer us limit i b j x = let up = rest_framed.up us limit x.1 (rest_tree b x.9) j (rest_from us limit i b j x) in omega (arith, x.2.1)
 
-  -- what the reader of all tokens answers
-  pub ends_there : (us : List TokenKind) → EndsBodies us (length us)
-  ends_there us = ap (option_and_then body_kind_of) (slice_get_past us (length us) (omega arith))
+-- what the reader of all tokens answers
+pub ends_there : (us : List TokenKind) → EndsBodies us (length us)
+ends_there us = ap (option_and_then body_kind_of) (slice_get_past us (length us) (omega arith))
 
-  pub verdict_stopped : (ts : List TokenKind) (e : ReadError) → Answers bodies_view (Err e) (RightBodies line ts 0) → IsVerdict line ts (Err e)
-  verdict_stopped ts Memory a = tt
-  verdict_stopped ts (Fault f) a = whole_stopped (Bodies line) EndsBodies ends_there ts f.at f.why a
+pub verdict_stopped : (ts : List TokenKind) (e : ReadError) → Answers bodies_view (Err e) (RightBodies ts 0) → IsVerdict ts (Err e)
+verdict_stopped ts Memory a = tt
+verdict_stopped ts (Fault f) a = whole_stopped Bodies EndsBodies ends_there ts f.at f.why a
 
-  pub verdict_longer : (ts : List TokenKind) (t : List BodyTree) (j : ℕ) → j < length ts → RightBodies line ts 0 (found t j) → IsFirstFault (Bodies line) ts j Syntax
-  verdict_longer ts t j lt x = whole_longer (Bodies line) EndsBodies ends_there (star_framed (OneBody line) body_framed) ts t j lt x
+pub verdict_longer : (ts : List TokenKind) (t : List BodyTree) (j : ℕ) → j < length ts → RightBodies ts 0 (found t j) → IsFirstFault Bodies ts j Syntax
+verdict_longer ts t j lt x = whole_longer Bodies EndsBodies ends_there (star_framed OneBody body_framed) ts t j lt x
 
-  pub verdict_found : (ts : List TokenKind) (t : List BodyTree) (j : ℕ) → length ts ≤ j → RightBodies line ts 0 (found t j) →
-      IsWhole (Bodies line) ts t × ((other : List BodyTree) → IsWhole (Bodies line) ts other → other ≡ t)
-  verdict_found ts t j past x = whole_found (Bodies line) EndsBodies ends_there ts t j past x
+pub verdict_found : (ts : List TokenKind) (t : List BodyTree) (j : ℕ) → length ts ≤ j → RightBodies ts 0 (found t j) →
+    IsWhole Bodies ts t × ((other : List BodyTree) → IsWhole Bodies ts other → other ≡ t)
+verdict_found ts t j past x = whole_found Bodies EndsBodies ends_there ts t j past x

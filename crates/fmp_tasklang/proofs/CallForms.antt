@@ -38,10 +38,10 @@ form_out : (s : Service) → has_out false (call_parts s) ≡ is_some (out_place
 form_out service.Put = refl
 form_out _ = refl
 
-module _ (line : ℕ → ℕ) (d : ℕ) (ts : List TokenKind) (limit : ℕ) where
+module _ (d : ℕ) (ts : List TokenKind) (limit : ℕ) where
   one_value :
       (p : Part) (ps : List Part) (a : Option ArgumentTree) (more : List ArgumentTree) (i k : ℕ) →
-      OnePart line d p ts limit i a k → length (values_of more) ≡ values_in ps →
+      OnePart d p ts limit i a k → length (values_of more) ≡ values_in ps →
       length (values_of (put a more)) ≡ values_in (p ∷ ps)
   one_value (part.Mark m) ps None more i k x h = h
   one_value (part.Mark m) ps (Some (value e)) more i k x h = absurd x
@@ -54,7 +54,7 @@ module _ (line : ℕ → ℕ) (d : ℕ) (ts : List TokenKind) (limit : ℕ) wher
   one_value (part.Out m) ps (Some (out w)) more i k x h = h
 
   parts_values :
-      (ps : List Part) (i : ℕ) (args : List ArgumentTree) (j : ℕ) → Parts line d ps ts limit i args j →
+      (ps : List Part) (i : ℕ) (args : List ArgumentTree) (j : ℕ) → Parts d ps ts limit i args j →
       length (values_of args) ≡ values_in ps
   parts_values [] i args j x = ap (λ a. length (values_of a)) x.0
   parts_values (p ∷ ps) i args j x =
@@ -63,7 +63,7 @@ module _ (line : ℕ → ℕ) (d : ℕ) (ts : List TokenKind) (limit : ℕ) wher
 
   one_out :
       (p : Part) (ps : List Part) (a : Option ArgumentTree) (more : List ArgumentTree) (i k : ℕ) (w : Option Word) →
-      OnePart line d p ts limit i a k → ((v : Option Word) → is_some (out_from v more) ≡ has_out (is_some v) ps) →
+      OnePart d p ts limit i a k → ((v : Option Word) → is_some (out_from v more) ≡ has_out (is_some v) ps) →
       is_some (out_from w (put a more)) ≡ has_out (is_some w) (p ∷ ps)
   one_out (part.Mark m) ps None more i k w x h = h w
   one_out (part.Mark m) ps (Some (value e)) more i k w x h = absurd x
@@ -76,7 +76,7 @@ module _ (line : ℕ → ℕ) (d : ℕ) (ts : List TokenKind) (limit : ℕ) wher
   one_out (part.Out m) ps (Some (out v)) more i k w x h = h (Some v)
 
   parts_out :
-      (ps : List Part) (i : ℕ) (args : List ArgumentTree) (j : ℕ) (w : Option Word) → Parts line d ps ts limit i args j →
+      (ps : List Part) (i : ℕ) (args : List ArgumentTree) (j : ℕ) (w : Option Word) → Parts d ps ts limit i args j →
       is_some (out_from w args) ≡ has_out (is_some w) ps
   parts_out [] i args j w x = ap (λ a. is_some (out_from w a)) x.0
   parts_out (p ∷ ps) i args j w x =
@@ -85,7 +85,7 @@ module _ (line : ℕ → ℕ) (d : ℕ) (ts : List TokenKind) (limit : ℕ) wher
 
   -- a call has the arguments of its service
   pub call_fits :
-      (result : Option Word) (c : Called) (i j : ℕ) → OneCall line d ts limit i c j → CallFits (call_tree result c)
+      (result : Option Word) (c : Called) (i j : ℕ) → OneCall d ts limit i c j → CallFits (call_tree result c)
   call_fits result c i j x = (
     ap (λ (z : Called). length z.arguments) x.1 ∙ parts_values (call_parts c.service) x.2 x.0 j x.4 ∙ form_values c.service,
     ap (λ (z : Called). is_some z.out) x.1 ∙ parts_out (call_parts c.service) x.2 x.0 j None x.4 ∙ form_out c.service,
@@ -116,40 +116,40 @@ choice_fits :
 choice_fits e body None first second = first
 choice_fits e body (Some b) first second = (first, second)
 
-module _ (line : ℕ → ℕ) (ts : List TokenKind) (limit : ℕ) where
+module _ (ts : List TokenKind) (limit : ℕ) where
   mutual
     pub statement_fits :
-        {d : ℕ} {loop : Bool} {i : ℕ} {s : StatementTree} {j : ℕ} → IsStatement line ts limit d loop i s j → StatementFits s
+        {d : ℕ} {loop : Bool} {i : ℕ} {s : StatementTree} {j : ℕ} → IsStatement ts limit d loop i s j → StatementFits s
     statement_fits (an_assignment a r e semi) = tt
     statement_fits {d = d} (a_call r a c b res call semi is) =
-        subst StatementFits (sym is) (call_fits line d ts limit r c a b call)
+        subst StatementFits (sym is) (call_fits d ts limit r c a b call)
     statement_fits {loop = loop} {i = i} (a_jump x semi) = subst FitsIf x.0 (token_fits loop (slice_get ts i))
     statement_fits (an_if s) = if_fits s
     statement_fits (a_while x test body) = block_fits body
 
-    if_fits : {d : ℕ} {loop : Bool} {i : ℕ} {s : StatementTree} {j : ℕ} → IsIf line ts limit d loop i s j → StatementFits s
+    if_fits : {d : ℕ} {loop : Bool} {i : ℕ} {s : StatementTree} {j : ℕ} → IsIf ts limit d loop i s j → StatementFits s
     if_fits (if_chosen {e = e} {body = body} {other = other} x test block els is) =
         subst StatementFits (sym is) (choice_fits e body other (block_fits block) (else_fits els))
 
-    else_fits : {d : ℕ} {loop : Bool} {i : ℕ} {o : Option Block} {j : ℕ} → IsElse line ts limit d loop i o j → ElseFits o
+    else_fits : {d : ℕ} {loop : Bool} {i : ℕ} {o : Option Block} {j : ℕ} → IsElse ts limit d loop i o j → ElseFits o
     else_fits no_else = tt
     else_fits (an_else x other) = other_fits other
 
-    other_fits : {d : ℕ} {loop : Bool} {i : ℕ} {b : Block} {j : ℕ} → IsOther line ts limit d loop i b j → BlockFits b
+    other_fits : {d : ℕ} {loop : Bool} {i : ℕ} {b : Block} {j : ℕ} → IsOther ts limit d loop i b j → BlockFits b
     other_fits (a_block b) = block_fits b
     other_fits (another_if allows f is) = subst BlockFits (sym is) (if_fits f, tt)
 
-    block_fits : {d : ℕ} {loop : Bool} {i : ℕ} {b : Block} {j : ℕ} → IsBlock line ts limit d loop i b j → BlockFits b
+    block_fits : {d : ℕ} {loop : Bool} {i : ℕ} {b : Block} {j : ℕ} → IsBlock ts limit d loop i b j → BlockFits b
     block_fits (braces allows left ss right is) = subst BlockFits (sym is) (statements_fit ss)
 
     pub statements_fit :
-        {d : ℕ} {loop : Bool} {i : ℕ} {ss : List StatementTree} {j : ℕ} → AreStatements line ts limit d loop i ss j →
+        {d : ℕ} {loop : Bool} {i : ℕ} {ss : List StatementTree} {j : ℕ} → AreStatements ts limit d loop i ss j →
         BlockFits (block_of ss)
     statements_fit no_statement = tt
     statements_fit (a_statement s rest) = (statement_fits s, statements_fit rest)
 
   -- each call of the bodies of a text
-  pub calls_fit : (bs : List BodyTree) (i j : ℕ) → Bodies line ts limit i bs j → CallsFit bs
+  pub calls_fit : (bs : List BodyTree) (i j : ℕ) → Bodies ts limit i bs j → CallsFit bs
   calls_fit [] i j x = tt
   calls_fit (b ∷ bs) i j x =
       (subst BlockFits (sym x.1.10) (statements_fit x.1.12), calls_fit bs x.0 j x.2)

@@ -26,207 +26,206 @@ left = kind.Symbol symbol.LeftParen
 abbrev pub right : TokenKind
 right = kind.Symbol symbol.RightParen
 
-module _ (line : ℕ → ℕ) where
-  pub word_framed : Framed (OneWord line)
-  word_framed = record {
-    up = λ us limit i w j x. omega (arith, x.1.1);
-    same = λ ts us limit lower i w j low x same. (x.0, (item_framed name_of).same ts us limit lower i w.name j low x.1 same);
-  }
+pub word_framed : Framed OneWord
+word_framed = record {
+  up = λ us limit i w j x. omega (arith, x.1.1);
+  same = λ ts us limit lower i w j low x same. (x.0, (item_framed name_of).same ts us limit lower i w.name j low x.1 same);
+}
 
-  module _ (ts : List TokenKind) (limit : ℕ) where
-    mutual
-      pub operand_up : {d i : ℕ} {e : ExpressionTree} {j : ℕ} → IsOperand line ts limit d i e j → i < j
-      operand_up (a_number x) = omega (arith, x.1)
-      operand_up (a_name x) = omega (arith, x.1.1)
-      operand_up (a_group fits a e b) = let up = expression_up e in omega (arith, a.1, b.1)
-      operand_up (a_unary fits a e) = let up = operand_up e in omega (arith, a.1)
+module _ (ts : List TokenKind) (limit : ℕ) where
+  mutual
+    pub operand_up : {d i : ℕ} {e : ExpressionTree} {j : ℕ} → IsOperand ts limit d i e j → i < j
+    operand_up (a_number x) = omega (arith, x.1)
+    operand_up (a_name x) = omega (arith, x.1.1)
+    operand_up (a_group fits a e b) = let up = expression_up e in omega (arith, a.1, b.1)
+    operand_up (a_unary fits a e) = let up = operand_up e in omega (arith, a.1)
 
-      pub expression_up : {d l i : ℕ} {e : ExpressionTree} {j : ℕ} → IsExpression line ts limit d l i e j → i < j
-      expression_up (an_operand z e) = operand_up e
-      expression_up (a_chain z first links is) = let up = expression_up first in let more = links_up links in omega arith
+    pub expression_up : {d l i : ℕ} {e : ExpressionTree} {j : ℕ} → IsExpression ts limit d l i e j → i < j
+    expression_up (an_operand z e) = operand_up e
+    expression_up (a_chain z first links is) = let up = expression_up first in let more = links_up links in omega arith
 
-      pub links_up : {d m i : ℕ} {links : List LinkTree} {j : ℕ} → AreLinks line ts limit d m i links j → i ≤ j
-      links_up no_link = omega arith
-      links_up (a_link a e links) = let up = expression_up e in let more = links_up links in omega (arith, a.1)
+    pub links_up : {d m i : ℕ} {links : List LinkTree} {j : ℕ} → AreLinks ts limit d m i links j → i ≤ j
+    links_up no_link = omega arith
+    links_up (a_link a e links) = let up = expression_up e in let more = links_up links in omega (arith, a.1)
 
-  module _ (ts us : List TokenKind) (limit lower : ℕ) (low : lower ≤ limit) where
-    mutual
-      operand_same : {d i : ℕ} {e : ExpressionTree} {j : ℕ} → IsOperand line ts limit d i e j → Same j ts us → IsOperand line us lower d i e j
-      operand_same {i = i} {j = j} (a_number {n = n} x) same = a_number ((item_framed number_of).same ts us limit lower i n j low x same)
-      operand_same {i = i} {j = j} (a_name {w = w} x) same = a_name (word_framed.same ts us limit lower i w j low x same)
-      operand_same {i = i} {j = j} (a_group {a = a} {b = b} fits x e y) same =
-          let up = expression_up ts limit e in
-          a_group (λ lt. fits (omega (arith, lt))) ((token_framed left).same ts us limit lower i tt a low x (fewer a j ts us (omega (arith, y.1)) same))
-          (expression_same e (fewer b j ts us (omega (arith, y.1)) same)) ((token_framed right).same ts us limit lower b tt j low y same)
-      operand_same {i = i} {j = j} (a_unary {a = a} {op = op} fits x e) same =
-          let up = operand_up ts limit e in
-          a_unary (λ lt. fits (omega (arith, lt))) ((item_framed unary_of).same ts us limit lower i op a low x (fewer a j ts us (omega arith) same)) (operand_same e same)
+module _ (ts us : List TokenKind) (limit lower : ℕ) (low : lower ≤ limit) where
+  mutual
+    operand_same : {d i : ℕ} {e : ExpressionTree} {j : ℕ} → IsOperand ts limit d i e j → Same j ts us → IsOperand us lower d i e j
+    operand_same {i = i} {j = j} (a_number {n = n} x) same = a_number ((item_framed number_of).same ts us limit lower i n j low x same)
+    operand_same {i = i} {j = j} (a_name {w = w} x) same = a_name (word_framed.same ts us limit lower i w j low x same)
+    operand_same {i = i} {j = j} (a_group {a = a} {b = b} fits x e y) same =
+        let up = expression_up ts limit e in
+        a_group (λ lt. fits (omega (arith, lt))) ((token_framed left).same ts us limit lower i tt a low x (fewer a j ts us (omega (arith, y.1)) same))
+        (expression_same e (fewer b j ts us (omega (arith, y.1)) same)) ((token_framed right).same ts us limit lower b tt j low y same)
+    operand_same {i = i} {j = j} (a_unary {a = a} {op = op} fits x e) same =
+        let up = operand_up ts limit e in
+        a_unary (λ lt. fits (omega (arith, lt))) ((item_framed unary_of).same ts us limit lower i op a low x (fewer a j ts us (omega arith) same)) (operand_same e same)
 
-      expression_same : {d l i : ℕ} {e : ExpressionTree} {j : ℕ} → IsExpression line ts limit d l i e j → Same j ts us → IsExpression line us lower d l i e j
-      expression_same (an_operand z e) same = an_operand z (operand_same e same)
-      expression_same {j = j} (a_chain {a = a} z first links is) same =
-          a_chain z (expression_same first (fewer a j ts us (links_up ts limit links) same)) (links_same links same) is
+    expression_same : {d l i : ℕ} {e : ExpressionTree} {j : ℕ} → IsExpression ts limit d l i e j → Same j ts us → IsExpression us lower d l i e j
+    expression_same (an_operand z e) same = an_operand z (operand_same e same)
+    expression_same {j = j} (a_chain {a = a} z first links is) same =
+        a_chain z (expression_same first (fewer a j ts us (links_up ts limit links) same)) (links_same links same) is
 
-      links_same : {d m i : ℕ} {links : List LinkTree} {j : ℕ} → AreLinks line ts limit d m i links j → Same j ts us → AreLinks line us lower d m i links j
-      links_same no_link same = no_link
-      links_same {m = m} {i = i} {j = j} (a_link {a = a} {b = b} {l = l} x e links) same =
-          let up = expression_up ts limit e in
-          let more = links_up ts limit links in
-          a_link ((item_framed operator_of).same ts us limit lower i (m, l.operator) a low x (fewer a j ts us (omega arith) same))
-          (expression_same e (fewer b j ts us more same)) (links_same links same)
+    links_same : {d m i : ℕ} {links : List LinkTree} {j : ℕ} → AreLinks ts limit d m i links j → Same j ts us → AreLinks us lower d m i links j
+    links_same no_link same = no_link
+    links_same {m = m} {i = i} {j = j} (a_link {a = a} {b = b} {l = l} x e links) same =
+        let up = expression_up ts limit e in
+        let more = links_up ts limit links in
+        a_link ((item_framed operator_of).same ts us limit lower i (m, l.operator) a low x (fewer a j ts us (omega arith) same))
+        (expression_same e (fewer b j ts us more same)) (links_same links same)
 
-  pub operand_framed : (d : ℕ) → Framed (OneOperand line d)
-  operand_framed d = record {
-    up = λ us limit i e j x. let up = operand_up us limit x in omega arith;
-    same = λ ts us limit lower i e j low x same. operand_same ts us limit lower low x same;
-  }
+pub operand_framed : (d : ℕ) → Framed (OneOperand d)
+operand_framed d = record {
+  up = λ us limit i e j x. let up = operand_up us limit x in omega arith;
+  same = λ ts us limit lower i e j low x same. operand_same ts us limit lower low x same;
+}
 
-  pub expression_framed : (d l : ℕ) → Framed (OneExpression line d l)
-  expression_framed d l = record {
-    up = λ us limit i e j x. let up = expression_up us limit x in omega arith;
-    same = λ ts us limit lower i e j low x same. expression_same ts us limit lower low x same;
-  }
+pub expression_framed : (d l : ℕ) → Framed (OneExpression d l)
+expression_framed d l = record {
+  up = λ us limit i e j x. let up = expression_up us limit x in omega arith;
+  same = λ ts us limit lower i e j low x same. expression_same ts us limit lower low x same;
+}
 
-  pub link_framed : (d m : ℕ) → Framed (OneLink line d m)
-  link_framed d m = record {
-    up = λ us limit i l j x. let up = expression_up us limit x.2 in omega (arith, x.1.1);
-    same = λ ts us limit lower i l j low x same.
-        let up = expression_up ts limit x.2 in (
-          x.0,
-          (item_framed operator_of).same ts us limit lower i (m, l.operator) x.0 low x.1 (fewer x.0 j ts us (omega arith) same),
-          expression_same ts us limit lower low x.2 same,
-        );
-  }
+pub link_framed : (d m : ℕ) → Framed (OneLink d m)
+link_framed d m = record {
+  up = λ us limit i l j x. let up = expression_up us limit x.2 in omega (arith, x.1.1);
+  same = λ ts us limit lower i l j low x same.
+      let up = expression_up ts limit x.2 in (
+        x.0,
+        (item_framed operator_of).same ts us limit lower i (m, l.operator) x.0 low x.1 (fewer x.0 j ts us (omega arith) same),
+        expression_same ts us limit lower low x.2 same,
+      );
+}
 
-  -- a number is an expression
-  number_expression : (us : List TokenKind) (limit d l i : ℕ) (n : ℤ) (j : ℕ) → Item number_of us limit i n j → IsExpression line us limit d l i (number n) j
-  number_expression us limit d zero i n j x = an_operand refl (a_number x)
-  number_expression us limit d (suc l) i n j x = a_chain (sym (add-one l)) (number_expression us limit d l i n j x) no_link refl
+-- a number is an expression
+number_expression : (us : List TokenKind) (limit d l i : ℕ) (n : ℤ) (j : ℕ) → Item number_of us limit i n j → IsExpression us limit d l i (number n) j
+number_expression us limit d zero i n j x = an_operand refl (a_number x)
+number_expression us limit d (suc l) i n j x = a_chain (sym (add-one l)) (number_expression us limit d l i n j x) no_link refl
 
-  zero_fills : Fills (Item number_of)
-  zero_fills = item_fills number_of (kind.Number (pos 0)) (pos 0) refl
+zero_fills : Fills (Item number_of)
+zero_fills = item_fills number_of (kind.Number (pos 0)) (pos 0) refl
 
-  pub word_fills : Fills (OneWord line)
-  word_fills us limit low = let x = item_fills name_of (kind.Name (name_from [])) (name_from []) refl us limit low in
-      record { other = x.other; same = x.same; long = x.long; tree = record { name = x.tree; line = line (length us) }; reads = (refl, x.reads) }
+pub word_fills : Fills OneWord
+word_fills us limit low = let x = item_fills name_of (kind.Name (name_from [])) (name_from []) refl us limit low in
+    record { other = x.other; same = x.same; long = x.long; tree = record { name = x.tree; at = length us }; reads = (refl, x.reads) }
 
-  abbrev pub word_here : ℕ → Name → Word
-  word_here i n = record { name = n; line = line i }
+abbrev pub word_here : ℕ → Name → Word
+word_here i n = record { name = n; at = i }
 
-  word_as : (ts : List TokenKind) (i : ℕ) (o : Outcome Name) → Right (At (Item name_of) i) Anywhere ts i o → RightWord line ts i (map_outcome (word_here i) o)
-  word_as ts i o x = right_as (Item name_of) (OneWord line) (word_here i) (λ us limit n j r. (refl, r))
-      (λ us limit w j at r ends. (w.name, ap (λ l. record { name = w.name; line = l }) r.0, r.1, tt)) o x
+word_as : (ts : List TokenKind) (i : ℕ) (o : Outcome Name) → Right (At (Item name_of) i) Anywhere ts i o → RightWord ts i (map_outcome (word_here i) o)
+word_as ts i o x = right_as (Item name_of) OneWord (word_here i) (λ us limit n j r. (refl, r))
+    (λ us limit w j at r ends. (w.name, ap (λ l. record { name = w.name; at = l }) r.0, r.1, tt)) o x
 
-  pub word_missing : (ts : List TokenKind) (i : ℕ) → None ≡ option_and_then name_of (slice_get ts i) → i ≤ length ts → RightWord line ts i (stopped i Syntax)
-  word_missing ts i none within = word_as ts i (stopped i Syntax) (item_missing name_of ts i (item_fills name_of (kind.Name (name_from [])) (name_from []) refl)
-      (λ a is. let e : None ≡ Some a = none ∙ is in absurd (cc)) within)
+pub word_missing : (ts : List TokenKind) (i : ℕ) → None ≡ option_and_then name_of (slice_get ts i) → i ≤ length ts → RightWord ts i (stopped i Syntax)
+word_missing ts i none within = word_as ts i (stopped i Syntax) (item_missing name_of ts i (item_fills name_of (kind.Name (name_from [])) (name_from []) refl)
+    (λ a is. let e : None ≡ Some a = none ∙ is in absurd (cc)) within)
 
-  pub word_found : (ts : List TokenKind) (i : ℕ) (n : Name) → i < length ts → option_and_then name_of (slice_get ts i) ≡ Some n → RightWord line ts i (found (word_here i n) (i + 1))
-  word_found ts i n lt is = word_as ts i (found n (i + 1)) (item_found name_of ts i n lt is)
+pub word_found : (ts : List TokenKind) (i : ℕ) (n : Name) → i < length ts → option_and_then name_of (slice_get ts i) ≡ Some n → RightWord ts i (found (word_here i n) (i + 1))
+word_found ts i n lt is = word_as ts i (found n (i + 1)) (item_found name_of ts i n lt is)
 
-  pub operand_fills : (d : ℕ) → Fills (OneOperand line d)
-  operand_fills d us limit low = let x = zero_fills us limit low in
-      record { other = x.other; same = x.same; long = x.long; tree = number x.tree; reads = a_number x.reads }
+pub operand_fills : (d : ℕ) → Fills (OneOperand d)
+operand_fills d us limit low = let x = zero_fills us limit low in
+    record { other = x.other; same = x.same; long = x.long; tree = number x.tree; reads = a_number x.reads }
 
-  pub expression_fills : (d l : ℕ) → Fills (OneExpression line d l)
-  expression_fills d l us limit low = let x = zero_fills us limit low in
-      record { other = x.other; same = x.same; long = x.long; tree = number x.tree; reads = number_expression x.other limit d l (length us) x.tree (length x.other) x.reads }
+pub expression_fills : (d l : ℕ) → Fills (OneExpression d l)
+expression_fills d l us limit low = let x = zero_fills us limit low in
+    record { other = x.other; same = x.same; long = x.long; tree = number x.tree; reads = number_expression x.other limit d l (length us) x.tree (length x.other) x.reads }
 
-  -- what closes an expression is no operator
-  pub closes : (t : TokenKind) → operator_of t ≡ None → Follows (EndsExpression loosest) (OneToken t) Anywhere
-  closes t none us limit k b j y ends = λ m op is.
-      let e : ◌≡◌ {A = Option (ℕ × Operator)} None (Some (m, op)) = sym none ∙ (ap (option_and_then operator_of) (sym y.0) ∙ is) in absurd (cc)
+-- what closes an expression is no operator
+pub closes : (t : TokenKind) → operator_of t ≡ None → Follows (EndsExpression loosest) (OneToken t) Anywhere
+closes t none us limit k b j y ends = λ m op is.
+    let e : ◌≡◌ {A = Option (ℕ × Operator)} None (Some (m, op)) = sym none ∙ (ap (option_and_then operator_of) (sym y.0) ∙ is) in absurd (cc)
 
-  -- an expression and a token behind it
-  abbrev pub Ended : ℕ → TokenKind → Rel ExpressionTree
-  Ended d t = Closed (OneExpression line d loosest) t
+-- an expression and a token behind it
+abbrev pub Ended : ℕ → TokenKind → Rel ExpressionTree
+Ended d t = Closed (OneExpression d loosest) t
 
-  pub ended_fills : (d : ℕ) (t : TokenKind) → Fills (Ended d t)
-  ended_fills d t = closed_fills (OneExpression line d loosest) t (expression_framed d loosest) (expression_fills d loosest)
+pub ended_fills : (d : ℕ) (t : TokenKind) → Fills (Ended d t)
+ended_fills d t = closed_fills (OneExpression d loosest) t (expression_framed d loosest) (expression_fills d loosest)
 
-  module _ (d : ℕ) (t : TokenKind) (none : operator_of t ≡ None) (ts : List TokenKind) (i : ℕ) where
-    pub ended_stop : (j : ℕ) (why : GrammarFault) → RightExpression line ts d loosest i (stopped j why) → Right (At (Ended d t) i) Anywhere ts i (stopped j why)
-    ended_stop j why x = closed_stop (OneExpression line d loosest) t (expression_framed d loosest) (closes t none) x
+module _ (d : ℕ) (t : TokenKind) (none : operator_of t ≡ None) (ts : List TokenKind) (i : ℕ) where
+  pub ended_stop : (j : ℕ) (why : GrammarFault) → RightExpression ts d loosest i (stopped j why) → Right (At (Ended d t) i) Anywhere ts i (stopped j why)
+  ended_stop j why x = closed_stop (OneExpression d loosest) t (expression_framed d loosest) (closes t none) x
 
-    pub ended_then : (e : ExpressionTree) (k : ℕ) → RightExpression line ts d loosest i (found e k) → (o : Outcome (Unit {0})) → RightToken ts t k o →
-        Right (At (Ended d t) i) Anywhere ts i (map_outcome (λ (u : Unit {0}). e) o)
-    ended_then e k x (found u j) y = closed_found (OneExpression line d loosest) t (expression_framed d loosest) (closes t none) x y
-    ended_then e k x (stopped j why) y = closed_missing (OneExpression line d loosest) t (expression_framed d loosest) (closes t none) x y
+  pub ended_then : (e : ExpressionTree) (k : ℕ) → RightExpression ts d loosest i (found e k) → (o : Outcome (Unit {0})) → RightToken ts t k o →
+      Right (At (Ended d t) i) Anywhere ts i (map_outcome (λ (u : Unit {0}). e) o)
+  ended_then e k x (found u j) y = closed_found (OneExpression d loosest) t (expression_framed d loosest) (closes t none) x y
+  ended_then e k x (stopped j why) y = closed_missing (OneExpression d loosest) t (expression_framed d loosest) (closes t none) x y
 
-  -- what the first token of an operand says of it
-  module _ (us : List TokenKind) (limit d i : ℕ) where
-    number_back : {e : ExpressionTree} {j : ℕ} → family (slice_get us i) ≡ 0 → IsOperand line us limit d i e j → (n : ℤ) × (e ≡ number n) × Item number_of us limit i n j
-    number_back at (a_number {n = n} x) = (n, refl, x)
-    number_back at (a_name {w = w} x) = let f = name_family (slice_get us i) w.name x.1.0 in absurd (omega arith)
-    number_back at (a_group fits a e b) = let f : family (slice_get us i) ≡ 2 = ap family a.0 in absurd (omega arith)
-    number_back at (a_unary {op = op} fits a e) = let f = unary_family (slice_get us i) op a.0 in absurd (omega arith)
+-- what the first token of an operand says of it
+module _ (us : List TokenKind) (limit d i : ℕ) where
+  number_back : {e : ExpressionTree} {j : ℕ} → family (slice_get us i) ≡ 0 → IsOperand us limit d i e j → (n : ℤ) × (e ≡ number n) × Item number_of us limit i n j
+  number_back at (a_number {n = n} x) = (n, refl, x)
+  number_back at (a_name {w = w} x) = let f = name_family (slice_get us i) w.name x.1.0 in absurd (omega arith)
+  number_back at (a_group fits a e b) = let f : family (slice_get us i) ≡ 2 = ap family a.0 in absurd (omega arith)
+  number_back at (a_unary {op = op} fits a e) = let f = unary_family (slice_get us i) op a.0 in absurd (omega arith)
 
-    name_back : {e : ExpressionTree} {j : ℕ} → option_and_then number_of (slice_get us i) ≡ None → option_and_then unary_of (slice_get us i) ≡ None →
-        (slice_get us i ≡ Some left → ⊥) → IsOperand line us limit d i e j → (w : Word) × (e ≡ named w) × OneWord line us limit i w j
-    name_back no_number no_unary no_left (a_number {n = n} x) = let e : None ≡ Some n = sym no_number ∙ x.0 in absurd (cc)
-    name_back no_number no_unary no_left (a_name {w = w} x) = (w, refl, x)
-    name_back no_number no_unary no_left (a_group fits a e b) = absurd (no_left a.0)
-    name_back no_number no_unary no_left (a_unary {op = op} fits a e) = let e : None ≡ Some op = sym no_unary ∙ a.0 in absurd (cc)
+  name_back : {e : ExpressionTree} {j : ℕ} → option_and_then number_of (slice_get us i) ≡ None → option_and_then unary_of (slice_get us i) ≡ None →
+      (slice_get us i ≡ Some left → ⊥) → IsOperand us limit d i e j → (w : Word) × (e ≡ named w) × OneWord us limit i w j
+  name_back no_number no_unary no_left (a_number {n = n} x) = let e : None ≡ Some n = sym no_number ∙ x.0 in absurd (cc)
+  name_back no_number no_unary no_left (a_name {w = w} x) = (w, refl, x)
+  name_back no_number no_unary no_left (a_group fits a e b) = absurd (no_left a.0)
+  name_back no_number no_unary no_left (a_unary {op = op} fits a e) = let e : None ≡ Some op = sym no_unary ∙ a.0 in absurd (cc)
 
-    group_back : {e : ExpressionTree} {j : ℕ} → slice_get us i ≡ Some left → IsOperand line us limit d i e j → Deeper d (Behind left (Ended (d + 1) right)) us limit i e j
-    group_back at (a_number {n = n} x) = let f = number_family (slice_get us i) n x.0 in let g : family (slice_get us i) ≡ 2 = ap family at in absurd (omega arith)
-    group_back at (a_name {w = w} x) = let f = name_family (slice_get us i) w.name x.1.0 in let g : family (slice_get us i) ≡ 2 = ap family at in absurd (omega arith)
-    group_back at (a_group {a = a} {b = b} fits x e y) = (fits, (a, x, (b, e, y)))
-    group_back at (a_unary {op = op} fits a e) = let e : None ≡ Some op = ap (option_and_then unary_of) (sym at) ∙ a.0 in absurd (cc)
+  group_back : {e : ExpressionTree} {j : ℕ} → slice_get us i ≡ Some left → IsOperand us limit d i e j → Deeper d (Behind left (Ended (d + 1) right)) us limit i e j
+  group_back at (a_number {n = n} x) = let f = number_family (slice_get us i) n x.0 in let g : family (slice_get us i) ≡ 2 = ap family at in absurd (omega arith)
+  group_back at (a_name {w = w} x) = let f = name_family (slice_get us i) w.name x.1.0 in let g : family (slice_get us i) ≡ 2 = ap family at in absurd (omega arith)
+  group_back at (a_group {a = a} {b = b} fits x e y) = (fits, (a, x, (b, e, y)))
+  group_back at (a_unary {op = op} fits a e) = let e : None ≡ Some op = ap (option_and_then unary_of) (sym at) ∙ a.0 in absurd (cc)
 
-    unary_back : (t : TokenKind) (op : UnaryOperator) {e : ExpressionTree} {j : ℕ} → slice_get us i ≡ Some t → unary_of t ≡ Some op → IsOperand line us limit d i e j →
-        (inner : ExpressionTree) × (e ≡ unary op inner) × Deeper d (Behind t (OneOperand line (d + 1))) us limit i inner j
-    unary_back t op at is (a_number {n = n} x) =
-        let f = number_family (slice_get us i) n x.0 in
-        let g = unary_family (slice_get us i) op (ap (option_and_then unary_of) at ∙ is) in absurd (omega arith)
-    unary_back t op at is (a_name {w = w} x) =
-        let f = name_family (slice_get us i) w.name x.1.0 in
-        let g = unary_family (slice_get us i) op (ap (option_and_then unary_of) at ∙ is) in absurd (omega arith)
-    unary_back t op at is (a_group fits a e b) =
-        let e : None ≡ Some op = ap (option_and_then unary_of) (sym a.0) ∙ (ap (option_and_then unary_of) at ∙ is) in absurd (cc)
-    unary_back t op at is (a_unary {a = k} {op = other} {e = inner} fits a e) =
-        let both : Some other ≡ Some op = sym a.0 ∙ (ap (option_and_then unary_of) at ∙ is) in
-        let one : other ≡ op = cc in
-        (inner, ap (λ o. unary o inner) one, (fits, (k, (at, a.1), e)))
+  unary_back : (t : TokenKind) (op : UnaryOperator) {e : ExpressionTree} {j : ℕ} → slice_get us i ≡ Some t → unary_of t ≡ Some op → IsOperand us limit d i e j →
+      (inner : ExpressionTree) × (e ≡ unary op inner) × Deeper d (Behind t (OneOperand (d + 1))) us limit i inner j
+  unary_back t op at is (a_number {n = n} x) =
+      let f = number_family (slice_get us i) n x.0 in
+      let g = unary_family (slice_get us i) op (ap (option_and_then unary_of) at ∙ is) in absurd (omega arith)
+  unary_back t op at is (a_name {w = w} x) =
+      let f = name_family (slice_get us i) w.name x.1.0 in
+      let g = unary_family (slice_get us i) op (ap (option_and_then unary_of) at ∙ is) in absurd (omega arith)
+  unary_back t op at is (a_group fits a e b) =
+      let e : None ≡ Some op = ap (option_and_then unary_of) (sym a.0) ∙ (ap (option_and_then unary_of) at ∙ is) in absurd (cc)
+  unary_back t op at is (a_unary {a = k} {op = other} {e = inner} fits a e) =
+      let both : Some other ≡ Some op = sym a.0 ∙ (ap (option_and_then unary_of) at ∙ is) in
+      let one : other ≡ op = cc in
+      (inner, ap (λ o. unary o inner) one, (fits, (k, (at, a.1), e)))
 
-  module _ (ts : List TokenKind) (d i : ℕ) where
-    pub number_found : (n : ℤ) → i < length ts → option_and_then number_of (slice_get ts i) ≡ Some n → RightOperand line ts d i (found (number n) (i + 1))
-    number_found n lt is = right_as (Item number_of) (OneOperand line d) number (λ us limit n j r. a_number r)
-        (λ us limit e j at r ends. let b = number_back us limit d i (ap family at ∙ number_family (slice_get ts i) n is) r in (b.0, b.1, b.2, tt))
-        (found n (i + 1)) (item_found number_of ts i n lt is)
+module _ (ts : List TokenKind) (d i : ℕ) where
+  pub number_found : (n : ℤ) → i < length ts → option_and_then number_of (slice_get ts i) ≡ Some n → RightOperand ts d i (found (number n) (i + 1))
+  number_found n lt is = right_as (Item number_of) (OneOperand d) number (λ us limit n j r. a_number r)
+      (λ us limit e j at r ends. let b = number_back us limit d i (ap family at ∙ number_family (slice_get ts i) n is) r in (b.0, b.1, b.2, tt))
+      (found n (i + 1)) (item_found number_of ts i n lt is)
 
-    pub name_as : option_and_then number_of (slice_get ts i) ≡ None → option_and_then unary_of (slice_get ts i) ≡ None → (slice_get ts i ≡ Some left → ⊥) →
-        (o : Outcome Word) → RightWord line ts i o → RightOperand line ts d i (map_outcome named o)
-    name_as no_number no_unary no_left o x = right_as (OneWord line) (OneOperand line d) named (λ us limit n j r. a_name r)
-        (λ us limit e j at r ends.
-        let b = name_back us limit d i (ap (option_and_then number_of) at ∙ no_number) (ap (option_and_then unary_of) at ∙ no_unary) (λ is. no_left (sym at ∙ is)) r in
-        (b.0, b.1, b.2, tt)) o x
+  pub name_as : option_and_then number_of (slice_get ts i) ≡ None → option_and_then unary_of (slice_get ts i) ≡ None → (slice_get ts i ≡ Some left → ⊥) →
+      (o : Outcome Word) → RightWord ts i o → RightOperand ts d i (map_outcome named o)
+  name_as no_number no_unary no_left o x = right_as OneWord (OneOperand d) named (λ us limit n j r. a_name r)
+      (λ us limit e j at r ends.
+      let b = name_back us limit d i (ap (option_and_then number_of) at ∙ no_number) (ap (option_and_then unary_of) at ∙ no_unary) (λ is. no_left (sym at ∙ is)) r in
+      (b.0, b.1, b.2, tt)) o x
 
-    group_as : slice_get ts i ≡ Some left → (o : Outcome ExpressionTree) → Right (At (Deeper d (Behind left (Ended (d + 1) right))) i) Anywhere ts i o → RightOperand line ts d i o
-    group_as is o x = right_same (Deeper d (Behind left (Ended (d + 1) right))) (OneOperand line d)
-        (λ us limit e j r. a_group r.0 r.1.1 r.1.2.1 r.1.2.2) (λ us limit e j at r ends. (group_back us limit d i (at ∙ is) r, tt)) o x
+  group_as : slice_get ts i ≡ Some left → (o : Outcome ExpressionTree) → Right (At (Deeper d (Behind left (Ended (d + 1) right))) i) Anywhere ts i o → RightOperand ts d i o
+  group_as is o x = right_same (Deeper d (Behind left (Ended (d + 1) right))) (OneOperand d)
+      (λ us limit e j r. a_group r.0 r.1.1 r.1.2.1 r.1.2.2) (λ us limit e j at r ends. (group_back us limit d i (at ∙ is) r, tt)) o x
 
-    pub group_deep : slice_get ts i ≡ Some left → 64 ≤ d → RightOperand line ts d i (stopped i Depth)
-    group_deep is deep = group_as is (stopped i Depth) (deeper_deep d left (Ended (d + 1) right) (ended_fills (d + 1) right) is deep)
+  pub group_deep : slice_get ts i ≡ Some left → 64 ≤ d → RightOperand ts d i (stopped i Depth)
+  group_deep is deep = group_as is (stopped i Depth) (deeper_deep d left (Ended (d + 1) right) (ended_fills (d + 1) right) is deep)
 
-    pub group_then : slice_get ts i ≡ Some left → d < 64 → (o : Outcome ExpressionTree) → Right (At (Ended (d + 1) right) (i + 1)) Anywhere ts (i + 1) o → RightOperand line ts d i o
-    group_then is fits o x = group_as is o (deeper_then d (Behind left (Ended (d + 1) right)) fits o
-        (behind_then left (Ended (d + 1) right) (token_found left ts i is) o x))
+  pub group_then : slice_get ts i ≡ Some left → d < 64 → (o : Outcome ExpressionTree) → Right (At (Ended (d + 1) right) (i + 1)) Anywhere ts (i + 1) o → RightOperand ts d i o
+  group_then is fits o x = group_as is o (deeper_then d (Behind left (Ended (d + 1) right)) fits o
+      (behind_then left (Ended (d + 1) right) (token_found left ts i is) o x))
 
-    module _ (op : UnaryOperator) (is : option_and_then unary_of (slice_get ts i) ≡ Some op) where
-      abbrev sign : (t : TokenKind) × (slice_get ts i ≡ Some t) × (unary_of t ≡ Some op)
-      sign = token_there unary_of (slice_get ts i) op is
+  module _ (op : UnaryOperator) (is : option_and_then unary_of (slice_get ts i) ≡ Some op) where
+    abbrev sign : (t : TokenKind) × (slice_get ts i ≡ Some t) × (unary_of t ≡ Some op)
+    sign = token_there unary_of (slice_get ts i) op is
 
-      abbrev Signed : Rel ExpressionTree
-      Signed = Behind sign.0 (OneOperand line (d + 1))
+    abbrev Signed : Rel ExpressionTree
+    Signed = Behind sign.0 (OneOperand (d + 1))
 
-      unary_as : (o : Outcome ExpressionTree) → Right (At (Deeper d Signed) i) Anywhere ts i o → RightOperand line ts d i (map_outcome (unary op) o)
-      unary_as o x = right_as (Deeper d Signed) (OneOperand line d) (unary op)
-          (λ us limit e j r. a_unary r.0 (ap (option_and_then unary_of) r.1.1.0 ∙ sign.2, r.1.1.1) r.1.2)
-          (λ us limit e j at r ends. let b = unary_back us limit d i sign.0 op (at ∙ sign.1) sign.2 r in (b.0, b.1, b.2, tt)) o x
+    unary_as : (o : Outcome ExpressionTree) → Right (At (Deeper d Signed) i) Anywhere ts i o → RightOperand ts d i (map_outcome (unary op) o)
+    unary_as o x = right_as (Deeper d Signed) (OneOperand d) (unary op)
+        (λ us limit e j r. a_unary r.0 (ap (option_and_then unary_of) r.1.1.0 ∙ sign.2, r.1.1.1) r.1.2)
+        (λ us limit e j at r ends. let b = unary_back us limit d i sign.0 op (at ∙ sign.1) sign.2 r in (b.0, b.1, b.2, tt)) o x
 
-      pub unary_deep : 64 ≤ d → RightOperand line ts d i (stopped i Depth)
-      unary_deep deep = unary_as (stopped i Depth) (deeper_deep d sign.0 (OneOperand line (d + 1)) (operand_fills (d + 1)) sign.1 deep)
+    pub unary_deep : 64 ≤ d → RightOperand ts d i (stopped i Depth)
+    unary_deep deep = unary_as (stopped i Depth) (deeper_deep d sign.0 (OneOperand (d + 1)) (operand_fills (d + 1)) sign.1 deep)
 
-      pub unary_then : d < 64 → (o : Outcome ExpressionTree) → RightOperand line ts (d + 1) (i + 1) o → RightOperand line ts d i (map_outcome (unary op) o)
-      unary_then fits o x = unary_as o (deeper_then d Signed fits o (behind_then sign.0 (OneOperand line (d + 1)) (token_found sign.0 ts i sign.1) o x))
+    pub unary_then : d < 64 → (o : Outcome ExpressionTree) → RightOperand ts (d + 1) (i + 1) o → RightOperand ts d i (map_outcome (unary op) o)
+    unary_then fits o x = unary_as o (deeper_then d Signed fits o (behind_then sign.0 (OneOperand (d + 1)) (token_found sign.0 ts i sign.1) o x))

@@ -16,116 +16,116 @@ use Rattle.fmp_tasklang.proofs.Families.{family, service_family}
 use Rattle.fmp_tasklang.proofs.Operands.{left, right, word_framed, expression_framed, expression_fills, closes, Ended, ended_fills, ended_stop, ended_then}
 use Rattle.fmp_tasklang.proofs.StatementFrames.{semicolon, equals, expression_family}
 
-module _ (line : ℕ → ℕ) (ts : List TokenKind) (d : ℕ) where
+module _ (ts : List TokenKind) (d : ℕ) where
   -- ( expr )
   module _ (i : ℕ) where
-    pub condition_missing : (j : ℕ) (why : GrammarFault) → RightToken ts left i (stopped j why) → RightCondition line ts d i (stopped j why)
-    condition_missing j why x = behind_stop left (Ended line d right) (ended_fills line d right) x
+    pub condition_missing : (j : ℕ) (why : GrammarFault) → RightToken ts left i (stopped j why) → RightCondition ts d i (stopped j why)
+    condition_missing j why x = behind_stop left (Ended d right) (ended_fills d right) x
 
     module _ (k : ℕ) (x : RightToken ts left i (found tt k)) where
-      pub condition_stop : (j : ℕ) (why : GrammarFault) → RightExpression line ts d loosest k (stopped j why) → RightCondition line ts d i (stopped j why)
-      condition_stop j why y = behind_then left (Ended line d right) x (stopped j why) (ended_stop line d right refl ts k j why y)
+      pub condition_stop : (j : ℕ) (why : GrammarFault) → RightExpression ts d loosest k (stopped j why) → RightCondition ts d i (stopped j why)
+      condition_stop j why y = behind_then left (Ended d right) x (stopped j why) (ended_stop d right refl ts k j why y)
 
-      module _ (e : ExpressionTree) (l : ℕ) (y : RightExpression line ts d loosest k (found e l)) where
-        pub condition_open : (j : ℕ) (why : GrammarFault) → RightToken ts right l (stopped j why) → RightCondition line ts d i (stopped j why)
-        condition_open j why z = behind_then left (Ended line d right) x (stopped j why) (ended_then line d right refl ts k e l y (stopped j why) z)
+      module _ (e : ExpressionTree) (l : ℕ) (y : RightExpression ts d loosest k (found e l)) where
+        pub condition_open : (j : ℕ) (why : GrammarFault) → RightToken ts right l (stopped j why) → RightCondition ts d i (stopped j why)
+        condition_open j why z = behind_then left (Ended d right) x (stopped j why) (ended_then d right refl ts k e l y (stopped j why) z)
 
-        pub condition_found : (j : ℕ) → RightToken ts right l (found tt j) → RightCondition line ts d i (found e j)
-        condition_found j z = behind_then left (Ended line d right) x (found e j) (ended_then line d right refl ts k e l y (found tt j) z)
+        pub condition_found : (j : ℕ) → RightToken ts right l (found tt j) → RightCondition ts d i (found e j)
+        condition_found j z = behind_then left (Ended d right) x (found e j) (ended_then d right refl ts k e l y (found tt j) z)
 
   -- expr | call
   module _ (i : ℕ) where
-    call_back : (us : List TokenKind) (limit : ℕ) (e : SourceTree) (j : ℕ) → family (slice_get us i) ≡ 3 → OneSource line d us limit i e j →
-        (c : Called) × (e ≡ by_call c) × OneCall line d us limit i c j × Unit {0}
-    call_back us limit (by_value e) j at r = let f = expression_family line us limit r in absurd (omega arith)
+    call_back : (us : List TokenKind) (limit : ℕ) (e : SourceTree) (j : ℕ) → family (slice_get us i) ≡ 3 → OneSource d us limit i e j →
+        (c : Called) × (e ≡ by_call c) × OneCall d us limit i c j × Unit {0}
+    call_back us limit (by_value e) j at r = let f = expression_family us limit r in absurd (omega arith)
     call_back us limit (by_call c) j at r = (c, refl, r, tt)
 
-    pub source_call : (s : _) → option_and_then service_of (slice_get ts i) ≡ Some s → (o : Outcome Called) → RightCall line ts d i o → RightSource line ts d i (map_outcome by_call o)
-    source_call s is o x = right_as (OneCall line d) (OneSource line d) by_call (λ us limit c j r. r)
+    pub source_call : (s : _) → option_and_then service_of (slice_get ts i) ≡ Some s → (o : Outcome Called) → RightCall ts d i o → RightSource ts d i (map_outcome by_call o)
+    source_call s is o x = right_as (OneCall d) (OneSource d) by_call (λ us limit c j r. r)
         (λ us limit e j at r ends. call_back us limit e j (ap family at ∙ service_family (slice_get ts i) s is) r) o x
 
-    value_back : (us : List TokenKind) (limit : ℕ) (e : SourceTree) (j : ℕ) → option_and_then service_of (slice_get us i) ≡ None → OneSource line d us limit i e j → EndsExpression loosest us j →
-        (v : ExpressionTree) × (e ≡ by_value v) × OneExpression line d loosest us limit i v j × EndsExpression loosest us j
+    value_back : (us : List TokenKind) (limit : ℕ) (e : SourceTree) (j : ℕ) → option_and_then service_of (slice_get us i) ≡ None → OneSource d us limit i e j → EndsExpression loosest us j →
+        (v : ExpressionTree) × (e ≡ by_value v) × OneExpression d loosest us limit i v j × EndsExpression loosest us j
     value_back us limit (by_value e) j none r ends = (e, refl, r, ends)
     value_back us limit (by_call c) j none r ends = let e : None ≡ Some c.service = sym none ∙ r.3.0 in absurd (cc)
 
-    pub source_value : None ≡ option_and_then service_of (slice_get ts i) → (o : Outcome ExpressionTree) → RightExpression line ts d loosest i o → RightSource line ts d i (map_outcome by_value o)
-    source_value none o x = right_as (OneExpression line d loosest) (OneSource line d) by_value (λ us limit v j r. r)
+    pub source_value : None ≡ option_and_then service_of (slice_get ts i) → (o : Outcome ExpressionTree) → RightExpression ts d loosest i o → RightSource ts d i (map_outcome by_value o)
+    source_value none o x = right_as (OneExpression d loosest) (OneSource d) by_value (λ us limit v j r. r)
         (λ us limit e j at r ends. value_back us limit e j (ap (option_and_then service_of) at ∙ sym none) r ends) o x
 
-  source_up : (us : List TokenKind) (limit i : ℕ) (e : SourceTree) (j : ℕ) → OneSource line d us limit i e j → i ≤ j
-  source_up us limit i (by_value e) j x = (expression_framed line d loosest).up us limit i e j x
-  source_up us limit i (by_call c) j x = (call_framed line d).up us limit i c j x
+  source_up : (us : List TokenKind) (limit i : ℕ) (e : SourceTree) (j : ℕ) → OneSource d us limit i e j → i ≤ j
+  source_up us limit i (by_value e) j x = (expression_framed d loosest).up us limit i e j x
+  source_up us limit i (by_call c) j x = (call_framed d).up us limit i c j x
 
-  source_same : (vs us : List TokenKind) (limit lower i : ℕ) (e : SourceTree) (j : ℕ) → lower ≤ limit → OneSource line d vs limit i e j → Same j vs us → OneSource line d us lower i e j
-  source_same vs us limit lower i (by_value e) j low x same = (expression_framed line d loosest).same vs us limit lower i e j low x same
-  source_same vs us limit lower i (by_call c) j low x same = (call_framed line d).same vs us limit lower i c j low x same
+  source_same : (vs us : List TokenKind) (limit lower i : ℕ) (e : SourceTree) (j : ℕ) → lower ≤ limit → OneSource d vs limit i e j → Same j vs us → OneSource d us lower i e j
+  source_same vs us limit lower i (by_value e) j low x same = (expression_framed d loosest).same vs us limit lower i e j low x same
+  source_same vs us limit lower i (by_call c) j low x same = (call_framed d).same vs us limit lower i c j low x same
 
-  source_framed : Framed (OneSource line d)
+  source_framed : Framed (OneSource d)
   source_framed = record { up = source_up; same = source_same }
 
-  source_fills : Fills (OneSource line d)
-  source_fills us limit low = let x = expression_fills line d loosest us limit low in
+  source_fills : Fills (OneSource d)
+  source_fills us limit low = let x = expression_fills d loosest us limit low in
       record { other = x.other; same = x.same; long = x.long; tree = by_value x.tree; reads = x.reads }
 
   -- name = source ;
   abbrev Stored : Rel SourceTree
-  Stored = Closed (OneSource line d) semicolon
+  Stored = Closed (OneSource d) semicolon
 
   stored_fills : Fills Stored
-  stored_fills = closed_fills (OneSource line d) semicolon source_framed source_fills
+  stored_fills = closed_fills (OneSource d) semicolon source_framed source_fills
 
   abbrev Assigning : Rel (Word × SourceTree)
-  Assigning = Seq (OneWord line) (Behind equals Stored)
+  Assigning = Seq OneWord (Behind equals Stored)
 
   module _ (i : ℕ) where
     assignment_as : (o : Outcome (Word × SourceTree)) → Right (At Assigning i) Anywhere ts i o →
-        RightAssignment line ts d i (map_outcome (λ (p : Word × SourceTree). assigned p.0 p.1) o)
-    assignment_as o x = right_as Assigning (Assignment line d) (λ p. assigned p.0 p.1)
+        RightAssignment ts d i (map_outcome (λ (p : Word × SourceTree). assigned p.0 p.1) o)
+    assignment_as o x = right_as Assigning (Assignment d) (λ p. assigned p.0 p.1)
         (λ us limit p j s. (p.0, p.1, refl, s.0, s.1, s.2.0, s.2.1, s.2.2.0, s.2.2.1, s.2.2.2))
         (λ us limit e j at r ends. ((r.0, r.1), r.2, (r.3, r.4, (r.5, r.6, (r.7, r.8, r.9))), tt)) o x
 
-    pub target_stop : (j : ℕ) (why : GrammarFault) → RightWord line ts i (stopped j why) → RightAssignment line ts d i (stopped j why)
-    target_stop j why x = assignment_as (stopped j why) (seq_stop (OneWord line) (Behind equals Stored) (word_framed line) (behind_fills equals Stored stored_fills) (λ us limit n b m y ends. tt) x)
+    pub target_stop : (j : ℕ) (why : GrammarFault) → RightWord ts i (stopped j why) → RightAssignment ts d i (stopped j why)
+    target_stop j why x = assignment_as (stopped j why) (seq_stop OneWord (Behind equals Stored) word_framed (behind_fills equals Stored stored_fills) (λ us limit n b m y ends. tt) x)
 
-    module _ (w : Word) (k : ℕ) (x : RightWord line ts i (found w k)) where
-      after_target : (o : Outcome SourceTree) → Right (At (Behind equals Stored) k) Anywhere ts k o → RightAssignment line ts d i (map_outcome (assigned w) o)
-      after_target (found r j) y = assignment_as (found (w, r) j) (seq_then (OneWord line) (Behind equals Stored) (word_framed line) (λ us limit n b m y ends. tt) x (found r j) y)
-      after_target (stopped j why) y = assignment_as (stopped j why) (seq_then (OneWord line) (Behind equals Stored) (word_framed line) (λ us limit n b m y ends. tt) x (stopped j why) y)
+    module _ (w : Word) (k : ℕ) (x : RightWord ts i (found w k)) where
+      after_target : (o : Outcome SourceTree) → Right (At (Behind equals Stored) k) Anywhere ts k o → RightAssignment ts d i (map_outcome (assigned w) o)
+      after_target (found r j) y = assignment_as (found (w, r) j) (seq_then OneWord (Behind equals Stored) word_framed (λ us limit n b m y ends. tt) x (found r j) y)
+      after_target (stopped j why) y = assignment_as (stopped j why) (seq_then OneWord (Behind equals Stored) word_framed (λ us limit n b m y ends. tt) x (stopped j why) y)
 
-      pub equals_stop : (j : ℕ) (why : GrammarFault) → RightToken ts equals k (stopped j why) → RightAssignment line ts d i (stopped j why)
+      pub equals_stop : (j : ℕ) (why : GrammarFault) → RightToken ts equals k (stopped j why) → RightAssignment ts d i (stopped j why)
       equals_stop j why y = after_target (stopped j why) (behind_stop equals Stored stored_fills y)
 
       module _ (l : ℕ) (y : RightToken ts equals k (found tt l)) where
-        pub source_stop : (j : ℕ) (why : GrammarFault) → RightSource line ts d l (stopped j why) → RightAssignment line ts d i (stopped j why)
+        pub source_stop : (j : ℕ) (why : GrammarFault) → RightSource ts d l (stopped j why) → RightAssignment ts d i (stopped j why)
         source_stop j why z = after_target (stopped j why) (behind_then equals Stored y (stopped j why)
-            (closed_stop (OneSource line d) semicolon source_framed (closes line semicolon refl) z))
+            (closed_stop (OneSource d) semicolon source_framed (closes semicolon refl) z))
 
-        module _ (r : SourceTree) (m : ℕ) (z : RightSource line ts d l (found r m)) where
-          pub assignment_open : (j : ℕ) (why : GrammarFault) → RightToken ts semicolon m (stopped j why) → RightAssignment line ts d i (stopped j why)
+        module _ (r : SourceTree) (m : ℕ) (z : RightSource ts d l (found r m)) where
+          pub assignment_open : (j : ℕ) (why : GrammarFault) → RightToken ts semicolon m (stopped j why) → RightAssignment ts d i (stopped j why)
           assignment_open j why v = after_target (stopped j why) (behind_then equals Stored y (stopped j why)
-              (closed_missing (OneSource line d) semicolon source_framed (closes line semicolon refl) z v))
+              (closed_missing (OneSource d) semicolon source_framed (closes semicolon refl) z v))
 
-          pub assignment_found : (j : ℕ) → RightToken ts semicolon m (found tt j) → RightAssignment line ts d i (found (assigned w r) j)
+          pub assignment_found : (j : ℕ) → RightToken ts semicolon m (found tt j) → RightAssignment ts d i (found (assigned w r) j)
           assignment_found j v = after_target (found r j) (behind_then equals Stored y (found r j)
-              (closed_found (OneSource line d) semicolon source_framed (closes line semicolon refl) z v))
+              (closed_found (OneSource d) semicolon source_framed (closes semicolon refl) z v))
 
   -- call ;
   module _ (i : ℕ) where
-    plain_as : (o : Outcome Called) → Right (At (Closed (OneCall line d) semicolon) i) Anywhere ts i o →
-        RightPlainCall line ts d i (map_outcome (λ (c : Called). service_call (call_tree None c)) o)
-    plain_as o x = right_as (Closed (OneCall line d) semicolon) (PlainCall line d) (λ c. service_call (call_tree None c))
+    plain_as : (o : Outcome Called) → Right (At (Closed (OneCall d) semicolon) i) Anywhere ts i o →
+        RightPlainCall ts d i (map_outcome (λ (c : Called). service_call (call_tree None c)) o)
+    plain_as o x = right_as (Closed (OneCall d) semicolon) (PlainCall d) (λ c. service_call (call_tree None c))
         (λ us limit c j r. (c, refl, r.0, r.1, r.2)) (λ us limit e j at r ends. (r.0, r.1, (r.2, r.3, r.4), tt)) o x
 
-    pub plain_stop : (j : ℕ) (why : GrammarFault) → RightCall line ts d i (stopped j why) → RightPlainCall line ts d i (stopped j why)
-    plain_stop j why x = plain_as (stopped j why) (closed_stop (OneCall line d) semicolon (call_framed line d) (λ us limit n b m y ends. tt) x)
+    pub plain_stop : (j : ℕ) (why : GrammarFault) → RightCall ts d i (stopped j why) → RightPlainCall ts d i (stopped j why)
+    plain_stop j why x = plain_as (stopped j why) (closed_stop (OneCall d) semicolon (call_framed d) (λ us limit n b m y ends. tt) x)
 
-    module _ (c : Called) (k : ℕ) (x : RightCall line ts d i (found c k)) where
-      pub plain_open : (j : ℕ) (why : GrammarFault) → RightToken ts semicolon k (stopped j why) → RightPlainCall line ts d i (stopped j why)
-      plain_open j why y = plain_as (stopped j why) (closed_missing (OneCall line d) semicolon (call_framed line d) (λ us limit n b m y ends. tt) x y)
+    module _ (c : Called) (k : ℕ) (x : RightCall ts d i (found c k)) where
+      pub plain_open : (j : ℕ) (why : GrammarFault) → RightToken ts semicolon k (stopped j why) → RightPlainCall ts d i (stopped j why)
+      plain_open j why y = plain_as (stopped j why) (closed_missing (OneCall d) semicolon (call_framed d) (λ us limit n b m y ends. tt) x y)
 
-      pub plain_found : (j : ℕ) → RightToken ts semicolon k (found tt j) → RightPlainCall line ts d i (found (service_call (call_tree None c)) j)
-      plain_found j y = plain_as (found c j) (closed_found (OneCall line d) semicolon (call_framed line d) (λ us limit n b m y ends. tt) x y)
+      pub plain_found : (j : ℕ) → RightToken ts semicolon k (found tt j) → RightPlainCall ts d i (found (service_call (call_tree None c)) j)
+      plain_found j y = plain_as (found c j) (closed_found (OneCall d) semicolon (call_framed d) (λ us limit n b m y ends. tt) x y)
 
 -- a jump and `;`
 module _ (ts : List TokenKind) (loop : Bool) (i : ℕ) (s : StatementTree) (lt : i < length ts) (is : option_and_then (jump_of loop) (slice_get ts i) ≡ Some s) where

@@ -68,15 +68,15 @@ abbrev pub call_tree : Option Word → Called → CallTree
 call_tree result c = record { service = c.service; arguments = c.arguments; out = c.out; result = result }
 
 -- d is how many levels of nesting are open; the parentheses of a call are none
-module _ (line : ℕ → ℕ) (d : ℕ) where
+module _ (d : ℕ) where
   -- a mark; a value and the mark behind it; `&`, a variable and the mark behind it
   abbrev pub OnePart : Part → Rel (Option ArgumentTree)
   OnePart (part.Mark m) ts limit i None j = IsToken ts (mark_kind m) i j
   OnePart (part.Value m) ts limit i (Some (value e)) j =
-      (a : ℕ) × IsExpression line ts limit d loosest i e a × IsToken ts (mark_kind m) a j
+      (a : ℕ) × IsExpression ts limit d loosest i e a × IsToken ts (mark_kind m) a j
   OnePart (part.Out m) ts limit i (Some (out w)) j =
       (a : ℕ)
-      × IsToken ts (kind.Symbol symbol.And) i a × ((b : ℕ) × IsWord line ts a w b × IsToken ts (mark_kind m) b j)
+      × IsToken ts (kind.Symbol symbol.And) i a × ((b : ℕ) × IsWord ts a w b × IsToken ts (mark_kind m) b j)
   OnePart _ ts limit i _ j = ⊥
 
   -- parts one after another, and their arguments

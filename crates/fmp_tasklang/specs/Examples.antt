@@ -49,7 +49,7 @@ tables =
 
 -- a name in a text
 abbrev pub word : List ℕ → Word
-word text = record { name = name_from text; line = 1 }
+word text = record { name = name_from text; at = 0 }
 
 -- a name as an expression
 abbrev pub spelled : List ℕ → ExpressionTree
@@ -69,7 +69,7 @@ abbrev pub task : List StatementTree → BodyTree
 task statements =
     record {
       kind = Task;
-      line = 1;
+      at = 0;
       name = word (codes "main");
       variables = word (codes "i") ∷ word (codes "n") ∷ [];
       statements = block_of statements;

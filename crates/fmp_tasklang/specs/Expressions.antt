@@ -1,11 +1,10 @@
 -- The grammar of expressions: which tokens, from one place up to another, spell which tree.
-use Rattle.std.specs.Prelude.{◌≡◌, ℕ, ◌+◌, ℤ, List, [], ◌∷◌, slice_get, Option, Some, None}
+use Rattle.std.specs.Prelude.{◌≡◌, ℕ, ◌+◌, ℤ, List, [], ◌∷◌, Option, Some, None}
 use Rattle.fmp_base.specs.declared.names.Name.{Name}
 use Rattle.fmp_base.specs.declared.operators.BinaryOperator.TheVariants as binary
 use Rattle.fmp_base.specs.declared.operators.UnaryOperator.{UnaryOperator}
 use Rattle.fmp_base.specs.declared.operators.UnaryOperator.TheVariants as unary
 use Rattle.fmp_lex.specs.declared.token.Symbol.TheVariants as symbol
-use Rattle.fmp_lex.specs.declared.token.Token.{Token}
 use Rattle.fmp_lex.specs.declared.token.TokenKind.{TokenKind}
 use Rattle.fmp_lex.specs.declared.token.TokenKind.TheVariants as kind
 use Rattle.fmp_lex.specs.Reading.{Allows, IsToken, IsItem}
@@ -15,14 +14,6 @@ use Rattle.fmp_tasklang.specs.declared.trees.Operator.TheVariants as operator
 use Rattle.fmp_tasklang.specs.declared.trees.Word.{Word}
 use Rattle.fmp_tasklang.specs.Trees.{ExpressionTree, number, named, unary}
 use Rattle.fmp_tasklang.specs.Views.{LinkTree, chain_tree}
-
--- the line of the token at a place
-abbrev pub line_of : Option Token → ℕ
-line_of (Some t) = t.line
-line_of None = 1
-
-abbrev pub lines_of : List Token → ℕ → ℕ
-lines_of ts i = line_of (slice_get ts i)
 
 -- the number that a token stands for: a constant is its value
 abbrev pub number_of : TokenKind → Option ℤ
@@ -66,35 +57,33 @@ operator_of _ = None
 abbrev pub loosest : ℕ
 loosest = 9
 
--- `line` gives the line of the token at each place
-module _ (line : ℕ → ℕ) where
-  -- the name at i, with its line
-  abbrev pub IsWord : List TokenKind → ℕ → Word → ℕ → Type 0
-  IsWord ts i w j = (w.line ≡ line i) × IsItem name_of ts i w.name j
+-- the name at i, with that place
+abbrev pub IsWord : List TokenKind → ℕ → Word → ℕ → Type 0
+IsWord ts i w j = (w.at ≡ i) × IsItem name_of ts i w.name j
 
-  -- d is how many levels of nesting are open before the first token
-  module _ (ts : List TokenKind) (limit : ℕ) where
-    mutual
-      -- a number, a constant, a name, an expression in parentheses, or an operand behind a unary operator
-      pub data IsOperand : ℕ → ℕ → ExpressionTree → ℕ → Type 0 where
-        a_number : {d i j : ℕ} {n : ℤ} → IsItem number_of ts i n j → IsOperand d i (number n) j
-        a_name : {d i j : ℕ} {w : Word} → IsWord ts i w j → IsOperand d i (named w) j
-        a_group : {d i a b j : ℕ} {e : ExpressionTree} → Allows limit i d
-            → IsToken ts (kind.Symbol symbol.LeftParen) i a →
-            IsExpression (d + 1) loosest a e b → IsToken ts (kind.Symbol symbol.RightParen) b j → IsOperand d i e j
-        a_unary : {d i a j : ℕ} {op : UnaryOperator} {e : ExpressionTree} → Allows limit i d → IsItem unary_of ts i op a
-            →
-            IsOperand (d + 1) a e j → IsOperand d i (unary op e) j
+-- d is how many levels of nesting are open before the first token
+module _ (ts : List TokenKind) (limit : ℕ) where
+  mutual
+    -- a number, a constant, a name, an expression in parentheses, or an operand behind a unary operator
+    pub data IsOperand : ℕ → ℕ → ExpressionTree → ℕ → Type 0 where
+      a_number : {d i j : ℕ} {n : ℤ} → IsItem number_of ts i n j → IsOperand d i (number n) j
+      a_name : {d i j : ℕ} {w : Word} → IsWord ts i w j → IsOperand d i (named w) j
+      a_group : {d i a b j : ℕ} {e : ExpressionTree} → Allows limit i d
+          → IsToken ts (kind.Symbol symbol.LeftParen) i a →
+          IsExpression (d + 1) loosest a e b → IsToken ts (kind.Symbol symbol.RightParen) b j → IsOperand d i e j
+      a_unary : {d i a j : ℕ} {op : UnaryOperator} {e : ExpressionTree} → Allows limit i d → IsItem unary_of ts i op a
+          →
+          IsOperand (d + 1) a e j → IsOperand d i (unary op e) j
 
-      -- operands with operators between them whose levels are below l; those of one level are grouped to the left
-      pub data IsExpression : ℕ → ℕ → ℕ → ExpressionTree → ℕ → Type 0 where
-        an_operand : {d l i j : ℕ} {e : ExpressionTree} → l ≡ 0 → IsOperand d i e j → IsExpression d l i e j
-        a_chain : {d l m i a j : ℕ} {first e : ExpressionTree} {links : List LinkTree} → l ≡ m + 1
-            → IsExpression d m i first a →
-            AreLinks d m a links j → e ≡ chain_tree first links → IsExpression d l i e j
+    -- operands with operators between them whose levels are below l; those of one level are grouped to the left
+    pub data IsExpression : ℕ → ℕ → ℕ → ExpressionTree → ℕ → Type 0 where
+      an_operand : {d l i j : ℕ} {e : ExpressionTree} → l ≡ 0 → IsOperand d i e j → IsExpression d l i e j
+      a_chain : {d l m i a j : ℕ} {first e : ExpressionTree} {links : List LinkTree} → l ≡ m + 1
+          → IsExpression d m i first a →
+          AreLinks d m a links j → e ≡ chain_tree first links → IsExpression d l i e j
 
-      -- operators of the level m, each with an operand behind it
-      pub data AreLinks : ℕ → ℕ → ℕ → List LinkTree → ℕ → Type 0 where
-        no_link : {d m i : ℕ} → AreLinks d m i [] i
-        a_link : {d m i a b j : ℕ} {l : LinkTree} {links : List LinkTree} → IsItem operator_of ts i (m, l.operator) a →
-            IsExpression d m a l.operand b → AreLinks d m b links j → AreLinks d m i (l ∷ links) j
+    -- operators of the level m, each with an operand behind it
+    pub data AreLinks : ℕ → ℕ → ℕ → List LinkTree → ℕ → Type 0 where
+      no_link : {d m i : ℕ} → AreLinks d m i [] i
+      a_link : {d m i a b j : ℕ} {l : LinkTree} {links : List LinkTree} → IsItem operator_of ts i (m, l.operator) a →
+          IsExpression d m a l.operand b → AreLinks d m b links j → AreLinks d m i (l ∷ links) j

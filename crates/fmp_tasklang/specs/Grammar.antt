@@ -19,23 +19,21 @@ body_kind_of (kind.Keyword keyword.Task) = Some body.Task
 body_kind_of (kind.Keyword keyword.Handler) = Some body.Handler
 body_kind_of _ = None
 
--- `line` gives the line of the token at each place
-module _ (line : ℕ → ℕ) where
-  -- var name ;
-  abbrev pub OneVariable : Rel Word
-  OneVariable ts limit i w j =
-      (a : ℕ)
-      × IsToken ts (kind.Keyword keyword.Var) i a
-      × ((b : ℕ) × IsWord line ts a w b × IsToken ts (kind.Symbol symbol.Semicolon) b j)
+-- var name ;
+abbrev pub OneVariable : Rel Word
+OneVariable ts limit i w j =
+    (a : ℕ)
+    × IsToken ts (kind.Keyword keyword.Var) i a
+    × ((b : ℕ) × IsWord ts a w b × IsToken ts (kind.Symbol symbol.Semicolon) b j)
 
-  -- body = (task | handler) name { {var name ;} {stmt} }; its braces are no nesting
-  abbrev pub OneBody : Rel BodyTree
-  OneBody ts limit i b j =
-      (b.line ≡ line i) × (k : ℕ) × IsItem body_kind_of ts i b.kind k × (l : ℕ) × IsWord line ts k b.name l ×
-      (m : ℕ) × IsToken ts (kind.Symbol symbol.LeftBrace) l m × (n : ℕ) × Star OneVariable ts limit m b.variables n ×
-      (ss : List StatementTree) × (b.statements ≡ block_of ss) × (o : ℕ) × AreStatements line ts limit 0 false n ss o ×
-      IsToken ts (kind.Symbol symbol.RightBrace) o j
+-- body = (task | handler) name { {var name ;} {stmt} }; its braces are no nesting
+abbrev pub OneBody : Rel BodyTree
+OneBody ts limit i b j =
+    (b.at ≡ i) × (k : ℕ) × IsItem body_kind_of ts i b.kind k × (l : ℕ) × IsWord ts k b.name l ×
+    (m : ℕ) × IsToken ts (kind.Symbol symbol.LeftBrace) l m × (n : ℕ) × Star OneVariable ts limit m b.variables n ×
+    (ss : List StatementTree) × (b.statements ≡ block_of ss) × (o : ℕ) × AreStatements ts limit 0 false n ss o ×
+    IsToken ts (kind.Symbol symbol.RightBrace) o j
 
-  -- text = {body}
-  abbrev pub Bodies : Rel (List BodyTree)
-  Bodies = Star OneBody
+-- text = {body}
+abbrev pub Bodies : Rel (List BodyTree)
+Bodies = Star OneBody

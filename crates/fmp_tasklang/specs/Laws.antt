@@ -59,5 +59,5 @@ FollowsEachItem =
 -- a list of tokens spells at most one program
 abbrev pub SpellsOneProgram : Type 0
 SpellsOneProgram =
-    (line : ℕ → ℕ) (ts : List TokenKind) (a b : List BodyTree) → IsWhole (Bodies line) ts a → IsWhole (Bodies line) ts b
+    (ts : List TokenKind) (a b : List BodyTree) → IsWhole Bodies ts a → IsWhole Bodies ts b
     → b ≡ a

@@ -30,7 +30,7 @@ use Rattle.fmp_tasklang.specs.declared.trees.Word.{Word}
 use Rattle.fmp_tasklang.specs.Trees.{ExpressionTree, StatementTree, assign, service_call, Block, BodyTree}
 use Rattle.fmp_tasklang.specs.Views.{LinkTree, expression_view, link_view, statement_view, body_view, program_view}
 use Rattle.fmp_tasklang.specs.Blocks.{block_of}
-use Rattle.fmp_tasklang.specs.Expressions.{operator_of, loosest, lines_of, IsWord, IsOperand, IsExpression}
+use Rattle.fmp_tasklang.specs.Expressions.{operator_of, loosest, IsWord, IsOperand, IsExpression}
 use Rattle.fmp_tasklang.specs.Calls.{ArgumentTree, value, out, Called, called, call_tree, OnePart, Parts, OneCall}
 use Rattle.fmp_tasklang.specs.Statements.{jump_of, IsCondition, IsStatement, IsIf, IsElse, IsOther, IsBlock}
 use Rattle.fmp_tasklang.specs.Grammar.{body_kind_of, OneVariable, OneBody, Bodies}
@@ -76,136 +76,135 @@ abbrev pub RightJump : List TokenKind → Bool → ℕ → Outcome StatementTree
 RightJump ts loop i = Right (At (Jump loop) i) Anywhere ts i
 
 -- the relations of the grammar as readings
-module _ (line : ℕ → ℕ) where
-  abbrev pub OneWord : Rel Word
-  OneWord ts limit i w j = IsWord line ts i w j
+abbrev pub OneWord : Rel Word
+OneWord ts limit i w j = IsWord ts i w j
+
+module _ (d : ℕ) where
+  abbrev pub OneOperand : Rel ExpressionTree
+  OneOperand ts limit i e j = IsOperand ts limit d i e j
+
+  abbrev pub OneExpression : ℕ → Rel ExpressionTree
+  OneExpression l ts limit i e j = IsExpression ts limit d l i e j
+
+  -- an operator of the level m, and the operand behind it
+  abbrev pub OneLink : ℕ → Rel LinkTree
+  OneLink m ts limit i l j =
+      (a : ℕ) × Item operator_of ts limit i (m, l.operator) a × IsExpression ts limit d m a l.operand j
+
+  abbrev pub Condition : Rel ExpressionTree
+  Condition ts limit i e j = IsCondition ts limit d i e j
+
+  -- the parts of the call of a service, and the call
+  abbrev pub Arguments : Service → List Part → Rel Called
+  Arguments s ps ts limit i c j = (args : List ArgumentTree) × (c ≡ called s args) × Parts d ps ts limit i args j
+
+  -- expr | call
+  abbrev pub OneSource : Rel SourceTree
+  OneSource ts limit i (by_value e) j = IsExpression ts limit d loosest i e j
+  OneSource ts limit i (by_call c) j = OneCall d ts limit i c j
+
+  -- name = source ;
+  abbrev pub Assignment : Rel StatementTree
+  Assignment ts limit i s j =
+      (w : Word)
+      × (r : SourceTree)
+      × (s ≡ assigned w r)
+      × (a : ℕ) × IsWord ts i w a × (b : ℕ) × IsToken ts (kind.Symbol symbol.Assign) a b ×
+      (c : ℕ) × OneSource ts limit b r c × IsToken ts (kind.Symbol symbol.Semicolon) c j
+
+  -- call ;
+  abbrev pub PlainCall : Rel StatementTree
+  PlainCall ts limit i s j =
+      (c : Called)
+      × (s ≡ service_call (call_tree None c))
+      × (a : ℕ) × OneCall d ts limit i c a × IsToken ts (kind.Symbol symbol.Semicolon) a j
+
+  module _ (loop : Bool) where
+    abbrev pub OneStatement : Rel StatementTree
+    OneStatement ts limit i s j = IsStatement ts limit d loop i s j
+
+    abbrev pub OneIf : Rel StatementTree
+    OneIf ts limit i s j = IsIf ts limit d loop i s j
+
+    abbrev pub Else : Rel (Option Block)
+    Else ts limit i o j = IsElse ts limit d loop i o j
+
+    abbrev pub Other : Rel Block
+    Other ts limit i b j = IsOther ts limit d loop i b j
+
+    abbrev pub OneBlock : Rel Block
+    OneBlock ts limit i b j = IsBlock ts limit d loop i b j
+
+-- when the outcome of reading from i on is right
+module _ (ts : List TokenKind) where
+  abbrev pub RightWord : ℕ → Outcome Word → Type 0
+  RightWord i = Right (At OneWord i) Anywhere ts i
+
+  abbrev pub RightVariable : ℕ → Outcome Word → Type 0
+  RightVariable i = Right (At OneVariable i) Anywhere ts i
+
+  abbrev pub RightVariables : ℕ → Outcome (List Word) → Type 0
+  RightVariables i = Right (At (Star OneVariable) i) EndsVariables ts i
+
+  abbrev pub RightBody : ℕ → Outcome BodyTree → Type 0
+  RightBody i = Right (At OneBody i) Anywhere ts i
+
+  abbrev pub RightBodies : ℕ → Outcome (List BodyTree) → Type 0
+  RightBodies i = Right (At Bodies i) EndsBodies ts i
 
   module _ (d : ℕ) where
-    abbrev pub OneOperand : Rel ExpressionTree
-    OneOperand ts limit i e j = IsOperand line ts limit d i e j
+    abbrev pub RightOperand : ℕ → Outcome ExpressionTree → Type 0
+    RightOperand i = Right (At (OneOperand d) i) Anywhere ts i
 
-    abbrev pub OneExpression : ℕ → Rel ExpressionTree
-    OneExpression l ts limit i e j = IsExpression line ts limit d l i e j
+    abbrev pub RightExpression : ℕ → ℕ → Outcome ExpressionTree → Type 0
+    RightExpression l i = Right (At (OneExpression d l) i) (EndsExpression l) ts i
 
-    -- an operator of the level m, and the operand behind it
-    abbrev pub OneLink : ℕ → Rel LinkTree
-    OneLink m ts limit i l j =
-        (a : ℕ) × Item operator_of ts limit i (m, l.operator) a × IsExpression line ts limit d m a l.operand j
+    abbrev pub RightLinks : ℕ → ℕ → Outcome (List LinkTree) → Type 0
+    RightLinks m i = Right (At (Star (OneLink d m)) i) (EndsExpression (m + 1)) ts i
 
-    abbrev pub Condition : Rel ExpressionTree
-    Condition ts limit i e j = IsCondition line ts limit d i e j
+    abbrev pub RightCondition : ℕ → Outcome ExpressionTree → Type 0
+    RightCondition i = Right (At (Condition d) i) Anywhere ts i
 
-    -- the parts of the call of a service, and the call
-    abbrev pub Arguments : Service → List Part → Rel Called
-    Arguments s ps ts limit i c j = (args : List ArgumentTree) × (c ≡ called s args) × Parts line d ps ts limit i args j
+    abbrev pub RightPart : Part → ℕ → Outcome (Option ArgumentTree) → Type 0
+    RightPart p i = Right (At (OnePart d p) i) Anywhere ts i
 
-    -- expr | call
-    abbrev pub OneSource : Rel SourceTree
-    OneSource ts limit i (by_value e) j = IsExpression line ts limit d loosest i e j
-    OneSource ts limit i (by_call c) j = OneCall line d ts limit i c j
+    abbrev pub RightParts : List Part → ℕ → Outcome (List ArgumentTree) → Type 0
+    RightParts ps i = Right (At (Parts d ps) i) Anywhere ts i
 
-    -- name = source ;
-    abbrev pub Assignment : Rel StatementTree
-    Assignment ts limit i s j =
-        (w : Word)
-        × (r : SourceTree)
-        × (s ≡ assigned w r)
-        × (a : ℕ) × IsWord line ts i w a × (b : ℕ) × IsToken ts (kind.Symbol symbol.Assign) a b ×
-        (c : ℕ) × OneSource ts limit b r c × IsToken ts (kind.Symbol symbol.Semicolon) c j
+    abbrev pub RightCall : ℕ → Outcome Called → Type 0
+    RightCall i = Right (At (OneCall d) i) Anywhere ts i
 
-    -- call ;
-    abbrev pub PlainCall : Rel StatementTree
-    PlainCall ts limit i s j =
-        (c : Called)
-        × (s ≡ service_call (call_tree None c))
-        × (a : ℕ) × OneCall line d ts limit i c a × IsToken ts (kind.Symbol symbol.Semicolon) a j
+    -- the outcome of the arguments of a call, in the call
+    abbrev pub RightArguments : Service → List Part → ℕ → Outcome Called → Type 0
+    RightArguments s ps i = Right (At (Arguments d s ps) i) Anywhere ts i
+
+    abbrev pub RightSource : ℕ → Outcome SourceTree → Type 0
+    RightSource i = Right (At (OneSource d) i) (EndsExpression loosest) ts i
+
+    abbrev pub RightAssignment : ℕ → Outcome StatementTree → Type 0
+    RightAssignment i = Right (At (Assignment d) i) Anywhere ts i
+
+    abbrev pub RightPlainCall : ℕ → Outcome StatementTree → Type 0
+    RightPlainCall i = Right (At (PlainCall d) i) Anywhere ts i
 
     module _ (loop : Bool) where
-      abbrev pub OneStatement : Rel StatementTree
-      OneStatement ts limit i s j = IsStatement line ts limit d loop i s j
+      abbrev pub RightStatement : ℕ → Outcome StatementTree → Type 0
+      RightStatement i = Right (At (OneStatement d loop) i) EndsElse ts i
 
-      abbrev pub OneIf : Rel StatementTree
-      OneIf ts limit i s j = IsIf line ts limit d loop i s j
+      abbrev pub RightIf : ℕ → Outcome StatementTree → Type 0
+      RightIf i = Right (At (OneIf d loop) i) EndsElse ts i
 
-      abbrev pub Else : Rel (Option Block)
-      Else ts limit i o j = IsElse line ts limit d loop i o j
+      abbrev pub RightElse : ℕ → Outcome (Option Block) → Type 0
+      RightElse i = Right (At (Else d loop) i) EndsElse ts i
 
-      abbrev pub Other : Rel Block
-      Other ts limit i b j = IsOther line ts limit d loop i b j
+      abbrev pub RightOther : ℕ → Outcome Block → Type 0
+      RightOther i = Right (At (Other d loop) i) EndsElse ts i
 
-      abbrev pub OneBlock : Rel Block
-      OneBlock ts limit i b j = IsBlock line ts limit d loop i b j
+      abbrev pub RightBlock : ℕ → Outcome Block → Type 0
+      RightBlock i = Right (At (OneBlock d loop) i) Anywhere ts i
 
-  -- when the outcome of reading from i on is right
-  module _ (ts : List TokenKind) where
-    abbrev pub RightWord : ℕ → Outcome Word → Type 0
-    RightWord i = Right (At OneWord i) Anywhere ts i
-
-    abbrev pub RightVariable : ℕ → Outcome Word → Type 0
-    RightVariable i = Right (At (OneVariable line) i) Anywhere ts i
-
-    abbrev pub RightVariables : ℕ → Outcome (List Word) → Type 0
-    RightVariables i = Right (At (Star (OneVariable line)) i) EndsVariables ts i
-
-    abbrev pub RightBody : ℕ → Outcome BodyTree → Type 0
-    RightBody i = Right (At (OneBody line) i) Anywhere ts i
-
-    abbrev pub RightBodies : ℕ → Outcome (List BodyTree) → Type 0
-    RightBodies i = Right (At (Bodies line) i) EndsBodies ts i
-
-    module _ (d : ℕ) where
-      abbrev pub RightOperand : ℕ → Outcome ExpressionTree → Type 0
-      RightOperand i = Right (At (OneOperand d) i) Anywhere ts i
-
-      abbrev pub RightExpression : ℕ → ℕ → Outcome ExpressionTree → Type 0
-      RightExpression l i = Right (At (OneExpression d l) i) (EndsExpression l) ts i
-
-      abbrev pub RightLinks : ℕ → ℕ → Outcome (List LinkTree) → Type 0
-      RightLinks m i = Right (At (Star (OneLink d m)) i) (EndsExpression (m + 1)) ts i
-
-      abbrev pub RightCondition : ℕ → Outcome ExpressionTree → Type 0
-      RightCondition i = Right (At (Condition d) i) Anywhere ts i
-
-      abbrev pub RightPart : Part → ℕ → Outcome (Option ArgumentTree) → Type 0
-      RightPart p i = Right (At (OnePart line d p) i) Anywhere ts i
-
-      abbrev pub RightParts : List Part → ℕ → Outcome (List ArgumentTree) → Type 0
-      RightParts ps i = Right (At (Parts line d ps) i) Anywhere ts i
-
-      abbrev pub RightCall : ℕ → Outcome Called → Type 0
-      RightCall i = Right (At (OneCall line d) i) Anywhere ts i
-
-      -- the outcome of the arguments of a call, in the call
-      abbrev pub RightArguments : Service → List Part → ℕ → Outcome Called → Type 0
-      RightArguments s ps i = Right (At (Arguments d s ps) i) Anywhere ts i
-
-      abbrev pub RightSource : ℕ → Outcome SourceTree → Type 0
-      RightSource i = Right (At (OneSource d) i) (EndsExpression loosest) ts i
-
-      abbrev pub RightAssignment : ℕ → Outcome StatementTree → Type 0
-      RightAssignment i = Right (At (Assignment d) i) Anywhere ts i
-
-      abbrev pub RightPlainCall : ℕ → Outcome StatementTree → Type 0
-      RightPlainCall i = Right (At (PlainCall d) i) Anywhere ts i
-
-      module _ (loop : Bool) where
-        abbrev pub RightStatement : ℕ → Outcome StatementTree → Type 0
-        RightStatement i = Right (At (OneStatement d loop) i) EndsElse ts i
-
-        abbrev pub RightIf : ℕ → Outcome StatementTree → Type 0
-        RightIf i = Right (At (OneIf d loop) i) EndsElse ts i
-
-        abbrev pub RightElse : ℕ → Outcome (Option Block) → Type 0
-        RightElse i = Right (At (Else d loop) i) EndsElse ts i
-
-        abbrev pub RightOther : ℕ → Outcome Block → Type 0
-        RightOther i = Right (At (Other d loop) i) EndsElse ts i
-
-        abbrev pub RightBlock : ℕ → Outcome Block → Type 0
-        RightBlock i = Right (At (OneBlock d loop) i) Anywhere ts i
-
-        abbrev pub RightStatements : ℕ → Outcome (List StatementTree) → Type 0
-        RightStatements i = Right (At (Star (OneStatement d loop)) i) EndsStatements ts i
+      abbrev pub RightStatements : ℕ → Outcome (List StatementTree) → Type 0
+      RightStatements i = Right (At (Star (OneStatement d loop)) i) EndsStatements ts i
 
 -- what the vectors of the code hold
 abbrev pub words_view : Vec Word Global → List Word
@@ -241,21 +240,17 @@ source_view (given.Value e) = by_value (expression_view e)
 source_view (given.Call c) = by_call (called_view c)
 
 -- the tokens are bodies that spell this program and no other one, or else the first fault stands at this place
-abbrev pub IsVerdict : (ℕ → ℕ) → List TokenKind → Result Program ReadError → Type 0
-IsVerdict line ts (Ok p) =
-    IsWhole (Bodies line) ts (program_view p)
-    × ((other : List BodyTree) → IsWhole (Bodies line) ts other → other ≡ program_view p)
-IsVerdict line ts (Err errors.Memory) = Unit {0}
-IsVerdict line ts (Err (errors.Fault f)) = IsFirstFault (Bodies line) ts f.at f.why
-
--- the grammar, where names and bodies have the lines of their tokens
-abbrev pub Tasks : List Token → Rel (List BodyTree)
-Tasks ts = Bodies (lines_of ts)
+abbrev pub IsVerdict : List TokenKind → Result Program ReadError → Type 0
+IsVerdict ts (Ok p) =
+    IsWhole Bodies ts (program_view p)
+    × ((other : List BodyTree) → IsWhole Bodies ts other → other ≡ program_view p)
+IsVerdict ts (Err errors.Memory) = Unit {0}
+IsVerdict ts (Err (errors.Fault f)) = IsFirstFault Bodies ts f.at f.why
 
 -- the tokens of the text spell this program and no other one, or else this is the first fault of the text
 abbrev pub IsRead : List ℕ → Result Program BuildFault → Type 0
 IsRead text (Ok p) =
-    ((ts : List Token) × Spells Tasks text ts (program_view p)) ×
-    ((ts : List Token) (other : List BodyTree) → Spells Tasks text ts other → other ≡ program_view p)
+    ((ts : List Token) × Spells Bodies text ts (program_view p)) ×
+    ((ts : List Token) (other : List BodyTree) → Spells Bodies text ts other → other ≡ program_view p)
 IsRead text (Err build.Memory) = Unit {0}
-IsRead text (Err f) = IsSyntaxFault file.Source Tasks text f
+IsRead text (Err f) = IsSyntaxFault file.Source Bodies text f

@@ -18,28 +18,28 @@ jump_of true (kind.Keyword keyword.Continue) = Some continue
 jump_of _ (kind.Keyword keyword.Return) = Some return
 jump_of _ _ = None
 
-module _ (line : ℕ → ℕ) (ts : List TokenKind) (limit : ℕ) where
+module _ (ts : List TokenKind) (limit : ℕ) where
   -- ( expr )
   abbrev pub IsCondition : ℕ → ℕ → ExpressionTree → ℕ → Type 0
   IsCondition d i e j =
       (a : ℕ) × IsToken ts (kind.Symbol symbol.LeftParen) i a ×
-      ((b : ℕ) × IsExpression line ts limit d loosest a e b × IsToken ts (kind.Symbol symbol.RightParen) b j)
+      ((b : ℕ) × IsExpression ts limit d loosest a e b × IsToken ts (kind.Symbol symbol.RightParen) b j)
 
   -- [name =]
   abbrev pub IsResult : ℕ → Option Word → ℕ → Type 0
   IsResult i None j = j ≡ i
-  IsResult i (Some w) j = (a : ℕ) × IsWord line ts i w a × IsToken ts (kind.Symbol symbol.Assign) a j
+  IsResult i (Some w) j = (a : ℕ) × IsWord ts i w a × IsToken ts (kind.Symbol symbol.Assign) a j
 
   -- d is how many levels of nesting are open, and `loop` whether a loop is
   mutual
     -- name = expr ; | [name =] call ; | return ; | in a loop break ; and continue ; | if | while ( expr ) block
     pub data IsStatement : ℕ → Bool → ℕ → StatementTree → ℕ → Type 0 where
       an_assignment : {d i b j : ℕ} {loop : Bool} {w : Word} {e : ExpressionTree} (a : ℕ) → IsResult i (Some w) a →
-          IsExpression line ts limit d loosest a e b → IsToken ts (kind.Symbol symbol.Semicolon) b j
+          IsExpression ts limit d loosest a e b → IsToken ts (kind.Symbol symbol.Semicolon) b j
           → IsStatement d loop i (assign w e) j
       a_call : {d i j : ℕ} {loop : Bool} {s : StatementTree} (r : Option Word) (a : ℕ) (c : Called) (b : ℕ)
           → IsResult i r a →
-          OneCall line d ts limit a c b → IsToken ts (kind.Symbol symbol.Semicolon) b j
+          OneCall d ts limit a c b → IsToken ts (kind.Symbol symbol.Semicolon) b j
           → s ≡ service_call (call_tree r c) →
           IsStatement d loop i s j
       a_jump : {d i a j : ℕ} {loop : Bool} {s : StatementTree} → IsItem (jump_of loop) ts i s a →

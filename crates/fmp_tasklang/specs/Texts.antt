@@ -13,7 +13,7 @@ use Rattle.fmp_tasklang.specs.Stretches.{stretch}
 -- a task that ends at once
 abbrev pub empty_body : BodyTree
 empty_body =
-    record { kind = Task; line = 1; name = record { name = no_name; line = 1 }; variables = []; statements = empty }
+    record { kind = Task; at = 0; name = record { name = no_name; at = 0 }; variables = []; statements = empty }
 
 -- the body of a number, from 0
 abbrev pub body_at : List BodyTree → ℕ → BodyTree

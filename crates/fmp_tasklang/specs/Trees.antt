@@ -38,10 +38,10 @@ mutual
     empty : Block
     next : StatementTree → Block → Block
 
--- the body of a task or of a handler
+-- the body of a task or of a handler, and the place of its first token in the list
 pub record BodyTree : Type 0 where
   pub kind : BodyKind
-  pub line : ℕ
+  pub at : ℕ
   pub name : Word
   pub variables : List Word
   pub statements : Block

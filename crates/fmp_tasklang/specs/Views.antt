@@ -77,7 +77,7 @@ abbrev pub body_view : Body → BodyTree
 body_view b =
     record {
       kind = b.kind;
-      line = b.line;
+      at = b.at;
       name = b.name;
       variables = b.variables.items;
       statements = block_view b.statements.items;

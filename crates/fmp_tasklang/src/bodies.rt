@@ -1,21 +1,20 @@
 //! Bodies and whole programs of the task language.
 ghost use Rattle.std.specs.Prelude.{◌≡◌, ◌^◌, ◌+◌, ◌≤◌, ◌<◌, Some, length, slice_get, option_and_then};
 ghost use Rattle.fmp_lex.specs.Reading.{kinds_of, Answers, Finds};
-ghost use Rattle.fmp_tasklang.specs.Expressions.{lines_of};
 ghost use Rattle.fmp_tasklang.specs.Grammar.{body_kind_of};
 ghost use Rattle.fmp_tasklang.specs.Reading.{itself, words_view, bodies_view, RightVariable, RightVariables, RightBody, RightBodies, IsVerdict};
 ghost use Rattle.fmp_tasklang.specs.Views.{body_view};
 
 use crate::statements::statements;
 use crate::trees::{Body, BodyKind, Program, Word};
-use crate::words::{body_kind_at, expect_word, line_at};
+use crate::words::{body_kind_at, expect_word};
 use fmp_lex::reading::{expect_keyword, expect_symbol, is_keyword_at};
 use fmp_lex::{FirstFault, GrammarFault, Keyword, ReadError, Symbol, Tokens};
 use std::alloc::Global;
 
 fn variable(tokens: &Tokens<'_>, at: usize) -> Result<(Word, usize), FirstFault>
     requires { at ≤ length tokens.now }
-    ensures { Finds itself result (RightVariable (lines_of tokens.now) (kinds_of tokens.now) at) }
+    ensures { Finds itself result (RightVariable (kinds_of tokens.now) at) }
 {
     let next = expect_keyword(tokens, at, Keyword::Var)?;
     let (name, next) = expect_word(tokens, next)?;
@@ -25,7 +24,7 @@ fn variable(tokens: &Tokens<'_>, at: usize) -> Result<(Word, usize), FirstFault>
 
 fn variables(alloc: Global, tokens: &Tokens<'_>, at: usize) -> Result<(Vec<Word>, usize), ReadError>
     requires { at ≤ length tokens.now }
-    ensures { Answers words_view result (RightVariables (lines_of tokens.now) (kinds_of tokens.now) at) }
+    ensures { Answers words_view result (RightVariables (kinds_of tokens.now) at) }
 {
     let mut found = Vec::new(alloc);
     let mut i = at;
@@ -45,11 +44,10 @@ pub fn body(
     at: usize,
 ) -> Result<(Body, usize), ReadError>
     requires at { at < length tokens.now }
-    requires room { at + 1 < 2 ^ 64 }
+    requires few { at < 2 ^ 32 }
     requires first { option_and_then body_kind_of (slice_get (kinds_of tokens.now) at) ≡ Some kind }
-    ensures { Answers body_view result (RightBody (lines_of tokens.now) (kinds_of tokens.now) at) }
+    ensures { Answers body_view result (RightBody (kinds_of tokens.now) at) }
 {
-    let line = line_at(tokens, at);
     let (name, next) = expect_word(tokens, at + 1)?;
     let next = expect_symbol(tokens, next, Symbol::LeftBrace)?;
     let (variables, next) = variables(alloc, tokens, next)?;
@@ -58,7 +56,7 @@ pub fn body(
     Ok((
         Body {
             kind,
-            line,
+            at: at as u32,
             name,
             variables,
             statements,
@@ -69,7 +67,7 @@ pub fn body(
 
 fn bodies(alloc: Global, tokens: &Tokens<'_>, at: usize) -> Result<(Vec<Body>, usize), ReadError>
     requires { at ≤ length tokens.now }
-    ensures { Answers bodies_view result (RightBodies (lines_of tokens.now) (kinds_of tokens.now) at) }
+    ensures { Answers bodies_view result (RightBodies (kinds_of tokens.now) at) }
 {
     let mut found = Vec::new(alloc);
     let mut i = at;
@@ -83,7 +81,7 @@ fn bodies(alloc: Global, tokens: &Tokens<'_>, at: usize) -> Result<(Vec<Body>, u
 
 /// The program that these tokens spell, or the place of their first fault.
 pub fn read_program(alloc: Global, tokens: &Tokens<'_>) -> Result<Program, ReadError>
-    ensures { IsVerdict (lines_of tokens.now) (kinds_of tokens.now) result }
+    ensures { IsVerdict (kinds_of tokens.now) result }
 {
     let (bodies, next) = bodies(alloc, tokens, 0)?;
     if next < tokens.len() {

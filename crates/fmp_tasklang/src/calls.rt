@@ -3,7 +3,6 @@ ghost use Rattle.std.specs.Prelude.{◌≡◌, ◌^◌, ◌+◌, ◌≤◌, ◌<
 ghost use Rattle.fmp_lex.specs.Reading.{kinds_of, max_depth, Answers};
 ghost use Rattle.fmp_lex.specs.Forms as forms;
 ghost use Rattle.fmp_tasklang.specs.Calls.{service_of, values_of, out_from};
-ghost use Rattle.fmp_tasklang.specs.Expressions.{lines_of};
 ghost use Rattle.fmp_tasklang.specs.Reading.{argument_view, called_view, RightPart, RightArguments, RightCall};
 ghost use Rattle.fmp_tasklang.specs.Views.{expression_view};
 
@@ -33,7 +32,7 @@ fn part(
 ) -> Result<(Option<Argument>, usize), ReadError>
     requires depth { depth ≤ max_depth }
     requires at { at ≤ length tokens.now }
-    ensures { Answers argument_view result (RightPart (lines_of tokens.now) (kinds_of tokens.now) depth part at) }
+    ensures { Answers argument_view result (RightPart (kinds_of tokens.now) depth part at) }
 {
     match part {
         Part::Mark(mark) => {
@@ -80,7 +79,7 @@ fn arguments(
     requires depth { depth ≤ max_depth }
     requires at { at ≤ length tokens.now }
     ensures { Answers called_view result
-        (RightArguments (lines_of tokens.now) (kinds_of tokens.now) depth service parts.now at) }
+        (RightArguments (kinds_of tokens.now) depth service parts.now at) }
 {
     let mut call = ServiceCall {
         service,
@@ -109,7 +108,7 @@ pub fn call(
     requires at { at < length tokens.now }
     requires room { at + 1 < 2 ^ 64 }
     requires first { option_and_then service_of (slice_get (kinds_of tokens.now) at) ≡ Some service }
-    ensures { Answers called_view result (RightCall (lines_of tokens.now) (kinds_of tokens.now) depth at) }
+    ensures { Answers called_view result (RightCall (kinds_of tokens.now) depth at) }
 {
     arguments(alloc, tokens, depth, service, parts_of(service), at + 1)
 }

@@ -2,7 +2,7 @@
 ghost use Rattle.std.specs.Prelude.{◌≡◌, ◌^◌, ◌≤◌, ◌<◌, ◌+◌, Some, length, slice_get, option_and_then};
 ghost use Rattle.fmp_lex.specs.Reading.{kinds_of, max_depth, Answers};
 ghost use Rattle.fmp_lex.specs.declared.token.Symbol.TheVariants as symbol;
-ghost use Rattle.fmp_tasklang.specs.Expressions.{lines_of, loosest, unary_of};
+ghost use Rattle.fmp_tasklang.specs.Expressions.{loosest, unary_of};
 ghost use Rattle.fmp_tasklang.specs.Reading.{links_view, RightOperand, RightExpression, RightLinks};
 ghost use Rattle.fmp_tasklang.specs.Trees as trees;
 ghost use Rattle.fmp_tasklang.specs.Views.{expression_view};
@@ -31,7 +31,7 @@ fn operand(
 ) -> Result<(Expression, usize), ReadError>
     requires depth { depth ≤ max_depth }
     requires at { at ≤ length tokens.now }
-    ensures { Answers expression_view result (RightOperand (lines_of tokens.now) (kinds_of tokens.now) depth at) }
+    ensures { Answers expression_view result (RightOperand (kinds_of tokens.now) depth at) }
 {
     if let Some(number) = number_at(tokens, at) {
         return Ok((literal(number), at + 1));
@@ -58,7 +58,7 @@ fn unary(
     requires at { at < length tokens.now }
     requires room { at + 1 < 2 ^ 64 }
     requires first { option_and_then unary_of (slice_get (kinds_of tokens.now) at) ≡ Some operator }
-    ensures { Answers expression_view result (RightOperand (lines_of tokens.now) (kinds_of tokens.now) depth at) }
+    ensures { Answers expression_view result (RightOperand (kinds_of tokens.now) depth at) }
 {
     if depth == MAX_DEPTH {
         return Err(ReadError::Fault(FirstFault {
@@ -82,7 +82,7 @@ fn group(
     requires at { at < length tokens.now }
     requires room { at + 1 < 2 ^ 64 }
     requires first { slice_get (kinds_of tokens.now) at ≡ Some (TokenKind.Symbol symbol.LeftParen) }
-    ensures { Answers expression_view result (RightOperand (lines_of tokens.now) (kinds_of tokens.now) depth at) }
+    ensures { Answers expression_view result (RightOperand (kinds_of tokens.now) depth at) }
 {
     if depth == MAX_DEPTH {
         return Err(ReadError::Fault(FirstFault {
@@ -108,7 +108,7 @@ pub fn expression(
     requires level { level ≤ loosest }
     requires at { at ≤ length tokens.now }
     ensures { Answers expression_view result
-        (RightExpression (lines_of tokens.now) (kinds_of tokens.now) depth level at) }
+        (RightExpression (kinds_of tokens.now) depth level at) }
 {
     let (mut tree, mut next) = operand(alloc, tokens, depth, at)?;
     let mut read = 0;
@@ -133,7 +133,7 @@ fn links(
     requires depth { depth ≤ max_depth }
     requires level { level < loosest }
     requires at { at ≤ length tokens.now }
-    ensures { Answers links_view result (RightLinks (lines_of tokens.now) (kinds_of tokens.now) depth level at) }
+    ensures { Answers links_view result (RightLinks (kinds_of tokens.now) depth level at) }
 {
     let mut found = Vec::with_capacity(alloc, 1)?;
     let mut i = at;

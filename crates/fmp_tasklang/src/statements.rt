@@ -4,7 +4,6 @@ ghost use Rattle.fmp_lex.specs.Reading.{kinds_of, max_depth, Answers};
 ghost use Rattle.fmp_lex.specs.declared.words.Keyword.TheVariants as keyword;
 ghost use Rattle.fmp_tasklang.specs.Blocks.{choice};
 ghost use Rattle.fmp_tasklang.specs.Calls.{service_of, call_tree};
-ghost use Rattle.fmp_tasklang.specs.Expressions.{lines_of};
 ghost use Rattle.fmp_tasklang.specs.Reading.{statements_view, block_view, else_view, source_view, called_view, assigned, RightCondition, RightSource, RightAssignment, RightPlainCall, RightJump, RightStatement, RightIf, RightElse, RightOther, RightBlock, RightStatements};
 ghost use Rattle.fmp_tasklang.specs.Statements.{jump_of};
 ghost use Rattle.fmp_tasklang.specs.Trees.{service_call};
@@ -34,7 +33,7 @@ fn condition(
 ) -> Result<(Expression, usize), ReadError>
     requires depth { depth ≤ max_depth }
     requires at { at ≤ length tokens.now }
-    ensures { Answers expression_view result (RightCondition (lines_of tokens.now) (kinds_of tokens.now) depth at) }
+    ensures { Answers expression_view result (RightCondition (kinds_of tokens.now) depth at) }
 {
     let next = expect_symbol(tokens, at, Symbol::LeftParen)?;
     let (condition, next) = expression(alloc, tokens, depth, LOOSEST, next)?;
@@ -50,7 +49,7 @@ fn source(
 ) -> Result<(Given, usize), ReadError>
     requires depth { depth ≤ max_depth }
     requires at { at ≤ length tokens.now }
-    ensures { Answers source_view result (RightSource (lines_of tokens.now) (kinds_of tokens.now) depth at) }
+    ensures { Answers source_view result (RightSource (kinds_of tokens.now) depth at) }
 {
     if let Some(service) = service_at(tokens, at) {
         let (call, next) = call(alloc, tokens, depth, service, at)?;
@@ -88,7 +87,7 @@ fn assignment(
 ) -> Result<(Statement, usize), ReadError>
     requires depth { depth ≤ max_depth }
     requires at { at ≤ length tokens.now }
-    ensures { Answers statement_view result (RightAssignment (lines_of tokens.now) (kinds_of tokens.now) depth at) }
+    ensures { Answers statement_view result (RightAssignment (kinds_of tokens.now) depth at) }
 {
     let (target, next) = expect_word(tokens, at)?;
     let next = expect_symbol(tokens, next, Symbol::Assign)?;
@@ -108,7 +107,7 @@ fn plain_call(
     requires at { at < length tokens.now }
     requires room { at + 1 < 2 ^ 64 }
     requires first { option_and_then service_of (slice_get (kinds_of tokens.now) at) ≡ Some service }
-    ensures { Answers statement_view result (RightPlainCall (lines_of tokens.now) (kinds_of tokens.now) depth at) }
+    ensures { Answers statement_view result (RightPlainCall (kinds_of tokens.now) depth at) }
 {
     let (call, next) = call(alloc, tokens, depth, service, at)?;
     let next = expect_symbol(tokens, next, Symbol::Semicolon)?;
@@ -142,7 +141,7 @@ fn statement(
     requires depth { depth ≤ max_depth }
     requires at { at ≤ length tokens.now }
     ensures { Answers statement_view result
-        (RightStatement (lines_of tokens.now) (kinds_of tokens.now) depth looped at) }
+        (RightStatement (kinds_of tokens.now) depth looped at) }
 {
     if let Some(service) = service_at(tokens, at) {
         return plain_call(alloc, tokens, depth, service, at);
@@ -172,7 +171,7 @@ fn while_statement(
     requires room { at + 1 < 2 ^ 64 }
     requires first { slice_get (kinds_of tokens.now) at ≡ Some (TokenKind.Keyword keyword.While) }
     ensures { Answers statement_view result
-        (RightStatement (lines_of tokens.now) (kinds_of tokens.now) depth looped at) }
+        (RightStatement (kinds_of tokens.now) depth looped at) }
 {
     let (condition, next) = condition(alloc, tokens, depth, at + 1)?;
     let (body, next) = block(alloc, tokens, depth, true, next)?;
@@ -191,7 +190,7 @@ fn if_statement(
     requires at { at < length tokens.now }
     requires room { at + 1 < 2 ^ 64 }
     requires first { slice_get (kinds_of tokens.now) at ≡ Some (TokenKind.Keyword keyword.If) }
-    ensures { Answers statement_view result (RightIf (lines_of tokens.now) (kinds_of tokens.now) depth looped at) }
+    ensures { Answers statement_view result (RightIf (kinds_of tokens.now) depth looped at) }
 {
     let (condition, next) = condition(alloc, tokens, depth, at + 1)?;
     let (then, next) = block(alloc, tokens, depth, looped, next)?;
@@ -227,7 +226,7 @@ fn else_part(
 ) -> Result<(Option<Vec<Statement>>, usize), ReadError>
     requires depth { depth ≤ max_depth }
     requires at { at ≤ length tokens.now }
-    ensures { Answers else_view result (RightElse (lines_of tokens.now) (kinds_of tokens.now) depth looped at) }
+    ensures { Answers else_view result (RightElse (kinds_of tokens.now) depth looped at) }
 {
     if !is_keyword_at(tokens, at, Keyword::Else) {
         return Ok((None, at));
@@ -247,7 +246,7 @@ fn other(
 ) -> Result<(Vec<Statement>, usize), ReadError>
     requires depth { depth ≤ max_depth }
     requires at { at ≤ length tokens.now }
-    ensures { Answers block_view result (RightOther (lines_of tokens.now) (kinds_of tokens.now) depth looped at) }
+    ensures { Answers block_view result (RightOther (kinds_of tokens.now) depth looped at) }
 {
     if !is_keyword_at(tokens, at, Keyword::If) {
         return block(alloc, tokens, depth, looped, at);
@@ -274,7 +273,7 @@ fn block(
 ) -> Result<(Vec<Statement>, usize), ReadError>
     requires depth { depth ≤ max_depth }
     requires at { at ≤ length tokens.now }
-    ensures { Answers block_view result (RightBlock (lines_of tokens.now) (kinds_of tokens.now) depth looped at) }
+    ensures { Answers block_view result (RightBlock (kinds_of tokens.now) depth looped at) }
 {
     if !is_symbol_at(tokens, at, Symbol::LeftBrace) {
         return Err(ReadError::Fault(FirstFault {
@@ -305,7 +304,7 @@ pub fn statements(
     requires depth { depth ≤ max_depth }
     requires at { at ≤ length tokens.now }
     ensures { Answers statements_view result
-        (RightStatements (lines_of tokens.now) (kinds_of tokens.now) depth looped at) }
+        (RightStatements (kinds_of tokens.now) depth looped at) }
 {
     let mut found = Vec::with_capacity(alloc, 1)?;
     let mut i = at;

@@ -5,8 +5,8 @@ use fmp_base::{BinaryOperator, Name, Service, UnaryOperator};
 #[derive(Clone, Copy, Debug, PartialEq, Eq)]
 pub struct Word {
     pub name: Name,
-    /// The line of its token, from 1.
-    pub line: u32,
+    /// The place of its token in the list of tokens.
+    pub at: u32,
 }
 
 /// An operator between two operands.
@@ -106,8 +106,8 @@ pub enum BodyKind {
 #[derive(Debug, Drop)]
 pub struct Body {
     pub kind: BodyKind,
-    /// The line of the word `task` or `handler`, from 1.
-    pub line: u32,
+    /// The place of the word `task` or `handler` in the list of tokens.
+    pub at: u32,
     pub name: Word,
     /// The declared variables, in order.
     pub variables: Vec<Word>,

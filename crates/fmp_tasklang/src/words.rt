@@ -3,7 +3,6 @@ ghost use Rattle.std.specs.Prelude.{◌≡◌, ◌^◌, ◌+◌, ◌≤◌, ◌<
 ghost use Rattle.fmp_lex.specs.Reading.{kinds_of, Finds};
 ghost use Rattle.fmp_tasklang.specs.Calls as calls;
 ghost use Rattle.fmp_tasklang.specs.Expressions as expressions;
-ghost use Rattle.fmp_tasklang.specs.Expressions.{lines_of};
 ghost use Rattle.fmp_tasklang.specs.Grammar as grammar;
 ghost use Rattle.fmp_tasklang.specs.Reading.{itself, RightWord};
 ghost use Rattle.fmp_tasklang.specs.Statements as statements;
@@ -112,16 +111,6 @@ fn body_kind_of(kind: TokenKind) -> Option<BodyKind>
     }
 }
 
-/// The line of the token at a place.
-pub fn line_at(tokens: &Tokens<'_>, at: usize) -> u32
-    ensures { result ≡ lines_of tokens.now at }
-{
-    match tokens.line(at) {
-        Some(line) => line,
-        None => 1,
-    }
-}
-
 /// The number that the token at a place stands for.
 pub fn number_at(tokens: &Tokens<'_>, at: usize) -> Option<i32>
     ensures value { result ≡ option_and_then expressions.number_of (slice_get (kinds_of tokens.now) at) }
@@ -136,6 +125,7 @@ pub fn name_at(tokens: &Tokens<'_>, at: usize) -> Option<Name>
     ensures value { result ≡ option_and_then expressions.name_of (slice_get (kinds_of tokens.now) at) }
     ensures within { IfSome result (λ _. at < length tokens.now) }
     ensures room { IfSome result (λ _. at + 1 < 2 ^ 64) }
+    ensures few { IfSome result (λ _. at < 2 ^ 32) }
 {
     name_of(kind_at(tokens, at)?)
 }
@@ -206,6 +196,7 @@ pub fn body_kind_at(tokens: &Tokens<'_>, at: usize) -> Option<BodyKind>
     ensures value { result ≡ option_and_then grammar.body_kind_of (slice_get (kinds_of tokens.now) at) }
     ensures within { IfSome result (λ _. at < length tokens.now) }
     ensures room { IfSome result (λ _. at + 1 < 2 ^ 64) }
+    ensures few { IfSome result (λ _. at < 2 ^ 32) }
 {
     body_kind_of(kind_at(tokens, at)?)
 }
@@ -214,13 +205,13 @@ pub fn body_kind_at(tokens: &Tokens<'_>, at: usize) -> Option<BodyKind>
 #[inline(always)]
 pub fn expect_word(tokens: &Tokens<'_>, at: usize) -> Result<(Word, usize), FirstFault>
     requires { at ≤ length tokens.now }
-    ensures { Finds itself result (RightWord (lines_of tokens.now) (kinds_of tokens.now) at) }
+    ensures { Finds itself result (RightWord (kinds_of tokens.now) at) }
 {
     match name_at(tokens, at) {
         Some(name) => Ok((
             Word {
                 name,
-                line: line_at(tokens, at),
+                at: at as u32,
             },
             at + 1,
         )),

@@ -1,5 +1,6 @@
 pub mod NewLemmas
 pub mod OnceLemmas
+pub mod OrderedLemmas
 pub mod RotateLemmas
 pub mod SoundLemmas
 pub mod StandLemmas

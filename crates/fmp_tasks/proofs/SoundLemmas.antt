@@ -74,7 +74,7 @@ queue_with_place-place n (queue.Receivers d) l = grind (arith, nat_tests)
 queue_with_place-place n (queue.Mailbox x) l = grind (arith, nat_tests)
 
 -- and its order is that of q
-queue_order : (w : WaitQueues) (sys : SystemTables) (q : WaitQueue) → IsThere w.counts q → order_with_head w sys (head w q) ≡ order_of sys q
+pub queue_order : (w : WaitQueues) (sys : SystemTables) (q : WaitQueue) → IsThere w.counts q → order_with_head w sys (head w q) ≡ order_of sys q
 queue_order w sys q l =
     let above : w.processors * 16 ≤ head w q = omega arith in
     let rest : head w q - w.processors * 16 ≡ place_of w.counts q = omega arith in
@@ -152,7 +152,7 @@ lt_of a b h = grind (arith, nat_tests)
 le_of : (a b : ℕ) → nat_lt a b ≡ false → b ≤ a
 le_of a b h = grind (arith, nat_tests)
 
-at_task : (w : WaitQueues) (sys : SystemTables) (tasks : List TaskBlock) (q : WaitQueue) (t : ℕ) → w ≡ waits_of sys → BlocksFit sys tasks → IsThere w.counts q
+pub at_task : (w : WaitQueues) (sys : SystemTables) (tasks : List TaskBlock) (q : WaitQueue) (t : ℕ) → w ≡ waits_of sys → BlocksFit sys tasks → IsThere w.counts q
     → is_at (head w q) (home w (task_at tasks t)) ≡ waits_in q (task_at tasks t)
 at_task w sys tasks q t e h l = by_test (nat_lt t (length tasks)) refl where
   by_test : (b : Bool) → nat_lt t (length tasks) ≡ b → is_at (head w q) (home w (task_at tasks t)) ≡ waits_in q (task_at tasks t)

@@ -29,7 +29,7 @@ any-append p (y ∷ ys) m = by_test (p y) (any-append p ys m) where
   by_test false rest = rest
 
 -- another task is there without t where it was there
-any-without : (u t : ℕ) (l : List ℕ) → nat_eq u t ≡ false → list_any (nat_eq u) (without l t) ≡ list_any (nat_eq u) l
+pub any-without : (u t : ℕ) (l : List ℕ) → nat_eq u t ≡ false → list_any (nat_eq u) (without l t) ≡ list_any (nat_eq u) l
 any-without u t [] h = refl
 any-without u t (y ∷ ys) h = by_test (nat_eq y t) refl (any-without u t ys h) where
   by_test : (b : Bool) → nat_eq y t ≡ b → list_any (nat_eq u) (without ys t) ≡ list_any (nat_eq u) ys

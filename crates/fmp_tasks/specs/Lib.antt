@@ -1,5 +1,6 @@
 pub mod Empties
 pub mod Homes
+pub mod Joining
 pub mod KeptLaws
 pub mod SortLaws
 pub mod Tables

@@ -5,6 +5,7 @@
 
 pub mod answers;
 mod config;
+mod latest;
 mod messages;
 pub mod order;
 mod queues;

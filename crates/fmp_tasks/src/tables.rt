@@ -5,6 +5,7 @@ ghost use Rattle.fmp_base.specs.Setups.{created_state};
 ghost use Rattle.fmp_base.specs.Systems.{tables_of};
 
 use crate::config::copied_system;
+use crate::latest::Latest;
 use crate::order::Order;
 use crate::setup::{
     created_blocks, empty_contents, empty_queues, idle_handlers, initial_values, wait_queues,
@@ -39,6 +40,7 @@ pub struct Tables {
     ready: ReadyQueues,
     waits: WaitQueues,
     deadlines: TickQueue,
+    latest: Latest,
     semaphores: Vec<u16>,
     flags: Vec<u16>,
     words: Vec<Words>,
@@ -84,6 +86,7 @@ impl Tables {
             ready,
             waits,
             deadlines,
+            latest: Latest::new(),
             semaphores,
             flags,
             words,

@@ -6,8 +6,6 @@ pub mod cyclics;
 pub mod deadlines;
 mod heap;
 mod places;
-#[cfg(test)]
-mod tests;
 mod times;
 
 pub use cyclics::Cyclics;

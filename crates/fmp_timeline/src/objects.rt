@@ -34,6 +34,8 @@ pub struct Object {
 #[derive(Clone, Copy, Debug, PartialEq, Eq)]
 struct Wait {
     topic: Topic,
+    /// Whether it stands in its queue by priority.
+    ranked: bool,
     /// Its priority, where these queue by priority, or 0.
     rank: u8,
     /// The event at which the task took its place in the queue.
@@ -191,10 +193,11 @@ impl Objects {
         Ok(())
     }
 
-    /// How the tasks that wait for this object queue.
-    fn order_of(&self, topic: Topic) -> QueueOrder {
+    /// Whether a task that waits so for this object stands in its queue by priority.
+    fn is_ranked(&self, topic: Topic, cause: WaitCause) -> bool {
         let object = self.all.iter().find(|object| object.topic == topic);
-        object.map_or(QueueOrder::Fifo, |object| object.order)
+        let order = object.map_or(QueueOrder::Fifo, |object| object.order);
+        order == QueueOrder::Priority && !matches!(cause, WaitCause::Receiving(_))
     }
 
     /// The wait of a task after an event, if it waits for an object. It keeps its place where nothing moved it.
@@ -209,12 +212,20 @@ impl Objects {
             return None;
         };
         let topic = topic_of(cause)?;
-        let in_order = matches!(cause, WaitCause::Receiving(_));
-        let ranked = !in_order && self.order_of(topic) == QueueOrder::Priority;
+        let same = old.filter(|wait| wait.topic == topic);
+        let ranked = match same {
+            Some(wait) => wait.ranked,
+            None => self.is_ranked(topic, cause),
+        };
         let rank = if ranked { block.priority } else { 0 };
-        let stays = |wait: &Wait| wait.topic == topic && wait.rank == rank && !(ranked && moved);
-        let since = old.filter(stays).map_or(event, |wait| wait.since);
-        Some(Wait { topic, rank, since })
+        let stays = |wait: &Wait| wait.rank == rank && !(ranked && moved);
+        let since = same.filter(stays).map_or(event, |wait| wait.since);
+        Some(Wait {
+            topic,
+            ranked,
+            rank,
+            since,
+        })
     }
 
     /// Notes that the queue of an object is other than before.

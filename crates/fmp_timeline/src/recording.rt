@@ -1,7 +1,7 @@
 //! How a run is recorded, one event after another.
 use crate::marks::Migration;
 use crate::run::{Note, Run};
-use crate::states::{Moment, handling_of, occupant_of, task_shown};
+use crate::states::{Moment, handling_of, occupant_of};
 use fmp_base::{Handler, Line};
 use std::alloc::{AllocError, Global};
 
@@ -39,10 +39,8 @@ impl Run {
     }
 
     fn show_tasks(&mut self, event: u32, moment: &Moment<'_>) -> Result<(), AllocError> {
-        let both = moment.states.iter().zip(moment.blocks);
-        let rows = self.tasks.iter_mut().zip(both);
-        for (task, (track, (state, block))) in (0u8..255).zip(rows) {
-            track.show(event, task_shown(task, state, block, moment.processors))?;
+        for (track, shown) in self.tasks.iter_mut().zip(moment.tasks) {
+            track.show(event, *shown)?;
         }
         for (priority, state) in self.priorities.iter_mut().zip(moment.states) {
             *priority = state.priority;

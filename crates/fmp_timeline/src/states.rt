@@ -1,9 +1,11 @@
 //! What the lanes show after an event.
-ghost use Rattle.std.specs.Prelude.{◌≡◌};
+ghost use Rattle.std.specs.Prelude.{◌≡◌, IfOk, get_or, slice_get};
+ghost use Rattle.fmp_timeline.specs.Shown as spec;
 
 use fmp_base::{
     Caller, Handler, Line, Phase, Processor, StateWord, TaskBlock, TaskState, WaitCause,
 };
+use std::alloc::{AllocError, Global};
 
 /// What setup or an event that did something told, and the state after it. Each table is in order of number.
 #[derive(Clone, Copy)]
@@ -14,7 +16,9 @@ pub struct Moment<'a> {
     pub text: &'a [u8],
     /// The clock.
     pub clock: u32,
-    /// What is shown of the tasks.
+    /// What the lanes show of the tasks.
+    pub tasks: &'a [TaskShown],
+    /// What is shown of them at the end of a trace.
     pub states: &'a [TaskState],
     /// The tasks with their waits.
     pub blocks: &'a [TaskBlock],
@@ -78,31 +82,130 @@ pub struct Handling {
     pub pends: bool,
 }
 
-/// What is shown of the task at this place: its word and its processor are those of its state.
+/// What a task waits for.
+fn wait_of(phase: Phase) -> Option<WaitCause>
+    ensures { result ≡ spec.wait_of phase }
+{
+    match phase {
+        Phase::Waiting(cause) => Some(cause),
+        Phase::Dormant | Phase::Ready => None,
+    }
+}
+
+fn is_task(run: Option<u8>, task: usize) -> bool
+    ensures { result ≡ spec.is_task task run }
+{
+    match run {
+        Some(other) => usize::from(other) == task,
+        None => false,
+    }
+}
+
+/// Whether the processor at a place runs a task.
+fn is_run(processors: &[Processor], place: usize, task: usize) -> bool
+    ensures { result ≡ spec.is_run task (slice_get processors.now place) }
+{
+    match processors.get(place) {
+        Some(processor) => is_task(processor.run, task),
+        None => false,
+    }
+}
+
+/// The handler that has interrupted a task on its processor.
+fn handler_over(processors: &[Processor], place: usize, task: usize) -> Option<Handler>
+    ensures { result ≡ spec.handler_over task (slice_get processors.now place) }
+{
+    match processors.get(place) {
+        Some(processor) if is_task(processor.run, task) => processor.handler,
+        _ => None,
+    }
+}
+
+/// What is shown of the task at this place.
 pub fn task_shown(
-    place: u8,
+    place: usize,
     state: &TaskState,
     block: &TaskBlock,
     processors: &[Processor],
 ) -> TaskShown
-    ensures word { result.word ≡ state.now.word }
-    ensures processor { result.processor ≡ state.now.processor }
-    ensures deadline { result.deadline ≡ block.now.deadline }
+    ensures { result ≡ spec.task_shown place state.now block.now processors.now }
 {
-    let wait = match block.phase {
-        Phase::Waiting(cause) => Some(cause),
-        Phase::Ready | Phase::Dormant => None,
-    };
-    let on = processors.get(usize::from(state.processor));
-    let run = on.filter(|x| x.run == Some(place));
+    let on = usize::from(state.processor);
     TaskShown {
         processor: state.processor,
         word: state.word,
-        wait,
+        wait: wait_of(block.phase),
         deadline: block.deadline,
-        under: run.and_then(|x| x.handler),
-        held: run.is_some() && block.suspended,
+        under: handler_over(processors, on, place),
+        held: is_run(processors, on, place) && block.suspended,
     }
+}
+
+/// What is shown of a task; of none a dormant one.
+fn state_at(states: &[TaskState], task: usize) -> TaskState
+    ensures { result ≡ get_or states.now task spec.no_state }
+{
+    match states.get(task) {
+        Some(state) => *state,
+        None => TaskState {
+            word: StateWord::Dormant,
+            processor: 0,
+            priority: 0,
+        },
+    }
+}
+
+/// What is kept of a task; of none a dormant one.
+fn block_at(blocks: &[TaskBlock], task: usize) -> TaskBlock
+    ensures { result ≡ get_or blocks.now task spec.no_block }
+{
+    match blocks.get(task) {
+        Some(block) => *block,
+        None => TaskBlock {
+            phase: Phase::Dormant,
+            suspended: false,
+            priority: 0,
+            processor: 0,
+            activations: 0,
+            next_processor: None,
+            wakeups: 0,
+            deadline: None,
+        },
+    }
+}
+
+/// What is shown of a task; of none what is shown of a dormant one.
+fn shown_at(
+    states: &[TaskState],
+    blocks: &[TaskBlock],
+    processors: &[Processor],
+    task: usize,
+) -> TaskShown
+    ensures { result ≡ spec.task_shown task (get_or states.now task spec.no_state)
+        (get_or blocks.now task spec.no_block) processors.now }
+{
+    task_shown(
+        task,
+        &state_at(states, task),
+        &block_at(blocks, task),
+        processors,
+    )
+}
+
+/// What is shown of all tasks, in order of number. `AllocError` for want of memory.
+pub fn tasks_shown(
+    alloc: Global,
+    states: &[TaskState],
+    blocks: &[TaskBlock],
+    processors: &[Processor],
+) -> Result<Vec<TaskShown>, AllocError>
+    ensures { IfOk result (λ shown. shown.items ≡ spec.tasks_shown states.now blocks.now processors.now) }
+{
+    let mut shown = Vec::with_capacity(alloc, states.len())?;
+    for task in 0..states.len() {
+        shown.push(shown_at(states, blocks, processors, task))?;
+    }
+    Ok(shown)
 }
 
 /// What a processor does.

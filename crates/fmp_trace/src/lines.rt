@@ -312,9 +312,9 @@ fn append_lines(
     ensures ok { OnOk result (out.new.items ≡ out.old.items ++ lines_text (tables_of sys.now) number lines.now) }
     ensures err { OnErr result (Begins out.old.items out.new.items) }
 {
-    let numeral = Numeral::new(number);
     let mut bytes = [0; ROOM];
     let mut end = 0;
+    let numeral = Numeral::new(number);
     for line in lines {
         end = put_line(sys, &numeral, line, &mut bytes, end);
         end = make_room(&bytes, end, out)?;

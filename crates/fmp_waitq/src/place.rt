@@ -2,7 +2,8 @@
 ghost use Rattle.std.specs.Prelude.{◌≡◌, ◌+◌, ◌<◌, length};
 ghost use Rattle.fmp_base.specs.Links.{AddsAtMost};
 ghost use Rattle.fmp_base.specs.Queues.{priority_in};
-ghost use Rattle.fmp_ring.specs.Places.{IsPlace};
+ghost use Rattle.fmp_ring.specs.Orders.{IsOrder};
+ghost use Rattle.fmp_ring.specs.Places.{IsPlace, Walked};
 ghost use Rattle.fmp_ring.specs.RingLists.{list_at};
 
 use fmp_base::{Steps, TaskBlock};
@@ -18,6 +19,31 @@ fn priority_at(blocks: &[TaskBlock], t: u16) -> u8
     }
 }
 
+/// The task before which another comes in a list: the first that is less urgent, if any. Walks on from a place that
+/// lies past none that is less urgent.
+pub fn place_from(
+    rings: &Rings,
+    head: u16,
+    blocks: &[TaskBlock],
+    t: u16,
+    start: Option<u16>,
+    steps: &mut Steps,
+) -> Option<u16>
+    requires order { IsOrder rings.now.nodes (list_at rings.now.lists head) }
+    requires walked { Walked (priority_in blocks.now) t (list_at rings.now.lists head) start }
+    ensures place { IsPlace (priority_in blocks.now) t (list_at rings.now.lists head) result }
+    ensures steps { AddsAtMost (length (list_at rings.now.lists head)) steps.old steps.new }
+{
+    let mut at = start;
+    while let Some(u) = at {
+        if priority_at(blocks, t) < priority_at(blocks, u) {
+            return Some(u);
+        }
+        at = rings.next(u, steps);
+    }
+    None
+}
+
 /// The task before which another comes in a list: the first that is less urgent, if any. Walks from the front.
 pub fn place(
     rings: &Rings,
@@ -30,12 +56,6 @@ pub fn place(
     ensures place { IsPlace (priority_in blocks.now) t (list_at rings.now.lists head) result }
     ensures steps { AddsAtMost (length (list_at rings.now.lists head) + 1) steps.old steps.new }
 {
-    let mut at = rings.first(head, steps);
-    while let Some(u) = at {
-        if priority_at(blocks, t) < priority_at(blocks, u) {
-            return Some(u);
-        }
-        at = rings.next(u, steps);
-    }
-    None
+    let start = rings.first(head, steps);
+    place_from(rings, head, blocks, t, start, steps)
 }

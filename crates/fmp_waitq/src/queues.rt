@@ -6,10 +6,11 @@ ghost use Rattle.fmp_base.specs.MailboxCalls.{behind_equals, enqueued};
 ghost use Rattle.fmp_base.specs.Queues.{first_of, priority_in};
 ghost use Rattle.fmp_base.specs.States.{without};
 ghost use Rattle.fmp_ring.specs.Orders.{IsOrder};
+ghost use Rattle.fmp_ring.specs.Places.{Walked};
 ghost use Rattle.fmp_ring.specs.RingLists.{is_linked, follower};
 ghost use Rattle.fmp_waitq.specs.WaitLists.{head, place_of, AreLent, IsThere, queue_at, with_queue};
 
-use crate::place::place;
+use crate::place::{place, place_from};
 use fmp_base::{QueueOrder, Steps, TaskBlock, WaitQueue};
 use fmp_ring::{Rings, as_byte};
 
@@ -105,6 +106,38 @@ impl WaitQueues {
                 Some(at) => rings.insert_before(t as u16, at, steps),
                 None => rings.push_back(head, t as u16, steps),
             },
+        }
+    }
+
+    /// Puts a task, which stands in no list, into a queue of priority order, where one that is at least as urgent
+    /// stands behind none that is less urgent: after all that are at least as urgent. It looks at those behind that
+    /// one alone.
+    pub fn join_behind(
+        self,
+        rings: &mut Rings,
+        queue: WaitQueue,
+        blocks: &[TaskBlock],
+        t: u8,
+        other: u8,
+        steps: &mut Steps,
+    )
+        requires lent { AreLent self rings.old }
+        requires queue { IsThere self.counts queue }
+        requires task { t < rings.old.nodes }
+        requires free { is_linked t rings.old.lists ≡ false }
+        requires order { IsOrder rings.old.nodes (queue_at self rings.old queue) }
+        requires behind { Walked (priority_in blocks.now) t (queue_at self rings.old queue) (Some other) }
+        requires urgent { priority_in blocks.now other ≤ priority_in blocks.now t }
+        ensures rings { rings.new
+            ≡ with_queue self rings.old queue
+            (behind_equals (priority_in blocks.now) t (queue_at self rings.old queue)) }
+        ensures steps { AddsAtMost (length (queue_at self rings.old queue) + 6) steps.old steps.new }
+    {
+        let head = head_of(self, queue);
+        let start = rings.next(other as u16, steps);
+        match place_from(rings, head, blocks, t as u16, start, steps) {
+            Some(at) => rings.insert_before(t as u16, at, steps),
+            None => rings.push_back(head, t as u16, steps),
         }
     }
 

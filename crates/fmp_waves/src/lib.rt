@@ -4,8 +4,6 @@
 mod codes;
 mod dump;
 mod head;
-#[cfg(test)]
-mod tests;
 mod text;
 mod values;
 mod variable;

@@ -87,7 +87,7 @@ one_on_each first second = system 2 (active_task first 0 10 ∷ in_second_class 
 
 -- a name in a text
 abbrev pub word : String → Word
-word letters = record { name = called letters; line = 1 }
+word letters = record { name = called letters; at = 0 }
 
 -- a variable or an object as an expression
 abbrev pub spelled : String → ExpressionTree
@@ -124,7 +124,7 @@ abbrev pub body_of_kind : BodyKind → String → List String → List Statement
 body_of_kind k letters variables statements =
     record {
       kind = k;
-      line = 1;
+      at = 0;
       name = word letters;
       variables = map word variables;
       statements = block_of statements;

@@ -119,6 +119,7 @@ impl Tables {
             &mut self.ready,
             self.waits,
             &mut self.rings,
+            &mut self.latest,
             &self.system,
             self.blocks.as_slice(),
             &self.blocks[t as usize],

@@ -6,4 +6,4 @@ use Rattle.fmp_build.proofs.entries.add_class.Given as goal
 
 abbrev pub invariant-loop-api : goal.invariant-loop-api
 invariant-loop-api l =
-    l.uses.items ≡ l.initial.uses.items ++ flat_map (api_uses l.tokens) (map api_view (take l.api-index l.class.apis.items))
+    l.uses.items ≡ l.initial.uses.items ++ flat_map api_uses (map api_view (take l.api-index l.class.apis.items))

@@ -6,4 +6,4 @@ use Rattle.fmp_build.proofs.entries.entry_uses.Given as goal
 
 abbrev pub invariant-loop-class : goal.invariant-loop-class
 invariant-loop-class l =
-    l.uses.items ≡ flat_map (class_uses l.tokens) (map class_view (take l.class-index l.tree.classes.items))
+    l.uses.items ≡ flat_map class_uses (map class_view (take l.class-index l.tree.classes.items))

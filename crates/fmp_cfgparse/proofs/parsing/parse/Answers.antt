@@ -18,4 +18,4 @@ returns-in-Ok c =
     let ts = c.in-Ok.list.tokens in
     let short : length text ≤ text_max = not_long text c.in-Ok.list c.in-Ok.ensures.too_long in
     let first = rw c.in-Err-Fault.field-0-is at c.in-Err-Fault.ensures in
-    parse_stopped text ts c.in-Err-Fault.fault.at c.in-Ok.list.end_line c.in-Err-Fault.fault.why c.fault_at.result short c.in-Ok.ensures.cut first c.in-Ok.ensures.end_line c.fault_at.ensures
+    parse_stopped text ts c.in-Err-Fault.fault.at c.in-Ok.list.end c.in-Err-Fault.fault.why c.fault_at.result short c.in-Ok.ensures.cut first c.in-Ok.ensures.end c.fault_at.ensures

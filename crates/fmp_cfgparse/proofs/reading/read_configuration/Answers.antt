@@ -9,7 +9,7 @@ use Rattle.fmp_cfgparse.proofs.reading.read_configuration.Goals as goal
 
 is_read : (text : List ℕ) (f : BuildFault) → IsOffence text f → IsRead text (Err f)
 is_read text build.Memory x = tt
-is_read text (build.At f line why) x = inr x
+is_read text (build.At f place why) x = inr x
 
 pub returns-in-Ok-configure-clause-reads : goal.returns-in-Ok-configure-clause-reads
 returns-in-Ok-configure-clause-reads c = record {
@@ -28,13 +28,13 @@ returns-in-Ok-configure-clause-reads c = record {
 pub returns-in-Ok-clause-refuses : goal.returns-in-Ok-clause-refuses
 returns-in-Ok-clause-refuses c =
     let stopped = rw c.in-Err-Fault.field-0-is at c.in-Err-Fault.ensures in
-    is_read c.args.text.now c.fault_at.result (
+    is_read c.args.text.now c.offence_at.result (
       c.in-Ok.parsed.list.tokens,
       configuration_view c.in-Ok.parsed.tree,
       c.in-Ok.ensures,
       record { at = c.in-Err-Fault.at; why = c.in-Err-Fault.why },
       stopped,
-      c.fault_at.ensures,
+      c.offence_at.ensures,
     )
 
 pub returns-in-Ok-configure-clause-rules : goal.returns-in-Ok-configure-clause-rules

@@ -1,10 +1,22 @@
-use Rattle.std.proofs.Common.{◌≤◌, length, map, arith}
+use Rattle.std.proofs.Common.{rules, ◌≡◌, [], Some, ◌<◌, ◌≤◌, length, map, arith}
 use Rattle.fmp_base.specs.Systems.{tables_of}
-use Rattle.fmp_tasklang.specs.Views.{body_view}
+use Rattle.fmp_tasklang.specs.Views.{body_view, program_view}
 use Rattle.fmp_code.specs.Instructions.{body_tables}
-use Rattle.fmp_codegen.proofs.Judging.{code-tied, code-verified, all-accepted, all-compiled}
+use Rattle.fmp_codegen.specs.Compiling.{bodies_offence}
+use Rattle.fmp_codegen.proofs.Judging.{compiled-stopped, judged-here, code-tied, code-verified, all-accepted, all-compiled}
 use Rattle.fmp_codegen.proofs.Limits.{few-viewed, low-bodies}
 use Rattle.fmp_codegen.proofs.compiling.compile.Goals as goal
+
+pub returns-in-Err-clause-compiled : goal.returns-in-Err-clause-compiled
+returns-in-Err-clause-compiled c =
+    let tables = tables_of c.args.system.now in
+    let items = c.args.program.now.bodies.items in
+    let bodies = program_view c.args.program.now in
+    let within : c.loop-i.i < length items = omega (arith, c.loop-i-test.true, c.len-i-end.ensures) in
+    let first : bodies_offence tables [] bodies ≡ Some c.in-Err.offence =
+    judged-here tables items c.loop-i.i c.index-body.result.now within (search rules) (bodies_offence tables [] bodies) c.in-Err.offence
+    (search rules) c.loop-i.invariant.rest in
+    compiled-stopped tables c.args.tokens.now bodies c.in-Err.offence c.source_fault.result c.source_fault.ensures first
 
 pub returns-clause-tied : goal.returns-clause-tied
 returns-clause-tied c =

@@ -3,7 +3,6 @@ use Rattle.fmp_base.specs.Systems.{tables_of}
 use Rattle.fmp_lex.specs.Reading.{kinds_of, Outcome, map_outcome}
 use Rattle.fmp_lex.proofs.Repetitions.{put_before}
 use Rattle.fmp_tasklang.specs.Trees.{BodyTree}
-use Rattle.fmp_tasklang.specs.Expressions.{lines_of}
 use Rattle.fmp_tasklang.specs.Reading.{RightBodies}
 use Rattle.fmp_codegen.specs.Texts.{AreMade}
 use Rattle.fmp_codegen.proofs.texts.compile_bodies.Given as goal
@@ -12,8 +11,8 @@ abbrev pub invariant-bodies : goal.invariant-bodies
 invariant-bodies l = record {
   within : l.i ≤ length l.tokens;
   goes : (bodies : List BodyTree) × AreMade (tables_of l.objects.system.now) l.made bodies ×
-      ((o : Outcome (List BodyTree)) → RightBodies (lines_of l.tokens) (kinds_of l.tokens) l.i o
-      → RightBodies (lines_of l.tokens) (kinds_of l.tokens) 0 (map_outcome (put_before bodies) o));
+      ((o : Outcome (List BodyTree)) → RightBodies (kinds_of l.tokens) l.i o
+      → RightBodies (kinds_of l.tokens) 0 (map_outcome (put_before bodies) o));
 }
 
 abbrev pub decreases-bodies : goal.decreases-bodies

@@ -11,17 +11,17 @@ returns-in-Ok-compile_tokens-clause-compiled c =
     let made = c.in-Ok-compile_tokens.made in
     let x = c.in-Ok-compile_tokens.ensures in
     let short : length text ≤ text_max = not_long text list c.in-Ok.ensures.too_long in
-    text-compiled (tables_of c.args.system.now) made x.0 x.1 text list.tokens (short, c.in-Ok.ensures.cut, x.2) c.answer.result c.answer.ensures
+    text-compiled (tables_of c.args.system.now) made x.0 x.1 list.tokens text (short, c.in-Ok.ensures.cut, x.2) c.answer.result c.answer.ensures
 
 pub returns-in-Ok-compile_tokens-clause-few : goal.returns-in-Ok-compile_tokens-clause-few
 returns-in-Ok-compile_tokens-clause-few c =
     let x = c.in-Ok-compile_tokens.ensures in
-    text-few (tables_of c.args.system.now) c.in-Ok-compile_tokens.made x.0 x.1 c.answer.result c.answer.ensures
+    text-few (tables_of c.args.system.now) c.in-Ok-compile_tokens.made x.0 x.1 c.in-Ok.list.tokens c.answer.result c.answer.ensures
 
 pub returns-in-Ok-compile_tokens-clause-low : goal.returns-in-Ok-compile_tokens-clause-low
 returns-in-Ok-compile_tokens-clause-low c =
     let x = c.in-Ok-compile_tokens.ensures in
-    text-low (tables_of c.args.system.now) c.in-Ok-compile_tokens.made x.0 x.1 c.answer.result c.answer.ensures
+    text-low (tables_of c.args.system.now) c.in-Ok-compile_tokens.made x.0 x.1 c.in-Ok.list.tokens c.answer.result c.answer.ensures
 
 pub returns-in-Ok-clause-compiled : goal.returns-in-Ok-clause-compiled
 returns-in-Ok-clause-compiled c =
@@ -29,5 +29,5 @@ returns-in-Ok-clause-compiled c =
     let list = c.in-Ok.list in
     let short : length text ≤ text_max = not_long text list c.in-Ok.ensures.too_long in
     let first = rw c.in-Err-Fault.field-0-is at c.in-Err-Fault.ensures in
-    text-stopped (tables_of c.args.system.now) text list.tokens c.in-Err-Fault.fault.at list.end_line c.in-Err-Fault.fault.why c.fault_at.result short
-    c.in-Ok.ensures.cut first c.in-Ok.ensures.end_line c.fault_at.ensures
+    text-stopped (tables_of c.args.system.now) text list.tokens c.in-Err-Fault.fault.at list.end c.in-Err-Fault.fault.why c.fault_at.result short
+    c.in-Ok.ensures.cut first c.in-Ok.ensures.end c.fault_at.ensures

@@ -4,7 +4,6 @@ use Rattle.std.proofs.lemmas.Result.{err_from_is_err_and}
 use Rattle.fmp_lex.specs.Reading.{kinds_of, found, stopped, map_outcome}
 use Rattle.fmp_lex.proofs.Answered.{err_as}
 use Rattle.fmp_lex.specs.Forms.{put}
-use Rattle.fmp_tasklang.specs.Expressions.{lines_of}
 use Rattle.fmp_tasklang.specs.Reading.{argument_view, called_view, RightPart, RightParts, RightArguments}
 use Rattle.fmp_tasklang.specs.Views.{expression_view}
 use Rattle.std.proofs.Common.{drop, get_or, subst, add-one, drop-cons}
@@ -16,7 +15,6 @@ use Rattle.fmp_tasklang.proofs.calls.arguments.Goals as goal
 
 pub loop-one-init : goal.loop-one-init
 loop-one-init c =
-    let line = lines_of c.args.tokens.now in
     let ts = kinds_of c.args.tokens.now in
     let d = c.args.depth in
     let i = c.args.at in
@@ -28,12 +26,11 @@ loop-one-init c =
       seen = [];
       values = search rules;
       out = refl;
-      goes = λ o x. no_before o (RightParts line ts d ps i) x;
+      goes = λ o x. no_before o (RightParts ts d ps i) x;
     }
 
 pub returns-in_err-argument : goal.returns-in_err-argument
 returns-in_err-argument c =
-    let line = lines_of c.args.tokens.now in
     let ts = kinds_of c.args.tokens.now in
     let d = c.args.depth in
     let i = c.args.at in
@@ -44,14 +41,13 @@ returns-in_err-argument c =
     let row = get_or ps n (part.Mark mark.LeftParen) in
     let split : drop n ps ≡ row ∷ drop (n + 1) ps = rw add-one (drop-cons ps n (part.Mark mark.LeftParen) c.loop-one-test.true) in
     let p = err_from_is_err_and c.from_residual-in_err-argument.result c.from_residual-in_err-argument.ensures.1 in
-    rw (p.1, p.2) (err_as argument_view called_view c.in_err-argument.field-0.0 (RightPart line ts d row k) (RightArguments line ts d s ps i)
-    (λ j why x. arguments_as line d s ps ts i (stopped j why)
-    (c.loop-one.invariant.goes (stopped j why) (subst (λ rows. RightParts line ts d rows k (stopped j why)) (sym split) (parts_stop line d row (drop (n + 1) ps) ts k j why x))))
+    rw (p.1, p.2) (err_as argument_view called_view c.in_err-argument.field-0.0 (RightPart ts d row k) (RightArguments ts d s ps i)
+    (λ j why x. arguments_as d s ps ts i (stopped j why)
+    (c.loop-one.invariant.goes (stopped j why) (subst (λ rows. RightParts ts d rows k (stopped j why)) (sym split) (parts_stop d row (drop (n + 1) ps) ts k j why x))))
     c.in_err-argument.ensures)
 
 pub loop-one-preserved : goal.loop-one-preserved
 loop-one-preserved c =
-    let line = lines_of c.args.tokens.now in
     let ts = kinds_of c.args.tokens.now in
     let d = c.args.depth in
     let i = c.args.at in
@@ -63,7 +59,7 @@ loop-one-preserved c =
     let split : drop n ps ≡ row ∷ drop (n + 1) ps = rw add-one (drop-cons ps n (part.Mark mark.LeftParen) c.loop-one-test.true) in
     let a = argument_view c.in_ok-argument.argument in
     let m = c.in_ok-argument.next in
-    let x : RightPart line ts d row k (found a m) = c.in_ok-argument.ensures in
+    let x : RightPart ts d row k (found a m) = c.in_ok-argument.ensures in
     let within = simp length-map at x.within in
     let seen = c.loop-one.invariant.seen in
     record {
@@ -72,13 +68,12 @@ loop-one-preserved c =
       seen = seen ++ put a [];
       values = c.in_ok-put.ensures.arguments ∙ (ap (λ z. z ++ values_of (put a [])) c.loop-one.invariant.values ∙ sym (values_of-append seen (put a [])));
       out = c.in_ok-put.ensures.out ∙ (ap (λ w. out_from w (put a [])) c.loop-one.invariant.out ∙ sym (out_from-append None seen (put a [])));
-      goes = λ o rest. push_put seen a o (RightParts line ts d ps i) (c.loop-one.invariant.goes (map_outcome (put a) o)
-          (subst (λ rows. RightParts line ts d rows k (map_outcome (put a) o)) (sym split) (parts_then line d row (drop (n + 1) ps) ts k a m x o rest)));
+      goes = λ o rest. push_put seen a o (RightParts ts d ps i) (c.loop-one.invariant.goes (map_outcome (put a) o)
+          (subst (λ rows. RightParts ts d rows k (map_outcome (put a) o)) (sym split) (parts_then d row (drop (n + 1) ps) ts k a m x o rest)));
     }
 
 pub returns : goal.returns
 returns c =
-    let line = lines_of c.args.tokens.now in
     let ts = kinds_of c.args.tokens.now in
     let d = c.args.depth in
     let i = c.args.at in
@@ -88,7 +83,7 @@ returns c =
     let k = c.loop-one.i in
     let seen = c.loop-one.invariant.seen in
     let within : k ≤ length ts = simp length-map c.loop-one.invariant.within in
-    let all : RightParts line ts d ps i (found seen k) = rw append-nil at (c.loop-one.invariant.goes (found [] k) (parts_none line d (drop n ps) ts k (parts_done ps n (omega arith)) within)) in
+    let all : RightParts ts d ps i (found seen k) = rw append-nil at (c.loop-one.invariant.goes (found [] k) (parts_none d (drop n ps) ts k (parts_done ps n (omega arith)) within)) in
     let same = called_is c.loop-one.call.service s (map expression_view c.loop-one.call.arguments.items) (values_of seen) c.loop-one.call.out (out_from None seen)
     c.loop-one.invariant.service c.loop-one.invariant.values c.loop-one.invariant.out in
-    subst (λ z. RightArguments line ts d s ps i (found z k)) (sym same) (arguments_as line d s ps ts i (found seen k) all)
+    subst (λ z. RightArguments ts d s ps i (found z k)) (sym same) (arguments_as d s ps ts i (found seen k) all)

@@ -1,7 +1,6 @@
 use Rattle.std.proofs.Common.{◌+◌}
 use Rattle.fmp_lex.specs.Reading.{kinds_of}
 use Rattle.fmp_lex.proofs.Answered.{answers_as}
-use Rattle.fmp_tasklang.specs.Expressions.{lines_of}
 use Rattle.fmp_tasklang.specs.Reading.{called_view, RightArguments, RightCall}
 use Rattle.fmp_tasklang.specs.Calls.{call_parts}
 use Rattle.fmp_tasklang.proofs.Arguments.{call_as}
@@ -9,11 +8,10 @@ use Rattle.fmp_tasklang.proofs.calls.call.Goals as goal
 
 pub returns : goal.returns
 returns c =
-    let line = lines_of c.args.tokens.now in
     let ts = kinds_of c.args.tokens.now in
     let d = c.args.depth in
     let i = c.args.at in
     let s = c.args.service in
     let passed = rw c.parts_of.ensures at c.arguments.ensures in
-    answers_as called_view c.arguments.result (RightArguments line ts d s (call_parts s) (i + 1)) (RightCall line ts d i)
-    (λ o x. call_as line d ts i s c.requires.first o x) passed
+    answers_as called_view c.arguments.result (RightArguments ts d s (call_parts s) (i + 1)) (RightCall ts d i)
+    (λ o x. call_as d ts i s c.requires.first o x) passed

@@ -4,7 +4,7 @@ use Rattle.std.proofs.lemmas.Result.{err_from_is_err_and}
 use Rattle.fmp_lex.specs.Reading.{kinds_of, found, stopped, map_outcome, RightToken}
 use Rattle.fmp_lex.proofs.Answered.{err_as, find_as, step_as}
 use Rattle.fmp_lex.proofs.Repetitions.{push_before}
-use Rattle.fmp_tasklang.specs.Expressions.{loosest, lines_of}
+use Rattle.fmp_tasklang.specs.Expressions.{loosest}
 use Rattle.fmp_tasklang.specs.Reading.{itself, links_view, RightWord, RightOperand, RightExpression, RightLinks}
 use Rattle.fmp_tasklang.specs.Trees.{number}
 use Rattle.fmp_tasklang.specs.Views.{LinkTree, chain_tree, expression_view}
@@ -15,28 +15,25 @@ use Rattle.fmp_tasklang.proofs.expressions.+expressions.Goals as goal
 
 pub expression-returns-in_err-tree : goal.expression-returns-in_err-tree
 expression-returns-in_err-tree m0 c =
-    let line = lines_of c.args.tokens.now in
     let ts = kinds_of c.args.tokens.now in
     let d = c.args.depth in
     let i = c.args.at in
     let l = c.args.level in
     let p = err_from_is_err_and c.from_residual.result c.from_residual.ensures.1 in
-    rw (p.1, p.2) (err_as expression_view expression_view c.in_err-tree.field-0.0 (RightOperand line ts d i) (RightExpression line ts d l i)
-    (λ j why x. raised_stop line ts d i j why 0 l l (omega arith) (expression_zero line ts d 0 i refl (stopped j why) x)) c.in_err-tree.ensures)
+    rw (p.1, p.2) (err_as expression_view expression_view c.in_err-tree.field-0.0 (RightOperand ts d i) (RightExpression ts d l i)
+    (λ j why x. raised_stop ts d i j why 0 l l (omega arith) (expression_zero ts d 0 i refl (stopped j why) x)) c.in_err-tree.ensures)
 
 pub expression-levels-init : goal.expression-levels-init
 expression-levels-init m0 c =
-    let line = lines_of c.args.tokens.now in
     let ts = kinds_of c.args.tokens.now in
     let d = c.args.depth in
     let i = c.args.at in
-    let x : RightExpression line ts d 0 i (found (expression_view c.in_ok-tree.tree) c.in_ok-tree.next) =
-    expression_zero line ts d 0 i refl (found (expression_view c.in_ok-tree.tree) c.in_ok-tree.next) c.in_ok-tree.ensures in
+    let x : RightExpression ts d 0 i (found (expression_view c.in_ok-tree.tree) c.in_ok-tree.next) =
+    expression_zero ts d 0 i refl (found (expression_view c.in_ok-tree.tree) c.in_ok-tree.next) c.in_ok-tree.ensures in
     record { within = x.within; below = omega arith; right = x }
 
 pub expression-returns-in_err-rest : goal.expression-returns-in_err-rest
 expression-returns-in_err-rest m0 c =
-    let line = lines_of c.args.tokens.now in
     let ts = kinds_of c.args.tokens.now in
     let d = c.args.depth in
     let i = c.args.at in
@@ -45,16 +42,15 @@ expression-returns-in_err-rest m0 c =
     let m = c.in-Some.found in
     let tree = expression_view c.levels.tree in
     let sign = c.in-Some.ensures in
-    let here : RightExpression line ts d m i (found tree k) =
-    raised_to line ts d i tree k c.levels.read m sign.2.0 sign.0 c.levels.invariant.within sign.2.1 c.levels.invariant.right in
+    let here : RightExpression ts d m i (found tree k) =
+    raised_to ts d i tree k c.levels.read m sign.2.0 sign.0 c.levels.invariant.within sign.2.1 c.levels.invariant.right in
     let p = err_from_is_err_and c.from_residual-in_err-rest.result c.from_residual-in_err-rest.ensures.1 in
-    rw (p.1, p.2) (err_as links_view expression_view c.in_err-rest.field-0.0 (RightLinks line ts d m k) (RightExpression line ts d l i)
-    (λ j why x. raised_stop line ts d i j why (m + 1) l (l - (m + 1)) (omega (arith, sign.1))
-    (chain_then line d m ts (m + 1) i refl tree k here (stopped j why) x)) c.in_err-rest.ensures)
+    rw (p.1, p.2) (err_as links_view expression_view c.in_err-rest.field-0.0 (RightLinks ts d m k) (RightExpression ts d l i)
+    (λ j why x. raised_stop ts d i j why (m + 1) l (l - (m + 1)) (omega (arith, sign.1))
+    (chain_then d m ts (m + 1) i refl tree k here (stopped j why) x)) c.in_err-rest.ensures)
 
 pub expression-levels-preserved : goal.expression-levels-preserved
 expression-levels-preserved m0 c =
-    let line = lines_of c.args.tokens.now in
     let ts = kinds_of c.args.tokens.now in
     let d = c.args.depth in
     let i = c.args.at in
@@ -62,10 +58,10 @@ expression-levels-preserved m0 c =
     let m = c.in-Some.found in
     let tree = expression_view c.levels.tree in
     let sign = c.in-Some.ensures in
-    let here : RightExpression line ts d m i (found tree k) =
-    raised_to line ts d i tree k c.levels.read m sign.2.0 sign.0 c.levels.invariant.within sign.2.1 c.levels.invariant.right in
-    let x : RightExpression line ts d (m + 1) i (found (chain_tree tree (links_view c.in_ok-rest.rest)) c.in_ok-rest.end) =
-    chain_then line d m ts (m + 1) i refl tree k here (found (links_view c.in_ok-rest.rest) c.in_ok-rest.end) c.in_ok-rest.ensures in
+    let here : RightExpression ts d m i (found tree k) =
+    raised_to ts d i tree k c.levels.read m sign.2.0 sign.0 c.levels.invariant.within sign.2.1 c.levels.invariant.right in
+    let x : RightExpression ts d (m + 1) i (found (chain_tree tree (links_view c.in_ok-rest.rest)) c.in_ok-rest.end) =
+    chain_then d m ts (m + 1) i refl tree k here (found (links_view c.in_ok-rest.rest) c.in_ok-rest.end) c.in_ok-rest.ensures in
     record {
       within = x.within;
       below = omega (arith, sign.1);
@@ -74,67 +70,60 @@ expression-levels-preserved m0 c =
 
 pub expression-returns : goal.expression-returns
 expression-returns m0 c =
-    let line = lines_of c.args.tokens.now in
     let ts = kinds_of c.args.tokens.now in
     let l = c.args.level in
     let n = c.levels.read in
-    raised line ts c.args.depth c.args.at (expression_view c.levels.tree) c.levels.next n l (l - n)
+    raised ts c.args.depth c.args.at (expression_view c.levels.tree) c.levels.next n l (l - n)
     (omega (arith, c.levels.invariant.below)) c.levels.invariant.within c.in_default.ensures c.levels.invariant.right
 
 pub group-returns-then-depth-eq-MAX_DEPTH : goal.group-returns-then-depth-eq-MAX_DEPTH
 group-returns-then-depth-eq-MAX_DEPTH m0 c =
-    let line = lines_of c.args.tokens.now in
     let ts = kinds_of c.args.tokens.now in
     let d = c.args.depth in
     let i = c.args.at in
-    group_deep line ts d i c.requires.first (omega arith)
+    group_deep ts d i c.requires.first (omega arith)
 
 pub group-returns-in_err-inner : goal.group-returns-in_err-inner
 group-returns-in_err-inner m0 c =
-    let line = lines_of c.args.tokens.now in
     let ts = kinds_of c.args.tokens.now in
     let d = c.args.depth in
     let i = c.args.at in
     let p = err_from_is_err_and c.from_residual.result c.from_residual.ensures.1 in
-    rw (p.1, p.2) (err_as expression_view expression_view c.in_err-inner.field-0.0 (RightExpression line ts (d + 1) loosest (i + 1)) (RightOperand line ts d i)
-    (λ j why x. group_then line ts d i c.requires.first (omega arith) (stopped j why) (ended_stop line (d + 1) right refl ts (i + 1) j why x)) c.in_err-inner.ensures)
+    rw (p.1, p.2) (err_as expression_view expression_view c.in_err-inner.field-0.0 (RightExpression ts (d + 1) loosest (i + 1)) (RightOperand ts d i)
+    (λ j why x. group_then ts d i c.requires.first (omega arith) (stopped j why) (ended_stop (d + 1) right refl ts (i + 1) j why x)) c.in_err-inner.ensures)
 
 pub group-returns-in_err-next : goal.group-returns-in_err-next
 group-returns-in_err-next m0 c =
-    let line = lines_of c.args.tokens.now in
     let ts = kinds_of c.args.tokens.now in
     let d = c.args.depth in
     let i = c.args.at in
     let p = err_from_is_err_and c.from_residual-in_err-next.result c.from_residual-in_err-next.ensures.1 in
-    rw (p.1, p.2) (step_as expression_view c.in_err-next.field-0.0 (RightToken ts right c.in_ok-inner.next) (RightOperand line ts d i)
-    (λ j why x. group_then line ts d i c.requires.first (omega arith) (stopped j why)
-    (ended_then line (d + 1) right refl ts (i + 1) (expression_view c.in_ok-inner.inner) c.in_ok-inner.next c.in_ok-inner.ensures (stopped j why) x))
+    rw (p.1, p.2) (step_as expression_view c.in_err-next.field-0.0 (RightToken ts right c.in_ok-inner.next) (RightOperand ts d i)
+    (λ j why x. group_then ts d i c.requires.first (omega arith) (stopped j why)
+    (ended_then (d + 1) right refl ts (i + 1) (expression_view c.in_ok-inner.inner) c.in_ok-inner.next c.in_ok-inner.ensures (stopped j why) x))
     c.in_err-next.ensures)
 
 pub group-returns : goal.group-returns
 group-returns m0 c =
-    let line = lines_of c.args.tokens.now in
     let ts = kinds_of c.args.tokens.now in
     let d = c.args.depth in
     let i = c.args.at in
-    group_then line ts d i c.requires.first (omega arith) (found (expression_view c.in_ok-inner.inner) c.in_ok-next.next)
-    (ended_then line (d + 1) right refl ts (i + 1) (expression_view c.in_ok-inner.inner) c.in_ok-inner.next c.in_ok-inner.ensures (found tt c.in_ok-next.next) c.in_ok-next.ensures)
+    group_then ts d i c.requires.first (omega arith) (found (expression_view c.in_ok-inner.inner) c.in_ok-next.next)
+    (ended_then (d + 1) right refl ts (i + 1) (expression_view c.in_ok-inner.inner) c.in_ok-inner.next c.in_ok-inner.ensures (found tt c.in_ok-next.next) c.in_ok-next.ensures)
 
 pub links-returns-in_err-operand : goal.links-returns-in_err-operand
 links-returns-in_err-operand m0 c =
-    let line = lines_of c.args.tokens.now in
     let ts = kinds_of c.args.tokens.now in
     let d = c.args.depth in
     let i = c.args.at in
     let m = c.args.level in
     let k = c.links.i in
     let p = err_from_is_err_and c.from_residual-in_err-operand.result c.from_residual-in_err-operand.ensures.1 in
-    rw (p.1, p.2) (err_as expression_view links_view c.in_err-operand.field-0.0 (RightExpression line ts d m (k + 1)) (RightLinks line ts d m i)
-    (λ j why x. c.links.invariant.goes (stopped j why) (links_stop line d m ts k c.in-Some.operator c.in-Some.ensures.value.0 j why x)) c.in_err-operand.ensures)
+    rw (p.1, p.2) (err_as expression_view links_view c.in_err-operand.field-0.0 (RightExpression ts d m (k + 1)) (RightLinks ts d m i)
+    (λ j why x. c.links.invariant.goes (stopped j why) (links_stop d m ts k c.in-Some.operator c.in-Some.ensures.value.0 j why x)) c.in_err-operand.ensures)
 
 pub links-links-preserved : goal.links-links-preserved
 links-links-preserved m0 c =
-    let line = lines_of c.args.tokens.now in
     let ts = kinds_of c.args.tokens.now in
     let d = c.args.depth in
     let i = c.args.at in
@@ -142,83 +131,76 @@ links-links-preserved m0 c =
     let k = c.links.i in
     let e = expression_view c.in_ok-operand.operand in
     let n = c.in_ok-operand.next in
-    let x : RightExpression line ts d m (k + 1) (found e n) = c.in_ok-operand.ensures in
+    let x : RightExpression ts d m (k + 1) (found e n) = c.in_ok-operand.ensures in
     let within = simp length-map at x.within in
     let a : LinkTree = record { operator = c.in-Some.operator; operand = e } in
     let xs = links_view c.links.found in
     let pushed : links_view c.push.new.self ≡ xs ++ a ∷ [] = rw c.in_ok-push.ensures.items (links_push c.links.found.items _) in
     record {
       within = within;
-      goes = rw pushed (λ o rest. push_before xs a o (RightLinks line ts d m i) (c.links.invariant.goes (map_outcome (λ (more : List LinkTree). a ∷ more) o)
-          (links_more line d m ts k c.in-Some.operator c.in-Some.ensures.value.0 e n x o rest)));
+      goes = rw pushed (λ o rest. push_before xs a o (RightLinks ts d m i) (c.links.invariant.goes (map_outcome (λ (more : List LinkTree). a ∷ more) o)
+          (links_more d m ts k c.in-Some.operator c.in-Some.ensures.value.0 e n x o rest)));
     }
 
 pub links-returns : goal.links-returns
 links-returns m0 c =
-    let line = lines_of c.args.tokens.now in
     let ts = kinds_of c.args.tokens.now in
     let d = c.args.depth in
     let i = c.args.at in
     let m = c.args.level in
     let k = c.links.i in
     let within : k ≤ length ts = simp length-map c.links.invariant.within in
-    rw append-nil at (c.links.invariant.goes (found [] k) (links_none line d m ts k c.in_default.ensures.value within))
+    rw append-nil at (c.links.invariant.goes (found [] k) (links_none d m ts k c.in_default.ensures.value within))
 
 pub operand-returns-in-Some : goal.operand-returns-in-Some
 operand-returns-in-Some m0 c =
-    let line = lines_of c.args.tokens.now in
     let ts = kinds_of c.args.tokens.now in
     let d = c.args.depth in
     let i = c.args.at in
     let lt : i < length ts = simp length-map c.in-Some.ensures.within in
-    let it : RightOperand line ts d i (found (number c.in-Some.number) (i + 1)) = number_found line ts d i c.in-Some.number lt (sym c.in-Some.ensures.value) in
+    let it : RightOperand ts d i (found (number c.in-Some.number) (i + 1)) = number_found ts d i c.in-Some.number lt (sym c.in-Some.ensures.value) in
     rw c.literal.ensures (search (rules, it))
 
 pub operand-returns-in_err-word : goal.operand-returns-in_err-word
 operand-returns-in_err-word m0 c =
-    let line = lines_of c.args.tokens.now in
     let ts = kinds_of c.args.tokens.now in
     let d = c.args.depth in
     let i = c.args.at in
     let p = err_from_is_err_and c.from_residual.result c.from_residual.ensures.1 in
-    rw (p.1, p.2) (find_as itself expression_view c.in_err-word.field-0.0 (RightWord line ts i) (RightOperand line ts d i)
-    (λ j why x. name_as line ts d i (sym c.in_default.ensures.value) (sym c.in_default-unary_at.ensures.value)
+    rw (p.1, p.2) (find_as itself expression_view c.in_err-word.field-0.0 (RightWord ts i) (RightOperand ts d i)
+    (λ j why x. name_as ts d i (sym c.in_default.ensures.value) (sym c.in_default-unary_at.ensures.value)
     (c.is_symbol_at.ensures.no c.if-is_symbol_at.false) (stopped j why) x) c.in_err-word.ensures)
 
 pub operand-returns : goal.operand-returns
 operand-returns m0 c =
-    let line = lines_of c.args.tokens.now in
     let ts = kinds_of c.args.tokens.now in
     let d = c.args.depth in
     let i = c.args.at in
-    rw (expression_view-Name c.in_ok-word.word) (name_as line ts d i (sym c.in_default.ensures.value)
+    rw (expression_view-Name c.in_ok-word.word) (name_as ts d i (sym c.in_default.ensures.value)
     (sym c.in_default-unary_at.ensures.value) (c.is_symbol_at.ensures.no c.if-is_symbol_at.false)
     (found c.in_ok-word.word c.in_ok-word.next) c.in_ok-word.ensures)
 
 pub unary-returns-then-depth-eq-MAX_DEPTH : goal.unary-returns-then-depth-eq-MAX_DEPTH
 unary-returns-then-depth-eq-MAX_DEPTH m0 c =
-    let line = lines_of c.args.tokens.now in
     let ts = kinds_of c.args.tokens.now in
     let d = c.args.depth in
     let i = c.args.at in
-    unary_deep line ts d i c.args.operator c.requires.first (omega arith)
+    unary_deep ts d i c.args.operator c.requires.first (omega arith)
 
 pub unary-returns-in_err-inner : goal.unary-returns-in_err-inner
 unary-returns-in_err-inner m0 c =
-    let line = lines_of c.args.tokens.now in
     let ts = kinds_of c.args.tokens.now in
     let d = c.args.depth in
     let i = c.args.at in
     let p = err_from_is_err_and c.from_residual.result c.from_residual.ensures.1 in
-    rw (p.1, p.2) (err_as expression_view expression_view c.in_err-inner.field-0.0 (RightOperand line ts (d + 1) (i + 1)) (RightOperand line ts d i)
-    (λ j why x. unary_then line ts d i c.args.operator c.requires.first (omega arith) (stopped j why) x) c.in_err-inner.ensures)
+    rw (p.1, p.2) (err_as expression_view expression_view c.in_err-inner.field-0.0 (RightOperand ts (d + 1) (i + 1)) (RightOperand ts d i)
+    (λ j why x. unary_then ts d i c.args.operator c.requires.first (omega arith) (stopped j why) x) c.in_err-inner.ensures)
 
 pub unary-returns : goal.unary-returns
 unary-returns m0 c =
-    let line = lines_of c.args.tokens.now in
     let ts = kinds_of c.args.tokens.now in
     let d = c.args.depth in
     let i = c.args.at in
-    rw (expression_view-Unary c.args.operator c.in_ok-operand.operand, c.in_ok-operand.ensures.ok) (unary_then line ts d
+    rw (expression_view-Unary c.args.operator c.in_ok-operand.operand, c.in_ok-operand.ensures.ok) (unary_then ts d
     i c.args.operator c.requires.first (omega arith)
     (found (expression_view c.in_ok-inner.inner) c.in_ok-inner.next) c.in_ok-inner.ensures)

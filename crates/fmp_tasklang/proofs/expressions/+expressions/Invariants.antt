@@ -1,7 +1,6 @@
 use Rattle.std.proofs.Common.{◌+◌, ◌*◌, ◌-◌, ◌≤◌, List, length}
 use Rattle.fmp_lex.specs.Reading.{kinds_of, Outcome, found, map_outcome}
 use Rattle.fmp_lex.proofs.Repetitions.{put_before}
-use Rattle.fmp_tasklang.specs.Expressions.{lines_of}
 use Rattle.fmp_tasklang.specs.Reading.{links_view, RightExpression, RightLinks}
 use Rattle.fmp_tasklang.specs.Views.{LinkTree, expression_view}
 use Rattle.fmp_tasklang.proofs.expressions.+expressions.Given as goal
@@ -25,7 +24,7 @@ abbrev pub invariant-expression-levels : goal.invariant-expression-levels
 invariant-expression-levels l = record {
   within : l.next ≤ length (kinds_of l.tokens);
   below : l.read ≤ l.level;
-  right : RightExpression (lines_of l.tokens) (kinds_of l.tokens) l.depth l.read l.at (found (expression_view l.tree) l.next);
+  right : RightExpression (kinds_of l.tokens) l.depth l.read l.at (found (expression_view l.tree) l.next);
 }
 
 abbrev pub decreases-expression-levels : goal.decreases-expression-levels
@@ -34,8 +33,8 @@ decreases-expression-levels l = l.level - l.read
 abbrev pub invariant-links-links : goal.invariant-links-links
 invariant-links-links l = record {
   within : l.i ≤ length l.tokens;
-  goes : (o : Outcome (List LinkTree)) → RightLinks (lines_of l.tokens) (kinds_of l.tokens) l.depth l.level l.i o →
-      RightLinks (lines_of l.tokens) (kinds_of l.tokens) l.depth l.level l.at (map_outcome (put_before (links_view l.found)) o);
+  goes : (o : Outcome (List LinkTree)) → RightLinks (kinds_of l.tokens) l.depth l.level l.i o →
+      RightLinks (kinds_of l.tokens) l.depth l.level l.at (map_outcome (put_before (links_view l.found)) o);
 }
 
 abbrev pub decreases-links-links : goal.decreases-links-links

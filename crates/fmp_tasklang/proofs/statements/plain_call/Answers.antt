@@ -1,7 +1,6 @@
 use Rattle.std.proofs.lemmas.Result.{err_from_is_err_and}
 use Rattle.fmp_lex.specs.Reading.{kinds_of, RightToken}
 use Rattle.fmp_lex.proofs.Answered.{err_as, step_as}
-use Rattle.fmp_tasklang.specs.Expressions.{lines_of}
 use Rattle.fmp_tasklang.specs.Reading.{called_view, RightCall, RightPlainCall}
 use Rattle.fmp_tasklang.specs.Views.{statement_view}
 use Rattle.fmp_tasklang.proofs.StatementFrames.{semicolon}
@@ -10,28 +9,25 @@ use Rattle.fmp_tasklang.proofs.statements.plain_call.Goals as goal
 
 pub returns-in_err-call : goal.returns-in_err-call
 returns-in_err-call c =
-    let line = lines_of c.args.tokens.now in
     let ts = kinds_of c.args.tokens.now in
     let d = c.args.depth in
     let i = c.args.at in
     let p = err_from_is_err_and c.from_residual.result c.from_residual.ensures.1 in
-    rw (p.1, p.2) (err_as called_view statement_view c.in_err-call.field-0.0 (RightCall line ts d i) (RightPlainCall line ts d i)
-    (λ j why x. plain_stop line ts d i j why x) c.in_err-call.ensures)
+    rw (p.1, p.2) (err_as called_view statement_view c.in_err-call.field-0.0 (RightCall ts d i) (RightPlainCall ts d i)
+    (λ j why x. plain_stop ts d i j why x) c.in_err-call.ensures)
 
 pub returns-in_err-next : goal.returns-in_err-next
 returns-in_err-next c =
-    let line = lines_of c.args.tokens.now in
     let ts = kinds_of c.args.tokens.now in
     let d = c.args.depth in
     let i = c.args.at in
     let p = err_from_is_err_and c.from_residual-in_err-next.result c.from_residual-in_err-next.ensures.1 in
-    rw (p.1, p.2) (step_as statement_view c.in_err-next.field-0.0 (RightToken ts semicolon c.in_ok-call.next) (RightPlainCall line ts d i)
-    (λ j why x. plain_open line ts d i (called_view c.in_ok-call.call) c.in_ok-call.next c.in_ok-call.ensures j why x) c.in_err-next.ensures)
+    rw (p.1, p.2) (step_as statement_view c.in_err-next.field-0.0 (RightToken ts semicolon c.in_ok-call.next) (RightPlainCall ts d i)
+    (λ j why x. plain_open ts d i (called_view c.in_ok-call.call) c.in_ok-call.next c.in_ok-call.ensures j why x) c.in_err-next.ensures)
 
 pub returns : goal.returns
 returns c =
-    let line = lines_of c.args.tokens.now in
     let ts = kinds_of c.args.tokens.now in
     let d = c.args.depth in
     let i = c.args.at in
-    rw c.calling.ensures (plain_found line ts d i (called_view c.in_ok-call.call) c.in_ok-call.next c.in_ok-call.ensures c.in_ok-next.next c.in_ok-next.ensures)
+    rw c.calling.ensures (plain_found ts d i (called_view c.in_ok-call.call) c.in_ok-call.next c.in_ok-call.ensures c.in_ok-next.next c.in_ok-next.ensures)

@@ -1,11 +1,10 @@
 use Rattle.std.proofs.Common.{◌≤◌, length}
 use Rattle.std.proofs.lemmas.List.{length-map}
 use Rattle.fmp_lex.specs.Reading.{kinds_of}
-use Rattle.fmp_tasklang.specs.Expressions.{lines_of}
 use Rattle.fmp_tasklang.proofs.Operands.{word_missing}
 use Rattle.fmp_tasklang.proofs.words.expect_word.Goals as goal
 
 pub returns-in-None : goal.returns-in-None
 returns-in-None c =
     let within : c.args.at ≤ length (kinds_of c.args.tokens.now) = simp length-map c.requires in
-    word_missing (lines_of c.args.tokens.now) (kinds_of c.args.tokens.now) c.args.at c.in-None.ensures.value within
+    word_missing (kinds_of c.args.tokens.now) c.args.at c.in-None.ensures.value within

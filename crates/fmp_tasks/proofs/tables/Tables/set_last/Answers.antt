@@ -1,5 +1,6 @@
 use Rattle.std.proofs.Common.{◌≡◌, ◌<◌, ◌∙◌, length, subst, sym, ℕ}
-use Rattle.std.specs.Prelude.{false, IfSome, ◌+◌, ◌≤◌}
+use Rattle.std.specs.Prelude.{false, slice_set, IfSome, ◌+◌, ◌≤◌}
+use Rattle.std.proofs.Math.ListN.{length-set}
 use Rattle.fmp_base.specs.declared.states.TaskBlock.{TaskBlock}
 use Rattle.fmp_base.specs.Queues.{queue_of}
 use Rattle.fmp_base.specs.States.{task_at}
@@ -8,6 +9,8 @@ use Rattle.fmp_ring.specs.RingLists.{is_linked}
 use Rattle.fmp_ticks.specs.ClockLaws.{NoneBefore-set}
 use Rattle.fmp_waitq.specs.declared.queues.ObjectCounts.{ObjectCounts}
 use Rattle.fmp_tasks.specs.Homes.{Fits, IsAmong, IsSomeThere, home, left_from}
+use Rattle.fmp_tasks.specs.Joining.{AreOrdered}
+use Rattle.fmp_tasks.proofs.OrderedLemmas.{ordered-left}
 use Rattle.fmp_tasks.proofs.SoundLemmas.{Sound-last, home-among, home-free, lent, own_counts, own_processors, read-at, read-set}
 use Rattle.fmp_tasks.proofs.TopLemmas.{Fits-at}
 use Rattle.fmp_tasks.proofs.tables.Tables.set_last.Goals as goal
@@ -40,6 +43,9 @@ join-requires c =
     let free : is_linked c.args.t (left_from c.self.inside.rings.lists (home c.self.inside.waits c.index.result.now) c.args.t) ≡ false =
     subst (λ (x : TaskBlock). is_linked c.args.t (left_from c.self.inside.rings.lists (home c.self.inside.waits x) c.args.t) ≡ false) is (home-free tasks c.args.t) in
     let same : c.index-2.result.now ≡ c.args.x = read-set _ _ _ _ l c.index-2.ensures in
+    let ordered = subst (λ (y : TaskBlock). AreOrdered c.self.inside.waits (tables_of c.self.inside.system) (slice_set c.self.inside.blocks.items c.args.t c.args.x)
+    (record c.self.inside.rings { lists = left_from c.self.inside.rings.lists (home c.self.inside.waits y) c.args.t }) c.args.t) is
+    (ordered-left _ _ _ _ _ _ _ tasks c.args.t c.args.x l f) in
     rw same (record {
       urgent = f.urgent;
       least = f.least;
@@ -50,6 +56,8 @@ join-requires c =
       counts = own_counts tasks;
       queue = subst (λ (n : ObjectCounts). IsSomeThere n (queue_of c.args.x.phase)) (sym (own_counts tasks)) f.queue;
       task = rw (c.leave.ensures.rings, tasks.nodes) l;
+      there = rw (c.as_slice.ensures.value, length-set) l;
+      ordered = rw (c.leave.ensures.rings, c.as_slice.ensures.value) ordered;
       free = rw c.leave.ensures.rings free;
     })
 

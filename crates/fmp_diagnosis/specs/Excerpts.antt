@@ -1,0 +1,65 @@
+-- The line of a text that holds a place, and how it is shown with marks under a token.
+use Rattle.std.specs.Prelude.{◌≡◌, ℕ, ◌+◌, ◌-◌, ◌<◌, ◌≤◌, ◌==◌, ◌&&◌, nat_lt, nat_le, Bool, true, false, not, if◌then◌else◌, List, [], ◌∷◌, ◌++◌, length, map, max, min, replicate, slice_index, slice_range}
+use Rattle.std.specs.List.{filter}
+use Rattle.fmp_diagnosis.specs.declared.excerpt.Excerpt.{Excerpt}
+
+-- The line that holds the place `at`: from `begin` up to `finish`, between two line feeds or the ends of the text.
+pub record IsLine (text : List ℕ) (at begin finish : ℕ) : Type 0 where
+  pub from : begin ≤ at
+  pub to : at ≤ finish
+  pub within : finish ≤ length text
+  pub one : (k : ℕ) → begin ≤ k → k < finish → (slice_index text k == 10) ≡ false
+  pub first : 0 < begin → (slice_index text (begin - 1) == 10) ≡ true
+  pub last : finish < length text → (slice_index text finish == 10) ≡ true
+
+-- where the line ends without a carriage return behind the place
+abbrev pub without_return : List ℕ → ℕ → ℕ → ℕ
+without_return text at finish =
+    if nat_lt at finish && (slice_index text (finish - 1) == 13) then finish - 1 else finish
+
+-- a line of more than 100 bytes is not shown whole
+abbrev pub is_long : ℕ → ℕ → Bool
+is_long begin finish = nat_lt (begin + 100) finish
+
+-- what is shown of it begins at most 47 bytes before the place, and has at most 94 bytes
+abbrev pub shown_from : ℕ → ℕ → ℕ → ℕ
+shown_from begin finish at = if is_long begin finish then max begin (at - 47) else begin
+
+abbrev pub shown_to : ℕ → ℕ → ℕ → ℕ
+shown_to begin finish i = if is_long begin finish then min finish (i + 94) else finish
+
+-- `...` where something is left out
+abbrev pub dots : Bool → List ℕ
+dots left_out = if left_out then 46 ∷ 46 ∷ 46 ∷ [] else []
+
+-- the line from i up to j
+abbrev pub shown : List ℕ → ℕ → ℕ → ℕ → ℕ → List ℕ
+shown text begin finish i j = dots (nat_lt begin i) ++ slice_range text i j ++ dots (nat_lt j finish)
+
+-- what stands under a byte: a tab under a tab, else a space, and nothing under a byte that goes on with a character
+abbrev pub begins_character : ℕ → Bool
+begins_character b = not (nat_le 128 b && nat_lt b 192)
+
+abbrev pub blank : ℕ → ℕ
+blank b = if b == 9 then 9 else 32
+
+abbrev pub blanks : List ℕ → List ℕ
+blanks bytes = map blank (filter begins_character bytes)
+
+-- what stands under the line from i on: a `^` under each byte from `at` up to `end` that is shown, or one
+abbrev pub marks : List ℕ → ℕ → ℕ → ℕ → ℕ → ℕ → List ℕ
+marks text begin i j at end =
+    blanks (dots (nat_lt begin i)) ++ blanks (slice_range text i at) ++ replicate (max 1 (min end j - at)) 94
+
+-- The line of the place `at`, with marks under the token that stands there up to `end`. Its column is counted in bytes.
+pub record IsExcerpt (text : List ℕ) (at end : ℕ) (e : Excerpt) : Type 0 where
+  pub begin : ℕ
+  pub behind : ℕ
+  pub line : IsLine text at begin behind
+  pub column : e.column ≡ at - begin + 1
+  pub shows :
+      let finish = without_return text at behind in
+      let i = shown_from begin finish at in e.line.items ≡ shown text begin finish i (shown_to begin finish i)
+  pub marks :
+      let finish = without_return text at behind in
+      let i = shown_from begin finish at in e.marks.items ≡ marks text begin i (shown_to begin finish i) at end

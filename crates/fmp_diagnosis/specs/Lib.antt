@@ -1,0 +1,3 @@
+pub mod Excerpts
+pub mod Nearest
+pub mod Reports

@@ -1,0 +1,88 @@
+//! The tokens of a text before a place, and those from it on.
+use fmp_base::Name;
+use fmp_lex::{Keyword, TokenKind, TokenList, Tokens, tokens};
+use std::alloc::{AllocError, Global};
+
+/// The greatest number of bytes of a text that is cut into tokens.
+const TEXT_MAX: usize = 1_048_576;
+
+/// The tokens of a text, of which at most 1,048,576 bytes are looked at.
+pub fn list_of<'a>(alloc: Global, text: &'a [u8]) -> Result<TokenList<'a>, AllocError> {
+    match tokens(alloc, &text[..text.len().min(TEXT_MAX)]) {
+        Ok(list) => Ok(list),
+        Err(_) => Err(AllocError),
+    }
+}
+
+/// A text around a place at which a token begins or the text ends.
+#[derive(Drop)]
+pub struct Around<'a> {
+    /// The bytes from the place on.
+    pub bytes: &'a [u8],
+    /// The tokens before it.
+    pub before: TokenList<'a>,
+    /// Those from it on.
+    pub rest: TokenList<'a>,
+}
+
+/// The text around a place.
+pub fn around_place<'a>(
+    alloc: Global,
+    text: &'a [u8],
+    at: usize,
+) -> Result<Around<'a>, AllocError> {
+    let at = at.min(text.len());
+    let bytes = &text[at..];
+    Ok(Around {
+        bytes,
+        before: list_of(alloc, &text[..at])?,
+        rest: list_of(alloc, bytes)?,
+    })
+}
+
+impl<'a> Around<'a> {
+    /// The token at the place.
+    pub fn here(&self) -> Option<TokenKind> {
+        self.rest.tokens.kind(0)
+    }
+
+    /// The token this far before the place, 1 for the last one.
+    pub fn back(&self, count: usize) -> Option<TokenKind> {
+        let at = self.before.tokens.len().checked_sub(count)?;
+        self.before.tokens.kind(at)
+    }
+}
+
+/// Whether a body begins with this token.
+pub fn begins_body(kind: TokenKind) -> bool {
+    matches!(kind, TokenKind::Keyword(Keyword::Task | Keyword::Handler))
+}
+
+/// The place of the word with which the last body begins.
+pub fn last_body(tokens: &Tokens<'_>) -> usize {
+    let mut found = 0;
+    for at in 0..tokens.len() {
+        if tokens.kind(at).is_some_and(begins_body) {
+            found = at;
+        }
+    }
+    found
+}
+
+/// The name at a place.
+pub fn name_at(tokens: &Tokens<'_>, at: usize) -> Option<Name> {
+    match tokens.kind(at) {
+        Some(TokenKind::Name(name)) => Some(name),
+        _ => None,
+    }
+}
+
+/// The line of the token at a place, from 1.
+pub fn line_of(tokens: &Tokens<'_>, at: usize) -> Option<u32> {
+    tokens.place(at).map(|place| place.line)
+}
+
+/// Whether two names have the same letters.
+pub fn is_same(a: &Name, b: &Name) -> bool {
+    a.as_bytes() == b.as_bytes()
+}

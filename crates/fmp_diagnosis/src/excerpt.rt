@@ -1,0 +1,200 @@
+//! The line of a text that holds a place, with marks under the token there.
+ghost use Rattle.std.specs.Prelude.{◌≡◌, ℕ, ◌+◌, ◌-◌, ◌<◌, ◌≤◌, ◌==◌, nat_lt, true, false, ◌++◌, length, max, min, replicate, slice_index, slice_range, IfOk, OnOk};
+ghost use Rattle.fmp_diagnosis.specs.Excerpts as spec;
+ghost use Rattle.fmp_diagnosis.specs.Excerpts.{IsExcerpt, IsLine};
+
+use std::alloc::{AllocError, Global};
+
+/// A line of a text with marks under a token.
+#[derive(Drop)]
+pub struct Excerpt {
+    /// The column of the token's first byte, from 1, counted in bytes.
+    pub column: usize,
+    /// The line without its end; of a line of more than 100 bytes a part, with `...` where something is left out.
+    pub line: Vec<u8>,
+    /// What stands under the line: `^` under each byte of the token, or one where it has none.
+    pub marks: Vec<u8>,
+}
+
+/// Where the line begins that holds a place.
+fn line_begin(text: &[u8], at: usize) -> usize
+    requires { at ≤ length text.now }
+    ensures from { result ≤ at }
+    ensures one { (k : ℕ) → result ≤ k → k < at → (slice_index text.now k == 10) ≡ false }
+    ensures first { 0 < result → (slice_index text.now (result - 1) == 10) ≡ true }
+{
+    let mut begin = at;
+    'back: while begin > 0 {
+        if text[begin - 1] == b'\n' {
+            return begin;
+        }
+        begin -= 1;
+    }
+    0
+}
+
+/// Where the line ends that holds a place.
+fn line_finish(text: &[u8], at: usize) -> usize
+    requires { at ≤ length text.now }
+    ensures to { at ≤ result }
+    ensures within { result ≤ length text.now }
+    ensures one { (k : ℕ) → at ≤ k → k < result → (slice_index text.now k == 10) ≡ false }
+    ensures last { result < length text.now → (slice_index text.now result == 10) ≡ true }
+{
+    for i in at..text.len() {
+        if text[i] == b'\n' {
+            return i;
+        }
+    }
+    text.len()
+}
+
+/// Where a line ends without a carriage return behind the place.
+fn without_return(text: &[u8], at: usize, finish: usize) -> usize
+    requires { finish ≤ length text.now }
+    ensures { result ≡ spec.without_return text.now at finish }
+{
+    if at < finish && text[finish - 1] == b'\r' {
+        finish - 1
+    } else {
+        finish
+    }
+}
+
+fn is_long(begin: usize, finish: usize) -> bool
+    requires { begin ≤ finish }
+    ensures { result ≡ spec.is_long begin finish }
+{
+    finish - begin > 100
+}
+
+/// Where what is shown of a line begins.
+fn shown_from(begin: usize, finish: usize, at: usize) -> usize
+    requires { begin ≤ finish }
+    ensures { result ≡ spec.shown_from begin finish at }
+{
+    if is_long(begin, finish) {
+        begin.max(at.saturating_sub(47))
+    } else {
+        begin
+    }
+}
+
+/// Where what is shown of a line from `from` on ends.
+fn shown_to(begin: usize, finish: usize, from: usize) -> usize
+    requires begin { begin ≤ finish }
+    requires from { from ≤ finish }
+    ensures { result ≡ spec.shown_to begin finish from }
+{
+    if is_long(begin, finish) && finish - from > 94 {
+        from + 94
+    } else {
+        finish
+    }
+}
+
+fn append_dots(left_out: bool, out: &mut Vec<u8>) -> Result<(), AllocError>
+    ensures { OnOk result (out.new.items ≡ out.old.items ++ spec.dots left_out) }
+{
+    if left_out {
+        out.extend_from_slice(b"...")?;
+    }
+    Ok(())
+}
+
+/// Whether a byte is the first one of a character.
+fn begins_character(byte: u8) -> bool
+    ensures { result ≡ spec.begins_character byte }
+{
+    !(byte >= 128 && byte < 192)
+}
+
+/// What stands under a byte that begins a character.
+fn blank(byte: u8) -> u8
+    ensures { result ≡ spec.blank byte }
+{
+    if byte == b'\t' { b'\t' } else { b' ' }
+}
+
+/// Appends what stands under these bytes.
+fn append_blanks(bytes: &[u8], out: &mut Vec<u8>) -> Result<(), AllocError>
+    ensures { OnOk result (out.new.items ≡ out.old.items ++ spec.blanks bytes.now) }
+{
+    for byte in bytes {
+        if begins_character(*byte) {
+            out.push(blank(*byte))?;
+        }
+    }
+    Ok(())
+}
+
+/// Appends so many carets.
+fn append_carets(count: usize, out: &mut Vec<u8>) -> Result<(), AllocError>
+    ensures { OnOk result (out.new.items ≡ out.old.items ++ replicate count 94) }
+{
+    for _caret in 0..count {
+        out.push(b'^')?;
+    }
+    Ok(())
+}
+
+/// The line from `begin` up to `finish` as it is shown from `from` up to `to`.
+fn shown(
+    alloc: Global,
+    text: &[u8],
+    begin: usize,
+    finish: usize,
+    from: usize,
+    to: usize,
+) -> Result<Vec<u8>, AllocError>
+    requires from { from ≤ to }
+    requires to { to ≤ length text.now }
+    ensures { IfOk result (λ v. v.items ≡ spec.shown text.now begin finish from to) }
+{
+    let mut line = Vec::new(alloc);
+    append_dots(begin < from, &mut line)?;
+    line.extend_from_slice(&text[from..to])?;
+    append_dots(to < finish, &mut line)?;
+    Ok(line)
+}
+
+/// What stands under the line that is shown from `from` up to `to`, for the token from `at` up to `end`.
+fn marks(
+    alloc: Global,
+    text: &[u8],
+    begin: usize,
+    from: usize,
+    to: usize,
+    at: usize,
+    end: usize,
+) -> Result<Vec<u8>, AllocError>
+    requires from { from ≤ at }
+    requires at { at ≤ length text.now }
+    ensures { IfOk result (λ v. v.items ≡ spec.marks text.now begin from to at end) }
+{
+    let mut line = Vec::new(alloc);
+    if begin < from {
+        append_blanks(b"...", &mut line)?;
+    }
+    append_blanks(&text[from..at], &mut line)?;
+    append_carets(end.min(to).saturating_sub(at).max(1), &mut line)?;
+    Ok(line)
+}
+
+/// The line of a text that holds the token from `at` up to `end`, with marks under the token. `AllocError` for want of
+/// memory.
+pub fn excerpt_at(alloc: Global, text: &[u8], at: usize, end: usize) -> Result<Excerpt, AllocError>
+    requires { at ≤ length text.now }
+    ensures { IfOk result (IsExcerpt text.now at end) }
+{
+    let begin = line_begin(text, at);
+    let behind = line_finish(text, at);
+    let finish = without_return(text, at, behind);
+    let from = shown_from(begin, finish, at);
+    let to = shown_to(begin, finish, from);
+    Ok(Excerpt {
+        column: at - begin + 1,
+        line: shown(alloc, text, begin, finish, from, to)?,
+        marks: marks(alloc, text, begin, from, to, at, end)?,
+    })
+}

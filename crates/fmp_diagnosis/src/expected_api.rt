@@ -1,0 +1,182 @@
+//! What a configuration may go on with behind tokens that begin one.
+use crate::apis::{api_at, is_symbol};
+use crate::fields::{Field, fields_of, object_of};
+use crate::words::{Word, say};
+use fmp_lex::{Api, Keyword, Symbol, TokenKind, Tokens};
+use std::alloc::AllocError;
+
+/// What stands at the head of the construct that is not read to its end.
+#[derive(Clone, Copy)]
+enum Head {
+    Processors,
+    Class,
+    Api(Api),
+}
+
+fn head_of(kind: TokenKind) -> Option<Head> {
+    match kind {
+        TokenKind::Keyword(Keyword::NumPrc) => Some(Head::Processors),
+        TokenKind::Keyword(Keyword::Class) => Some(Head::Class),
+        TokenKind::Api(api) => Some(Head::Api(api)),
+        _ => None,
+    }
+}
+
+/// The last head among tokens, and its place.
+fn last_head(tokens: &Tokens<'_>) -> Option<(Head, usize)> {
+    let mut found = None;
+    for at in 0..tokens.len() {
+        if let Some(head) = tokens.kind(at).and_then(head_of) {
+            found = Some((head, at));
+        }
+    }
+    found
+}
+
+/// How many commas stand behind a place.
+fn commas_behind(tokens: &Tokens<'_>, at: usize) -> usize {
+    (at..tokens.len())
+        .filter(|place| is_symbol(tokens, *place, Symbol::Comma))
+        .count()
+}
+
+/// What is to come in a head of this many tokens: `NUM_PRC ( number ) ;`.
+fn behind_processors(count: usize) -> &'static str {
+    match count {
+        1 => "`(`",
+        2 => "the number of processors",
+        3 => "`)`",
+        4 => "`;`",
+        _ => "`CLASS` or the end of the text",
+    }
+}
+
+/// Likewise `CLASS ( name ) {`.
+fn behind_class(count: usize) -> &'static str {
+    match count {
+        1 => "`(`",
+        2 => "the name of a class, as `TCL_1`",
+        3 => "`)`",
+        4 => "`{`",
+        5 => "a static API or `}`",
+        _ => "`CLASS` or the end of the text",
+    }
+}
+
+/// What is to come in place of a field that begins.
+fn field_words(api: Api, field: usize) -> [Word; 3] {
+    match fields_of(api).get(field) {
+        Some(Field::Name) => [
+            Word::Text("a name for "),
+            Word::Text(object_of(api)),
+            Word::Text(""),
+        ],
+        Some(Field::Null) => [
+            Word::Text("`NULL`"),
+            Word::Text(" of "),
+            Word::Quoted(api.name()),
+        ],
+        Some(field) => [
+            Word::The(field.called()),
+            Word::Text(" of "),
+            Word::Quoted(api.name()),
+        ],
+        None => [
+            Word::Text("a value"),
+            Word::Text(" of "),
+            Word::Quoted(api.name()),
+        ],
+    }
+}
+
+/// What is to come behind a field.
+fn say_behind_field(api: Api, field: usize, out: &mut Vec<u8>) -> Result<(), AllocError> {
+    let next = field.saturating_add(1);
+    if next >= fields_of(api).len() {
+        return say(
+            &[
+                Word::Text("`}` behind the last value of "),
+                Word::Quoted(api.name()),
+            ],
+            out,
+        );
+    }
+    say(&[Word::Text("`,` and ")], out)?;
+    say(&field_words(api, next), out)
+}
+
+/// What is to come within the API at a place, behind its last token.
+fn say_in_api(
+    tokens: &Tokens<'_>,
+    at: usize,
+    api: Api,
+    last: TokenKind,
+    out: &mut Vec<u8>,
+) -> Result<(), AllocError> {
+    let field = commas_behind(tokens, at);
+    match last {
+        TokenKind::Api(_) => say(&[Word::Text("`(`")], out),
+        TokenKind::Symbol(Symbol::LeftParen) => say(&field_words(api, 0), out),
+        TokenKind::Symbol(Symbol::Comma) if field == 1 => say(&[Word::Text("`{`")], out),
+        TokenKind::Symbol(Symbol::Comma | Symbol::LeftBrace) => say(&field_words(api, field), out),
+        TokenKind::Symbol(Symbol::Or) => say(&[Word::Text("a number or a constant")], out),
+        TokenKind::Symbol(Symbol::Minus) => say(&[Word::Text("a number")], out),
+        TokenKind::Symbol(Symbol::RightBrace) => say(&[Word::Text("`)`")], out),
+        TokenKind::Symbol(Symbol::RightParen) => say(&[Word::Text("`;`")], out),
+        _ if field == 0 => say(&[Word::Text("`,`")], out),
+        _ => say_behind_field(api, field, out),
+    }
+}
+
+/// What is to come behind the API at a place, whose last token stands at `last`.
+fn say_from_api(
+    tokens: &Tokens<'_>,
+    at: usize,
+    api: Api,
+    out: &mut Vec<u8>,
+) -> Result<(), AllocError> {
+    let last = tokens.len().saturating_sub(1);
+    if is_symbol(tokens, last, Symbol::Semicolon) {
+        return say(&[Word::Text("a static API or `}`")], out);
+    }
+    if is_symbol(tokens, last, Symbol::RightBrace)
+        && is_symbol(tokens, last.saturating_sub(1), Symbol::Semicolon)
+    {
+        return say(&[Word::Text("`CLASS` or the end of the text")], out);
+    }
+    match tokens.kind(last) {
+        Some(kind) => say_in_api(tokens, at, api, kind, out),
+        None => Ok(()),
+    }
+}
+
+/// Whether a static API may come behind these tokens.
+pub fn may_be_api(tokens: &Tokens<'_>) -> bool {
+    match last_head(tokens) {
+        Some((Head::Class, at)) => tokens.len().saturating_sub(at) == 5,
+        Some((Head::Api(_), _)) => {
+            is_symbol(tokens, tokens.len().saturating_sub(1), Symbol::Semicolon)
+        }
+        _ => false,
+    }
+}
+
+/// Says what a configuration may go on with behind these tokens, which begin one.
+pub fn say_expected(tokens: &Tokens<'_>, out: &mut Vec<u8>) -> Result<(), AllocError> {
+    match last_head(tokens) {
+        None => say(&[Word::Text("`NUM_PRC`")], out),
+        Some((Head::Processors, at)) => {
+            say(
+                &[Word::Text(behind_processors(tokens.len().saturating_sub(at)))],
+                out,
+            )
+        }
+        Some((Head::Class, at)) => {
+            say(
+                &[Word::Text(behind_class(tokens.len().saturating_sub(at)))],
+                out,
+            )
+        }
+        Some((Head::Api(api), at)) => say_from_api(tokens, at, api, out),
+    }
+}

@@ -1,0 +1,229 @@
+//! What a task text may go on with behind tokens that begin one.
+use crate::calls::{argument_count, nesting_from, out_place};
+use crate::words::{Word, counted, say};
+use fmp_base::Service;
+use fmp_lex::{Keyword, Symbol, TokenKind, Tokens};
+use std::alloc::AllocError;
+
+/// What is said where an operand is to come.
+const OPERAND: &str = "an operand: a number, a constant, a name or `(`";
+
+/// The place behind the last token that ends a statement or begins a block.
+fn statement_begin(tokens: &Tokens<'_>) -> usize {
+    let mut begin = 0;
+    for at in 0..tokens.len() {
+        if let Some(
+            TokenKind::Symbol(Symbol::Semicolon | Symbol::LeftBrace | Symbol::RightBrace),
+        ) = tokens.kind(at)
+        {
+            begin = at.saturating_add(1);
+        }
+    }
+    begin
+}
+
+/// Whether all bodies are closed.
+fn is_outside(tokens: &Tokens<'_>) -> bool {
+    let mut open = 0usize;
+    for at in 0..tokens.len() {
+        match tokens.kind(at) {
+            Some(TokenKind::Symbol(Symbol::LeftBrace)) => open = open.saturating_add(1),
+            Some(TokenKind::Symbol(Symbol::RightBrace)) => open = open.saturating_sub(1),
+            _ => {}
+        }
+    }
+    open == 0
+}
+
+/// Whether an operand ends with this token.
+fn ends_operand(kind: TokenKind) -> bool {
+    matches!(
+        kind,
+        TokenKind::Number(_)
+            | TokenKind::Name(_)
+            | TokenKind::Constant(_)
+            | TokenKind::Symbol(Symbol::RightParen)
+    )
+}
+
+/// What is to come behind the tokens of an expression, where this closes it.
+fn in_expression(last: TokenKind, closing: &'static str) -> &'static str {
+    if ends_operand(last) { closing } else { OPERAND }
+}
+
+/// What is to come where an argument of a call begins.
+fn say_argument(service: Service, place: usize, out: &mut Vec<u8>) -> Result<(), AllocError> {
+    if argument_count(service) == 0 {
+        return say(
+            &[
+                Word::Text("`)`, since "),
+                Word::Quoted(service.name()),
+                Word::Text(" has no argument"),
+            ],
+            out,
+        );
+    }
+    if out_place(service).map(usize::from) == Some(place) {
+        return say(
+            &[
+                Word::Text("`&` and a variable, the out place of "),
+                Word::Quoted(service.name()),
+            ],
+            out,
+        );
+    }
+    say(
+        &[
+            Word::Text("an expression, argument "),
+            counted(place.saturating_add(1)),
+            Word::Text(" of "),
+            Word::Quoted(service.name()),
+        ],
+        out,
+    )
+}
+
+/// What is to come behind an argument of a call.
+fn say_behind_argument(
+    service: Service,
+    place: usize,
+    out: &mut Vec<u8>,
+) -> Result<(), AllocError> {
+    let count = argument_count(service);
+    let mark = if place.saturating_add(1) < count {
+        "`,`"
+    } else {
+        "`)`"
+    };
+    let noun = if count == 1 {
+        " argument"
+    } else {
+        " arguments"
+    };
+    say(
+        &[
+            Word::Text(mark),
+            Word::Text(", since "),
+            Word::Quoted(service.name()),
+            Word::Text(" has "),
+            counted(count),
+            Word::Text(noun),
+        ],
+        out,
+    )
+}
+
+/// What is to come within a call whose name stands at a place.
+fn say_in_call(
+    tokens: &Tokens<'_>,
+    at: usize,
+    service: Service,
+    last: TokenKind,
+    out: &mut Vec<u8>,
+) -> Result<(), AllocError> {
+    let nesting = nesting_from(tokens, at.saturating_add(1));
+    let is_out = out_place(service).map(usize::from) == Some(nesting.commas);
+    match last {
+        TokenKind::Service(_) => say(&[Word::Text("`(`")], out),
+        _ if nesting.open == 0 => say(&[Word::Text("`;`")], out),
+        TokenKind::Symbol(Symbol::And) if is_out => say(
+            &[Word::Text("the name of a variable")],
+            out,
+        ),
+        TokenKind::Symbol(Symbol::LeftParen | Symbol::Comma) if nesting.open == 1 => {
+            say_argument(service, nesting.commas, out)
+        }
+        _ if !ends_operand(last) => say(&[Word::Text(OPERAND)], out),
+        _ if nesting.open == 1 => say_behind_argument(service, nesting.commas, out),
+        _ => say(&[Word::Text("`)`")], out),
+    }
+}
+
+/// What is to come behind `if` or `while` at a place.
+fn in_condition(tokens: &Tokens<'_>, at: usize, last: TokenKind) -> &'static str {
+    let nesting = nesting_from(tokens, at);
+    if nesting.open > 0 {
+        in_expression(last, "an operator or `)`")
+    } else if tokens.len() > at.saturating_add(1) {
+        "`{`"
+    } else {
+        "`(`"
+    }
+}
+
+/// What is to come behind a name at the head of a statement.
+fn say_assignment(
+    tokens: &Tokens<'_>,
+    begin: usize,
+    last: TokenKind,
+    out: &mut Vec<u8>,
+) -> Result<(), AllocError> {
+    let source = begin.saturating_add(2);
+    if let Some(TokenKind::Service(service)) = tokens.kind(source) {
+        return say_in_call(tokens, source, service, last, out);
+    }
+    let text = match tokens.len().saturating_sub(begin) {
+        1 => "`=`",
+        2 => "an expression or a service call",
+        _ => {
+            let closing = if nesting_from(tokens, source).open > 0 {
+                "an operator or `)`"
+            } else {
+                "an operator or `;`"
+            };
+            in_expression(last, closing)
+        }
+    };
+    say(&[Word::Text(text)], out)
+}
+
+/// What is to come behind a keyword at the head of a statement, of which so many tokens are there.
+fn behind_keyword(keyword: Keyword, count: usize) -> &'static str {
+    match (keyword, count) {
+        (Keyword::Var, 1) => "the name of a variable",
+        (Keyword::Task | Keyword::Handler, 1) => "the name of a body",
+        (Keyword::Task | Keyword::Handler, _) => "`{`",
+        (Keyword::Else, _) => "`{` or `if`",
+        _ => "`;`",
+    }
+}
+
+/// What is to come behind a statement that begins with a keyword.
+fn say_keyword(
+    tokens: &Tokens<'_>,
+    begin: usize,
+    keyword: Keyword,
+    last: TokenKind,
+    out: &mut Vec<u8>,
+) -> Result<(), AllocError> {
+    let second = begin.saturating_add(1);
+    let text = match (keyword, tokens.kind(second)) {
+        (Keyword::If | Keyword::While, _) => in_condition(tokens, begin, last),
+        (Keyword::Else, Some(_)) => in_condition(tokens, second, last),
+        _ => behind_keyword(keyword, tokens.len().saturating_sub(begin)),
+    };
+    say(&[Word::Text(text)], out)
+}
+
+/// What is to come where a statement begins.
+fn at_begin(tokens: &Tokens<'_>) -> &'static str {
+    if is_outside(tokens) {
+        "`task`, `handler` or the end of the text"
+    } else {
+        "a statement or `}`"
+    }
+}
+
+/// Says what a task text may go on with behind these tokens, which begin one.
+pub fn say_expected(tokens: &Tokens<'_>, out: &mut Vec<u8>) -> Result<(), AllocError> {
+    let begin = statement_begin(tokens);
+    let Some(last) = tokens.kind(tokens.len().saturating_sub(1)) else {
+        return say(&[Word::Text("`task` or `handler`")], out);
+    };
+    match tokens.kind(begin) {
+        Some(TokenKind::Keyword(keyword)) => say_keyword(tokens, begin, keyword, last, out),
+        Some(TokenKind::Service(service)) => say_in_call(tokens, begin, service, last, out),
+        Some(TokenKind::Name(_)) => say_assignment(tokens, begin, last, out),
+        _ => say(&[Word::Text(at_begin(tokens))], out),
+    }
+}

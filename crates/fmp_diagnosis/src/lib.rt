@@ -1,0 +1,28 @@
+//! What is said of a fault of a text: its line with marks under the token, a sentence, and the nearest known name.
+#![tactic(auto)]
+
+mod apis;
+mod around;
+mod calls;
+mod excerpt;
+mod expected_api;
+mod expected_statement;
+mod fields;
+mod known;
+mod limits;
+mod names;
+mod nearness;
+mod objects;
+mod refusals;
+mod reports;
+mod sentence;
+mod syntax;
+mod wanted;
+mod warnings;
+mod words;
+
+pub use excerpt::{Excerpt, excerpt_at};
+pub use nearness::nearest;
+pub use reports::{FileNames, report};
+pub use sentence::{Texts, say_fault};
+pub use warnings::warnings_of;

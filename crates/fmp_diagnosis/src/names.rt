@@ -1,0 +1,294 @@
+//! What is said of a name that is used twice, and of one that nothing has.
+use crate::apis::{api_at, entry_of, object_name, unknown_constant};
+use crate::around::{Around, is_same, last_body, line_of, list_of, name_at};
+use crate::fields::Field;
+use crate::known::{bodies, constants, objects, say_nearest, variables};
+use crate::words::{Word, say};
+use fmp_base::Name;
+use fmp_lex::{Api, Keyword, Symbol, TextFile, TokenKind, Tokens};
+use std::alloc::{AllocError, Global};
+
+/// The first place among tokens whose object has this name.
+fn object_at(tokens: &Tokens<'_>, name: &Name) -> Option<usize> {
+    (0..tokens.len()).find(|at| object_name(tokens, *at).is_some_and(|one| is_same(&one, name)))
+}
+
+/// Where the first object of this name is made, by its line.
+fn line_of_object(tokens: &Tokens<'_>, name: &Name) -> Option<u32> {
+    line_of(tokens, object_at(tokens, name)?)
+}
+
+/// Where this name stands behind a keyword for the first time from a place on, by its line.
+fn line_behind(tokens: &Tokens<'_>, from: usize, name: &Name, keywords: &[Keyword]) -> Option<u32> {
+    for at in from..tokens.len() {
+        if let Some(TokenKind::Keyword(keyword)) = tokens.kind(at) {
+            let next = name_at(tokens, at.saturating_add(1));
+            if keywords.contains(&keyword) && next.is_some_and(|one| is_same(&one, name)) {
+                return line_of(tokens, at);
+            }
+        }
+    }
+    None
+}
+
+/// Says that a name is used before, as what, and at which line if one is known.
+fn say_used(
+    name: Name,
+    what: &'static str,
+    line: Option<u32>,
+    out: &mut Vec<u8>,
+) -> Result<(), AllocError> {
+    say(
+        &[
+            Word::Name(name),
+            Word::Text(" is the name of "),
+            Word::Text(what),
+        ],
+        out,
+    )?;
+    match line {
+        Some(line) => say(
+            &[Word::Text(", at line "), Word::Number(i64::from(line))],
+            out,
+        ),
+        None => Ok(()),
+    }
+}
+
+/// Where a configuration makes the first object of this name, by its line.
+fn line_in(alloc: Global, cfg: &[u8], name: &Name) -> Result<Option<u32>, AllocError> {
+    let list = list_of(alloc, cfg)?;
+    Ok(line_of_object(&list.tokens, name))
+}
+
+/// What is said of a name of a task text that is used twice.
+fn say_twice_in_source(
+    alloc: Global,
+    cfg: &[u8],
+    around: &Around<'_>,
+    name: Name,
+    out: &mut Vec<u8>,
+) -> Result<(), AllocError> {
+    let before = &around.before.tokens;
+    if around.back(1) != Some(TokenKind::Keyword(Keyword::Var)) {
+        let line = line_behind(before, 0, &name, &[Keyword::Task, Keyword::Handler]);
+        return say_used(name, "a body already", line, out);
+    }
+    if name.as_bytes() == b"exinf".as_slice() {
+        return say_used(name, "the first variable of each body", None, out);
+    }
+    let declared = line_behind(before, last_body(before), &name, &[Keyword::Var]);
+    if declared.is_some() {
+        return say_used(name, "a variable of this body already", declared, out);
+    }
+    let line = line_in(alloc, cfg, &name)?;
+    say_used(name, "an object of the configuration", line, out)
+}
+
+/// Says where the name at the place is used before.
+pub fn say_twice(
+    alloc: Global,
+    cfg: &[u8],
+    file: TextFile,
+    around: &Around<'_>,
+    out: &mut Vec<u8>,
+) -> Result<(), AllocError> {
+    if file == TextFile::Configuration {
+        return match object_name(&around.rest.tokens, 0) {
+            Some(name) => {
+                let line = line_of_object(&around.before.tokens, &name);
+                say_used(name, "an object already", line, out)
+            }
+            None => Ok(()),
+        };
+    }
+    match name_at(&around.rest.tokens, 0) {
+        Some(name) => say_twice_in_source(alloc, cfg, around, name, out),
+        None => Ok(()),
+    }
+}
+
+/// How many processors the configuration has, by its first number.
+fn processors(tokens: &Tokens<'_>) -> i32 {
+    match tokens.kind(2) {
+        Some(TokenKind::Number(number)) => number,
+        _ => 1,
+    }
+}
+
+/// Says that there is no class of this name.
+fn say_class(around: &Around<'_>, name: Name, out: &mut Vec<u8>) -> Result<(), AllocError> {
+    let count = processors(&around.before.tokens);
+    say(&[Word::Text("there is no class "), Word::Name(name)], out)?;
+    if count == 1 {
+        return say(
+            &[Word::Text(": with 1 processor they are `TCL_1` and `TCL_1_ONLY`")],
+            out,
+        );
+    }
+    let count = Word::Number(i64::from(count));
+    say(
+        &[
+            Word::Text(": with "),
+            count,
+            Word::Text(" processors they are `TCL_n` and `TCL_n_ONLY` for n from 1 to "),
+            count,
+        ],
+        out,
+    )
+}
+
+/// Says that a name in a value of an API is no constant.
+fn say_unknown_constant(
+    alloc: Global,
+    api: Api,
+    field: Field,
+    name: Name,
+    out: &mut Vec<u8>,
+) -> Result<(), AllocError> {
+    let words = [
+        Word::Name(name),
+        Word::Text(" is no constant: "),
+        Word::The(field.called()),
+        Word::Text(" of "),
+        Word::Quoted(api.name()),
+        Word::Text(" is a value"),
+    ];
+    say(&words, out)?;
+    let known = constants(alloc)?;
+    say_nearest(alloc, &name, &known, out)
+}
+
+/// The names of the bodies of a task text.
+fn bodies_of(alloc: Global, src: &[u8]) -> Result<Vec<Name>, AllocError> {
+    let list = list_of(alloc, src)?;
+    bodies(alloc, &list.tokens)
+}
+
+/// Says that no body has the name of an entry.
+fn say_unknown_entry(
+    alloc: Global,
+    src: &[u8],
+    name: Name,
+    out: &mut Vec<u8>,
+) -> Result<(), AllocError> {
+    let words = [
+        Word::Text("no body of the task text has the name "),
+        Word::Name(name),
+    ];
+    say(&words, out)?;
+    let known = bodies_of(alloc, src)?;
+    say_nearest(alloc, &name, &known, out)
+}
+
+/// Says which name of the API at the place nothing has.
+fn say_unknown_in_api(
+    alloc: Global,
+    src: &[u8],
+    tokens: &Tokens<'_>,
+    api: Api,
+    out: &mut Vec<u8>,
+) -> Result<(), AllocError> {
+    if let Some((field, name)) = unknown_constant(tokens, 0, api) {
+        return say_unknown_constant(alloc, api, field, name, out);
+    }
+    match entry_of(tokens, 0, api) {
+        Some(name) => say_unknown_entry(alloc, src, name, out),
+        None => Ok(()),
+    }
+}
+
+/// Whether the name at the place is to be written: before `=`, or behind the `&` of an out place.
+fn is_written(around: &Around<'_>) -> bool {
+    if around.rest.tokens.kind(1) == Some(TokenKind::Symbol(Symbol::Assign)) {
+        return true;
+    }
+    let is_out = matches!(
+        around.back(2),
+        Some(TokenKind::Symbol(Symbol::LeftParen | Symbol::Comma))
+    );
+    is_out && around.back(1) == Some(TokenKind::Symbol(Symbol::And))
+}
+
+/// The names of the objects of a configuration.
+fn objects_of(alloc: Global, cfg: &[u8]) -> Result<Vec<Name>, AllocError> {
+    let list = list_of(alloc, cfg)?;
+    objects(alloc, &list.tokens)
+}
+
+/// Says that a name which is written is no variable.
+fn say_written(
+    alloc: Global,
+    objects: &[Name],
+    around: &Around<'_>,
+    name: Name,
+    out: &mut Vec<u8>,
+) -> Result<(), AllocError> {
+    if objects.iter().any(|one| is_same(one, &name)) {
+        let words = [
+            Word::Name(name),
+            Word::Text(" is an object; only a variable is written"),
+        ];
+        return say(&words, out);
+    }
+    say(
+        &[Word::Name(name), Word::Text(" is no variable of this body")],
+        out,
+    )?;
+    let known = variables(alloc, &around.before.tokens)?;
+    say_nearest(alloc, &name, &known, out)
+}
+
+/// Says that a name which is read is neither a variable nor an object.
+fn say_read(
+    alloc: Global,
+    objects: &[Name],
+    around: &Around<'_>,
+    name: Name,
+    out: &mut Vec<u8>,
+) -> Result<(), AllocError> {
+    let words = [
+        Word::Name(name),
+        Word::Text(" is neither a variable of this body nor an object"),
+    ];
+    say(&words, out)?;
+    let mut known = variables(alloc, &around.before.tokens)?;
+    known.extend_from_slice(objects)?;
+    say_nearest(alloc, &name, &known, out)
+}
+
+/// Says which name of a body nothing has.
+fn say_unknown_in_source(
+    alloc: Global,
+    cfg: &[u8],
+    around: &Around<'_>,
+    name: Name,
+    out: &mut Vec<u8>,
+) -> Result<(), AllocError> {
+    let objects = objects_of(alloc, cfg)?;
+    if is_written(around) {
+        say_written(alloc, &objects, around, name, out)
+    } else {
+        say_read(alloc, &objects, around, name, out)
+    }
+}
+
+/// Says which name at the place nothing has.
+pub fn say_unknown(
+    alloc: Global,
+    cfg: &[u8],
+    src: &[u8],
+    file: TextFile,
+    around: &Around<'_>,
+    out: &mut Vec<u8>,
+) -> Result<(), AllocError> {
+    let tokens = &around.rest.tokens;
+    if let Some(api) = api_at(tokens, 0) {
+        return say_unknown_in_api(alloc, src, tokens, api, out);
+    }
+    match (name_at(tokens, 0), file) {
+        (Some(name), TextFile::Configuration) => say_class(around, name, out),
+        (Some(name), TextFile::Source) => say_unknown_in_source(alloc, cfg, around, name, out),
+        (None, _) => Ok(()),
+    }
+}

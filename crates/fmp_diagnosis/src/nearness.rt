@@ -1,0 +1,65 @@
+//! The known name that is nearest to a name.
+ghost use Rattle.std.specs.Prelude.{◌≡◌, ◌≤◌, ◌<◌, [], length, map, true, IfOk, MatchOption};
+ghost use Rattle.fmp_diagnosis.specs.Nearest as spec;
+ghost use Rattle.fmp_diagnosis.specs.Nearest.{IsFirstLeast, IsNearest};
+
+use fmp_base::Name;
+use std::alloc::{AllocError, Global};
+use strsim::generic_levenshtein;
+
+/// How many bytes have to be put in, left out or changed to make the second name of the first.
+fn distance(alloc: Global, from: &Name, to: &Name) -> Result<usize, AllocError>
+    ensures { IfOk result (λ d. d ≡ spec.distance from.now to.now) }
+{
+    generic_levenshtein(alloc, from.as_bytes(), to.as_bytes())
+}
+
+fn distances(alloc: Global, name: &Name, known: &[Name]) -> Result<Vec<usize>, AllocError>
+    ensures { IfOk result (λ v. v.items ≡ spec.distances name.now known.now) }
+{
+    let mut all = Vec::new(alloc);
+    for one in known {
+        all.push(distance(alloc, name, one)?)?;
+    }
+    Ok(all)
+}
+
+/// The place of the least number, the first one of several.
+fn first_least(numbers: &[usize]) -> Option<usize>
+    ensures { MatchOption result (length numbers.now ≡ 0) (IsFirstLeast numbers.now) }
+{
+    if numbers.is_empty() {
+        return None;
+    }
+    let mut least = 0;
+    for i in 1..numbers.len() {
+        if numbers[i] < numbers[least] {
+            least = i;
+        }
+    }
+    Some(least)
+}
+
+/// Whether a name may be taken for one at this distance.
+fn is_near(name: &Name, distance: usize) -> bool
+    ensures { result ≡ spec.is_near name.now distance }
+{
+    distance <= 2 && 2 * distance < name.as_bytes().len()
+}
+
+/// The place of the known name that is nearest to a name, the first one of several, by the bytes that have to be put
+/// in, left out or changed. None where each takes more than 2 of them, or half of the name or more. `AllocError` for
+/// want of memory.
+pub fn nearest(alloc: Global, name: &Name, known: &[Name]) -> Result<Option<usize>, AllocError>
+    ensures { IfOk result (IsNearest name.now known.now) }
+{
+    let all = distances(alloc, name, known)?;
+    let Some(place) = first_least(&all) else {
+        return Ok(None);
+    };
+    if is_near(name, all[place]) {
+        Ok(Some(place))
+    } else {
+        Ok(None)
+    }
+}

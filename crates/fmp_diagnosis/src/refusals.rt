@@ -1,0 +1,181 @@
+//! What is said of a static API that refuses its values, or whose entry does not fit.
+use crate::apis::{api_at, entry_of, value_of};
+use crate::around::{Around, line_of};
+use crate::fields::{Field, attributes_of, fields_of, object_of};
+use crate::words::{Word, say};
+use fmp_base::Er;
+use fmp_lex::{Api, Tokens};
+use std::alloc::AllocError;
+
+/// A field, its value, and the least and the greatest value that it may have.
+#[derive(Clone, Copy)]
+struct Excess {
+    field: Field,
+    value: i32,
+    low: i32,
+    high: i32,
+}
+
+/// A field whose value is out of this range.
+fn excess_over(field: Field, value: i32, low: i32, high: i32) -> Option<Excess> {
+    if low <= value && value <= high {
+        return None;
+    }
+    Some(Excess {
+        field,
+        value,
+        low,
+        high,
+    })
+}
+
+/// The excess of a field of the API that begins these tokens, if its value is out of its range.
+fn excess_of(tokens: &Tokens<'_>, api: Api, field: Field) -> Option<Excess> {
+    let value = value_of(tokens, 0, api, field);
+    if field == Field::InitialCount {
+        let most = value_of(tokens, 0, api, Field::GreatestCount);
+        if excess_over(Field::GreatestCount, most, 1, 65_535).is_some() {
+            return None;
+        }
+        return excess_over(field, value, 0, most);
+    }
+    let (low, high) = field.range()?;
+    excess_over(field, value, low, high)
+}
+
+/// The first field of the API that begins these tokens whose value is out of its range.
+fn first_excess(tokens: &Tokens<'_>, api: Api) -> Option<Excess> {
+    for field in fields_of(api) {
+        let found = excess_of(tokens, api, *field);
+        if found.is_some() {
+            return found;
+        }
+    }
+    None
+}
+
+/// Says which attribute the API has, and which it may have.
+fn say_attribute(tokens: &Tokens<'_>, api: Api, out: &mut Vec<u8>) -> Result<(), AllocError> {
+    let value = value_of(tokens, 0, api, Field::Attribute);
+    say(
+        &[
+            Word::Text("the attribute of "),
+            Word::Quoted(api.name()),
+            Word::Text(" is "),
+            Word::Number(i64::from(value)),
+            Word::Text("; it is "),
+            Word::Text(attributes_of(api)),
+        ],
+        out,
+    )
+}
+
+/// Says which value of the API is out of its range.
+fn say_excess(api: Api, excess: Excess, out: &mut Vec<u8>) -> Result<(), AllocError> {
+    say(
+        &[
+            Word::Text("the "),
+            Word::Text(excess.field.called()),
+            Word::Text(" of "),
+            Word::Quoted(api.name()),
+            Word::Text(" is "),
+            Word::Number(i64::from(excess.value)),
+            Word::Text("; it is "),
+            Word::Number(i64::from(excess.low)),
+            Word::Text(" to "),
+            Word::Number(i64::from(excess.high)),
+        ],
+        out,
+    )
+}
+
+/// The place of the API before that defines the handler of this interrupt.
+fn definition_of(tokens: &Tokens<'_>, number: i32) -> Option<usize> {
+    (0..tokens.len()).find(|at| {
+        api_at(tokens, *at) == Some(Api::DefInh)
+            && value_of(tokens, *at, Api::DefInh, Field::InterruptNumber) == number
+    })
+}
+
+/// Says that the interrupt has a handler already.
+fn say_taken(around: &Around<'_>, out: &mut Vec<u8>) -> Result<(), AllocError> {
+    let number = value_of(&around.rest.tokens, 0, Api::DefInh, Field::InterruptNumber);
+    let before = &around.before.tokens;
+    let line = definition_of(before, number)
+        .and_then(|at| line_of(before, at))
+        .unwrap_or(1);
+    say(
+        &[
+            Word::Text("interrupt "),
+            Word::Number(i64::from(number)),
+            Word::Text(" has a handler already, defined at line "),
+            Word::Number(i64::from(line)),
+        ],
+        out,
+    )
+}
+
+/// Says which value the API at the place refuses with a code.
+pub fn say_refusal(around: &Around<'_>, code: Er, out: &mut Vec<u8>) -> Result<(), AllocError> {
+    let tokens = &around.rest.tokens;
+    let Some(api) = api_at(tokens, 0) else {
+        return Ok(());
+    };
+    match code {
+        Er::Rsatr => say_attribute(tokens, api, out),
+        Er::Obj => say_taken(around, out),
+        _ => match first_excess(tokens, api) {
+            Some(excess) => say_excess(api, excess, out),
+            None => Ok(()),
+        },
+    }
+}
+
+/// Says that the entry of the API at the place is a body of the other kind.
+pub fn say_wrong_kind(around: &Around<'_>, out: &mut Vec<u8>) -> Result<(), AllocError> {
+    let tokens = &around.rest.tokens;
+    let Some(api) = api_at(tokens, 0) else {
+        return Ok(());
+    };
+    let Some(name) = entry_of(tokens, 0, api) else {
+        return Ok(());
+    };
+    let (is, wanted) = if api == Api::CreTsk {
+        ("handler", "task")
+    } else {
+        ("task", "handler")
+    };
+    say(
+        &[
+            Word::Name(name),
+            Word::Text(" is declared by `"),
+            Word::Text(is),
+            Word::Text("`; the entry of "),
+            Word::Text(object_of(api)),
+            Word::Text(" is declared by `"),
+            Word::Text(wanted),
+            Word::Text("`"),
+        ],
+        out,
+    )
+}
+
+/// Says that the stack of the task at the place is too small for its body.
+pub fn say_small_stack(around: &Around<'_>, out: &mut Vec<u8>) -> Result<(), AllocError> {
+    let tokens = &around.rest.tokens;
+    let Some(name) = entry_of(tokens, 0, Api::CreTsk) else {
+        return Ok(());
+    };
+    let size = value_of(tokens, 0, Api::CreTsk, Field::StackSize);
+    say(
+        &[
+            Word::Text("the stack has "),
+            Word::Number(i64::from(size)),
+            Word::Text(if size == 1 { " byte" } else { " bytes" }),
+            Word::Text(", and "),
+            Word::Name(name),
+            Word::Text(" needs 4 for each operand that stands at once"),
+        ],
+        out,
+    )
+}

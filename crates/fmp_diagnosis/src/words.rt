@@ -1,0 +1,117 @@
+//! Sentences are put together of words.
+use fmp_base::Name;
+use fmp_lex::{Constant, Symbol, TokenKind};
+use itoa::Buffer;
+use std::alloc::AllocError;
+
+/// A piece of a sentence.
+#[derive(Clone, Copy)]
+pub enum Word {
+    /// These letters.
+    Text(&'static str),
+    /// These letters behind `the`.
+    The(&'static str),
+    /// A name of the texts, in quotes.
+    Name(Name),
+    /// A word of the texts, in quotes.
+    Quoted(&'static str),
+    /// A number in decimal digits.
+    Number(i64),
+}
+
+fn append(text: &str, out: &mut Vec<u8>) -> Result<(), AllocError> {
+    out.extend_from_slice(text.as_bytes())
+}
+
+/// Appends bytes in quotes.
+pub fn append_quoted(bytes: &[u8], out: &mut Vec<u8>) -> Result<(), AllocError> {
+    append("`", out)?;
+    out.extend_from_slice(bytes)?;
+    append("`", out)
+}
+
+fn append_word(word: Word, out: &mut Vec<u8>) -> Result<(), AllocError> {
+    match word {
+        Word::Text(text) => append(text, out),
+        Word::The(text) => {
+            append("the ", out)?;
+            append(text, out)
+        }
+        Word::Name(name) => append_quoted(name.as_bytes(), out),
+        Word::Quoted(text) => append_quoted(text.as_bytes(), out),
+        Word::Number(number) => append(Buffer::new().format(number), out),
+    }
+}
+
+/// A count as a word.
+pub fn counted(count: usize) -> Word {
+    Word::Number(i64::try_from(count).unwrap_or(i64::MAX))
+}
+
+/// Appends words, one behind another.
+pub fn say(words: &[Word], out: &mut Vec<u8>) -> Result<(), AllocError> {
+    for word in words {
+        append_word(*word, out)?;
+    }
+    Ok(())
+}
+
+/// A symbol as the texts write it.
+fn symbol_text(symbol: Symbol) -> &'static str {
+    match symbol {
+        Symbol::AndAnd => "&&",
+        Symbol::OrOr => "||",
+        Symbol::Equal => "==",
+        Symbol::NotEqual => "!=",
+        Symbol::LessEqual => "<=",
+        Symbol::GreaterEqual => ">=",
+        Symbol::LeftParen => "(",
+        Symbol::RightParen => ")",
+        Symbol::LeftBrace => "{",
+        Symbol::RightBrace => "}",
+        Symbol::Comma => ",",
+        Symbol::Semicolon => ";",
+        Symbol::Or => "|",
+        Symbol::And => "&",
+        Symbol::Xor => "^",
+        Symbol::Tilde => "~",
+        Symbol::Not => "!",
+        Symbol::Assign => "=",
+        Symbol::Less => "<",
+        Symbol::Greater => ">",
+        Symbol::Plus => "+",
+        Symbol::Minus => "-",
+        Symbol::Star => "*",
+        Symbol::Slash => "/",
+        Symbol::Percent => "%",
+    }
+}
+
+/// Says which token stands in a place, by its kind and as the texts write it.
+pub fn say_token(kind: TokenKind, out: &mut Vec<u8>) -> Result<(), AllocError> {
+    match kind {
+        TokenKind::Number(number) => say(
+            &[Word::Text("the number "), Word::Number(i64::from(number))],
+            out,
+        ),
+        TokenKind::Name(name) => say(&[Word::Text("the name "), Word::Name(name)], out),
+        TokenKind::Constant(constant) => say(
+            &[Word::Text("the constant "), Word::Quoted(constant.name())],
+            out,
+        ),
+        TokenKind::Api(api) => say(
+            &[Word::Text("the static API "), Word::Quoted(api.name())],
+            out,
+        ),
+        TokenKind::Service(service) => say(
+            &[
+                Word::Text("the service call "),
+                Word::Quoted(service.name()),
+            ],
+            out,
+        ),
+        TokenKind::Keyword(keyword) => say(&[Word::Quoted(keyword.name())], out),
+        TokenKind::Symbol(symbol) => say(&[Word::Quoted(symbol_text(symbol))], out),
+        TokenKind::Bad(_) => say(&[Word::Text("no token")], out),
+    }
+}

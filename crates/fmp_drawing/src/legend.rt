@@ -1,0 +1,205 @@
+//! The legend.
+use crate::scene::Scene;
+use fmp_timeline::Piece::{At, Number, Raw};
+use fmp_timeline::{Tenths, append, put, px, width};
+use std::alloc::AllocError;
+
+/// A shape, what it means, and how wide it is in pixels.
+struct Item(&'static str, &'static str, u32);
+
+/// The states of tasks.
+static TASK: [Item; 10] = [
+    Item(
+        "<path class=\"c0 f\" d=\"M0-7h26v14h-26z\"/>",
+        "running",
+        26,
+    ),
+    Item(
+        "<path class=\"c0 f\" d=\"M0-7h26v14h-26z\"/><path class=\"over\" d=\"M0-7h26v14h-26z\"/>",
+        "running, under a handler",
+        26,
+    ),
+    Item(
+        "<path class=\"c0 y\" d=\"M.5-2.5h25v9h-25z\"/>",
+        "ready",
+        26,
+    ),
+    Item(
+        "<path class=\"w\" d=\"M.5-5.5h38v11h-38z\"/><text class=\"wt c\" x=\"19\" y=\"3\">SEM ≤9</text>",
+        "waiting, until clock 9",
+        39,
+    ),
+    Item(
+        "<path class=\"w\" d=\"M.5-5.5h34v11h-34z\"/><text class=\"wt c\" x=\"17\" y=\"3\">→DTQ</text>",
+        "to send",
+        35,
+    ),
+    Item(
+        "<path class=\"w\" d=\"M.5-5.5h34v11h-34z\"/><text class=\"wt c\" x=\"17\" y=\"3\">←DTQ</text>",
+        "to receive",
+        35,
+    ),
+    Item(
+        "<path class=\"s\" d=\"M.5-5.5h25v11h-25z\"/>",
+        "suspended",
+        26,
+    ),
+    Item(
+        "<path class=\"w\" d=\"M.5-5.5h25v11h-25z\"/><path class=\"ws\" d=\"M1 1.5h24v4h-24z\"/>",
+        "waiting and suspended",
+        26,
+    ),
+    Item("<path class=\"dorm\" d=\"M0 .5h26\"/>", "dormant", 26),
+    Item(
+        "<path class=\"away\" d=\"M0 .5h26\"/>",
+        "on another processor",
+        26,
+    ),
+];
+
+/// What processors and handlers show.
+static PROCESSOR: [Item; 5] = [
+    Item(
+        "<path class=\"hr\" d=\"M.5-5.5h25v11h-25z\"/>",
+        "handler runs",
+        26,
+    ),
+    Item(
+        "<path class=\"hp\" d=\"M.5-4.5h25v9h-25z\"/>",
+        "handler pending",
+        26,
+    ),
+    Item(
+        "<path class=\"lc\" d=\"M0-5h26v10h-26z\"/>",
+        "CPU lock or spin lock held",
+        26,
+    ),
+    Item(
+        "<path class=\"spb\" d=\"M.5-4.5h25v9h-25z\"/>",
+        "spinning for a lock",
+        26,
+    ),
+    Item(
+        "<path class=\"ld\" d=\"M0-5h26v10h-26z\"/>",
+        "dispatch disabled",
+        26,
+    ),
+];
+
+/// What objects show.
+static OBJECT: Item = Item(
+    "<path class=\"b\" d=\"M0 0l2.5-5.5h21l2.5 5.5l-2.5 5.5h-21z\"/><path class=\"bq\" d=\"M2 3H24v3H2z\"/>",
+    "object, tasks wait for it",
+    26,
+);
+
+/// The marks.
+static MARKS: [Item; 13] = [
+    Item("<use href=\"#act\" x=\"6\"/>", "start", 12),
+    Item("<use href=\"#queued\" x=\"6\"/>", "activation queued", 12),
+    Item("<use href=\"#rel\" x=\"6\"/>", "released", 12),
+    Item("<use href=\"#wup\" x=\"6\"/>", "wakeup queued", 12),
+    Item("<use href=\"#tmo\" x=\"6\"/>", "timed out", 12),
+    Item(
+        "<use href=\"#rlw\" x=\"6\"/>",
+        "wait broken off (E_RLWAI)",
+        12,
+    ),
+    Item("<use href=\"#poll\" x=\"6\"/>", "polled in vain", 12),
+    Item("<use href=\"#refused\" x=\"6\"/>", "refused", 12),
+    Item("<use href=\"#fault\" x=\"6\"/>", "fault", 12),
+    Item("<use href=\"#end\" x=\"6\"/>", "end", 12),
+    Item("<use href=\"#ter\" x=\"6\"/>", "terminated", 12),
+    Item("<use href=\"#int\" x=\"6\"/>", "interrupt", 12),
+    Item("<use href=\"#due\" x=\"6\"/>", "cyclic handler due", 12),
+];
+
+/// Where the items of a row begin.
+const ITEMS: u32 = 74;
+
+/// An item at its place.
+fn put_item(item: &Item, x: Tenths, y: u32, out: &mut Vec<u8>) -> Result<(), AllocError> {
+    put(
+        &[
+            Raw("<g transform=\"translate("),
+            At(x),
+            Raw(" "),
+            Number(y),
+            Raw(")\">"),
+        ],
+        out,
+    )?;
+    put(
+        &[
+            Raw(item.0),
+            Raw("<text x=\""),
+            Number(item.2.saturating_add(5)),
+        ],
+        out,
+    )?;
+    put(
+        &[Raw("\" y=\"3\">"), Raw(item.1), Raw("</text></g>\n")],
+        out,
+    )
+}
+
+/// Where the next item stands, and the height of its row.
+#[derive(Clone, Copy)]
+struct Pen {
+    x: Tenths,
+    y: u32,
+}
+
+impl Pen {
+    /// The beginning of a row of items with this head.
+    fn new(head: &str, y: u32, out: &mut Vec<u8>) -> Result<Pen, AllocError> {
+        put(
+            &[
+                Raw("<text class=\"m k\" x=\"12\" y=\""),
+                Number(y.saturating_add(3)),
+            ],
+            out,
+        )?;
+        put(&[Raw("\">"), Raw(head), Raw("</text>\n")], out)?;
+        Ok(Pen { x: px(ITEMS), y })
+    }
+
+    /// An item, in a new row where it does not fit into this one.
+    fn put(&mut self, scene: &Scene<'_>, item: &Item, out: &mut Vec<u8>) -> Result<(), AllocError> {
+        let wide = px(item.2) + width(item.1.as_bytes(), Tenths(90));
+        if (px(scene.page.wide) - px(20)).is_below(self.x + wide) {
+            self.x = px(ITEMS);
+            self.y = self.below();
+        }
+        put_item(item, self.x, self.y, out)?;
+        self.x = self.x + wide + px(20);
+        Ok(())
+    }
+
+    /// The height below the row.
+    fn below(&self) -> u32 {
+        self.y.saturating_add(20)
+    }
+}
+
+/// The legend from this height on: the height below it.
+pub fn put_legend(scene: &Scene<'_>, top: u32, out: &mut Vec<u8>) -> Result<u32, AllocError> {
+    append("<g role=\"group\" aria-label=\"Legend\">\n", out)?;
+    let mut pen = Pen::new("Task", top, out)?;
+    for item in &TASK {
+        pen.put(scene, item, out)?;
+    }
+    let mut pen = Pen::new("Processor", pen.below(), out)?;
+    for item in &PROCESSOR {
+        pen.put(scene, item, out)?;
+    }
+    if !scene.run.objects.all.is_empty() {
+        pen.put(scene, &OBJECT, out)?;
+    }
+    let mut pen = Pen::new("Marks", pen.below(), out)?;
+    for item in &MARKS {
+        pen.put(scene, item, out)?;
+    }
+    append("</g>\n", out)?;
+    Ok(pen.below())
+}

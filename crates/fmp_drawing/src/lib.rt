@@ -1,0 +1,20 @@
+//! Drawings of timelines: a picture of a run for a browser.
+#![tactic(auto)]
+
+mod axis;
+mod buses;
+mod calls;
+mod legend;
+mod links;
+mod overview;
+mod panel;
+mod picture;
+mod processors;
+mod rows;
+mod scene;
+mod signs;
+mod style;
+mod tasks;
+mod titles;
+
+pub use picture::{DrawFault, MOST_BYTES, draw};

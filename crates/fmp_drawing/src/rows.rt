@@ -1,0 +1,294 @@
+//! Which lanes a panel has, and where they stand.
+use fmp_base::{Caller, Handler, InterruptConfig, Lock, StateWord, System};
+use fmp_timeline::{Page, Run, Span, Tenths, Track, px};
+use std::alloc::{AllocError, Global};
+
+/// With more tasks than this, a panel has no lanes in which nothing happens.
+const MANY_TASKS: usize = 24;
+
+/// What a lane shows.
+#[derive(Clone, Copy, Debug, PartialEq, Eq)]
+pub enum Lane {
+    Processor(u8),
+    Lock(u8),
+    Dispatch(u8),
+    Handler(Handler),
+    /// A task on a processor.
+    Task(u8, u8),
+    /// The head of the group of objects.
+    ObjectsHead,
+    /// The object at this place.
+    Object(usize),
+    Gap,
+}
+
+/// A lane at its place, in whole pixels.
+#[derive(Clone, Copy, Debug, PartialEq, Eq)]
+pub struct Row {
+    pub lane: Lane,
+    pub top: u32,
+    pub height: u32,
+}
+
+/// The lanes of a panel, and the tasks that have none because nothing happens to them.
+#[derive(Drop)]
+pub struct Rows {
+    pub rows: Vec<Row>,
+    pub asleep: Vec<u8>,
+    pub bottom: u32,
+}
+
+impl Lane {
+    fn height(self) -> u32 {
+        match self {
+            Lane::Processor(_) => 28,
+            Lane::Lock(_) | Lane::Dispatch(_) => 12,
+            Lane::Handler(_) | Lane::ObjectsHead | Lane::Object(_) => 18,
+            Lane::Task(..) => 22,
+            Lane::Gap => 10,
+        }
+    }
+
+    /// Whether the lane belongs to the head of a processor's group.
+    pub fn is_head(self) -> bool {
+        matches!(self, Lane::Processor(_) | Lane::Lock(_) | Lane::Dispatch(_))
+    }
+}
+
+impl Row {
+    /// The top of the lane, lower by so many tenths.
+    pub fn y(&self, lower: i32) -> Tenths {
+        px(self.top) + Tenths(lower)
+    }
+
+    /// The middle of the lane, lower by so many tenths.
+    pub fn middle(&self, lower: i32) -> Tenths {
+        px(self.top) + px(self.height).half() + Tenths(lower)
+    }
+}
+
+/// Whether a state of a track holds after some event of these.
+fn any_state<S: Copy + PartialEq + Drop>(
+    track: Option<&Track<S>>,
+    first: u32,
+    last: u32,
+    idle: S,
+) -> bool {
+    let Some(track) = track else {
+        return false;
+    };
+    for place in track.places(first, last) {
+        if let Some(stay) = track.stay(place)
+            && stay.state != idle
+        {
+            return true;
+        }
+    }
+    false
+}
+
+/// Whether a task is assigned to a processor after some event of these.
+fn is_here(run: &Run, task: u8, processor: u8, first: u32, last: u32) -> bool {
+    let Some(track) = run.tasks.get(usize::from(task)) else {
+        return false;
+    };
+    for place in track.places(first, last) {
+        if let Some(stay) = track.stay(place)
+            && stay.state.processor == processor
+        {
+            return true;
+        }
+    }
+    false
+}
+
+/// Whether something happens to a task in a panel: it runs, changes or has a mark.
+fn is_awake(run: &Run, task: u8, span: &Span) -> bool {
+    let Some(track) = run.tasks.get(usize::from(task)) else {
+        return false;
+    };
+    let places = track.places(span.first, span.last);
+    if places.len() > 1 {
+        return true;
+    }
+    let runs = track
+        .at(span.first)
+        .is_some_and(|shown| shown.word == StateWord::Running);
+    let deeds = run.deeds_of(Caller::Task(task));
+    runs || deeds.is_some_and(|deeds| deeds.marks.iter().any(|m| m.event > 0 && span.has(m.event)))
+}
+
+impl Rows {
+    fn add(&mut self, lane: Lane) -> Result<(), AllocError> {
+        let height = lane.height();
+        self.rows.push(Row {
+            lane,
+            top: self.bottom,
+            height,
+        })?;
+        self.bottom = self.bottom.saturating_add(height);
+        Ok(())
+    }
+
+    fn add_head(&mut self, run: &Run, span: &Span, processor: u8) -> Result<(), AllocError> {
+        let place = usize::from(processor);
+        let (first, last) = (span.first, span.last);
+        self.add(Lane::Processor(processor))?;
+        let spins = run.spins.meet(processor, first, last);
+        if spins || any_state(run.locks.get(place), first, last, Lock::Free) {
+            self.add(Lane::Lock(processor))?;
+        }
+        if any_state(run.dispatches.get(place), first, last, true) {
+            self.add(Lane::Dispatch(processor))?;
+        }
+        Ok(())
+    }
+
+    fn add_handlers(
+        &mut self,
+        sys: &System,
+        run: &Run,
+        span: &Span,
+        processor: u8,
+    ) -> Result<(), AllocError> {
+        let few = sys.tasks.len() <= MANY_TASKS;
+        for place in 0..32u8 {
+            let number = place.saturating_add(1);
+            let mine = |config: &InterruptConfig| {
+                config.processor == processor && config.number == number
+            };
+            let handler = Handler::Interrupt(place);
+            if sys.interrupts.iter().any(mine) && (few || run.is_handling(handler, span)) {
+                self.add(Lane::Handler(handler))?;
+            }
+        }
+        for (place, config) in (0u8..255).zip(sys.cyclics.as_slice()) {
+            let handler = Handler::Cyclic(place);
+            if config.processor == processor && (few || run.is_handling(handler, span)) {
+                self.add(Lane::Handler(handler))?;
+            }
+        }
+        Ok(())
+    }
+
+    /// The lane of a task in the group of a processor, if it has one there.
+    fn add_task(
+        &mut self,
+        run: &Run,
+        span: &Span,
+        many: bool,
+        (task, home, processor): (u8, u8, u8),
+    ) -> Result<(), AllocError> {
+        let page = &span.page;
+        if home != processor && !is_here(run, task, processor, page.first, page.last) {
+            return Ok(());
+        }
+        let here = is_here(run, task, processor, span.first, span.last);
+        if !many || (here && is_awake(run, task, span)) {
+            return self.add(Lane::Task(task, processor));
+        }
+        if here {
+            self.asleep.push(task)?;
+        }
+        Ok(())
+    }
+
+    fn add_tasks(
+        &mut self,
+        sys: &System,
+        run: &Run,
+        span: &Span,
+        processor: u8,
+    ) -> Result<(), AllocError> {
+        let many = sys.tasks.len() > MANY_TASKS;
+        for priority in 1..=16u8 {
+            for (task, config) in (0u8..255).zip(sys.tasks.as_slice()) {
+                if config.priority == priority {
+                    self.add_task(run, span, many, (task, config.processor, processor))?;
+                }
+            }
+        }
+        Ok(())
+    }
+
+    fn add_objects(&mut self, sys: &System, run: &Run, span: &Span) -> Result<(), AllocError> {
+        let many = sys.tasks.len() > MANY_TASKS;
+        if !run.objects.all.is_empty() {
+            self.add(Lane::ObjectsHead)?;
+        }
+        for (place, object) in run.objects.all.iter().enumerate() {
+            if !many || object.track.places(span.first, span.last).len() > 1 {
+                self.add(Lane::Object(place))?;
+            }
+        }
+        Ok(())
+    }
+
+    /// The lanes of a panel that begins at this height.
+    pub fn new(
+        alloc: Global,
+        sys: &System,
+        run: &Run,
+        span: &Span,
+        top: u32,
+    ) -> Result<Rows, AllocError> {
+        let mut rows = Rows {
+            rows: Vec::new(alloc),
+            asleep: Vec::new(alloc),
+            bottom: top,
+        };
+        for processor in 0..sys.processors {
+            rows.add_head(run, span, processor)?;
+            rows.add_handlers(sys, run, span, processor)?;
+            rows.add_tasks(sys, run, span, processor)?;
+            rows.add(Lane::Gap)?;
+        }
+        rows.add_objects(sys, run, span)?;
+        Ok(rows)
+    }
+
+    /// The lower end, with a line for tasks without lanes.
+    pub fn end(&self) -> u32 {
+        if self.asleep.is_empty() {
+            return self.bottom;
+        }
+        self.bottom.saturating_add(14)
+    }
+
+    /// The lane of a task on a processor.
+    pub fn of_task(&self, task: u8, processor: u8) -> Option<Row> {
+        let lane = Lane::Task(task, processor);
+        self.rows.iter().find(|row| row.lane == lane).copied()
+    }
+
+    /// The lane of one who acts, with the task where it is after this event.
+    pub fn of_actor(&self, run: &Run, actor: Caller, event: u32) -> Option<Row> {
+        match actor {
+            Caller::Task(task) => {
+                let shown = run.tasks.get(usize::from(task))?.at(event)?;
+                self.of_task(task, shown.processor)
+            }
+            Caller::Handler(handler) => {
+                let lane = Lane::Handler(handler);
+                self.rows.iter().find(|row| row.lane == lane).copied()
+            }
+        }
+    }
+}
+
+/// The colours of the tasks, by their places in the groups of their first processors, so that neighbours differ.
+pub fn colours(alloc: Global, sys: &System) -> Result<Vec<u8>, AllocError> {
+    let mut all = vec![in alloc; 0; sys.tasks.len()]?;
+    for processor in 0..sys.processors {
+        let mut next = processor % 8 * 3 % 8;
+        for priority in 1..=16u8 {
+            for (colour, config) in all.iter_mut().zip(sys.tasks.as_slice()) {
+                if config.processor == processor && config.priority == priority {
+                    *colour = next;
+                    next = (next % 8 + 1) % 8;
+                }
+            }
+        }
+    }
+    Ok(all)
+}

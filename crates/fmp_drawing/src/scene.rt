@@ -1,0 +1,112 @@
+//! What all parts of a picture are drawn from, and where a text can stand.
+use crate::rows::colours;
+use fmp_base::System;
+use fmp_timeline::{Page, Run, Span, Tenths, px, width};
+use std::alloc::{AllocError, Global};
+
+/// What a picture is drawn from.
+#[derive(Drop)]
+pub struct Scene<'a> {
+    pub alloc: Global,
+    pub sys: &'a System,
+    pub run: &'a Run,
+    pub page: Page,
+    /// The colours of the tasks.
+    pub colours: Vec<u8>,
+}
+
+impl<'a> Scene<'a> {
+    /// The scene of a run. `AllocError` for want of memory.
+    pub fn new(
+        alloc: Global,
+        sys: &'a System,
+        run: &'a Run,
+        page: Page,
+    ) -> Result<Scene<'a>, AllocError> {
+        Ok(Scene {
+            alloc,
+            sys,
+            run,
+            page,
+            colours: colours(alloc, sys)?,
+        })
+    }
+
+    /// Whether there is an overview over the run: where there are three panels or more, or a part of the run is drawn.
+    pub fn has_overview(&self) -> bool {
+        self.page.panels > 2 || self.page.first > 0 || self.page.last < self.last_event()
+    }
+
+    /// The last event of the run.
+    pub fn last_event(&self) -> u32 {
+        self.run.next_event().saturating_sub(1)
+    }
+
+    /// The number of a task's colour.
+    pub fn colour(&self, task: u8) -> u32 {
+        u32::from(self.colours.get(usize::from(task)).copied().unwrap_or(0))
+    }
+}
+
+/// Pixels of a lane that a mark takes.
+#[derive(Clone, Copy, Debug, PartialEq, Eq)]
+pub struct Taken {
+    pub from: Tenths,
+    pub to: Tenths,
+}
+
+/// Where a text of this width can begin between two places of a lane without touching a mark.
+pub fn fit_left(
+    span: &Span,
+    taken: &[Taken],
+    (left, right): (Tenths, Tenths),
+    need: Tenths,
+) -> Option<Tenths> {
+    let mut x = left.or_more(span.page.start()) + px(4);
+    for t in taken {
+        if !x.is_below(t.from) && x.is_below(t.to + px(1)) {
+            x = t.to + px(1);
+        }
+    }
+    let mut most = right - px(2);
+    for t in taken {
+        if x.is_below(t.to) && t.from.is_below(x + need) {
+            most = most.or_less(t.from);
+        }
+    }
+    (!most.is_below(x + need)).then_some(x)
+}
+
+/// Where a text of this width can end between two places of a lane without touching a mark.
+pub fn fit_right(
+    span: &Span,
+    taken: &[Taken],
+    (left, right): (Tenths, Tenths),
+    need: Tenths,
+) -> Option<Tenths> {
+    let mut x = right - Tenths(25);
+    for t in taken.iter().rev() {
+        if t.from.is_below(x) && !(t.to + px(1)).is_below(x) {
+            x = t.from - px(1);
+        }
+    }
+    let mut least = left.or_more(span.page.start()) + px(4);
+    for t in taken {
+        if t.from.is_below(x) && (x - need).is_below(t.to) {
+            least = least.or_more(t.to);
+        }
+    }
+    (!(x - need).is_below(least)).then_some(x)
+}
+
+/// How many letters of a name, at least so many, fit with three dots into this width; none where not even these do.
+pub fn letters_that_fit(name: &[u8], least: usize, size: Tenths, room: Tenths) -> Option<usize> {
+    let dots = width("…".as_bytes(), size);
+    for count in (least..name.len()).rev() {
+        let letters = name.get(..count).unwrap_or(&[]);
+        if (width(letters, size) + dots).is_below(room) {
+            return Some(count);
+        }
+    }
+    None
+}
