@@ -5,7 +5,7 @@ ghost use Rattle.fmp_hostrun.specs.Outcomes.{IsDrawn};
 ghost use mathlib.Core.List.{IsPrefix};
 
 use crate::tests::feeding::one;
-use crate::tests::hosting::{CONFIGURATION, TASKS};
+use crate::tests::hosting::{CONFIGURATION, SUSPENDED, TASKS};
 use crate::tests::showing::{BOUND, Seen, board_of, image_of, steps_of};
 use fmp_base::{Effect, Er, Event, Reply};
 use fmp_hostrun::{Blank, Board, BoardFault, Closed, Outcome, Receipt, Seat, Site};
@@ -87,8 +87,47 @@ fn submitted<S: Site, R: Wait>(
 
 /// Makes the same stretch of processor 1 twice, has processor 2 run so often, and then submits both outcomes. Another
 /// seat meets this one, and follows.
-#[tactic(auto, using(fmp_hostrun::proofs::Visiting::drawn_later))]
+fn answers_of<S: Site, R: Wait>(
+    rt: &R,
+    alloc: Global,
+    board: &Board<'_, S>,
+    seat: &mut Seat,
+    reader: &mut Seat,
+    runs: u32,
+) -> Result<Answers, Fail>
+    requires seat { IsAt S.row_id seat.old }
+    requires reader { IsAt S.row_id reader.old }
+    ensures { IsAt S.row_id seat.new }
+{
+    let first = outcome_of(rt, board, seat, 1)?;
+    let second = outcome_of(rt, board, seat, 1)?;
+    let calls = submitted(rt, alloc, board, seat, runs, first, second)?;
+    board.meet(rt, seat, reader);
+    let followed = followed(alloc, board, reader, 8)?;
+    Ok(Answers { calls, followed })
+}
+
+/// Opens a board, and closes it after the calls of its two seats: what they were answered, and the board then.
 fn answered<'a, S: Site, R: Wait>(
+    rt: &R,
+    alloc: Global,
+    blank: Blank<'a>,
+    mut seat: Seat,
+    mut reader: Seat,
+    runs: u32,
+) -> (Result<Answers, Fail>, Closed<'a>)
+    requires blank { blank ≡ blank_of S.image S.bound S.row_id }
+    requires seat { IsAt S.row_id seat }
+    requires reader { IsAt S.row_id reader }
+    ensures { result.1.kernel.system ≡ S.image.system }
+{
+    let board: Board<'a, S> = blank.open();
+    let answers = answers_of(rt, alloc, &board, &mut seat, &mut reader, runs);
+    (answers, board.close(&mut seat))
+}
+
+/// Takes the two seats of a board that is not yet open.
+fn opened<'a, S: Site, R: Wait>(
     rt: &R,
     alloc: Global,
     blank: Blank<'a>,
@@ -99,15 +138,10 @@ fn answered<'a, S: Site, R: Wait>(
     requires seats { All (IsAt S.row_id) seats.items }
     ensures { IfOk result (λ r. r.1.kernel.system ≡ S.image.system) }
 {
-    let board: Board<'a, S> = blank.open();
-    let mut reader = one::<S>(&mut seats).ok_or("a seat")?;
-    let mut seat = one::<S>(&mut seats).ok_or("a seat")?;
-    let first = outcome_of(rt, &board, &mut seat, 1)?;
-    let second = outcome_of(rt, &board, &mut seat, 1)?;
-    let calls = submitted(rt, alloc, &board, &mut seat, runs, first, second)?;
-    board.meet(rt, &mut seat, &mut reader);
-    let followed = followed(alloc, &board, &mut reader, 8)?;
-    Ok((Answers { calls, followed }, board.close(&mut seat)))
+    let reader = one::<S>(&mut seats).ok_or("a seat")?;
+    let seat = one::<S>(&mut seats).ok_or("a seat")?;
+    let (answers, closed) = answered::<S, R>(rt, alloc, blank, seat, reader, runs);
+    Ok((answers?, closed))
 }
 
 /// What a board of an image with room for k events answers to stretches that were made outside its lock, and the board
@@ -122,18 +156,19 @@ fn answered_by<'a, R: Wait>(
     ensures { IfOk result (λ r. r.1.kernel.system ≡ image.now.system) }
 {
     let (blank, seats) = board_of(alloc, image, BOUND, k, 2)?;
-    answered::<Brand, R>(rt, alloc, blank, seats, runs)
+    opened::<Brand, R>(rt, alloc, blank, seats, runs)
 }
 
 /// What was answered, the events that were followed, and the journal and the states in the end.
 fn seen_of<R: Wait>(
     rt: &R,
     alloc: Global,
-    tasks: &str,
+    texts: (&str, &str),
     k: u32,
     runs: u32,
 ) -> Result<(Answers, Seen), Fail> {
-    let image = image_of(alloc, CONFIGURATION, tasks)?;
+    let (configuration, tasks) = texts;
+    let image = image_of(alloc, configuration, tasks)?;
     let (answers, closed) = answered_by(rt, alloc, &image, k, runs)?;
     let seen = Seen::of(alloc, String::new(alloc), &image, &closed)?;
     Ok((answers, seen))
@@ -154,7 +189,7 @@ fn done(number: u32) -> Result<Receipt, BoardFault> {
 #[test]
 fn an_outcome_after_another_processors_run(rt: HostRuntime) -> Result<(), Fail> {
     let alloc = rt.alloc();
-    let (answers, seen) = seen_of(&rt, alloc, TASKS, 8, 1)?;
+    let (answers, seen) = seen_of(&rt, alloc, (CONFIGURATION, TASKS), 8, 1)?;
     // The processor has gone on since the second ticket was drawn.
     let expected = [done(1), done(2), Err(BoardFault::Stale)];
     assert_eq!(rt; answers.calls.as_slice(), expected.as_slice());
@@ -170,8 +205,7 @@ fn an_outcome_after_another_processors_run(rt: HostRuntime) -> Result<(), Fail> 
 #[test]
 fn an_outcome_of_a_task_that_was_suspended_and_resumed(rt: HostRuntime) -> Result<(), Fail> {
     let alloc = rt.alloc();
-    let tasks = "task a { put(1); } task b { sus_tsk(A); rsm_tsk(A); }";
-    let (answers, seen) = seen_of(&rt, alloc, tasks, 2, 2)?;
+    let (answers, seen) = seen_of(&rt, alloc, SUSPENDED, 2, 2)?;
     // The actor is the same, and the row is full.
     let stale = Err(BoardFault::Stale);
     let expected = [done(1), done(2), stale, stale];
@@ -181,6 +215,6 @@ fn an_outcome_of_a_task_that_was_suspended_and_resumed(rt: HostRuntime) -> Resul
         "run 2\nrun 2\n"
     );
     assert_eq!(rt; seen.journal.as_str(), "run 2\nrun 2\n");
-    assert_eq!(rt; seen.states.as_str(), "A RUNNING p1 10\nB RUNNING p2 10\n");
+    assert_eq!(rt; seen.states.as_str(), "T RUNNING p1 10\nS RUNNING p2 10\n");
     Ok(())
 }
