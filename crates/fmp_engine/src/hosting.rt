@@ -4,6 +4,7 @@ ghost use Rattle.fmp_base.specs.Texts.{whole_text};
 ghost use Rattle.fmp_build.specs.Building.{Builds};
 ghost use Rattle.fmp_code.specs.Machine.{code_meaning};
 ghost use Rattle.fmp_engine.specs.Hosting.{FitsBoard, Hosts, HostsTexts, IsHosted, IsWhyHost, IsWhyNoJournal, IsWorkload};
+ghost use Rattle.fmp_engine.specs.declared.hosting.HostFault.TheVariants as host_fault;
 ghost use Rattle.fmp_hostrun.specs.Boards.{IsAt, IsClosed, blank as blank_of};
 ghost use Rattle.fmp_hostrun.specs.declared.fault.BoardFault.TheVariants.{Limit};
 ghost use Rattle.fmp_image.specs.Images.{ImageTables, Spells};
@@ -117,6 +118,14 @@ fn events_of(alloc: Global, closed: &Closed<'_>) -> Result<Vec<Event>, AllocErro
     Ok(events)
 }
 
+/// The events of the journal of a closed board, which is given up.
+fn taken_events(alloc: Global, closed: Closed<'_>) -> Result<Vec<Event>, HostFault>
+    ensures events { IfOk result (λ events. events.items ≡ closed.entry.events) }
+    ensures memory { IfErr result (λ f. f ≡ host_fault.Memory) }
+{
+    events_of(alloc, &closed).map_err(|_| HostFault::Memory)
+}
+
 /// The journal that the threads of a board of an image make.
 fn journal_of<R: Threads + Wait + Sync>(
     rt: &R,
@@ -138,10 +147,7 @@ fn journal_of<R: Threads + Wait + Sync>(
         Ok(closed) => closed,
         Err(fault) => return Err(fault_of(fault)),
     };
-    match events_of(alloc, &closed) {
-        Ok(events) => Ok(events),
-        Err(_) => Err(HostFault::Memory),
-    }
+    taken_events(alloc, closed)
 }
 
 /// Appends a journal of an image as a steps text to a file, and all that the image prints over it to the output. Where
