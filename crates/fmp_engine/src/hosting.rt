@@ -1,9 +1,10 @@
 //! A host: an image that is run by threads, one for each of its processors.
-ghost use Rattle.std.specs.Prelude.{◌≡◌, ◌≢◌, ◌+◌, ◌++◌, ◌≤◌, ◌^◌, List, ℕ, All, IfErr, IfOk, OnErr, OnOk, length};
+ghost use Rattle.std.specs.Prelude.{◌≡◌, ◌≢◌, ◌<◌, ◌+◌, ◌++◌, ◌≤◌, ◌^◌, List, ℕ, All, IfErr, IfOk, OnErr, OnOk, length};
 ghost use Rattle.fmp_base.specs.Texts.{whole_text};
 ghost use Rattle.fmp_build.specs.Building.{Builds};
 ghost use Rattle.fmp_code.specs.Machine.{code_meaning};
 ghost use Rattle.fmp_engine.specs.Hosting.{FitsBoard, Hosts, HostsTexts, IsHosted, IsWhyHost, IsWhyNoJournal, IsWorkload};
+ghost use Rattle.fmp_engine.specs.declared.hosting.HostFault.TheVariants as host_fault;
 ghost use Rattle.fmp_hostrun.specs.Boards.{IsAt, IsClosed, blank as blank_of};
 ghost use Rattle.fmp_hostrun.specs.declared.fault.BoardFault.TheVariants.{Limit};
 ghost use Rattle.fmp_image.specs.Images.{ImageTables, Spells};
@@ -70,6 +71,18 @@ fn fault_of(fault: BoardFault) -> HostFault
     }
 }
 
+/// Closes a board, to which the last of these seats is handed in.
+fn closed<'a, S: Site>(board: Board<'a, S>, mut seats: Vec<Seat>) -> Closed<'a>
+    requires at { All (IsAt S.row_id) seats.items }
+    requires some { 0 < length seats.items }
+    ensures { IsClosed S.image S.bound S.row_id.capacity S.row_id.seats result }
+{
+    let Some(mut seat) = seats.pop() else {
+        unreachable!()
+    };
+    board.close(&mut seat)
+}
+
 /// Opens a board, runs its threads, and closes it.
 fn run_board<'a, S: Site + Send + Sync, R: Threads + Wait + Sync>(
     rt: &R,
@@ -85,9 +98,10 @@ fn run_board<'a, S: Site + Send + Sync, R: Threads + Wait + Sync>(
     ensures fault { IfErr result (λ f. f ≢ Limit) }
 {
     let board: Board<'a, S> = blank.open();
-    let (_, journaled) = run_all(rt, alloc, &board, &OpenGate, seats, work.turns, work.ticks);
+    let (seats, journaled) =
+        run_all(rt, alloc, &board, &OpenGate, seats, work.turns, work.ticks);
     match journaled {
-        Ok(_) => Ok(board.close()),
+        Ok(_) => Ok(closed(board, seats)),
         Err(fault) => Err(fault),
     }
 }
@@ -102,6 +116,14 @@ fn events_of(alloc: Global, closed: &Closed<'_>) -> Result<Vec<Event>, AllocErro
         events.push_reserved(closed.event(i));
     }
     Ok(events)
+}
+
+/// The events of the journal of a closed board, which is given up.
+fn taken_events(alloc: Global, closed: Closed<'_>) -> Result<Vec<Event>, HostFault>
+    ensures events { IfOk result (λ events. events.items ≡ closed.entry.events) }
+    ensures memory { IfErr result (λ f. f ≡ host_fault.Memory) }
+{
+    events_of(alloc, &closed).map_err(|_| HostFault::Memory)
 }
 
 /// The journal that the threads of a board of an image make.
@@ -125,10 +147,7 @@ fn journal_of<R: Threads + Wait + Sync>(
         Ok(closed) => closed,
         Err(fault) => return Err(fault_of(fault)),
     };
-    match events_of(alloc, &closed) {
-        Ok(events) => Ok(events),
-        Err(_) => Err(HostFault::Memory),
-    }
+    taken_events(alloc, closed)
 }
 
 /// Appends a journal of an image as a steps text to a file, and all that the image prints over it to the output. Where

@@ -7,18 +7,21 @@ use std::thread;
 const MOST_YIELDS: u32 = 10_000_000;
 
 /// A gate that holds the first turn of processor 2 until the first turn of processor 1 is asked for, and that one until
-/// the board has answered processor 2. It waits inside its questions, and says no for good once one waited in vain.
+/// the board has answered so many turns of processor 2. It waits inside its questions, and says no for good once one
+/// waited in vain.
 #[derive(Drop)]
 pub struct SecondFirst {
+    turns: u32,
     asked: AtomicU64,
     answered: AtomicU64,
     vain: AtomicU64,
 }
 
 impl SecondFirst {
-    /// A gate of which nothing was asked.
-    pub fn new() -> SecondFirst {
+    /// A gate of which nothing was asked, and that holds processor 1 for so many turns of processor 2, at least one.
+    pub fn new(turns: u32) -> SecondFirst {
         SecondFirst {
+            turns,
             asked: AtomicU64::new(0),
             answered: AtomicU64::new(0),
             vain: AtomicU64::new(0),
@@ -54,7 +57,7 @@ impl Gate for SecondFirst {
     }
 
     fn answered(&self, p: u8, turn: u32) {
-        if p == 2 && turn == 1 {
+        if p == 2 && turn == self.turns {
             self.answered.store(1, Ordering::SeqCst);
         }
     }

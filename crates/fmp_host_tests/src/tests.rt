@@ -2,3 +2,4 @@
 mod feeding;
 mod hosting;
 mod showing;
+mod tickets;

@@ -32,6 +32,7 @@ use Rattle.fmp_waitq.proofs.queues.WaitQueues.TheSendSync as waits
 use Rattle.fmp_hostrun.specs.contracts.board.Board as Board
 use Rattle.fmp_hostrun.specs.contracts.book.Book as Book
 use Rattle.fmp_hostrun.specs.contracts.book.Book.TheInside as book
+use Rattle.fmp_hostrun.specs.contracts.desk.Desk as Desk
 use Rattle.fmp_hostrun.specs.declared.site.Site as site
 
 order_send : IsSend Order.the_row
@@ -69,5 +70,8 @@ module _ (κ : NamedLft) (S : RattleType) (g : site.Ghosts S.Denot) where
       (struct_send (shape (book.the_type κ S g))
       (search (image.the_sync, kernel_send, vm.the_send, context.the_send, scribe.the_send, crosses, sendable) depth 40)))
 
+  desk_send : IsSend S → IsSend (Desk.the_row κ S g)
+  desk_send s = let inner = book_send s in search (crosses, sendable) depth 20
+
   pub board_sync : IsSend S → IsSync (Board.the_row κ S g)
-  board_sync s = let inner = book_send s in search (image.the_sync, row.the_sync, crosses, sendable) depth 20
+  board_sync s = let inner = desk_send s in search (image.the_sync, row.the_sync, crosses, sendable) depth 20

@@ -1,12 +1,7 @@
 -- Actors that were drawn after a beginning of a journal, and their stretches.
-use Rattle.std.proofs.Common.{◌≡◌, ◌≢◌, ℕ, zero, suc, ◌<◌, ◌≤◌, List, [], ◌∷◌, ◌++◌, Option, Some, None, Bool, true, false, true≢false, ◌&&◌, ℤ, nat_eq, MatchBool, get_or, refl, sym, ap, ◌∙◌, subst, arith}
+use Rattle.std.proofs.Common.{◌≡◌, ◌≢◌, ℕ, zero, suc, ◌<◌, ◌≤◌, List, [], ◌∷◌, ◌++◌, Option, Some, None, Bool, true, false, nat_eq, MatchBool, get_or, refl, sym, ap, ◌∙◌, subst, arith}
 use Rattle.std.proofs.lemmas.Bool.{eqb-true}
-use Rattle.std.proofs.lemmas.Bool.Decides.{nat_tests, Decides-and, Decides-eqb, Decides-int_eq, Decides-like}
-use Rattle.std.proofs.lemmas.Slice.Eq.{slice_eq-Decides}
-use Rattle.std.specs.Bool.{Decides}
-use Rattle.std.specs.Cmp.Lexicographic.{pointwise}
-use Rattle.std.specs.Ordering.{int_eq}
-use lib.Dec.{eqb}
+use Rattle.std.proofs.lemmas.Bool.Decides.{nat_tests}
 use Rattle.fmp_base.specs.declared.events.Event.{Event}
 use Rattle.fmp_base.specs.declared.events.Event.TheVariants.{Run}
 use Rattle.fmp_base.specs.Meanings.{Meaning}
@@ -192,29 +187,3 @@ module _ (law : StampsCount) where
   none_test i n k m kernel journal t r d h = λ same.
       let there : Some t.actor ≡ None = sym (drawn_now i n journal t d same) ∙ sym (actor_there i n k m kernel journal t.processor r) ∙ h in
       absurd (cc)
-
--- tests of whole actors
-
-same_context : (a b : MachineContext) → Decides (eqb a.pc b.pc && pointwise int_eq a.locals b.locals) (a ≡ b)
-same_context a b =
-    Decides-like _
-    (λ (h : (a.pc ≡ b.pc) × (a.locals ≡ b.locals)). ap (λ (n : ℕ). context n a.locals) h.0 ∙ ap (λ (xs : List ℤ). context b.pc xs) h.1)
-    (λ (e : a ≡ b). (ap (λ (x : MachineContext). x.pc) e, ap (λ (x : MachineContext). x.locals) e))
-    (Decides-and _ _ (Decides-eqb a.pc b.pc) (slice_eq-Decides Decides-int_eq a.locals b.locals _ refl)) where
-      context : ℕ → List ℤ → MachineContext
-      context pc locals = record { pc = pc; locals = locals }
-
-pub same_actor : (a b : Actor MachineContext)
-    → Decides (eqb a.entry b.entry && ((eqb a.context.pc b.context.pc && pointwise int_eq a.context.locals b.context.locals) && eqb a.stamp b.stamp)) (a ≡ b)
-same_actor a b =
-    Decides-like _
-    (λ (h : (a.entry ≡ b.entry) × ((a.context ≡ b.context) × (a.stamp ≡ b.stamp))).
-    ap (λ (n : ℕ). actor n a.context a.stamp) h.0 ∙ ap (λ (c : MachineContext). actor b.entry c a.stamp) h.1.0 ∙ ap (λ (n : ℕ). actor b.entry b.context n) h.1.1)
-    (λ (e : a ≡ b). (ap (λ (x : Actor MachineContext). x.entry) e, (ap (λ (x : Actor MachineContext). x.context) e, ap (λ (x : Actor MachineContext). x.stamp) e)))
-    (Decides-and _ _ (Decides-eqb a.entry b.entry) (Decides-and _ _ (same_context a.context b.context) (Decides-eqb a.stamp b.stamp))) where
-      actor : ℕ → MachineContext → ℕ → Actor MachineContext
-      actor entry context stamp = record { entry = entry; context = context; stamp = stamp }
-
-pub actor_test : (b : Bool) (x a : Actor MachineContext) (o : Option (Actor MachineContext)) → Decides b (x ≡ a) → o ≡ Some x → MatchBool b (o ≡ Some a) (o ≢ Some a)
-actor_test true x a o d h = h ∙ ap (λ (y : Actor MachineContext). Some y) (d.0 refl)
-actor_test false x a o d h = λ e. absurd (let both : Some x ≡ Some a = sym h ∙ e in let same : x ≡ a = cc in true≢false (sym (d.1 same)))

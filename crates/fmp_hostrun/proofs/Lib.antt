@@ -6,3 +6,4 @@ pub mod Entering
 pub mod Entries
 pub mod Replaying
 pub mod Starting
+pub mod Visiting

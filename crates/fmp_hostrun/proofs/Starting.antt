@@ -1,10 +1,15 @@
 -- Seats for which threads are started, one after the other.
-use Rattle.std.proofs.Common.{◌≡◌, List, [], ◌∷◌, ◌++◌, Bool, true, false, true≢false, Err, length, refl, ap, sym, ◌∙◌, subst, append_assoc, arith}
+use Rattle.std.proofs.Common.{◌≡◌, ◌≢◌, ℕ, zero, List, [], ◌∷◌, ◌++◌, Bool, true, false, true≢false, Result, Ok, Err, length, map, inl, inr, refl, ap, sym, ◌∙◌, subst, append_assoc, arith}
 use Rattle.std.proofs.lemmas.List.{append-nil}
-use Rattle.std.proofs.lemmas.List.Elements.{All-tail}
-use Rattle.std.specs.List.{All}
+use Rattle.std.proofs.lemmas.List.Elements.{All-append, All-cons, All-nil, All-tail, AllZip-push, length_all_zip}
+use Rattle.std.specs.List.{All, AllZip}
+use Rattle.std.specs.Prelude.{IfErr, IfOk}
+use Rattle.fmp_image.specs.Images.{ImageTables}
 use Rattle.fmp_row.specs.Seats.{RowId, SeatState}
-use Rattle.fmp_hostrun.specs.Boards.{IsAt, CameBack}
+use Rattle.fmp_hostrun.specs.declared.fault.BoardFault.{BoardFault}
+use Rattle.fmp_hostrun.specs.Boards.{IsAt, IsTurnFault}
+use Rattle.fmp_hostrun.specs.Visits.{AllButOne, CameBack, Kept}
+use Rattle.fmp_hostrun.proofs.Visiting.{all_kept}
 use Rattle.fmp_hostrun.specs.declared.fault.BoardFault.TheVariants as fault
 
 -- seats: those whose threads were started, the one whose thread was refused, those that were spared then, and the rest
@@ -38,26 +43,107 @@ one_refused true seats started spared rest next x is s r = absurd (true≢false 
 one_refused false seats started spared rest next x is s r =
     (x, s.0 ∙ ap (λ (xs : List SeatState). started ++ xs) r ∙ sym (ap (λ (xs : List SeatState). started ++ x ∷ (xs ++ next)) s.1))
 
-none_left : (rest : List SeatState) → length rest ≡ 0 → rest ≡ []
+none_left : {X : Type 0} (rest : List X) → length rest ≡ 0 → rest ≡ []
 none_left [] e = refl
 none_left (x ∷ rest) e = absurd (omega arith)
 
+-- threads are joined, one after the other
+
+pub none_joined : (P : SeatState → SeatState → Type 0) (back : List SeatState) → back ≡ [] → AllZip P [] back
+none_joined P back is = subst (AllZip P []) (sym is) tt
+
+pub one_joined : (P : SeatState → SeatState → Type 0) (first back more : List SeatState) (x y : SeatState) → AllZip P first back → P x y → more ≡ back ++ y ∷ []
+    → AllZip P (first ++ x ∷ []) more
+one_joined P first back more x y all p is = subst (AllZip P (first ++ x ∷ [])) (sym is) (AllZip-push P first back x y all p)
+
+pub one_fewer : {H : Type 0} (f : H → SeatState) (first : List SeatState) (handles rest next : List H) (h : H) → first ++ map f rest ≡ map f handles → rest ≡ h ∷ next
+    → (first ++ f h ∷ []) ++ map f next ≡ map f handles
+one_fewer f first handles rest next h all r = append_assoc first (f h ∷ []) (map f next) ∙ ap (λ xs. first ++ map f xs) (sym r) ∙ all
+
+pub all_joined : {H : Type 0} (f : H → SeatState) (P : SeatState → SeatState → Type 0) (handles rest : List H) (first back : List SeatState) → first ++ map f rest ≡ map f handles
+    → length rest ≡ 0 → AllZip P first back → AllZip P (map f handles) back
+all_joined f P handles rest first back all none kept =
+    let are : first ≡ map f handles = sym (append-nil first) ∙ ap (λ xs. first ++ map f xs) (sym (none_left rest none)) ∙ all in
+    subst (λ xs. AllZip P xs back) are kept
+
+-- why a thread stops is neither that one was refused nor a limit
+pub other_fault : (result : Result ℕ BoardFault) → IfErr result IsTurnFault → (result ≢ Err fault.Thread) × (result ≢ Err fault.Limit)
+other_fault (Ok r) why = ((λ e. absurd (cc)), (λ e. absurd (cc)))
+other_fault (Err f) (inl full) = ((λ e. absurd (cc)), (λ e. absurd (cc)))
+other_fault (Err f) (inr held) = ((λ e. absurd (cc)), (λ e. absurd (cc)))
+
 -- all but the refused one come back
-pub all_but_one : (refused : Bool) (seats first started spared rest back : List SeatState) → refused ≡ true → Started refused first started spared rest → length rest ≡ 0
-    → first ≡ seats → back ≡ started ++ spared → CameBack seats back (Err fault.Thread)
-all_but_one false seats first started spared rest back is s none same b = absurd (true≢false (sym is))
-all_but_one true seats first started spared rest back is s none same b =
+pub all_but_one : (P : SeatState → SeatState → Type 0) (refused : Bool) (seats first started spared rest worked back : List SeatState) → refused ≡ true
+    → Started refused first started spared rest → length rest ≡ 0 → first ≡ seats → back ≡ worked ++ spared → AllZip P started worked
+    → CameBack P seats back (Err fault.Thread)
+all_but_one P false seats first started spared rest worked back is s none same b kept = absurd (true≢false (sym is))
+all_but_one P true seats first started spared rest worked back is s none same b kept =
     record {
       all = λ other. absurd (other refl);
       refused = λ _. record {
         front = started;
         lost = s.0;
         rest = spared;
+        worked = worked;
         were = sym same ∙ s.1 ∙ ap (λ (xs : List SeatState). started ++ s.0 ∷ (spared ++ xs)) (none_left rest none) ∙ ap (λ (xs : List SeatState). started ++ s.0 ∷ xs) (append-nil spared);
         are = b;
+        kept = kept;
       };
+    }
+
+-- all come back
+pub all_back : (P : SeatState → SeatState → Type 0) (refused : Bool) (seats first started spared rest worked back : List SeatState) (result : Result ℕ BoardFault) → refused ≡ false
+    → Started refused first started spared rest → length rest ≡ 0 → first ≡ seats → back ≡ worked ++ spared → AllZip P started worked
+    → result ≢ Err fault.Thread → CameBack P seats back result
+all_back P true seats first started spared rest worked back result is s none same b kept other = absurd (true≢false is)
+all_back P false seats first started spared rest worked back result is s none same b kept other =
+    let were : started ≡ seats = sym (append-nil started) ∙ ap (λ (xs : List SeatState). started ++ xs) (sym (none_left rest none)) ∙ sym s.0 ∙ same in
+    let are : worked ≡ back = sym (append-nil worked) ∙ ap (λ (xs : List SeatState). worked ++ xs) (sym s.1) ∙ sym b in
+    record {
+      all = λ _. subst (λ (y : List SeatState × List SeatState). AllZip P y.0 y.1) (λ i. (were i, are i)) kept;
+      refused = λ bad. absurd (other bad);
     }
 
 -- the rest are seats of the board too
 pub seats_at : (row : RowId) (rest next : List SeatState) (x : SeatState) → All (IsAt row) rest → rest ≡ x ∷ next → All (IsAt row) next
 seats_at row rest next x all r = All-tail (IsAt row) x next (subst (All (IsAt row)) r all)
+
+-- seats that came back are seats of the board
+
+kept_at : (i : ImageTables) (n : ℕ) (row : RowId) (seats back : List SeatState) → AllZip (Kept i n row) seats back → All (IsAt row) seats → All (IsAt row) back
+kept_at i n row [] [] kept at = All-nil (IsAt row)
+kept_at i n row [] (b ∷ back) kept at = absurd kept
+kept_at i n row (s ∷ seats) [] kept at = absurd kept
+kept_at i n row (s ∷ seats) (b ∷ back) kept at =
+    All-cons (IsAt row) b back (ap (λ (x : SeatState). x.row) kept.0.same ∙ at zero s (omega arith)) (kept_at i n row seats back kept.1 (All-tail (IsAt row) s seats at))
+
+rest_at : (row : RowId) (front : List SeatState) (x : SeatState) (rest : List SeatState) → All (IsAt row) (front ++ x ∷ rest) → All (IsAt row) front × All (IsAt row) rest
+rest_at row [] x rest at = (All-nil (IsAt row), All-tail (IsAt row) x rest at)
+rest_at row (y ∷ front) x rest at =
+    let later = rest_at row front x rest (All-tail (IsAt row) y (front ++ x ∷ rest) at) in
+    (All-cons (IsAt row) y front (at zero y (omega arith)) later.0, later.1)
+
+pub all_at : (i : ImageTables) (n : ℕ) (row : RowId) (seats back : List SeatState) (result : Result ℕ BoardFault) → CameBack (Kept i n row) seats back result → All (IsAt row) seats → All (IsAt row) back
+all_at i n row seats back (Ok r) came at = kept_at i n row seats back (came.all (λ (e : Ok r ≡ Err fault.Thread). absurd (cc))) at
+all_at i n row seats back (Err f) came at = by_fault f came
+  where
+    refused : AllButOne (Kept i n row) seats back → All (IsAt row) back
+    refused b =
+        let parts = rest_at row b.front b.lost b.rest (subst (All (IsAt row)) b.were at) in
+        subst (All (IsAt row)) (sym b.are) (All-append (IsAt row) b.worked b.rest (kept_at i n row b.front b.worked b.kept parts.0) parts.1)
+
+    by_fault : (f : BoardFault) → CameBack (Kept i n row) seats back (Err f) → All (IsAt row) back
+    by_fault fault.Thread c = refused (c.refused refl)
+    by_fault fault.Stale c = kept_at i n row seats back (c.all (λ (e : Err fault.Stale ≡ Err fault.Thread). absurd (cc))) at
+    by_fault fault.Full c = kept_at i n row seats back (c.all (λ (e : Err fault.Full ≡ Err fault.Thread). absurd (cc))) at
+    by_fault fault.Memory c = kept_at i n row seats back (c.all (λ (e : Err fault.Memory ≡ Err fault.Thread). absurd (cc))) at
+    by_fault fault.Limit c = kept_at i n row seats back (c.all (λ (e : Err fault.Limit ≡ Err fault.Thread). absurd (cc))) at
+    by_fault fault.Held c = kept_at i n row seats back (c.all (λ (e : Err fault.Held ≡ Err fault.Thread). absurd (cc))) at
+
+pub same_count : (i : ImageTables) (n : ℕ) (row : RowId) (seats back : List SeatState) (result : Result ℕ BoardFault) → CameBack (Kept i n row) seats back result → IfOk result (λ _. length back ≡ length seats)
+same_count i n row seats back (Ok r) came = sym (length_all_zip (Kept i n row) seats back (came.all (λ (e : Ok r ≡ Err fault.Thread). absurd (cc))))
+same_count i n row seats back (Err f) came = tt
+
+-- no thread was started
+pub all_as_they_were : (i : ImageTables) (n : ℕ) (row : RowId) (seats : List SeatState) (result : Result ℕ BoardFault) → result ≢ Err fault.Thread → CameBack (Kept i n row) seats seats result
+all_as_they_were i n row seats result other = record { all = λ _. all_kept i n row seats; refused = λ bad. absurd (other bad) }

@@ -14,9 +14,10 @@ use Rattle.fmp_hostrun.specs.declared.receipt.Receipt.{Receipt}
 use Rattle.fmp_hostrun.specs.Receipts.{receipt_of}
 use Rattle.fmp_hostrun.specs.Replays.{IsLegal, kernel_after, reaction}
 
--- what contracts see of a book: its journal
+-- what contracts see of a book: its journal, and the seats that have not counted an entry of theirs, one mark for each
 pub record BookState : Type 0 where
   pub journal : List JournalEntry
+  pub marks : List ℕ
 
 -- a board that is not yet open: its image, the instructions that a stretch may take, and its row
 pub record BlankState : Type 0 where
@@ -60,27 +61,6 @@ pub record InRange (n k m : ℕ) : Type 0 where
 abbrev pub IsAt : RowId → SeatState → Type 0
 IsAt row s = s.row ≡ row
 
--- the answer to an event: after a journal with room its receipt there, and after a full one the refusal
-abbrev pub Fed : ImageTables → (n k m : ℕ) → Event → Result Receipt BoardFault → Type 0
-Fed i n k m e result =
-    (before : List JournalEntry) × IsJournal i n k m before
-    × MatchResult result
-    (λ r. (length before < k) × (r ≡ receipt_of (length before) (reaction i n (events before) e)))
-    (λ f. (length before ≡ k) × (f ≡ fault.Full))
-
--- what came back of seats, where a thread was refused: all but that thread's seat
-pub record AllButOne (seats back : List SeatState) : Type 0 where
-  pub front : List SeatState
-  pub lost : SeatState
-  pub rest : List SeatState
-  pub were : seats ≡ front ++ lost ∷ rest
-  pub are : back ≡ front ++ rest
-
--- what came back of seats
-pub record CameBack (seats back : List SeatState) (result : Result ℕ BoardFault) : Type 0 where
-  pub all : result ≢ Err fault.Thread → back ≡ seats
-  pub refused : result ≡ Err fault.Thread → AllButOne seats back
-
 -- why a thread of a board stops
 abbrev pub IsTurnFault : BoardFault → Type 0
 IsTurnFault f = (f ≡ fault.Full) ⊎ (f ≡ fault.Held)
@@ -93,11 +73,3 @@ pub record IsClosed (i : ImageTables) (n k m : ℕ) (closed : ClosedState) : Typ
   pub legal : IsLegal i n closed.events
   pub room : length closed.events ≤ k
   pub kernel_is : closed.kernel ≡ kernel_after i n closed.events
-
--- what a thread gives back: its seat as it was, and how many events it journaled, or why it stopped
-abbrev pub GaveBack : (was now : SeatState) → Result ℕ BoardFault → Type 0
-GaveBack was now journaled = (now ≡ was) × IfErr journaled IsTurnFault
-
--- threads were started for seats
-abbrev pub AreRun : (seats back : List SeatState) → Result ℕ BoardFault → Type 0
-AreRun seats back result = CameBack seats back result × (result ≢ Err fault.Limit)

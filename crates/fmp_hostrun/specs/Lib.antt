@@ -3,3 +3,4 @@ pub mod Outcomes
 pub mod Receipts
 pub mod Replays
 pub mod Sites
+pub mod Visits

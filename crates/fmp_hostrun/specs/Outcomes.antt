@@ -11,13 +11,15 @@ use Rattle.fmp_image.specs.Images.{ImageTables}
 use Rattle.fmp_kernel.specs.declared.actors.Actor.{Actor}
 use Rattle.fmp_kernel.specs.KernelViews.{actor_in}
 use Rattle.fmp_row.specs.declared.entry.JournalEntry.{JournalEntry}
-use Rattle.fmp_row.specs.Seats.{events}
+use Rattle.fmp_row.specs.Seats.{RowId, SeatState, events}
+use Rattle.fmp_row.specs.Words.{entry}
 use Rattle.fmp_hostrun.specs.declared.fault.BoardFault.{BoardFault}
 use Rattle.fmp_hostrun.specs.declared.fault.BoardFault.TheVariants as fault
 use Rattle.fmp_hostrun.specs.declared.receipt.Receipt.{Receipt}
 use Rattle.fmp_hostrun.specs.Boards.{IsJournal}
 use Rattle.fmp_hostrun.specs.Receipts.{receipt_of}
 use Rattle.fmp_hostrun.specs.Replays.{kernel_after, reaction, stamps_after}
+use Rattle.fmp_hostrun.specs.Visits.{entered}
 
 -- the actor of a processor, of an image of which stretches take at most so many instructions
 pub record TicketState : Type 0 where
@@ -71,12 +73,11 @@ pub record IsDrawn (i : ImageTables) (n : ℕ) (journal : List JournalEntry) (t 
   pub begins : IsPrefix begin journal
   pub actor_is : actor_after i n begin t.processor ≡ Some t.actor
 
--- the answer to who wants a ticket for processor p: its actor after a journal, if it has one
-abbrev pub Drew : ImageTables → (n k m : ℕ) → (p : ℕ) → Option TicketState → Type 0
-Drew i n k m p result =
-    (before : List JournalEntry) × IsJournal i n k m before
-    × MatchOption result (actor_after i n before p ≡ None)
-    (λ t. IsTicketOf i n t × (t.processor ≡ p) × (actor_after i n before p ≡ Some t.actor))
+-- the answer to who wants a ticket for processor p, after a journal: its actor there, if it has one
+abbrev pub Drew : ImageTables → (n : ℕ) → List JournalEntry → (p : ℕ) → Option TicketState → Type 0
+Drew i n journal p result =
+    MatchOption result (actor_after i n journal p ≡ None)
+    (λ t. IsTicketOf i n t × (t.processor ≡ p) × (actor_after i n journal p ≡ Some t.actor))
 
 -- why an outcome is refused after a journal: the stamp of its processor is another one, or else the journal is full
 pub record IsWhyRefused (i : ImageTables) (n k : ℕ) (journal : List JournalEntry) (t : TicketState) (f : BoardFault)
@@ -93,13 +94,11 @@ AnsweredAfter i n k before t result =
     × (r ≡ receipt_of (length before) (reaction i n (events before) (Run t.processor))))
     (IsWhyRefused i n k before t)
 
--- the answer to an outcome of whose ticket only the board is known: after a journal where its processor has just this
--- actor, in this context and with this stamp, what it is answered there; else it is stale
-abbrev pub Submitted : ImageTables → (n k m : ℕ) → TicketState → Result Receipt BoardFault → Type 0
-Submitted i n k m t result =
-    (before : List JournalEntry) × IsJournal i n k m before
-    × MatchResult result
-    (λ r. (actor_after i n before t.processor ≡ Some t.actor) × (length before < k)
-    × (r ≡ receipt_of (length before) (reaction i n (events before) (Run t.processor))))
-    (λ f. (actor_after i n before t.processor ≢ Some t.actor → f ≡ fault.Stale)
-    × (actor_after i n before t.processor ≡ Some t.actor → (f ≡ fault.Full) × (length before ≡ k)))
+-- The answer to an outcome of a seat: there was a journal, which begins with all that the seat had seen; this is what
+-- the outcome is answered after it, and the seat has then seen it, with the event, if one was entered.
+abbrev pub Submitted : ImageTables → (n : ℕ) → RowId → TicketState → (was now : SeatState) → Result Receipt BoardFault
+    → Type 0
+Submitted i n row t was now result =
+    (before : List JournalEntry) × IsJournal i n row.capacity row.seats before × IsPrefix was.seen before
+    × AnsweredAfter i n row.capacity before t result
+    × (now.seen ≡ entered before (entry was.number (Run t.processor)) (reaction i n (events before) (Run t.processor)) result)

@@ -35,3 +35,8 @@ receipt_of before (Did d) = record { number = before + 1; effect = effect.Done; 
 abbrev pub journal_after : {C : Type 0} → List JournalEntry → JournalEntry → Reaction C → List JournalEntry
 journal_after journal x Nothing = journal
 journal_after journal x (Did d) = journal ++ x ∷ []
+
+-- the marks of a book after an event of this seat, by what the event does
+abbrev pub marks_after : {C : Type 0} → List ℕ → (seat : ℕ) → Reaction C → List ℕ
+marks_after marks seat Nothing = marks
+marks_after marks seat (Did d) = marks ++ seat ∷ []

@@ -3,6 +3,7 @@ ghost use Rattle.std.specs.Prelude.{◌≡◌, ◌≤◌, [], vec_capacity};
 
 use crate::book::Book;
 use crate::closed::Closed;
+use crate::desk::Desk;
 use crate::fault::BoardFault;
 use crate::outcome::{Outcome, Ticket};
 use crate::receipt::Receipt;
@@ -12,13 +13,14 @@ use fmp_image::Image;
 use fmp_row::{Row, Seat};
 use std::sync::{Mutex, Wait};
 
-/// A kernel that many threads share, with the journal of what they did on it. Both lie under one lock, as a `Book`.
+/// A kernel that many threads share, with the journal of what they did on it. Both lie under one lock, as a
+/// `Book`; the row, beside it, is read without the lock.
 #[derive(Drop)]
 pub struct Board<'a, S: Site> {
     image: &'a Image,
     row: Row,
     room: Vec<Event>,
-    book: Mutex<Book<'a, S>>,
+    desk: Mutex<Desk<'a, S>>,
     ghost image_is: { image.now ≡ S.image },
     ghost row_is: { row ≡ S.row_id },
     ghost room_is: { (room.items ≡ []) × (S.row_id.capacity ≤ vec_capacity room) },
@@ -27,11 +29,12 @@ pub struct Board<'a, S: Site> {
 impl<'a, S: Site> Board<'a, S> {
     ghost use Rattle.std.specs.Prelude.{◌≡◌, ◌+◌, ◌<◌, ◌≤◌, ◌++◌, [], ◌∷◌, length, None, IfNone, IfSome, vec_capacity};
     ghost use mathlib.Core.List.{IsPrefix};
-    ghost use Rattle.fmp_row.specs.Seats.{given};
+    ghost use Rattle.fmp_row.specs.Seats.{events, given};
     ghost use Rattle.fmp_row.specs.Views.{looked_at};
     ghost use Rattle.fmp_row.specs.Words.{event_in};
-    ghost use Rattle.fmp_hostrun.specs.Boards.{Fed, IsAt, IsClosed};
-    ghost use Rattle.fmp_hostrun.specs.Outcomes.{Drew, IsTicketOf, Submitted};
+    ghost use Rattle.fmp_hostrun.specs.Boards.{IsAt, IsClosed};
+    ghost use Rattle.fmp_hostrun.specs.Outcomes.{Drew, IsDrawn, Submitted};
+    ghost use Rattle.fmp_hostrun.specs.Visits.{Fed, Visited, journaled};
 
     pub(crate) fn new(
         image: &'a Image,
@@ -42,12 +45,13 @@ impl<'a, S: Site> Board<'a, S> {
         requires image { image.now ≡ S.image }
         requires row { row ≡ S.row_id }
         requires room { (room.items ≡ []) × (S.row_id.capacity ≤ vec_capacity room) }
+        requires book { book.marks ≡ [] }
     {
         Board {
             image,
             row,
             room,
-            book: Mutex::new(book),
+            desk: Mutex::new(Desk::new(book)),
         }
     }
 
@@ -59,21 +63,25 @@ impl<'a, S: Site> Board<'a, S> {
     }
 
     /// A ticket for the stretch that the actor of processor p makes next. None where there is no such processor, or it
-    /// has no actor.
-    pub fn ticket<R: Wait>(&self, rt: &R, _seat: &mut Seat, p: u8) -> Option<Ticket<'a>>
-        requires at { IsAt S.row_id _seat.old }
-        ensures at { IsAt S.row_id _seat.new }
-        ensures seat { _seat.new ≡ _seat.old }
-        ensures drew { Drew S.image S.bound S.row_id.capacity S.row_id.seats p result }
+    /// has no actor. The seat has then seen the whole journal.
+    pub fn ticket<R: Wait>(&self, rt: &R, seat: &mut Seat, p: u8) -> Option<Ticket<'a>>
+        requires at { IsAt S.row_id seat.old }
+        ensures at { IsAt S.row_id seat.new }
+        ensures visited { Visited S.image S.bound S.row_id seat.old seat.new }
+        ensures mine { seat.new.mine ≡ seat.old.mine }
+        ensures drew { Drew S.image S.bound seat.new.seen p result }
+        ensures drawn { IfSome result (IsDrawn S.image S.bound seat.new.seen) }
     {
-        self.book.lock(rt).ticket(p)
+        self.desk.lock(rt).ticket(seat, p)
     }
 
     /// Takes the run of an outcome's processor on the kernel, by the stretch that was made outside the lock, and
-    /// journals it under the number of a seat if it does something.
+    /// journals it under the number of the seat if it does something. It wants the seat that drew the ticket. The seat
+    /// has then seen the whole journal, its own event included.
     ///
-    /// `BoardFault::Stale`, exactly where the processor has another actor by now, or that one went on; else
-    /// `BoardFault::Full`, exactly where the journal has no room for one more event. Then nothing has changed.
+    /// `BoardFault::Stale`, exactly where the stamp of the processor is no more that of the ticket; else
+    /// `BoardFault::Full`, exactly where the journal has no room for one more event. Then nothing has changed but what
+    /// the seat has seen.
     pub fn submit<R: Wait>(
         &self,
         rt: &R,
@@ -81,18 +89,21 @@ impl<'a, S: Site> Board<'a, S> {
         outcome: Outcome,
     ) -> Result<Receipt, BoardFault>
         requires at { IsAt S.row_id seat.old }
-        requires outcome { IsTicketOf S.image S.bound outcome.ticket }
+        requires drawn { IsDrawn S.image S.bound seat.old.seen outcome.ticket }
         ensures at { IsAt S.row_id seat.new }
-        ensures seat { seat.new ≡ seat.old }
-        ensures submitted { Submitted S.image S.bound S.row_id.capacity S.row_id.seats outcome.ticket result }
+        ensures visited { Visited S.image S.bound S.row_id seat.old seat.new }
+        ensures mine { seat.new.mine ≡ seat.old.mine + journaled result }
+        ensures submitted { Submitted S.image S.bound S.row_id outcome.ticket seat.old seat.new result }
     {
-        self.book.lock(rt).submit(seat.number(), outcome)
+        self.desk.lock(rt).submit(seat, outcome)
     }
 
-    /// Takes an event on the kernel, and journals it under the number of a seat if it does something. A `Run` works out
-    /// its stretch under the lock, for which the call waits.
+    /// Takes an event on the kernel, and journals it under the number of the seat if it does something. A `Run` works
+    /// out its stretch under the lock, for which the call waits. The seat has then seen the whole journal, its own
+    /// event included.
     ///
-    /// `BoardFault::Full`, exactly where the journal has no room for one more event; then nothing has changed.
+    /// `BoardFault::Full`, exactly where the journal has no room for one more event; then nothing has changed but what
+    /// the seat has seen.
     pub fn feed<R: Wait>(
         &self,
         rt: &R,
@@ -101,10 +112,27 @@ impl<'a, S: Site> Board<'a, S> {
     ) -> Result<Receipt, BoardFault>
         requires at { IsAt S.row_id seat.old }
         ensures at { IsAt S.row_id seat.new }
-        ensures seat { seat.new ≡ seat.old }
-        ensures fed { Fed S.image S.bound S.row_id.capacity S.row_id.seats event result }
+        ensures visited { Visited S.image S.bound S.row_id seat.old seat.new }
+        ensures mine { seat.new.mine ≡ seat.old.mine + journaled result }
+        ensures fed { Fed S.image S.bound S.row_id event seat.old seat.new result }
     {
-        self.book.lock(rt).enter(seat.number(), event)
+        self.desk.lock(rt).feed(seat, event)
+    }
+
+    /// Both seats have then seen the whole journal, so the same.
+    pub fn meet<R: Wait>(&self, rt: &R, one: &mut Seat, other: &mut Seat)
+        requires one { IsAt S.row_id one.old }
+        requires other { IsAt S.row_id other.old }
+        ensures at { IsAt S.row_id one.new × IsAt S.row_id other.new }
+        ensures one { Visited S.image S.bound S.row_id one.old one.new }
+        ensures other { Visited S.image S.bound S.row_id other.old other.new }
+        ensures mine { (one.new.mine ≡ one.old.mine) × (other.new.mine ≡ other.old.mine) }
+        ensures same { one.new.seen ≡ other.new.seen }
+    {
+        let mut desk = self.desk.lock(rt);
+        let desk = &mut *desk;
+        desk.show(one);
+        desk.show(other);
     }
 
     /// The next event of the row after those that this seat's `follow` gave, by one read of its word. None where as
@@ -128,16 +156,21 @@ impl<'a, S: Site> Board<'a, S> {
         seat.follow(&self.row)
     }
 
-    /// Ends the board. It waits for nobody, and takes no memory.
-    pub fn close(self) -> Closed<'a>
-        ensures { IsClosed S.image S.bound S.row_id.capacity S.row_id.seats result }
+    /// Ends the board. The seat has then seen its journal. It waits for nobody, and takes no memory.
+    pub fn close(self, seat: &mut Seat) -> Closed<'a>
+        requires at { IsAt S.row_id seat.old }
+        ensures at { IsAt S.row_id seat.new }
+        ensures visited { Visited S.image S.bound S.row_id seat.old seat.new }
+        ensures mine { seat.new.mine ≡ seat.old.mine }
+        ensures closed { IsClosed S.image S.bound S.row_id.capacity S.row_id.seats result }
+        ensures journal { result.events ≡ events seat.new.seen }
     {
         let Board {
             image: _,
             row: _,
             room,
-            book,
+            desk,
         } = self;
-        book.into_inner().into_closed(room)
+        desk.into_inner().close(seat, room)
     }
 }

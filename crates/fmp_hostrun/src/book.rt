@@ -11,7 +11,7 @@ use fmp_base::{Effect, Event};
 use fmp_code::Vm;
 use fmp_image::Image;
 use fmp_kernel::Kernel;
-use fmp_row::{JournalEntry, Scribe};
+use fmp_row::{JournalEntry, Scribe, Seat};
 use std::marker::{Model, PhantomData};
 
 /// The kernel of a board, and the journal of the events that did something on it. Its type keeps that the image and the
@@ -34,7 +34,7 @@ impl<'a, S: Site> Model for Book<'a, S> {
 
     ghost Value = { BookState };
 
-    ghost view = { λ b. record { journal = b.scribe.journal } };
+    ghost view = { λ b. record { journal = b.scribe.journal; marks = b.scribe.marks } };
 
     ghost invariant = { λ b. (b.image.now ≡ S.image) × (b.scribe.row ≡ S.row_id)
         × IsRoom S.row_id b.capacity b.seats
@@ -45,9 +45,12 @@ impl<'a, S: Site> Model for Book<'a, S> {
 impl<'a, S: Site> Book<'a, S> {
     ghost use Rattle.std.specs.Prelude.{◌≡◌, ◌<◌, ◌≤◌, ◌↔◌, [], length, slice_get, vec_capacity, IfOk, IsTrue, OnOk, OnErr, MatchResult};
     ghost use Rattle.fmp_hostrun.specs.declared.fault.BoardFault.TheVariants.{Full};
-    ghost use Rattle.fmp_hostrun.specs.Boards.{IsJournal, IsReplay, IsRoom};
-    ghost use Rattle.fmp_hostrun.specs.Receipts.{journal_after, receipt_of};
+    ghost use Rattle.fmp_hostrun.specs.Boards.{IsAt, IsJournal, IsReplay, IsRoom};
+    ghost use Rattle.fmp_hostrun.specs.Receipts.{journal_after, marks_after, receipt_of};
     ghost use Rattle.fmp_hostrun.specs.Replays.{kernel_after, reaction};
+    ghost use Rattle.fmp_hostrun.specs.Visits.{shown, unmarked};
+    ghost use Rattle.fmp_row.specs.Views.{own};
+    ghost use mathlib.Core.List.{IsPrefix};
     ghost use Rattle.fmp_row.specs.Seats.{events};
     ghost use Rattle.fmp_row.specs.Words.{entry};
 
@@ -62,7 +65,7 @@ impl<'a, S: Site> Book<'a, S> {
         requires site { (image.now ≡ S.image) × (scribe.row ≡ S.row_id) × (bound ≡ S.bound) }
         requires room { IsRoom S.row_id capacity seats }
         requires replay { IsReplay S.image S.bound S.row_id.capacity S.row_id.seats kernel scribe.journal }
-        ensures { result.journal ≡ scribe.journal }
+        ensures { result ≡ record { journal = scribe.journal; marks = scribe.marks } }
     {
         Book {
             image,
@@ -138,6 +141,8 @@ impl<'a, S: Site> Book<'a, S> {
         ensures journal { OnOk result (self.new.journal
             ≡ journal_after self.old.journal (entry seat event)
             (reaction S.image S.bound (events self.old.journal) event)) }
+        ensures marks { OnOk result (self.new.marks
+            ≡ marks_after self.old.marks seat (reaction S.image S.bound (events self.old.journal) event)) }
         ensures same { OnErr result (self.new ≡ self.old) }
         ensures legal { IsJournal S.image S.bound S.row_id.capacity S.row_id.seats self.old.journal }
     {
@@ -159,6 +164,19 @@ impl<'a, S: Site> Book<'a, S> {
                 })
             }
         }
+    }
+
+    /// The seat comes to have seen the whole journal, which begins with all that it had seen, and counts its entries;
+    /// its marks are taken away.
+    pub(crate) fn show(&mut self, seat: &mut Seat)
+        requires { IsAt S.row_id seat.old }
+        ensures book { self.new ≡ unmarked self.old seat.old.number }
+        ensures seat { seat.new ≡ shown seat.old self.old }
+        ensures grows { IsPrefix seat.old.seen self.old.journal }
+        ensures counted { length (own seat.old.number self.old.journal) ≡ seat.new.mine }
+        ensures legal { IsJournal S.image S.bound S.row_id.capacity S.row_id.seats self.old.journal }
+    {
+        self.scribe.show(seat);
     }
 
     /// The kernel, and the events of the journal in a list that has room for them.

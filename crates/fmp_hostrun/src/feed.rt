@@ -1,7 +1,8 @@
 //! What takes events from many threads.
 ghost use Rattle.std.specs.Prelude.{◌≡◌, ◌⊎◌, ℕ, IfErr, IfSome};
 ghost use Rattle.fmp_hostrun.specs.Boards.{IsAt};
-ghost use Rattle.fmp_hostrun.specs.Outcomes.{IsTicketOf};
+ghost use Rattle.fmp_hostrun.specs.Outcomes.{IsDrawn};
+ghost use Rattle.fmp_hostrun.specs.Visits.{Visited};
 ghost use Rattle.fmp_hostrun.specs.declared.fault.BoardFault.TheVariants.{Full, Stale};
 ghost use Rattle.fmp_image.specs.Images.{ImageTables};
 ghost use Rattle.fmp_row.specs.Seats.{RowId};
@@ -29,10 +30,11 @@ pub(crate) trait Feed {
     /// The next stretch of the actor of processor p, if it has one. It is made outside the lock.
     fn outcome<R: Wait>(&self, rt: &R, seat: &mut Seat, p: u8) -> Option<Outcome>
         requires at { IsAt row_id seat.old }
-        ensures seat { seat.new ≡ seat.old }
-        ensures outcome { IfSome result (λ o. IsTicketOf image bound o.ticket) };
+        ensures at { IsAt row_id seat.new }
+        ensures visited { Visited image bound row_id seat.old seat.new }
+        ensures drawn { IfSome result (λ o. IsDrawn image bound seat.new.seen o.ticket) };
 
-    /// Takes an outcome, under the number of a seat.
+    /// Takes an outcome, under the number of the seat.
     fn submit<R: Wait>(
         &self,
         rt: &R,
@@ -40,14 +42,16 @@ pub(crate) trait Feed {
         outcome: Outcome,
     ) -> Result<Receipt, BoardFault>
         requires at { IsAt row_id seat.old }
-        requires outcome { IsTicketOf image bound outcome.ticket }
-        ensures seat { seat.new ≡ seat.old }
+        requires drawn { IsDrawn image bound seat.old.seen outcome.ticket }
+        ensures at { IsAt row_id seat.new }
+        ensures visited { Visited image bound row_id seat.old seat.new }
         ensures fault { IfErr result (λ f. (f ≡ Full) ⊎ (f ≡ Stale)) };
 
-    /// Takes an event, under the number of a seat.
+    /// Takes an event, under the number of the seat.
     fn feed<R: Wait>(&self, rt: &R, seat: &mut Seat, event: Event) -> Result<Receipt, BoardFault>
         requires at { IsAt row_id seat.old }
-        ensures seat { seat.new ≡ seat.old }
+        ensures at { IsAt row_id seat.new }
+        ensures visited { Visited image bound row_id seat.old seat.new }
         ensures fault { IfErr result (λ f. f ≡ Full) };
 }
 

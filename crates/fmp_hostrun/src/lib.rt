@@ -6,6 +6,7 @@ mod blank;
 mod board;
 mod book;
 mod closed;
+mod desk;
 mod fault;
 mod feed;
 mod outcome;

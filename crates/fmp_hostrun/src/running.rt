@@ -1,6 +1,8 @@
 //! A thread for each processor of a board, and one for the ticks.
 ghost use Rattle.std.specs.Prelude.{◌≡◌, ◌+◌, ◌≤◌, [], ◌++◌, ◌↔◌, ◌≢◌, All, Err, IfErr, IfOk, length, map, vec_len, vec_capacity};
-ghost use Rattle.fmp_hostrun.specs.Boards.{AreRun, CameBack, GaveBack, IsAt, IsTurnFault};
+ghost use Rattle.std.specs.List.{AllZip};
+ghost use Rattle.fmp_hostrun.specs.Boards.{IsAt, IsTurnFault};
+ghost use Rattle.fmp_hostrun.specs.Visits.{AreRun, CameBack, GaveBack, Kept};
 ghost use Rattle.fmp_hostrun.specs.declared.fault.BoardFault.TheVariants.{Limit};
 
 use crate::board::Board;
@@ -10,6 +12,7 @@ use crate::site::Site;
 use crate::turns::{Gate, Part, run_part};
 use fmp_row::Seat;
 use std::alloc::{AllocError, Global};
+use std::marker::PhantomData;
 use std::snapshot::Snapshot;
 use std::sync::Wait;
 use std::thread;
@@ -22,19 +25,20 @@ pub(crate) struct Worked {
     journaled: Result<u32, BoardFault>,
 }
 
-/// A thread's promise to give its seat back as it was.
+/// A thread's promise to give its seat back, with which it has made calls of this board alone.
 #[derive(Drop)]
-pub(crate) struct GivesBack {
+pub(crate) struct GivesBack<B: Feed> {
     seat: Snapshot<Seat>,
+    board: PhantomData<B>,
 }
 
-impl Promise<Worked> for GivesBack {
-    ghost use Rattle.fmp_hostrun.specs.Boards.{GaveBack};
+impl<B: Feed> Promise<Worked> for GivesBack<B> {
+    ghost use Rattle.fmp_hostrun.specs.Visits.{GaveBack};
 
-    ghost kept_by = { λ p r. GaveBack p.seat.value r.seat r.journaled };
+    ghost kept_by = { λ p r. GaveBack B.image B.bound B.row_id p.seat.value r.seat r.journaled };
 }
 
-type Handles = Vec<PromisedHandle<Worked, GivesBack>>;
+type Handles<B> = Vec<PromisedHandle<Worked, GivesBack<B>>>;
 
 /// What the threads of a board are to do.
 #[derive(Clone, Copy)]
@@ -67,7 +71,7 @@ fn work<B: Feed, G: Gate, R: Wait>(
     part: Part,
 ) -> Worked
     requires { IsAt B.row_id seat }
-    ensures { GaveBack seat result.seat result.journaled }
+    ensures { GaveBack B.image B.bound B.row_id seat result.seat result.journaled }
 {
     let journaled = run_part(rt, board, gate, &mut seat, part);
     Worked { seat, journaled }
@@ -86,13 +90,13 @@ fn with_more(
 }
 
 /// Joins threads in order: their seats, and how many of their events were journaled, or the first fault.
-fn joined<R: Threads>(
+fn joined<B: Feed, R: Threads>(
     rt: &R,
-    handles: Handles,
+    handles: Handles<B>,
     mut back: Vec<Seat>,
 ) -> (Vec<Seat>, Result<u32, BoardFault>)
     requires { (back.items ≡ []) × (vec_len handles ≤ vec_capacity back) }
-    ensures seats { result.0.items ≡ map (λ h. h.promise.seat.value) handles.items }
+    ensures seats { AllZip (Kept B.image B.bound B.row_id) (map (λ h. h.promise.seat.value) handles.items) result.0.items }
     ensures capacity { vec_capacity result.0 ≡ vec_capacity back }
     ensures fault { IfErr result.1 IsTurnFault }
 {
@@ -118,14 +122,14 @@ fn with_seats(mut back: Vec<Seat>, more: Vec<Seat>) -> Vec<Seat>
 
 /// The lists that the threads of a board need, with room for each of its seats.
 #[derive(Drop)]
-struct Lists {
-    handles: Handles,
+struct Lists<B: Feed> {
+    handles: Handles<B>,
     spared: Vec<Seat>,
     back: Vec<Seat>,
 }
 
-impl Lists {
-    fn new(alloc: Global, count: usize) -> Result<Lists, AllocError>
+impl<B: Feed> Lists<B> {
+    fn new(alloc: Global, count: usize) -> Result<Lists<B>, AllocError>
         ensures handles { IfOk result (λ l. (l.handles.items ≡ []) × (count ≤ vec_capacity l.handles)) }
         ensures spared { IfOk result (λ l. (l.spared.items ≡ []) × (count ≤ vec_capacity l.spared)) }
         ensures back { IfOk result (λ l. (l.back.items ≡ []) × (count ≤ vec_capacity l.back)) }
@@ -145,14 +149,14 @@ fn run_threads<B: Feed + Sync, G: Gate, R: Threads + Wait + Sync>(
     board: &B,
     gate: &G,
     seats: Vec<Seat>,
-    lists: Lists,
+    lists: Lists<B>,
     load: Load,
 ) -> (Vec<Seat>, Result<u32, BoardFault>)
     requires seats { All (IsAt B.row_id) seats.items }
     requires handles { (lists.handles.items ≡ []) × (vec_len seats ≤ vec_capacity lists.handles) }
     requires spared { (lists.spared.items ≡ []) × (vec_len seats ≤ vec_capacity lists.spared) }
     requires back { (lists.back.items ≡ []) × (vec_len seats ≤ vec_capacity lists.back) }
-    ensures { AreRun seats.items result.0.items result.1 }
+    ensures { AreRun B.image B.bound B.row_id seats.items result.0.items result.1 }
 {
     thread::scope(
         thread::scope_env(),
@@ -162,7 +166,7 @@ fn run_threads<B: Feed + Sync, G: Gate, R: Threads + Wait + Sync>(
             requires handles { (lists.handles.items ≡ []) × (vec_len seats ≤ vec_capacity lists.handles) }
             requires spared { (lists.spared.items ≡ []) × (vec_len seats ≤ vec_capacity lists.spared) }
             requires back { (lists.back.items ≡ []) × (vec_len seats ≤ vec_capacity lists.back) }
-            ensures { AreRun seats.items result.0.items result.1 }
+            ensures { AreRun B.image B.bound B.row_id seats.items result.0.items result.1 }
         {
             let Lists {
                 mut handles,
@@ -178,12 +182,13 @@ fn run_threads<B: Feed + Sync, G: Gate, R: Threads + Wait + Sync>(
                 let part = load.part(handles.len());
                 let promise = GivesBack {
                     seat: Snapshot::of(&seat),
+                    board: PhantomData,
                 };
                 let started = scope.spawn_with(
                     promise,
                     move || -> Worked
                         requires { IsAt B.row_id seat }
-                        ensures { GaveBack seat result.seat result.journaled }
+                        ensures { GaveBack B.image B.bound B.row_id seat result.seat result.journaled }
                     { work(rt, board, gate, seat, part) },
                 );
                 match started {
@@ -205,7 +210,8 @@ fn run_threads<B: Feed + Sync, G: Gate, R: Threads + Wait + Sync>(
 /// Runs a board by threads: one for each processor makes so many turns, in each of which it draws a ticket, makes its
 /// stretch outside the lock, asks the gate, submits the outcome and tells the gate; and one more feeds so many ticks. A
 /// turn in which the processor has no actor is over, and so is one whose outcome is stale. The seats are one for each
-/// processor, in order, and one for the ticks; they come back in their order. The answer is how many events were
+/// processor, in order, and one for the ticks; they come back in their order, each of which has seen what its calls showed
+/// it. The answer is how many events were
 /// journaled by this call.
 ///
 /// `BoardFault::Limit`, exactly where the seats are not so many; `BoardFault::Memory`, for want of memory, before any
@@ -213,6 +219,7 @@ fn run_threads<B: Feed + Sync, G: Gate, R: Threads + Wait + Sync>(
 /// joined, and the seat of the refused one is lost. Else, where threads stopped at a fault, `BoardFault::Full` or
 /// `BoardFault::Held` (the gate said no 10,000 times), it is that of the least processor, or at last of the ticks. What
 /// was journaled before a fault stands.
+#[tactic(auto, using(crate::proofs::Starting::all_at, crate::proofs::Starting::same_count, crate::proofs::Starting::all_as_they_were))]
 pub fn run_all<S: Site + Send + Sync, G: Gate, R: Threads + Wait + Sync>(
     rt: &R,
     alloc: Global,
@@ -224,7 +231,9 @@ pub fn run_all<S: Site + Send + Sync, G: Gate, R: Threads + Wait + Sync>(
 ) -> (Vec<Seat>, Result<u32, BoardFault>)
     requires { All (IsAt S.row_id) seats.items }
     ensures limit { (result.1 ≡ Err Limit) ↔ (length seats.items ≢ S.image.system.processors + 1) }
-    ensures seats { CameBack seats.items result.0.items result.1 }
+    ensures seats { CameBack (Kept S.image S.bound S.row_id) seats.items result.0.items result.1 }
+    ensures at { All (IsAt S.row_id) result.0.items }
+    ensures count { IfOk result.1 (λ _. length result.0.items ≡ length seats.items) }
 {
     let processors = board.processors();
     if seats.len() != processors as usize + 1 {

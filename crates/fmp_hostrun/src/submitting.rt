@@ -4,8 +4,8 @@ ghost use Rattle.fmp_base.specs.declared.events.Event.TheVariants.{Run};
 ghost use Rattle.fmp_row.specs.Seats.{events};
 ghost use Rattle.fmp_row.specs.Words.{entry};
 ghost use Rattle.fmp_hostrun.specs.Boards.{IsJournal};
-ghost use Rattle.fmp_hostrun.specs.Outcomes.{AnsweredAfter, IsDrawn, IsTicketOf, IsWhyRefused, Submitted, actor_after, stamp_after};
-ghost use Rattle.fmp_hostrun.specs.Receipts.{journal_after, receipt_of};
+ghost use Rattle.fmp_hostrun.specs.Outcomes.{AnsweredAfter, Drew, IsDrawn, IsTicketOf, IsWhyRefused, actor_after, stamp_after};
+ghost use Rattle.fmp_hostrun.specs.Receipts.{journal_after, marks_after, receipt_of};
 ghost use Rattle.fmp_hostrun.specs.Replays.{reaction};
 
 use crate::book::Book;
@@ -21,9 +21,7 @@ impl<'a, S: Site> Book<'a, S> {
     /// A ticket for the stretch that the actor of processor p makes next. None where there is no such processor, or it
     /// has no actor.
     pub fn ticket(&self, p: u8) -> Option<Ticket<'a>>
-        ensures ticket { MatchOption result (actor_after S.image S.bound self.now.journal p ≡ None)
-            (λ t. IsTicketOf S.image S.bound t × (t.processor ≡ p)
-            × (actor_after S.image S.bound self.now.journal p ≡ Some t.actor)) }
+        ensures ticket { Drew S.image S.bound self.now.journal p result }
         ensures legal { IsJournal S.image S.bound S.row_id.capacity S.row_id.seats self.now.journal }
     {
         if p as usize > self.kernel.tables().processor_count() {
@@ -61,6 +59,9 @@ impl<'a, S: Site> Book<'a, S> {
         ensures journal { OnOk result (self.new.journal
             ≡ journal_after self.old.journal (entry seat (Run outcome.ticket.processor))
             (reaction S.image S.bound (events self.old.journal) (Run outcome.ticket.processor))) }
+        ensures marks { OnOk result (self.new.marks
+            ≡ marks_after self.old.marks seat
+            (reaction S.image S.bound (events self.old.journal) (Run outcome.ticket.processor))) }
         ensures same { OnErr result (self.new ≡ self.old) }
         ensures legal { IsJournal S.image S.bound S.row_id.capacity S.row_id.seats self.old.journal }
     {
@@ -86,32 +87,5 @@ impl<'a, S: Site> Book<'a, S> {
                 })
             }
         }
-    }
-
-    /// Whether the processor of an outcome has just its actor, in the same context and with the same stamp.
-    fn has_actor(&self, outcome: &Outcome) -> bool
-        ensures test { MatchBool result
-            (actor_after S.image S.bound self.now.journal outcome.now.ticket.processor ≡ Some outcome.now.ticket.actor)
-            (actor_after S.image S.bound self.now.journal outcome.now.ticket.processor
-            ≢ Some outcome.now.ticket.actor) }
-        ensures legal { IsJournal S.image S.bound S.row_id.capacity S.row_id.seats self.now.journal }
-    {
-        match self.kernel.actor(outcome.processor()) {
-            Some(actor) => actor == outcome.actor(),
-            None => false,
-        }
-    }
-
-    /// `enter_outcome` for an outcome of which only the board is known, and not when its ticket was drawn. So its actor
-    /// is compared whole.
-    pub(crate) fn submit(&mut self, seat: u8, outcome: Outcome) -> Result<Receipt, BoardFault>
-        requires seat { seat < S.row_id.seats }
-        requires outcome { IsTicketOf S.image S.bound outcome.ticket }
-        ensures { Submitted S.image S.bound S.row_id.capacity S.row_id.seats outcome.ticket result }
-    {
-        if !self.has_actor(&outcome) {
-            return Err(BoardFault::Stale);
-        }
-        self.enter_outcome(seat, outcome)
     }
 }

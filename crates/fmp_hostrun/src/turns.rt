@@ -2,6 +2,7 @@
 ghost use Rattle.std.specs.Prelude.{◌≡◌, ◌≤◌, ◌+◌, ◌⊎◌, IfOk, IfErr};
 ghost use Rattle.fmp_hostrun.specs.declared.fault.BoardFault.TheVariants.{Full, Held};
 ghost use Rattle.fmp_hostrun.specs.Boards.{IsAt, IsTurnFault};
+ghost use Rattle.fmp_hostrun.specs.Visits.{Kept};
 
 use crate::fault::BoardFault;
 use crate::feed::Feed;
@@ -44,6 +45,7 @@ fn is_let<G: Gate>(gate: &G, p: u8, turn: u32) -> bool {
 
 /// One turn of processor p: whether an event was journaled. Its stretch is made outside the board's lock, and handed in
 /// once the gate lets the turn go on; a stale one is dropped. Without an actor the turn is over.
+#[tactic(auto, using(crate::proofs::Visiting::kept_none, crate::proofs::Visiting::kept_more, crate::proofs::Visiting::kept_on))]
 fn take_turn<B: Feed, G: Gate, R: Wait>(
     rt: &R,
     board: &B,
@@ -53,7 +55,8 @@ fn take_turn<B: Feed, G: Gate, R: Wait>(
     turn: u32,
 ) -> Result<bool, BoardFault>
     requires { IsAt B.row_id seat.old }
-    ensures seat { seat.new ≡ seat.old }
+    ensures at { IsAt B.row_id seat.new }
+    ensures kept { Kept B.image B.bound B.row_id seat.old seat.new }
     ensures fault { IfErr result IsTurnFault }
 {
     let Some(outcome) = board.outcome(rt, seat, p) else {
@@ -72,6 +75,7 @@ fn take_turn<B: Feed, G: Gate, R: Wait>(
 }
 
 /// The turns of processor p: how many of its events were journaled.
+#[tactic(auto, using(crate::proofs::Visiting::kept_none, crate::proofs::Visiting::kept_more, crate::proofs::Visiting::kept_on))]
 fn run_turns<B: Feed, G: Gate, R: Wait>(
     rt: &R,
     board: &B,
@@ -81,7 +85,8 @@ fn run_turns<B: Feed, G: Gate, R: Wait>(
     turns: u32,
 ) -> Result<u32, BoardFault>
     requires { IsAt B.row_id seat.old }
-    ensures seat { seat.new ≡ seat.old }
+    ensures at { IsAt B.row_id seat.new }
+    ensures kept { Kept B.image B.bound B.row_id seat.old seat.new }
     ensures most { IfOk result (λ journaled. journaled ≤ turns) }
     ensures fault { IfErr result IsTurnFault }
 {
@@ -95,6 +100,7 @@ fn run_turns<B: Feed, G: Gate, R: Wait>(
 }
 
 /// Feeds ticks: how many of them were journaled.
+#[tactic(auto, using(crate::proofs::Visiting::kept_none, crate::proofs::Visiting::kept_more, crate::proofs::Visiting::kept_on))]
 fn run_ticks<B: Feed, R: Wait>(
     rt: &R,
     board: &B,
@@ -102,7 +108,8 @@ fn run_ticks<B: Feed, R: Wait>(
     ticks: u32,
 ) -> Result<u32, BoardFault>
     requires { IsAt B.row_id seat.old }
-    ensures seat { seat.new ≡ seat.old }
+    ensures at { IsAt B.row_id seat.new }
+    ensures kept { Kept B.image B.bound B.row_id seat.old seat.new }
     ensures most { IfOk result (λ journaled. journaled ≤ ticks) }
     ensures fault { IfErr result IsTurnFault }
 {
@@ -125,7 +132,8 @@ pub(crate) fn run_part<B: Feed, G: Gate, R: Wait>(
     part: Part,
 ) -> Result<u32, BoardFault>
     requires { IsAt B.row_id seat.old }
-    ensures seat { seat.new ≡ seat.old }
+    ensures at { IsAt B.row_id seat.new }
+    ensures kept { Kept B.image B.bound B.row_id seat.old seat.new }
     ensures fault { IfErr result IsTurnFault }
 {
     match part {

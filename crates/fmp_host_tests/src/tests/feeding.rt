@@ -45,7 +45,7 @@ fn fed<'a, S: Site, R: Wait>(
     for _ in 0..times {
         answers.push(board.feed(rt, &mut seat, Event::Run(1)))?;
     }
-    Ok((answers, board.close()))
+    Ok((answers, board.close(&mut seat)))
 }
 
 /// The numbers of receipts, and the names of refusals.

@@ -3,6 +3,7 @@ ghost use Rattle.std.specs.Prelude.{◌≡◌, All, IfOk};
 ghost use Rattle.fmp_hostrun.specs.Boards.{IsAt, blank as blank_of};
 
 use crate::SecondFirst;
+use crate::tests::feeding::one;
 use crate::tests::showing::{BOUND, Seen, board_of, image_of};
 use fmp_engine::sim;
 use fmp_hostrun::{Blank, Board, BoardFault, Closed, Seat, Site, run_all};
@@ -20,6 +21,25 @@ CLASS(TCL_2) { CRE_TSK(B,{TA_ACT,0,b,10,256,NULL}); }";
 
 pub const TASKS: &str = "task a { var v; st_shr(W,5); ld_shr(W,&v); put(v); } task b { put(9); }";
 
+/// The texts of a task that another one, of another processor, suspends and resumes.
+pub const SUSPENDED: (&str, &str) = (
+    "NUM_PRC(2);
+CLASS(TCL_1) { CRE_TSK(T,{TA_ACT,0,t,10,256,NULL}); }
+CLASS(TCL_2) { CRE_TSK(S,{TA_ACT,0,s,10,256,NULL}); }",
+    "task t { put(1); } task s { sus_tsk(T); rsm_tsk(T); }",
+);
+
+/// How a board of two processors is run.
+#[derive(Clone, Copy)]
+struct Schedule {
+    /// How many events it has room for.
+    capacity: u32,
+    /// How many turns each processor has.
+    turns: u32,
+    /// For how many turns of processor 2 the first one of processor 1 is held.
+    held: u32,
+}
+
 /// Runs a board by threads at this gate: what was answered, and the closed board.
 fn run<'a, S: Site + Send + Sync, R: Threads + Wait + Sync>(
     rt: &R,
@@ -28,28 +48,29 @@ fn run<'a, S: Site + Send + Sync, R: Threads + Wait + Sync>(
     seats: Vec<Seat>,
     gate: &SecondFirst,
     turns: u32,
-) -> (Result<u32, BoardFault>, Closed<'a>)
+) -> Result<(Result<u32, BoardFault>, Closed<'a>), Fail>
     requires blank { blank ≡ blank_of S.image S.bound S.row_id }
     requires seats { All (IsAt S.row_id) seats.items }
-    ensures { result.1.kernel.system ≡ S.image.system }
+    ensures { IfOk result (λ r. r.1.kernel.system ≡ S.image.system) }
 {
     let board: Board<'a, S> = blank.open();
-    let (_, journaled) = run_all(rt, alloc, &board, gate, seats, turns, 0);
-    (journaled, board.close())
+    let (mut seats, journaled) = run_all(rt, alloc, &board, gate, seats, turns, 0);
+    let mut seat = one::<S>(&mut seats).ok_or("a seat")?;
+    Ok((journaled, board.close(&mut seat)))
 }
 
-/// Runs a board of an image of two processors with four turns each, at a gate: how many events were journaled, and the
-/// board then.
+/// Runs a board of an image of two processors: how many events were journaled, and the board then.
 fn run_both<'a, R: Threads + Wait + Sync>(
     rt: &R,
     alloc: Global,
     image: &'a Image,
-    gate: &SecondFirst,
+    schedule: Schedule,
 ) -> Result<(Result<u32, BoardFault>, Closed<'a>), Fail>
     ensures { IfOk result (λ r. r.1.kernel.system ≡ image.now.system) }
 {
-    let (blank, seats) = board_of(alloc, image, BOUND, 8, 3)?;
-    Ok(run::<Brand, R>(rt, alloc, blank, seats, gate, 4))
+    let gate = SecondFirst::new(schedule.held);
+    let (blank, seats) = board_of(alloc, image, BOUND, schedule.capacity, 3)?;
+    run::<Brand, R>(rt, alloc, blank, seats, &gate, schedule.turns)
 }
 
 /// How many events were journaled, or the name of a refusal.
@@ -65,8 +86,9 @@ fn seen_of_both<R: Threads + Wait + Sync>(
     rt: &R,
     alloc: Global,
     image: &Image,
+    schedule: Schedule,
 ) -> Result<Seen, Fail> {
-    let (journaled, closed) = run_both(rt, alloc, image, &SecondFirst::new())?;
+    let (journaled, closed) = run_both(rt, alloc, image, schedule)?;
     let answers = journaled_text(alloc, journaled)?;
     Seen::of(alloc, answers, image, &closed)
 }
@@ -84,11 +106,11 @@ fn simulated(alloc: Global, image: &Image, steps: &str) -> Result<String, Fail> 
     Ok(String::from_str(alloc, str::from_utf8(&out)?)?)
 }
 
-/// The calls and the end of task A of processor 1 in a trace.
-fn lines_of_a(alloc: Global, trace: &str) -> Result<String, Fail> {
+/// The lines of a task in a trace, behind its processor and its name.
+fn lines_of(alloc: Global, trace: &str, task: &str) -> Result<String, Fail> {
     let mut lines = String::new(alloc);
     for line in trace.lines() {
-        if let Some((_, rest)) = line.split_once(" p1 A ") {
+        if let Some((_, rest)) = line.split_once(task) {
             lines.push_str(rest)?;
             lines.push_str("\n")?;
         }
@@ -100,16 +122,71 @@ fn lines_of_a(alloc: Global, trace: &str) -> Result<String, Fail> {
 fn processors_that_wait_for_one_another(rt: HostRuntime) -> Result<(), Fail> {
     let alloc = rt.alloc();
     let image = image_of(alloc, CONFIGURATION, TASKS)?;
-    let seen = seen_of_both(&rt, alloc, &image)?;
+    let schedule = Schedule {
+        capacity: 8,
+        turns: 4,
+        held: 1,
+    };
+    let seen = seen_of_both(&rt, alloc, &image, schedule)?;
     assert_eq!(rt; seen.answers.as_str(), "6");
     assert_eq!(rt; seen.journal.lines().count(), 6);
     assert!(rt; seen.journal.as_str().starts_with("run 2\n"));
     assert_eq!(rt; seen.states.as_str(), "A DORMANT p1 10\nB DORMANT p2 10\n");
     let printed = simulated(alloc, &image, seen.journal.as_str())?;
     assert_eq!(rt;
-        lines_of_a(alloc, printed.as_str())?.as_str(),
+        lines_of(alloc, printed.as_str(), " p1 A ")?.as_str(),
         "starts\nst_shr(1,5) E_OK\nld_shr(1) E_OK 5\nput(5) E_OK\nend\n"
     );
     assert!(rt; printed.as_str().ends_with(seen.states.as_str()));
+    Ok(())
+}
+
+/// What is seen of a board whose second processor suspends and resumes the first one's task before that one's first
+/// outcome is submitted, and the lines of that task.
+fn seen_of_suspended<R: Threads + Wait + Sync>(
+    rt: &R,
+    alloc: Global,
+    capacity: u32,
+    turns: u32,
+) -> Result<(Seen, String), Fail> {
+    let (configuration, tasks) = SUSPENDED;
+    let image = image_of(alloc, configuration, tasks)?;
+    let schedule = Schedule {
+        capacity,
+        turns,
+        held: 2,
+    };
+    let seen = seen_of_both(rt, alloc, &image, schedule)?;
+    let printed = simulated(alloc, &image, seen.journal.as_str())?;
+    let lines = lines_of(alloc, printed.as_str(), " p1 T ")?;
+    Ok((seen, lines))
+}
+
+#[test]
+fn a_stale_outcome_ends_its_turn(rt: HostRuntime) -> Result<(), Fail> {
+    let (seen, lines) = seen_of_suspended(&rt, rt.alloc(), 6, 3)?;
+    assert_eq!(rt; seen.answers.as_str(), "5");
+    assert!(rt; seen.journal.as_str().starts_with("run 2\nrun 2\n"));
+    assert_eq!(rt; lines.as_str(), "starts\nput(1) E_OK\nend\n");
+    assert_eq!(rt; seen.states.as_str(), "T DORMANT p1 10\nS DORMANT p2 10\n");
+    Ok(())
+}
+
+#[test]
+fn threads_that_fill_a_board(rt: HostRuntime) -> Result<(), Fail> {
+    let (seen, _lines) = seen_of_suspended(&rt, rt.alloc(), 4, 3)?;
+    assert_eq!(rt; seen.answers.as_str(), "H2");
+    assert_eq!(rt; seen.journal.lines().count(), 4);
+    assert!(rt; seen.journal.as_str().starts_with("run 2\nrun 2\n"));
+    Ok(())
+}
+
+#[test]
+fn two_turns_of_which_one_is_stale(rt: HostRuntime) -> Result<(), Fail> {
+    let (seen, lines) = seen_of_suspended(&rt, rt.alloc(), 6, 2)?;
+    assert_eq!(rt; seen.answers.as_str(), "3");
+    assert_eq!(rt; seen.journal.as_str(), "run 2\nrun 2\nrun 1\n");
+    assert_eq!(rt; lines.as_str(), "starts\nput(1) E_OK\n");
+    assert_eq!(rt; seen.states.as_str(), "T RUNNING p1 10\nS RUNNING p2 10\n");
     Ok(())
 }

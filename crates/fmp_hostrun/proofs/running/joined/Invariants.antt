@@ -1,13 +1,21 @@
-use Rattle.std.proofs.Common.{◌≡◌, ◌+◌, ◌≤◌, ◌++◌, IfErr, map, length, vec_len, vec_capacity}
+use Rattle.std.proofs.Common.{◌≡◌, ◌+◌, ◌≤◌, ◌++◌, List, IfErr, map, length, vec_len, vec_capacity}
+use Rattle.std.specs.List.{AllZip}
 use Rattle.std.specs.Vec.Iter.{into_iter_items, into_iter_len}
+use Rattle.fmp_row.specs.Seats.{SeatState}
 use Rattle.fmp_hostrun.specs.Boards.{IsTurnFault}
+use Rattle.fmp_hostrun.specs.Visits.{Kept}
 use Rattle.fmp_hostrun.proofs.running.joined.Given as goal
 
+-- the seats so far are those of the first handles
 abbrev pub invariant-loop-handle : goal.invariant-loop-handle
 invariant-loop-handle g l =
     let rest = l.handle-iterator in
-    (l.back.items ++ map (λ h. h.promise.seat.value) (into_iter_items rest) ≡ map (λ h. h.promise.seat.value) l.fn.handles.items)
-    × (into_iter_len rest ≡ length (into_iter_items rest))
-    × (vec_len l.back + into_iter_len rest ≤ vec_capacity l.back)
-    × (vec_capacity l.back ≡ vec_capacity l.fn.back)
-    × IfErr l.journaled IsTurnFault
+    record {
+      first : List SeatState;
+      are : first ++ map (λ h. h.promise.seat.value) (into_iter_items rest) ≡ map (λ h. h.promise.seat.value) l.fn.handles.items;
+      kept : AllZip (Kept g.B.Feed.image g.B.Feed.bound g.B.Feed.row_id) first l.back.items;
+      size : into_iter_len rest ≡ length (into_iter_items rest);
+      room : vec_len l.back + into_iter_len rest ≤ vec_capacity l.back;
+      capacity : vec_capacity l.back ≡ vec_capacity l.fn.back;
+      fault : IfErr l.journaled IsTurnFault;
+    }

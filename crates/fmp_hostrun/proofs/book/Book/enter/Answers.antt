@@ -6,7 +6,7 @@ use Rattle.fmp_row.specs.declared.entry.JournalEntry.{JournalEntry}
 use Rattle.fmp_row.specs.Seats.{events}
 use Rattle.fmp_row.specs.Words.{entry}
 use Rattle.fmp_hostrun.specs.Boards.{IsReplay}
-use Rattle.fmp_hostrun.specs.Receipts.{call_reply, journal_after}
+use Rattle.fmp_hostrun.specs.Receipts.{call_reply, journal_after, marks_after}
 use Rattle.fmp_hostrun.specs.Replays.{reaction}
 use Rattle.fmp_hostrun.proofs.Entering.{done_by, nothing_by, step_there, replay_more, receipt_done, receipt_nothing}
 use Rattle.fmp_hostrun.proofs.book.Book.enter.Goals as goal
@@ -47,6 +47,16 @@ returns-in-Nothing-clause-journal g c =
     let was : c.args.self.now.journal ≡ c.self.inside.scribe.journal = search rules in
     rw was (sym (ap (journal_after journal (entry c.args.seat c.args.event)) (sym there ∙ nothing_by _ (sym c.in-Nothing.is ∙ c.step.ensures.effect))))
 
+pub returns-in-Nothing-clause-marks : goal.returns-in-Nothing-clause-marks
+returns-in-Nothing-clause-marks g c =
+    let b = c.self.invariant in
+    let site = g.S.Site in
+    let journal = c.self.inside.scribe.journal in
+    let there = step_there site.image site.bound site.row_id.capacity site.row_id.seats c.self.inside.kernel journal c.args.event b.3 in
+    let was : c.args.self.now.journal ≡ c.self.inside.scribe.journal = search rules in
+    let marks : c.args.self.now.marks ≡ c.self.inside.scribe.marks = search rules in
+    rw marks (rw was (sym (ap (marks_after c.self.inside.scribe.marks c.args.seat) (sym there ∙ nothing_by _ (sym c.in-Nothing.is ∙ c.step.ensures.effect)))))
+
 pub returns-in-Done-clause-receipt : goal.returns-in-Done-clause-receipt
 returns-in-Done-clause-receipt g c =
     let b = c.self.invariant in
@@ -72,3 +82,16 @@ returns-in-Done-clause-journal g c =
     sym (step_there site.image site.bound site.row_id.capacity site.row_id.seats kernel journal c.args.event b.3) ∙ done.1 in
     let was : c.args.self.now.journal ≡ c.self.inside.scribe.journal = search rules in
     rw was (ap (λ v. v.journal) c.write.ensures ∙ sym (ap (journal_after journal (entry c.args.seat c.args.event)) there))
+
+pub returns-in-Done-clause-marks : goal.returns-in-Done-clause-marks
+returns-in-Done-clause-marks g c =
+    let b = c.self.invariant in
+    let site = g.S.Site in
+    let kernel = c.self.inside.kernel in
+    let journal = c.self.inside.scribe.journal in
+    let done = done_by (step kernel.system (code_meaning kernel.body) kernel.bound kernel.world c.args.event) (sym c.in-Done.is ∙ c.step.ensures.effect) in
+    let there : reaction site.image site.bound (events journal) c.args.event ≡ Did done.0 =
+    sym (step_there site.image site.bound site.row_id.capacity site.row_id.seats kernel journal c.args.event b.3) ∙ done.1 in
+    let was : c.args.self.now.journal ≡ c.self.inside.scribe.journal = search rules in
+    let marks : c.args.self.now.marks ≡ c.self.inside.scribe.marks = search rules in
+    rw marks (rw was (ap (λ v. v.marks) c.write.ensures ∙ sym (ap (marks_after c.self.inside.scribe.marks c.args.seat) there)))

@@ -9,7 +9,7 @@ use Rattle.fmp_row.specs.Seats.{events}
 use Rattle.fmp_row.specs.Words.{entry}
 use Rattle.fmp_hostrun.specs.Boards.{IsReplay}
 use Rattle.fmp_hostrun.specs.Outcomes.{actor_after}
-use Rattle.fmp_hostrun.specs.Receipts.{call_reply, journal_after}
+use Rattle.fmp_hostrun.specs.Receipts.{call_reply, journal_after, marks_after}
 use Rattle.fmp_hostrun.specs.Replays.{reaction}
 use Rattle.fmp_hostrun.proofs.Drawing.{outcome_runs, stamp_of_actor}
 use Rattle.fmp_hostrun.proofs.Entering.{done_by, nothing_by, replay_more, receipt_done, receipt_nothing}
@@ -52,6 +52,23 @@ returns-in-Nothing-clause-journal g c =
     ∙ ap (λ x. applied kernel.system (code_meaning kernel.body) kernel.world p x) c.stretch.ensures.ending
     ∙ outcome_runs site.image site.bound site.row_id.capacity site.row_id.seats kernel journal o b.3 c.stretch.ensures.outcome c.requires.drawn.is_of (rw was at here) in
     rw was (sym (ap (journal_after journal (entry c.args.seat (Run p))) (sym runs ∙ nothing_by _ (sym c.in-Nothing.is ∙ c.apply.ensures.effect))))
+
+pub returns-in-Nothing-clause-marks : goal.returns-in-Nothing-clause-marks
+returns-in-Nothing-clause-marks g c =
+    let b = c.self.invariant in
+    let site = g.S.Site in
+    let kernel = c.self.inside.kernel in
+    let journal = c.self.inside.scribe.journal in
+    let o = c.args.outcome in
+    let p = o.ticket.processor in
+    let was : c.args.self.now.journal ≡ journal = search rules in
+    let here : actor_after site.image site.bound c.args.self.now.journal p ≡ Some o.ticket.actor = search rules in
+    let runs : applied kernel.system (code_meaning kernel.body) kernel.world c.processor-2.result (ending c.stretch.result) ≡ reaction site.image site.bound (events journal) (Run p) =
+    ap (λ q. applied kernel.system (code_meaning kernel.body) kernel.world q (ending c.stretch.result)) c.processor-2.ensures
+    ∙ ap (λ x. applied kernel.system (code_meaning kernel.body) kernel.world p x) c.stretch.ensures.ending
+    ∙ outcome_runs site.image site.bound site.row_id.capacity site.row_id.seats kernel journal o b.3 c.stretch.ensures.outcome c.requires.drawn.is_of (rw was at here) in
+    let marks : c.args.self.now.marks ≡ c.self.inside.scribe.marks = search rules in
+    rw marks (rw was (sym (ap (marks_after c.self.inside.scribe.marks c.args.seat) (sym runs ∙ nothing_by _ (sym c.in-Nothing.is ∙ c.apply.ensures.effect)))))
 
 pub invariant_of-self-in-Done : goal.invariant_of-self-in-Done
 invariant_of-self-in-Done g c =
@@ -123,3 +140,21 @@ returns-clause-journal g c =
     let items : c.write.new.self.journal ≡ journal ++ entry c.args.seat (Run p) ∷ [] =
     ap (λ v. v.journal) c.write.ensures ∙ ap (λ (q : ℕ). journal ++ entry c.args.seat (Run q) ∷ []) c.processor.ensures in
     rw was (items ∙ sym (ap (journal_after journal (entry c.args.seat (Run p))) (sym runs ∙ done.1)))
+
+pub returns-clause-marks : goal.returns-clause-marks
+returns-clause-marks g c =
+    let b = c.self.invariant in
+    let site = g.S.Site in
+    let kernel = c.self.inside.kernel in
+    let journal = c.self.inside.scribe.journal in
+    let o = c.args.outcome in
+    let p = o.ticket.processor in
+    let was : c.args.self.now.journal ≡ journal = search rules in
+    let here : actor_after site.image site.bound c.args.self.now.journal p ≡ Some o.ticket.actor = search rules in
+    let runs : applied kernel.system (code_meaning kernel.body) kernel.world c.processor-2.result (ending c.stretch.result) ≡ reaction site.image site.bound (events journal) (Run p) =
+    ap (λ q. applied kernel.system (code_meaning kernel.body) kernel.world q (ending c.stretch.result)) c.processor-2.ensures
+    ∙ ap (λ x. applied kernel.system (code_meaning kernel.body) kernel.world p x) c.stretch.ensures.ending
+    ∙ outcome_runs site.image site.bound site.row_id.capacity site.row_id.seats kernel journal o b.3 c.stretch.ensures.outcome c.requires.drawn.is_of (rw was at here) in
+    let done = done_by (applied kernel.system (code_meaning kernel.body) kernel.world c.processor-2.result (ending c.stretch.result)) (sym c.in-Done.is ∙ c.apply.ensures.effect) in
+    let marks : c.args.self.now.marks ≡ c.self.inside.scribe.marks = search rules in
+    rw marks (rw was (ap (λ v. v.marks) c.write.ensures ∙ sym (ap (marks_after c.self.inside.scribe.marks c.args.seat) (sym runs ∙ done.1))))

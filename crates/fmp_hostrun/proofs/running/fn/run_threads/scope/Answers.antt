@@ -50,6 +50,6 @@ loop-seat-preserved g c =
 pub returns-then-refused-2 : goal.returns-then-refused-2
 returns-then-refused-2 g c =
     let i = c.loop-seat.invariant in (
-      all_but_one _ _ _ _ _ _ _ c.if-refused-2.true i.started (sym i.size ∙ search rules) (search rules) (search rules),
+      all_but_one _ _ _ _ _ _ _ _ _ c.if-refused-2.true i.started (sym i.size ∙ search rules) (search rules) (search rules) c.joined-back.ensures.seats,
       search rules,
     )

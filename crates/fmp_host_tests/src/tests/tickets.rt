@@ -1,0 +1,220 @@
+//! Boards whose stretches are made outside the lock, and a seat that follows them.
+ghost use Rattle.std.specs.Prelude.{◌≡◌, All, IfOk, IfSome};
+ghost use Rattle.fmp_hostrun.specs.Boards.{IsAt, blank as blank_of};
+ghost use Rattle.fmp_hostrun.specs.Outcomes.{IsDrawn};
+ghost use mathlib.Core.List.{IsPrefix};
+
+use crate::tests::feeding::one;
+use crate::tests::hosting::{CONFIGURATION, SUSPENDED, TASKS};
+use crate::tests::showing::{BOUND, Seen, board_of, image_of, steps_of};
+use fmp_base::{Effect, Er, Event, Reply};
+use fmp_hostrun::{Blank, Board, BoardFault, Closed, Outcome, Receipt, Seat, Site};
+use fmp_image::Image;
+use std::alloc::Global;
+use std::marker::Brand;
+use std::process::Abort;
+use std::sync::Wait;
+use std::test::Fail;
+
+/// What was answered to the calls of a seat, and the events that another followed once they had met.
+#[derive(Drop)]
+struct Answers {
+    calls: Vec<Result<Receipt, BoardFault>>,
+    followed: Vec<Event>,
+}
+
+/// The outcome of the stretch that the actor of processor p makes next.
+fn outcome_of<S: Site, R: Wait>(
+    rt: &R,
+    board: &Board<'_, S>,
+    seat: &mut Seat,
+    p: u8,
+) -> Result<Outcome, Fail>
+    requires { IsAt S.row_id seat.old }
+    ensures at { IsAt S.row_id seat.new }
+    ensures drawn { IfOk result (λ o. IsDrawn S.image S.bound seat.new.seen o.ticket) }
+    ensures grows { IsPrefix seat.old.seen seat.new.seen }
+{
+    let ticket = board.ticket(rt, seat, p).ok_or("a ticket")?;
+    Ok(ticket.stretch())
+}
+
+/// The events that a seat follows until its row has no more, at most so many.
+fn followed<S: Site>(
+    alloc: Global,
+    board: &Board<'_, S>,
+    seat: &mut Seat,
+    most: u32,
+) -> Result<Vec<Event>, Fail>
+    requires { IsAt S.row_id seat.old }
+{
+    let mut events = Vec::new(alloc);
+    for _ in 0..most {
+        let Some(event) = board.follow(seat) else {
+            break;
+        };
+        events.push(event)?;
+    }
+    Ok(events)
+}
+
+/// Feeds a run of processor 2 so often, and then submits both outcomes.
+#[tactic(auto, using(fmp_hostrun::proofs::Visiting::drawn_later, fmp_hostrun::proofs::Visiting::prefix_then))]
+fn submitted<S: Site, R: Wait>(
+    rt: &R,
+    alloc: Global,
+    board: &Board<'_, S>,
+    seat: &mut Seat,
+    runs: u32,
+    first: Outcome,
+    second: Outcome,
+) -> Result<Vec<Result<Receipt, BoardFault>>, Fail>
+    requires at { IsAt S.row_id seat.old }
+    requires first { IsDrawn S.image S.bound seat.old.seen first.ticket }
+    requires second { IsDrawn S.image S.bound seat.old.seen second.ticket }
+    ensures { IsAt S.row_id seat.new }
+{
+    let mut calls = Vec::with_capacity(alloc, runs as usize + 2)?;
+    for _ in 0..runs {
+        calls.push(board.feed(rt, seat, Event::Run(2)))?;
+    }
+    let answer = board.submit(rt, seat, first);
+    let again = board.submit(rt, seat, second);
+    calls.push(answer)?;
+    calls.push(again)?;
+    Ok(calls)
+}
+
+/// Makes the same stretch of processor 1 twice, has processor 2 run so often, and then submits both outcomes. Another
+/// seat meets this one, and follows.
+fn answers_of<S: Site, R: Wait>(
+    rt: &R,
+    alloc: Global,
+    board: &Board<'_, S>,
+    seat: &mut Seat,
+    reader: &mut Seat,
+    runs: u32,
+) -> Result<Answers, Fail>
+    requires seat { IsAt S.row_id seat.old }
+    requires reader { IsAt S.row_id reader.old }
+    ensures { IsAt S.row_id seat.new }
+{
+    let first = outcome_of(rt, board, seat, 1)?;
+    let second = outcome_of(rt, board, seat, 1)?;
+    let calls = submitted(rt, alloc, board, seat, runs, first, second)?;
+    board.meet(rt, seat, reader);
+    let followed = followed(alloc, board, reader, 8)?;
+    Ok(Answers { calls, followed })
+}
+
+/// Opens a board, and closes it after the calls of its two seats: what they were answered, and the board then.
+fn answered<'a, S: Site, R: Wait>(
+    rt: &R,
+    alloc: Global,
+    blank: Blank<'a>,
+    mut seat: Seat,
+    mut reader: Seat,
+    runs: u32,
+) -> (Result<Answers, Fail>, Closed<'a>)
+    requires blank { blank ≡ blank_of S.image S.bound S.row_id }
+    requires seat { IsAt S.row_id seat }
+    requires reader { IsAt S.row_id reader }
+    ensures { result.1.kernel.system ≡ S.image.system }
+{
+    let board: Board<'a, S> = blank.open();
+    let answers = answers_of(rt, alloc, &board, &mut seat, &mut reader, runs);
+    (answers, board.close(&mut seat))
+}
+
+/// Takes the two seats of a board that is not yet open.
+fn opened<'a, S: Site, R: Wait>(
+    rt: &R,
+    alloc: Global,
+    blank: Blank<'a>,
+    mut seats: Vec<Seat>,
+    runs: u32,
+) -> Result<(Answers, Closed<'a>), Fail>
+    requires blank { blank ≡ blank_of S.image S.bound S.row_id }
+    requires seats { All (IsAt S.row_id) seats.items }
+    ensures { IfOk result (λ r. r.1.kernel.system ≡ S.image.system) }
+{
+    let reader = one::<S>(&mut seats).ok_or("a seat")?;
+    let seat = one::<S>(&mut seats).ok_or("a seat")?;
+    let (answers, closed) = answered::<S, R>(rt, alloc, blank, seat, reader, runs);
+    Ok((answers?, closed))
+}
+
+/// What a board of an image with room for k events answers to stretches that were made outside its lock, and the board
+/// then.
+fn answered_by<'a, R: Wait>(
+    rt: &R,
+    alloc: Global,
+    image: &'a Image,
+    k: u32,
+    runs: u32,
+) -> Result<(Answers, Closed<'a>), Fail>
+    ensures { IfOk result (λ r. r.1.kernel.system ≡ image.now.system) }
+{
+    let (blank, seats) = board_of(alloc, image, BOUND, k, 2)?;
+    opened::<Brand, R>(rt, alloc, blank, seats, runs)
+}
+
+/// What was answered, the events that were followed, and the journal and the states in the end.
+fn seen_of<R: Wait>(
+    rt: &R,
+    alloc: Global,
+    texts: (&str, &str),
+    k: u32,
+    runs: u32,
+) -> Result<(Answers, Seen), Fail> {
+    let (configuration, tasks) = texts;
+    let image = image_of(alloc, configuration, tasks)?;
+    let (answers, closed) = answered_by(rt, alloc, &image, k, runs)?;
+    let seen = Seen::of(alloc, String::new(alloc), &image, &closed)?;
+    Ok((answers, seen))
+}
+
+/// What is answered to the event at this place of the journal, from 1, whose call replies E_OK.
+fn done(number: u32) -> Result<Receipt, BoardFault> {
+    Ok(Receipt {
+        number,
+        effect: Effect::Done,
+        reply: Some(Reply {
+            code: Er::Ok,
+            value: None,
+        }),
+    })
+}
+
+#[test]
+fn an_outcome_after_another_processors_run(rt: HostRuntime) -> Result<(), Fail> {
+    let alloc = rt.alloc();
+    let (answers, seen) = seen_of(&rt, alloc, (CONFIGURATION, TASKS), 8, 1)?;
+    // The processor has gone on since the second ticket was drawn.
+    let expected = [done(1), done(2), Err(BoardFault::Stale)];
+    assert_eq!(rt; answers.calls.as_slice(), expected.as_slice());
+    assert_eq!(rt;
+        steps_of(alloc, &answers.followed)?.as_str(),
+        "run 2\nrun 1\n"
+    );
+    assert_eq!(rt; seen.journal.as_str(), "run 2\nrun 1\n");
+    assert_eq!(rt; seen.states.as_str(), "A RUNNING p1 10\nB RUNNING p2 10\n");
+    Ok(())
+}
+
+#[test]
+fn an_outcome_of_a_task_that_was_suspended_and_resumed(rt: HostRuntime) -> Result<(), Fail> {
+    let alloc = rt.alloc();
+    let (answers, seen) = seen_of(&rt, alloc, SUSPENDED, 2, 2)?;
+    // The actor is the same, and the row is full.
+    let stale = Err(BoardFault::Stale);
+    let expected = [done(1), done(2), stale, stale];
+    assert_eq!(rt; answers.calls.as_slice(), expected.as_slice());
+    assert_eq!(rt;
+        steps_of(alloc, &answers.followed)?.as_str(),
+        "run 2\nrun 2\n"
+    );
+    assert_eq!(rt; seen.journal.as_str(), "run 2\nrun 2\n");
+    assert_eq!(rt; seen.states.as_str(), "T RUNNING p1 10\nS RUNNING p2 10\n");
+    Ok(())
+}
