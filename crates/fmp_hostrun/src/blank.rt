@@ -102,32 +102,8 @@ impl<'a> Blank<'a> {
         }
     }
 
-    /// A blank with this kernel, and its seats.
+    /// All that a board takes in memory, the kernel last.
     #[tactic(auto, using(crate::proofs::Blanks::range_of, crate::proofs::Blanks::room_of))]
-    fn with_kernel(
-        alloc: Global,
-        image: &'a Image,
-        kernel: Kernel<Vm<'a>>,
-        n: u64,
-        k: u32,
-        m: u8,
-    ) -> Result<(Blank<'a>, Vec<Seat>), AllocError>
-        requires range { InRange n k m }
-        requires kernel { (row : RowId) → IsReplay image.now n row.capacity row.seats kernel [] }
-        ensures blank { IfOk result (λ made. made.0 ≡ blank image.now n made.0.row) }
-        ensures row { IfOk result (λ made. (made.0.row.capacity ≡ k) × (made.0.row.seats ≡ m)) }
-        ensures seats { IfOk result (λ made. AreNew made.0.row made.1.items) }
-        ensures at { IfOk result (λ made. All (IsAt made.0.row) made.1.items) }
-    {
-        let room = Vec::with_capacity(alloc, k as usize)?;
-        let EmptyRow { row, scribe, seats } = EmptyRow::new(alloc, k, m)?;
-        Ok((
-            Blank::of(image, kernel, row, scribe, room, n, (k, m)),
-            seats,
-        ))
-    }
-
-    /// All that a board takes in memory.
     fn made(
         alloc: Global,
         image: &'a Image,
@@ -141,8 +117,13 @@ impl<'a> Blank<'a> {
         ensures seats { IfOk result (λ made. AreNew made.0.row made.1.items) }
         ensures at { IfOk result (λ made. All (IsAt made.0.row) made.1.items) }
     {
+        let room = Vec::with_capacity(alloc, k as usize)?;
+        let EmptyRow { row, scribe, seats } = EmptyRow::new(alloc, k, m)?;
         let kernel = kernel_of(alloc, image, n)?;
-        Blank::with_kernel(alloc, image, kernel, n, k, m)
+        Ok((
+            Blank::of(image, kernel, row, scribe, room, n, (k, m)),
+            seats,
+        ))
     }
 
     /// A board of an image that is not yet open, and its seats, numbered from 0: stretches of bodies take at most n
