@@ -174,6 +174,6 @@ impl<'a> Blank<'a> {
             seats,
         } = self;
         let book = Book::new(image, kernel, scribe, bound, capacity, seats);
-        Board::new(image, row, room, book)
+        Board::new(image, row, room, bound, book)
     }
 }

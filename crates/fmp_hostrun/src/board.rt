@@ -1,5 +1,5 @@
 //! A board that many threads share.
-ghost use Rattle.std.specs.Prelude.{◌≡◌, ◌≤◌, [], vec_capacity};
+ghost use Rattle.std.specs.Prelude.{◌≡◌, ◌≤◌, ◌^◌, [], vec_capacity};
 
 use crate::book::Book;
 use crate::closed::Closed;
@@ -20,14 +20,17 @@ pub struct Board<'a, S: Site> {
     image: &'a Image,
     row: Row,
     room: Vec<Event>,
+    bound: u64,
     desk: Mutex<Desk<'a, S>>,
     ghost image_is: { image.now ≡ S.image },
     ghost row_is: { row ≡ S.row_id },
     ghost room_is: { (room.items ≡ []) × (S.row_id.capacity ≤ vec_capacity room) },
+    ghost bound_is: { (bound ≡ S.bound) × (1 ≤ bound) × (bound ≤ 2 ^ 48) },
+    ghost most_is: { S.row_id.capacity ≤ 2 ^ 20 },
 }
 
 impl<'a, S: Site> Board<'a, S> {
-    ghost use Rattle.std.specs.Prelude.{◌≡◌, ◌+◌, ◌<◌, ◌≤◌, ◌++◌, [], ◌∷◌, length, None, IfNone, IfSome, vec_capacity};
+    ghost use Rattle.std.specs.Prelude.{◌≡◌, ◌+◌, ◌^◌, ◌<◌, ◌≤◌, ◌++◌, [], ◌∷◌, length, None, IfNone, IfSome, vec_capacity};
     ghost use mathlib.Core.List.{IsPrefix};
     ghost use Rattle.fmp_row.specs.Seats.{events, given};
     ghost use Rattle.fmp_row.specs.Views.{looked_at};
@@ -40,17 +43,21 @@ impl<'a, S: Site> Board<'a, S> {
         image: &'a Image,
         row: Row,
         room: Vec<Event>,
+        bound: u64,
         book: Book<'a, S>,
     ) -> Board<'a, S>
         requires image { image.now ≡ S.image }
         requires row { row ≡ S.row_id }
         requires room { (room.items ≡ []) × (S.row_id.capacity ≤ vec_capacity room) }
         requires book { book.marks ≡ [] }
+        requires bound { (bound ≡ S.bound) × (1 ≤ bound) × (bound ≤ 2 ^ 48) }
+        requires most { S.row_id.capacity ≤ 2 ^ 20 }
     {
         Board {
             image,
             row,
             room,
+            bound,
             desk: Mutex::new(Desk::new(book)),
         }
     }
@@ -60,6 +67,30 @@ impl<'a, S: Site> Board<'a, S> {
         ensures { result ≡ S.image.system.processors }
     {
         self.image.system().processors
+    }
+
+    /// The image that it runs.
+    pub fn image(&self) -> &'a Image
+        ensures { result.now ≡ S.image }
+    {
+        self.image
+    }
+
+    /// How many instructions a stretch of a body may take, 1 to 2^48.
+    pub fn bound(&self) -> u64
+        ensures value { result ≡ S.bound }
+        ensures low { 1 ≤ result }
+        ensures high { result ≤ 2 ^ 48 }
+    {
+        self.bound
+    }
+
+    /// How many events its journal has room for, at most 2^20.
+    pub fn capacity(&self) -> u32
+        ensures value { result ≡ S.row_id.capacity }
+        ensures most { result ≤ 2 ^ 20 }
+    {
+        self.row.capacity()
     }
 
     /// A ticket for the stretch that the actor of processor p makes next. None where there is no such processor, or it
@@ -169,6 +200,7 @@ impl<'a, S: Site> Board<'a, S> {
             image: _,
             row: _,
             room,
+            bound: _,
             desk,
         } = self;
         desk.into_inner().close(seat, room)
