@@ -98,8 +98,7 @@ fn run_board<'a, S: Site + Send + Sync, R: Threads + Wait + Sync>(
     ensures fault { IfErr result (λ f. f ≢ Limit) }
 {
     let board: Board<'a, S> = blank.open();
-    let (seats, journaled) =
-        run_all(rt, alloc, &board, &OpenGate, seats, work.turns, work.ticks);
+    let (seats, journaled) = run_all(rt, alloc, &board, &OpenGate, seats, work.turns, work.ticks);
     match journaled {
         Ok(_) => Ok(closed(board, seats)),
         Err(fault) => Err(fault),

@@ -27,8 +27,43 @@ pub fn one<S: Site>(seats: &mut Vec<Seat>) -> Option<Seat>
     seats.pop()
 }
 
-/// Feeds processor 1 so often by one seat: what was answered, and the closed board.
-fn fed<'a, S: Site, R: Wait>(
+/// Feeds processor 1 so often by one seat: what was answered.
+fn fed<S: Site, R: Wait>(
+    rt: &R,
+    alloc: Global,
+    board: &Board<'_, S>,
+    seat: &mut Seat,
+    times: u32,
+) -> Result<Answers, Fail>
+    requires { IsAt S.row_id seat.old }
+    ensures { IsAt S.row_id seat.new }
+{
+    let mut answers = Vec::new(alloc);
+    for _ in 0..times {
+        answers.push(board.feed(rt, seat, Event::Run(1)))?;
+    }
+    Ok(answers)
+}
+
+/// Opens a board, feeds it by this seat, and closes it: what was answered, and the closed board.
+fn fed_once_open<'a, S: Site, R: Wait>(
+    rt: &R,
+    alloc: Global,
+    blank: Blank<'a>,
+    mut seat: Seat,
+    times: u32,
+) -> (Result<Answers, Fail>, Closed<'a>)
+    requires blank { blank ≡ blank_of S.image S.bound S.row_id }
+    requires seat { IsAt S.row_id seat }
+    ensures { result.1.kernel.system ≡ S.image.system }
+{
+    let board: Board<'a, S> = blank.open();
+    let answers = fed(rt, alloc, &board, &mut seat, times);
+    (answers, board.close(&mut seat))
+}
+
+/// Opens a board, feeds it by its last seat, and closes it.
+fn fed_by_one<'a, S: Site, R: Wait>(
     rt: &R,
     alloc: Global,
     blank: Blank<'a>,
@@ -39,13 +74,9 @@ fn fed<'a, S: Site, R: Wait>(
     requires seats { All (IsAt S.row_id) seats.items }
     ensures { IfOk result (λ r. r.1.kernel.system ≡ S.image.system) }
 {
-    let board: Board<'a, S> = blank.open();
-    let mut seat = one::<S>(&mut seats).ok_or("a seat")?;
-    let mut answers = Vec::new(alloc);
-    for _ in 0..times {
-        answers.push(board.feed(rt, &mut seat, Event::Run(1)))?;
-    }
-    Ok((answers, board.close(&mut seat)))
+    let seat = one::<S>(&mut seats).ok_or("a seat")?;
+    let (answers, closed) = fed_once_open::<S, R>(rt, alloc, blank, seat, times);
+    Ok((answers?, closed))
 }
 
 /// The numbers of receipts, and the names of refusals.
@@ -71,7 +102,7 @@ fn answered<'a, R: Wait>(
     ensures { IfOk result (λ r. r.1.kernel.system ≡ image.now.system) }
 {
     let (blank, seats) = board_of(alloc, image, BOUND, k, 1)?;
-    let (answers, closed) = fed::<Brand, R>(rt, alloc, blank, seats, times)?;
+    let (answers, closed) = fed_by_one::<Brand, R>(rt, alloc, blank, seats, times)?;
     Ok((answers_text(alloc, &answers)?, closed))
 }
 
