@@ -106,7 +106,11 @@ impl<B: Body + Drop> Runner<B> {
               lines = [];
             }) }
     {
-        let contexts = BodyContexts::new(alloc, sys.tasks.as_slice().len(), usize::from(sys.processors))?;
+        let contexts = BodyContexts::new(
+            alloc,
+            sys.tasks.as_slice().len(),
+            usize::from(sys.processors),
+        )?;
         let caused = Vec::with_capacity(alloc, 510)?;
         let lines = Vec::with_capacity(alloc, 519)?;
         let tables = Tables::new(alloc, sys)?;
