@@ -388,6 +388,204 @@ END
 sed -n '/module objects/,$p' lengths.vcd | cmp -s - values
 verdict 'waves: lengths, values' "$([ $? -eq 0 ] || echo 'they are other than they should be')"
 
+# The picture of the queue: its lanes in order, each with what its boxes and its calls say first. The urgent task stands
+# above the other.
+cat > lanes.py <<'END'
+import sys
+import xml.etree.ElementTree as tree
+
+KINDS = ("Processor ", "Task ", "Handler ", "semaphore ", "flag ", "data queue ", "mailbox ", "shared word ")
+for lane in tree.parse(sys.argv[1]).iter("{http://www.w3.org/2000/svg}g"):
+    label = lane.get("aria-label", "")
+    if label.startswith(KINDS):
+        print(label)
+        for title in lane.iter("{http://www.w3.org/2000/svg}title"):
+            print(" ", title.text.split("\n")[0])
+END
+lanes() { # lanes NAME: the lanes of the picture 'queue.svg' are those of the file 'wanted'
+    python3 lanes.py queue.svg > output 2> errors
+    status=$?
+    problem=
+    [ $status -eq 0 ] || problem="no XML: $(tail -1 errors); "
+    cmp -s wanted output || problem="${problem}they are other than they should be"
+    verdict "$1" "$problem"
+    : > wanted
+}
+run 'timeline: queue' 0 timeline queue.img queue.steps queue.svg --objects
+cat > wanted <<'END'
+Processor 1
+  p1: PRODUCER, events 0 to 1
+  p1: CONSUMER, events 1 to 2
+  p1: PRODUCER, events 2 to 3
+  p1: CONSUMER, events 3 to 5
+  p1: PRODUCER, events 5 to 6
+  p1: idle, from event 6 on
+Task CONSUMER on processor 1
+  CONSUMER DORMANT, p1, events 0 to 1
+  CONSUMER RUNNING, p1, events 1 to 2
+  CONSUMER WAITING ←QUEUE, p1, events 2 to 3
+  CONSUMER RUNNING, p1, events 3 to 5
+  CONSUMER DORMANT, p1, from event 5 on
+  2 p1 CONSUMER rcv_dtq(1) wait
+  4 p1 CONSUMER put(42) E_OK
+Task PRODUCER on processor 1
+  PRODUCER RUNNING, p1, events 0 to 1
+  PRODUCER READY, p1, events 1 to 2
+  PRODUCER RUNNING, p1, events 2 to 3
+  PRODUCER READY, p1, events 3 to 5
+  PRODUCER RUNNING, p1, events 5 to 6
+  PRODUCER DORMANT, p1, from event 6 on
+  1 p1 PRODUCER act_tsk(2) E_OK
+  3 p1 PRODUCER snd_dtq(1,42) E_OK
+data queue QUEUE
+  QUEUE = 0, events 0 to 2
+  QUEUE = 0, waiting: CONSUMER, events 2 to 3
+  QUEUE = 0, from event 3 on
+END
+lanes 'timeline: lanes'
+run 'timeline: two events' 0 timeline queue.img queue.steps queue.svg --from 2 --to 3
+cat > wanted <<'END'
+Processor 1
+  p1: PRODUCER, events 2 to 3
+  p1: CONSUMER, events 3 to 5
+Task CONSUMER on processor 1
+  CONSUMER WAITING ←QUEUE, p1, events 2 to 3
+  CONSUMER RUNNING, p1, events 3 to 5
+  2 p1 CONSUMER rcv_dtq(1) wait
+Task PRODUCER on processor 1
+  PRODUCER RUNNING, p1, events 2 to 3
+  PRODUCER READY, p1, events 3 to 5
+  3 p1 PRODUCER snd_dtq(1,42) E_OK
+END
+lanes 'timeline: lanes of two events'
+run 'timeline: up to the end and beyond' 0 timeline queue.img queue.steps late.svg --from 6 --to 1048576
+verdict 'timeline: the last event' "$(grep -q 'events 6–6 of 0–6' late.svg || echo 'it does not say so')"
+
+# Marks, lane by lane: what shape each has, and the first line of its event.
+cat > marks.py <<'END'
+import sys
+import xml.etree.ElementTree as tree
+
+SVG = "{http://www.w3.org/2000/svg}"
+for group in tree.parse(sys.argv[1]).iter(SVG + "g"):
+    shape, title = group.find(SVG + "use"), group.find(SVG + "title")
+    if shape is not None and title is not None:
+        print(shape.get("href"), title.text.split("\n")[0])
+END
+drawn() { # drawn SYSTEM WORD..: the picture 'SYSTEM.svg' of an example
+    system=$1
+    shift
+    "$fmp" build "$root/examples/$system.cfg" "$root/examples/$system.src" "$system.img" > built || exit 2
+    "$view" timeline "$system.img" "$root/examples/$system.steps" "$system.svg" "$@"
+}
+marks() { # marks SYSTEM: the marks of its picture are those of the file 'wanted'
+    drawn "$1" && python3 marks.py "$1.svg" > output 2> errors
+    [ $? -eq 0 ] && cmp -s wanted output
+    verdict "timeline: marks of $1" "$([ $? -eq 0 ] || echo 'they are other than they should be')"
+    : > wanted
+}
+cat > wanted <<'END'
+#act 0 p1 WATCHDOG starts
+#rel 2 p1 WORKER wup_tsk(1) E_OK
+#rel 7 p1 WORKER wup_tsk(1) E_OK
+#tmo 13 tick 5
+#rel 18 p1 WORKER wup_tsk(1) E_OK
+#act 0 p1 WATCHDOG starts
+#rel 6 tick 2
+#rel 11 tick 4
+#ter 15 p1 WATCHDOG ter_tsk(2) E_OK
+#act 16 p1 WATCHDOG act_tsk(2) E_OK
+END
+marks watchdog
+
+# A mark stands where the task is after the event; where it was before, if its call was refused or its body ended.
+cat > wanted <<'END'
+#act 0 p1 BALANCE starts
+#refused 1 p1 BALANCE mig_tsk(3,2) E_PAR
+#refused 3 p1 BALANCE mig_tsk(2,1) E_OBJ
+#act 0 p1 BALANCE starts
+#act 9 p2 JOB end
+#end 11 p1 JOB end
+#act 0 p1 BALANCE starts
+#end 13 p1 FIXED end
+#end 8 p2 BALANCE end
+#queued 4 p1 BALANCE mact_tsk(2,1) E_OK
+#end 9 p2 JOB end
+END
+marks migration
+cat > wanted <<'END'
+#int 3 int 3
+#end 7 p1 #3 end
+#int 11 int 3
+#end 13 p1 #3 end
+#act 0 p1 MAIN starts
+#end 14 p1 MAIN end
+#act 0 p1 MAIN starts
+#rel 6 p1 #3 iwup_tsk(2) E_OK
+#rel 12 p1 #3 iwup_tsk(2) E_OK
+#act 0 p1 MAIN starts
+END
+marks interrupt
+cmp -s "$root/docs/timeline.svg" interrupt.svg
+verdict 'timeline: the picture of the README' "$([ $? -eq 0 ] || echo 'it is not what the program draws')"
+
+# Who holds a lock, and who spins for it: up to the call that gets it.
+drawn pipeline
+sed -n 's/.*<title>\(p[12]: .*\(held\|spins for\).*\)$/\1/p' pipeline.svg > output
+cat > wanted <<'END'
+p1: spin lock LOCK held, events 2 to 5
+p1: spin lock LOCK held, events 7 to 10
+p2: spin lock LOCK held, events 11 to 15
+p2: spin lock LOCK held, events 19 to 22
+p2: spins for LOCK, events 7 to 11
+END
+cmp -s wanted output
+verdict 'timeline: locks of pipeline' "$([ $? -eq 0 ] || echo 'they are other than they should be')"
+: > wanted
+
+# Each example's picture is XML.
+for text in "$root"/examples/*.steps; do
+    system=$(basename "$text" .steps)
+    drawn "$system" --objects && python3 lanes.py "$system.svg" > output 2> errors
+    verdict "timeline: $system" "$([ $? -eq 0 ] || echo "no picture, or no XML: $(tail -1 errors)")"
+done
+
+# A long run of many tasks: within 64 MB of memory and 40 MB of picture.
+awk 'BEGIN {
+    print "NUM_PRC(8);"
+    for (p = 1; p <= 8; p++) {
+        print "CLASS(TCL_" p ") {"
+        for (i = p; i <= 255; i += 8)
+            printf "CRE_TSK(TASK_%d, { TA_ACT, %d, work, %d, 256, NULL });\n", i, i, i % 16 + 1
+        printf "CRE_SEM(SEM_%d, { TA_TFIFO, 1, 4 });\n", p
+        printf "DEF_INH(%d, { TA_NULL, knock });\n", p
+        printf "CRE_CYC(CYC_%d, { TA_STA, %d, beat, %d, 0 });\n", p, p, 20 + p
+        print "}"
+    } }' > many.cfg
+cat > many.src <<'END'
+task work {
+    while (1) {
+        sig_sem(exinf % 8 + 1);
+        dly_tsk(exinf % 5);
+        twai_sem(exinf * 3 % 8 + 1, exinf % 7);
+        act_tsk(exinf % 255 + 1);
+        mig_tsk(0, exinf * 5 % 8 + 1);
+        wup_tsk((exinf + 1) % 255 + 1);
+        tslp_tsk(exinf % 3);
+    }
+}
+handler knock { iwup_tsk(7); isig_sem(1); }
+handler beat { isig_sem(exinf); }
+END
+"$fmp" build many.cfg many.src many.img > built || exit 2
+"$view" drive many.img --events 10000 --seed 1 > many.steps 2> errors
+(ulimit -v 65536 && "$view" timeline many.img many.steps many.svg --objects) 2> errors
+verdict 'timeline: 255 tasks, 10,000 events' "$([ $? -eq 0 ] || echo "it fails: $(tail -1 errors)")"
+size=$(wc -c < many.svg)
+verdict 'timeline: the size of its picture' "$([ "$size" -gt 1000000 ] && [ "$size" -le 40000000 ] || echo "$size bytes")"
+python3 lanes.py many.svg > output 2> errors
+verdict 'timeline: a lane for each of its processors' "$([ "$(grep -c '^Processor ' output)" -eq 144 ] || tail -1 errors)"
+
 # Faults, as `fmp` has them.
 printf 'FMP' > short.img
 echo 'image: L1' > said
@@ -407,6 +605,37 @@ for code in B9 E_PA; do
     [ $? -eq 2 ] && grep -q 'no code is printed so' errors
     verdict "code: $code" "$([ $? -eq 0 ] || echo 'it is not refused')"
 done
+"$view" timeline same.img queue.steps ./same.img > output 2> errors
+[ $? -eq 2 ] && grep -q 'the file OUT is one of the two that are read' errors && cmp -s queue.img same.img
+verdict 'timeline: over the image' "$([ $? -eq 0 ] || echo 'it is not refused')"
+cp queue.steps same.steps
+"$view" timeline queue.img same.steps ./same.steps > output 2> errors
+[ $? -eq 2 ] && grep -q 'the file OUT is one of the two that are read' errors && cmp -s queue.steps same.steps
+verdict 'timeline: over the steps' "$([ $? -eq 0 ] || echo 'it is not refused')"
+echo 'file: none/queue.svg' > said
+run 'timeline: in no folder' 3 timeline queue.img queue.steps none/queue.svg
+echo 'file: none.img' > said
+run 'timeline: no image' 3 timeline none.img queue.steps none.svg
+echo 'file: none.steps' > said
+run 'timeline: no steps' 3 timeline queue.img none.steps none.svg
+echo 'image: L1' > said
+run 'timeline: a short image' 1 timeline short.img queue.steps none.svg
+refused() { # refused NAME SAID WORD..: a picture with these words is refused with status 2, and there is no file of it
+    name=$1 message=$2
+    shift 2
+    "$view" timeline queue.img queue.steps none.svg "$@" > output 2> errors
+    [ $? -eq 2 ] && grep -q -e "$message" errors && [ ! -s output ] && [ ! -e none.svg ]
+    verdict "$name" "$([ $? -eq 0 ] || echo "it is not, but says '$(head -c 200 errors)'")"
+}
+refused 'timeline: from beyond the run' 'the run has no event so late: its last is 6' --from 7
+refused 'timeline: from later than to' '--from is later than --to' --from 4 --to 3
+refused 'timeline: to beyond 2^20' '1048577' --to 1048577
+refused 'timeline: from beyond 2^20' '1048577' --from 1048577
+refused 'timeline: one file more' 'more.svg' more.svg
+refused 'timeline: from that is no number' 'first' --from first
+echo 'steps:2: S1' > said
+run 'timeline: a wrong step' 1 timeline queue.img wrong.steps none.svg
+verdict 'timeline: no file after a fault' "$([ ! -e none.svg ] || echo 'there is one')"
 
 # Each step of a drive does something: a run of them has as many events.
 for seed in 1 2 3 4 5 6 7 8; do

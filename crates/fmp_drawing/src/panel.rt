@@ -96,13 +96,13 @@ fn small_word(word: StateWord) -> &'static str {
     }
 }
 
-/// How many tasks without a lane are in a state, and the names of the first four.
+/// Appends to a list how many tasks without a lane are in a state, and the names of the first four.
 fn put_asleep_in(
     scene: &Scene<'_>,
     span: &Span,
     rows: &Rows,
     word: StateWord,
-    out: &mut Vec<u8>,
+    list: &mut Vec<u8>,
 ) -> Result<(), AllocError> {
     let mut names = Vec::new(scene.alloc);
     let mut count: u32 = 0;
@@ -121,18 +121,19 @@ fn put_asleep_in(
     if count == 0 {
         return Ok(());
     }
+    let before = if list.is_empty() { " " } else { "; " };
     let more = if count > 4 { ", …" } else { "" };
     put(
         &[
-            Raw(" "),
+            Raw(before),
             Number(count),
             Raw(" "),
             Raw(small_word(word)),
             Raw(" ("),
         ],
-        out,
+        list,
     )?;
-    put(&[Text(&names), Raw(more), Raw(");")], out)
+    put(&[Text(&names), Raw(more), Raw(")")], list)
 }
 
 /// The line that says which tasks have no lane.
@@ -142,9 +143,7 @@ fn put_asleep(
     rows: &Rows,
     out: &mut Vec<u8>,
 ) -> Result<(), AllocError> {
-    let y = px(rows.bottom) + px(11);
-    put(&[Raw("<text class=\"m\" x=\"12\" y=\""), At(y)], out)?;
-    append("\">No change and no lane here:", out)?;
+    let mut list = Vec::new(scene.alloc);
     for word in [
         StateWord::Dormant,
         StateWord::Ready,
@@ -152,8 +151,12 @@ fn put_asleep(
         StateWord::Waiting,
         StateWord::WaitingSuspended,
     ] {
-        put_asleep_in(scene, span, rows, word, out)?;
+        put_asleep_in(scene, span, rows, word, &mut list)?;
     }
+    let y = px(rows.bottom) + px(11);
+    put(&[Raw("<text class=\"m\" x=\"12\" y=\""), At(y)], out)?;
+    append("\">No change and no lane here:", out)?;
+    out.extend_from_slice(&list)?;
     append("</text>\n", out)
 }
 

@@ -79,23 +79,12 @@ fn put_root(
         ],
         out,
     )?;
-    put(
-        &[
-            Raw("</title>\n<desc id=\"desc\">"),
-            Number(u32::from(scene.sys.processors)),
-        ],
-        out,
-    )?;
-    put(
-        &[
-            Raw(" processors, "),
-            Number(task_count(scene)),
-            Raw(" tasks. "),
-        ],
-        out,
-    )?;
+    append("</title>\n<desc id=\"desc\">", out)?;
+    append_count(u32::from(scene.sys.processors), " processor", out)?;
+    append(", ", out)?;
+    append_count(task_count(scene), " task", out)?;
     append(
-        "The horizontal axis counts events of the simulator, not time; dashed vertical lines are ",
+        ". The horizontal axis counts events of the simulator, not time; dashed vertical lines are ",
         out,
     )?;
     append(

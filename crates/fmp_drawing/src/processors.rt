@@ -320,21 +320,6 @@ fn put_held_lock(
     Ok(())
 }
 
-/// The lock that a stretch in vain is about: at its end the one that was got, else one that another processor holds.
-fn lock_of_spin(scene: &Scene<'_>, span: &Span, spin: &Spin) -> Option<u8> {
-    if spin.lock.is_some() || spin.to.is_some() {
-        return spin.lock;
-    }
-    for (place, track) in (0u8..8).zip(scene.run.locks.as_slice()) {
-        if let Some(Lock::Spin(lock)) = track.at(span.page.last)
-            && place != spin.processor
-        {
-            return Some(lock);
-        }
-    }
-    None
-}
-
 /// A stretch over which a processor's actor asks in vain.
 fn put_spin(
     scene: &Scene<'_>,
@@ -344,7 +329,7 @@ fn put_spin(
     out: &mut Vec<u8>,
 ) -> Result<(), AllocError> {
     let (left, right) = (span.box_left(stay), span.box_right(stay));
-    let lock = lock_of_spin(scene, span, &stay.state);
+    let lock = scene.run.lock_of(&stay.state);
     let name = lock.map_or(&[][..], |lock| bytes_of(scene.sys, Topic::SpinLock(lock)));
     let words = if lock.is_some() {
         "spins for "
@@ -415,15 +400,18 @@ pub fn put_lock(
     processor: u8,
     out: &mut Vec<u8>,
 ) -> Result<(), AllocError> {
-    if let Some(track) = scene.run.locks.get(usize::from(processor)) {
-        for place in track.places(span.first, span.last) {
-            if let Some(stay) = track.stay(place) {
-                put_held_lock(scene, span, row, processor, &stay, out)?;
-            }
+    let Some(track) = scene.run.locks.get(usize::from(processor)) else {
+        return Ok(());
+    };
+    for place in track.places(span.first, span.last) {
+        if let Some(stay) = track.stay(place) {
+            put_held_lock(scene, span, row, processor, &stay, out)?;
         }
     }
     for stay in scene.run.spins.of(scene.alloc, processor, span)?.iter() {
-        put_spin(scene, span, row, stay, out)?;
+        if track.at(stay.from) == Some(Lock::Free) {
+            put_spin(scene, span, row, stay, out)?;
+        }
     }
     Ok(())
 }

@@ -185,12 +185,14 @@ fn fitting_label(
         }
     }
     for count in (2..31usize).rev() {
-        let letters = match shown.wait.map(|cause| wait_name(scene.sys, cause)) {
-            Some(("", name)) if count > 2 && count < name.len() => count,
-            Some((_, name)) if count < name.len() => count,
-            _ => continue,
-        };
-        let label = wait_label(scene, shown, Some(letters), false)?;
+        let fits = shown.wait.is_some_and(|cause| {
+            let (arrow, name) = wait_name(scene.sys, cause);
+            count < name.len() && (count > 2 || !arrow.is_empty())
+        });
+        if !fits {
+            continue;
+        }
+        let label = wait_label(scene, shown, Some(count), false)?;
         if let Some(x) = fit_left(span, taken, ends, width(&label, SMALL)) {
             return Ok(Some((x, label)));
         }

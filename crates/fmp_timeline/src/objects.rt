@@ -25,7 +25,7 @@ pub struct Object {
     /// The most words that it holds, of a data queue.
     most: i32,
     now: ObjectShown,
-    /// Whether its queue is other than before.
+    /// Whether its queue may be other than before.
     moved: bool,
     pub track: Track<ObjectShown>,
 }
@@ -228,7 +228,7 @@ impl Objects {
         })
     }
 
-    /// Notes that the queue of an object is other than before.
+    /// Notes that the queue of an object may be other than before.
     fn note_move(&mut self, wait: Option<Wait>) {
         let Some(wait) = wait else {
             return;
@@ -286,15 +286,18 @@ impl Objects {
         }
     }
 
-    /// The queues that are other than before.
+    /// The queues that are other than before, of those that may be.
     fn take_queues(&mut self, alloc: Global) -> Result<(), AllocError> {
         for object in self.all.iter_mut() {
             if object.moved {
-                let queue = queue_of(alloc, &self.waits, object.topic)?;
-                object.now.start = self.waiting.len();
-                self.waiting.extend_from_slice(&queue)?;
-                object.now.end = self.waiting.len();
                 object.moved = false;
+                let queue = queue_of(alloc, &self.waits, object.topic)?;
+                let before = object.now.start..object.now.end;
+                if self.waiting.get(before).unwrap_or(&[]) != queue.as_slice() {
+                    object.now.start = self.waiting.len();
+                    self.waiting.extend_from_slice(&queue)?;
+                    object.now.end = self.waiting.len();
+                }
             }
         }
         Ok(())

@@ -4,6 +4,7 @@ use crate::lengths::{Tenths, px};
 use crate::run::Run;
 use crate::tracks::Stay;
 use fmp_base::System;
+use itoa::Buffer;
 
 /// The width of a panel's events.
 const PANEL: u32 = 1680;
@@ -74,8 +75,13 @@ fn widest(sys: &System, objects: bool) -> u32 {
     for config in sys.cyclics.as_slice() {
         most = name_width(config.name.as_bytes()).max(most);
     }
-    if !sys.interrupts.is_empty() {
-        most = name_width(b"interrupt 88").max(most);
+    for config in sys.interrupts.as_slice() {
+        let label = if config.number > 9 {
+            b"interrupt 88".as_slice()
+        } else {
+            b"interrupt 8".as_slice()
+        };
+        most = name_width(label).max(most);
     }
     if objects {
         widest_object(sys).max(most)
@@ -104,6 +110,14 @@ fn widest_object(sys: &System) -> u32 {
     most
 }
 
+/// The width of the words over a panel that ends with this event, and of those beside them.
+fn heading_width(last: u32) -> u32 {
+    let mut digits = Buffer::new();
+    let number = width(digits.format(last).as_bytes(), Tenths(120));
+    let heading = width("Events –".as_bytes(), Tenths(120)) + number.times(2);
+    u32::try_from(heading.0).unwrap_or(0) / 10 + 60
+}
+
 impl Page {
     /// The measures for what is chosen of a run.
     pub fn new(sys: &System, run: &Run, choice: Choice) -> Page {
@@ -122,8 +136,8 @@ impl Page {
         let objects = !run.objects.all.is_empty();
         let room = if objects { 90 } else { 74 };
         let names = widest(sys, objects).saturating_add(room);
-        let least = if panels > 1 { 200 } else { 132 };
-        let gutter = names.max(least).min(250);
+        let heading = if panels > 1 { heading_width(last) } else { 0 };
+        let gutter = names.max(132).min(250).max(heading);
         let lead = column.max(10).min(24);
         let plot = per_panel.saturating_mul(column);
         let wide = gutter

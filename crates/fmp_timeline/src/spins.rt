@@ -1,8 +1,10 @@
 //! Stretches over which a processor's turns did nothing.
+use crate::marks::{Made, Mark, Sign};
 use crate::page::Span;
+use crate::run::Run;
 use crate::states::{Moment, occupant_of};
 use crate::tracks::Stay;
-use fmp_base::{Call, Caller, Line};
+use fmp_base::{Call, Caller, Er, Line, Lock};
 use std::alloc::{AllocError, Global};
 
 /// A stretch over which the turns of a processor do nothing.
@@ -16,8 +18,6 @@ pub struct Spin {
     pub processor: u8,
     /// Who asks in vain.
     pub actor: Caller,
-    /// The place of the spin lock that it asks for, where this shows.
-    pub lock: Option<u8>,
 }
 
 /// All such stretches of a run.
@@ -27,18 +27,6 @@ pub struct Spins {
     pub ended: Vec<Spin>,
     /// That of each processor that goes on, if there is one.
     pub open: Vec<Option<Spin>>,
-}
-
-/// The place of the spin lock that the actor of this processor got at an event of its own.
-fn lock_got(lines: &[Line], place: u8) -> Option<u8> {
-    match lines.first()? {
-        Line::Call {
-            processor,
-            call: Call::LocSpn { lock },
-            ..
-        } if *processor == place => u8::try_from(lock.checked_sub(1)?).ok(),
-        _ => None,
-    }
 }
 
 /// Whether the event is one of this processor's actor.
@@ -79,7 +67,6 @@ impl Spins {
                 to: None,
                 processor,
                 actor,
-                lock: None,
             });
         }
     }
@@ -90,10 +77,8 @@ impl Spins {
             if let Some(spin) = *open
                 && ends(&spin, moment)
             {
-                let lock = lock_got(moment.lines, spin.processor);
                 self.ended.push(Spin {
                     to: Some(event),
-                    lock,
                     ..spin
                 })?;
                 *open = None;
@@ -129,5 +114,57 @@ impl Spins {
             }
         }
         Ok(mine)
+    }
+}
+
+/// The place of the spin lock that a call got, if it asked for one.
+fn lock_got(made: &Made) -> Option<u8> {
+    match (made.call, made.reply) {
+        (Call::LocSpn { lock }, Some(reply)) if reply.code == Er::Ok => {
+            u8::try_from(lock.checked_sub(1)?).ok()
+        }
+        _ => None,
+    }
+}
+
+/// How a body stopped between two events, if it did.
+fn stop_between(marks: &[Mark], after: u32, before: u32) -> Option<Sign> {
+    let from = marks.partition_point(|mark| mark.event <= after);
+    for mark in marks.get(from..).unwrap_or(&[]) {
+        if mark.event >= before {
+            break;
+        }
+        if matches!(mark.sign, Sign::Ended | Sign::Faulted(_) | Sign::Terminated) {
+            return Some(mark.sign);
+        }
+    }
+    None
+}
+
+impl Run {
+    /// The place of a spin lock that another processor holds where a stretch begins.
+    fn lock_beside(&self, spin: &Spin) -> Option<u8> {
+        for (place, track) in (0u8..8).zip(self.locks.as_slice()) {
+            if place != spin.processor
+                && let Some(Lock::Spin(lock)) = track.at(spin.from)
+            {
+                return Some(lock);
+            }
+        }
+        None
+    }
+
+    /// The place of the spin lock that the actor of a stretch asks for: the one that it gets by its next call; where it
+    /// makes none, one that another processor holds. None where it asks for none, but makes no progress.
+    pub fn lock_of(&self, spin: &Spin) -> Option<u8> {
+        let deeds = self.deeds_of(spin.actor)?;
+        let place = deeds.calls.partition_point(|made| made.event <= spin.from);
+        let next = deeds.calls.get(place);
+        let before = next.map_or(u32::MAX, |made| made.event);
+        match (stop_between(&deeds.marks, spin.from, before), next) {
+            (Some(Sign::Ended | Sign::Faulted(_)), _) => None,
+            (None, Some(made)) => lock_got(made),
+            _ => self.lock_beside(spin),
+        }
     }
 }

@@ -1,16 +1,20 @@
 //! What the program is asked to do.
 ghost use Rattle.std.specs.Prelude.{◌≤◌, ◌^◌, IfOk};
 
-use crate::form::{BOUND_MAX, EVENTS_MAX, program, waves_command};
+use crate::form::{BOUND_MAX, EVENTS_MAX, program, timeline_command, waves_command};
 use clap::error::ErrorKind;
 use clap::{ArgMatches, Error};
+use fmp_timeline::Choice;
 use std::alloc::{AllocError, Global};
 
 /// What is said of a word that is no code.
 const NO_CODE: &str = "no code is printed so";
 
-/// What is said of a dump that would take the place of a file that is read.
+/// What is said of a file that would take the place of one that is read.
 const OUT_OVER_INPUT: &str = "the file OUT is one of the two that are read";
+
+/// What is said of a picture that ends before it begins.
+const FROM_AFTER_TO: &str = "--from is later than --to";
 
 /// What a run is of: the names of its files, and the bound of a stretch, 1 to 2^48.
 #[derive(Drop)]
@@ -18,6 +22,15 @@ pub struct Run {
     pub image: String,
     pub steps: String,
     pub bound: u64,
+}
+
+/// What is drawn of a run.
+#[derive(Clone, Copy, Debug, PartialEq, Eq)]
+pub struct Drawing {
+    /// The events.
+    pub choice: Choice,
+    /// Whether the objects have lanes too.
+    pub objects: bool,
 }
 
 /// What the program is asked to do.
@@ -36,6 +49,8 @@ pub enum Cmd {
     Stats(Run),
     /// Write the waveform of a run to a file.
     Waves(Run, String),
+    /// Write the picture of a run to a file.
+    Timeline(Run, String, Drawing),
 }
 
 /// A word that the command line gives.
@@ -56,6 +71,16 @@ fn run_of(alloc: Global, words: &ArgMatches<'_>) -> Result<Run, AllocError> {
     })
 }
 
+fn drawing_of(words: &ArgMatches<'_>) -> Drawing {
+    Drawing {
+        choice: Choice {
+            first: words.get_one::<u32>("from").unwrap_or(0),
+            last: words.get_one::<u32>("to").unwrap_or(EVENTS_MAX),
+        },
+        objects: words.get_flag("objects"),
+    }
+}
+
 /// What a subcommand of this name asks for with its words.
 fn asked(alloc: Global, name: &str, words: &ArgMatches<'_>) -> Result<Cmd, AllocError> {
     match name {
@@ -67,6 +92,10 @@ fn asked(alloc: Global, name: &str, words: &ArgMatches<'_>) -> Result<Cmd, Alloc
             bound: bound_of(words),
         }),
         "stats" => Ok(Cmd::Stats(run_of(alloc, words)?)),
+        "timeline" => {
+            let out = word_of(alloc, words, "OUT")?;
+            Ok(Cmd::Timeline(run_of(alloc, words)?, out, drawing_of(words)))
+        }
         _ => Ok(Cmd::Waves(run_of(alloc, words)?, word_of(alloc, words, "OUT")?)),
     }
 }
@@ -87,10 +116,27 @@ pub fn no_code(alloc: Global) -> Result<Error, AllocError> {
 }
 
 /// The error for a dump that would take the place of a file that is read, which has the status 2.
-pub fn out_over_input(alloc: Global) -> Result<Error, AllocError> {
+pub fn dump_over_input(alloc: Global) -> Result<Error, AllocError> {
     waves_command(alloc)?
         .bin_name("fmp_view waves")?
         .error(ErrorKind::ValueValidation, OUT_OVER_INPUT)
+}
+
+/// The error for a picture that would take the place of a file that is read, which has the status 2.
+pub fn picture_over_input(alloc: Global) -> Result<Error, AllocError> {
+    no_picture(alloc, OUT_OVER_INPUT)
+}
+
+/// The error for a picture that ends before it begins, which has the status 2.
+pub fn picture_of_nothing(alloc: Global) -> Result<Error, AllocError> {
+    no_picture(alloc, FROM_AFTER_TO)
+}
+
+/// The error for words of `timeline` that have the right form.
+fn no_picture(alloc: Global, why: &str) -> Result<Error, AllocError> {
+    timeline_command(alloc)?
+        .bin_name("fmp_view timeline")?
+        .error(ErrorKind::ValueValidation, why)
 }
 
 /// A bound in its range.

@@ -20,7 +20,7 @@ use fmp_waves::Waves;
 use std::alloc::{AllocError, Global};
 
 /// Want of memory, as a fault.
-fn made<T>(outcome: Result<T, AllocError>) -> Result<T, SimFault> {
+pub fn made<T>(outcome: Result<T, AllocError>) -> Result<T, SimFault> {
     match outcome {
         Ok(x) => Ok(x),
         Err(_) => Err(SimFault::Memory),

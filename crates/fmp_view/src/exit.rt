@@ -1,4 +1,5 @@
 //! Why the program ends with nothing printed.
+use crate::timeline::TimelineFault;
 use fmp_engine::SimFault;
 use std::alloc::{AllocError, Global};
 use thiserror::Error;
@@ -9,6 +10,9 @@ pub enum Exit {
     /// The image is not run.
     #[error("{0}")]
     Sim(SimFault),
+    /// There is no such picture of the run.
+    #[error("{0}")]
+    Picture(TimelineFault),
     /// A file could not be read or written.
     #[error("file: {0}")]
     File(String),
@@ -23,6 +27,7 @@ impl Exit {
         match self {
             Exit::Sim(SimFault::Memory) | Exit::File(_) | Exit::Memory(_) => 3,
             Exit::Sim(_) => 1,
+            Exit::Picture(_) => 2,
         }
     }
 }

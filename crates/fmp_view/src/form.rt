@@ -1,12 +1,12 @@
 //! The form of the command line.
 use clap::builder::ValueParser;
-use clap::{Arg, Command};
+use clap::{Arg, ArgAction, Command};
 use std::alloc::{AllocError, Global};
 
 /// What the program is.
 const ABOUT: &str =
-    "Looks at systems of 'fmp': what a code means, steps that run a system, a run as a table
-or as a waveform.";
+    "Looks at systems of 'fmp': what a code means, steps that run a system, a run as a table,
+as a waveform or as a picture.";
 
 /// An example, and what the program's answers mean.
 const EXAMPLE_AND_STATUS: &str = "Example, with the image of the example of 'fmp build --help':
@@ -14,11 +14,13 @@ const EXAMPLE_AND_STATUS: &str = "Example, with the image of the example of 'fmp
   fmp_view drive queue.img --events 20 > queue.steps
   fmp_view stats queue.img queue.steps
   fmp_view waves queue.img queue.steps queue.vcd
+  fmp_view timeline queue.img queue.steps queue.svg
 
 Status, and the line on standard error with it:
   0        done; help or the version was asked for
   1        a fault of what was read: 'image: L2', 'steps:4: S1'
-  2        a mistake in the command line; a word that is no code; OUT is a file that is read
+  2        a mistake in the command line; a word that is no code; OUT is a file that is read;
+           a picture with no event, or with more than 40,000,000 bytes
   3        'file: NAME', a file could not be read or written ('-' is standard output); 'memory'";
 
 /// What a steps text is.
@@ -34,6 +36,14 @@ without it the processors run in turn, and the clock ticks where all of them are
 /// What a bound is.
 const BOUND: &str = "How many instructions a body may take up to its next service call, 1 to 2^48;
 a step that would take more does nothing";
+
+/// What the first event of a picture is.
+const FROM: &str = "First event that is drawn, 0 to 2^20; setup is 0";
+
+/// What the last event of a picture is.
+const TO: &str =
+    "Last event that is drawn, 0 to 2^20; without it the last of the run. At most 10,000 events
+are drawn";
 
 /// The largest bound, 2^48.
 pub const BOUND_MAX: u64 = 281_474_976_710_656;
@@ -115,6 +125,24 @@ pub fn waves_command<'a>(alloc: Global) -> Result<Command<'a>, AllocError> {
     of_run(alloc, command)?.arg(word(alloc, "OUT", "File that the dump is written to"))
 }
 
+/// The command `timeline`.
+pub fn timeline_command<'a>(alloc: Global) -> Result<Command<'a>, AllocError> {
+    let command = Command::new(alloc, "timeline").about(
+        "Writes a run as a picture, which browsers show: states between events, calls, and who did what to whom",
+    );
+    let command = of_run(alloc, command)?;
+    let command = command.arg(word(alloc, "OUT", "File that the picture, an SVG, is written to"))?;
+    let most = u64::from(EVENTS_MAX);
+    let from = number(alloc, "from", "K", 0, most, FROM);
+    let command = command.arg(from.default_value("0"))?;
+    let command = command.arg(number(alloc, "to", "K", 0, most, TO))?;
+    let objects = Arg::new(alloc, "objects")
+        .long("objects")
+        .action(ArgAction::SetTrue)
+        .help("Draw semaphores, eventflags, data queues, mailboxes and shared words too");
+    command.arg(objects)
+}
+
 /// The whole command line.
 pub fn program<'a>(alloc: Global) -> Result<Command<'a>, AllocError> {
     let program = Command::new(alloc, "fmp_view")
@@ -126,5 +154,6 @@ pub fn program<'a>(alloc: Global) -> Result<Command<'a>, AllocError> {
     let program = program.subcommand(code_command(alloc)?)?;
     let program = program.subcommand(drive_command(alloc)?)?;
     let program = program.subcommand(stats_command(alloc)?)?;
-    program.subcommand(waves_command(alloc)?)
+    let program = program.subcommand(waves_command(alloc)?)?;
+    program.subcommand(timeline_command(alloc)?)
 }

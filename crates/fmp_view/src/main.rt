@@ -1,5 +1,5 @@
 //! The program `fmp_view`: it looks at a system. It says what a code means, drives an image, and shows a run of it as a
-//! table or as a waveform.
+//! table, as a waveform or as a picture.
 //!
 //! It ends with the statuses of `fmp`: 0 where it did what it was asked, 1 for a fault of what it read, 2 for a mistake in
 //! the command line, and 3 where a file could not be read or written or memory ran out.
@@ -11,7 +11,10 @@ mod driving;
 mod exit;
 mod form;
 mod opening;
+mod recording;
 mod running;
+mod timeline;
+mod turns;
 
 use clap::Error;
 use clap::error::ErrorKind as Kind;

@@ -1,7 +1,10 @@
 //! A run of the program, from the words of its command line to its status.
-use crate::asking::{Cmd, Run, command, no_code, out_over_input};
+use crate::asking::{
+    Cmd, Drawing, Run, command, dump_over_input, no_code, picture_of_nothing, picture_over_input,
+};
 use crate::commands::{code, stats, steps, waves};
 use crate::exit::{Exit, failed};
+use crate::timeline::{TimelineFault, timeline};
 use clap::Error;
 use clap::error::ErrorKind;
 use fmp_driver::Stop;
@@ -117,18 +120,75 @@ fn run_drive<O: Outside>(
     }
 }
 
-/// Writes a dump to its file.
-fn write_waves<O: Outside>(alloc: Global, outside: &mut O, run: &Run, out: &str) -> u8 {
-    if outside.is_one_file(out, &run.image) || outside.is_one_file(out, &run.steps) {
-        return refuse_so(alloc, outside, out_over_input(alloc));
-    }
-    let dump = match run_waves(alloc, outside, run) {
-        Ok(dump) => dump,
-        Err(exit) => return end(outside, &exit),
-    };
-    match outside.write(out, &dump) {
+/// Writes all that there is to write to a file, and gives the status.
+fn write<O: Outside>(alloc: Global, outside: &mut O, out: &str, bytes: &[u8]) -> u8 {
+    match outside.write(out, bytes) {
         Ok(()) => 0,
         Err(WriteFault::Device) => end(outside, &failed(alloc, out)),
+    }
+}
+
+/// Whether a file is one of those of a run.
+fn is_read<O: Outside>(outside: &O, out: &str, run: &Run) -> bool {
+    outside.is_one_file(out, &run.image) || outside.is_one_file(out, &run.steps)
+}
+
+/// Writes a dump to its file.
+fn write_waves<O: Outside>(alloc: Global, outside: &mut O, run: &Run, out: &str) -> u8 {
+    if is_read(outside, out, run) {
+        return refuse_so(alloc, outside, dump_over_input(alloc));
+    }
+    match run_waves(alloc, outside, run) {
+        Ok(dump) => write(alloc, outside, out, &dump),
+        Err(exit) => end(outside, &exit),
+    }
+}
+
+/// The title of a picture: the name of its image, without folders and without what follows the last dot.
+fn title_of(image: &str) -> &str {
+    let file = match image.rsplit_once('/') {
+        Some((_, file)) => file,
+        None => image,
+    };
+    match file.rsplit_once('.') {
+        Some((stem, _)) if !stem.is_empty() => stem,
+        _ => file,
+    }
+}
+
+/// The picture of a run.
+fn run_timeline<O: Outside>(
+    alloc: Global,
+    outside: &O,
+    run: &Run,
+    drawing: Drawing,
+) -> Result<Vec<u8>, Exit> {
+    let (image, steps) = read_run(alloc, outside, run)?;
+    let title = title_of(&run.image).as_bytes();
+    match timeline(alloc, &image, &steps, run.bound, title, drawing) {
+        Ok(picture) => Ok(picture),
+        Err(TimelineFault::Sim(fault)) => Err(Exit::Sim(fault)),
+        Err(fault) => Err(Exit::Picture(fault)),
+    }
+}
+
+/// Writes a picture to its file.
+fn write_timeline<O: Outside>(
+    alloc: Global,
+    outside: &mut O,
+    run: &Run,
+    out: &str,
+    drawing: Drawing,
+) -> u8 {
+    if is_read(outside, out, run) {
+        return refuse_so(alloc, outside, picture_over_input(alloc));
+    }
+    if drawing.choice.first > drawing.choice.last {
+        return refuse_so(alloc, outside, picture_of_nothing(alloc));
+    }
+    match run_timeline(alloc, outside, run, drawing) {
+        Ok(picture) => write(alloc, outside, out, &picture),
+        Err(exit) => end(outside, &exit),
     }
 }
 
@@ -158,6 +218,7 @@ fn carry_out<O: Outside>(alloc: Global, outside: &mut O, cmd: &Cmd) -> u8 {
             Err(exit) => end(outside, &exit),
         },
         Cmd::Waves(run, out) => write_waves(alloc, outside, run, out),
+        Cmd::Timeline(run, out, drawing) => write_timeline(alloc, outside, run, out, *drawing),
     }
 }
 

@@ -1,0 +1,105 @@
+//! A run as its picture has it, recorded frame by frame.
+ghost use Rattle.std.specs.Prelude.{◌≡◌, IfOk, OnOk};
+ghost use Rattle.fmp_timeline.specs.Shown as spec;
+
+use crate::turns::IdleTurn;
+use fmp_base::System;
+use fmp_frames::{Frame, Viewer};
+use fmp_timeline::{Moment, Run, TaskShown, tasks_shown};
+use fmp_trace::print;
+use std::alloc::{AllocError, Global};
+
+/// A run so far.
+#[derive(Drop)]
+pub struct Recorder<'a> {
+    sys: &'a System,
+    /// All turns that do nothing, in order.
+    turns: &'a [IdleTurn],
+    /// How many of them are recorded.
+    taken: usize,
+    run: Run,
+    /// What the lanes show of the tasks after the last event.
+    pub shown: Vec<TaskShown>,
+}
+
+impl<'a> Recorder<'a> {
+    /// A run of a system after setup, with its objects or without; these turns of it do nothing. `AllocError` for want
+    /// of memory.
+    pub fn new(
+        alloc: Global,
+        sys: &'a System,
+        objects: bool,
+        turns: &'a [IdleTurn],
+        setup: &Frame,
+    ) -> Result<Recorder<'a>, AllocError>
+        ensures { IfOk result (λ made. made.shown.items
+            ≡ spec.tasks_shown setup.now.states.items setup.now.blocks.items setup.now.processors.items) }
+    {
+        let mut recorder = Recorder {
+            sys,
+            turns,
+            taken: 0,
+            run: Run::new(alloc, sys, objects)?,
+            shown: Vec::new(alloc),
+        };
+        recorder.record(alloc, setup)?;
+        Ok(recorder)
+    }
+
+    /// Records the turns that do nothing before the next event.
+    fn take_turns(&mut self) {
+        let next = self.run.next_event();
+        for turn in self.turns.get(self.taken..).unwrap_or(&[]) {
+            if turn.event >= next {
+                break;
+            }
+            self.run.turn_in_vain(turn.processor);
+            self.taken = self.taken.saturating_add(1);
+        }
+    }
+
+    /// One frame more.
+    fn record(&mut self, alloc: Global, frame: &Frame) -> Result<(), AllocError>
+        ensures { OnOk result (self.new.shown.items
+            ≡ spec.tasks_shown frame.now.states.items frame.now.blocks.items frame.now.processors.items) }
+    {
+        self.take_turns();
+        let mut text = Vec::new(alloc);
+        print(self.sys, self.run.next_event(), &frame.lines, &mut text)?;
+        let shown = tasks_shown(alloc, &frame.states, &frame.blocks, &frame.processors)?;
+        self.run.show(
+            alloc,
+            &Moment {
+                lines: &frame.lines,
+                text: &text,
+                clock: frame.clock,
+                tasks: &shown,
+                states: &frame.states,
+                blocks: &frame.blocks,
+                processors: &frame.processors,
+                semaphores: &frame.semaphores,
+                flags: &frame.flags,
+                shared_words: &frame.shared_words,
+                pending_cyclics: &frame.pending_cyclics,
+                pending_interrupts: &frame.pending_interrupts,
+            },
+        )?;
+        self.shown = shown;
+        Ok(())
+    }
+
+    /// The whole run.
+    pub fn finish(mut self) -> Run {
+        self.take_turns();
+        self.run
+    }
+}
+
+impl Viewer for Recorder<'_> {
+    ghost shown = { λ x f y. y.shown.items ≡ spec.tasks_shown f.states f.blocks f.processors };
+
+    /// One event more: what the lanes show of the tasks is what the frame says of them.
+    fn show(&mut self, alloc: Global, frame: &Frame) -> Result<(), AllocError> {
+        self.record(alloc, frame)
+    }
+}

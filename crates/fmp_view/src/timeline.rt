@@ -1,0 +1,166 @@
+//! The picture of a run.
+ghost use Rattle.std.specs.Prelude.{◌≡◌, ◌+◌, ◌≤◌, ◌^◌, IfOk, length};
+ghost use Rattle.fmp_timeline.specs.Shown.{tasks_shown};
+ghost use Rattle.fmp_view.specs.Shown.{WasShown};
+
+use crate::asking::{Drawing, kept_bound};
+use crate::commands::made;
+use crate::opening::{events_of, fresh_kernel, image_of};
+use crate::recording::Recorder;
+use crate::turns::{IdleTurn, idle_turns};
+use fmp_base::{Event, System};
+use fmp_drawing::{DrawFault, MOST_BYTES, draw};
+use fmp_engine::SimFault;
+use fmp_frames::{Viewer, last_frame, show_all};
+use fmp_image::Image;
+use fmp_kernel::{Body, Kernel};
+use fmp_timeline::{Page, Run};
+use std::alloc::{AllocError, Global};
+use thiserror::Error;
+
+/// Why there is no picture.
+#[derive(Clone, Copy, Debug, PartialEq, Eq, Error)]
+pub enum TimelineFault {
+    /// There is no run.
+    #[error("{0}")]
+    Sim(SimFault),
+    /// The run ends before the first event that is wanted, with this one.
+    #[error("the run has no event so late: its last is {0}")]
+    NoEvent(u32),
+    /// The picture would be too large: half of its events are these.
+    #[error("the picture would have more than {max} bytes; draw a part, as --from {0} --to {1}", max = MOST_BYTES)]
+    TooLarge(u32, u32),
+}
+
+/// What is recorded of a run of a kernel of this system over events.
+#[tactic(none)]
+fn recorded<'a, B: Body>(
+    alloc: Global,
+    sys: &'a System,
+    kernel: &mut Kernel<B>,
+    events: &[Event],
+    objects: bool,
+    turns: &'a [IdleTurn],
+) -> Result<Recorder<'a>, AllocError>
+    requires { kernel.old.done + length events.now ≤ 2 ^ 20 }
+    ensures { IfOk result (λ recorder. WasShown
+        (λ x f. x.shown.items ≡ tasks_shown f.states f.blocks f.processors)
+        ⟦<Recorder<'a> as Viewer>⟧.shown B.meaning kernel.old events.now recorder) }
+{
+    let setup = last_frame(alloc, kernel)?;
+    let mut recorder = Recorder::new(alloc, sys, objects, turns, &setup)?;
+    show_all(alloc, kernel, events, &mut recorder)?;
+    Ok(recorder)
+}
+
+/// A run of a kernel of this system over events.
+#[tactic(none)]
+fn run_on<B: Body>(
+    alloc: Global,
+    sys: &System,
+    kernel: &mut Kernel<B>,
+    events: &[Event],
+    objects: bool,
+    turns: &[IdleTurn],
+) -> Result<Run, AllocError>
+    requires { kernel.old.done + length events.now ≤ 2 ^ 20 }
+{
+    let recorder = recorded(alloc, sys, kernel, events, objects, turns)?;
+    Ok(recorder.finish())
+}
+
+/// The turns that do nothing in a run of an image over events.
+#[tactic(none)]
+fn turns_of(
+    alloc: Global,
+    image: &Image,
+    events: &[Event],
+    bound: u64,
+) -> Result<Vec<IdleTurn>, AllocError>
+    requires { length events.now ≤ 2 ^ 20 }
+{
+    let mut kernel = fresh_kernel(alloc, image, kept_bound(bound))?;
+    idle_turns(alloc, &mut kernel, events)
+}
+
+/// A run of an image over events.
+#[tactic(none)]
+fn run_of(
+    alloc: Global,
+    image: &Image,
+    events: &[Event],
+    bound: u64,
+    objects: bool,
+) -> Result<Run, AllocError>
+    requires { length events.now ≤ 2 ^ 20 }
+{
+    let turns = turns_of(alloc, image, events, bound)?;
+    let mut kernel = fresh_kernel(alloc, image, kept_bound(bound))?;
+    run_on(alloc, image.system(), &mut kernel, events, objects, &turns)
+}
+
+/// The picture of what is wanted of a run.
+fn picture_of(
+    alloc: Global,
+    sys: &System,
+    run: &Run,
+    name: &[u8],
+    drawing: Drawing,
+) -> Result<Vec<u8>, TimelineFault> {
+    let last = run.next_event().saturating_sub(1);
+    if drawing.choice.first > last {
+        return Err(TimelineFault::NoEvent(last));
+    }
+    let page = Page::new(sys, run, drawing.choice);
+    match draw(alloc, sys, run, name, page) {
+        Ok(picture) => Ok(picture),
+        Err(DrawFault::Memory(_)) => Err(TimelineFault::Sim(SimFault::Memory)),
+        Err(DrawFault::TooLarge) => {
+            let half = page.last.saturating_sub(page.first) / 2;
+            let last = page.first.saturating_add(half);
+            Err(TimelineFault::TooLarge(page.first, last))
+        }
+    }
+}
+
+/// A run of an image over a steps text.
+fn run_over(
+    alloc: Global,
+    image: &Image,
+    steps: &[u8],
+    bound: u64,
+    objects: bool,
+) -> Result<Run, SimFault> {
+    let events = events_of(alloc, steps, image.system().processors)?;
+    made(run_of(alloc, image, &events, bound, objects))
+}
+
+/// The picture of a run of an image over a steps text.
+fn picture_over(
+    alloc: Global,
+    image: &Image,
+    steps: &[u8],
+    bound: u64,
+    name: &[u8],
+    drawing: Drawing,
+) -> Result<Vec<u8>, TimelineFault> {
+    match run_over(alloc, image, steps, bound, drawing.objects) {
+        Ok(run) => picture_of(alloc, image.system(), &run, name, drawing),
+        Err(fault) => Err(TimelineFault::Sim(fault)),
+    }
+}
+
+/// The picture of a run of the image of these bytes over a steps text, with this name as its title.
+pub fn timeline(
+    alloc: Global,
+    image: &[u8],
+    steps: &[u8],
+    bound: u64,
+    name: &[u8],
+    drawing: Drawing,
+) -> Result<Vec<u8>, TimelineFault> {
+    match image_of(alloc, image) {
+        Ok(image) => picture_over(alloc, &image, steps, bound, name, drawing),
+        Err(fault) => Err(TimelineFault::Sim(fault)),
+    }
+}
