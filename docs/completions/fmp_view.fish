@@ -1,5 +1,6 @@
 # Completion of fmp_view for fish. Made by checks/manual.py from the program's help.
 complete -c fmp_view -f -n __fish_use_subcommand -a code -d 'Says what a code means, when it comes, and an example'
+complete -c fmp_view -f -n __fish_use_subcommand -a fault -d 'Shows the fault of two texts: its line, what is wrong there and what was expected; or their warnings'
 complete -c fmp_view -f -n __fish_use_subcommand -a drive -d 'Prints a steps text that runs a system until it is quiet, or so many events are done'
 complete -c fmp_view -f -n __fish_use_subcommand -a stats -d 'Prints for each task of a run its starts, calls, waits, time-outs, preemptions and share'
 complete -c fmp_view -f -n __fish_use_subcommand -a waves -d 'Writes a run as a value change dump, which waveform viewers show'
@@ -7,6 +8,7 @@ complete -c fmp_view -f -n __fish_use_subcommand -a timeline -d 'Writes a run as
 complete -c fmp_view -n '__fish_use_subcommand' -s h -l help -d 'Print help'
 complete -c fmp_view -n '__fish_use_subcommand' -s V -l version -d 'Print version'
 complete -c fmp_view -n '__fish_seen_subcommand_from code' -s h -l help -d 'Print help'
+complete -c fmp_view -n '__fish_seen_subcommand_from fault' -s h -l help -d 'Print help'
 complete -c fmp_view -n '__fish_seen_subcommand_from drive' -l events -x -d 'How many events are done at most, 0 to 2^20 [default: 1000]'
 complete -c fmp_view -n '__fish_seen_subcommand_from drive' -l seed -x -d 'Order at random by this number, with ticks and the system'\''s interrupts between; without it the processors run in turn, and the clock ticks where all of them are idle'
 complete -c fmp_view -n '__fish_seen_subcommand_from drive' -l bound -x -d 'How many instructions a body may take up to its next service call, 1 to 2^48; a step that would take more does nothing [default: 100000]'

@@ -1,3 +1,5 @@
 pub mod Excerpts
+pub mod Excesses
 pub mod Nearest
 pub mod Reports
+pub mod Words

@@ -1,5 +1,5 @@
 -- A fault of a text as it is shown.
-use Rattle.std.specs.Prelude.{◌≡◌, ℕ, List, [], ◌++◌, length, min, codes, decimal}
+use Rattle.std.specs.Prelude.{◌≡◌, ℕ, ◌<◌, List, [], ◌++◌, length, min, codes, decimal}
 use Rattle.fmp_base.specs.Codes.{code_name}
 use Rattle.fmp_lex.specs.declared.fault.FaultKind.{FaultKind}
 use Rattle.fmp_lex.specs.declared.fault.FaultKind.TheVariants as fault
@@ -47,5 +47,6 @@ lines e = codes "\n    " ++ e.line.items ++ codes "\n    " ++ e.marks.items ++ c
 pub record IsReport (name text : List ℕ) (place : Place) (kind : FaultKind) (out : List ℕ) : Type 0 where
   pub excerpt : Excerpt
   pub sentence : List ℕ
+  pub said : 0 < length sentence
   pub shows : IsExcerpt text (min place.start (length text)) place.end excerpt
   pub whole : out ≡ head name place.line excerpt.column kind ++ sentence ++ lines excerpt

@@ -1,4 +1,7 @@
 //! What a configuration may go on with behind tokens that begin one.
+ghost use Rattle.std.specs.Prelude.{◌<◌, length, OnOk};
+ghost use Rattle.fmp_diagnosis.specs.Words.{IsSaid};
+
 use crate::apis::{api_at, is_symbol};
 use crate::fields::{Field, fields_of, object_of};
 use crate::words::{Word, say};
@@ -41,7 +44,9 @@ fn commas_behind(tokens: &Tokens<'_>, at: usize) -> usize {
 }
 
 /// What is to come in a head of this many tokens: `NUM_PRC ( number ) ;`.
-fn behind_processors(count: usize) -> &'static str {
+fn behind_processors(count: usize) -> &'static str
+    ensures { 0 < length result.now }
+{
     match count {
         1 => "`(`",
         2 => "the number of processors",
@@ -52,7 +57,9 @@ fn behind_processors(count: usize) -> &'static str {
 }
 
 /// Likewise `CLASS ( name ) {`.
-fn behind_class(count: usize) -> &'static str {
+fn behind_class(count: usize) -> &'static str
+    ensures { 0 < length result.now }
+{
     match count {
         1 => "`(`",
         2 => "the name of a class, as `TCL_1`",
@@ -64,33 +71,30 @@ fn behind_class(count: usize) -> &'static str {
 }
 
 /// What is to come in place of a field that begins.
-fn field_words(api: Api, field: usize) -> [Word; 3] {
+fn say_field(api: Api, field: usize, out: &mut Vec<u8>) -> Result<(), AllocError>
+    ensures { OnOk result (IsSaid out.old.items out.new.items) }
+{
+    let of = Word::Text(" of ");
+    let name = Word::Quoted(api.name());
     match fields_of(api).get(field) {
-        Some(Field::Name) => [
-            Word::Text("a name for "),
-            Word::Text(object_of(api)),
-            Word::Text(""),
-        ],
-        Some(Field::Null) => [
-            Word::Text("`NULL`"),
-            Word::Text(" of "),
-            Word::Quoted(api.name()),
-        ],
-        Some(field) => [
-            Word::The(field.called()),
-            Word::Text(" of "),
-            Word::Quoted(api.name()),
-        ],
-        None => [
-            Word::Text("a value"),
-            Word::Text(" of "),
-            Word::Quoted(api.name()),
-        ],
+        Some(Field::Name) => say(
+            &[Word::Text("a name for "), Word::Text(object_of(api))],
+            out,
+        ),
+        Some(Field::Entry) => say(
+            &[Word::Text("the name of a body, the entry"), of, name],
+            out,
+        ),
+        Some(Field::Null) => say(&[Word::Text("`NULL`"), of, name], out),
+        Some(field) => say(&[Word::The(field.called()), of, name], out),
+        None => say(&[Word::Text("a value"), of, name], out),
     }
 }
 
 /// What is to come behind a field.
-fn say_behind_field(api: Api, field: usize, out: &mut Vec<u8>) -> Result<(), AllocError> {
+fn say_behind_field(api: Api, field: usize, out: &mut Vec<u8>) -> Result<(), AllocError>
+    ensures { OnOk result (IsSaid out.old.items out.new.items) }
+{
     let next = field.saturating_add(1);
     if next >= fields_of(api).len() {
         return say(
@@ -102,7 +106,7 @@ fn say_behind_field(api: Api, field: usize, out: &mut Vec<u8>) -> Result<(), All
         );
     }
     say(&[Word::Text("`,` and ")], out)?;
-    say(&field_words(api, next), out)
+    say_field(api, next, out)
 }
 
 /// What is to come within the API at a place, behind its last token.
@@ -112,13 +116,15 @@ fn say_in_api(
     api: Api,
     last: TokenKind,
     out: &mut Vec<u8>,
-) -> Result<(), AllocError> {
+) -> Result<(), AllocError>
+    ensures { OnOk result (IsSaid out.old.items out.new.items) }
+{
     let field = commas_behind(tokens, at);
     match last {
         TokenKind::Api(_) => say(&[Word::Text("`(`")], out),
-        TokenKind::Symbol(Symbol::LeftParen) => say(&field_words(api, 0), out),
+        TokenKind::Symbol(Symbol::LeftParen) => say_field(api, 0, out),
         TokenKind::Symbol(Symbol::Comma) if field == 1 => say(&[Word::Text("`{`")], out),
-        TokenKind::Symbol(Symbol::Comma | Symbol::LeftBrace) => say(&field_words(api, field), out),
+        TokenKind::Symbol(Symbol::Comma | Symbol::LeftBrace) => say_field(api, field, out),
         TokenKind::Symbol(Symbol::Or) => say(&[Word::Text("a number or a constant")], out),
         TokenKind::Symbol(Symbol::Minus) => say(&[Word::Text("a number")], out),
         TokenKind::Symbol(Symbol::RightBrace) => say(&[Word::Text("`)`")], out),
@@ -134,7 +140,9 @@ fn say_from_api(
     at: usize,
     api: Api,
     out: &mut Vec<u8>,
-) -> Result<(), AllocError> {
+) -> Result<(), AllocError>
+    ensures { OnOk result (IsSaid out.old.items out.new.items) }
+{
     let last = tokens.len().saturating_sub(1);
     if is_symbol(tokens, last, Symbol::Semicolon) {
         return say(&[Word::Text("a static API or `}`")], out);
@@ -146,7 +154,7 @@ fn say_from_api(
     }
     match tokens.kind(last) {
         Some(kind) => say_in_api(tokens, at, api, kind, out),
-        None => Ok(()),
+        None => say(&[Word::Text("`NUM_PRC`")], out),
     }
 }
 
@@ -162,7 +170,9 @@ pub fn may_be_api(tokens: &Tokens<'_>) -> bool {
 }
 
 /// Says what a configuration may go on with behind these tokens, which begin one.
-pub fn say_expected(tokens: &Tokens<'_>, out: &mut Vec<u8>) -> Result<(), AllocError> {
+pub fn say_expected(tokens: &Tokens<'_>, out: &mut Vec<u8>) -> Result<(), AllocError>
+    ensures { OnOk result (IsSaid out.old.items out.new.items) }
+{
     match last_head(tokens) {
         None => say(&[Word::Text("`NUM_PRC`")], out),
         Some((Head::Processors, at)) => {

@@ -1,7 +1,11 @@
 //! What a task text may go on with behind tokens that begin one.
+ghost use Rattle.std.specs.Prelude.{◌<◌, length, OnOk};
+ghost use Rattle.fmp_diagnosis.specs.Words.{IsSaid};
+
+use crate::around::name_at;
 use crate::calls::{argument_count, nesting_from, out_place};
 use crate::words::{Word, counted, say};
-use fmp_base::Service;
+use fmp_base::{Name, Service};
 use fmp_lex::{Keyword, Symbol, TokenKind, Tokens};
 use std::alloc::AllocError;
 
@@ -20,6 +24,16 @@ fn statement_begin(tokens: &Tokens<'_>) -> usize {
         }
     }
     begin
+}
+
+/// The name with which a statement begins that has nothing else yet.
+pub fn head_name(tokens: &Tokens<'_>) -> Option<Name> {
+    let begin = statement_begin(tokens);
+    if begin.saturating_add(1) == tokens.len() {
+        name_at(tokens, begin)
+    } else {
+        None
+    }
 }
 
 /// Whether all bodies are closed.
@@ -47,12 +61,17 @@ fn ends_operand(kind: TokenKind) -> bool {
 }
 
 /// What is to come behind the tokens of an expression, where this closes it.
-fn in_expression(last: TokenKind, closing: &'static str) -> &'static str {
+fn in_expression(last: TokenKind, closing: &'static str) -> &'static str
+    requires { 0 < length closing.now }
+    ensures { 0 < length result.now }
+{
     if ends_operand(last) { closing } else { OPERAND }
 }
 
 /// What is to come where an argument of a call begins.
-fn say_argument(service: Service, place: usize, out: &mut Vec<u8>) -> Result<(), AllocError> {
+fn say_argument(service: Service, place: usize, out: &mut Vec<u8>) -> Result<(), AllocError>
+    ensures { OnOk result (IsSaid out.old.items out.new.items) }
+{
     if argument_count(service) == 0 {
         return say(
             &[
@@ -84,11 +103,9 @@ fn say_argument(service: Service, place: usize, out: &mut Vec<u8>) -> Result<(),
 }
 
 /// What is to come behind an argument of a call.
-fn say_behind_argument(
-    service: Service,
-    place: usize,
-    out: &mut Vec<u8>,
-) -> Result<(), AllocError> {
+fn say_behind_argument(service: Service, place: usize, out: &mut Vec<u8>) -> Result<(), AllocError>
+    ensures { OnOk result (IsSaid out.old.items out.new.items) }
+{
     let count = argument_count(service);
     let mark = if place.saturating_add(1) < count {
         "`,`"
@@ -120,7 +137,9 @@ fn say_in_call(
     service: Service,
     last: TokenKind,
     out: &mut Vec<u8>,
-) -> Result<(), AllocError> {
+) -> Result<(), AllocError>
+    ensures { OnOk result (IsSaid out.old.items out.new.items) }
+{
     let nesting = nesting_from(tokens, at.saturating_add(1));
     let is_out = out_place(service).map(usize::from) == Some(nesting.commas);
     match last {
@@ -140,7 +159,9 @@ fn say_in_call(
 }
 
 /// What is to come behind `if` or `while` at a place.
-fn in_condition(tokens: &Tokens<'_>, at: usize, last: TokenKind) -> &'static str {
+fn in_condition(tokens: &Tokens<'_>, at: usize, last: TokenKind) -> &'static str
+    ensures { 0 < length result.now }
+{
     let nesting = nesting_from(tokens, at);
     if nesting.open > 0 {
         in_expression(last, "an operator or `)`")
@@ -151,34 +172,38 @@ fn in_condition(tokens: &Tokens<'_>, at: usize, last: TokenKind) -> &'static str
     }
 }
 
+/// What is to come behind a name at the head of a statement, where no call is assigned to it.
+fn behind_name(tokens: &Tokens<'_>, begin: usize, last: TokenKind) -> &'static str
+    ensures { 0 < length result.now }
+{
+    match tokens.len().saturating_sub(begin) {
+        1 => "`=`",
+        2 => "an expression or a service call",
+        _ if nesting_from(tokens, begin).open > 0 => in_expression(last, "an operator or `)`"),
+        _ => in_expression(last, "an operator or `;`"),
+    }
+}
+
 /// What is to come behind a name at the head of a statement.
 fn say_assignment(
     tokens: &Tokens<'_>,
     begin: usize,
     last: TokenKind,
     out: &mut Vec<u8>,
-) -> Result<(), AllocError> {
+) -> Result<(), AllocError>
+    ensures { OnOk result (IsSaid out.old.items out.new.items) }
+{
     let source = begin.saturating_add(2);
     if let Some(TokenKind::Service(service)) = tokens.kind(source) {
         return say_in_call(tokens, source, service, last, out);
     }
-    let text = match tokens.len().saturating_sub(begin) {
-        1 => "`=`",
-        2 => "an expression or a service call",
-        _ => {
-            let closing = if nesting_from(tokens, source).open > 0 {
-                "an operator or `)`"
-            } else {
-                "an operator or `;`"
-            };
-            in_expression(last, closing)
-        }
-    };
-    say(&[Word::Text(text)], out)
+    say(&[Word::Text(behind_name(tokens, begin, last))], out)
 }
 
 /// What is to come behind a keyword at the head of a statement, of which so many tokens are there.
-fn behind_keyword(keyword: Keyword, count: usize) -> &'static str {
+fn behind_keyword(keyword: Keyword, count: usize) -> &'static str
+    ensures { 0 < length result.now }
+{
     match (keyword, count) {
         (Keyword::Var, 1) => "the name of a variable",
         (Keyword::Task | Keyword::Handler, 1) => "the name of a body",
@@ -189,24 +214,42 @@ fn behind_keyword(keyword: Keyword, count: usize) -> &'static str {
 }
 
 /// What is to come behind a statement that begins with a keyword.
+fn within_keyword(
+    tokens: &Tokens<'_>,
+    begin: usize,
+    keyword: Keyword,
+    last: TokenKind,
+) -> &'static str
+    ensures { 0 < length result.now }
+{
+    let second = begin.saturating_add(1);
+    match (keyword, tokens.kind(second)) {
+        (Keyword::If | Keyword::While, _) => in_condition(tokens, begin, last),
+        (Keyword::Else, Some(_)) => in_condition(tokens, second, last),
+        _ => behind_keyword(keyword, tokens.len().saturating_sub(begin)),
+    }
+}
+
+/// Says what is to come behind a statement that begins with a keyword.
 fn say_keyword(
     tokens: &Tokens<'_>,
     begin: usize,
     keyword: Keyword,
     last: TokenKind,
     out: &mut Vec<u8>,
-) -> Result<(), AllocError> {
-    let second = begin.saturating_add(1);
-    let text = match (keyword, tokens.kind(second)) {
-        (Keyword::If | Keyword::While, _) => in_condition(tokens, begin, last),
-        (Keyword::Else, Some(_)) => in_condition(tokens, second, last),
-        _ => behind_keyword(keyword, tokens.len().saturating_sub(begin)),
-    };
-    say(&[Word::Text(text)], out)
+) -> Result<(), AllocError>
+    ensures { OnOk result (IsSaid out.old.items out.new.items) }
+{
+    say(
+        &[Word::Text(within_keyword(tokens, begin, keyword, last))],
+        out,
+    )
 }
 
 /// What is to come where a statement begins.
-fn at_begin(tokens: &Tokens<'_>) -> &'static str {
+fn at_begin(tokens: &Tokens<'_>) -> &'static str
+    ensures { 0 < length result.now }
+{
     if is_outside(tokens) {
         "`task`, `handler` or the end of the text"
     } else {
@@ -215,7 +258,9 @@ fn at_begin(tokens: &Tokens<'_>) -> &'static str {
 }
 
 /// Says what a task text may go on with behind these tokens, which begin one.
-pub fn say_expected(tokens: &Tokens<'_>, out: &mut Vec<u8>) -> Result<(), AllocError> {
+pub fn say_expected(tokens: &Tokens<'_>, out: &mut Vec<u8>) -> Result<(), AllocError>
+    ensures { OnOk result (IsSaid out.old.items out.new.items) }
+{
     let begin = statement_begin(tokens);
     let Some(last) = tokens.kind(tokens.len().saturating_sub(1)) else {
         return say(&[Word::Text("`task` or `handler`")], out);

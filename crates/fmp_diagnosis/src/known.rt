@@ -1,11 +1,14 @@
 //! The names that are known at a place of the texts.
+ghost use Rattle.std.specs.Prelude.{OnOk};
+ghost use Rattle.fmp_diagnosis.specs.Words.{MaySay};
+
 use crate::apis::object_name;
 use crate::around::{begins_body, last_body, name_at};
-use crate::nearness::nearest;
+use crate::nearness::{nearest, other_case};
 use crate::words::{Word, say};
 use fmp_base::{Name, Service};
-use fmp_lex::words::{APIS, CONSTANTS, SERVICES};
-use fmp_lex::{Keyword, TokenKind, Tokens};
+use fmp_lex::words::{APIS, CONSTANTS, KEYWORDS, SERVICES};
+use fmp_lex::{Keyword, TextFile, TokenKind, Tokens};
 use std::alloc::{AllocError, Global};
 
 fn add(known: &mut Vec<Name>, text: &str) -> Result<(), AllocError> {
@@ -20,6 +23,25 @@ pub fn constants(alloc: Global) -> Result<Vec<Name>, AllocError> {
     let mut known = Vec::new(alloc);
     for constant in &CONSTANTS {
         add(&mut known, constant.name())?;
+    }
+    Ok(known)
+}
+
+/// The text in which a keyword stands.
+fn text_of(keyword: Keyword) -> TextFile {
+    match keyword {
+        Keyword::NumPrc | Keyword::Class | Keyword::Null => TextFile::Configuration,
+        _ => TextFile::Source,
+    }
+}
+
+/// The keywords of a text.
+pub fn keywords(alloc: Global, file: TextFile) -> Result<Vec<Name>, AllocError> {
+    let mut known = Vec::new(alloc);
+    for keyword in &KEYWORDS {
+        if text_of(*keyword) == file {
+            add(&mut known, keyword.name())?;
+        }
     }
     Ok(known)
 }
@@ -80,14 +102,25 @@ pub fn variables(alloc: Global, tokens: &Tokens<'_>) -> Result<Vec<Name>, AllocE
     Ok(known)
 }
 
-/// Asks whether the nearest of the known names was meant, if one is near.
+/// The place of the known name that was meant by a name: the nearest one if one is near, else one with the same letters
+/// in another case.
+fn meant(alloc: Global, name: &Name, known: &[Name]) -> Result<Option<usize>, AllocError> {
+    match nearest(alloc, name, known)? {
+        Some(place) => Ok(Some(place)),
+        None => Ok(other_case(name, known)),
+    }
+}
+
+/// Asks whether a known name was meant, where one is near.
 pub fn say_nearest(
     alloc: Global,
     name: &Name,
     known: &[Name],
     out: &mut Vec<u8>,
-) -> Result<(), AllocError> {
-    match nearest(alloc, name, known)?.and_then(|place| known.get(place)) {
+) -> Result<(), AllocError>
+    ensures { OnOk result (MaySay out.old.items out.new.items) }
+{
+    match meant(alloc, name, known)?.and_then(|place| known.get(place)) {
         Some(found) => say(
             &[
                 Word::Text("; did you mean "),

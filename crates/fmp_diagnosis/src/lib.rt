@@ -12,6 +12,7 @@ mod known;
 mod limits;
 mod names;
 mod nearness;
+mod needs;
 mod objects;
 mod refusals;
 mod reports;

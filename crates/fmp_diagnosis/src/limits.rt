@@ -1,10 +1,14 @@
 //! What is said of a limit that is passed.
+ghost use Rattle.std.specs.Prelude.{◌<◌, length, OnOk};
+ghost use Rattle.fmp_diagnosis.specs.Words.{IsSaid, IsSaidFirst, quoted};
+ghost use Rattle.fmp_base.specs.Names.{name_text};
+
 use crate::apis::api_at;
 use crate::around::{Around, begins_body};
 use crate::syntax::say_too_great;
-use crate::words::{Word, counted, say};
+use crate::words::{Word, counted, say, say_of};
 use fmp_base::Name;
-use fmp_lex::{Api, Keyword, TextFile, TokenKind, Tokens};
+use fmp_lex::{Api, Keyword, Symbol, TextFile, TokenKind, Tokens};
 use std::alloc::AllocError;
 
 /// The greatest number of bytes of a text.
@@ -18,7 +22,9 @@ fn count_bodies(tokens: &Tokens<'_>) -> usize {
 }
 
 /// Says that the text has too many bytes.
-fn say_long_text(length: usize, out: &mut Vec<u8>) -> Result<(), AllocError> {
+fn say_long_text(length: usize, out: &mut Vec<u8>) -> Result<(), AllocError>
+    ensures { OnOk result (IsSaid out.old.items out.new.items) }
+{
     say(
         &[
             Word::Text("the text has "),
@@ -30,7 +36,9 @@ fn say_long_text(length: usize, out: &mut Vec<u8>) -> Result<(), AllocError> {
 }
 
 /// Says that there are too many of a kind.
-fn say_many(api: Api, out: &mut Vec<u8>) -> Result<(), AllocError> {
+fn say_many(api: Api, out: &mut Vec<u8>) -> Result<(), AllocError>
+    ensures { OnOk result (IsSaid out.old.items out.new.items) }
+{
     say(
         &[
             Word::Text("this is the 256th "),
@@ -42,7 +50,9 @@ fn say_many(api: Api, out: &mut Vec<u8>) -> Result<(), AllocError> {
 }
 
 /// Says which limit a token of the configuration passes.
-fn say_in_configuration(around: &Around<'_>, out: &mut Vec<u8>) -> Result<(), AllocError> {
+fn say_in_configuration(around: &Around<'_>, out: &mut Vec<u8>) -> Result<(), AllocError>
+    ensures { OnOk result (IsSaid out.old.items out.new.items) }
+{
     if let Some(api) = api_at(&around.rest.tokens, 0) {
         return say_many(api, out);
     }
@@ -51,36 +61,82 @@ fn say_in_configuration(around: &Around<'_>, out: &mut Vec<u8>) -> Result<(), Al
             &[
                 Word::Text("the number of processors is "),
                 Word::Number(i64::from(number)),
-                Word::Text("; it is 1 to 8"),
+                Word::Text("; it must be 1 to 8"),
             ],
             out,
         ),
-        _ => Ok(()),
+        _ => say(&[Word::Text("a limit is passed")], out),
     }
 }
 
-/// Says which limit the body passes whose first word stands at the place.
-fn say_body(around: &Around<'_>, out: &mut Vec<u8>) -> Result<(), AllocError> {
-    let text = if count_bodies(&around.before.tokens) >= 255 {
-        "this is the 256th body; a text has at most 255"
+/// What is said of a body that is too long, or needs too many operands, by the tokens from its first word on.
+///
+/// A token is compiled to at most 4 instructions. Within k open parentheses an expression needs at most 1 + 7 * (k + 1)
+/// operands at once, since there are 7 levels of operators that keep one while the right side is worked out, and the
+/// arguments of a call before it at most 4 more.
+fn excess_of_body(tokens: &Tokens<'_>) -> &'static str
+    ensures { 0 < length result.now }
+{
+    let end = body_end(tokens);
+    if end < 16_384 {
+        "the body needs more than 64 operands at once; it may need at most 64"
+    } else if deepest(tokens, end) <= 7 {
+        "the body has more than 65535 instructions; it may have at most 65535"
     } else {
-        "the body is too long: it has more than 65535 instructions, or needs more than 64 operands at once"
-    };
-    say(&[Word::Text(text)], out)
+        "the body has more than 65535 instructions, or needs more than 64 operands at once"
+    }
 }
 
-fn say_variable(name: Name, out: &mut Vec<u8>) -> Result<(), AllocError> {
-    say(
-        &[
-            Word::Name(name),
-            Word::Text(" is the 65th variable of this body with `exinf`; a body has at most 64"),
-        ],
+/// The place behind the body with whose first word the tokens begin.
+fn body_end(tokens: &Tokens<'_>) -> usize {
+    (1..tokens.len())
+        .find(|at| tokens.kind(*at).is_some_and(begins_body))
+        .unwrap_or(tokens.len())
+}
+
+/// How many parentheses are open at most among the tokens up to a place.
+fn deepest(tokens: &Tokens<'_>, end: usize) -> usize {
+    let mut open = 0usize;
+    let mut most = 0usize;
+    for at in 0..end {
+        match tokens.kind(at) {
+            Some(TokenKind::Symbol(Symbol::LeftParen)) => open = open.saturating_add(1),
+            Some(TokenKind::Symbol(Symbol::RightParen)) => open = open.saturating_sub(1),
+            _ => {}
+        }
+        most = most.max(open);
+    }
+    most
+}
+
+/// Says which limit the body passes whose first word stands at the place.
+fn say_body(around: &Around<'_>, out: &mut Vec<u8>) -> Result<(), AllocError>
+    ensures { OnOk result (IsSaid out.old.items out.new.items) }
+{
+    if count_bodies(&around.before.tokens) >= 255 {
+        return say(
+            &[Word::Text("this is the 256th body; a text has at most 255")],
+            out,
+        );
+    }
+    say(&[Word::Text(excess_of_body(&around.rest.tokens))], out)
+}
+
+fn say_variable(name: Name, out: &mut Vec<u8>) -> Result<(), AllocError>
+    ensures said { OnOk result (IsSaid out.old.items out.new.items) }
+    ensures names { OnOk result (IsSaidFirst (quoted (name_text name)) out.old.items out.new.items) }
+{
+    say_of(
+        &name,
+        &[Word::Text(" is the 65th variable of this body with `exinf`; a body has at most 64")],
         out,
     )
 }
 
 /// Says which limit a token of the task text passes.
-fn say_in_source(around: &Around<'_>, out: &mut Vec<u8>) -> Result<(), AllocError> {
+fn say_in_source(around: &Around<'_>, out: &mut Vec<u8>) -> Result<(), AllocError>
+    ensures { OnOk result (IsSaid out.old.items out.new.items) }
+{
     match (around.here(), around.back(1)) {
         (Some(kind), _) if begins_body(kind) => say_body(around, out),
         (Some(TokenKind::Name(name)), Some(TokenKind::Keyword(Keyword::Var))) => {
@@ -99,7 +155,9 @@ pub fn say_limit(
     file: TextFile,
     around: &Around<'_>,
     out: &mut Vec<u8>,
-) -> Result<(), AllocError> {
+) -> Result<(), AllocError>
+    ensures { OnOk result (IsSaid out.old.items out.new.items) }
+{
     if length > TEXT_MAX {
         return say_long_text(length, out);
     }

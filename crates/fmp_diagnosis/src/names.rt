@@ -1,12 +1,22 @@
 //! What is said of a name that is used twice, and of one that nothing has.
+ghost use Rattle.std.specs.Prelude.{OnOk};
+ghost use Rattle.fmp_diagnosis.specs.Words.{IsSaid, IsSaidFirst, quoted};
+ghost use Rattle.fmp_base.specs.Names.{name_text};
+
 use crate::apis::{api_at, entry_of, object_name, unknown_constant};
 use crate::around::{Around, is_same, last_body, line_of, list_of, name_at};
 use crate::fields::Field;
 use crate::known::{bodies, constants, objects, say_nearest, variables};
-use crate::words::{Word, say};
+use crate::words::{Word, say, say_of};
 use fmp_base::Name;
 use fmp_lex::{Api, Keyword, Symbol, TextFile, TokenKind, Tokens};
 use std::alloc::{AllocError, Global};
+
+/// What is said where no name is found that is used twice.
+const TWICE: &str = "a name is used twice";
+
+/// What is said where no name is found that nothing has.
+const UNKNOWN: &str = "nothing has this name";
 
 /// The first place among tokens whose object has this name.
 fn object_at(tokens: &Tokens<'_>, name: &Name) -> Option<usize> {
@@ -37,13 +47,13 @@ fn say_used(
     what: &'static str,
     line: Option<u32>,
     out: &mut Vec<u8>,
-) -> Result<(), AllocError> {
-    say(
-        &[
-            Word::Name(name),
-            Word::Text(" is the name of "),
-            Word::Text(what),
-        ],
+) -> Result<(), AllocError>
+    ensures said { OnOk result (IsSaid out.old.items out.new.items) }
+    ensures names { OnOk result (IsSaidFirst (quoted (name_text name)) out.old.items out.new.items) }
+{
+    say_of(
+        &name,
+        &[Word::Text(" is the name of "), Word::Text(what)],
         out,
     )?;
     match line {
@@ -68,7 +78,10 @@ fn say_twice_in_source(
     around: &Around<'_>,
     name: Name,
     out: &mut Vec<u8>,
-) -> Result<(), AllocError> {
+) -> Result<(), AllocError>
+    ensures said { OnOk result (IsSaid out.old.items out.new.items) }
+    ensures names { OnOk result (IsSaidFirst (quoted (name_text name)) out.old.items out.new.items) }
+{
     let before = &around.before.tokens;
     if around.back(1) != Some(TokenKind::Keyword(Keyword::Var)) {
         let line = line_behind(before, 0, &name, &[Keyword::Task, Keyword::Handler]);
@@ -92,19 +105,21 @@ pub fn say_twice(
     file: TextFile,
     around: &Around<'_>,
     out: &mut Vec<u8>,
-) -> Result<(), AllocError> {
+) -> Result<(), AllocError>
+    ensures { OnOk result (IsSaid out.old.items out.new.items) }
+{
     if file == TextFile::Configuration {
         return match object_name(&around.rest.tokens, 0) {
             Some(name) => {
                 let line = line_of_object(&around.before.tokens, &name);
                 say_used(name, "an object already", line, out)
             }
-            None => Ok(()),
+            None => say(&[Word::Text(TWICE)], out),
         };
     }
     match name_at(&around.rest.tokens, 0) {
         Some(name) => say_twice_in_source(alloc, cfg, around, name, out),
-        None => Ok(()),
+        None => say(&[Word::Text(TWICE)], out),
     }
 }
 
@@ -117,7 +132,9 @@ fn processors(tokens: &Tokens<'_>) -> i32 {
 }
 
 /// Says that there is no class of this name.
-fn say_class(around: &Around<'_>, name: Name, out: &mut Vec<u8>) -> Result<(), AllocError> {
+fn say_class(around: &Around<'_>, name: Name, out: &mut Vec<u8>) -> Result<(), AllocError>
+    ensures { OnOk result (IsSaid out.old.items out.new.items) }
+{
     let count = processors(&around.before.tokens);
     say(&[Word::Text("there is no class "), Word::Name(name)], out)?;
     if count == 1 {
@@ -145,16 +162,18 @@ fn say_unknown_constant(
     field: Field,
     name: Name,
     out: &mut Vec<u8>,
-) -> Result<(), AllocError> {
+) -> Result<(), AllocError>
+    ensures said { OnOk result (IsSaid out.old.items out.new.items) }
+    ensures names { OnOk result (IsSaidFirst (quoted (name_text name)) out.old.items out.new.items) }
+{
     let words = [
-        Word::Name(name),
         Word::Text(" is no constant: "),
         Word::The(field.called()),
         Word::Text(" of "),
         Word::Quoted(api.name()),
         Word::Text(" is a value"),
     ];
-    say(&words, out)?;
+    say_of(&name, &words, out)?;
     let known = constants(alloc)?;
     say_nearest(alloc, &name, &known, out)
 }
@@ -171,7 +190,9 @@ fn say_unknown_entry(
     src: &[u8],
     name: Name,
     out: &mut Vec<u8>,
-) -> Result<(), AllocError> {
+) -> Result<(), AllocError>
+    ensures { OnOk result (IsSaid out.old.items out.new.items) }
+{
     let words = [
         Word::Text("no body of the task text has the name "),
         Word::Name(name),
@@ -188,13 +209,15 @@ fn say_unknown_in_api(
     tokens: &Tokens<'_>,
     api: Api,
     out: &mut Vec<u8>,
-) -> Result<(), AllocError> {
+) -> Result<(), AllocError>
+    ensures { OnOk result (IsSaid out.old.items out.new.items) }
+{
     if let Some((field, name)) = unknown_constant(tokens, 0, api) {
         return say_unknown_constant(alloc, api, field, name, out);
     }
     match entry_of(tokens, 0, api) {
         Some(name) => say_unknown_entry(alloc, src, name, out),
-        None => Ok(()),
+        None => say(&[Word::Text(UNKNOWN)], out),
     }
 }
 
@@ -223,37 +246,49 @@ fn say_written(
     around: &Around<'_>,
     name: Name,
     out: &mut Vec<u8>,
-) -> Result<(), AllocError> {
+) -> Result<(), AllocError>
+    ensures said { OnOk result (IsSaid out.old.items out.new.items) }
+    ensures names { OnOk result (IsSaidFirst (quoted (name_text name)) out.old.items out.new.items) }
+{
     if objects.iter().any(|one| is_same(one, &name)) {
-        let words = [
-            Word::Name(name),
-            Word::Text(" is an object; only a variable is written"),
-        ];
-        return say(&words, out);
+        let words = [Word::Text(" is an object; only a variable is written")];
+        return say_of(&name, &words, out);
     }
-    say(
-        &[Word::Name(name), Word::Text(" is no variable of this body")],
-        out,
-    )?;
+    say_of(&name, &[Word::Text(" is no variable of this body")], out)?;
     let known = variables(alloc, &around.before.tokens)?;
     say_nearest(alloc, &name, &known, out)
 }
 
-/// Says that a name which is read is neither a variable nor an object.
+/// Whether a body has this name.
+fn is_body(around: &Around<'_>, name: &Name) -> bool {
+    let keywords = [Keyword::Task, Keyword::Handler];
+    line_behind(&around.before.tokens, 0, name, &keywords).is_some()
+        || line_behind(&around.rest.tokens, 0, name, &keywords).is_some()
+}
+
+/// Says that a name which is read is neither a variable, an object nor a constant.
 fn say_read(
     alloc: Global,
     objects: &[Name],
     around: &Around<'_>,
     name: Name,
     out: &mut Vec<u8>,
-) -> Result<(), AllocError> {
-    let words = [
-        Word::Name(name),
-        Word::Text(" is neither a variable of this body nor an object"),
-    ];
-    say(&words, out)?;
+) -> Result<(), AllocError>
+    ensures said { OnOk result (IsSaid out.old.items out.new.items) }
+    ensures names { OnOk result (IsSaidFirst (quoted (name_text name)) out.old.items out.new.items) }
+{
+    if is_body(around, &name) {
+        let words = [Word::Text(
+            " is a body; what stands here is a variable of this body, an object or a constant",
+        )];
+        return say_of(&name, &words, out);
+    }
+    let words = [Word::Text(" is neither a variable of this body, an object nor a constant")];
+    say_of(&name, &words, out)?;
     let mut known = variables(alloc, &around.before.tokens)?;
     known.extend_from_slice(objects)?;
+    let constants = constants(alloc)?;
+    known.extend_from_slice(&constants)?;
     say_nearest(alloc, &name, &known, out)
 }
 
@@ -264,7 +299,10 @@ fn say_unknown_in_source(
     around: &Around<'_>,
     name: Name,
     out: &mut Vec<u8>,
-) -> Result<(), AllocError> {
+) -> Result<(), AllocError>
+    ensures said { OnOk result (IsSaid out.old.items out.new.items) }
+    ensures names { OnOk result (IsSaidFirst (quoted (name_text name)) out.old.items out.new.items) }
+{
     let objects = objects_of(alloc, cfg)?;
     if is_written(around) {
         say_written(alloc, &objects, around, name, out)
@@ -281,7 +319,9 @@ pub fn say_unknown(
     file: TextFile,
     around: &Around<'_>,
     out: &mut Vec<u8>,
-) -> Result<(), AllocError> {
+) -> Result<(), AllocError>
+    ensures { OnOk result (IsSaid out.old.items out.new.items) }
+{
     let tokens = &around.rest.tokens;
     if let Some(api) = api_at(tokens, 0) {
         return say_unknown_in_api(alloc, src, tokens, api, out);
@@ -289,6 +329,6 @@ pub fn say_unknown(
     match (name_at(tokens, 0), file) {
         (Some(name), TextFile::Configuration) => say_class(around, name, out),
         (Some(name), TextFile::Source) => say_unknown_in_source(alloc, cfg, around, name, out),
-        (None, _) => Ok(()),
+        (None, _) => say(&[Word::Text(UNKNOWN)], out),
     }
 }

@@ -47,6 +47,13 @@ fn is_near(name: &Name, distance: usize) -> bool
     distance <= 2 && 2 * distance < name.as_bytes().len()
 }
 
+/// The place of the first known name with the letters of a name, each in either case.
+pub fn other_case(name: &Name, known: &[Name]) -> Option<usize> {
+    known
+        .iter()
+        .position(|one| one.as_bytes().eq_ignore_ascii_case(name.as_bytes()))
+}
+
 /// The place of the known name that is nearest to a name, the first one of several, by the bytes that have to be put
 /// in, left out or changed. None where each takes more than 2 of them, or half of the name or more. `AllocError` for
 /// want of memory.

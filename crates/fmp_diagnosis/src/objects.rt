@@ -1,6 +1,6 @@
 //! The objects of a configuration, and how a task text uses them.
 use crate::apis::{api_at, object_name};
-use crate::wanted::raises;
+use crate::wanted::raised_by;
 use fmp_base::{Name, Service};
 use fmp_cfgparse::ObjectName;
 use fmp_lex::{Api, Tokens};
@@ -81,7 +81,7 @@ impl Objects {
     pub fn note_call(&mut self, service: Service, name: Name) {
         if let Some(place) = self.place(name) {
             if let Some(row) = self.rows.get_mut(place) {
-                row.is_raised = row.is_raised || raises(service);
+                row.is_raised = row.is_raised || raised_by(service) == Some(row.api);
             }
         }
     }

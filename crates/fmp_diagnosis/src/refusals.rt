@@ -1,11 +1,17 @@
 //! What is said of a static API that refuses its values, or whose entry does not fit.
+ghost use Rattle.std.specs.Prelude.{◌≡◌, true, IfSome, OnOk};
+ghost use Rattle.fmp_diagnosis.specs.Excesses as spec;
+ghost use Rattle.fmp_diagnosis.specs.Words.{IsSaid};
+
 use crate::apis::{api_at, entry_of, value_of};
 use crate::around::{Around, line_of};
 use crate::fields::{Field, attributes_of, fields_of, object_of};
+use crate::needs::operands_of;
+use crate::sentence::Texts;
 use crate::words::{Word, say};
-use fmp_base::Er;
+use fmp_base::{Er, Name};
 use fmp_lex::{Api, Tokens};
-use std::alloc::AllocError;
+use std::alloc::{AllocError, Global};
 
 /// A field, its value, and the least and the greatest value that it may have.
 #[derive(Clone, Copy)]
@@ -16,9 +22,17 @@ struct Excess {
     high: i32,
 }
 
+fn is_within(value: i32, low: i32, high: i32) -> bool
+    ensures { result ≡ spec.is_within value low high }
+{
+    low <= value && value <= high
+}
+
 /// A field whose value is out of this range.
-fn excess_over(field: Field, value: i32, low: i32, high: i32) -> Option<Excess> {
-    if low <= value && value <= high {
+fn excess_over(field: Field, value: i32, low: i32, high: i32) -> Option<Excess>
+    ensures { IfSome result (λ e. spec.is_outside e ≡ true) }
+{
+    if is_within(value, low, high) {
         return None;
     }
     Some(Excess {
@@ -30,7 +44,9 @@ fn excess_over(field: Field, value: i32, low: i32, high: i32) -> Option<Excess> 
 }
 
 /// The excess of a field of the API that begins these tokens, if its value is out of its range.
-fn excess_of(tokens: &Tokens<'_>, api: Api, field: Field) -> Option<Excess> {
+fn excess_of(tokens: &Tokens<'_>, api: Api, field: Field) -> Option<Excess>
+    ensures { IfSome result (λ e. spec.is_outside e ≡ true) }
+{
     let value = value_of(tokens, 0, api, field);
     if field == Field::InitialCount {
         let most = value_of(tokens, 0, api, Field::GreatestCount);
@@ -44,7 +60,9 @@ fn excess_of(tokens: &Tokens<'_>, api: Api, field: Field) -> Option<Excess> {
 }
 
 /// The first field of the API that begins these tokens whose value is out of its range.
-fn first_excess(tokens: &Tokens<'_>, api: Api) -> Option<Excess> {
+fn first_excess(tokens: &Tokens<'_>, api: Api) -> Option<Excess>
+    ensures { IfSome result (λ e. spec.is_outside e ≡ true) }
+{
     for field in fields_of(api) {
         let found = excess_of(tokens, api, *field);
         if found.is_some() {
@@ -55,7 +73,9 @@ fn first_excess(tokens: &Tokens<'_>, api: Api) -> Option<Excess> {
 }
 
 /// Says which attribute the API has, and which it may have.
-fn say_attribute(tokens: &Tokens<'_>, api: Api, out: &mut Vec<u8>) -> Result<(), AllocError> {
+fn say_attribute(tokens: &Tokens<'_>, api: Api, out: &mut Vec<u8>) -> Result<(), AllocError>
+    ensures { OnOk result (IsSaid out.old.items out.new.items) }
+{
     let value = value_of(tokens, 0, api, Field::Attribute);
     say(
         &[
@@ -63,7 +83,7 @@ fn say_attribute(tokens: &Tokens<'_>, api: Api, out: &mut Vec<u8>) -> Result<(),
             Word::Quoted(api.name()),
             Word::Text(" is "),
             Word::Number(i64::from(value)),
-            Word::Text("; it is "),
+            Word::Text("; it must be "),
             Word::Text(attributes_of(api)),
         ],
         out,
@@ -71,7 +91,10 @@ fn say_attribute(tokens: &Tokens<'_>, api: Api, out: &mut Vec<u8>) -> Result<(),
 }
 
 /// Says which value of the API is out of its range.
-fn say_excess(api: Api, excess: Excess, out: &mut Vec<u8>) -> Result<(), AllocError> {
+fn say_excess(api: Api, excess: Excess, out: &mut Vec<u8>) -> Result<(), AllocError>
+    requires { spec.is_outside excess ≡ true }
+    ensures { OnOk result (IsSaid out.old.items out.new.items) }
+{
     say(
         &[
             Word::Text("the "),
@@ -80,7 +103,7 @@ fn say_excess(api: Api, excess: Excess, out: &mut Vec<u8>) -> Result<(), AllocEr
             Word::Quoted(api.name()),
             Word::Text(" is "),
             Word::Number(i64::from(excess.value)),
-            Word::Text("; it is "),
+            Word::Text("; it must be "),
             Word::Number(i64::from(excess.low)),
             Word::Text(" to "),
             Word::Number(i64::from(excess.high)),
@@ -98,7 +121,9 @@ fn definition_of(tokens: &Tokens<'_>, number: i32) -> Option<usize> {
 }
 
 /// Says that the interrupt has a handler already.
-fn say_taken(around: &Around<'_>, out: &mut Vec<u8>) -> Result<(), AllocError> {
+fn say_taken(around: &Around<'_>, out: &mut Vec<u8>) -> Result<(), AllocError>
+    ensures { OnOk result (IsSaid out.old.items out.new.items) }
+{
     let number = value_of(&around.rest.tokens, 0, Api::DefInh, Field::InterruptNumber);
     let before = &around.before.tokens;
     let line = definition_of(before, number)
@@ -116,29 +141,36 @@ fn say_taken(around: &Around<'_>, out: &mut Vec<u8>) -> Result<(), AllocError> {
 }
 
 /// Says which value the API at the place refuses with a code.
-pub fn say_refusal(around: &Around<'_>, code: Er, out: &mut Vec<u8>) -> Result<(), AllocError> {
+pub fn say_refusal(around: &Around<'_>, code: Er, out: &mut Vec<u8>) -> Result<(), AllocError>
+    ensures { OnOk result (IsSaid out.old.items out.new.items) }
+{
     let tokens = &around.rest.tokens;
     let Some(api) = api_at(tokens, 0) else {
-        return Ok(());
+        return say(&[Word::Text("a value is out of its range")], out);
     };
-    match code {
-        Er::Rsatr => say_attribute(tokens, api, out),
-        Er::Obj => say_taken(around, out),
-        _ => match first_excess(tokens, api) {
-            Some(excess) => say_excess(api, excess, out),
-            None => Ok(()),
-        },
+    match (code, first_excess(tokens, api)) {
+        (Er::Rsatr, _) => say_attribute(tokens, api, out),
+        (Er::Obj, _) => say_taken(around, out),
+        (_, Some(excess)) => say_excess(api, excess, out),
+        (_, None) => say(
+            &[
+                Word::Text("a value of "),
+                Word::Quoted(api.name()),
+                Word::Text(" is out of its range"),
+            ],
+            out,
+        ),
     }
 }
 
 /// Says that the entry of the API at the place is a body of the other kind.
-pub fn say_wrong_kind(around: &Around<'_>, out: &mut Vec<u8>) -> Result<(), AllocError> {
+pub fn say_wrong_kind(around: &Around<'_>, out: &mut Vec<u8>) -> Result<(), AllocError>
+    ensures { OnOk result (IsSaid out.old.items out.new.items) }
+{
     let tokens = &around.rest.tokens;
-    let Some(api) = api_at(tokens, 0) else {
-        return Ok(());
-    };
+    let api = api_at(tokens, 0).unwrap_or(Api::CreTsk);
     let Some(name) = entry_of(tokens, 0, api) else {
-        return Ok(());
+        return say(&[Word::Text("the entry is a body of the other kind")], out);
     };
     let (is, wanted) = if api == Api::CreTsk {
         ("handler", "task")
@@ -160,22 +192,47 @@ pub fn say_wrong_kind(around: &Around<'_>, out: &mut Vec<u8>) -> Result<(), Allo
     )
 }
 
+/// Says how many bytes of stack a body needs.
+fn say_need(
+    alloc: Global,
+    texts: Texts<'_>,
+    name: Name,
+    out: &mut Vec<u8>,
+) -> Result<(), AllocError>
+    ensures { OnOk result (IsSaid out.old.items out.new.items) }
+{
+    say(
+        &[Word::Text("; "), Word::Name(name), Word::Text(" needs ")],
+        out,
+    )?;
+    if let Some(operands) = operands_of(alloc, texts, &name)? {
+        let bytes = i64::from(operands).saturating_mul(4);
+        say(&[Word::Number(bytes), Word::Text(", ")], out)?;
+    }
+    say(&[Word::Text("4 for each operand that stands at once")], out)
+}
+
 /// Says that the stack of the task at the place is too small for its body.
-pub fn say_small_stack(around: &Around<'_>, out: &mut Vec<u8>) -> Result<(), AllocError> {
+pub fn say_small_stack(
+    alloc: Global,
+    texts: Texts<'_>,
+    around: &Around<'_>,
+    out: &mut Vec<u8>,
+) -> Result<(), AllocError>
+    ensures { OnOk result (IsSaid out.old.items out.new.items) }
+{
     let tokens = &around.rest.tokens;
-    let Some(name) = entry_of(tokens, 0, Api::CreTsk) else {
-        return Ok(());
-    };
     let size = value_of(tokens, 0, Api::CreTsk, Field::StackSize);
     say(
         &[
             Word::Text("the stack has "),
             Word::Number(i64::from(size)),
             Word::Text(if size == 1 { " byte" } else { " bytes" }),
-            Word::Text(", and "),
-            Word::Name(name),
-            Word::Text(" needs 4 for each operand that stands at once"),
         ],
         out,
-    )
+    )?;
+    match entry_of(tokens, 0, Api::CreTsk) {
+        Some(name) => say_need(alloc, texts, name, out),
+        None => Ok(()),
+    }
 }

@@ -1,5 +1,5 @@
 //! A fault of a text as it is shown: where it stands, its code, a sentence, and its line with marks.
-ghost use Rattle.std.specs.Prelude.{◌≡◌, ◌++◌, IfOk, OnOk, decimal};
+ghost use Rattle.std.specs.Prelude.{◌≡◌, ◌++◌, ◌<◌, length, IfOk, OnOk, decimal};
 ghost use Rattle.fmp_diagnosis.specs.Reports as spec;
 ghost use Rattle.fmp_diagnosis.specs.Reports.{IsReport};
 
@@ -102,7 +102,9 @@ fn sentence_of(
     file: TextFile,
     at: usize,
     kind: FaultKind,
-) -> Result<Vec<u8>, AllocError> {
+) -> Result<Vec<u8>, AllocError>
+    ensures { IfOk result (λ sentence. 0 < length sentence.items) }
+{
     let mut sentence = Vec::new(alloc);
     say_fault(alloc, texts, file, at, kind, &mut sentence)?;
     Ok(sentence)

@@ -1,6 +1,7 @@
 //! The sentence that says what is wrong at a place of a text.
-ghost use Rattle.std.specs.Prelude.{◌≡◌};
+ghost use Rattle.std.specs.Prelude.{◌≡◌, OnOk};
 ghost use Rattle.fmp_diagnosis.specs.Reports.{text_of};
+ghost use Rattle.fmp_diagnosis.specs.Words.{IsSaid};
 
 use crate::around::around_place;
 use crate::limits::say_limit;
@@ -41,7 +42,9 @@ pub fn say_fault(
     at: usize,
     kind: FaultKind,
     out: &mut Vec<u8>,
-) -> Result<(), AllocError> {
+) -> Result<(), AllocError>
+    ensures { OnOk result (IsSaid out.old.items out.new.items) }
+{
     let text = texts.of(file);
     let around = around_place(alloc, text, at)?;
     match kind {
@@ -50,7 +53,7 @@ pub fn say_fault(
         FaultKind::UnknownName => say_unknown(alloc, texts.cfg, texts.src, file, &around, out),
         FaultKind::Api(code) => say_refusal(&around, code, out),
         FaultKind::Limit => say_limit(text.len(), file, &around, out),
-        FaultKind::StackTooSmall => say_small_stack(&around, out),
+        FaultKind::StackTooSmall => say_small_stack(alloc, texts, &around, out),
         FaultKind::WrongEntryKind => say_wrong_kind(&around, out),
     }
 }

@@ -1,11 +1,18 @@
 //! What is said of a text that goes on as no well-formed text does.
+ghost use Rattle.std.specs.Prelude.{◌<◌, length, IfSome, OnOk};
+ghost use Rattle.fmp_diagnosis.specs.Words.{IsSaid, IsSaidFirst, MaySay, quoted};
+ghost use Rattle.fmp_base.specs.Names.{name_text};
+
 use crate::around::{Around, name_at};
-use crate::known::{apis, say_nearest, services};
-use crate::words::{Word, append_quoted, say, say_token};
+use crate::known::{apis, keywords, say_nearest, services};
+use crate::words::{Word, append_quoted, counted, say, say_of, say_token};
 use crate::{expected_api, expected_statement};
 use fmp_base::Name;
 use fmp_lex::{Keyword, LexFault, Symbol, TextFile, TokenKind};
 use std::alloc::{AllocError, Global};
+
+/// A number of more bytes is not repeated.
+const SHOWN_MAX: usize = 40;
 
 /// How many bytes of a word or a number stand at the head of these.
 fn word_length(bytes: &[u8]) -> usize {
@@ -16,7 +23,9 @@ fn word_length(bytes: &[u8]) -> usize {
 }
 
 /// Says why no token begins with these bytes.
-fn say_no_token(bytes: &[u8], out: &mut Vec<u8>) -> Result<(), AllocError> {
+fn say_no_token(bytes: &[u8], out: &mut Vec<u8>) -> Result<(), AllocError>
+    ensures { OnOk result (IsSaid out.old.items out.new.items) }
+{
     let first = bytes.first().copied().unwrap_or(b' ');
     if first.is_ascii_digit() {
         append_quoted(&bytes[..word_length(bytes).min(bytes.len())], out)?;
@@ -41,22 +50,40 @@ fn say_no_token(bytes: &[u8], out: &mut Vec<u8>) -> Result<(), AllocError> {
     )
 }
 
+/// Says that the number of so many bytes at the head of these is too great.
+fn say_great_number(bytes: &[u8], length: usize, out: &mut Vec<u8>) -> Result<(), AllocError>
+    ensures { OnOk result (IsSaid out.old.items out.new.items) }
+{
+    if length > SHOWN_MAX {
+        let words = [
+            Word::Text("a number of "),
+            counted(length),
+            Word::Text(" characters"),
+        ];
+        say(&words, out)?;
+    } else {
+        append_quoted(&bytes[..length.min(bytes.len())], out)?;
+    }
+    say(
+        &[Word::Text(
+            " is too great: a number is at most 2147483647, with at most 8 hexadecimal digits",
+        )],
+        out,
+    )
+}
+
 /// Says which limit the word or the number passes that these bytes begin with.
-pub fn say_too_great(bytes: &[u8], out: &mut Vec<u8>) -> Result<(), AllocError> {
-    let length = word_length(bytes).min(bytes.len());
+pub fn say_too_great(bytes: &[u8], out: &mut Vec<u8>) -> Result<(), AllocError>
+    ensures { OnOk result (IsSaid out.old.items out.new.items) }
+{
+    let length = word_length(bytes);
     if bytes.first().is_some_and(|b| b.is_ascii_digit()) {
-        append_quoted(&bytes[..length.min(40)], out)?;
-        return say(
-            &[Word::Text(
-                " is too great: a number is at most 2147483647, with at most 8 hexadecimal digits",
-            )],
-            out,
-        );
+        return say_great_number(bytes, length, out);
     }
     say(
         &[
             Word::Text("the name has "),
-            Word::Number(length as i64),
+            counted(length),
             Word::Text(" bytes; a name has at most 31"),
         ],
         out,
@@ -64,7 +91,9 @@ pub fn say_too_great(bytes: &[u8], out: &mut Vec<u8>) -> Result<(), AllocError> 
 }
 
 /// Says what stands at the place.
-fn say_found(around: &Around<'_>, out: &mut Vec<u8>) -> Result<(), AllocError> {
+fn say_found(around: &Around<'_>, out: &mut Vec<u8>) -> Result<(), AllocError>
+    ensures { OnOk result (IsSaid out.old.items out.new.items) }
+{
     match around.here() {
         Some(kind) => {
             say(&[Word::Text(", found ")], out)?;
@@ -74,11 +103,15 @@ fn say_found(around: &Around<'_>, out: &mut Vec<u8>) -> Result<(), AllocError> {
     }
 }
 
-/// Where a `(` stands behind a name, or a name where a static API or a statement may begin: the name.
+/// The name in front of the `(` at the place, where a service call may be meant: it is not declared there.
 fn misspelt_call(around: &Around<'_>) -> Option<Name> {
-    match (around.here()?, around.back(1)?) {
-        (TokenKind::Symbol(Symbol::LeftParen), TokenKind::Name(name)) => Some(name),
-        _ => None,
+    let name = match (around.here()?, around.back(1)?) {
+        (TokenKind::Symbol(Symbol::LeftParen), TokenKind::Name(name)) => name,
+        _ => return None,
+    };
+    match around.back(2) {
+        Some(TokenKind::Keyword(Keyword::Task | Keyword::Handler | Keyword::Var)) => None,
+        _ => Some(name),
     }
 }
 
@@ -106,7 +139,9 @@ fn wants_operand(around: &Around<'_>) -> bool {
 }
 
 /// What is said of a token of a task text that stands where no text has it, whatever else is expected there.
-fn remark(around: &Around<'_>) -> Option<&'static str> {
+fn remark(around: &Around<'_>) -> Option<&'static str>
+    ensures { IfSome result (λ text. 0 < length text.now) }
+{
     match (around.here()?, around.back(1)) {
         (TokenKind::Keyword(Keyword::Break), _) => Some("`break` stands in no loop"),
         (TokenKind::Keyword(Keyword::Continue), _) => Some("`continue` stands in no loop"),
@@ -130,19 +165,57 @@ fn say_misspelt(
     what: &'static str,
     known: &[Name],
     out: &mut Vec<u8>,
-) -> Result<(), AllocError> {
-    say(&[Word::Name(*name), Word::Text(what)], out)?;
+) -> Result<(), AllocError>
+    ensures said { OnOk result (IsSaid out.old.items out.new.items) }
+    ensures names { OnOk result (IsSaidFirst (quoted (name_text name.now)) out.old.items out.new.items) }
+{
+    say_of(name, &[Word::Text(what)], out)?;
     say_nearest(alloc, name, known, out)
 }
 
-fn say_misspelt_api(alloc: Global, name: &Name, out: &mut Vec<u8>) -> Result<(), AllocError> {
+fn say_misspelt_api(alloc: Global, name: &Name, out: &mut Vec<u8>) -> Result<(), AllocError>
+    ensures said { OnOk result (IsSaid out.old.items out.new.items) }
+    ensures names { OnOk result (IsSaidFirst (quoted (name_text name.now)) out.old.items out.new.items) }
+{
     let known = apis(alloc)?;
     say_misspelt(alloc, name, " is no static API", &known, out)
 }
 
-fn say_misspelt_call(alloc: Global, name: &Name, out: &mut Vec<u8>) -> Result<(), AllocError> {
-    let known = services(alloc)?;
+fn say_misspelt_call(alloc: Global, name: &Name, out: &mut Vec<u8>) -> Result<(), AllocError>
+    ensures said { OnOk result (IsSaid out.old.items out.new.items) }
+    ensures names { OnOk result (IsSaidFirst (quoted (name_text name.now)) out.old.items out.new.items) }
+{
+    let mut known = services(alloc)?;
+    let words = keywords(alloc, TextFile::Source)?;
+    known.extend_from_slice(&words)?;
     say_misspelt(alloc, name, " is no service call", &known, out)
+}
+
+/// The name that may stand for a keyword: that at the place, or the one with which a statement begins in front of it.
+fn misspelt_keyword(around: &Around<'_>, file: TextFile) -> Option<Name> {
+    match (name_at(&around.rest.tokens, 0), file) {
+        (Some(name), _) => Some(name),
+        (None, TextFile::Configuration) => None,
+        (None, TextFile::Source) => expected_statement::head_name(&around.before.tokens),
+    }
+}
+
+/// Asks whether a keyword was meant at the place, where a name is near to one.
+fn say_keyword(
+    alloc: Global,
+    file: TextFile,
+    around: &Around<'_>,
+    out: &mut Vec<u8>,
+) -> Result<(), AllocError>
+    ensures { OnOk result (MaySay out.old.items out.new.items) }
+{
+    match misspelt_keyword(around, file) {
+        Some(name) => {
+            let known = keywords(alloc, file)?;
+            say_nearest(alloc, &name, &known, out)
+        }
+        None => Ok(()),
+    }
 }
 
 /// What a configuration has at the place, and what it may have there.
@@ -150,17 +223,22 @@ fn say_in_configuration(
     alloc: Global,
     around: &Around<'_>,
     out: &mut Vec<u8>,
-) -> Result<(), AllocError> {
+) -> Result<(), AllocError>
+    ensures { OnOk result (IsSaid out.old.items out.new.items) }
+{
     if let Some(name) = misspelt_api(around) {
         return say_misspelt_api(alloc, &name, out);
     }
     say(&[Word::Text("expected ")], out)?;
     expected_api::say_expected(&around.before.tokens, out)?;
-    say_found(around, out)
+    say_found(around, out)?;
+    say_keyword(alloc, TextFile::Configuration, around, out)
 }
 
 /// What a task text has at the place, and what it may have there.
-fn say_in_source(alloc: Global, around: &Around<'_>, out: &mut Vec<u8>) -> Result<(), AllocError> {
+fn say_in_source(alloc: Global, around: &Around<'_>, out: &mut Vec<u8>) -> Result<(), AllocError>
+    ensures { OnOk result (IsSaid out.old.items out.new.items) }
+{
     if let Some(name) = misspelt_call(around) {
         return say_misspelt_call(alloc, &name, out);
     }
@@ -169,7 +247,8 @@ fn say_in_source(alloc: Global, around: &Around<'_>, out: &mut Vec<u8>) -> Resul
     }
     say(&[Word::Text("expected ")], out)?;
     expected_statement::say_expected(&around.before.tokens, out)?;
-    say_found(around, out)
+    say_found(around, out)?;
+    say_keyword(alloc, TextFile::Source, around, out)
 }
 
 /// Says what stands at the place of a fault of syntax, and what may stand there.
@@ -178,7 +257,9 @@ pub fn say_syntax(
     file: TextFile,
     around: &Around<'_>,
     out: &mut Vec<u8>,
-) -> Result<(), AllocError> {
+) -> Result<(), AllocError>
+    ensures { OnOk result (IsSaid out.old.items out.new.items) }
+{
     match (around.here(), file) {
         (Some(TokenKind::Bad(LexFault::Syntax)), _) => say_no_token(around.bytes, out),
         (Some(TokenKind::Bad(LexFault::Limit)), _) => say_too_great(around.bytes, out),

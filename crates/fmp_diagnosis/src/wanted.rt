@@ -1,9 +1,70 @@
-//! Which objects the service calls take.
+//! What the service calls take as arguments.
+use crate::fields::object_of;
 use fmp_base::Service;
 use fmp_lex::Api;
 
-/// What kind of object the argument of a call at a place, from 0, is to be, if it is one.
-pub fn object_wanted(service: Service, place: usize) -> Option<Api> {
+/// What an argument of a call is to be, where it is not just any number.
+#[derive(Clone, Copy)]
+pub enum Wanted {
+    /// An object that this static API makes.
+    Object(Api),
+    /// A number of this meaning, and no object.
+    Number(&'static str),
+}
+
+impl Wanted {
+    /// What is wanted, with its article.
+    pub fn called(self) -> &'static str {
+        match self {
+            Wanted::Object(api) => object_of(api),
+            Wanted::Number(text) => text,
+        }
+    }
+}
+
+/// What the argument of a call at a place, from 0, is to be.
+pub fn wanted_at(service: Service, place: usize) -> Option<Wanted> {
+    match object_wanted(service, place) {
+        Some(api) => Some(Wanted::Object(api)),
+        None => number_wanted(service, place).map(Wanted::Number),
+    }
+}
+
+/// What the number means that an argument of a call at a place is to be, where it is not just any number.
+fn number_wanted(service: Service, place: usize) -> Option<&'static str> {
+    match (service, place) {
+        (Service::ChgPri, 1) | (Service::RotRdq | Service::IrotRdq, 0) => Some("a priority"),
+        (Service::MactTsk | Service::MigTsk, 1) => Some("a processor"),
+        (Service::TslpTsk | Service::DlyTsk, 0) => Some("a time"),
+        (Service::TwaiSem, 1) | (Service::TwaiFlg, 4) => Some("a time"),
+        (Service::TsndDtq | Service::TrcvDtq | Service::TrcvMbx, 2) => Some("a time"),
+        (Service::SetFlg | Service::ClrFlg | Service::IsetFlg, 1) => Some("a bit pattern"),
+        (Service::WaiFlg | Service::PolFlg | Service::TwaiFlg, 1) => Some("a bit pattern"),
+        (Service::WaiFlg | Service::PolFlg | Service::TwaiFlg, 2) => Some(
+            "`TWF_ANDW` or `TWF_ORW`",
+        ),
+        _ => None,
+    }
+}
+
+/// Whether a call on a task takes 0 for the task that makes it.
+pub fn takes_caller(service: Service) -> bool {
+    matches!(
+        service,
+        Service::ActTsk
+            | Service::CanAct
+            | Service::ChgPri
+            | Service::GetPri
+            | Service::MactTsk
+            | Service::MigTsk
+            | Service::WupTsk
+            | Service::CanWup
+            | Service::SusTsk
+    )
+}
+
+/// What kind of object the argument of a call at a place is to be, if it is one.
+fn object_wanted(service: Service, place: usize) -> Option<Api> {
     if place == 1 {
         return if service == Service::SndMbx {
             Some(Api::CreMsg)
@@ -57,10 +118,11 @@ pub fn object_wanted(service: Service, place: usize) -> Option<Api> {
     }
 }
 
-/// Whether a call signals a semaphore or sets a flag.
-pub fn raises(service: Service) -> bool {
-    matches!(
-        service,
-        Service::SigSem | Service::IsigSem | Service::SetFlg | Service::IsetFlg
-    )
+/// The static API of the objects that a call signals or sets.
+pub fn raised_by(service: Service) -> Option<Api> {
+    match service {
+        Service::SigSem | Service::IsigSem => Some(Api::CreSem),
+        Service::SetFlg | Service::IsetFlg => Some(Api::CreFlg),
+        _ => None,
+    }
 }

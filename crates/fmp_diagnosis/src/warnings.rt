@@ -1,16 +1,19 @@
 //! What is legal in two texts, and mostly a mistake: a number in place of an object's name, or an object of another
 //! kind, as the argument of a call; bodies and objects that nothing uses; semaphores that nothing signals, flags that
 //! nothing sets.
-use crate::apis::{api_at, entry_of, value_of};
+ghost use Rattle.std.specs.Prelude.{◌<◌, OnOk};
+ghost use Rattle.fmp_diagnosis.specs.Words.{IsSaid};
+
+use crate::apis::{api_at, entry_of, is_symbol, value_of};
 use crate::around::{begins_body, is_same, line_of, list_of, name_at};
 use crate::fields::{Field, object_of};
 use crate::objects::{Object, Objects};
 use crate::reports::FileNames;
 use crate::sentence::Texts;
-use crate::wanted::{object_wanted, raises};
+use crate::wanted::{Wanted, raised_by, takes_caller, wanted_at};
 use crate::words::{Word, say};
 use fmp_base::{Name, Service};
-use fmp_lex::{Api, Symbol, TokenKind, Tokens};
+use fmp_lex::{Api, Constant, Symbol, TokenKind, Tokens};
 use std::alloc::{AllocError, Global};
 
 /// Of so many arguments of calls is warned at most.
@@ -55,7 +58,7 @@ impl Walk {
         }
     }
 
-    /// The argument that begins behind this token at a place, where it is to be an object.
+    /// The argument that begins behind this token at a place, where it is not to be just any number.
     fn argument_behind(self, at: usize, kind: TokenKind) -> Option<Argument> {
         let service = match kind {
             TokenKind::Symbol(Symbol::LeftParen | Symbol::Comma) if self.open == 1 => self.service?,
@@ -64,32 +67,68 @@ impl Walk {
         Some(Argument {
             at: at.saturating_add(1),
             service,
-            wanted: object_wanted(service, self.argument)?,
+            wanted: wanted_at(service, self.argument)?,
         })
     }
 }
 
-/// An argument of a call: the place of its token, the call, and what kind of object the call takes there.
+/// An argument of a call: the place of its first token, the call, and what the call takes there.
 #[derive(Clone, Copy)]
 struct Argument {
     at: usize,
     service: Service,
-    wanted: Api,
+    wanted: Wanted,
 }
 
-/// The warnings so far, and what is seen of the texts.
+/// What an argument is, where it is a number, a constant or a name alone.
+#[derive(Clone, Copy)]
+enum Lone {
+    Number(i64),
+    Constant(Constant),
+    Name(Name),
+}
+
+/// Whether an argument ends in front of this place.
+fn ends_argument(tokens: &Tokens<'_>, at: usize) -> bool {
+    is_symbol(tokens, at, Symbol::Comma) || is_symbol(tokens, at, Symbol::RightParen)
+}
+
+/// The argument that begins at a place, where it is a number, a constant or a name alone.
+fn lone_argument(tokens: &Tokens<'_>, at: usize) -> Option<Lone> {
+    let next = at.saturating_add(1);
+    let is_minus = is_symbol(tokens, at, Symbol::Minus);
+    let last = if is_minus { next } else { at };
+    if !ends_argument(tokens, last.saturating_add(1)) {
+        return None;
+    }
+    match tokens.kind(last)? {
+        TokenKind::Number(number) if is_minus => Some(Lone::Number(0i64.saturating_sub(i64::from(
+            number,
+        )))),
+        _ if is_minus => None,
+        TokenKind::Number(number) => Some(Lone::Number(i64::from(number))),
+        TokenKind::Constant(constant) => Some(Lone::Constant(constant)),
+        TokenKind::Name(name) => Some(Lone::Name(name)),
+        _ => None,
+    }
+}
+
+/// What is seen of the texts.
 #[derive(Drop)]
 struct Warnings {
-    out: Vec<u8>,
     objects: Objects,
-    /// Whether some call signals a semaphore, or sets a flag, that is not given by its name.
-    raises_any: bool,
+    /// Whether some call signals a semaphore that is not given by its name.
+    signals_any: bool,
+    /// Whether some call sets a flag that is not given by its name.
+    sets_any: bool,
     /// Of how many arguments more is warned.
     room: u32,
 }
 
 /// Begins a warning: the name of the file and the line.
-fn begin(name: &str, line: Option<u32>, out: &mut Vec<u8>) -> Result<(), AllocError> {
+fn begin(name: &str, line: Option<u32>, out: &mut Vec<u8>) -> Result<(), AllocError>
+    ensures { OnOk result (IsSaid out.old.items out.new.items) }
+{
     out.extend_from_slice(name.as_bytes())?;
     let line = i64::from(line.unwrap_or(1));
     let words = [
@@ -104,18 +143,30 @@ fn begin(name: &str, line: Option<u32>, out: &mut Vec<u8>) -> Result<(), AllocEr
 #[derive(Clone, Copy)]
 enum Wrong {
     /// It is this number, and no name.
-    Number(i32),
-    /// It is the name of an object that another static API makes.
+    Number(i64),
+    /// It is this constant, and no object.
+    Constant(Constant),
+    /// It is the name of an object that this static API makes.
     Object(Name, Api),
 }
 
-fn say_wrong(wrong: Wrong, out: &mut Vec<u8>) -> Result<(), AllocError> {
+fn say_wrong(wrong: Wrong, out: &mut Vec<u8>) -> Result<(), AllocError>
+    ensures { OnOk result (IsSaid out.old.items out.new.items) }
+{
     match wrong {
         Wrong::Number(number) => say(
             &[
                 Word::Text("the argument "),
-                Word::Number(i64::from(number)),
+                Word::Number(number),
                 Word::Text(" is no name; "),
+            ],
+            out,
+        ),
+        Wrong::Constant(constant) => say(
+            &[
+                Word::Text("the constant "),
+                Word::Quoted(constant.name()),
+                Word::Text(" is no object; "),
             ],
             out,
         ),
@@ -132,12 +183,14 @@ fn say_wrong(wrong: Wrong, out: &mut Vec<u8>) -> Result<(), AllocError> {
 }
 
 /// Says what a call takes as an argument.
-fn say_wanted(argument: Argument, out: &mut Vec<u8>) -> Result<(), AllocError> {
+fn say_wanted(argument: Argument, out: &mut Vec<u8>) -> Result<(), AllocError>
+    ensures { OnOk result (IsSaid out.old.items out.new.items) }
+{
     say(
         &[
             Word::Quoted(argument.service.name()),
             Word::Text(" takes "),
-            Word::Text(object_of(argument.wanted)),
+            Word::Text(argument.wanted.called()),
             Word::Text("\n"),
         ],
         out,
@@ -152,51 +205,68 @@ impl Warnings {
         tokens: &Tokens<'_>,
         argument: Argument,
         wrong: Wrong,
-    ) -> Result<(), AllocError> {
+        out: &mut Vec<u8>,
+    ) -> Result<(), AllocError>
+        ensures { OnOk result (0 < self.old.room → IsSaid out.old.items out.new.items) }
+    {
         if self.room == 0 {
             return Ok(());
         }
         self.room -= 1;
-        begin(name, line_of(tokens, argument.at), &mut self.out)?;
-        say_wrong(wrong, &mut self.out)?;
-        say_wanted(argument, &mut self.out)
+        begin(name, line_of(tokens, argument.at), out)?;
+        say_wrong(wrong, out)?;
+        say_wanted(argument, out)
     }
 
-    /// What is wrong with a number in place of an object, if anything is.
-    fn wrong_number(&mut self, argument: Argument, number: i32) -> Option<Wrong> {
-        self.raises_any = self.raises_any || raises(argument.service);
-        if number == 0 && argument.wanted == Api::CreTsk {
-            return None;
+    /// A call signals or sets an object that is not given by its name.
+    fn note_any(&mut self, service: Service) {
+        match raised_by(service) {
+            Some(Api::CreSem) => self.signals_any = true,
+            Some(Api::CreFlg) => self.sets_any = true,
+            _ => {}
         }
-        Some(Wrong::Number(number))
     }
 
-    /// What is wrong with a name in place of an object, if anything is.
-    fn wrong_object(&mut self, argument: Argument, name: Name) -> Option<Wrong> {
-        let Some(api) = self.objects.api_of(name) else {
-            self.raises_any = self.raises_any || raises(argument.service);
-            return None;
-        };
-        self.objects.note_call(argument.service, name);
-        if api == argument.wanted {
-            return None;
+    /// What is wrong with a name as an argument, if anything is.
+    fn wrong_name(&mut self, argument: Argument, name: Name) -> Option<Wrong> {
+        let found = self.objects.api_of(name);
+        match (found, argument.wanted) {
+            (Some(api), Wanted::Object(wanted)) if api == wanted => {
+                self.objects.note_call(argument.service, name);
+                None
+            }
+            (Some(api), wanted) => {
+                self.note_argument(argument.service, wanted);
+                Some(Wrong::Object(name, api))
+            }
+            (None, wanted) => {
+                self.note_argument(argument.service, wanted);
+                None
+            }
         }
-        Some(Wrong::Object(name, api))
+    }
+
+    /// A call has an argument that is not the name of such an object as it takes there.
+    fn note_argument(&mut self, service: Service, wanted: Wanted) {
+        if let Wanted::Object(_) = wanted {
+            self.note_any(service);
+        }
     }
 
     /// What is wrong with an argument, if anything is.
     fn wrong(&mut self, tokens: &Tokens<'_>, argument: Argument) -> Option<Wrong> {
-        let is_alone = matches!(
-            tokens.kind(argument.at.saturating_add(1)),
-            Some(TokenKind::Symbol(Symbol::Comma | Symbol::RightParen))
-        );
-        match tokens.kind(argument.at) {
-            Some(TokenKind::Number(number)) if is_alone => self.wrong_number(argument, number),
-            Some(TokenKind::Name(name)) if is_alone => self.wrong_object(argument, name),
-            _ => {
-                self.raises_any = self.raises_any || raises(argument.service);
-                None
-            }
+        let lone = lone_argument(tokens, argument.at);
+        if let Some(Lone::Name(name)) = lone {
+            return self.wrong_name(argument, name);
+        }
+        self.note_argument(argument.service, argument.wanted);
+        match (lone?, argument.wanted) {
+            (_, Wanted::Number(_)) => None,
+            (Lone::Number(0) | Lone::Constant(Constant::TskSelf), _)
+                if takes_caller(argument.service) => { None }
+            (Lone::Number(number), _) => Some(Wrong::Number(number)),
+            (Lone::Constant(constant), _) => Some(Wrong::Constant(constant)),
+            (Lone::Name(_), _) => None,
         }
     }
 
@@ -209,7 +279,12 @@ impl Warnings {
     }
 
     /// Walks over the calls of a task text.
-    fn calls(&mut self, name: &str, tokens: &Tokens<'_>) -> Result<(), AllocError> {
+    fn calls(
+        &mut self,
+        name: &str,
+        tokens: &Tokens<'_>,
+        out: &mut Vec<u8>,
+    ) -> Result<(), AllocError> {
         let mut walk = Walk {
             service: None,
             open: 0,
@@ -221,7 +296,7 @@ impl Warnings {
                 walk = walk.behind(kind);
                 if let Some(argument) = walk.argument_behind(at, kind) {
                     if let Some(wrong) = self.wrong(tokens, argument) {
-                        self.warn(name, tokens, argument, wrong)?;
+                        self.warn(name, tokens, argument, wrong, out)?;
                     }
                 }
             }
@@ -286,43 +361,47 @@ fn is_started(cfg: &Tokens<'_>, object: &Object) -> bool {
     }
 }
 
-/// What is said of an object that is not used as it should be.
-fn neglect(cfg: &Tokens<'_>, object: &Object, raises_any: bool) -> Option<&'static str> {
-    if !object.is_named && !is_started(cfg, object) {
-        return Some(match object.api {
-            Api::CreTsk => " is not started at setup, and no body names it",
-            Api::CreCyc => " is not started at setup, and no body names it",
-            _ => " is not named in the task text",
-        });
-    }
-    if object.is_raised || raises_any {
+/// What is said of an object whose name stands nowhere in the task text.
+fn unnamed(cfg: &Tokens<'_>, object: &Object) -> Option<&'static str> {
+    if is_started(cfg, object) {
         return None;
     }
     match object.api {
-        Api::CreSem => Some(" is a semaphore that nothing signals"),
-        Api::CreFlg => Some(" is an eventflag that nothing sets"),
-        _ => None,
+        Api::CreTsk | Api::CreCyc => Some(" is not started at setup, and no body names it"),
+        _ => Some(" is not named in the task text"),
     }
 }
 
-/// Warns of the objects of a configuration that nothing uses, signals or sets.
-fn warn_of_objects(
-    name: &str,
-    cfg: &Tokens<'_>,
-    objects: &Objects,
-    raises_any: bool,
-    out: &mut Vec<u8>,
-) -> Result<(), AllocError> {
-    for object in &objects.rows {
-        if let Some(text) = neglect(cfg, object, raises_any) {
-            begin(name, line_of(cfg, object.at), out)?;
-            say(
-                &[Word::Name(object.name), Word::Text(text), Word::Text("\n")],
-                out,
-            )?;
+impl Warnings {
+    /// What is said of an object that is not used as it should be.
+    fn neglect(&self, cfg: &Tokens<'_>, object: &Object) -> Option<&'static str> {
+        if !object.is_named {
+            return unnamed(cfg, object);
+        }
+        match object.api {
+            Api::CreSem if !(object.is_raised || self.signals_any) => {
+                Some(" is a semaphore that nothing signals")
+            }
+            Api::CreFlg if !(object.is_raised || self.sets_any) => {
+                Some(" is an eventflag that nothing sets")
+            }
+            _ => None,
         }
     }
-    Ok(())
+
+    /// Warns of the objects of a configuration that nothing uses, signals or sets.
+    fn neglected(&self, name: &str, cfg: &Tokens<'_>, out: &mut Vec<u8>) -> Result<(), AllocError> {
+        for object in &self.objects.rows {
+            if let Some(text) = self.neglect(cfg, object) {
+                begin(name, line_of(cfg, object.at), out)?;
+                say(
+                    &[Word::Name(object.name), Word::Text(text), Word::Text("\n")],
+                    out,
+                )?;
+            }
+        }
+        Ok(())
+    }
 }
 
 impl Warnings {
@@ -330,8 +409,8 @@ impl Warnings {
     fn new(alloc: Global, cfg: &Tokens<'_>) -> Result<Warnings, AllocError> {
         Ok(Warnings {
             objects: Objects::of(alloc, cfg)?,
-            out: Vec::new(alloc),
-            raises_any: false,
+            signals_any: false,
+            sets_any: false,
             room: ARGUMENTS,
         })
     }
@@ -343,17 +422,12 @@ impl Warnings {
         names: FileNames<'_>,
         cfg: &Tokens<'_>,
         src: &Tokens<'_>,
+        out: &mut Vec<u8>,
     ) -> Result<(), AllocError> {
-        self.calls(names.src, src)?;
+        self.calls(names.src, src, out)?;
         let entries = entries(alloc, cfg)?;
-        warn_of_bodies(names.src, &entries, src, &mut self.out)?;
-        warn_of_objects(
-            names.cfg,
-            cfg,
-            &self.objects,
-            self.raises_any,
-            &mut self.out,
-        )
+        warn_of_bodies(names.src, &entries, src, out)?;
+        self.neglected(names.cfg, cfg, out)
     }
 }
 
@@ -364,9 +438,9 @@ fn warnings_on(
     cfg: &Tokens<'_>,
     src: &Tokens<'_>,
 ) -> Result<Vec<u8>, AllocError> {
-    let mut warnings = Warnings::new(alloc, cfg)?;
-    warnings.look(alloc, names, cfg, src)?;
-    Ok(warnings.out)
+    let mut out = Vec::new(alloc);
+    Warnings::new(alloc, cfg)?.look(alloc, names, cfg, src, &mut out)?;
+    Ok(out)
 }
 
 /// The warnings of two texts that have no fault, a line each: those of the task text in order of text, first of at

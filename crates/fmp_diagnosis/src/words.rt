@@ -1,4 +1,9 @@
 //! Sentences are put together of words.
+ghost use Rattle.std.specs.Prelude.{◌≡◌, ◌++◌, OnOk};
+ghost use Rattle.fmp_diagnosis.specs.Words as spec;
+ghost use Rattle.fmp_base.specs.Names.{name_text};
+ghost use Rattle.fmp_diagnosis.specs.Words.{IsSaid, IsSaidFirst};
+
 use fmp_base::Name;
 use fmp_lex::{Constant, Symbol, TokenKind};
 use itoa::Buffer;
@@ -19,18 +24,24 @@ pub enum Word {
     Number(i64),
 }
 
-fn append(text: &str, out: &mut Vec<u8>) -> Result<(), AllocError> {
+fn append(text: &str, out: &mut Vec<u8>) -> Result<(), AllocError>
+    ensures { OnOk result (out.new.items ≡ out.old.items ++ text.now) }
+{
     out.extend_from_slice(text.as_bytes())
 }
 
 /// Appends bytes in quotes.
-pub fn append_quoted(bytes: &[u8], out: &mut Vec<u8>) -> Result<(), AllocError> {
+pub fn append_quoted(bytes: &[u8], out: &mut Vec<u8>) -> Result<(), AllocError>
+    ensures { OnOk result (out.new.items ≡ out.old.items ++ spec.quoted bytes.now) }
+{
     append("`", out)?;
     out.extend_from_slice(bytes)?;
     append("`", out)
 }
 
-fn append_word(word: Word, out: &mut Vec<u8>) -> Result<(), AllocError> {
+fn append_word(word: Word, out: &mut Vec<u8>) -> Result<(), AllocError>
+    ensures { OnOk result (out.new.items ≡ out.old.items ++ spec.word_text word) }
+{
     match word {
         Word::Text(text) => append(text, out),
         Word::The(text) => {
@@ -49,11 +60,22 @@ pub fn counted(count: usize) -> Word {
 }
 
 /// Appends words, one behind another.
-pub fn say(words: &[Word], out: &mut Vec<u8>) -> Result<(), AllocError> {
+pub fn say(words: &[Word], out: &mut Vec<u8>) -> Result<(), AllocError>
+    ensures { OnOk result (out.new.items ≡ out.old.items ++ spec.words_text words.now) }
+{
     for word in words {
         append_word(*word, out)?;
     }
     Ok(())
+}
+
+/// Appends a name in quotes, and words behind it.
+pub fn say_of(name: &Name, words: &[Word], out: &mut Vec<u8>) -> Result<(), AllocError>
+    ensures said { OnOk result (IsSaid out.old.items out.new.items) }
+    ensures names { OnOk result (IsSaidFirst (spec.quoted (name_text name.now)) out.old.items out.new.items) }
+{
+    append_quoted(name.as_bytes(), out)?;
+    say(words, out)
 }
 
 /// A symbol as the texts write it.
@@ -88,7 +110,9 @@ fn symbol_text(symbol: Symbol) -> &'static str {
 }
 
 /// Says which token stands in a place, by its kind and as the texts write it.
-pub fn say_token(kind: TokenKind, out: &mut Vec<u8>) -> Result<(), AllocError> {
+pub fn say_token(kind: TokenKind, out: &mut Vec<u8>) -> Result<(), AllocError>
+    ensures { OnOk result (IsSaid out.old.items out.new.items) }
+{
     match kind {
         TokenKind::Number(number) => say(
             &[Word::Text("the number "), Word::Number(i64::from(number))],

@@ -1,2 +1,3 @@
 pub mod Drives
+pub mod Faults
 pub mod Shown

@@ -38,6 +38,11 @@ pub struct Drawing {
 pub enum Cmd {
     /// Say what the code of this word means.
     Code(String),
+    /// Show the fault of the texts of these files, of the configuration and of the bodies, or their warnings.
+    Fault {
+        cfg: String,
+        src: String,
+    },
     /// Print steps of an image: at most so many, 0 to 2^20, in turn or at random.
     Drive {
         image: String,
@@ -85,6 +90,13 @@ fn drawing_of(words: &ArgMatches<'_>) -> Drawing {
 fn asked(alloc: Global, name: &str, words: &ArgMatches<'_>) -> Result<Cmd, AllocError> {
     match name {
         "code" => Ok(Cmd::Code(word_of(alloc, words, "CODE")?)),
+        "fault" => {
+            let cfg = word_of(alloc, words, "CFG")?;
+            Ok(Cmd::Fault {
+                cfg,
+                src: word_of(alloc, words, "SRC")?,
+            })
+        }
         "drive" => Ok(Cmd::Drive {
             image: word_of(alloc, words, "IMAGE")?,
             events: words.get_one::<u32>("events").unwrap_or(0),

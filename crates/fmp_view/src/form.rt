@@ -5,12 +5,13 @@ use std::alloc::{AllocError, Global};
 
 /// What the program is.
 const ABOUT: &str =
-    "Looks at systems of 'fmp': what a code means, steps that run a system, a run as a table,
-as a waveform or as a picture.";
+    "Looks at systems of 'fmp': what a code means, what is wrong with a text, steps that run a system,
+a run as a table, as a waveform or as a picture.";
 
 /// An example, and what the program's answers mean.
 const EXAMPLE_AND_STATUS: &str = "Example, with the image of the example of 'fmp build --help':
   fmp_view code E_PAR
+  fmp_view fault queue.cfg queue.src
   fmp_view drive queue.img --events 20 > queue.steps
   fmp_view stats queue.img queue.steps
   fmp_view waves queue.img queue.steps queue.vcd
@@ -18,7 +19,7 @@ const EXAMPLE_AND_STATUS: &str = "Example, with the image of the example of 'fmp
 
 Status, and the line on standard error with it:
   0        done; help or the version was asked for
-  1        a fault of what was read: 'image: L2', 'steps:4: S1'
+  1        a fault of what was read: 'image: L2', 'steps:4: S1'; that which 'fault' prints
   2        a mistake in the command line; a word that is no code; OUT is a file that is read;
            a picture with no event, or with more than 40,000,000 bytes
   3        'file: NAME', a file could not be read or written ('-' is standard output); 'memory'";
@@ -143,6 +144,14 @@ pub fn timeline_command<'a>(alloc: Global) -> Result<Command<'a>, AllocError> {
     command.arg(objects)
 }
 
+fn fault_command<'a>(alloc: Global) -> Result<Command<'a>, AllocError> {
+    let command = Command::new(alloc, "fault").about(
+        "Shows the fault of two texts: its line, what is wrong there and what was expected; or their warnings",
+    );
+    let command = command.arg(word(alloc, "CFG", "Configuration, as 'fmp check' reads it"))?;
+    command.arg(word(alloc, "SRC", "Bodies of its tasks and handlers"))
+}
+
 /// The whole command line.
 pub fn program<'a>(alloc: Global) -> Result<Command<'a>, AllocError> {
     let program = Command::new(alloc, "fmp_view")
@@ -152,6 +161,7 @@ pub fn program<'a>(alloc: Global) -> Result<Command<'a>, AllocError> {
         .subcommand_required(true)
         .arg_required_else_help(true);
     let program = program.subcommand(code_command(alloc)?)?;
+    let program = program.subcommand(fault_command(alloc)?)?;
     let program = program.subcommand(drive_command(alloc)?)?;
     let program = program.subcommand(stats_command(alloc)?)?;
     let program = program.subcommand(waves_command(alloc)?)?;

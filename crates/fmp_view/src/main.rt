@@ -9,6 +9,7 @@ mod asking;
 mod commands;
 mod driving;
 mod exit;
+mod faults;
 mod form;
 mod opening;
 mod recording;

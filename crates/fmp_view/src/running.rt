@@ -4,9 +4,11 @@ use crate::asking::{
 };
 use crate::commands::{code, stats, steps, waves};
 use crate::exit::{Exit, failed};
+use crate::faults::{Shown, shown_fault};
 use crate::timeline::{TimelineFault, timeline};
 use clap::Error;
 use clap::error::ErrorKind;
+use fmp_diagnosis::{FileNames, Texts};
 use fmp_driver::Stop;
 use fmp_files::{Outside, ReadFault, WriteFault};
 use std::alloc::{AllocError, Global};
@@ -200,10 +202,33 @@ fn say_code<O: Outside>(alloc: Global, outside: &mut O, word: &str) -> u8 {
     }
 }
 
+/// What is shown of the texts of two files.
+fn shown_of<O: Outside>(alloc: Global, outside: &O, cfg: &str, src: &str) -> Result<Shown, Exit> {
+    let cfg_text = read(alloc, outside, cfg)?;
+    let src_text = read(alloc, outside, src)?;
+    let texts = Texts {
+        cfg: &cfg_text,
+        src: &src_text,
+    };
+    match shown_fault(alloc, FileNames { cfg, src }, texts) {
+        Ok(shown) => Ok(shown),
+        Err(error) => Err(Exit::Memory(error)),
+    }
+}
+
+/// Prints the fault of the texts of two files, with status 1, or their warnings.
+fn print_fault<O: Outside>(alloc: Global, outside: &mut O, cfg: &str, src: &str) -> u8 {
+    match shown_of(alloc, outside, cfg, src) {
+        Ok(shown) => print(alloc, outside, shown.text()).max(shown.status()),
+        Err(exit) => end(outside, &exit),
+    }
+}
+
 /// Carries out a command, and gives the status.
 fn carry_out<O: Outside>(alloc: Global, outside: &mut O, cmd: &Cmd) -> u8 {
     match cmd {
         Cmd::Code(word) => say_code(alloc, outside, word),
+        Cmd::Fault { cfg, src } => print_fault(alloc, outside, cfg, src),
         Cmd::Drive {
             image,
             events,
