@@ -1,8 +1,8 @@
 //! Boards that one seat feeds.
-ghost use Rattle.std.specs.Prelude.{◌≡◌, All, IfOk, IfSome};
+ghost use Rattle.std.specs.Prelude.{◌≡◌, ◌<◌, All, IfOk, length};
 ghost use Rattle.fmp_hostrun.specs.Boards.{IsAt, blank as blank_of};
 
-use crate::tests::showing::{BOUND, Seen, board_of, image_of};
+use crate::tests::showing::{BOUND, Seen, board_of, image_of, last_of};
 use fmp_base::Event;
 use fmp_hostrun::{Blank, Board, BoardFault, Closed, Receipt, Seat, Site};
 use fmp_image::Image;
@@ -17,15 +17,6 @@ const CONFIGURATION: &str = "NUM_PRC(1); CLASS(TCL_1) { CRE_TSK(T1,{TA_ACT,0,mai
 const TASKS: &str = "task main { put(7); }";
 
 type Answers = Vec<Result<Receipt, BoardFault>>;
-
-/// A seat of those of a board.
-pub fn one<S: Site>(seats: &mut Vec<Seat>) -> Option<Seat>
-    requires { All (IsAt S.row_id) seats.old.items }
-    ensures seat { IfSome result (IsAt S.row_id) }
-    ensures others { All (IsAt S.row_id) seats.new.items }
-{
-    seats.pop()
-}
 
 /// Feeds processor 1 so often by one seat: what was answered.
 fn fed<S: Site, R: Wait>(
@@ -45,44 +36,29 @@ fn fed<S: Site, R: Wait>(
     Ok(answers)
 }
 
-/// Opens a board, feeds it by this seat, and closes it: what was answered, and the closed board.
-fn fed_once_open<'a, S: Site, R: Wait>(
-    rt: &R,
-    alloc: Global,
-    blank: Blank<'a>,
-    mut seat: Seat,
-    times: u32,
-) -> (Result<Answers, Fail>, Closed<'a>)
-    requires blank { blank ≡ blank_of S.image S.bound S.row_id }
-    requires seat { IsAt S.row_id seat }
-    ensures { result.1.kernel.system ≡ S.image.system }
-{
-    let board: Board<'a, S> = blank.open();
-    let answers = fed(rt, alloc, &board, &mut seat, times);
-    (answers, board.close(&mut seat))
-}
-
-/// Opens a board, feeds it by its last seat, and closes it.
+/// Opens a board, feeds it by its last seat, and closes it: what was answered, and the closed board.
 fn fed_by_one<'a, S: Site, R: Wait>(
     rt: &R,
     alloc: Global,
     blank: Blank<'a>,
     mut seats: Vec<Seat>,
     times: u32,
-) -> Result<(Answers, Closed<'a>), Fail>
+) -> (Result<Answers, Fail>, Closed<'a>)
     requires blank { blank ≡ blank_of S.image S.bound S.row_id }
     requires seats { All (IsAt S.row_id) seats.items }
-    ensures { IfOk result (λ r. r.1.kernel.system ≡ S.image.system) }
+    requires some { 0 < length seats.items }
+    ensures { result.1.kernel.system ≡ S.image.system }
 {
-    let seat = one::<S>(&mut seats).ok_or("a seat")?;
-    let (answers, closed) = fed_once_open::<S, R>(rt, alloc, blank, seat, times);
-    Ok((answers?, closed))
+    let mut seat = last_of::<S>(&mut seats);
+    let board: Board<'a, S> = blank.open();
+    let answers = fed(rt, alloc, &board, &mut seat, times);
+    (answers, board.close(&mut seat))
 }
 
 /// The numbers of receipts, and the names of refusals.
-fn answers_text(alloc: Global, answers: &[Result<Receipt, BoardFault>]) -> Result<String, Fail> {
+fn answers_text(alloc: Global, answers: Result<Answers, Fail>) -> Result<String, Fail> {
     let mut text = String::new(alloc);
-    for answer in answers {
+    for answer in &answers? {
         match answer {
             Ok(receipt) => text.push_str(format!(in alloc; "{} ", receipt.number)?.as_str())?,
             Err(fault) => text.push_str(format!(in alloc; "{fault} ")?.as_str())?,
@@ -98,19 +74,18 @@ fn answered<'a, R: Wait>(
     image: &'a Image,
     k: u32,
     times: u32,
-) -> Result<(String, Closed<'a>), Fail>
+) -> Result<(Result<Answers, Fail>, Closed<'a>), Fail>
     ensures { IfOk result (λ r. r.1.kernel.system ≡ image.now.system) }
 {
     let (blank, seats) = board_of(alloc, image, BOUND, k, 1)?;
-    let (answers, closed) = fed_by_one::<Brand, R>(rt, alloc, blank, seats, times)?;
-    Ok((answers_text(alloc, &answers)?, closed))
+    Ok(fed_by_one::<Brand, R>(rt, alloc, blank, seats, times))
 }
 
 /// What is seen of a board of one task with room for k events, whose processor is fed so often.
 fn seen_of_one_task<R: Wait>(rt: &R, alloc: Global, k: u32, times: u32) -> Result<Seen, Fail> {
     let image = image_of(alloc, CONFIGURATION, TASKS)?;
     let (answers, closed) = answered(rt, alloc, &image, k, times)?;
-    Seen::of(alloc, answers, &image, &closed)
+    Seen::of(alloc, answers_text(alloc, answers), &image, closed)
 }
 
 #[test]
@@ -131,10 +106,16 @@ fn a_full_board(rt: HostRuntime) -> Result<(), Fail> {
     Ok(())
 }
 
+/// How many seats a board with these limits has.
+fn seats_made(alloc: Global, image: &Image, n: u64, k: u32, m: u8) -> Result<usize, BoardFault> {
+    let (_blank, seats) = board_of(alloc, image, n, k, m)?;
+    Ok(seats.len())
+}
+
 /// What making a board with these limits answers.
 fn made(alloc: Global, image: &Image, n: u64, k: u32, m: u8) -> Result<String, Fail> {
-    match board_of(alloc, image, n, k, m) {
-        Ok((_blank, seats)) => Ok(format!(in alloc; "{} seats", seats.len())?),
+    match seats_made(alloc, image, n, k, m) {
+        Ok(count) => Ok(format!(in alloc; "{count} seats")?),
         Err(fault) => Ok(format!(in alloc; "{fault}")?),
     }
 }

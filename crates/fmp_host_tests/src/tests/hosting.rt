@@ -1,9 +1,8 @@
 //! A board that threads run.
-ghost use Rattle.std.specs.Prelude.{◌≡◌, All, IfOk};
+ghost use Rattle.std.specs.Prelude.{◌≡◌, All, IfOk, IfSome};
 ghost use Rattle.fmp_hostrun.specs.Boards.{IsAt, blank as blank_of};
 
 use crate::SecondFirst;
-use crate::tests::feeding::one;
 use crate::tests::showing::{BOUND, Seen, board_of, image_of};
 use fmp_engine::sim;
 use fmp_hostrun::{Blank, Board, BoardFault, Closed, Seat, Site, run_all};
@@ -38,6 +37,15 @@ struct Schedule {
     turns: u32,
     /// For how many turns of processor 2 the first one of processor 1 is held.
     held: u32,
+}
+
+/// A seat of those of a board.
+fn one<S: Site>(seats: &mut Vec<Seat>) -> Option<Seat>
+    requires { All (IsAt S.row_id) seats.old.items }
+    ensures seat { IfSome result (IsAt S.row_id) }
+    ensures others { All (IsAt S.row_id) seats.new.items }
+{
+    seats.pop()
 }
 
 /// Runs a board by threads at this gate: what was answered, and the closed board.
@@ -89,8 +97,7 @@ fn seen_of_both<R: Threads + Wait + Sync>(
     schedule: Schedule,
 ) -> Result<Seen, Fail> {
     let (journaled, closed) = run_both(rt, alloc, image, schedule)?;
-    let answers = journaled_text(alloc, journaled)?;
-    Seen::of(alloc, answers, image, &closed)
+    Seen::of(alloc, journaled_text(alloc, journaled), image, closed)
 }
 
 /// What a simulation of an image over a steps text prints.

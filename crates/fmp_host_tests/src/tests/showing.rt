@@ -1,10 +1,10 @@
 //! Images of texts, and what is seen of boards of them.
-ghost use Rattle.std.specs.Prelude.{◌≡◌, All, IfOk};
+ghost use Rattle.std.specs.Prelude.{◌≡◌, ◌+◌, ◌<◌, All, IfOk, length};
 ghost use Rattle.fmp_hostrun.specs.Boards.{IsAt, blank as blank_of};
 
 use fmp_base::Event;
 use fmp_build::build;
-use fmp_hostrun::{Blank, BoardFault, Closed, Seat};
+use fmp_hostrun::{Blank, BoardFault, Closed, Seat, Site};
 use fmp_image::Image;
 use fmp_trace::{print_states, print_steps};
 use std::alloc::Global;
@@ -40,8 +40,23 @@ pub fn board_of<'a>(
 ) -> Result<(Blank<'a>, Vec<Seat>), BoardFault>
     ensures blank { IfOk result (λ made. made.0 ≡ blank_of image.now n made.0.row) }
     ensures seats { IfOk result (λ made. All (IsAt made.0.row) made.1.items) }
+    ensures count { IfOk result (λ made. length made.1.items ≡ m) }
 {
     Blank::new(alloc, image, n, k, m)
+}
+
+/// The last of the seats of a board, of which there is one.
+pub fn last_of<S: Site>(seats: &mut Vec<Seat>) -> Seat
+    requires at { All (IsAt S.row_id) seats.old.items }
+    requires some { 0 < length seats.old.items }
+    ensures seat { IsAt S.row_id result }
+    ensures others { All (IsAt S.row_id) seats.new.items }
+    ensures count { length seats.new.items + 1 ≡ length seats.old.items }
+{
+    let Some(seat) = seats.pop() else {
+        unreachable!()
+    };
+    seat
 }
 
 /// The bytes of a text.
@@ -83,20 +98,30 @@ impl Seen {
     ghost use Rattle.std.specs.Prelude.{◌≡◌};
 
     /// What is seen of a closed board of an image whose calls answered so.
-    pub fn of(
+    pub fn over(
         alloc: Global,
-        answers: String,
+        answers: Result<String, Fail>,
         image: &Image,
         closed: &Closed<'_>,
     ) -> Result<Seen, Fail>
         requires { closed.now.kernel.system ≡ image.now.system }
     {
-        let journal = journal_of(alloc, closed)?;
-        let states = states_of(alloc, image, closed)?;
         Ok(Seen {
-            answers,
-            journal,
-            states,
+            answers: answers?,
+            journal: journal_of(alloc, closed)?,
+            states: states_of(alloc, image, closed)?,
         })
+    }
+
+    /// The same, of a board that is given up.
+    pub fn of(
+        alloc: Global,
+        answers: Result<String, Fail>,
+        image: &Image,
+        closed: Closed<'_>,
+    ) -> Result<Seen, Fail>
+        requires { closed.kernel.system ≡ image.now.system }
+    {
+        Seen::over(alloc, answers, image, &closed)
     }
 }

@@ -1,12 +1,11 @@
 //! Boards whose stretches are made outside the lock, and a seat that follows them.
-ghost use Rattle.std.specs.Prelude.{◌≡◌, All, IfOk, IfSome};
+ghost use Rattle.std.specs.Prelude.{◌≡◌, All, IfOk, length};
 ghost use Rattle.fmp_hostrun.specs.Boards.{IsAt, blank as blank_of};
 ghost use Rattle.fmp_hostrun.specs.Outcomes.{IsDrawn};
 ghost use mathlib.Core.List.{IsPrefix};
 
-use crate::tests::feeding::one;
 use crate::tests::hosting::{CONFIGURATION, SUSPENDED, TASKS};
-use crate::tests::showing::{BOUND, Seen, board_of, image_of, steps_of};
+use crate::tests::showing::{BOUND, Seen, board_of, image_of, last_of, steps_of};
 use fmp_base::{Effect, Er, Event, Reply};
 use fmp_hostrun::{Blank, Board, BoardFault, Closed, Outcome, Receipt, Seat, Site};
 use fmp_image::Image;
@@ -112,36 +111,19 @@ fn answered<'a, S: Site, R: Wait>(
     rt: &R,
     alloc: Global,
     blank: Blank<'a>,
-    mut seat: Seat,
-    mut reader: Seat,
+    mut seats: Vec<Seat>,
     runs: u32,
 ) -> (Result<Answers, Fail>, Closed<'a>)
     requires blank { blank ≡ blank_of S.image S.bound S.row_id }
-    requires seat { IsAt S.row_id seat }
-    requires reader { IsAt S.row_id reader }
+    requires seats { All (IsAt S.row_id) seats.items }
+    requires count { length seats.items ≡ 2 }
     ensures { result.1.kernel.system ≡ S.image.system }
 {
+    let mut reader = last_of::<S>(&mut seats);
+    let mut seat = last_of::<S>(&mut seats);
     let board: Board<'a, S> = blank.open();
     let answers = answers_of(rt, alloc, &board, &mut seat, &mut reader, runs);
     (answers, board.close(&mut seat))
-}
-
-/// Takes the two seats of a board that is not yet open.
-fn opened<'a, S: Site, R: Wait>(
-    rt: &R,
-    alloc: Global,
-    blank: Blank<'a>,
-    mut seats: Vec<Seat>,
-    runs: u32,
-) -> Result<(Answers, Closed<'a>), Fail>
-    requires blank { blank ≡ blank_of S.image S.bound S.row_id }
-    requires seats { All (IsAt S.row_id) seats.items }
-    ensures { IfOk result (λ r. r.1.kernel.system ≡ S.image.system) }
-{
-    let reader = one::<S>(&mut seats).ok_or("a seat")?;
-    let seat = one::<S>(&mut seats).ok_or("a seat")?;
-    let (answers, closed) = answered::<S, R>(rt, alloc, blank, seat, reader, runs);
-    Ok((answers?, closed))
 }
 
 /// What a board of an image with room for k events answers to stretches that were made outside its lock, and the board
@@ -152,11 +134,37 @@ fn answered_by<'a, R: Wait>(
     image: &'a Image,
     k: u32,
     runs: u32,
-) -> Result<(Answers, Closed<'a>), Fail>
+) -> Result<(Result<Answers, Fail>, Closed<'a>), Fail>
     ensures { IfOk result (λ r. r.1.kernel.system ≡ image.now.system) }
 {
     let (blank, seats) = board_of(alloc, image, BOUND, k, 2)?;
-    opened::<Brand, R>(rt, alloc, blank, seats, runs)
+    Ok(answered::<Brand, R>(rt, alloc, blank, seats, runs))
+}
+
+/// What was answered, and what is seen of the board then.
+fn seen_after(
+    alloc: Global,
+    answers: Result<Answers, Fail>,
+    image: &Image,
+    closed: &Closed<'_>,
+) -> Result<(Answers, Seen), Fail>
+    requires { closed.now.kernel.system ≡ image.now.system }
+{
+    let answers = answers?;
+    let seen = Seen::over(alloc, Ok(String::new(alloc)), image, closed)?;
+    Ok((answers, seen))
+}
+
+/// The same, of a board that is given up.
+fn closed_after(
+    alloc: Global,
+    answers: Result<Answers, Fail>,
+    image: &Image,
+    closed: Closed<'_>,
+) -> Result<(Answers, Seen), Fail>
+    requires { closed.kernel.system ≡ image.now.system }
+{
+    seen_after(alloc, answers, image, &closed)
 }
 
 /// What was answered, the events that were followed, and the journal and the states in the end.
@@ -170,8 +178,7 @@ fn seen_of<R: Wait>(
     let (configuration, tasks) = texts;
     let image = image_of(alloc, configuration, tasks)?;
     let (answers, closed) = answered_by(rt, alloc, &image, k, runs)?;
-    let seen = Seen::of(alloc, String::new(alloc), &image, &closed)?;
-    Ok((answers, seen))
+    closed_after(alloc, answers, &image, closed)
 }
 
 /// What is answered to the event at this place of the journal, from 1, whose call replies E_OK.

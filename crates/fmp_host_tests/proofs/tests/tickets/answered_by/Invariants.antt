@@ -1,5 +1,5 @@
 use Rattle.fmp_host_tests.proofs.tests.tickets.answered_by.Given as goal
 
 -- the board that was just made
-abbrev pub ghosts-opened : goal.ghosts-opened
-ghosts-opened g a = record { image = a.blank.image; bound = a.blank.bound; row_id = a.blank.row }
+abbrev pub ghosts-answered : goal.ghosts-answered
+ghosts-answered g a = record { image = a.blank.image; bound = a.blank.bound; row_id = a.blank.row }
