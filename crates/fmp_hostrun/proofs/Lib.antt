@@ -4,6 +4,8 @@ pub mod Crossing
 pub mod Drawing
 pub mod Entering
 pub mod Entries
+pub mod Joining
 pub mod Replaying
 pub mod Starting
 pub mod Visiting
+pub mod Working

@@ -1,15 +1,17 @@
 -- Seats for which threads are started, one after the other.
-use Rattle.std.proofs.Common.{◌≡◌, ◌≢◌, ℕ, zero, List, [], ◌∷◌, ◌++◌, Bool, true, false, true≢false, Result, Ok, Err, length, map, inl, inr, refl, ap, sym, ◌∙◌, subst, append_assoc, arith}
+use Rattle.std.proofs.Common.{◌≡◌, ◌≢◌, ℕ, zero, ◌+◌, List, [], ◌∷◌, ◌++◌, Bool, true, false, true≢false, Result, Ok, Err, length, inl, inr, refl, ap, sym, ◌∙◌, subst, append_assoc, arith}
 use Rattle.std.proofs.lemmas.List.{append-nil}
-use Rattle.std.proofs.lemmas.List.Elements.{All-append, All-cons, All-nil, All-tail, AllZip-push, length_all_zip}
+use Rattle.std.proofs.lemmas.List.Elements.{All-append, All-cons, All-nil, All-tail, length_all_zip}
 use Rattle.std.specs.List.{All, AllZip}
 use Rattle.std.specs.Prelude.{IfErr, IfOk}
 use Rattle.fmp_image.specs.Images.{ImageTables}
 use Rattle.fmp_row.specs.Seats.{RowId, SeatState}
 use Rattle.fmp_hostrun.specs.declared.fault.BoardFault.{BoardFault}
 use Rattle.fmp_hostrun.specs.Boards.{IsAt, IsTurnFault}
-use Rattle.fmp_hostrun.specs.Visits.{AllButOne, CameBack, Kept}
-use Rattle.fmp_hostrun.proofs.Visiting.{all_kept}
+use Rattle.fmp_hostrun.specs.Visits.{Kept}
+use Rattle.fmp_hostrun.specs.declared.turns.Load.{Load}
+use Rattle.fmp_hostrun.specs.Works.{AllAdded, AllButOne, CameBack, CameBackAs, mine_of, part_at}
+use Rattle.fmp_hostrun.proofs.Working.{added_begin}
 use Rattle.fmp_hostrun.specs.declared.fault.BoardFault.TheVariants as fault
 
 -- seats: those whose threads were started, the one whose thread was refused, those that were spared then, and the rest
@@ -43,28 +45,9 @@ one_refused true seats started spared rest next x is s r = absurd (true≢false 
 one_refused false seats started spared rest next x is s r =
     (x, s.0 ∙ ap (λ (xs : List SeatState). started ++ xs) r ∙ sym (ap (λ (xs : List SeatState). started ++ x ∷ (xs ++ next)) s.1))
 
-none_left : {X : Type 0} (rest : List X) → length rest ≡ 0 → rest ≡ []
+pub none_left : {X : Type 0} (rest : List X) → length rest ≡ 0 → rest ≡ []
 none_left [] e = refl
 none_left (x ∷ rest) e = absurd (omega arith)
-
--- threads are joined, one after the other
-
-pub none_joined : (P : SeatState → SeatState → Type 0) (back : List SeatState) → back ≡ [] → AllZip P [] back
-none_joined P back is = subst (AllZip P []) (sym is) tt
-
-pub one_joined : (P : SeatState → SeatState → Type 0) (first back more : List SeatState) (x y : SeatState) → AllZip P first back → P x y → more ≡ back ++ y ∷ []
-    → AllZip P (first ++ x ∷ []) more
-one_joined P first back more x y all p is = subst (AllZip P (first ++ x ∷ [])) (sym is) (AllZip-push P first back x y all p)
-
-pub one_fewer : {H : Type 0} (f : H → SeatState) (first : List SeatState) (handles rest next : List H) (h : H) → first ++ map f rest ≡ map f handles → rest ≡ h ∷ next
-    → (first ++ f h ∷ []) ++ map f next ≡ map f handles
-one_fewer f first handles rest next h all r = append_assoc first (f h ∷ []) (map f next) ∙ ap (λ xs. first ++ map f xs) (sym r) ∙ all
-
-pub all_joined : {H : Type 0} (f : H → SeatState) (P : SeatState → SeatState → Type 0) (handles rest : List H) (first back : List SeatState) → first ++ map f rest ≡ map f handles
-    → length rest ≡ 0 → AllZip P first back → AllZip P (map f handles) back
-all_joined f P handles rest first back all none kept =
-    let are : first ≡ map f handles = sym (append-nil first) ∙ ap (λ xs. first ++ map f xs) (sym (none_left rest none)) ∙ all in
-    subst (λ xs. AllZip P xs back) are kept
 
 -- why a thread stops is neither that one was refused nor a limit
 pub other_fault : (result : Result ℕ BoardFault) → IfErr result IsTurnFault → (result ≢ Err fault.Thread) × (result ≢ Err fault.Limit)
@@ -73,11 +56,11 @@ other_fault (Err f) (inl full) = ((λ e. absurd (cc)), (λ e. absurd (cc)))
 other_fault (Err f) (inr held) = ((λ e. absurd (cc)), (λ e. absurd (cc)))
 
 -- all but the refused one come back
-pub all_but_one : (P : SeatState → SeatState → Type 0) (refused : Bool) (seats first started spared rest worked back : List SeatState) → refused ≡ true
-    → Started refused first started spared rest → length rest ≡ 0 → first ≡ seats → back ≡ worked ++ spared → AllZip P started worked
-    → CameBack P seats back (Err fault.Thread)
-all_but_one P false seats first started spared rest worked back is s none same b kept = absurd (true≢false (sym is))
-all_but_one P true seats first started spared rest worked back is s none same b kept =
+pub all_but_one : (R : (seats back : List SeatState) → Type 0) (refused : Bool) (seats first started spared rest worked back : List SeatState) → refused ≡ true
+    → Started refused first started spared rest → length rest ≡ 0 → first ≡ seats → back ≡ worked ++ spared → R started worked
+    → CameBackAs R seats back (Err fault.Thread)
+all_but_one R false seats first started spared rest worked back is s none same b kept = absurd (true≢false (sym is))
+all_but_one R true seats first started spared rest worked back is s none same b kept =
     record {
       all = λ other. absurd (other refl);
       refused = λ _. record {
@@ -91,16 +74,33 @@ all_but_one P true seats first started spared rest worked back is s none same b 
       };
     }
 
--- all come back
-pub all_back : (P : SeatState → SeatState → Type 0) (refused : Bool) (seats first started spared rest worked back : List SeatState) (result : Result ℕ BoardFault) → refused ≡ false
-    → Started refused first started spared rest → length rest ≡ 0 → first ≡ seats → back ≡ worked ++ spared → AllZip P started worked
-    → result ≢ Err fault.Thread → CameBack P seats back result
-all_back P true seats first started spared rest worked back result is s none same b kept other = absurd (true≢false is)
-all_back P false seats first started spared rest worked back result is s none same b kept other =
-    let were : started ≡ seats = sym (append-nil started) ∙ ap (λ (xs : List SeatState). started ++ xs) (sym (none_left rest none)) ∙ sym s.0 ∙ same in
-    let are : worked ≡ back = sym (append-nil worked) ∙ ap (λ (xs : List SeatState). worked ++ xs) (sym s.1) ∙ sym b in
+-- all were started, and all come back
+
+all_started : (refused : Bool) (seats first started spared rest : List SeatState) → refused ≡ false → Started refused first started spared rest → length rest ≡ 0 → first ≡ seats → started ≡ seats
+all_started true seats first started spared rest is s none same = absurd (true≢false is)
+all_started false seats first started spared rest is s none same = sym (append-nil started) ∙ ap (λ (xs : List SeatState). started ++ xs) (sym (none_left rest none)) ∙ sym s.0 ∙ same
+
+all_worked : (refused : Bool) (seats first started spared rest worked back : List SeatState) → refused ≡ false → Started refused first started spared rest → back ≡ worked ++ spared → worked ≡ back
+all_worked true seats first started spared rest worked back is s b = absurd (true≢false is)
+all_worked false seats first started spared rest worked back is s b = sym (append-nil worked) ∙ ap (λ (xs : List SeatState). worked ++ xs) (sym s.1) ∙ sym b
+
+pub mine_back : (refused : Bool) (seats first started spared rest worked back : List SeatState) (result : Result ℕ BoardFault) → refused ≡ false → Started refused first started spared rest
+    → length rest ≡ 0 → first ≡ seats → back ≡ worked ++ spared → IfOk result (λ count. mine_of worked ≡ mine_of started + count)
+    → IfOk result (λ count. mine_of back ≡ mine_of seats + count)
+mine_back refused seats first started spared rest worked back (Err f) is s none same b mine = tt
+mine_back refused seats first started spared rest worked back (Ok count) is s none same b mine =
+    sym (ap mine_of (all_worked refused seats first started spared rest worked back is s b)) ∙ mine
+    ∙ ap (λ (xs : List SeatState). mine_of xs + count) (all_started refused seats first started spared rest is s none same)
+
+pub all_back : (R : (seats back : List SeatState) → Type 0) (refused : Bool) (seats first started spared rest worked back : List SeatState) (result : Result ℕ BoardFault) → refused ≡ false
+    → Started refused first started spared rest → length rest ≡ 0 → first ≡ seats → back ≡ worked ++ spared → R started worked
+    → result ≢ Err fault.Thread → CameBackAs R seats back result
+all_back R true seats first started spared rest worked back result is s none same b kept other = absurd (true≢false is)
+all_back R false seats first started spared rest worked back result is s none same b kept other =
+    let were : started ≡ seats = all_started false seats first started spared rest is s none same in
+    let are : worked ≡ back = all_worked false seats first started spared rest worked back is s b in
     record {
-      all = λ _. subst (λ (y : List SeatState × List SeatState). AllZip P y.0 y.1) (λ i. (were i, are i)) kept;
+      all = λ _. subst (λ (y : List SeatState × List SeatState). R y.0 y.1) (λ i. (were i, are i)) kept;
       refused = λ bad. absurd (other bad);
     }
 
@@ -127,7 +127,7 @@ pub all_at : (i : ImageTables) (n : ℕ) (row : RowId) (seats back : List SeatSt
 all_at i n row seats back (Ok r) came at = kept_at i n row seats back (came.all (λ (e : Ok r ≡ Err fault.Thread). absurd (cc))) at
 all_at i n row seats back (Err f) came at = by_fault f came
   where
-    refused : AllButOne (Kept i n row) seats back → All (IsAt row) back
+    refused : AllButOne (AllZip (Kept i n row)) seats back → All (IsAt row) back
     refused b =
         let parts = rest_at row b.front b.lost b.rest (subst (All (IsAt row)) b.were at) in
         subst (All (IsAt row)) (sym b.are) (All-append (IsAt row) b.worked b.rest (kept_at i n row b.front b.worked b.kept parts.0) parts.1)
@@ -144,6 +144,45 @@ pub same_count : (i : ImageTables) (n : ℕ) (row : RowId) (seats back : List Se
 same_count i n row seats back (Ok r) came = sym (length_all_zip (Kept i n row) seats back (came.all (λ (e : Ok r ≡ Err fault.Thread). absurd (cc))))
 same_count i n row seats back (Err f) came = tt
 
+-- what was added to seats keeps what they were
+
+all_kept : (i : ImageTables) (n : ℕ) (row : RowId) (load : Load) (place : ℕ) (seats back : List SeatState) → AllAdded i n row load place seats back → AllZip (Kept i n row) seats back
+all_kept i n row load place [] [] added = tt
+all_kept i n row load place [] (b ∷ back) added = absurd added
+all_kept i n row load place (s ∷ seats) [] added = absurd added
+all_kept i n row load place (s ∷ seats) (b ∷ back) added = (added.0.kept, all_kept i n row load (place + 1) seats back added.1)
+
+pub kept_back : (i : ImageTables) (n : ℕ) (row : RowId) (load : Load) (seats back : List SeatState) (result : Result ℕ BoardFault) → CameBackAs (AllAdded i n row load 0) seats back result
+    → CameBack (Kept i n row) seats back result
+kept_back i n row load seats back result came =
+    record {
+      all = λ other. all_kept i n row load 0 seats back (came.all other);
+      refused = λ bad. but_one (came.refused bad);
+    }
+  where
+    but_one : AllButOne (AllAdded i n row load 0) seats back → AllButOne (AllZip (Kept i n row)) seats back
+    but_one b =
+        record {
+          front = b.front;
+          lost = b.lost;
+          rest = b.rest;
+          worked = b.worked;
+          were = b.were;
+          are = b.are;
+          kept = all_kept i n row load 0 b.front b.worked b.kept;
+        }
+
 -- no thread was started
-pub all_as_they_were : (i : ImageTables) (n : ℕ) (row : RowId) (seats : List SeatState) (result : Result ℕ BoardFault) → result ≢ Err fault.Thread → CameBack (Kept i n row) seats seats result
-all_as_they_were i n row seats result other = record { all = λ _. all_kept i n row seats; refused = λ bad. absurd (other bad) }
+
+none_added : (i : ImageTables) (n : ℕ) (row : RowId) (load : Load) (place : ℕ) (seats : List SeatState) → AllAdded i n row load place seats seats
+none_added i n row load place [] = tt
+none_added i n row load place (s ∷ seats) = (added_begin i n row (part_at load place).event (part_at load place).times s s refl, none_added i n row load (place + 1) seats)
+
+pub all_as_they_were : (i : ImageTables) (n : ℕ) (row : RowId) (load : Load) (seats : List SeatState) (result : Result ℕ BoardFault) → result ≢ Err fault.Thread
+    → CameBackAs (AllAdded i n row load 0) seats seats result
+all_as_they_were i n row load seats result other = record { all = λ _. none_added i n row load 0 seats; refused = λ bad. absurd (other bad) }
+
+pub kept_as_they_were : (i : ImageTables) (n : ℕ) (row : RowId) (seats : List SeatState) (result : Result ℕ BoardFault) → result ≢ Err fault.Thread → CameBack (Kept i n row) seats seats result
+kept_as_they_were i n row seats result other =
+    let load : Load = record { processors = 0; turns = 0; ticks = 0 } in
+    kept_back i n row load seats seats result (all_as_they_were i n row load seats result other)

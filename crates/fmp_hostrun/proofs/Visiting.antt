@@ -1,26 +1,20 @@
 -- What the calls of a board make of a seat.
-use Rattle.std.proofs.Common.{◌≡◌, ℕ, ◌+◌, ◌==◌, cond, List, [], ◌∷◌, ◌++◌, Option, Some, None, Result, Ok, Err, length, refl, sym, ap, ◌∙◌, subst, append_assoc, arith}
+use Rattle.std.proofs.Common.{◌≡◌, ℕ, List, [], ◌++◌, Option, Some, None, Result, Ok, Err, length, refl, sym, ap, ◌∙◌, subst, append_assoc, arith}
 use Rattle.std.specs.Prelude.{OnOk, OnErr, IfSome}
-use Rattle.std.specs.List.{AllZip}
 use Rattle.std.proofs.lemmas.List.{append-nil}
 use Rattle.std.proofs.lemmas.Bool.Decides.{nat_tests}
 use mathlib.Core.List.{IsPrefix}
-use Rattle.fmp_base.specs.declared.events.Event.{Event}
-use Rattle.fmp_base.specs.declared.events.Event.TheVariants.{Run}
 use Rattle.fmp_base.specs.Steps.{Reaction, Nothing, Did}
-use Rattle.fmp_code.specs.declared.instructions.MachineContext.{MachineContext}
 use Rattle.fmp_image.specs.Images.{ImageTables}
 use Rattle.fmp_row.specs.declared.entry.JournalEntry.{JournalEntry}
-use Rattle.fmp_row.specs.Seats.{RowId, SeatState, events}
+use Rattle.fmp_row.specs.Seats.{RowId, SeatState}
 use Rattle.fmp_row.specs.Views.{own, times, without}
-use Rattle.fmp_row.specs.Words.{entry}
 use Rattle.fmp_hostrun.specs.declared.fault.BoardFault.{BoardFault}
 use Rattle.fmp_hostrun.specs.declared.receipt.Receipt.{Receipt}
 use Rattle.fmp_hostrun.specs.Boards.{BookState, IsJournal}
-use Rattle.fmp_hostrun.specs.Outcomes.{AnsweredAfter, Drew, IsDrawn, IsTicketOf, Submitted, TicketState, actor_after}
+use Rattle.fmp_hostrun.specs.Outcomes.{Drew, IsDrawn, TicketState, actor_after}
 use Rattle.fmp_hostrun.specs.Receipts.{journal_after, marks_after, receipt_of}
-use Rattle.fmp_hostrun.specs.Replays.{reaction}
-use Rattle.fmp_hostrun.specs.Visits.{FedAfter, Fed, Kept, Visited, entered, journaled, shown, unmarked}
+use Rattle.fmp_hostrun.specs.Visits.{Kept, Visited, entered, journaled, shown, unmarked}
 
 pub prefix_then : (xs ys zs : List JournalEntry) → IsPrefix xs ys → IsPrefix ys zs → IsPrefix xs zs
 prefix_then xs ys zs p q = (p.0 ++ q.0, sym (append_assoc xs p.0 q.0) ∙ ap (λ (l : List JournalEntry). l ++ q.0) p.1 ∙ q.1)
@@ -131,7 +125,3 @@ kept_on i n row was mid now k l = record {
   grows = prefix_then was.seen mid.seen now.seen k.grows l.grows;
   journal = λ j. l.journal (k.journal j);
 }
-
-pub all_kept : (i : ImageTables) (n : ℕ) (row : RowId) (seats : List SeatState) → AllZip (Kept i n row) seats seats
-all_kept i n row [] = tt
-all_kept i n row (s ∷ seats) = (kept_none i n row s s refl, all_kept i n row seats)

@@ -1,5 +1,5 @@
 -- What contracts see of boards and their seats, and what their calls answer.
-use Rattle.std.specs.Prelude.{◌≡◌, ◌≢◌, ◌⊎◌, ℕ, ◌≤◌, ◌<◌, ◌^◌, List, ◌∷◌, ◌++◌, length, Result, Err, IfErr, MatchResult}
+use Rattle.std.specs.Prelude.{◌≡◌, ◌⊎◌, ℕ, ◌≤◌, ◌<◌, ◌^◌, List, length}
 use Rattle.std.specs.List.{All}
 use Rattle.fmp_base.specs.declared.events.Event.{Event}
 use Rattle.fmp_code.specs.declared.instructions.MachineContext.{MachineContext}
@@ -10,9 +10,7 @@ use Rattle.fmp_row.specs.declared.entry.JournalEntry.{JournalEntry}
 use Rattle.fmp_row.specs.Seats.{RowId, SeatState, events}
 use Rattle.fmp_hostrun.specs.declared.fault.BoardFault.{BoardFault}
 use Rattle.fmp_hostrun.specs.declared.fault.BoardFault.TheVariants as fault
-use Rattle.fmp_hostrun.specs.declared.receipt.Receipt.{Receipt}
-use Rattle.fmp_hostrun.specs.Receipts.{receipt_of}
-use Rattle.fmp_hostrun.specs.Replays.{IsLegal, kernel_after, reaction}
+use Rattle.fmp_hostrun.specs.Replays.{IsLegal, kernel_after}
 
 -- what contracts see of a book: its journal, and the seats that have not counted an entry of theirs, one mark for each
 pub record BookState : Type 0 where

@@ -4,3 +4,4 @@ pub mod Receipts
 pub mod Replays
 pub mod Sites
 pub mod Visits
+pub mod Works

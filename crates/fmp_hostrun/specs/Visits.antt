@@ -1,6 +1,5 @@
 -- What the calls of a board make of the seat of their caller, and what they answer it.
-use Rattle.std.specs.Prelude.{◌≡◌, ◌≢◌, ℕ, ◌+◌, ◌<◌, ◌==◌, if◌then◌else◌, List, ◌∷◌, ◌++◌, length, Result, Ok, Err, IfErr, MatchResult}
-use Rattle.std.specs.List.{AllZip}
+use Rattle.std.specs.Prelude.{◌≡◌, ℕ, ◌+◌, ◌<◌, ◌==◌, if◌then◌else◌, List, length, Result, Ok, Err, MatchResult}
 use mathlib.Core.List.{IsPrefix}
 use Rattle.fmp_base.specs.declared.events.Event.{Event}
 use Rattle.fmp_base.specs.Steps.{Reaction}
@@ -12,7 +11,7 @@ use Rattle.fmp_row.specs.Words.{entry}
 use Rattle.fmp_hostrun.specs.declared.fault.BoardFault.{BoardFault}
 use Rattle.fmp_hostrun.specs.declared.fault.BoardFault.TheVariants as fault
 use Rattle.fmp_hostrun.specs.declared.receipt.Receipt.{Receipt}
-use Rattle.fmp_hostrun.specs.Boards.{BookState, IsJournal, IsTurnFault}
+use Rattle.fmp_hostrun.specs.Boards.{BookState, IsJournal}
 use Rattle.fmp_hostrun.specs.Receipts.{journal_after, receipt_of}
 use Rattle.fmp_hostrun.specs.Replays.{reaction}
 
@@ -63,28 +62,3 @@ Fed i n row e was now result =
     (before : List JournalEntry) × IsJournal i n row.capacity row.seats before × IsPrefix was.seen before
     × FedAfter i n row.capacity before e result
     × (now.seen ≡ entered before (entry was.number e) (reaction i n (events before) e) result)
-
--- what came back of seats, where a thread was refused: all but that thread's seat, those of the threads that ran as P
--- says of each, and the rest as they were
-pub record AllButOne (P : SeatState → SeatState → Type 0) (seats back : List SeatState) : Type 0 where
-  pub front : List SeatState
-  pub lost : SeatState
-  pub rest : List SeatState
-  pub worked : List SeatState
-  pub were : seats ≡ front ++ lost ∷ rest
-  pub are : back ≡ worked ++ rest
-  pub kept : AllZip P front worked
-
--- what came back of seats, in their order, each as P says
-pub record CameBack (P : SeatState → SeatState → Type 0) (seats back : List SeatState) (result : Result ℕ BoardFault)
-    : Type 0 where
-  pub all : result ≢ Err fault.Thread → AllZip P seats back
-  pub refused : result ≡ Err fault.Thread → AllButOne P seats back
-
--- what a thread gives back: its seat, and how many events it journaled, or why it stopped
-abbrev pub GaveBack : ImageTables → (n : ℕ) → RowId → (was now : SeatState) → Result ℕ BoardFault → Type 0
-GaveBack i n row was now result = Kept i n row was now × IfErr result IsTurnFault
-
--- threads were started for seats
-abbrev pub AreRun : ImageTables → (n : ℕ) → RowId → (seats back : List SeatState) → Result ℕ BoardFault → Type 0
-AreRun i n row seats back result = CameBack (Kept i n row) seats back result × (result ≢ Err fault.Limit)

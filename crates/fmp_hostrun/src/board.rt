@@ -30,7 +30,7 @@ pub struct Board<'a, S: Site> {
 }
 
 impl<'a, S: Site> Board<'a, S> {
-    ghost use Rattle.std.specs.Prelude.{◌≡◌, ◌+◌, ◌^◌, ◌<◌, ◌≤◌, ◌++◌, [], ◌∷◌, length, None, IfNone, IfSome, vec_capacity};
+    ghost use Rattle.std.specs.Prelude.{◌≡◌, ◌+◌, ◌^◌, ◌<◌, ◌≤◌, ◌⊎◌, ◌++◌, [], ◌∷◌, length, None, IfNone, IfSome, vec_capacity};
     ghost use mathlib.Core.List.{IsPrefix};
     ghost use Rattle.fmp_row.specs.Seats.{events, given};
     ghost use Rattle.fmp_row.specs.Views.{looked_at};
@@ -183,6 +183,8 @@ impl<'a, S: Site> Board<'a, S> {
             (λ event. (seat.new.place ≡ seat.old.place + 1) × (given seat.new ≡ given seat.old ++ event ∷ [])) }
         ensures none { IfNone result ((seat.new.place ≡ seat.old.place)
             × (seat.new.seen ≡ seat.old.seen) × (length seat.old.seen ≤ seat.old.place)) }
+        ensures empty { IfNone result ((seat.old.place ≡ S.row_id.capacity)
+            ⊎ (seat.new.look ≡ looked_at seat.old.look seat.old.place 0)) }
     {
         seat.follow(&self.row)
     }

@@ -1,8 +1,10 @@
 //! What takes events from many threads.
-ghost use Rattle.std.specs.Prelude.{◌≡◌, ◌⊎◌, ℕ, IfErr, IfSome};
+ghost use Rattle.std.specs.Prelude.{◌≡◌, ◌+◌, ◌⊎◌, ℕ, IfErr, IfSome};
+ghost use Rattle.fmp_base.specs.declared.events.Event.TheVariants.{Run};
 ghost use Rattle.fmp_hostrun.specs.Boards.{IsAt};
 ghost use Rattle.fmp_hostrun.specs.Outcomes.{IsDrawn};
-ghost use Rattle.fmp_hostrun.specs.Visits.{Visited};
+ghost use Rattle.fmp_hostrun.specs.Visits.{Visited, journaled};
+ghost use Rattle.fmp_hostrun.specs.Works.{Added};
 ghost use Rattle.fmp_hostrun.specs.declared.fault.BoardFault.TheVariants.{Full, Stale};
 ghost use Rattle.fmp_image.specs.Images.{ImageTables};
 ghost use Rattle.fmp_row.specs.Seats.{RowId};
@@ -32,7 +34,9 @@ pub(crate) trait Feed {
         requires at { IsAt row_id seat.old }
         ensures at { IsAt row_id seat.new }
         ensures visited { Visited image bound row_id seat.old seat.new }
-        ensures drawn { IfSome result (λ o. IsDrawn image bound seat.new.seen o.ticket) };
+        ensures mine { seat.new.mine ≡ seat.old.mine }
+        ensures drawn { IfSome result (λ o. IsDrawn image bound seat.new.seen o.ticket) }
+        ensures processor { IfSome result (λ o. o.ticket.processor ≡ p) };
 
     /// Takes an outcome, under the number of the seat.
     fn submit<R: Wait>(
@@ -44,14 +48,16 @@ pub(crate) trait Feed {
         requires at { IsAt row_id seat.old }
         requires drawn { IsDrawn image bound seat.old.seen outcome.ticket }
         ensures at { IsAt row_id seat.new }
-        ensures visited { Visited image bound row_id seat.old seat.new }
+        ensures added { Added image bound row_id (Run outcome.ticket.processor) 1 seat.old seat.new }
+        ensures mine { seat.new.mine ≡ seat.old.mine + journaled result }
         ensures fault { IfErr result (λ f. (f ≡ Full) ⊎ (f ≡ Stale)) };
 
     /// Takes an event, under the number of the seat.
     fn feed<R: Wait>(&self, rt: &R, seat: &mut Seat, event: Event) -> Result<Receipt, BoardFault>
         requires at { IsAt row_id seat.old }
         ensures at { IsAt row_id seat.new }
-        ensures visited { Visited image bound row_id seat.old seat.new }
+        ensures added { Added image bound row_id event 1 seat.old seat.new }
+        ensures mine { seat.new.mine ≡ seat.old.mine + journaled result }
         ensures fault { IfErr result (λ f. f ≡ Full) };
 }
 

@@ -1,15 +1,16 @@
 //! A thread for each processor of a board, and one for the ticks.
-ghost use Rattle.std.specs.Prelude.{◌≡◌, ◌+◌, ◌≤◌, [], ◌++◌, ◌↔◌, ◌≢◌, All, Err, IfErr, IfOk, length, map, vec_len, vec_capacity};
+ghost use Rattle.std.specs.Prelude.{◌≡◌, ◌+◌, ◌<◌, ◌≤◌, ◌^◌, [], ◌++◌, ◌↔◌, ◌≢◌, All, Err, IfErr, IfOk, length, map, vec_len, vec_capacity};
 ghost use Rattle.std.specs.List.{AllZip};
 ghost use Rattle.fmp_hostrun.specs.Boards.{IsAt, IsTurnFault};
-ghost use Rattle.fmp_hostrun.specs.Visits.{AreRun, CameBack, GaveBack, Kept};
+ghost use Rattle.fmp_hostrun.specs.Visits.{Kept};
+ghost use Rattle.fmp_hostrun.specs.Works.{AllAdded, AreRun, CameBack, CameBackAs, GaveBack, IsDone, both, job_of, mine_of, seats_of};
 ghost use Rattle.fmp_hostrun.specs.declared.fault.BoardFault.TheVariants.{Limit};
 
 use crate::board::Board;
 use crate::fault::BoardFault;
 use crate::feed::Feed;
 use crate::site::Site;
-use crate::turns::{Gate, Part, run_part};
+use crate::turns::{Gate, Load, Part, run_part};
 use fmp_row::Seat;
 use std::alloc::{AllocError, Global};
 use std::marker::PhantomData;
@@ -25,42 +26,21 @@ pub(crate) struct Worked {
     journaled: Result<u32, BoardFault>,
 }
 
-/// A thread's promise to give its seat back, with which it has made calls of this board alone.
+/// A thread's promise to do its part with this seat at this board, and to give the seat back.
 #[derive(Drop)]
 pub(crate) struct GivesBack<B: Feed> {
     seat: Snapshot<Seat>,
+    part: Part,
     board: PhantomData<B>,
 }
 
 impl<B: Feed> Promise<Worked> for GivesBack<B> {
-    ghost use Rattle.fmp_hostrun.specs.Visits.{GaveBack};
+    ghost use Rattle.fmp_hostrun.specs.Works.{GaveBack};
 
-    ghost kept_by = { λ p r. GaveBack B.image B.bound B.row_id p.seat.value r.seat r.journaled };
+    ghost kept_by = { λ p r. GaveBack B.image B.bound B.row_id p.part p.seat.value r.seat r.journaled };
 }
 
 type Handles<B> = Vec<PromisedHandle<Worked, GivesBack<B>>>;
-
-/// What the threads of a board are to do.
-#[derive(Clone, Copy)]
-struct Load {
-    processors: u8,
-    turns: u32,
-    ticks: u32,
-}
-
-impl Load {
-    /// The part of the thread at this place: the processors come first, and then the ticks.
-    fn part(self, place: usize) -> Part {
-        if place < self.processors as usize {
-            Part::Turns {
-                processor: place as u8 + 1,
-                turns: self.turns,
-            }
-        } else {
-            Part::Ticks(self.ticks)
-        }
-    }
-}
 
 /// Does a thread's part with its seat, and gives the seat back.
 fn work<B: Feed, G: Gate, R: Wait>(
@@ -71,7 +51,7 @@ fn work<B: Feed, G: Gate, R: Wait>(
     part: Part,
 ) -> Worked
     requires { IsAt B.row_id seat }
-    ensures { GaveBack B.image B.bound B.row_id seat result.seat result.journaled }
+    ensures { GaveBack B.image B.bound B.row_id part seat result.seat result.journaled }
 {
     let journaled = run_part(rt, board, gate, &mut seat, part);
     Worked { seat, journaled }
@@ -82,11 +62,10 @@ fn with_more(
     journaled: Result<u32, BoardFault>,
     more: Result<u32, BoardFault>,
 ) -> Result<u32, BoardFault>
-    requires first { IfErr journaled IsTurnFault }
-    requires second { IfErr more IsTurnFault }
-    ensures { IfErr result IsTurnFault }
+    requires { IfOk journaled (λ count. IfOk more (λ further. count + further < 2 ^ 32)) }
+    ensures { result ≡ both journaled more }
 {
-    Ok(journaled?.saturating_add(more?))
+    Ok(journaled? + more?)
 }
 
 /// Joins threads in order: their seats, and how many of their events were journaled, or the first fault.
@@ -95,8 +74,14 @@ fn joined<B: Feed, R: Threads>(
     handles: Handles<B>,
     mut back: Vec<Seat>,
 ) -> (Vec<Seat>, Result<u32, BoardFault>)
-    requires { (back.items ≡ []) × (vec_len handles ≤ vec_capacity back) }
-    ensures seats { AllZip (Kept B.image B.bound B.row_id) (map (λ h. h.promise.seat.value) handles.items) result.0.items }
+    requires room { B.row_id.capacity ≤ 2 ^ 20 }
+    requires few { vec_len handles ≤ 256 }
+    requires back { (back.items ≡ []) × (vec_len handles ≤ vec_capacity back) }
+    ensures done { AllZip (IsDone B.image B.bound B.row_id)
+        (map (λ h. job_of h.promise.part h.promise.seat.value) handles.items) result.0.items }
+    ensures mine { IfOk result.1 (λ count. mine_of result.0.items
+        ≡ mine_of (seats_of (map (λ h. job_of h.promise.part h.promise.seat.value) handles.items)) + count) }
+    ensures count { vec_len result.0 ≡ vec_len handles }
     ensures capacity { vec_capacity result.0 ≡ vec_capacity back }
     ensures fault { IfErr result.1 IsTurnFault }
 {
@@ -152,21 +137,25 @@ fn run_threads<B: Feed + Sync, G: Gate, R: Threads + Wait + Sync>(
     lists: Lists<B>,
     load: Load,
 ) -> (Vec<Seat>, Result<u32, BoardFault>)
+    requires room { B.row_id.capacity ≤ 2 ^ 20 }
+    requires few { vec_len seats ≤ 256 }
     requires seats { All (IsAt B.row_id) seats.items }
     requires handles { (lists.handles.items ≡ []) × (vec_len seats ≤ vec_capacity lists.handles) }
     requires spared { (lists.spared.items ≡ []) × (vec_len seats ≤ vec_capacity lists.spared) }
     requires back { (lists.back.items ≡ []) × (vec_len seats ≤ vec_capacity lists.back) }
-    ensures { AreRun B.image B.bound B.row_id seats.items result.0.items result.1 }
+    ensures { AreRun B.image B.bound B.row_id load seats.items result.0.items result.1 }
 {
     thread::scope(
         thread::scope_env(),
         rt,
         move |scope| -> (Vec<Seat>, Result<u32, BoardFault>)
+            requires room { B.row_id.capacity ≤ 2 ^ 20 }
+            requires few { vec_len seats ≤ 256 }
             requires seats { All (IsAt B.row_id) seats.items }
             requires handles { (lists.handles.items ≡ []) × (vec_len seats ≤ vec_capacity lists.handles) }
             requires spared { (lists.spared.items ≡ []) × (vec_len seats ≤ vec_capacity lists.spared) }
             requires back { (lists.back.items ≡ []) × (vec_len seats ≤ vec_capacity lists.back) }
-            ensures { AreRun B.image B.bound B.row_id seats.items result.0.items result.1 }
+            ensures { AreRun B.image B.bound B.row_id load seats.items result.0.items result.1 }
         {
             let Lists {
                 mut handles,
@@ -182,13 +171,14 @@ fn run_threads<B: Feed + Sync, G: Gate, R: Threads + Wait + Sync>(
                 let part = load.part(handles.len());
                 let promise = GivesBack {
                     seat: Snapshot::of(&seat),
+                    part,
                     board: PhantomData,
                 };
                 let started = scope.spawn_with(
                     promise,
                     move || -> Worked
                         requires { IsAt B.row_id seat }
-                        ensures { GaveBack B.image B.bound B.row_id seat result.seat result.journaled }
+                        ensures { GaveBack B.image B.bound B.row_id part seat result.seat result.journaled }
                     { work(rt, board, gate, seat, part) },
                 );
                 match started {
@@ -211,15 +201,13 @@ fn run_threads<B: Feed + Sync, G: Gate, R: Threads + Wait + Sync>(
 /// stretch outside the lock, asks the gate, submits the outcome and tells the gate; and one more feeds so many ticks. A
 /// turn in which the processor has no actor is over, and so is one whose outcome is stale. The seats are one for each
 /// processor, in order, and one for the ticks; they come back in their order, each of which has seen what its calls showed
-/// it. The answer is how many events were
-/// journaled by this call.
+/// it. The answer is how many events were journaled by this call: by so much their own counts have risen together.
 ///
 /// `BoardFault::Limit`, exactly where the seats are not so many; `BoardFault::Memory`, for want of memory, before any
 /// thread is started; `BoardFault::Thread` where a thread was refused: then no more are started, those that run are
 /// joined, and the seat of the refused one is lost. Else, where threads stopped at a fault, `BoardFault::Full` or
 /// `BoardFault::Held` (the gate said no 10,000 times), it is that of the least processor, or at last of the ticks. What
 /// was journaled before a fault stands.
-#[tactic(auto, using(crate::proofs::Starting::all_at, crate::proofs::Starting::same_count, crate::proofs::Starting::all_as_they_were))]
 pub fn run_all<S: Site + Send + Sync, G: Gate, R: Threads + Wait + Sync>(
     rt: &R,
     alloc: Global,
@@ -232,6 +220,11 @@ pub fn run_all<S: Site + Send + Sync, G: Gate, R: Threads + Wait + Sync>(
     requires { All (IsAt S.row_id) seats.items }
     ensures limit { (result.1 ≡ Err Limit) ↔ (length seats.items ≢ S.image.system.processors + 1) }
     ensures seats { CameBack (Kept S.image S.bound S.row_id) seats.items result.0.items result.1 }
+    // What the p-th seat has added are runs of processor p, at most so many, and what the last one has are ticks.
+    ensures added { CameBackAs (AllAdded S.image S.bound S.row_id
+        (record { processors = S.image.system.processors; turns = turns; ticks = ticks }) 0)
+        seats.items result.0.items result.1 }
+    ensures mine { IfOk result.1 (λ journaled. mine_of result.0.items ≡ mine_of seats.items + journaled) }
     ensures at { All (IsAt S.row_id) result.0.items }
     ensures count { IfOk result.1 (λ _. length result.0.items ≡ length seats.items) }
 {
@@ -242,6 +235,8 @@ pub fn run_all<S: Site + Send + Sync, G: Gate, R: Threads + Wait + Sync>(
     let Ok(lists) = Lists::new(alloc, seats.len()) else {
         return (seats, Err(BoardFault::Memory));
     };
+    // It is at most 2^20, so the counts of all threads together are no more than a u32 holds.
+    board.capacity();
     let load = Load {
         processors,
         turns,

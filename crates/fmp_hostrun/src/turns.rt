@@ -1,8 +1,9 @@
 //! What one thread of a board does: the turns of a processor, or the ticks.
-ghost use Rattle.std.specs.Prelude.{◌≡◌, ◌≤◌, ◌+◌, ◌⊎◌, IfOk, IfErr};
+ghost use Rattle.std.specs.Prelude.{◌≡◌, ◌+◌, ◌⊎◌, cond, IfOk, IfErr};
+ghost use Rattle.fmp_base.specs.declared.events.Event.TheVariants.{Run};
 ghost use Rattle.fmp_hostrun.specs.declared.fault.BoardFault.TheVariants.{Full, Held};
 ghost use Rattle.fmp_hostrun.specs.Boards.{IsAt, IsTurnFault};
-ghost use Rattle.fmp_hostrun.specs.Visits.{Kept};
+ghost use Rattle.fmp_hostrun.specs.Works.{Added, GaveBack};
 
 use crate::fault::BoardFault;
 use crate::feed::Feed;
@@ -23,13 +24,41 @@ pub trait Gate: Sync {
     fn answered(&self, p: u8, turn: u32);
 }
 
-/// What a thread of a board does.
+/// What a thread of a board does: a processor's runs, each a turn, or it feeds other events, so many times.
 #[derive(Clone, Copy, Debug, PartialEq, Eq)]
-pub(crate) enum Part {
-    /// So many turns of this processor.
-    Turns { processor: u8, turns: u32 },
-    /// So many ticks.
-    Ticks(u32),
+pub(crate) struct Part {
+    pub event: Event,
+    pub times: u32,
+}
+
+/// What the threads of a board are to do.
+#[derive(Clone, Copy)]
+pub(crate) struct Load {
+    pub processors: u8,
+    pub turns: u32,
+    pub ticks: u32,
+}
+
+impl Load {
+    ghost use Rattle.std.specs.Prelude.{◌≡◌};
+    ghost use Rattle.fmp_hostrun.specs.Works.{part_at};
+
+    /// The part of the thread at this place: the processors come first, and then the ticks.
+    pub fn part(self, place: usize) -> Part
+        ensures { result ≡ part_at self place }
+    {
+        if place < self.processors as usize {
+            Part {
+                event: Event::Run(place as u8 + 1),
+                times: self.turns,
+            }
+        } else {
+            Part {
+                event: Event::Tick,
+                times: self.ticks,
+            }
+        }
+    }
 }
 
 /// Asks a gate until it lets this turn go on: whether it did.
@@ -45,7 +74,7 @@ fn is_let<G: Gate>(gate: &G, p: u8, turn: u32) -> bool {
 
 /// One turn of processor p: whether an event was journaled. Its stretch is made outside the board's lock, and handed in
 /// once the gate lets the turn go on; a stale one is dropped. Without an actor the turn is over.
-#[tactic(auto, using(crate::proofs::Visiting::kept_none, crate::proofs::Visiting::kept_more, crate::proofs::Visiting::kept_on))]
+#[tactic(auto, using(crate::proofs::Working::added_none, crate::proofs::Working::added_turn))]
 fn take_turn<B: Feed, G: Gate, R: Wait>(
     rt: &R,
     board: &B,
@@ -56,7 +85,8 @@ fn take_turn<B: Feed, G: Gate, R: Wait>(
 ) -> Result<bool, BoardFault>
     requires { IsAt B.row_id seat.old }
     ensures at { IsAt B.row_id seat.new }
-    ensures kept { Kept B.image B.bound B.row_id seat.old seat.new }
+    ensures added { Added B.image B.bound B.row_id (Run p) 1 seat.old seat.new }
+    ensures mine { IfOk result (λ entered. seat.new.mine ≡ seat.old.mine + cond entered 1 0) }
     ensures fault { IfErr result IsTurnFault }
 {
     let Some(outcome) = board.outcome(rt, seat, p) else {
@@ -75,7 +105,7 @@ fn take_turn<B: Feed, G: Gate, R: Wait>(
 }
 
 /// The turns of processor p: how many of its events were journaled.
-#[tactic(auto, using(crate::proofs::Visiting::kept_none, crate::proofs::Visiting::kept_more, crate::proofs::Visiting::kept_on))]
+#[tactic(auto, using(crate::proofs::Working::added_begin, crate::proofs::Working::added_more, crate::proofs::Working::added_last, crate::proofs::Working::added_enough))]
 fn run_turns<B: Feed, G: Gate, R: Wait>(
     rt: &R,
     board: &B,
@@ -86,8 +116,8 @@ fn run_turns<B: Feed, G: Gate, R: Wait>(
 ) -> Result<u32, BoardFault>
     requires { IsAt B.row_id seat.old }
     ensures at { IsAt B.row_id seat.new }
-    ensures kept { Kept B.image B.bound B.row_id seat.old seat.new }
-    ensures most { IfOk result (λ journaled. journaled ≤ turns) }
+    ensures added { Added B.image B.bound B.row_id (Run p) turns seat.old seat.new }
+    ensures mine { IfOk result (λ journaled. seat.new.mine ≡ seat.old.mine + journaled) }
     ensures fault { IfErr result IsTurnFault }
 {
     let mut journaled = 0;
@@ -99,23 +129,24 @@ fn run_turns<B: Feed, G: Gate, R: Wait>(
     Ok(journaled)
 }
 
-/// Feeds ticks: how many of them were journaled.
-#[tactic(auto, using(crate::proofs::Visiting::kept_none, crate::proofs::Visiting::kept_more, crate::proofs::Visiting::kept_on))]
-fn run_ticks<B: Feed, R: Wait>(
+/// Feeds an event so many times: how many times it was journaled.
+#[tactic(auto, using(crate::proofs::Working::added_begin, crate::proofs::Working::added_more, crate::proofs::Working::added_last, crate::proofs::Working::added_enough))]
+fn feed_all<B: Feed, R: Wait>(
     rt: &R,
     board: &B,
     seat: &mut Seat,
-    ticks: u32,
+    event: Event,
+    times: u32,
 ) -> Result<u32, BoardFault>
     requires { IsAt B.row_id seat.old }
     ensures at { IsAt B.row_id seat.new }
-    ensures kept { Kept B.image B.bound B.row_id seat.old seat.new }
-    ensures most { IfOk result (λ journaled. journaled ≤ ticks) }
+    ensures added { Added B.image B.bound B.row_id event times seat.old seat.new }
+    ensures mine { IfOk result (λ journaled. seat.new.mine ≡ seat.old.mine + journaled) }
     ensures fault { IfErr result IsTurnFault }
 {
     let mut journaled = 0;
-    for _tick in 0..ticks {
-        let receipt = board.feed(rt, seat, Event::Tick)?;
+    for _time in 0..times {
+        let receipt = board.feed(rt, seat, event)?;
         if receipt.number > 0 {
             journaled += 1;
         }
@@ -124,6 +155,7 @@ fn run_ticks<B: Feed, R: Wait>(
 }
 
 /// Does a thread's part: how many of its events were journaled.
+#[tactic(auto, using(crate::proofs::Working::within_room))]
 pub(crate) fn run_part<B: Feed, G: Gate, R: Wait>(
     rt: &R,
     board: &B,
@@ -133,11 +165,10 @@ pub(crate) fn run_part<B: Feed, G: Gate, R: Wait>(
 ) -> Result<u32, BoardFault>
     requires { IsAt B.row_id seat.old }
     ensures at { IsAt B.row_id seat.new }
-    ensures kept { Kept B.image B.bound B.row_id seat.old seat.new }
-    ensures fault { IfErr result IsTurnFault }
+    ensures gave { GaveBack B.image B.bound B.row_id part seat.old seat.new result }
 {
-    match part {
-        Part::Turns { processor, turns } => run_turns(rt, board, gate, seat, processor, turns),
-        Part::Ticks(ticks) => run_ticks(rt, board, seat, ticks),
+    match part.event {
+        Event::Run(p) => run_turns(rt, board, gate, seat, p, part.times),
+        event => feed_all(rt, board, seat, event, part.times),
     }
 }

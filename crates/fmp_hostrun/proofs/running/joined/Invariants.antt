@@ -1,20 +1,23 @@
-use Rattle.std.proofs.Common.{◌≡◌, ◌+◌, ◌≤◌, ◌++◌, List, IfErr, map, length, vec_len, vec_capacity}
+use Rattle.std.proofs.Common.{◌≡◌, ◌+◌, ◌≤◌, ◌++◌, List, IfErr, IfOk, map, length, vec_len, vec_capacity}
 use Rattle.std.specs.List.{AllZip}
 use Rattle.std.specs.Vec.Iter.{into_iter_items, into_iter_len}
-use Rattle.fmp_row.specs.Seats.{SeatState}
 use Rattle.fmp_hostrun.specs.Boards.{IsTurnFault}
-use Rattle.fmp_hostrun.specs.Visits.{Kept}
+use Rattle.fmp_hostrun.specs.Works.{IsDone, Job, job_of}
+use Rattle.fmp_hostrun.proofs.Joining.{IsCount}
 use Rattle.fmp_hostrun.proofs.running.joined.Given as goal
 
--- the seats so far are those of the first handles
+-- the seats so far are those of the first handles, and the count is theirs
 abbrev pub invariant-loop-handle : goal.invariant-loop-handle
 invariant-loop-handle g l =
     let rest = l.handle-iterator in
     record {
-      first : List SeatState;
-      are : first ++ map (λ h. h.promise.seat.value) (into_iter_items rest) ≡ map (λ h. h.promise.seat.value) l.fn.handles.items;
-      kept : AllZip (Kept g.B.Feed.image g.B.Feed.bound g.B.Feed.row_id) first l.back.items;
+      first : List Job;
+      are : first ++ map (λ h. job_of h.promise.part h.promise.seat.value) (into_iter_items rest)
+          ≡ map (λ h. job_of h.promise.part h.promise.seat.value) l.fn.handles.items;
+      done : AllZip (IsDone g.B.Feed.image g.B.Feed.bound g.B.Feed.row_id) first l.back.items;
+      mine : IfOk l.journaled (IsCount (vec_len l.back) first l.back.items);
       size : into_iter_len rest ≡ length (into_iter_items rest);
+      count : vec_len l.back + into_iter_len rest ≡ vec_len l.fn.handles;
       room : vec_len l.back + into_iter_len rest ≤ vec_capacity l.back;
       capacity : vec_capacity l.back ≡ vec_capacity l.fn.back;
       fault : IfErr l.journaled IsTurnFault;

@@ -1,6 +1,29 @@
+use Rattle.std.proofs.Common.{rules}
 use denote.Param.Send.{sendable}
 use Rattle.fmp_hostrun.proofs.Crossing.{board_sync}
+use Rattle.fmp_hostrun.proofs.Starting.{all_as_they_were, all_at, kept_as_they_were, kept_back, same_count}
 use Rattle.fmp_hostrun.proofs.running.run_all.Goals as goal
 
 pub run_threads-requires-sync-B : goal.run_threads-requires-sync-B
 run_threads-requires-sync-B g c κs within = search (board_sync, c.type_bounds.send-S, sendable) depth 20
+
+pub returns-then-len-processors-clause-seats : goal.returns-then-len-processors-clause-seats
+returns-then-len-processors-clause-seats g c = kept_as_they_were _ _ _ _ _ (search rules)
+
+pub returns-then-len-processors-clause-added : goal.returns-then-len-processors-clause-added
+returns-then-len-processors-clause-added g c = all_as_they_were _ _ _ _ _ _ (search rules)
+
+pub returns-in_default-clause-seats : goal.returns-in_default-clause-seats
+returns-in_default-clause-seats g c = kept_as_they_were _ _ _ _ _ (search rules)
+
+pub returns-in_default-clause-added : goal.returns-in_default-clause-added
+returns-in_default-clause-added g c = all_as_they_were _ _ _ _ _ _ (search rules)
+
+pub returns-clause-seats : goal.returns-clause-seats
+returns-clause-seats g c = kept_back _ _ _ _ _ _ _ c.run_threads.ensures.0
+
+pub returns-clause-at : goal.returns-clause-at
+returns-clause-at g c = all_at _ _ _ _ _ _ (kept_back _ _ _ _ _ _ _ c.run_threads.ensures.0) c.requires
+
+pub returns-clause-count : goal.returns-clause-count
+returns-clause-count g c = same_count _ _ _ _ _ _ (kept_back _ _ _ _ _ _ _ c.run_threads.ensures.0)

@@ -1,7 +1,8 @@
-use Rattle.std.proofs.Common.{◌≡◌, [], ◌∷◌, ◌++◌, map, ap, sym, ◌∙◌, rules}
-use Rattle.std.proofs.lemmas.List.{map-append}
-use Rattle.fmp_row.specs.Seats.{SeatState}
-use Rattle.fmp_hostrun.proofs.Starting.{seats_at, one_spared, one_started, one_refused, all_but_one}
+use Rattle.std.proofs.Common.{◌≡◌, [], ◌∷◌, ◌++◌, map, ap, sym, ◌∙◌, subst, rules}
+use Rattle.std.proofs.lemmas.List.{length-map, map-append}
+use Rattle.fmp_hostrun.specs.Works.{AllAdded, Job, job_of, seats_of}
+use Rattle.fmp_hostrun.proofs.Joining.{ArePlaced, all_added, placed_more, seats_last}
+use Rattle.fmp_hostrun.proofs.Starting.{all_back, all_but_one, mine_back, one_refused, one_spared, one_started, other_fault, seats_at}
 use Rattle.fmp_hostrun.proofs.running.fn.run_threads.scope.Goals as goal
 
 pub loop-seat-preserved-then-refused : goal.loop-seat-preserved-then-refused
@@ -10,6 +11,7 @@ loop-seat-preserved-then-refused g c =
     let step = c.in-Some.ensures.steps in
     record {
       started = one_spared _ _ _ _ _ _ _ _ c.if-refused.true i.started step.0 c.push_reserved.ensures.items;
+      placed = search rules;
       size = search rules;
       at = seats_at _ _ _ _ i.at step.0;
       count = search rules;
@@ -21,12 +23,15 @@ pub loop-seat-preserved-in-Ok : goal.loop-seat-preserved-in-Ok
 loop-seat-preserved-in-Ok g c =
     let i = c.loop-seat.invariant in
     let step = c.in-Some.ensures.steps in
-    let held : c.in-Ok.handle.promise.seat.value ≡ c.in-Some.seat = search rules in
+    let held : job_of c.in-Ok.handle.promise.part c.in-Ok.handle.promise.seat.value ≡ job_of c.part-part.result c.in-Some.seat = search rules in
+    let jobs : map (λ h. job_of h.promise.part h.promise.seat.value) c.push_reserved-in-Ok.new.self.items
+    ≡ map (λ h. job_of h.promise.part h.promise.seat.value) c.loop-seat.handles.items ++ job_of c.part-part.result c.in-Some.seat ∷ [] =
+    ap (map (λ h. job_of h.promise.part h.promise.seat.value)) c.push_reserved-in-Ok.ensures.items
+    ∙ map-append (λ h. job_of h.promise.part h.promise.seat.value) c.loop-seat.handles.items (c.in-Ok.handle ∷ [])
+    ∙ ap (λ (x : Job). map (λ h. job_of h.promise.part h.promise.seat.value) c.loop-seat.handles.items ++ x ∷ []) held in
     record {
-      started =
-          one_started _ _ _ _ _ _ _ _ c.if-refused.false i.started step.0
-          (ap (map (λ h. h.promise.seat.value)) c.push_reserved-in-Ok.ensures.items ∙ map-append (λ h. h.promise.seat.value) c.loop-seat.handles.items (c.in-Ok.handle ∷ [])
-          ∙ ap (λ (x : SeatState). map (λ h. h.promise.seat.value) c.loop-seat.handles.items ++ x ∷ []) held);
+      started = one_started _ _ _ _ _ _ _ _ c.if-refused.false i.started step.0 (ap seats_of jobs ∙ seats_last _ _);
+      placed = subst (ArePlaced _ 0) (sym jobs) (placed_more _ 0 _ (job_of c.part-part.result c.in-Some.seat) i.placed (search (length-map, rules)));
       size = search rules;
       at = seats_at _ _ _ _ i.at step.0;
       count = search rules;
@@ -40,6 +45,7 @@ loop-seat-preserved g c =
     let step = c.in-Some.ensures.steps in
     record {
       started = one_refused _ _ _ _ _ _ _ c.if-refused.false i.started step.0;
+      placed = search rules;
       size = search rules;
       at = seats_at _ _ _ _ i.at step.0;
       count = search rules;
@@ -49,7 +55,21 @@ loop-seat-preserved g c =
 
 pub returns-then-refused-2 : goal.returns-then-refused-2
 returns-then-refused-2 g c =
-    let i = c.loop-seat.invariant in (
-      all_but_one _ _ _ _ _ _ _ _ _ c.if-refused-2.true i.started (sym i.size ∙ search rules) (search rules) (search rules) c.joined-back.ensures.seats,
+    let i = c.loop-seat.invariant in
+    let added = all_added _ _ _ _ _ _ _ c.joined-back.ensures.done i.placed in (
+      all_but_one (AllAdded g.B.Feed.image g.B.Feed.bound g.B.Feed.row_id _ 0) _ _ _ _ _ _ _ _ c.if-refused-2.true i.started (sym i.size ∙ search rules) (search rules) (search rules)
+          added,
       search rules,
+      tt,
+    )
+
+pub returns : goal.returns
+returns g c =
+    let i = c.loop-seat.invariant in
+    let other = other_fault _ c.joined-back.ensures.fault in
+    let added = all_added _ _ _ _ _ _ _ c.joined-back.ensures.done i.placed in (
+      all_back (AllAdded g.B.Feed.image g.B.Feed.bound g.B.Feed.row_id _ 0) _ _ _ _ _ _ _ _ _ c.if-refused-2.false i.started (sym i.size ∙ search rules) (search rules) (search rules)
+          added other.0,
+      other.1,
+      mine_back _ _ _ _ _ _ _ _ _ c.if-refused-2.false i.started (sym i.size ∙ search rules) (search rules) (search rules) c.joined-back.ensures.mine,
     )
