@@ -123,7 +123,8 @@ rest_at row (y ∷ front) x rest at =
     let later = rest_at row front x rest (All-tail (IsAt row) y (front ++ x ∷ rest) at) in
     (All-cons (IsAt row) y front (at zero y (omega arith)) later.0, later.1)
 
-pub all_at : (i : ImageTables) (n : ℕ) (row : RowId) (seats back : List SeatState) (result : Result ℕ BoardFault) → CameBack (Kept i n row) seats back result → All (IsAt row) seats → All (IsAt row) back
+pub all_at : (i : ImageTables) (n : ℕ) (row : RowId) (seats back : List SeatState) (result : Result ℕ BoardFault) → CameBack (Kept i n row) seats back result
+    → All (IsAt row) seats → All (IsAt row) back
 all_at i n row seats back (Ok r) came at = kept_at i n row seats back (came.all (λ (e : Ok r ≡ Err fault.Thread). absurd (cc))) at
 all_at i n row seats back (Err f) came at = by_fault f came
   where
@@ -140,7 +141,8 @@ all_at i n row seats back (Err f) came at = by_fault f came
     by_fault fault.Limit c = kept_at i n row seats back (c.all (λ (e : Err fault.Limit ≡ Err fault.Thread). absurd (cc))) at
     by_fault fault.Held c = kept_at i n row seats back (c.all (λ (e : Err fault.Held ≡ Err fault.Thread). absurd (cc))) at
 
-pub same_count : (i : ImageTables) (n : ℕ) (row : RowId) (seats back : List SeatState) (result : Result ℕ BoardFault) → CameBack (Kept i n row) seats back result → IfOk result (λ _. length back ≡ length seats)
+pub same_count : (i : ImageTables) (n : ℕ) (row : RowId) (seats back : List SeatState) (result : Result ℕ BoardFault) → CameBack (Kept i n row) seats back result
+    → IfOk result (λ _. length back ≡ length seats)
 same_count i n row seats back (Ok r) came = sym (length_all_zip (Kept i n row) seats back (came.all (λ (e : Ok r ≡ Err fault.Thread). absurd (cc))))
 same_count i n row seats back (Err f) came = tt
 

@@ -168,7 +168,9 @@ added_more i n row e most more was mid now a b =
     room = by_count b.count refl
 
     counted_mid : IsCounted was → own mid.number mid.seen ≡ own was.number was.seen ++ replicate a.count (entry was.number e) → IsCounted mid
-    counted_mid counted is = omega (arith, ap length is, length-append (own was.number was.seen) (replicate a.count (entry was.number e)), length-replicate a.count (entry was.number e), counted, a.mine_is)
+    counted_mid counted is =
+        let entries = replicate a.count (entry was.number e) in
+        omega (arith, ap length is, length-append (own was.number was.seen) entries, length-replicate a.count (entry was.number e), counted, a.mine_is)
 
     added : mid.number ≡ was.number → IsCounted was → own now.number now.seen ≡ own was.number was.seen ++ replicate (a.count + b.count) (entry was.number e)
     added number counted =

@@ -39,7 +39,8 @@ pub record Added (i : ImageTables) (n : ℕ) (row : RowId) (e : Event) (most : �
 abbrev pub AllAdded : ImageTables → (n : ℕ) → RowId → Load → (place : ℕ) → (seats back : List SeatState) → Type 0
 AllAdded i n row load place [] [] = Unit {0}
 AllAdded i n row load place (s ∷ seats) (b ∷ back) =
-    Added i n row (part_at load place).event (part_at load place).times s b × AllAdded i n row load (place + 1) seats back
+    Added i n row (part_at load place).event (part_at load place).times s b
+    × AllAdded i n row load (place + 1) seats back
 AllAdded i n row load place [] (b ∷ back) = ⊥
 AllAdded i n row load place (s ∷ seats) [] = ⊥
 
@@ -81,7 +82,8 @@ pub record CameBackAs (R : (seats back : List SeatState) → Type 0) (seats back
   pub refused : result ≡ Err fault.Thread → AllButOne R seats back
 
 -- what came back of seats, in their order, each as P says
-abbrev pub CameBack : (P : SeatState → SeatState → Type 0) → (seats back : List SeatState) → Result ℕ BoardFault → Type 0
+abbrev pub CameBack : (P : SeatState → SeatState → Type 0) → (seats back : List SeatState) → Result ℕ BoardFault
+    → Type 0
 CameBack P seats back result = CameBackAs (AllZip P) seats back result
 
 -- what a thread gives back: its seat, and how many of its events were journaled, or why it stopped

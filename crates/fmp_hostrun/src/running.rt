@@ -200,8 +200,9 @@ fn run_threads<B: Feed + Sync, G: Gate, R: Threads + Wait + Sync>(
 /// Runs a board by threads: one for each processor makes so many turns, in each of which it draws a ticket, makes its
 /// stretch outside the lock, asks the gate, submits the outcome and tells the gate; and one more feeds so many ticks. A
 /// turn in which the processor has no actor is over, and so is one whose outcome is stale. The seats are one for each
-/// processor, in order, and one for the ticks; they come back in their order, each of which has seen what its calls showed
-/// it. The answer is how many events were journaled by this call: by so much their own counts have risen together.
+/// processor, in order, and one for the ticks; they come back in their order, each of which has seen what its calls
+/// showed it. The answer is how many events were journaled by this call: by so much their own counts have risen
+/// together.
 ///
 /// `BoardFault::Limit`, exactly where the seats are not so many; `BoardFault::Memory`, for want of memory, before any
 /// thread is started; `BoardFault::Thread` where a thread was refused: then no more are started, those that run are
