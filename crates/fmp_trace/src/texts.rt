@@ -10,8 +10,8 @@ use crate::numeral::Numeral;
 use fmp_base::Name;
 use std::alloc::AllocError;
 
-/// Room for the longest line, for a few short ones before it, and for what is copied behind its end.
-pub const ROOM: usize = 256;
+/// Room for the longest line, for many lines before it, and for what is copied behind its end.
+pub const ROOM: usize = 1024;
 
 /// The bytes of a line. Those behind its end mean nothing.
 pub type LineBytes = [u8; ROOM];
