@@ -33,7 +33,8 @@ impl Model for Numeral {
 fn count_on(digits: &mut [u8; DIGITS], count: usize) -> bool
     requires some { 0 < count }
     requires few { count ≤ 16 }
-    ensures next { (n : ℕ) → n < 2 ^ 32 → take count digits.old ≡ decimal n → result ≡ true → take count digits.new ≡ decimal (n + 1) }
+    ensures next { (n : ℕ) → n < 2 ^ 32 → take count digits.old ≡ decimal n → result ≡ true
+        → take count digits.new ≡ decimal (n + 1) }
 {
     let last = digits[count - 1];
     if last >= b'9' {
