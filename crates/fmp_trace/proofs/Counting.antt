@@ -1,5 +1,5 @@
 -- Decimal digits of a number and of the next one.
-use Rattle.std.proofs.Common.{ℕ, ◌≡◌, ◌+◌, ◌-◌, ◌<◌, ◌≤◌, ◌^◌, List, [], ◌∷◌, ◌++◌, length, take, set, get_or, decimal, refl, ap, sym, ◌∙◌, arith, ◌⊎◌, inl, inr, length-take-le, take-take, take_at}
+use Rattle.std.proofs.Common.{ℕ, ◌≡◌, ◌+◌, ◌<◌, ◌≤◌, ◌^◌, List, [], ◌∷◌, ◌++◌, length, take, set, get_or, decimal, ap, sym, ◌∙◌, arith, ◌⊎◌, inl, inr, length-take-le, take-take, take_at}
 use Rattle.std.specs.Prelude.{◌/◌, ◌%◌}
 use Rattle.std.proofs.Math.Seq.{get_or-append_seam}
 use Rattle.std.proofs.lemmas.Bool.{cases_lt}

@@ -79,7 +79,8 @@ fn short_run(text: &[u8]) -> Option<(u8, &[u8])>
     let [r, u, n, blank, digit, feed, rest @ ..] = text else {
         return None;
     };
-    let is_run = *r == b'r' && *u == b'u' && *n == b'n' && *blank == b' ' && *feed == b'\n';
+    let word = u32::from_le_bytes([*r, *u, *n, *blank]);
+    let is_run = word == u32::from_le_bytes(*b"run ") && *feed == b'\n';
     if !is_run || *digit < b'1' || *digit > b'9' {
         return None;
     }

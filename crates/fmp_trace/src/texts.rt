@@ -76,19 +76,22 @@ pub fn append_word(text: &[u8], line: &mut LineBytes, end: usize) -> usize
     }
 }
 
-/// A name.
+/// A name: its first 15 bytes and its last 16, so that two copies of a length that is known do.
 #[inline(always)]
 pub fn append_name(name: &Name, line: &mut LineBytes, end: usize) -> usize
     requires { end + 31 ≤ ROOM }
     ensures text { take result line.new ≡ take end line.old ++ name_text name.now }
     ensures short { result ≤ end + 31 }
 {
-    append_front(
-        &name.bytes,
-        usize::from(name.length).min(Name::MAX),
-        line,
-        end,
-    )
+    let (Some(front), Some(back)) = (
+        name.bytes.first_chunk::<16>(),
+        name.bytes.last_chunk::<16>(),
+    ) else {
+        unreachable!()
+    };
+    let middle = append_front(front, 15, line, end);
+    append_array(*back, line, middle);
+    end + usize::from(name.length).min(Name::MAX)
 }
 
 /// A number below 10 as its digit.

@@ -1,4 +1,4 @@
-use Rattle.std.proofs.Common.{ℕ, ◌+◌, ◌-◌, ◌≡◌, ◌∙◌, ap, sym, arith, rules, get_or, set, take}
+use Rattle.std.proofs.Common.{◌+◌, ◌-◌, ◌≡◌, ◌∙◌, ap, sym, arith, rules, get_or, set, take}
 use Rattle.fmp_trace.proofs.Counting.{counted_on}
 use Rattle.fmp_trace.proofs.numeral.count_on.Goals as goal
 
