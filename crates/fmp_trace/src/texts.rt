@@ -105,12 +105,21 @@ fn append_digit(digit: u8, line: &mut LineBytes, end: usize) -> usize
     append_array([b'0' + digit], line, end)
 }
 
-/// A number in decimal digits, of which there are mostly several.
+/// A number in decimal digits, of which there are several.
+#[tactic(auto, using(std::proofs::lemmas::Fmt::decimal_digit, std::proofs::lemmas::Fmt::decimal_step))]
 fn append_digits(number: u32, line: &mut LineBytes, end: usize) -> usize
-    requires { end + 16 ≤ ROOM }
+    requires several { 10 ≤ number }
+    requires room { end + 16 ≤ ROOM }
     ensures text { take result line.new ≡ take end line.old ++ decimal number }
     ensures place { result ≡ end + length (decimal number) }
 {
+    if number < 100 {
+        return append_array(
+            [b'0' + (number / 10) as u8, b'0' + (number % 10) as u8],
+            line,
+            end,
+        );
+    }
     Numeral::new(number).append(line, end)
 }
 
