@@ -16,7 +16,7 @@ use crate::events::Events;
 use fmp_base::{Effect, System, TaskState};
 use fmp_body::Body;
 use fmp_kernel::Kernel;
-use fmp_trace::{print, print_states};
+use fmp_trace::{Page, print, print_states};
 use std::alloc::{AllocError, Global};
 
 /// Takes all events on a kernel, and appends the text of their lines. Where memory runs out, what stood before is still
@@ -33,13 +33,14 @@ fn take<B: Body, E: Events>(
         (HasTaken B.meaning kernel.old kernel.new (E.left events.old) out.old.items out.new.items) }
     ensures err { OnErr result (Begins out.old.items out.new.items) }
 {
+    let mut page = Page::new();
     while let Some(event) = events.next_event() {
         match kernel.step(event) {
-            Effect::Done => print(sys, kernel.done(), kernel.lines(), out)?,
+            Effect::Done => page.print(sys, kernel.done(), kernel.lines(), out)?,
             Effect::Nothing => {}
         }
     }
-    Ok(())
+    page.finish(out)
 }
 
 /// The states of all tasks, in order of number.

@@ -11,5 +11,6 @@ pub mod PairLists
 pub mod PairLoops
 pub mod RowLaws
 pub mod RowLoops
+pub mod StepReads
 pub mod TableLaws
 pub mod Verification

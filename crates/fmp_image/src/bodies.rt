@@ -1,16 +1,18 @@
 //! The bodies of an image, read and put.
 
-ghost use Rattle.std.specs.Prelude.{◌≡◌, ◌++◌, ◌∷◌, ◌<◌, length, map, true, OnOk};
+ghost use Rattle.std.specs.Prelude.{◌≡◌, ◌++◌, ◌∷◌, [], ◌<◌, ◌≤◌, ◌+◌, ◌*◌, drop, length, map, true, false, vec_len, vec_capacity, IfErr, IfOk, OnOk};
 ghost use Rattle.fmp_code.specs.Instructions.{body_tables};
+ghost use Rattle.fmp_image.specs.declared.fault.ImageFault.TheVariants.{Code};
 ghost use Rattle.fmp_image.specs.Fields.{Gives, byte};
 ghost use Rattle.fmp_image.specs.Pairs.{pairs_at, pairs_spelled, AllPairs};
 ghost use Rattle.fmp_image.specs.Bodies.{kind_number, kind_of, greatest, step_spelled, step_at, code_at, keeps_table, body_numbers, body_spelled, body_at, IsBody, bodies as all_bodies};
 
 use crate::fault::{ImageFault, LoadFault};
-use crate::fields::{byte_at, put_byte, put_short, put_word, short_at, word_at};
+use crate::fields::{byte_at, put_byte, put_short, put_word, short_at};
 use crate::heads::{BodyHead, BodyKind};
-use crate::instructions::{argument_of, instruction_of, opcode_of};
+use crate::instructions::{argument_of, opcode_of, push_instruction};
 use crate::rows::{TABLE, in_range};
+use byteorder::{ByteOrder, LittleEndian};
 use fmp_code::{BodyCode, Instruction};
 use std::alloc::{AllocError, Global};
 
@@ -62,17 +64,24 @@ fn put_body(out: &mut Vec<u8>, head: &BodyHead, body: &BodyCode) -> Result<(), A
     Ok(())
 }
 
-#[tactic(auto, unfolding(crate::specs::Bodies::step_at))]
-fn read_step(bytes: &[u8]) -> Result<((Instruction, u8), &[u8]), LoadFault>
-    ensures { Gives (λ x. (x.0, x.1.now)) result (step_at bytes.now) }
+/// Appends the instruction and the depth that the first six bytes spell, if they spell any: whether they do. There is
+/// room for both.
+#[inline(always)]
+fn push_step(bytes: &[u8], instructions: &mut Vec<Instruction>, depths: &mut Vec<u8>) -> bool
+    requires bytes { 6 ≤ length bytes.now }
+    requires room { (vec_len instructions.old < vec_capacity instructions.old)
+        × (vec_len depths.old < vec_capacity depths.old) }
+    ensures pushed { IfOk (step_at bytes.now) (λ x. (result ≡ true) × (x.1 ≡ drop 6 bytes.now)
+        × (instructions.new.items ≡ instructions.old.items ++ x.0.0 ∷ [])
+        × (depths.new.items ≡ depths.old.items ++ x.0.1 ∷ [])) }
+    ensures refused { IfErr (step_at bytes.now) (λ fault. (result ≡ false) × (fault ≡ Code)) }
+    ensures sizes { (vec_len instructions.new ≤ vec_len instructions.old + 1)
+        × (vec_len depths.new ≤ vec_len depths.old + 1) }
+    ensures capacities { (vec_capacity instructions.new ≡ vec_capacity instructions.old)
+        × (vec_capacity depths.new ≡ vec_capacity depths.old) }
 {
-    let (opcode, rest) = byte_at(bytes)?;
-    let (argument, rest) = word_at(rest)?;
-    let (depth, rest) = byte_at(rest)?;
-    match instruction_of(opcode, argument) {
-        None => Err(CODE),
-        Some(instruction) => Ok(((instruction, depth), rest)),
-    }
+    depths.push_reserved(bytes[5]);
+    push_instruction(bytes[0], LittleEndian::read_i32(&bytes[1..]), instructions)
 }
 
 fn read_steps<'a>(
@@ -80,16 +89,17 @@ fn read_steps<'a>(
     size: u16,
     bytes: &'a [u8],
 ) -> Result<((Vec<Instruction>, Vec<u8>), &'a [u8]), LoadFault>
+    requires { 6 * size ≤ length bytes.now }
     ensures { Gives (λ x. ((x.0.0.items, x.0.1.items), x.1.now)) result (pairs_at step_at size bytes.now) }
 {
     let mut instructions = Vec::with_capacity(alloc, size as usize)?;
     let mut depths = Vec::with_capacity(alloc, size as usize)?;
     let mut rest = bytes;
     for _ in 0..size {
-        let ((instruction, depth), after) = read_step(rest)?;
-        instructions.push(instruction)?;
-        depths.push(depth)?;
-        rest = after;
+        if !push_step(rest, &mut instructions, &mut depths) {
+            return Err(CODE);
+        }
+        rest = &rest[6..];
     }
     Ok(((instructions, depths), rest))
 }

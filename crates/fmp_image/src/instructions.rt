@@ -1,6 +1,6 @@
 //! Instructions as opcodes and arguments.
 
-ghost use Rattle.std.specs.Prelude.{◌≡◌, ◌<◌, pos};
+ghost use Rattle.std.specs.Prelude.{◌≡◌, ◌<◌, ◌≤◌, ◌+◌, ◌++◌, ◌∷◌, [], pos, true, false, vec_len, vec_capacity, MatchOption};
 ghost use Rattle.fmp_image.specs.Instructions.{unary_number, binary_number, local_number, call_number, opcode_of, argument_of, local_of, service_of_number, unary_of, binary_operator_of, call_of, below, numbered, instruction_of};
 
 use fmp_base::{BinaryOperator, Service, UnaryOperator};
@@ -227,15 +227,42 @@ fn numbered(opcode: u8, number: u32) -> Option<Instruction>
     }
 }
 
-/// The instruction of an opcode and an argument, if there is one.
-pub fn instruction_of(opcode: u8, argument: i32) -> Option<Instruction>
-    ensures { result ≡ instruction_of opcode argument }
+/// Appends the instruction of an opcode, but for `Push`, and an argument, if there is one: whether there is. There is
+/// room for it. The frequent ones are made in their place.
+#[inline(always)]
+#[tactic(auto, unfolding(crate::specs::Instructions::numbered))]
+fn push_numbered(opcode: u8, number: u32, out: &mut Vec<Instruction>) -> bool
+    requires { vec_len out.old < vec_capacity out.old }
+    ensures pushed { MatchOption (numbered opcode number) (result ≡ false)
+        (λ instruction. (result ≡ true) × (out.new.items ≡ out.old.items ++ instruction ∷ [])) }
+    ensures size { vec_len out.new ≤ vec_len out.old + 1 }
+    ensures capacity { vec_capacity out.new ≡ vec_capacity out.old }
+{
+    match opcode {
+        2 if number < 256 => out.push_reserved(Instruction::Load(number as u8)),
+        3 if number < 256 => out.push_reserved(Instruction::Store(number as u8)),
+        6 if number < 65536 => out.push_reserved(Instruction::Jump(number as u16)),
+        7 if number < 65536 => out.push_reserved(Instruction::JumpIfZero(number as u16)),
+        _ => match numbered(opcode, number) {
+            Some(instruction) => out.push_reserved(instruction),
+            None => return false,
+        },
+    }
+    true
+}
+
+/// Appends the instruction of an opcode and an argument, if there is one: whether there is. There is room for it.
+#[inline(always)]
+pub fn push_instruction(opcode: u8, argument: i32, out: &mut Vec<Instruction>) -> bool
+    requires { vec_len out.old < vec_capacity out.old }
+    ensures pushed { MatchOption (instruction_of opcode argument) (result ≡ false)
+        (λ instruction. (result ≡ true) × (out.new.items ≡ out.old.items ++ instruction ∷ [])) }
+    ensures size { vec_len out.new ≤ vec_len out.old + 1 }
+    ensures capacity { vec_capacity out.new ≡ vec_capacity out.old }
 {
     if opcode == 1 {
-        return Some(Instruction::Push(argument));
+        out.push_reserved(Instruction::Push(argument));
+        return true;
     }
-    if argument < 0 {
-        return None;
-    }
-    numbered(opcode, argument as u32)
+    argument >= 0 && push_numbered(opcode, argument as u32, out)
 }

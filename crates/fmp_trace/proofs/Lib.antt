@@ -1,4 +1,5 @@
 pub mod Appending
+pub mod Counting
 pub mod EventsRead
 pub mod LineBytes
 pub mod LinesOf

@@ -42,3 +42,11 @@ short_run processors number n rest small low digit high few =
     let e : Event = event.Run n in
     ap (events_of processors number) (written n rest digit ∙ lines_of-ended (event_text e) rest (event_in_line processors e small (low, high)))
     ∙ ap (λ r. in_front r (events_of processors (number + 1) (lines_of rest))) (event_of_line-event_text processors number e small (low, high) few)
+
+-- a line that is a tick
+pub short_tick : (processors number : ℕ) (rest : List ℕ) → processors < 256 → number ≤ 1048576
+    → events_of processors number (lines_of (116 ∷ 105 ∷ 99 ∷ 107 ∷ 10 ∷ rest)) ≡ in_front (Ok event.Tick) (events_of processors (number + 1) (lines_of rest))
+short_tick processors number rest small few =
+    let e : Event = event.Tick in
+    ap (events_of processors number) (lines_of-ended (event_text e) rest (event_in_line processors e small tt))
+    ∙ ap (λ r. in_front r (events_of processors (number + 1) (lines_of rest))) (event_of_line-event_text processors number e small tt few)

@@ -1,5 +1,6 @@
 //! Service calls and replies, as the trace writes them.
-ghost use Rattle.std.specs.Prelude.{◌≡◌, ◌≤◌, ◌+◌, ◌-◌, ◌*◌, ◌++◌, codes, length, take};
+ghost use Rattle.std.specs.Prelude.{◌≡◌, ◌≤◌, ◌+◌, ◌-◌, ◌*◌, ◌++◌, ◌∷◌, [], codes, length, take, IfSome};
+ghost use Rattle.fmp_base.specs.Services.{arguments_of};
 ghost use Rattle.std.specs.Fmt.{signed_decimal};
 ghost use Rattle.fmp_base.specs.Texts.{more_numbers_text, numbers_text, call_text, value_text, reply_text, answer_text};
 
@@ -46,17 +47,75 @@ fn append_numbers(numbers: &[i32], line: &mut LineBytes, end: usize) -> usize
     }
 }
 
+/// The argument of a call that has one.
+#[inline(always)]
+fn single_argument(call: &Call) -> Option<i32>
+    ensures { IfSome result (λ number. arguments_of call.now ≡ number ∷ []) }
+{
+    match call {
+        Call::Put { value } => Some(*value),
+        Call::LdShr { word } => Some(*word),
+        Call::ActTsk { task }
+        | Call::CanAct { task }
+        | Call::TerTsk { task }
+        | Call::GetPri { task }
+        | Call::WupTsk { task }
+        | Call::CanWup { task }
+        | Call::RelWai { task }
+        | Call::SusTsk { task }
+        | Call::RsmTsk { task }
+        | Call::IactTsk { task }
+        | Call::IwupTsk { task }
+        | Call::IrelWai { task } => Some(*task),
+        Call::TslpTsk { limit } => Some(*limit),
+        Call::DlyTsk { delay } => Some(*delay),
+        Call::SigSem { semaphore }
+        | Call::WaiSem { semaphore }
+        | Call::PolSem { semaphore }
+        | Call::IsigSem { semaphore } => Some(*semaphore),
+        Call::RcvDtq { queue } | Call::PrcvDtq { queue } => Some(*queue),
+        Call::RcvMbx { mailbox } | Call::PrcvMbx { mailbox } => Some(*mailbox),
+        Call::StaCyc { cyclic } | Call::StpCyc { cyclic } => Some(*cyclic),
+        Call::RotRdq { priority } | Call::IrotRdq { priority } => Some(*priority),
+        Call::LocSpn { lock } | Call::TrySpn { lock } | Call::UnlSpn { lock } => Some(*lock),
+        _ => None,
+    }
+}
+
+/// The arguments of a call, with commas between.
+#[tactic(auto, using(crate::proofs::Short::few_arguments))]
+fn append_arguments(call: &Call, line: &mut LineBytes, end: usize) -> usize
+    requires { end + 72 ≤ ROOM }
+    ensures text { take result line.new ≡ take end line.old ++ numbers_text (arguments_of call.now) }
+    ensures short { result ≤ end + 47 }
+{
+    append_numbers(call.arguments().as_slice(), line, end)
+}
+
+/// The argument of a call that has one, or all arguments with commas between.
+#[inline(always)]
+fn append_argument(call: &Call, line: &mut LineBytes, end: usize) -> usize
+    requires { end + 72 ≤ ROOM }
+    ensures text { take result line.new ≡ take end line.old ++ numbers_text (arguments_of call.now) }
+    ensures short { result ≤ end + 47 }
+{
+    match single_argument(call) {
+        Some(number) => append_signed(number, line, end),
+        None => append_arguments(call, line, end),
+    }
+}
+
 /// The name of a call, and its arguments between parentheses.
 #[inline(always)]
-#[tactic(auto, using(crate::proofs::Short::short_service, crate::proofs::Short::few_arguments))]
-pub fn append_call(call: Call, line: &mut LineBytes, end: usize) -> usize
+#[tactic(auto, using(crate::proofs::Short::short_service))]
+pub fn append_call(call: &Call, line: &mut LineBytes, end: usize) -> usize
     requires { end + 84 ≤ ROOM }
-    ensures text { take result line.new ≡ take end line.old ++ call_text call }
+    ensures text { take result line.new ≡ take end line.old ++ call_text call.now }
     ensures short { result ≤ end + 58 }
 {
     let end = append_word(call.service().name().as_bytes(), line, end);
     let end = append_array(*b"(", line, end);
-    let end = append_numbers(call.arguments().as_slice(), line, end);
+    let end = append_argument(call, line, end);
     append_array(*b")", line, end)
 }
 

@@ -1,5 +1,5 @@
 //! The lines of the trace.
-ghost use Rattle.std.specs.Prelude.{◌≡◌, ◌<◌, ◌≤◌, ◌+◌, ◌∷◌, [], ◌++◌, codes, decimal, length, take, vec_capacity, vec_len, IfOk, OnOk, OnErr};
+ghost use Rattle.std.specs.Prelude.{◌≡◌, ◌<◌, ◌≤◌, ◌+◌, ◌*◌, ◌++◌, codes, decimal, length, take, vec_capacity, vec_len, IfOk, OnOk, OnErr};
 ghost use Rattle.fmp_base.specs.Names.{name_text};
 ghost use Rattle.fmp_base.specs.Systems.{tables_of, cyclic_config};
 ghost use Rattle.fmp_base.specs.Texts.{processor_text, caller_name, task_name, handler_name, run_text, call_text, answer_text, fault_text, reply_text, line_body, line_text, lines_text};
@@ -22,7 +22,7 @@ const LONGEST: usize = 127;
 
 /// Putting a line together writes no further than this behind where it begins: a short piece is copied with bytes
 /// behind its end.
-const REACH: usize = 179;
+pub const REACH: usize = 179;
 
 /// The name of the task or handler that acts, behind its processor.
 #[inline(always)]
@@ -78,14 +78,14 @@ fn append_request(
     sys: &System,
     processor: u8,
     caller: Caller,
-    call: Call,
+    call: &Call,
     line: &mut LineBytes,
     end: usize,
 ) -> usize
     requires { end + 135 ≤ ROOM }
     ensures text { take result line.new ≡
         take end line.old ++ (processor_text processor
-        ++ (caller_name (tables_of sys.now) caller ++ (codes " " ++ call_text call))) }
+        ++ (caller_name (tables_of sys.now) caller ++ (codes " " ++ call_text call.now))) }
     ensures short { result ≤ end + 96 }
 {
     let end = append_actor(sys, processor, caller, line, end);
@@ -98,7 +98,7 @@ fn append_called(
     sys: &System,
     processor: u8,
     caller: Caller,
-    call: Call,
+    call: &Call,
     reply: Option<Reply>,
     line: &mut LineBytes,
     end: usize,
@@ -107,7 +107,7 @@ fn append_called(
     ensures text { take result line.new ≡
         take end line.old ++ (processor_text processor
         ++ (caller_name (tables_of sys.now) caller
-        ++ (codes " " ++ (call_text call ++ (codes " " ++ answer_text reply))))) }
+        ++ (codes " " ++ (call_text call.now ++ (codes " " ++ answer_text reply))))) }
     ensures short { result ≤ end + 116 }
 {
     let end = append_request(sys, processor, caller, call, line, end);
@@ -247,34 +247,35 @@ fn append_body(sys: &System, printed: &Line, line: &mut LineBytes, end: usize) -
     ensures text { take result line.new ≡ take end line.old ++ line_body (tables_of sys.now) printed.now }
     ensures short { result ≤ end + 116 }
 {
-    match *printed {
-        Line::Tick(clock) => append_tick(clock, line, end),
-        Line::Int(place) => append_interrupt(place, line, end),
+    match printed {
+        Line::Tick(clock) => append_tick(*clock, line, end),
+        Line::Int(place) => append_interrupt(*place, line, end),
         Line::Call {
             processor,
             caller,
             call,
             reply,
-        } => append_called(sys, processor, caller, call, reply, line, end),
-        Line::End { processor, caller } => append_end(sys, processor, caller, line, end),
+        } => append_called(sys, *processor, *caller, call, *reply, line, end),
+        Line::End { processor, caller } => append_end(sys, *processor, *caller, line, end),
         Line::Fault {
             processor,
             caller,
             fault,
-        } => append_fault(sys, processor, caller, fault, line, end),
+        } => append_fault(sys, *processor, *caller, *fault, line, end),
         Line::Gets {
             processor,
             task,
             reply,
-        } => append_release(sys, processor, task, reply, line, end),
-        Line::Starts { processor, task } => append_start(sys, processor, task, line, end),
-        Line::Pends { processor, cyclic } => append_pending(sys, processor, cyclic, line, end),
-        Line::Begins { processor, handler } => append_begin(sys, processor, handler, line, end),
-        Line::Runs { processor, task } => append_dispatch(sys, processor, task, line, end),
+        } => append_release(sys, *processor, *task, *reply, line, end),
+        Line::Starts { processor, task } => append_start(sys, *processor, *task, line, end),
+        Line::Pends { processor, cyclic } => append_pending(sys, *processor, *cyclic, line, end),
+        Line::Begins { processor, handler } => append_begin(sys, *processor, *handler, line, end),
+        Line::Runs { processor, task } => append_dispatch(sys, *processor, *task, line, end),
     }
 }
 
 /// A line, with its number in front and a line feed behind.
+#[inline(always)]
 fn put_line(
     sys: &System,
     number: &Numeral,
@@ -282,10 +283,8 @@ fn put_line(
     line: &mut LineBytes,
     end: usize,
 ) -> usize
-    requires room { end + REACH ≤ ROOM }
-    requires number { length number.now ≤ 10 }
-    ensures text { take result line.new ≡
-        take end line.old ++ (number.now ++ (line_body (tables_of sys.now) printed.now ++ 10 ∷ [])) }
+    requires { end + REACH ≤ ROOM }
+    ensures text { take result line.new ≡ take end line.old ++ line_text (tables_of sys.now) number.now printed.now }
     ensures short { result ≤ end + LONGEST }
 {
     let end = number.append(line, end);
@@ -311,7 +310,33 @@ fn make_room(line: &LineBytes, end: usize, out: &mut Vec<u8>) -> Result<usize, A
     Ok(0)
 }
 
-/// Lines are put together as long as there is room for one more, and then appended at once.
+/// Puts the lines of the event of this number together behind what ends at this place, and gives their end. Where there
+/// is no room for one more line, what is put together is appended.
+pub fn put_lines(
+    sys: &System,
+    number: &Numeral,
+    lines: &[Line],
+    bytes: &mut LineBytes,
+    end: usize,
+    out: &mut Vec<u8>,
+) -> Result<usize, AllocError>
+    requires { end + REACH ≤ ROOM }
+    ensures text { IfOk result (λ left. out.new.items ++ take left bytes.new
+        ≡ out.old.items ++ (take end bytes.old ++ lines_text (tables_of sys.now) number.now lines.now)) }
+    ensures room { IfOk result (λ left. left + REACH ≤ ROOM) }
+    ensures kept { Begins out.old.items out.new.items }
+    ensures full { OnErr result (vec_capacity out.old < vec_len out.old + end + lines_room (length lines.now)) }
+    ensures size { IfOk result (λ left. vec_len out.new + left ≤ vec_len out.old + end + 127 * length lines.now) }
+    ensures capacity { vec_capacity out.old ≤ vec_capacity out.new }
+{
+    let mut end = end;
+    for line in lines {
+        end = put_line(sys, number, line, bytes, end);
+        end = make_room(bytes, end, out)?;
+    }
+    Ok(end)
+}
+
 fn append_lines(
     sys: &System,
     number: u32,
@@ -323,12 +348,7 @@ fn append_lines(
     ensures full { OnErr result (vec_capacity out.old < vec_len out.old + lines_room (length lines.now)) }
 {
     let mut bytes = [0; ROOM];
-    let mut end = 0;
-    let numeral = Numeral::new(number);
-    for line in lines {
-        end = put_line(sys, &numeral, line, &mut bytes, end);
-        end = make_room(&bytes, end, out)?;
-    }
+    let end = put_lines(sys, &Numeral::new(number), lines, &mut bytes, 0, out)?;
     append_line(&bytes, end, out)
 }
 

@@ -1,54 +1,86 @@
 //! Numbers that are written many times.
-ghost use Rattle.std.specs.Prelude.{◌≡◌, ◌≤◌, ◌++◌, ◌+◌, decimal, length, take};
+ghost use Rattle.std.specs.Prelude.{◌≡◌, ◌<◌, ◌≤◌, ◌^◌, ◌++◌, ◌+◌, ℕ, decimal, length, take, true};
 
-use crate::texts::{LineBytes, ROOM};
+use crate::texts::{LineBytes, ROOM, append_front};
 use itoa::write_digits;
 use std::marker::Model;
 
 /// The most digits of a number.
 const DIGITS: usize = 16;
 
-/// A number in decimal digits that stand ready. It is seen as the list of its digits' bytes.
+/// A number whose decimal digits stand ready. It is seen as the number.
 #[derive(Drop)]
 pub struct Numeral {
-    /// The digits end in the middle, so that as many bytes as there can be digits stand behind the place of the first.
-    bytes: [u8; 2 * DIGITS],
-    start: usize,
+    number: u32,
+    /// The digits. The bytes behind them mean nothing.
+    bytes: [u8; DIGITS],
+    /// How many digits there are.
+    count: usize,
 }
 
 impl Model for Numeral {
-    ghost use Rattle.std.specs.Prelude.{ℕ, List, ◌≤◌, ◌-◌, take, drop};
+    ghost use Rattle.std.specs.Prelude.{ℕ, ◌≡◌, ◌<◌, ◌≤◌, decimal, take};
 
-    ghost Value = { List ℕ };
+    ghost Value = { ℕ };
 
-    ghost view = { λ n. take (16 - n.start) (drop n.start n.bytes) };
+    ghost view = { λ n. n.number };
 
-    ghost invariant = { λ n. n.start ≤ 16 };
+    ghost invariant = { λ n. (0 < n.count) × (n.count ≤ 10) × (take n.count n.bytes ≡ decimal n.number) };
+}
+
+/// Counts digits on by one, if only the last of them changes.
+#[inline(always)]
+fn count_on(digits: &mut [u8; DIGITS], count: usize) -> bool
+    requires some { 0 < count }
+    requires few { count ≤ 16 }
+    ensures next { (n : ℕ) → n < 2 ^ 32 → take count digits.old ≡ decimal n → result ≡ true
+        → take count digits.new ≡ decimal (n + 1) }
+{
+    let last = digits[count - 1];
+    if last >= b'9' {
+        return false;
+    }
+    digits[count - 1] = last + 1;
+    true
 }
 
 impl Numeral {
     /// The digits of a number.
-    #[inline(always)]
     pub fn new(number: u32) -> Numeral
-        ensures { result ≡ decimal number }
+        ensures { result ≡ number }
     {
-        let mut numeral = Numeral {
-            bytes: [0; 2 * DIGITS],
-            start: DIGITS,
-        };
-        numeral.start = write_digits(u64::from(number), &mut numeral.bytes, DIGITS);
-        numeral
+        let mut buffer = [0; 2 * DIGITS];
+        let start = write_digits(u64::from(number), &mut buffer, DIGITS);
+        let mut bytes = [0; DIGITS];
+        bytes.copy_from_slice(&buffer[start..start + DIGITS]);
+        Numeral {
+            number,
+            bytes,
+            count: DIGITS - start,
+        }
+    }
+
+    /// Changes the number. Where it grows by one, mostly only one digit changes.
+    #[inline(always)]
+    pub fn set(&mut self, number: u32)
+        ensures { self.new ≡ number }
+    {
+        let is_next = self.number < number && number - self.number == 1;
+        if is_next && count_on(&mut self.bytes, self.count) {
+            self.number = number;
+        } else {
+            *self = Numeral::new(number);
+        }
     }
 
     /// Puts the number into a line.
     #[inline(always)]
     pub fn append(&self, line: &mut LineBytes, end: usize) -> usize
         requires { end + 16 ≤ ROOM }
-        ensures text { take result line.new ≡ take end line.old ++ self.now }
-        ensures place { result ≡ end + length self.now }
-        ensures short { result ≤ end + 16 }
+        ensures text { take result line.new ≡ take end line.old ++ decimal self.now }
+        ensures place { result ≡ end + length (decimal self.now) }
+        ensures short { result ≤ end + 10 }
     {
-        line[end..end + DIGITS].copy_from_slice(&self.bytes[self.start..self.start + DIGITS]);
-        end + (DIGITS - self.start)
+        append_front(&self.bytes, self.count, line, end)
     }
 }

@@ -79,27 +79,49 @@ fn short_run(text: &[u8]) -> Option<(u8, &[u8])>
     let [r, u, n, blank, digit, feed, rest @ ..] = text else {
         return None;
     };
-    let is_run = *r == b'r' && *u == b'u' && *n == b'n' && *blank == b' ' && *feed == b'\n';
+    let word = u32::from_le_bytes([*r, *u, *n, *blank]);
+    let is_run = word == u32::from_le_bytes(*b"run ") && *feed == b'\n';
     if !is_run || *digit < b'1' || *digit > b'9' {
         return None;
     }
     Some((*digit - b'0', rest))
 }
 
-/// The same where a processor has this number and the number of the line is that of an event.
-#[inline(always)]
-pub fn short_event(text: &[u8], number: u32, processors: u8) -> Option<(u8, &[u8])>
-    ensures event { IfSome result (λ run. events_of processors number (lines_of text.now)
-        ≡ in_front (Ok (Event.Run run.0)) (events_of processors (number + 1) (lines_of run.1.now))) }
-    ensures shorter { IfSome result (λ run. length run.1.now < length text.now) }
-    ensures counted { IfSome result (λ _. number ≤ 1048576) }
+/// What stands behind the first line of a text, if the line is `tick`.
+fn short_tick(text: &[u8]) -> Option<&[u8]>
+    ensures { IfSome result (λ rest. text.now ≡ 116 ∷ 105 ∷ 99 ∷ 107 ∷ 10 ∷ rest.now) }
 {
-    let (processor, rest) = short_run(text)?;
-    if processor <= processors && number <= MOST_STEPS {
-        Some((processor, rest))
+    let [t, i, c, k, feed, rest @ ..] = text else {
+        return None;
+    };
+    let word = u32::from_le_bytes([*t, *i, *c, *k]);
+    if word == u32::from_le_bytes(*b"tick") && *feed == b'\n' {
+        Some(rest)
     } else {
         None
     }
+}
+
+/// The event of `short_run` or `short_tick`, where a processor has the number and the number of the line is that of an
+/// event.
+#[inline(always)]
+pub fn short_event(text: &[u8], number: u32, processors: u8) -> Option<(Event, &[u8])>
+    ensures event { IfSome result (λ first. events_of processors number (lines_of text.now)
+        ≡ in_front (Ok first.0) (events_of processors (number + 1) (lines_of first.1.now))) }
+    ensures shorter { IfSome result (λ first. length first.1.now < length text.now) }
+    ensures counted { IfSome result (λ _. number ≤ 1048576) }
+{
+    if number > MOST_STEPS {
+        return None;
+    }
+    if let Some((processor, rest)) = short_run(text) {
+        if processor <= processors {
+            return Some((Event::Run(processor), rest));
+        }
+        return None;
+    }
+    let rest = short_tick(text)?;
+    Some((Event::Tick, rest))
 }
 
 /// The event of the first line of a text, which has this number, and the text behind it.
@@ -118,7 +140,7 @@ pub fn long_event(text: &[u8], number: u32, processors: u8) -> Result<(Event, &[
 }
 
 /// The event of the first line of a text, which has this number, and the text behind it. Most lines are those of
-/// `short_run`.
+/// `short_event`.
 #[inline]
 pub fn first_event(text: &[u8], number: u32, processors: u8) -> Result<(Event, &[u8]), StepsFault>
     requires { text.now ≢ [] }
@@ -129,7 +151,7 @@ pub fn first_event(text: &[u8], number: u32, processors: u8) -> Result<(Event, &
     ensures counted { IfOk result (λ _. number ≤ 1048576) }
 {
     match short_event(text, number, processors) {
-        Some((processor, rest)) => Ok((Event::Run(processor), rest)),
+        Some(first) => Ok(first),
         None => long_event(text, number, processors),
     }
 }

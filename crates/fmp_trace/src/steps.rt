@@ -67,10 +67,10 @@ impl<'a> Steps<'a> {
         if self.text.is_empty() {
             return None;
         }
-        if let Some((processor, rest)) = short_event(self.text, self.number, self.processors) {
+        if let Some((event, rest)) = short_event(self.text, self.number, self.processors) {
             self.text = rest;
             self.number += 1;
-            return Some(Event::Run(processor));
+            return Some(event);
         }
         let Ok((event, rest)) = long_event(self.text, self.number, self.processors) else {
             return None;

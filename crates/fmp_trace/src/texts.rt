@@ -10,8 +10,8 @@ use crate::numeral::Numeral;
 use fmp_base::Name;
 use std::alloc::AllocError;
 
-/// Room for the longest line, for a few short ones before it, and for what is copied behind its end.
-pub const ROOM: usize = 256;
+/// Room for the longest line, for many lines before it, and for what is copied behind its end.
+pub const ROOM: usize = 1024;
 
 /// The bytes of a line. Those behind its end mean nothing.
 pub type LineBytes = [u8; ROOM];
@@ -76,19 +76,22 @@ pub fn append_word(text: &[u8], line: &mut LineBytes, end: usize) -> usize
     }
 }
 
-/// A name.
+/// A name: its first 15 bytes and its last 16, so that two copies of a length that is known do.
 #[inline(always)]
 pub fn append_name(name: &Name, line: &mut LineBytes, end: usize) -> usize
     requires { end + 31 ≤ ROOM }
     ensures text { take result line.new ≡ take end line.old ++ name_text name.now }
     ensures short { result ≤ end + 31 }
 {
-    append_front(
-        &name.bytes,
-        usize::from(name.length).min(Name::MAX),
-        line,
-        end,
-    )
+    let (Some(front), Some(back)) = (
+        name.bytes.first_chunk::<16>(),
+        name.bytes.last_chunk::<16>(),
+    ) else {
+        unreachable!()
+    };
+    let middle = append_front(front, 15, line, end);
+    append_array(*back, line, middle);
+    end + usize::from(name.length).min(Name::MAX)
 }
 
 /// A number below 10 as its digit.
@@ -102,12 +105,21 @@ fn append_digit(digit: u8, line: &mut LineBytes, end: usize) -> usize
     append_array([b'0' + digit], line, end)
 }
 
-/// A number in decimal digits, of which there are mostly several.
+/// A number in decimal digits, of which there are several.
+#[tactic(auto, using(std::proofs::lemmas::Fmt::decimal_digit, std::proofs::lemmas::Fmt::decimal_step))]
 fn append_digits(number: u32, line: &mut LineBytes, end: usize) -> usize
-    requires { end + 16 ≤ ROOM }
+    requires several { 10 ≤ number }
+    requires room { end + 16 ≤ ROOM }
     ensures text { take result line.new ≡ take end line.old ++ decimal number }
     ensures place { result ≡ end + length (decimal number) }
 {
+    if number < 100 {
+        return append_array(
+            [b'0' + (number / 10) as u8, b'0' + (number % 10) as u8],
+            line,
+            end,
+        );
+    }
     Numeral::new(number).append(line, end)
 }
 
