@@ -5,7 +5,7 @@
 #                           by user and system time, and the greatest memory that it held at once
 #
 # It wants the program as `rt run` leaves it in crates/fmp/out, and builds it where it is not there. FMP names another
-# one. The command `time` of GNU tells times and memory.
+# one. The command `time` of GNU tells times and memory. At the end stand the tables of bench/boards.sh.
 set -euo pipefail
 root=$(cd "$(dirname "$0")/.." && pwd)
 runs=${1:-5}
@@ -261,3 +261,7 @@ for it in two_tasks eight_processors rotation delays priorities; do
         split(t, s, " ")
         printf "At its peak %s holds %.1f MiB: %.1f of text that is printed, and %.1f beside it.\n", name, s[4] / 1024, bytes / 1048576, s[4] / 1024 - bytes / 1048576 }'
 done
+
+# Boards that threads share.
+echo
+"$root/bench/boards.sh" "$runs"

@@ -1,0 +1,46 @@
+//! The program `fmp_stress`, a tool of the checks: threads share a board by as many seats as are asked for, take tickets,
+//! feed events, and follow the row; then the journal is written, and what each follower read. It promises nothing by
+//! contract but that each call of the library is called as it asks.
+//!
+//! It ends with the statuses of `fmp`: 0 where it did what it was asked, 1 for a fault of what it read, 2 for a mistake in
+//! the command line, and 3 where a file could not be read or written or memory ran out.
+#![tactic(auto)]
+
+mod asking;
+mod exit;
+mod form;
+mod hosting;
+mod place;
+mod running;
+mod threads;
+mod turns;
+
+use clap::Error;
+use clap::error::ErrorKind as Kind;
+use fmp_files::Host;
+use running::{refuse, run};
+use std::alloc::AllocError;
+use std::env;
+use std::io::ErrorKind;
+use std::process::ExitCode;
+
+/// What is said of words that are no text.
+const NOT_TEXT: &str = "invalid UTF-8 was detected in one or more arguments";
+
+/// The words of the command line.
+fn words_of(rt: &HostRuntime) -> Result<Vec<String>, Error> {
+    match env::args(rt) {
+        Ok(words) => Ok(words.collect(rt.alloc())?),
+        Err(error) if error.kind() == ErrorKind::OutOfMemory => Err(Error::from(AllocError)),
+        Err(_) => Err(form::program(rt.alloc())?.error(Kind::ValueValidation, NOT_TEXT)?),
+    }
+}
+
+fn main(rt: HostRuntime) -> ExitCode {
+    let mut host = Host::new(&rt);
+    let status = match words_of(&rt) {
+        Ok(words) => run(&rt, rt.alloc(), &mut host, &words),
+        Err(error) => refuse(rt.alloc(), &mut host, &error),
+    };
+    ExitCode::from(status)
+}

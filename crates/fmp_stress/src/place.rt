@@ -1,0 +1,271 @@
+//! A seat of a board with what came of its calls.
+ghost use Rattle.std.specs.Prelude.{IfSome};
+ghost use Rattle.fmp_hostrun.specs.Boards.{IsAt};
+ghost use Rattle.fmp_hostrun.specs.Outcomes.{IsDrawn};
+
+use fmp_base::Event;
+use fmp_hostrun::{Board, BoardFault, Closed, Outcome, Receipt, Seat, Site};
+use std::alloc::Global;
+use std::marker::PhantomData;
+use std::sync::Wait;
+use std::sync::atomic::{AtomicU64, Ordering};
+use std::thread;
+
+/// How often an outcome is made that is stale, one after the other.
+const MOST_TRIES: u32 = 1000;
+
+/// What the calls of a seat were answered, by count.
+#[derive(Clone, Copy)]
+pub struct Answers {
+    /// Events that were journaled.
+    pub journaled: u32,
+    /// Events that did nothing.
+    pub nothing: u32,
+    /// Tickets that were wanted of a processor without an actor.
+    pub idle: u32,
+    /// Outcomes that were stale.
+    pub stale: u32,
+    /// Events for which the journal had no room.
+    pub full: u32,
+    /// Reads of the row that gave no event, though the seat had seen more.
+    pub missed: u32,
+    /// Events that were read for which there was no memory.
+    pub lost: u32,
+}
+
+impl Answers {
+    /// What no call was answered.
+    pub fn none() -> Answers {
+        Answers {
+            journaled: 0,
+            nothing: 0,
+            idle: 0,
+            stale: 0,
+            full: 0,
+            missed: 0,
+            lost: 0,
+        }
+    }
+
+    /// Both together.
+    pub fn with(self, more: Answers) -> Answers {
+        Answers {
+            journaled: self.journaled.saturating_add(more.journaled),
+            nothing: self.nothing.saturating_add(more.nothing),
+            idle: self.idle.saturating_add(more.idle),
+            stale: self.stale.saturating_add(more.stale),
+            full: self.full.saturating_add(more.full),
+            missed: self.missed.saturating_add(more.missed),
+            lost: self.lost.saturating_add(more.lost),
+        }
+    }
+
+    /// Counts what one event was answered.
+    fn count(&mut self, answer: Result<Receipt, BoardFault>) {
+        let count = match answer {
+            Ok(receipt) if receipt.number > 0 => &mut self.journaled,
+            Ok(_) => &mut self.nothing,
+            Err(BoardFault::Stale) => &mut self.stale,
+            Err(_) => &mut self.full,
+        };
+        *count = count.saturating_add(1);
+    }
+}
+
+/// What a seat did.
+#[derive(Drop)]
+pub struct Record {
+    /// The events that it followed.
+    pub followed: Vec<Event>,
+    /// What its calls were answered.
+    pub answers: Answers,
+}
+
+/// A seat of a board with what came of its calls.
+#[derive(Drop)]
+pub struct Place<S: Site> {
+    seat: Seat,
+    /// How many events it has seen at least.
+    seen: u32,
+    followed: Vec<Event>,
+    answers: Answers,
+    board: PhantomData<S>,
+    ghost at: { IsAt S.row_id seat },
+}
+
+/// The outcome of the stretch that the actor of processor p makes next, made outside the board's lock. None where the
+/// processor has no actor.
+fn drawn<S: Site, R: Wait>(rt: &R, board: &Board<'_, S>, seat: &mut Seat, p: u8) -> Option<Outcome>
+    requires { IsAt S.row_id seat.old }
+    ensures at { IsAt S.row_id seat.new }
+    ensures drawn { IfSome result (λ o. IsDrawn S.image S.bound seat.new.seen o.ticket) }
+{
+    Some(board.ticket(rt, seat, p)?.stretch())
+}
+
+/// Draws an outcome and submits it.
+fn submitted<S: Site, R: Wait>(
+    rt: &R,
+    board: &Board<'_, S>,
+    seat: &mut Seat,
+    p: u8,
+) -> Option<Result<Receipt, BoardFault>>
+    requires { IsAt S.row_id seat.old }
+    ensures { IsAt S.row_id seat.new }
+{
+    let outcome = drawn(rt, board, seat, p)?;
+    Some(board.submit(rt, seat, outcome))
+}
+
+/// Feeds an event, and then submits an outcome that was drawn before.
+fn submitted_after<S: Site, R: Wait>(
+    rt: &R,
+    board: &Board<'_, S>,
+    seat: &mut Seat,
+    event: Event,
+    outcome: Outcome,
+) -> (Result<Receipt, BoardFault>, Result<Receipt, BoardFault>)
+    requires at { IsAt S.row_id seat.old }
+    requires drawn { IsDrawn S.image S.bound seat.old.seen outcome.ticket }
+    ensures { IsAt S.row_id seat.new }
+{
+    let fed = board.feed(rt, seat, event);
+    (fed, board.submit(rt, seat, outcome))
+}
+
+impl<S: Site> Place<S> {
+    ghost use Rattle.fmp_hostrun.specs.Boards.{IsAt};
+
+    /// A seat that made no call yet.
+    pub fn new(alloc: Global, seat: Seat) -> Place<S>
+        requires { IsAt S.row_id seat }
+    {
+        Place {
+            seat,
+            seen: 0,
+            followed: Vec::new(alloc),
+            answers: Answers::none(),
+            board: PhantomData,
+        }
+    }
+
+    /// The number of the seat.
+    pub fn number(&self) -> u8 {
+        self.seat.number()
+    }
+
+    /// How many events it followed.
+    pub fn read_count(&self) -> u32 {
+        self.seat.place()
+    }
+
+    /// Closes the board.
+    pub fn close<'a>(&mut self, board: Board<'a, S>) -> Closed<'a> {
+        board.close(&mut self.seat)
+    }
+
+    /// Counts what an event was answered.
+    fn note(&mut self, answer: Result<Receipt, BoardFault>) {
+        if let Ok(receipt) = answer {
+            self.seen = self.seen.max(receipt.number);
+        }
+        self.answers.count(answer);
+    }
+
+    /// Counts a ticket that was not given.
+    fn note_idle(&mut self) {
+        self.answers.idle = self.answers.idle.saturating_add(1);
+    }
+
+    /// Runs the actor of processor p once, by a ticket. A stale outcome is made anew.
+    pub fn run<R: Wait>(&mut self, rt: &R, board: &Board<'_, S>, p: u8) {
+        for _ in 0..MOST_TRIES {
+            let Some(answer) = submitted(rt, board, &mut self.seat, p) else {
+                self.note_idle();
+                return;
+            };
+            self.note(answer);
+            if answer != Err(BoardFault::Stale) {
+                return;
+            }
+        }
+    }
+
+    /// Runs the actor of processor p by a ticket, and feeds an event before the outcome is submitted.
+    pub fn run_late<R: Wait>(&mut self, rt: &R, board: &Board<'_, S>, p: u8, event: Event) {
+        let Some(outcome) = drawn(rt, board, &mut self.seat, p) else {
+            self.note_idle();
+            return;
+        };
+        let (fed, answer) = submitted_after(rt, board, &mut self.seat, event, outcome);
+        self.note(fed);
+        self.note(answer);
+    }
+
+    /// Feeds an event.
+    pub fn feed<R: Wait>(&mut self, rt: &R, board: &Board<'_, S>, event: Event) {
+        let answer = board.feed(rt, &mut self.seat, event);
+        self.note(answer);
+    }
+
+    /// Meets another seat.
+    pub fn meet<R: Wait>(&mut self, rt: &R, board: &Board<'_, S>, other: &mut Place<S>) {
+        board.meet(rt, &mut self.seat, &mut other.seat);
+        self.seen = self.seen.max(other.seen);
+        other.seen = self.seen;
+    }
+
+    /// Reads the next event of the row: whether there was one.
+    pub fn read(&mut self, board: &Board<'_, S>) -> bool {
+        match board.follow(&mut self.seat) {
+            Some(event) => {
+                if self.followed.push(event).is_err() {
+                    self.answers.lost = self.answers.lost.saturating_add(1);
+                }
+                true
+            }
+            None => {
+                if self.seat.place() < self.seen {
+                    self.answers.missed = self.answers.missed.saturating_add(1);
+                }
+                false
+            }
+        }
+    }
+
+    /// Reads the row until it has no more events.
+    pub fn read_all(&mut self, board: &Board<'_, S>) {
+        for _ in 0..board.capacity() {
+            if !self.read(board) {
+                return;
+            }
+        }
+    }
+
+    /// Reads the row until no team is calling and it has no more events: what it did.
+    pub fn follow(mut self, board: &Board<'_, S>, calling: &AtomicU64) -> Record {
+        for _ in 0..u64::MAX {
+            let is_last = calling.load(Ordering::SeqCst) == 0;
+            if self.read(board) {
+                continue;
+            }
+            if is_last {
+                break;
+            }
+            thread::yield_now();
+        }
+        self.record()
+    }
+
+    /// What it did.
+    pub fn record(self) -> Record {
+        let Place {
+            seat: _,
+            seen: _,
+            followed,
+            answers,
+            board: _,
+        } = self;
+        Record { followed, answers }
+    }
+}

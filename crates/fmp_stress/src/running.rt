@@ -1,0 +1,202 @@
+//! A run of the program, from the words of its command line to its status.
+use crate::asking::{Asked, asked_of};
+use crate::exit::{Exit, failed};
+use crate::hosting::{Hosted, host};
+use crate::place::Record;
+use clap::Error;
+use clap::error::ErrorKind;
+use fmp_base::Event;
+use fmp_files::{Outside, ReadFault, WriteFault};
+use fmp_image::{Image, load};
+use fmp_trace::print_steps;
+use std::alloc::{AllocError, Global};
+use std::sync::Wait;
+use std::thread::Threads;
+use std::time::Clock;
+
+/// Says why the program ends, and gives its status.
+fn end<O: Outside>(outside: &mut O, exit: &Exit) -> u8 {
+    outside.say(format_args!("{exit}\n"));
+    exit.status()
+}
+
+/// Prints all that there is to print, and gives the status.
+fn print<O: Outside>(alloc: Global, outside: &mut O, text: &str) -> u8 {
+    match outside.print(text.as_bytes()) {
+        Ok(()) => 0,
+        Err(WriteFault::Device) => end(outside, &failed(alloc, "-")),
+    }
+}
+
+/// Says what is wrong with the words of the command line, or prints what they ask to be shown.
+pub fn refuse<O: Outside>(alloc: Global, outside: &mut O, error: &Error) -> u8 {
+    match error.kind() {
+        ErrorKind::OutOfMemory => end(outside, &Exit::Memory(AllocError)),
+        ErrorKind::DisplayHelp | ErrorKind::DisplayVersion => match error.to_string(alloc) {
+            Ok(text) => print(alloc, outside, text.as_str()),
+            Err(_) => end(outside, &Exit::Memory(AllocError)),
+        },
+        _ => {
+            outside.say(format_args!("{error}"));
+            2
+        }
+    }
+}
+
+/// The bytes of a file.
+fn read<O: Outside>(alloc: Global, outside: &O, name: &str) -> Result<Vec<u8>, Exit> {
+    match outside.read(alloc, name, None) {
+        Ok(bytes) => Ok(bytes),
+        Err(ReadFault::Device) => Err(failed(alloc, name)),
+        Err(ReadFault::Memory) => Err(Exit::Memory(AllocError)),
+    }
+}
+
+/// The image of a file.
+fn read_image<O: Outside>(alloc: Global, outside: &O, name: &str) -> Result<Image, Exit> {
+    match load(alloc, &read(alloc, outside, name)?) {
+        Ok(image) => Ok(image),
+        Err(fault) => Err(Exit::Load(fault)),
+    }
+}
+
+/// Writes events to a file as a steps text.
+fn write_steps<O: Outside>(
+    alloc: Global,
+    outside: &mut O,
+    name: &str,
+    events: &[Event],
+) -> Result<(), Exit> {
+    let mut text = Vec::new(alloc);
+    if print_steps(events, &mut text).is_err() {
+        return Err(Exit::Memory(AllocError));
+    }
+    match outside.write(name, &text) {
+        Ok(()) => Ok(()),
+        Err(WriteFault::Device) => Err(failed(alloc, name)),
+    }
+}
+
+/// The name of the file of the follower of this number.
+fn name_of(alloc: Global, journal: &str, number: usize) -> Result<String, Exit> {
+    match format!(in alloc; "{journal}.{number}") {
+        Ok(name) => Ok(name),
+        Err(_) => Err(Exit::Memory(AllocError)),
+    }
+}
+
+/// Writes what a follower read.
+fn write_follower<O: Outside>(
+    alloc: Global,
+    outside: &mut O,
+    journal: &str,
+    number: usize,
+    team: &[Record],
+) -> Result<(), Exit> {
+    let name = name_of(alloc, journal, number)?;
+    match team {
+        [record, ..] => write_steps(alloc, outside, name.as_str(), &record.followed),
+        [] => Err(Exit::Memory(AllocError)),
+    }
+}
+
+/// Writes what each follower read: they are the first teams.
+fn write_followed<O: Outside>(
+    alloc: Global,
+    outside: &mut O,
+    journal: &str,
+    teams: &[Vec<Record>],
+    followers: u8,
+) -> Result<(), Exit> {
+    for (place, team) in teams.iter().enumerate() {
+        if place >= usize::from(followers) {
+            break;
+        }
+        write_follower(alloc, outside, journal, place + 1, team)?;
+    }
+    Ok(())
+}
+
+/// What is printed of a board.
+fn told(alloc: Global, hosted: &Hosted, timed: bool) -> Result<String, Exit> {
+    let answers = hosted.answers;
+    let text = format!(in alloc;
+        "seats {}\nevents {}\njournaled {}\nnothing {}\nidle {}\nstale {}\nfull {}\nmissed {}\nlost {}\ndiffering {}\n",
+        hosted.seats,
+        hosted.journal.len(),
+        answers.journaled,
+        answers.nothing,
+        answers.idle,
+        answers.stale,
+        answers.full,
+        answers.missed,
+        answers.lost,
+        hosted.differing,
+    );
+    let times = hosted.times;
+    let text = match text {
+        Ok(text) if timed => format!(in alloc;
+            "{text}calls {} us\nreads {} in {} us\n",
+            times.calls, times.read, times.reads
+        ),
+        other => other,
+    };
+    match text {
+        Ok(text) => Ok(text),
+        Err(_) => Err(Exit::Memory(AllocError)),
+    }
+}
+
+/// Hosts an image and writes what came of it: what is to be printed.
+fn carry_out<O: Outside, R: Threads + Wait + Clock + Sync>(
+    rt: &R,
+    alloc: Global,
+    outside: &mut O,
+    asked: &Asked,
+) -> Result<String, Exit> {
+    let image = read_image(alloc, outside, asked.image.as_str())?;
+    let hosted = host(rt, alloc, &image, &asked.plan)?;
+    let journal = asked.journal.as_str();
+    write_steps(alloc, outside, journal, &hosted.journal)?;
+    write_followed(alloc, outside, journal, &hosted.teams, asked.plan.followers)?;
+    told(alloc, &hosted, asked.timed)
+}
+
+/// The same words, borrowed.
+fn borrowed<'a>(alloc: Global, words: &'a [String]) -> Result<Vec<&'a str>, AllocError> {
+    let mut texts = Vec::new(alloc);
+    for word in words {
+        texts.push(word.as_str())?;
+    }
+    Ok(texts)
+}
+
+/// Does what was asked for, and gives the status.
+fn perform<O: Outside, R: Threads + Wait + Clock + Sync>(
+    rt: &R,
+    alloc: Global,
+    outside: &mut O,
+    asked: &Asked,
+) -> u8 {
+    match carry_out(rt, alloc, outside, asked) {
+        Ok(text) => print(alloc, outside, text.as_str()),
+        Err(exit) => end(outside, &exit),
+    }
+}
+
+/// Does what the words of a command line ask for, of which the first is the program's name, and gives the status.
+pub fn run<O: Outside, R: Threads + Wait + Clock + Sync>(
+    rt: &R,
+    alloc: Global,
+    outside: &mut O,
+    words: &[String],
+) -> u8 {
+    let texts = match borrowed(alloc, words) {
+        Ok(texts) => texts,
+        Err(error) => return end(outside, &Exit::Memory(error)),
+    };
+    match asked_of(alloc, &texts) {
+        Ok(asked) => perform(rt, alloc, outside, &asked),
+        Err(error) => refuse(alloc, outside, &error),
+    }
+}

@@ -1,0 +1,148 @@
+//! What seats do in their turns.
+use crate::asking::Plan;
+use crate::place::Place;
+use fmp_base::Event;
+use fmp_hostrun::{Board, Site};
+use rand_core::SeedableRng;
+use rand_core::utils::NextWord;
+use rand_pcg::Pcg32;
+use std::sync::Wait;
+
+/// How many turns there are from one meeting of two seats to the next.
+const MEETING: u32 = 4;
+
+/// What a seat does in a turn.
+enum Deed {
+    /// Runs this processor by a ticket.
+    Run(u8),
+    /// Runs this processor by a ticket, of which the outcome is submitted after this event.
+    RunLate(u8, Event),
+    /// Feeds this event.
+    Feed(Event),
+    /// Reads the next event of the row.
+    Read,
+}
+
+/// What the deeds of a thread's seats are drawn by.
+#[derive(Drop)]
+struct Draws<'a, 'b, S: Site> {
+    board: &'b Board<'a, S>,
+    processors: u8,
+    own: bool,
+    random: Pcg32,
+}
+
+impl<'a, 'b, S: Site> Draws<'a, 'b, S> {
+    /// The draws of the thread whose first seat has this place among those of all threads.
+    fn new(board: &'b Board<'a, S>, plan: &Plan, first: usize) -> Draws<'a, 'b, S> {
+        Draws {
+            board,
+            processors: board.processors(),
+            own: plan.own,
+            random: Pcg32::seed_from_u64(plan.seed.wrapping_add(first as u64)),
+        }
+    }
+
+    /// One of the processors, by any number.
+    fn processor(&self, number: u32) -> u8 {
+        let place = (number % u32::from(self.processors.max(1))) as u8;
+        place.saturating_add(1)
+    }
+
+    /// One of the interrupts that have a handler, by any number, or one that has none.
+    fn interrupt(&self, number: u32) -> u8 {
+        let interrupts = &self.board.image().system().interrupts;
+        match interrupts.get(number as usize % interrupts.len().max(1)) {
+            Some(config) => config.number,
+            None => 32,
+        }
+    }
+
+    /// What the seat of this number does next.
+    fn deed(&mut self, number: u8) -> Deed {
+        if self.own {
+            return Deed::Run(self.processor(u32::from(number)));
+        }
+        let word = self.random.next_word();
+        let other = word / 16;
+        match word % 16 {
+            0 => Deed::Feed(Event::Run(self.processor(other))),
+            1 => Deed::Feed(Event::Int(self.interrupt(other))),
+            2 => Deed::Read,
+            3 => {
+                let event = Event::Run(self.processor(other / 64));
+                Deed::RunLate(self.processor(other), event)
+            }
+            _ => Deed::Run(self.processor(other)),
+        }
+    }
+}
+
+/// One turn of a seat.
+fn take_turn<S: Site, R: Wait>(rt: &R, draws: &mut Draws<'_, '_, S>, place: &mut Place<S>) {
+    match draws.deed(place.number()) {
+        Deed::Run(p) => place.run(rt, draws.board, p),
+        Deed::RunLate(p, event) => place.run_late(rt, draws.board, p, event),
+        Deed::Feed(event) => place.feed(rt, draws.board, event),
+        Deed::Read => {
+            place.read(draws.board);
+        }
+    }
+}
+
+/// One turn of each seat.
+fn take_turns<S: Site, R: Wait>(rt: &R, draws: &mut Draws<'_, '_, S>, places: &mut [Place<S>]) {
+    for place in places {
+        take_turn(rt, draws, place);
+    }
+}
+
+/// The first two seats meet.
+fn meet<S: Site, R: Wait>(rt: &R, board: &Board<'_, S>, places: &mut [Place<S>]) {
+    if let [one, other, ..] = places {
+        one.meet(rt, board, other);
+    }
+}
+
+/// The first seat feeds a tick.
+fn tick<S: Site, R: Wait>(rt: &R, board: &Board<'_, S>, places: &mut [Place<S>]) {
+    if let [one, ..] = places {
+        one.feed(rt, board, Event::Tick);
+    }
+}
+
+/// The turns of the seats of a thread, of which the first has this place among all. The very first one feeds the ticks.
+pub fn call<S: Site, R: Wait>(
+    rt: &R,
+    board: &Board<'_, S>,
+    plan: &Plan,
+    first: usize,
+    places: &mut [Place<S>],
+) {
+    let mut draws = Draws::new(board, plan, first);
+    let mut left = if first == 0 { plan.ticks } else { 0 };
+    let gap = (plan.turns / plan.ticks.max(1)).max(1);
+    for turn in 0..plan.turns {
+        take_turns(rt, &mut draws, places);
+        if turn % MEETING == 0 {
+            meet(rt, board, places);
+        }
+        if left > 0 && turn % gap == 0 {
+            tick(rt, board, places);
+            left -= 1;
+        }
+    }
+}
+
+/// The turns of a seat that is the only one.
+pub fn call_alone<S: Site, R: Wait>(
+    rt: &R,
+    board: &Board<'_, S>,
+    plan: &Plan,
+    place: &mut Place<S>,
+) {
+    let mut draws = Draws::new(board, plan, 0);
+    for _ in 0..plan.turns {
+        take_turn(rt, &mut draws, place);
+    }
+}
