@@ -17,7 +17,8 @@ fn tasks_of<B: Body>(kernel: &Kernel<B>) -> u8
     kernel.tables().task_count() as u8
 }
 
-/// Drives a kernel of this system until it is quiet, or at most so many events are done. `AllocError` for want of memory.
+/// Drives a kernel of this system until it is quiet, or at most so many events are done. `AllocError` for want of
+/// memory.
 #[tactic(none)]
 fn driven_on<B: Body>(
     alloc: Global,
