@@ -86,13 +86,36 @@ run 'code: B7' 0 code B7
 
 # Of one processor there is one order: two tasks that both end.
 printf 'run 1\nrun 1\nrun 1\nrun 1\nrun 1\nrun 1\n' > wanted
-printf 'quiet: no processor goes on, and the clock changes nothing\n' > said
+printf 'quiet: no processor goes on, and the clock changes nothing\nprocessor 1: nothing runs there\n' > said
 run 'drive: queue' 0 drive queue.img
 printf 'run 1\nrun 1\n' > wanted
 printf 'as many events as were asked for are done\n' > said
 run 'drive: two events' 0 drive queue.img --events 2
 printf 'as many events as were asked for are done\n' > said
 run 'drive: no events' 0 drive queue.img --events=0
+
+# A holds the lock and calls no more; B asks for the lock; and nothing runs on the third processor.
+cat > stuck.cfg <<'END'
+NUM_PRC(3);
+CLASS(TCL_1) { CRE_TSK(A, { TA_ACT, 0, a, 10, 256, NULL }); CRE_SPN(L, { TA_NULL }); }
+CLASS(TCL_2) { CRE_TSK(B, { TA_ACT, 0, b, 10, 256, NULL }); }
+END
+echo 'task a { loc_spn(L); while (1) { } } task b { loc_spn(L); unl_spn(L); }' > stuck.src
+"$fmp" build stuck.cfg stuck.src stuck.img > built || exit 2
+echo 'run 1' > wanted
+cat > said <<'END'
+quiet: no processor goes on, and the clock changes nothing
+processor 1: what runs there reaches the bound before its next call
+processor 2: what runs there asks for spin lock 1, which is held
+processor 3: nothing runs there
+END
+run 'drive: stuck' 0 drive stuck.img
+echo 'run 1' > wanted
+cat > said <<'END'
+as many events as were asked for are done
+processor 1: what runs there reaches the bound before its next call
+END
+run 'drive: stuck, one event' 0 drive stuck.img --events 1
 
 # The trace of the queue: PRODUCER calls twice, is preempted at both calls and ends; CONSUMER waits once, and ends.
 cat > wanted <<'END'

@@ -38,8 +38,8 @@ fn operands_or_fault(
     operands_in(alloc, &configured.system, texts.src, name)
 }
 
-/// How many operands stand at once in the body of a name, if there is such a body and no fault comes before those of the
-/// entries. `AllocError` for want of memory.
+/// How many operands stand at once in the body of a name, if there is such a body and no fault comes before those of
+/// the entries. `AllocError` for want of memory.
 pub fn operands_of(
     alloc: Global,
     texts: Texts<'_>,

@@ -1,5 +1,5 @@
 -- One more event of a drive.
-use Rattle.std.proofs.Common.{◌≡◌, refl, ℕ, ◌+◌, ◌<◌, ◌≤◌, List, [], ◌∷◌, ◌++◌, Option, Some, None, subst, sym, arith, ap, ◌∙◌, length}
+use Rattle.std.proofs.Common.{◌≡◌, refl, ℕ, ◌+◌, ◌<◌, ◌≤◌, List, [], ◌∷◌, ◌++◌, Option, Some, None, subst, sym, arith, ap, ◌∙◌}
 use Rattle.std.specs.List.{AllByRecursion}
 use Rattle.std.proofs.lemmas.List.{length_push}
 use Rattle.fmp_base.specs.declared.events.Effect.TheVariants as effect
@@ -10,7 +10,7 @@ use Rattle.fmp_base.specs.Runs.{Trace, after_first, complete_run, completed_by, 
 use Rattle.fmp_base.specs.Steps.{Done, Reaction, Nothing, Did, effect_of, step}
 use Rattle.fmp_base.specs.Systems.{SystemTables, found}
 use Rattle.fmp_kernel.specs.KernelViews.{KernelView, view_after}
-use Rattle.std.proofs.Common.{◌⊎◌, inl, inr}
+use Rattle.std.proofs.Common.{inl, inr}
 use Rattle.std.proofs.lemmas.Bool.{cases_order}
 use Rattle.fmp_driver.specs.declared.trying.Source.{Source}
 use Rattle.std.specs.Prelude.{MatchOption}

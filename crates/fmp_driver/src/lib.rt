@@ -3,8 +3,10 @@
 
 mod driving;
 mod limits;
+mod next;
 mod plan;
 mod trying;
 
 pub use driving::{Driven, Stop, drive};
+pub use next::{NextRun, next_runs};
 pub use plan::Plan;

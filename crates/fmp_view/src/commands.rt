@@ -8,7 +8,7 @@ use crate::asking::{kept_bound, kept_events};
 use crate::driving::driven;
 use crate::opening::{events_of, fresh_kernel, image_of};
 use fmp_base::{Event, System};
-use fmp_driver::Stop;
+use fmp_driver::{NextRun, Stop};
 use fmp_engine::SimFault;
 use fmp_frames::{Viewer, last_frame, show_all};
 use fmp_glossary::{explain, topic_named};
@@ -37,7 +37,17 @@ pub fn code(alloc: Global, word: &str) -> Result<Option<Vec<u8>>, AllocError> {
     Ok(Some(out))
 }
 
-/// The text of steps that run an image, and why they stop.
+/// How a drive ended.
+#[derive(Clone, Copy)]
+pub struct Ending {
+    pub stop: Stop,
+    /// What the next run of each processor comes to, by places from 0.
+    pub next: [NextRun; 8],
+    /// How many processors there are, at most 8.
+    pub processors: u8,
+}
+
+/// The text of steps that run an image, why they stop, and what each processor would do next.
 #[tactic(none)]
 fn driven_text(
     alloc: Global,
@@ -45,14 +55,14 @@ fn driven_text(
     events: u32,
     seed: Option<u64>,
     bound: u64,
-) -> Result<(Vec<u8>, Stop), AllocError> {
-    let driven = driven(alloc, image, kept_events(events), seed, kept_bound(bound))?;
+) -> Result<(Vec<u8>, Ending), AllocError> {
+    let drive = driven(alloc, image, kept_events(events), seed, kept_bound(bound))?;
     let mut out = Vec::new(alloc);
-    print_steps(&driven.steps, &mut out)?;
-    Ok((out, driven.stop))
+    print_steps(&drive.driven.steps, &mut out)?;
+    Ok((out, Ending { stop: drive.driven.stop, next: drive.next, processors: image.system().processors }))
 }
 
-/// Steps that run the image of these bytes, and why they stop.
+/// Steps that run the image of these bytes, why they stop, and what each processor would do next.
 #[tactic(none)]
 pub fn steps(
     alloc: Global,
@@ -60,7 +70,7 @@ pub fn steps(
     events: u32,
     seed: Option<u64>,
     bound: u64,
-) -> Result<(Vec<u8>, Stop), SimFault> {
+) -> Result<(Vec<u8>, Ending), SimFault> {
     let image = image_of(alloc, image)?;
     made(driven_text(alloc, &image, events, seed, bound))
 }

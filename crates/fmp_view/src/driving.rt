@@ -1,10 +1,12 @@
 //! Steps of an image that is driven.
-ghost use Rattle.std.specs.Prelude.{◌≡◌, ◌+◌, ◌≤◌, ◌^◌, IfOk, length};
+ghost use Rattle.std.specs.Prelude.{◌≡◌, ◌+◌, ◌≤◌, ◌^◌, [], IfOk, length};
 ghost use Rattle.fmp_driver.specs.Driving.{IsDriven};
+ghost use Rattle.fmp_hostrun.specs.Replays.{kernel_after};
 ghost use Rattle.fmp_view.specs.Drives.{DrivesImage};
 
 use fmp_base::System;
-use fmp_driver::{Driven, Plan, drive};
+use fmp_code::Vm;
+use fmp_driver::{Driven, NextRun, Plan, drive, next_runs};
 use fmp_hostrun::kernel_of;
 use fmp_image::Image;
 use fmp_kernel::{Body, Kernel};
@@ -17,7 +19,8 @@ fn tasks_of<B: Body>(kernel: &Kernel<B>) -> u8
     kernel.tables().task_count() as u8
 }
 
-/// Drives a kernel of this system until it is quiet, or at most so many events are done. `AllocError` for want of memory.
+/// Drives a kernel of this system until it is quiet, or at most so many events are done. `AllocError` for want of
+/// memory.
 #[tactic(none)]
 fn driven_on<B: Body>(
     alloc: Global,
@@ -37,6 +40,35 @@ fn driven_on<B: Body>(
     drive(alloc, kernel, &mut plan, sys.processors, tasks, events)
 }
 
+/// How a system was driven.
+#[derive(Drop)]
+pub struct Drive {
+    /// The steps, and why they stop.
+    pub driven: Driven,
+    /// What the next run of each processor comes to, by places from 0.
+    pub next: [NextRun; 8],
+}
+
+/// Drives the kernel of an image after setup, and looks at what its processors would do next. `AllocError` for want of
+/// memory.
+#[tactic(none)]
+fn drive_on<'a>(
+    alloc: Global,
+    kernel: &mut Kernel<Vm<'a>>,
+    image: &'a Image,
+    events: u32,
+    seed: Option<u64>,
+    n: u64,
+) -> Result<Drive, AllocError>
+    requires kernel { kernel.old ≡ kernel_after image.now n [] }
+    requires few { events ≤ 2 ^ 20 }
+    ensures { IfOk result (λ d. DrivesImage image.now n events d) }
+{
+    let driven = driven_on(alloc, kernel, image.system(), events, seed)?;
+    let next = next_runs(kernel, &image.vm(), n);
+    Ok(Drive { driven, next })
+}
+
 /// Drives an image after setup until it is quiet, or at most so many events are done. `AllocError` for want of memory.
 #[tactic(none)]
 pub fn driven(
@@ -45,12 +77,12 @@ pub fn driven(
     events: u32,
     seed: Option<u64>,
     n: u64,
-) -> Result<Driven, AllocError>
+) -> Result<Drive, AllocError>
     requires low { 1 ≤ n }
     requires high { n ≤ 2 ^ 48 }
     requires few { events ≤ 2 ^ 20 }
-    ensures { IfOk result (λ d. DrivesImage image.now n events d.steps.items d.stop) }
+    ensures { IfOk result (λ d. DrivesImage image.now n events d) }
 {
     let mut kernel = kernel_of(alloc, image, n)?;
-    driven_on(alloc, &mut kernel, image.system(), events, seed)
+    drive_on(alloc, &mut kernel, image, events, seed, n)
 }

@@ -2,14 +2,15 @@
 use crate::asking::{
     Cmd, Drawing, Run, command, dump_over_input, no_code, picture_of_nothing, picture_over_input,
 };
-use crate::commands::{code, stats, steps, waves};
+use crate::commands::{Ending, code, stats, steps, waves};
 use crate::exit::{Exit, failed};
 use crate::faults::{Shown, shown_fault};
 use crate::timeline::{TimelineFault, timeline};
 use clap::Error;
 use clap::error::ErrorKind;
 use fmp_diagnosis::{FileNames, Texts};
-use fmp_driver::Stop;
+use fmp_base::Call;
+use fmp_driver::{NextRun, Stop};
 use fmp_files::{Outside, ReadFault, WriteFault};
 use std::alloc::{AllocError, Global};
 
@@ -59,7 +60,7 @@ fn read<O: Outside>(alloc: Global, outside: &O, name: &str) -> Result<Vec<u8>, E
     }
 }
 
-/// What a drive prints, and why it stopped.
+/// What a drive prints, and how it ended.
 fn driven_steps<O: Outside>(
     alloc: Global,
     outside: &O,
@@ -67,7 +68,7 @@ fn driven_steps<O: Outside>(
     events: u32,
     seed: Option<u64>,
     bound: u64,
-) -> Result<(Vec<u8>, Stop), Exit> {
+) -> Result<(Vec<u8>, Ending), Exit> {
     let image = read(alloc, outside, image)?;
     match steps(alloc, &image, events, seed, bound) {
         Ok(made) => Ok(made),
@@ -108,14 +109,39 @@ fn say_stop<O: Outside>(outside: &mut O, stop: Stop) {
     }
 }
 
+/// Says why the run of a processor does nothing, if that is so: always where it reaches the bound, and of a quiet system
+/// whatever the reason is.
+fn say_next<O: Outside>(outside: &mut O, stop: Stop, processor: usize, next: NextRun) {
+    match (stop, next) {
+        (_, NextRun::OverBound) => outside.say(format_args!(
+            "processor {processor}: what runs there reaches the bound before its next call\n"
+        )),
+        (Stop::Quiet, NextRun::NoActor) => {
+            outside.say(format_args!("processor {processor}: nothing runs there\n"));
+        }
+        (Stop::Quiet, NextRun::Calls(Call::LocSpn { lock })) => outside.say(format_args!(
+            "processor {processor}: what runs there asks for spin lock {lock}, which is held\n"
+        )),
+        _ => {}
+    }
+}
+
+/// Says why a drive has stopped, and of each processor why it does not go on.
+fn say_end<O: Outside>(outside: &mut O, ending: Ending) {
+    say_stop(outside, ending.stop);
+    for p in 0..usize::from(ending.processors).min(8) {
+        say_next(outside, ending.stop, p + 1, ending.next[p]);
+    }
+}
+
 fn run_drive<O: Outside>(
     alloc: Global,
     outside: &mut O,
-    made: Result<(Vec<u8>, Stop), Exit>,
+    made: Result<(Vec<u8>, Ending), Exit>,
 ) -> u8 {
     match made {
-        Ok((text, stop)) => {
-            say_stop(outside, stop);
+        Ok((text, ending)) => {
+            say_end(outside, ending);
             print(alloc, outside, &text)
         }
         Err(exit) => end(outside, &exit),

@@ -64,8 +64,8 @@ cause_code (cause.Sending d w) = 5
 cause_code (cause.Receiving d) = 6
 cause_code (cause.Mailbox m) = 7
 
--- what a task waits for: 0 no wait, 1 sleep, 2 delay, 3 semaphore, 4 eventflag, 5 sends to a data queue, 6 receives from
--- one, 7 mailbox
+-- what a task waits for: 0 no wait, 1 sleep, 2 delay, 3 semaphore, 4 eventflag, 5 sends to a data queue, 6 receives
+-- from one, 7 mailbox
 abbrev pub wait_code : Phase → ℕ
 wait_code phase.Dormant = 0
 wait_code phase.Ready = 0

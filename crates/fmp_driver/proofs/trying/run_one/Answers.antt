@@ -1,4 +1,4 @@
-use Rattle.std.proofs.Common.{sym, ◌+◌}
+use Rattle.std.proofs.Common.{◌+◌}
 use Rattle.fmp_driver.specs.declared.trying.Source.TheVariants as source
 use Rattle.fmp_driver.specs.Driving.{AllStand}
 use Rattle.fmp_driver.proofs.DriveLemmas.{done_after}
