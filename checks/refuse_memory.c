@@ -1,5 +1,5 @@
-/* Stands in front of the C library's allocator and refuses one allocation: that whose number, from 1, REFUSE_AT gives.
-   At the end it writes how many were asked for into the file that REFUSE_LOG names. A program that can start threads ends
+/* Stands in front of the C library's allocator and refuses one allocation: that whose number, from 1, REFUSE_AT gives;
+   or all from that on whose number REFUSE_FROM gives. At the end it writes how many were asked for into the file that REFUSE_LOG names. A program that can start threads ends
    by `_exit`, which calls no destructors, so it stands in front of that, too. */
 #define _GNU_SOURCE
 #include <errno.h>
@@ -14,14 +14,22 @@ extern void *__libc_calloc(size_t, size_t);
 extern void *__libc_realloc(void *, size_t);
 extern void *__libc_memalign(size_t, size_t);
 
-static long asked, refused_at = -1;
+static long asked, refused_from, refused_at = -1;
+
+static long number_in(const char *name) {
+    const char *text = getenv(name);
+    return text ? atol(text) : 0;
+}
 
 static int is_refused(void) {
     if (refused_at < 0) {
-        const char *at = getenv("REFUSE_AT");
-        refused_at = at ? atol(at) : 0;
+        refused_from = number_in("REFUSE_FROM");
+        refused_at = number_in("REFUSE_AT");
     }
-    return __atomic_add_fetch(&asked, 1, __ATOMIC_SEQ_CST) == refused_at;
+    long number = __atomic_add_fetch(&asked, 1, __ATOMIC_SEQ_CST);
+    if (number != refused_at && (refused_from == 0 || number < refused_from)) return 0;
+    errno = ENOMEM;
+    return 1;
 }
 
 void *malloc(size_t size) { return is_refused() ? NULL : __libc_malloc(size); }

@@ -1,15 +1,20 @@
 #!/bin/bash
 # Refuses each allocation of the proved program in turn, for each of its commands: it must then answer `memory` with status
-# 3, print nothing and write no file, or else answer as it does with memory. Then it counts the allocations of longer and
-# longer runs: events take none, so only the growth of the list of events and of the trace is seen.
+# 3, print nothing and write no file, or else answer as it does with memory. So it does with tests of boards, which ask
+# again where making a board, or running it, was refused for want of memory, and then want what they want with memory;
+# and it refuses all from the Nth on: the calls of a board that is made take none. Then it counts the allocations of
+# longer and longer runs: events take none, so only the growth of the list of events and of the trace is seen.
 #
 #   checks/refused_memory.sh
 #
-# It wants a C compiler and the GNU C library, and the program as `rt run` leaves it in crates/fmp/out.
+# It wants a C compiler and the GNU C library, and the program and the tests as `rt run` and `rt test` leave them in
+# crates/fmp/out and crates/fmp_host_tests/out.
 set -euo pipefail
 root=$(cd "$(dirname "$0")/.." && pwd)
 fmp=$root/crates/fmp/out/fmp
 [ -x "$fmp" ] || (cd "$root/crates/fmp" && rt run > /dev/null)
+tests=$root/crates/fmp_host_tests/out/fmp_host_tests_tests
+[ -x "$tests" ] || (cd "$root/crates/fmp_host_tests" && rt test > /dev/null)
 room=$(mktemp -d)
 trap 'rm -rf "$room"' EXIT
 cd "$room"
@@ -87,6 +92,44 @@ each_refused sim short.img system.steps
 each_refused sim system.img fault.steps
 each_refused host system.img made.img --turns 8 --ticks 0
 each_refused host short.img made.img --turns 8 --ticks 0
+
+# One test of boards with allocations refused as the first word says: whether it passed. Else it has to end for want of
+# memory.
+passes() {
+    local status=0
+    echo 0 > asked
+    env "$1" REFUSE_LOG=asked LD_PRELOAD=$room/refuse.so "$tests" "tests::$2" > output 2> errors || status=$?
+    [ "$status" -ne 0 ] || return 0
+    if [ "$status" -ne 101 ] || ! grep -Eq '^error: .*(AllocError|AllocFailed|Memory)' errors; then
+        echo "test $2, $1: status $status: $(cat errors)"
+        failed=1
+    fi
+    return 1
+}
+
+# Each allocation of a test of boards in turn, until it asks for fewer.
+each_refused_in_test() {
+    local at=1 passed=0 is_last
+    while passes "REFUSE_AT=$at" "$1" && is_last=1 || is_last=0; [ "$at" -le "$(cat asked)" ]; do
+        passed=$((passed + is_last))
+        at=$((at + 1))
+    done
+    [ "$is_last" = 1 ] || { echo "test $1: it does not pass with memory"; failed=1; }
+    echo "test $1: $((at - 1)) allocations refused in turn, after $passed of which it passed"
+}
+
+each_refused_in_test feeding::three_events_on_one_task
+each_refused_in_test tickets::an_outcome_of_a_task_that_was_suspended_and_resumed
+each_refused_in_test hosting::processors_of_which_one_may_be_refused
+
+# Its one growth behind those of the board is refused, too.
+made=tickets::a_board_that_takes_no_memory_once_it_is_made
+passes REFUSE_FROM=0 "$made" || failed=1
+whole=$(cat asked)
+from=1
+until [ "$from" -gt "$whole" ] || passes "REFUSE_FROM=$from" "$made"; do from=$((from + 1)); done
+[ "$from" -le "$whole" ] || { echo "test $made: a board that is made takes memory"; failed=1; }
+echo "test $made: of $whole allocations all from number $from on refused"
 
 "$fmp" build "$root/examples/semaphore.cfg" "$root/examples/semaphore.src" turns.img > /dev/null
 for events in 1024 4096 16384 65536 262144 1048576; do

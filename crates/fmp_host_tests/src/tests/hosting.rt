@@ -48,6 +48,25 @@ fn one<S: Site>(seats: &mut Vec<Seat>) -> Option<Seat>
     seats.pop()
 }
 
+/// Runs a board by threads at this gate, and again where memory was refused: the seats, and what was answered.
+fn run_again<S: Site + Send + Sync, R: Threads + Wait + Sync>(
+    rt: &R,
+    alloc: Global,
+    board: &Board<'_, S>,
+    seats: Vec<Seat>,
+    gate: &SecondFirst,
+    turns: u32,
+) -> (Vec<Seat>, Result<u32, BoardFault>)
+    requires { All (IsAt S.row_id) seats.items }
+    ensures { All (IsAt S.row_id) result.0.items }
+{
+    let (seats, journaled) = run_all(rt, alloc, board, gate, seats, turns, 0);
+    if journaled == Err(BoardFault::Memory) {
+        return run_all(rt, alloc, board, gate, seats, turns, 0);
+    }
+    (seats, journaled)
+}
+
 /// Runs a board by threads at this gate: what was answered, and the closed board.
 fn run<'a, S: Site + Send + Sync, R: Threads + Wait + Sync>(
     rt: &R,
@@ -62,7 +81,7 @@ fn run<'a, S: Site + Send + Sync, R: Threads + Wait + Sync>(
     ensures { IfOk result (λ r. r.1.kernel.system ≡ S.image.system) }
 {
     let board: Board<'a, S> = blank.open();
-    let (mut seats, journaled) = run_all(rt, alloc, &board, gate, seats, turns, 0);
+    let (mut seats, journaled) = run_again(rt, alloc, &board, seats, gate, turns);
     let mut seat = one::<S>(&mut seats).ok_or("a seat")?;
     Ok((journaled, board.close(&mut seat)))
 }
@@ -144,6 +163,23 @@ fn processors_that_wait_for_one_another(rt: HostRuntime) -> Result<(), Fail> {
         lines_of(alloc, printed.as_str(), " p1 A ")?.as_str(),
         "starts\nst_shr(1,5) E_OK\nld_shr(1) E_OK 5\nput(5) E_OK\nend\n"
     );
+    assert!(rt; printed.as_str().ends_with(seen.states.as_str()));
+    Ok(())
+}
+
+#[test]
+fn processors_of_which_one_may_be_refused(rt: HostRuntime) -> Result<(), Fail> {
+    let alloc = rt.alloc();
+    let image = image_of(alloc, CONFIGURATION, TASKS)?;
+    let schedule = Schedule {
+        capacity: 8,
+        turns: 4,
+        held: 1,
+    };
+    let seen = seen_of_both(&rt, alloc, &image, schedule)?;
+    // A thread is refused only from outside.
+    assert!(rt; seen.answers.as_str() == "6" || seen.answers.as_str() == "H5");
+    let printed = simulated(alloc, &image, seen.journal.as_str())?;
     assert!(rt; printed.as_str().ends_with(seen.states.as_str()));
     Ok(())
 }

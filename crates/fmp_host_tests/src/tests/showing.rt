@@ -30,7 +30,8 @@ pub fn image_of(alloc: Global, cfg: &str, src: &str) -> Result<Image, Fail> {
     Ok(image)
 }
 
-/// A board of an image that is not yet open, and its seats, as `Blank::new` answers.
+/// A board of an image that is not yet open, and its seats, as `Blank::new` answers, which is asked again where memory
+/// was refused.
 pub fn board_of<'a>(
     alloc: Global,
     image: &'a Image,
@@ -42,7 +43,10 @@ pub fn board_of<'a>(
     ensures seats { IfOk result (λ made. All (IsAt made.0.row) made.1.items) }
     ensures count { IfOk result (λ made. length made.1.items ≡ m) }
 {
-    Blank::new(alloc, image, n, k, m)
+    match Blank::new(alloc, image, n, k, m) {
+        Err(BoardFault::Memory) => Blank::new(alloc, image, n, k, m),
+        made => made,
+    }
 }
 
 /// The last of the seats of a board, of which there is one.

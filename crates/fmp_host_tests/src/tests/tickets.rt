@@ -1,5 +1,5 @@
 //! Boards whose stretches are made outside the lock, and a seat that follows them.
-ghost use Rattle.std.specs.Prelude.{◌≡◌, All, IfOk, length};
+ghost use Rattle.std.specs.Prelude.{◌≡◌, ◌<◌, All, IfOk, length};
 ghost use Rattle.fmp_hostrun.specs.Boards.{IsAt, blank as blank_of};
 ghost use Rattle.fmp_hostrun.specs.Outcomes.{IsDrawn};
 ghost use mathlib.Core.List.{IsPrefix};
@@ -9,7 +9,7 @@ use crate::tests::showing::{BOUND, Seen, board_of, image_of, last_of, steps_of};
 use fmp_base::{Effect, Er, Event, Reply};
 use fmp_hostrun::{Blank, Board, BoardFault, Closed, Outcome, Receipt, Seat, Site};
 use fmp_image::Image;
-use std::alloc::Global;
+use std::alloc::{AllocError, Global};
 use std::marker::Brand;
 use std::process::Abort;
 use std::sync::Wait;
@@ -223,5 +223,70 @@ fn an_outcome_of_a_task_that_was_suspended_and_resumed(rt: HostRuntime) -> Resul
     );
     assert_eq!(rt; seen.journal.as_str(), "run 2\nrun 2\n");
     assert_eq!(rt; seen.states.as_str(), "T RUNNING p1 10\nS RUNNING p2 10\n");
+    Ok(())
+}
+
+/// What is answered to two runs of processor 2, and to an outcome of processor 1 that was made before them.
+fn overtaken<S: Site, R: Wait>(
+    rt: &R,
+    board: &Board<'_, S>,
+    seat: &mut Seat,
+) -> Result<[Result<Receipt, BoardFault>; 3], Fail>
+    requires { IsAt S.row_id seat.old }
+    ensures { IsAt S.row_id seat.new }
+{
+    let outcome = outcome_of(rt, board, seat, 1)?;
+    let first = board.feed(rt, seat, Event::Run(2));
+    let second = board.feed(rt, seat, Event::Run(2));
+    let answer = board.submit(rt, seat, outcome);
+    Ok([first, second, answer])
+}
+
+/// The events of the journal of a closed board that has two.
+fn both_events(closed: Closed<'_>) -> Option<[Event; 2]> {
+    if closed.len() != 2 {
+        return None;
+    }
+    Some([closed.event(0), closed.event(1)])
+}
+
+type Overtaken = Result<[Result<Receipt, BoardFault>; 3], Fail>;
+
+/// Opens a board, has a stretch overtaken, and closes it: what was answered, and the two events of its journal.
+fn overtaken_on<'a, S: Site, R: Wait>(
+    rt: &R,
+    blank: Blank<'a>,
+    mut seats: Vec<Seat>,
+) -> (Overtaken, Option<[Event; 2]>)
+    requires blank { blank ≡ blank_of S.image S.bound S.row_id }
+    requires seats { All (IsAt S.row_id) seats.items }
+    requires some { 0 < length seats.items }
+{
+    let mut seat = last_of::<S>(&mut seats);
+    let board: Board<'a, S> = blank.open();
+    let answers = overtaken(rt, &board, &mut seat);
+    (answers, both_events(board.close(&mut seat)))
+}
+
+/// The same, of a board of an image that is made for it.
+fn overtaken_of<R: Wait>(
+    rt: &R,
+    alloc: Global,
+    image: &Image,
+) -> Result<(Overtaken, Option<[Event; 2]>), Fail> {
+    let (blank, seats) = board_of(alloc, image, BOUND, 2, 1)?;
+    Ok(overtaken_on::<Brand, R>(rt, blank, seats))
+}
+
+#[test]
+fn a_board_that_takes_no_memory_once_it_is_made(rt: HostRuntime) -> Result<(), Fail> {
+    let alloc = rt.alloc();
+    let (configuration, tasks) = SUSPENDED;
+    let image = image_of(alloc, configuration, tasks)?;
+    let (answers, journal) = overtaken_of(&rt, alloc, &image)?;
+    // The one growth behind those of the board, for whoever refuses all from there on.
+    let _refused: Result<Vec<u8>, AllocError> = Vec::with_capacity(alloc, 1);
+    assert_eq!(rt; answers?, [done(1), done(2), Err(BoardFault::Stale)]);
+    assert_eq!(rt; journal, Some([Event::Run(2), Event::Run(2)]));
     Ok(())
 }
