@@ -4,9 +4,8 @@
     checks/boards.py [COUNT] [SEED] [--program PATH] [--stress PATH]
 
 makes COUNT systems (300), one from each seed from SEED (1) on, of one to eight processors, and has `fmp_stress` host
-each of them by 1 to 64 seats, of which up to three follow the row while others take tickets, feed events and meet; the last one
-reads the finished row.
-It must hold that:
+each of them by 1 to 64 seats, of which up to three follow the row while others take tickets, feed events and meet; the
+last one reads the finished row. It must hold that:
 
 - the journal that it writes is not longer than its room, and each event of it does something in model.py, which is
   written from the rules of the kernel and shares nothing with the programs;
@@ -155,7 +154,7 @@ def program_at(parser, path, crate):
 
 
 def main():
-    parser = argparse.ArgumentParser(description="Has threads share boards of random systems, and plays their journals.")
+    parser = argparse.ArgumentParser(description="Has threads share boards, and plays what came out again.")
     parser.add_argument("count", metavar="COUNT", nargs="?", type=int, default=300, help="systems (300)")
     parser.add_argument("seed", metavar="SEED", nargs="?", type=int, default=1, help="the first seed (1)")
     parser.add_argument("--program", metavar="PATH", type=Path, default=PROGRAM, help="the program `fmp`")

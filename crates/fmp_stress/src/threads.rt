@@ -60,8 +60,8 @@ fn now<C: Clock>(clock: &C) -> u64 {
 }
 
 impl<S: Site> Team<S> {
-    /// Makes the turns of seats that call, and says then that this team has ended. All read the row until each team that
-    /// calls has ended: what they did. A seat for whose record there is no memory has none.
+    /// Makes the turns of seats that call, and says then that this team has ended. All read the row until each team
+    /// that calls has ended: what they did. A seat for whose record there is no memory has none.
     fn work<R: Wait>(
         self,
         rt: &R,
