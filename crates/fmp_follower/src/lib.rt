@@ -1,0 +1,6 @@
+//! A reader of a board's journal: it waits for nobody, runs the events on a kernel of its own, and prints them.
+#![tactic(auto)]
+
+mod follower;
+
+pub use follower::{Follower, followed_text_is_front};
