@@ -146,7 +146,7 @@ def check(programs, folder):
         return False
     print(f"{programs.count} systems by {made['seats']} seats, {made['followers']} of them followers: {made['events']} "
           f"events, {made['ticks']} of them ticks, {made['stale']} stale outcomes, {made['full']} without room: the "
-          "simulation of each journal and the model agree, and every seat read the journal")
+          "simulation of each journal, the model and the followers agree, and every seat read the journal")
     print(f"eight processors by {long['seats']} seats: {long['events']} events, {long['stale']} stale outcomes; every "
           "seat read the journal, and each event of it does something in the simulation")
     return True
