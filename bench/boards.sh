@@ -2,8 +2,8 @@
 # Times boards that threads share, and prints a table: processors with stretches of 1,000,000 instructions, each by a
 # thread of its own that takes tickets, and a seat that follows a finished row.
 #
-#   bench/boards.sh [RUNS]     RUNS is how often each is run, 5 where it is not given; the least time of each is printed,
-#                              by the clock and without the start of the program, the image and the files
+#   bench/boards.sh [RUNS]     RUNS is how often each is run, 5 where it is not given; the least time of each is
+#                              printed, by the clock and without the start of the program, the image and the files
 #
 # It wants the programs as `rt run` leaves them in crates/fmp/out and crates/fmp_stress/out, and builds them where they
 # are not there. FMP and STRESS name other ones. It wants a machine of four processors that does nothing else.
@@ -51,7 +51,8 @@ echo '| What | Events | Real s | Events a second | Beside one processor |'
 echo '|---|---|---|---|---|'
 # 15 instructions a turn of the inner loop.
 for processors in 1 2 4; do
-    apart long$processors $processors 'var i; var s; while (1) { i = 0; while (i < 66666) { s = s ^ i * 3; i = i + 1; } put(s); }'
+    apart long$processors $processors \
+        'var i; var s; while (1) { i = 0; while (i < 66666) { s = s ^ i * 3; i = i + 1; } put(s); }'
     spent=$(least calls long$processors --seats $((processors + 1)) --turns $((events / processors)) --bound 2000000)
     one=${one:-$spent}
     told "stretches of 1000000 instructions, processors: $processors" $events "$spent" "$one"

@@ -4,15 +4,14 @@
     checks/boards.py [COUNT] [SEED] [--program PATH] [--stress PATH]
 
 makes COUNT systems (300), one from each seed from SEED (1) on, of one to eight processors, and has `fmp_stress` host
-each of them by 1 to 64 seats, of which up to three follow the row while others take tickets, feed events and meet; the last one
-reads the finished row.
-It must hold that:
+each of them by 1 to 64 seats, of which up to three follow the row while others take tickets, feed events and meet; the
+last one reads the finished row. It must hold that:
 
 - the journal that it writes is not longer than its room, and each event of it does something in model.py, which is
   written from the rules of the kernel and shares nothing with the programs;
 - `fmp sim` prints over the journal what the model prints;
-- what each follower read is the journal, and so is what each other seat read; no read missed an event that its seat had
-  seen;
+- what each follower read is the journal, and what it printed while the others called is what the simulation prints
+  before the states; what each other seat read is the journal; no read missed an event that its seat had seen;
 - as many events were journaled as the calls were told, and there are no more ticks than were asked for.
 
 At the end 64 seats share a board of eight processors that call without end, 10,000 turns each; there the simulation has
@@ -81,10 +80,6 @@ def stress(program, folder, shared):
     return Counter({name: int(number) for name, number in map(str.split, printed.splitlines())})
 
 
-def read_by_followers(folder, shared):
-    return [(folder / f"system.journal.{number}").read_text() for number in range(1, shared.followers + 1)]
-
-
 def expect_told(told, shared, journal):
     """What the program counted fits the plan and the journal."""
     expect(told["seats"] == shared.seats, f"{told['seats']} of {shared.seats} seats came back")
@@ -97,16 +92,26 @@ def expect_told(told, shared, journal):
         expect(told[name] == 0, f"{name}: {told[name]}")
 
 
+def expect_followed(path, journal, printed):
+    """What a follower read is the journal, and what it printed is all that its simulation prints before the states."""
+    expect(path.read_text() == journal, f"{path.name} is something else than the journal")
+    lines = path.with_name(f"{path.name}.trace").read_text()
+    expect(printed.startswith(lines), f"{path.name}.trace does not begin what the simulation prints")
+    states = printed[len(lines):].splitlines()
+    expect(not any(line[0].isdigit() for line in states), f"{path.name}.trace ends before '{states[:1]}'")
+
+
 def host(programs, folder, shared):
     """Hosts the image of a folder: what was counted, the journal, and what its simulation prints."""
     told = stress(programs.stress, folder, shared)
     text = (folder / "system.journal").read_text()
     journal = text.splitlines()
     expect_told(told, shared, journal)
-    for number, followed in enumerate(read_by_followers(folder, shared), 1):
-        expect(followed == text, f"follower {number} read something else than the journal")
     told += Counter({"followers": shared.followers, "ticks": journal.count("tick")})
-    return told, journal, run(programs.program, folder, f"sim system.img system.journal --bound {BOUND}")
+    printed = run(programs.program, folder, f"sim system.img system.journal --bound {BOUND}")
+    for number in range(1, shared.followers + 1):
+        expect_followed(folder / f"system.journal.{number}", text, printed)
+    return told, journal, printed
 
 
 def host_one(programs, folder, generator, seed):
@@ -141,7 +146,7 @@ def check(programs, folder):
         return False
     print(f"{programs.count} systems by {made['seats']} seats, {made['followers']} of them followers: {made['events']} "
           f"events, {made['ticks']} of them ticks, {made['stale']} stale outcomes, {made['full']} without room: the "
-          "simulation of each journal and the model agree, and every seat read the journal")
+          "simulation of each journal, the model and the followers agree, and every seat read the journal")
     print(f"eight processors by {long['seats']} seats: {long['events']} events, {long['stale']} stale outcomes; every "
           "seat read the journal, and each event of it does something in the simulation")
     return True
@@ -155,7 +160,7 @@ def program_at(parser, path, crate):
 
 
 def main():
-    parser = argparse.ArgumentParser(description="Has threads share boards of random systems, and plays their journals.")
+    parser = argparse.ArgumentParser(description="Has threads share boards, and plays what came out again.")
     parser.add_argument("count", metavar="COUNT", nargs="?", type=int, default=300, help="systems (300)")
     parser.add_argument("seed", metavar="SEED", nargs="?", type=int, default=1, help="the first seed (1)")
     parser.add_argument("--program", metavar="PATH", type=Path, default=PROGRAM, help="the program `fmp`")

@@ -6,7 +6,8 @@ use std::alloc::{AllocError, Global};
 /// What the program is.
 const ABOUT: &str =
     "Hosts an image by threads that share its board: they take tickets, feed events, meet and follow.
-The journal is written to JOURNAL, as a steps text, and what follower F read to JOURNAL.F.
+The journal is written to JOURNAL, as a steps text, what follower F read to JOURNAL.F, and the lines that it printed
+to JOURNAL.F.trace.
 It prints what the calls were answered, and how many seats read anything but the journal";
 
 /// The largest bound, 2^48.

@@ -4,8 +4,9 @@ ghost use Rattle.fmp_hostrun.specs.Boards.{IsAt};
 ghost use Rattle.fmp_hostrun.specs.Outcomes.{IsDrawn};
 
 use fmp_base::Event;
+use fmp_follower::Follower;
 use fmp_hostrun::{Board, BoardFault, Closed, Outcome, Receipt, Seat, Site};
-use std::alloc::Global;
+use std::alloc::{AllocError, Global};
 use std::marker::PhantomData;
 use std::sync::Wait;
 use std::sync::atomic::{AtomicU64, Ordering};
@@ -77,6 +78,8 @@ impl Answers {
 pub struct Record {
     /// The events that it followed.
     pub followed: Vec<Event>,
+    /// What a follower printed of them, where it read by one.
+    pub printed: Vec<u8>,
     /// What its calls were answered.
     pub answers: Answers,
 }
@@ -131,6 +134,62 @@ fn submitted_after<S: Site, R: Wait>(
 {
     let fed = board.feed(rt, seat, event);
     (fed, board.submit(rt, seat, outcome))
+}
+
+/// Pulls through a follower until no team is calling and the row has no more events.
+fn pull_all<S: Site>(
+    follower: &mut Follower<'_, '_, S>,
+    calling: &AtomicU64,
+    followed: &mut Vec<Event>,
+    printed: &mut Vec<u8>,
+) -> Result<(), AllocError> {
+    for _ in 0..u64::MAX {
+        let is_last = calling.load(Ordering::SeqCst) == 0;
+        match follower.pull(printed)? {
+            Some(event) => followed.push(event)?,
+            None if is_last => break,
+            None => thread::yield_now(),
+        }
+    }
+    Ok(())
+}
+
+/// What a follower does until no team is calling and the row has no more events.
+fn pulled<S: Site>(
+    alloc: Global,
+    follower: &mut Follower<'_, '_, S>,
+    calling: &AtomicU64,
+    mut printed: Vec<u8>,
+) -> Record {
+    let mut followed = Vec::new(alloc);
+    let mut answers = Answers::none();
+    if pull_all(follower, calling, &mut followed, &mut printed).is_err() {
+        answers.lost = 1;
+    }
+    Record {
+        followed,
+        printed,
+        answers,
+    }
+}
+
+/// What a follower does from a seat that read no event yet.
+fn printed<S: Site>(
+    alloc: Global,
+    board: &Board<'_, S>,
+    mut seat: Seat,
+    calling: &AtomicU64,
+) -> Result<Record, AllocError>
+    requires { IsAt S.row_id seat }
+{
+    if seat.place() != 0 {
+        return Err(AllocError);
+    }
+    let mut text = Vec::new(alloc);
+    match Follower::new(alloc, board, &mut seat, &mut text) {
+        Ok(mut follower) => Ok(pulled(alloc, &mut follower, calling, text)),
+        Err(fault) => Err(fault),
+    }
 }
 
 impl<S: Site> Place<S> {
@@ -257,6 +316,13 @@ impl<S: Site> Place<S> {
         self.record()
     }
 
+    /// Reads the row by a follower, which prints it, until no team is calling and it has no more events: what it did.
+    /// The seat made no call yet.
+    pub fn print(self, board: &Board<'_, S>, calling: &AtomicU64) -> Result<Record, AllocError> {
+        let alloc = *self.followed.allocator();
+        printed(alloc, board, self.seat, calling)
+    }
+
     /// What it did.
     pub fn record(self) -> Record {
         let Place {
@@ -266,6 +332,11 @@ impl<S: Site> Place<S> {
             answers,
             board: _,
         } = self;
-        Record { followed, answers }
+        let printed = Vec::new(*followed.allocator());
+        Record {
+            followed,
+            printed,
+            answers,
+        }
     }
 }

@@ -60,6 +60,14 @@ fn read_image<O: Outside>(alloc: Global, outside: &O, name: &str) -> Result<Imag
     }
 }
 
+/// Writes a file.
+fn write<O: Outside>(alloc: Global, outside: &mut O, name: &str, bytes: &[u8]) -> Result<(), Exit> {
+    match outside.write(name, bytes) {
+        Ok(()) => Ok(()),
+        Err(WriteFault::Device) => Err(failed(alloc, name)),
+    }
+}
+
 /// Writes events to a file as a steps text.
 fn write_steps<O: Outside>(
     alloc: Global,
@@ -71,21 +79,18 @@ fn write_steps<O: Outside>(
     if print_steps(events, &mut text).is_err() {
         return Err(Exit::Memory(AllocError));
     }
-    match outside.write(name, &text) {
-        Ok(()) => Ok(()),
-        Err(WriteFault::Device) => Err(failed(alloc, name)),
-    }
+    write(alloc, outside, name, &text)
 }
 
-/// The name of the file of the follower of this number.
-fn name_of(alloc: Global, journal: &str, number: usize) -> Result<String, Exit> {
-    match format!(in alloc; "{journal}.{number}") {
+/// The name of a file of the follower of this number.
+fn name_of(alloc: Global, journal: &str, number: usize, ending: &str) -> Result<String, Exit> {
+    match format!(in alloc; "{journal}.{number}{ending}") {
         Ok(name) => Ok(name),
         Err(_) => Err(Exit::Memory(AllocError)),
     }
 }
 
-/// Writes what a follower read.
+/// Writes what a follower read, and what it printed.
 fn write_follower<O: Outside>(
     alloc: Global,
     outside: &mut O,
@@ -93,14 +98,16 @@ fn write_follower<O: Outside>(
     number: usize,
     team: &[Record],
 ) -> Result<(), Exit> {
-    let name = name_of(alloc, journal, number)?;
-    match team {
-        [record, ..] => write_steps(alloc, outside, name.as_str(), &record.followed),
-        [] => Err(Exit::Memory(AllocError)),
-    }
+    let [record, ..] = team else {
+        return Err(Exit::Memory(AllocError));
+    };
+    let name = name_of(alloc, journal, number, "")?;
+    write_steps(alloc, outside, name.as_str(), &record.followed)?;
+    let name = name_of(alloc, journal, number, ".trace")?;
+    write(alloc, outside, name.as_str(), &record.printed)
 }
 
-/// Writes what each follower read: they are the first teams.
+/// Writes what each follower read and printed: they are the first teams.
 fn write_followed<O: Outside>(
     alloc: Global,
     outside: &mut O,

@@ -60,8 +60,9 @@ fn now<C: Clock>(clock: &C) -> u64 {
 }
 
 impl<S: Site> Team<S> {
-    /// Makes the turns of seats that call, and says then that this team has ended. All read the row until each team that
-    /// calls has ended: what they did. A seat for whose record there is no memory has none.
+    /// Makes the turns of seats that call, and says then that this team has ended. All read the row until each team
+    /// that calls has ended, those that only follow by a follower: what they did. A seat for which there is no memory
+    /// has no record.
     fn work<R: Wait>(
         self,
         rt: &R,
@@ -79,7 +80,13 @@ impl<S: Site> Team<S> {
             calling.fetch_sub(1, Ordering::SeqCst);
         }
         for place in places {
-            let _ = records.push(place.follow(board, calling));
+            let record = match caller {
+                Some(_) => Ok(place.follow(board, calling)),
+                None => place.print(board, calling),
+            };
+            if let Ok(record) = record {
+                let _ = records.push(record);
+            }
         }
         records
     }
