@@ -1,5 +1,5 @@
 -- What is shown of a run.
-use Rattle.std.specs.Prelude.{ℕ, ◌≡◌, List}
+use Rattle.std.specs.Prelude.{List}
 use Rattle.fmp_base.specs.declared.events.Event.{Event}
 use Rattle.fmp_base.specs.Meanings.{Meaning}
 use Rattle.fmp_frames.specs.Frames.{FrameTable, frame_of, frames}

@@ -59,7 +59,14 @@ fn driven_text(
     let drive = driven(alloc, image, kept_events(events), seed, kept_bound(bound))?;
     let mut out = Vec::new(alloc);
     print_steps(&drive.driven.steps, &mut out)?;
-    Ok((out, Ending { stop: drive.driven.stop, next: drive.next, processors: image.system().processors }))
+    Ok((
+        out,
+        Ending {
+            stop: drive.driven.stop,
+            next: drive.next,
+            processors: image.system().processors,
+        },
+    ))
 }
 
 /// Steps that run the image of these bytes, why they stop, and what each processor would do next.

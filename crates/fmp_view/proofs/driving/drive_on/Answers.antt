@@ -1,4 +1,4 @@
-use Rattle.std.proofs.Common.{◌≡◌, ◌∙◌, ℕ, List, [], ap, refl, subst, sym}
+use Rattle.std.proofs.Common.{◌≡◌, ◌∙◌, ℕ, List, ap, refl, subst, sym}
 use Rattle.std.proofs.lemmas.Result.{err_from_is_err_and}
 use Rattle.fmp_base.specs.declared.events.Event.{Event}
 use Rattle.fmp_base.specs.Systems.{SystemTables}
@@ -16,7 +16,7 @@ driven_so : (k k' after : KernelView (List BodyTables) MachineContext) (p q most
     → k ≡ k' → p ≡ q → IsDriven code_meaning k after p most es stop → IsDriven code_meaning k' after q most es stop
 driven_so k k' after p q most es stop is same h =
     subst (λ (x : KernelView (List BodyTables) MachineContext). IsDriven code_meaning x after q most es stop) is
-        (subst (λ (r : ℕ). IsDriven code_meaning k after r most es stop) same h)
+    (subst (λ (r : ℕ). IsDriven code_meaning k after r most es stop) same h)
 
 pub driven_on-requires-clause-few : goal.driven_on-requires-clause-few
 driven_on-requires-clause-few c = rw c.requires.kernel (room 0 c.args.events refl c.requires.few)
