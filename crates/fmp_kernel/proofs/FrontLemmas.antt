@@ -25,7 +25,7 @@ use Rattle.fmp_base.specs.Systems.{SystemTables, interrupt_config}
 use Rattle.fmp_base.specs.Ticks.{is_pending, ticked, with_interrupt_pending}
 use Rattle.fmp_worlds.specs.Stamps.{place_of, place_run, run_place}
 
-abbrev Fronts : Option ℕ → List Line → Type 0
+abbrev pub Fronts : Option ℕ → List Line → Type 0
 Fronts o [] = ⊥
 Fronts o (l ∷ ls) = place_of l ≡ o
 
@@ -54,7 +54,7 @@ front-finished : {C : Type 0} (o : Option ℕ) (sys : SystemTables) (M : Meaning
 front-finished o sys M cs own g h = front-all o sys (record g { lines = own ∷ g.lines }) (places_from 0 (length g.state.processors)) h
 
 -- a reaction whose first line tells this processor, or none
-abbrev RanOn : {C : Type 0} → Option ℕ → Reaction C → Type 0
+abbrev pub RanOn : {C : Type 0} → Option ℕ → Reaction C → Type 0
 RanOn o Nothing = Unit {0}
 RanOn o (Did d) = Fronts o d.lines
 
@@ -65,7 +65,7 @@ ran-answered Waits sys M cs p who c g = front-finished (Some p) sys M cs (line.C
 ran-answered Ends sys M cs p who c g = front-finished (Some p) sys M cs (line.End p who) g refl
 ran-answered Spins sys M cs p who c g = tt
 
-ran-stretched : {C : Type 0} (sys : SystemTables) (M : Meaning C) (w : World C) (p : ℕ) (who : Caller) (x : Ending C)
+pub ran-stretched : {C : Type 0} (sys : SystemTables) (M : Meaning C) (w : World C) (p : ℕ) (who : Caller) (x : Ending C)
     → RanOn (Some p) (stretched sys M w p who x)
 ran-stretched sys M w p who (ends.Call c made) =
     let o = called sys w.state p who made in
@@ -95,7 +95,7 @@ ran-interrupted : {C : Type 0} (o : Option InterruptConfig) (sys : SystemTables)
 ran-interrupted None sys M w i = tt
 ran-interrupted (Some config) sys M w i = ran-interrupted_by (is_pending w.state.pending_interrupts i) sys M w i
 
-ran-step : {C : Type 0} (sys : SystemTables) (M : Meaning C) (n : ℕ) (w : World C) (e : Event) → RanOn (run_place e) (step sys M n w e)
+pub ran-step : {C : Type 0} (sys : SystemTables) (M : Meaning C) (n : ℕ) (w : World C) (e : Event) → RanOn (run_place e) (step sys M n w e)
 ran-step sys M n w (Run zero) = tt
 ran-step sys M n w (Run (suc p)) = ran-by sys M n w p (actor_of (processor_at w.state p))
 ran-step sys M n w Tick = front-finished None sys M w.contexts (line.Tick (w.state.clock + 1)) (ticked sys w.state) refl
@@ -107,7 +107,7 @@ abbrev pub Names : {C : Type 0} → Option ℕ → Reaction C → Type 0
 Names o Nothing = Unit {0}
 Names o (Did d) = place_run d.lines ≡ o
 
-front-names : (o : Option ℕ) (ls : List Line) → Fronts o ls → place_run ls ≡ o
+pub front-names : (o : Option ℕ) (ls : List Line) → Fronts o ls → place_run ls ≡ o
 front-names o [] h = absurd h
 front-names o (l ∷ ls) h = h
 

@@ -1,3 +1,4 @@
+mod ActorLemmas
 mod ContextLemmas
 mod CyclicLemmas
 mod FrontLemmas

@@ -8,7 +8,7 @@ use Rattle.fmp_base.specs.Settles.{dispatched, dispatch_lines, is_same_task}
 use Rattle.fmp_base.specs.States.{KernelState, Progress, idle, processor_at, with_processor}
 use Rattle.fmp_base.specs.Systems.{found}
 
-same_task : (a b : Option ℕ) → is_same_task a b ≡ true → a ≡ b
+pub same_task : (a b : Option ℕ) → is_same_task a b ≡ true → a ≡ b
 same_task None None e = refl
 same_task None (Some b) e = cc
 same_task (Some a) None e = cc

@@ -1,6 +1,6 @@
 -- Stamps that are counted once more, and what is seen of a kernel then.
 use Rattle.std.specs.Prelude.{slice_set}
-use Rattle.std.proofs.Common.{◌≡◌, ℕ, zero, suc, ◌+◌, ◌<◌, ◌≤◌, ◌^◌, List, [], ◌∷◌, Option, Some, None, Bool, true, false, ◌||◌, not, nat_lt, nat_eq, length, map, replicate, get_or, refl, sym, subst, ap, ◌∙◌, arith, get_or-set_other, get_or-set_same}
+use Rattle.std.proofs.Common.{◌≡◌, ℕ, zero, suc, ◌+◌, ◌<◌, ◌≤◌, ◌^◌, List, [], ◌∷◌, Option, Some, None, Bool, true, false, ◌||◌, ◌⊎◌, inl, inr, not, nat_lt, nat_eq, length, drop, map, replicate, get_or, refl, sym, subst, ap, ◌∙◌, arith, get_or-set_other, get_or-set_same, if◌then◌else◌}
 use Rattle.std.proofs.Math.ListN.{get_or-eq_default, length-set}
 use Rattle.std.proofs.lemmas.Bool.{eqb-true}
 use Rattle.std.proofs.lemmas.Bool.Decides.{nat_tests}
@@ -21,7 +21,7 @@ use Rattle.fmp_base.specs.Systems.{SystemTables}
 use Rattle.fmp_worlds.specs.Stamps.{counts as counts_for, is_same_actor, is_same_caller, is_same_handler, one_if, place_run, run_place, stamp, stamp_on}
 use Rattle.fmp_kernel.specs.KernelViews.{RunnerView, KernelView, SameBodies, done_of, done_or, kernel_of, view_after, view_after_all, view_of_setup}
 use Rattle.fmp_kernel.proofs.FrontLemmas.{Names, step_names}
-use Rattle.fmp_kernel.specs.Stamps.{StampRows, AreActors, AreCounted, AreStamps, Walked, noted, stamped}
+use Rattle.fmp_kernel.specs.Stamps.{StampRows, AreActors, AreCounted, AreStamps, IsLeft, IsSeen, Marked, given_by, is_given, noted, noted_by, run_noted, stamped}
 
 get-places : (f : ℕ → ℕ) (k n i : ℕ) → i < n → get_or (map f (places_from k n)) i 0 ≡ f (k + i)
 get-places f k zero i h = absurd (omega (arith, h))
@@ -55,49 +55,6 @@ stamped_is old new processors done s u lines a c =
           let inside : i < length old.counts = omega (arith, l, c.long) in
           let e : 0 + i ≡ i = omega arith in
           c.each i inside ∙ ap (by_actor i) (a.actors.each i (omega (arith, inside, a.many))) ∙ sym (get-places f 0 (length old.counts) i inside ∙ ap f e)
-
--- one more processor is counted
-pub walked_on : (old r : StampRows) (s : KernelState) (ran : Option ℕ) (p : ℕ) (actor : Option Caller) (b : Bool) → p < length r.counts
-    → p < length r.actors → b ≡ is_same_task ran (Some p) → actor ≡ actor_of (processor_at s p) → Walked old r s ran p
-    → Walked old (noted r p actor b) s ran (p + 1)
-walked_on old r s ran p actor b l m e f w = record {
-  counts_long = length-set _ _ _ ∙ w.counts_long;
-  actors_long = length-set _ _ _ ∙ w.actors_long;
-  counts_left = λ q h. get_or-set_other r.counts p q _ 0 (λ (z : q ≡ p). absurd (omega (arith, h, z))) ∙ w.counts_left q (omega (arith, h));
-  actors_left = λ q h. get_or-set_other r.actors p q actor None (λ (z : q ≡ p). absurd (omega (arith, h, z))) ∙ w.actors_left q (omega (arith, h));
-  counted = λ q h. count_at q h (nat_eq q p) refl;
-  now = λ q h. actor_now q h (nat_eq q p) refl;
-} where
-  value : Bool → Option Caller → Option Caller → ℕ
-  value ran_it before after = get_or old.counts p 0 + one_if (ran_it || not (is_same_actor before after))
-
-  here : get_or (noted r p actor b).counts p 0 ≡ value (is_same_task ran (Some p)) (get_or old.actors p None) (actor_of (processor_at s p))
-  here =
-      get_or-set_same r.counts p _ 0 l
-      ∙ ap (λ (n : ℕ). n + one_if (b || not (is_same_actor (get_or r.actors p None) actor))) (w.counts_left p (omega arith))
-      ∙ ap (λ (o : Option Caller). value b o actor) (w.actors_left p (omega arith))
-      ∙ ap (λ (c : Bool). value c (get_or old.actors p None) actor) e
-      ∙ ap (λ (o : Option Caller). value (is_same_task ran (Some p)) (get_or old.actors p None) o) f
-
-  count_at : (q : ℕ) → q < p + 1 → (t : Bool) → nat_eq q p ≡ t
-      → get_or (noted r p actor b).counts q 0
-      ≡ get_or old.counts q 0 + one_if (is_same_task ran (Some q) || not (is_same_actor (get_or old.actors q None) (actor_of (processor_at s q))))
-  count_at q h true t =
-      subst (λ (v : ℕ). get_or (noted r p actor b).counts v 0 ≡ get_or old.counts v 0 + one_if
-      (is_same_task ran (Some v) || not (is_same_actor (get_or old.actors v None) (actor_of (processor_at s v)))))
-      (sym (eqb-true q p t)) here
-  count_at q h false t =
-      get_or-set_other r.counts p q _ 0 (λ (z : q ≡ p). absurd (grind (arith, nat_tests, z, t)))
-      ∙ w.counted q (grind (arith, nat_tests, h, t))
-
-  actor_now : (q : ℕ) → q < p + 1 → (t : Bool) → nat_eq q p ≡ t
-      → get_or (noted r p actor b).actors q None ≡ actor_of (processor_at s q)
-  actor_now q h true t =
-      subst (λ (v : ℕ). get_or (noted r p actor b).actors v None ≡ actor_of (processor_at s v)) (sym (eqb-true q p t))
-      (get_or-set_same r.actors p actor None m ∙ f)
-  actor_now q h false t =
-      get_or-set_other r.actors p q actor None (λ (z : q ≡ p). absurd (grind (arith, nat_tests, z, t)))
-      ∙ w.now q (grind (arith, nat_tests, h, t))
 
 -- where a processor did not run and has the actor that it had, nothing is counted
 
@@ -146,6 +103,205 @@ noted_same r p before actor ran l e h k =
 small : (b : Bool) → one_if b ≤ 1
 small true = omega arith
 small false = omega arith
+
+own_handler : (h : Handler) → is_same_handler h h ≡ true
+own_handler (handler.Interrupt i) = grind (arith, nat_tests)
+own_handler (handler.Cyclic c) = grind (arith, nat_tests)
+
+own_actor : (a : Option Caller) → is_same_actor a a ≡ true
+own_actor None = refl
+own_actor (Some (caller.Task t)) = grind (arith, nat_tests)
+own_actor (Some (caller.Handler h)) = own_handler h
+
+-- how often an event counts for p, which had this actor, and ran or not
+abbrev add : Bool → Option Caller → Option Caller → ℕ
+add ran before after = one_if (ran || not (is_same_actor before after))
+
+none_added : (ran : Bool) (before after : Option Caller) → ran ≡ false → before ≡ after → add ran before after ≡ 0
+none_added ran before after e h =
+    ap (λ (b : Bool). add b before after) e ∙ ap (λ (o : Option Caller). add false o after) h ∙ ap (λ (b : Bool). one_if (not b)) (own_actor after)
+
+drop_all : (i : ℕ) (ls : List Line) → length ls ≤ i → drop i ls ≡ []
+drop_all zero [] h = refl
+drop_all zero (l ∷ ls) h = absurd (omega (arith, h))
+drop_all (suc i) [] h = refl
+drop_all (suc i) (l ∷ ls) h = drop_all i ls (omega (arith, h))
+
+module _ (old r : StampRows) (s : KernelState) (ran : Option ℕ) (lines : List Line) where
+  -- p is seen again, or for the first time
+  seen_now : (p : ℕ) → p < length r.counts → p < length r.actors → IsSeen old r s ran p
+      → IsSeen old (noted r p (actor_of (processor_at s p)) false) s ran p
+  seen_now p l m h =
+      let zero_here : ℕ = 0 in
+      let none : add false (get_or r.actors p None) (actor_of (processor_at s p)) ≡ zero_here =
+      none_added false (get_or r.actors p None) (actor_of (processor_at s p)) refl h.actor in
+      let same : get_or r.counts p 0 + add false (get_or r.actors p None) (actor_of (processor_at s p)) ≡ get_or r.counts p 0 = omega (arith, none) in
+      record { count = get_or-set_same r.counts p _ 0 l ∙ same ∙ h.count; actor = get_or-set_same r.actors p _ None m }
+
+  seen_first : (rest : List Line) (p : ℕ) → p < length r.counts → p < length r.actors → IsLeft old r ran lines rest p
+      → IsSeen old (noted r p (actor_of (processor_at s p)) false) s ran p
+  seen_first rest p l m h =
+      let now : Option Caller = actor_of (processor_at s p) in
+      record {
+        count =
+            get_or-set_same r.counts p _ 0 l
+            ∙ ap (λ (n : ℕ). n + add false (get_or r.actors p None) now) h.count
+            ∙ ap (λ (o : Option Caller). get_or old.counts p 0 + add false o now) h.actor
+            ∙ ap (λ (b : Bool). get_or old.counts p 0 + add b (get_or old.actors p None) now) (sym h.other);
+        actor = get_or-set_same r.actors p _ None m;
+      }
+
+  off : (p q : ℕ) (actor : Option Caller) (b : Bool) → (p ≡ q → ⊥) → get_or (noted r q actor b).counts p 0 ≡ get_or r.counts p 0
+  off p q actor b n = get_or-set_other r.counts q p _ 0 n
+
+  off_actor : (p q : ℕ) (actor : Option Caller) (b : Bool) → (p ≡ q → ⊥) → get_or (noted r q actor b).actors p None ≡ get_or r.actors p None
+  off_actor p q actor b n = get_or-set_other r.actors q p _ None n
+
+  -- a line that names q, or none, is no line that names p
+  unnamed : (l : Line) (rest : List Line) (p : ℕ) → is_same_task (given_by l) (Some p) ≡ false → is_given p (l ∷ rest) ≡ is_given p lines
+      → is_given p rest ≡ is_given p lines
+  unnamed l rest p e h = sym (ap (λ (b : Bool). b || is_given p rest) e) ∙ h
+
+  pub few_marked : (rest : List Line) → Marked old r s ran lines rest → ((p : ℕ) → get_or old.counts p 0 < 2 ^ 20) → (p : ℕ) → get_or r.counts p 0 < 2 ^ 21
+  few_marked rest w few p = by_test (nat_lt p (length old.counts)) refl where
+    by_test : (t : Bool) → nat_lt p (length old.counts) ≡ t → get_or r.counts p 0 < 2 ^ 21
+    by_test true e = by_kind (w.each p (grind (arith, nat_tests, e))) where
+      by_kind : IsSeen old r s ran p ⊎ IsLeft old r ran lines rest p → get_or r.counts p 0 < 2 ^ 21
+      by_kind (inl h) =
+          let one = small (is_same_task ran (Some p) || not (is_same_actor (get_or old.actors p None) (actor_of (processor_at s p)))) in
+          let c = h.count in
+          let f = few p in
+          omega (arith, one, c, f)
+      by_kind (inr h) = let c = h.count in let f = few p in omega (arith, c, f)
+    by_test false e =
+        let l : length r.counts ≤ p = grind (arith, nat_tests, e, w.counts_long) in
+        let h = get_or-eq_default r.counts 0 l in
+        omega (arith, h)
+
+  -- one more line
+  pub marked_on : (l : Line) (rest : List Line) → length old.actors ≡ length old.counts → Marked old r s ran lines (l ∷ rest)
+      → Marked old (noted_by s ran r (given_by l)) s ran lines rest
+  marked_on l rest long w = by_given (given_by l) refl where
+    by_given : (o : Option ℕ) → given_by l ≡ o → Marked old (noted_by s ran r o) s ran lines rest
+    by_given None e =
+        record { counts_long = w.counts_long; actors_long = w.actors_long; each = λ p k. after p (w.each p k) } where
+          after : (p : ℕ) → IsSeen old r s ran p ⊎ IsLeft old r ran lines (l ∷ rest) p → IsSeen old r s ran p ⊎ IsLeft old r ran lines rest p
+          after p (inl h) = inl h
+          after p (inr h) =
+              inr (record { count = h.count; actor = h.actor; other = h.other; named = unnamed l rest p (ap (λ (o : Option ℕ). is_same_task o (Some p)) e) h.named })
+    by_given (Some q) e = by_ran (is_same_task ran (Some q)) refl where
+      no_name : (p : ℕ) → nat_eq p q ≡ false → is_same_task (given_by l) (Some p) ≡ false
+      no_name p t =
+          let other : nat_eq q p ≡ false = grind (arith, nat_tests, t) in ap (λ (o : Option ℕ). is_same_task o (Some p)) e ∙ other
+
+      by_ran : (b : Bool) → is_same_task ran (Some q) ≡ b
+          → Marked old (if b then r else noted r q (actor_of (processor_at s q)) false) s ran lines rest
+      by_ran true f = record { counts_long = w.counts_long; actors_long = w.actors_long; each = λ p k. after p (nat_eq p q) refl (w.each p k) } where
+        after : (p : ℕ) (t : Bool) → nat_eq p q ≡ t → IsSeen old r s ran p ⊎ IsLeft old r ran lines (l ∷ rest) p
+            → IsSeen old r s ran p ⊎ IsLeft old r ran lines rest p
+        after p t g (inl h) = inl h
+        after p true g (inr h) =
+            let there : is_same_task ran (Some p) ≡ true = subst (λ (v : ℕ). is_same_task ran (Some v) ≡ true) (sym (eqb-true p q g)) f in
+            let other = h.other in absurd (cc)
+        after p false g (inr h) =
+            inr (record { count = h.count; actor = h.actor; other = h.other; named = unnamed l rest p (no_name p g) h.named })
+      by_ran false f =
+          record {
+            counts_long = length-set _ _ _ ∙ w.counts_long;
+            actors_long = length-set _ _ _ ∙ w.actors_long;
+            each = λ p k. after p (nat_eq p q) refl k (w.each p k);
+          } where
+            now : Option Caller
+            now = actor_of (processor_at s q)
+
+            here : q < length old.counts → IsSeen old r s ran q ⊎ IsLeft old r ran lines (l ∷ rest) q → IsSeen old (noted r q now false) s ran q
+            here k (inl h) = seen_now q (omega (arith, k, w.counts_long)) (omega (arith, k, w.actors_long, long)) h
+            here k (inr h) = seen_first (l ∷ rest) q (omega (arith, k, w.counts_long)) (omega (arith, k, w.actors_long, long)) h
+
+            after : (p : ℕ) (t : Bool) → nat_eq p q ≡ t → p < length old.counts → IsSeen old r s ran p ⊎ IsLeft old r ran lines (l ∷ rest) p
+                → IsSeen old (noted r q now false) s ran p ⊎ IsLeft old (noted r q now false) ran lines rest p
+            after p true g k h =
+                let same : q ≡ p = sym (eqb-true p q g) in
+                inl (subst (λ (v : ℕ). IsSeen old (noted r q now false) s ran v) same
+                (here (subst (λ (v : ℕ). v < length old.counts) (sym same) k) (subst (λ (v : ℕ). IsSeen old r s ran v ⊎ IsLeft old r ran lines (l ∷ rest) v) (sym same) h)))
+            after p false g k (inl h) =
+                let n : p ≡ q → ⊥ = λ (z : p ≡ q). absurd (grind (arith, nat_tests, z, g)) in
+                inl (record { count = off p q now false n ∙ h.count; actor = off_actor p q now false n ∙ h.actor })
+            after p false g k (inr h) =
+                let n : p ≡ q → ⊥ = λ (z : p ≡ q). absurd (grind (arith, nat_tests, z, g)) in
+                inr (record {
+                  count = off p q now false n ∙ h.count;
+                  actor = off_actor p q now false n ∙ h.actor;
+                  other = h.other;
+                  named = unnamed l rest p (no_name p g) h.named;
+                })
+
+  pub none_left : (i : ℕ) → length lines ≤ i → Marked old r s ran lines (drop i lines) → Marked old r s ran lines []
+  none_left i h w = subst (λ (xs : List Line). Marked old r s ran lines xs) (drop_all i lines h) w
+
+  -- no line is left
+  all_seen : Marked old r s ran lines []
+      → ((p : ℕ) → p < length old.counts → is_same_task ran (Some p) ≡ false → is_given p lines ≡ false
+      → get_or old.actors p None ≡ actor_of (processor_at s p))
+      → (p : ℕ) → p < length old.counts → IsSeen old r s ran p
+  all_seen w left p k = by_kind (w.each p k) where
+    by_kind : IsSeen old r s ran p ⊎ IsLeft old r ran lines [] p → IsSeen old r s ran p
+    by_kind (inl h) = h
+    by_kind (inr h) =
+        let zero_here : ℕ = 0 in
+        let stands = left p k h.other (sym h.named) in
+        let none : add (is_same_task ran (Some p)) (get_or old.actors p None) (actor_of (processor_at s p)) ≡ zero_here =
+        none_added (is_same_task ran (Some p)) (get_or old.actors p None) (actor_of (processor_at s p)) h.other stands in
+        let c = h.count in
+        record { count = omega (arith, c, none); actor = h.actor ∙ stands }
+
+  pub counted_all : Marked old r s ran lines []
+      → ((p : ℕ) → p < length old.counts → is_same_task ran (Some p) ≡ false → is_given p lines ≡ false
+      → get_or old.actors p None ≡ actor_of (processor_at s p))
+      → AreCounted old r s ran
+  counted_all w left = record { long = w.counts_long; each = λ p k. let h = all_seen w left p k in h.count }
+
+  pub actors_all : (n : ℕ) → length old.counts ≡ n → length old.actors ≡ n → Marked old r s ran lines []
+      → ((p : ℕ) → p < length old.counts → is_same_task ran (Some p) ≡ false → is_given p lines ≡ false
+      → get_or old.actors p None ≡ actor_of (processor_at s p))
+      → AreActors r.actors n s
+  actors_all n e f w left =
+      record { long = w.actors_long ∙ f; each = λ p k. let h = all_seen w left p (omega (arith, k, e)) in h.actor }
+
+-- before the first line
+pub marked_run : (old : StampRows) (s : KernelState) (ran : Option ℕ) (lines : List Line) → length old.actors ≡ length old.counts
+    → Marked old (run_noted s old ran) s ran lines lines
+marked_run old s None lines long =
+    record { counts_long = refl; actors_long = refl; each = λ p k. inr (record { count = refl; actor = refl; other = refl; named = refl }) }
+marked_run old s (Some q) lines long =
+    record { counts_long = length-set _ _ _; actors_long = length-set _ _ _; each = λ p k. by_test p (nat_eq p q) refl k } where
+      now : Option Caller
+      now = actor_of (processor_at s q)
+
+      there : q < length old.counts → IsSeen old (noted old q now true) s (Some q) q
+      there k =
+          let own : nat_eq q q ≡ true = grind (arith, nat_tests) in
+          record {
+            count =
+                get_or-set_same old.counts q _ 0 k
+                ∙ ap (λ (b : Bool). get_or old.counts q 0 + one_if (b || not (is_same_actor (get_or old.actors q None) now))) (sym own);
+            actor = get_or-set_same old.actors q now None (omega (arith, k, long));
+          }
+
+      by_test : (p : ℕ) (t : Bool) → nat_eq p q ≡ t → p < length old.counts
+          → IsSeen old (noted old q now true) s (Some q) p ⊎ IsLeft old (noted old q now true) (Some q) lines lines p
+      by_test p true g k =
+          let same : q ≡ p = sym (eqb-true p q g) in
+          inl (subst (λ (v : ℕ). IsSeen old (noted old q now true) s (Some q) v) same (there (subst (λ (v : ℕ). v < length old.counts) (sym same) k)))
+      by_test p false g k =
+          let n : p ≡ q → ⊥ = λ (z : p ≡ q). absurd (grind (arith, nat_tests, z, g)) in
+          let other : nat_eq q p ≡ false = grind (arith, nat_tests, g) in
+          inr (record {
+            count = get_or-set_other old.counts q p _ 0 n;
+            actor = get_or-set_other old.actors q p _ None n;
+            other = other;
+            named = refl;
+          })
 
 -- stamps that are all 0, beside the actors of a state
 pub stamps_begin : (r : StampRows) (processors : ℕ) (s : KernelState) → r.counts ≡ replicate processors 0 → AreActors r.actors processors s

@@ -1,6 +1,7 @@
 -- The stamps of the processors beside the actors that they were counted for.
-use Rattle.std.specs.Prelude.{◌≡◌, ℕ, ◌+◌, ◌<◌, ◌≤◌, List, Option, Some, None, Bool, ◌||◌, not, get_or, length, map, slice_set}
+use Rattle.std.specs.Prelude.{◌≡◌, ℕ, ◌+◌, ◌<◌, ◌≤◌, List, [], ◌∷◌, Option, Some, None, Bool, true, false, ◌||◌, ◌⊎◌, not, get_or, length, map, slice_set, if◌then◌else◌}
 use Rattle.fmp_base.specs.declared.events.Line.{Line}
+use Rattle.fmp_base.specs.declared.events.Line.TheVariants as line
 use Rattle.fmp_base.specs.declared.states.Caller.{Caller}
 use Rattle.fmp_base.specs.Settles.{is_same_task}
 use Rattle.fmp_base.specs.States.{KernelState, processor_at, places_from}
@@ -21,6 +22,27 @@ noted r p actor ran =
           (get_or r.counts p 0 + one_if (ran || not (is_same_actor (get_or r.actors p None) actor)));
     }
 
+-- the rows after the processor that an event ran, if any, was seen
+abbrev pub run_noted : KernelState → StampRows → Option ℕ → StampRows
+run_noted s r None = r
+run_noted s r (Some p) = noted r p (actor_of (processor_at s p)) true
+
+-- the rows after this processor, if any, was seen, unless the event ran it
+abbrev pub noted_by : KernelState → Option ℕ → StampRows → Option ℕ → StampRows
+noted_by s ran r None = r
+noted_by s ran r (Some p) = if is_same_task ran (Some p) then r else noted r p (actor_of (processor_at s p)) false
+
+-- the processor that a line of settling gives another actor, if any
+abbrev pub given_by : Line → Option ℕ
+given_by (line.Runs p t) = Some p
+given_by (line.Begins p h) = Some p
+given_by l = None
+
+-- whether one of these lines gives p another actor
+abbrev pub is_given : ℕ → List Line → Bool
+is_given p [] = false
+is_given p (l ∷ ls) = is_same_task (given_by l) (Some p) || is_given p ls
+
 -- the actors of so many processors in a state
 pub record AreActors (actors : List (Option Caller)) (processors : ℕ) (s : KernelState) : Type 0 where
   pub long : length actors ≡ processors
@@ -35,18 +57,26 @@ pub record AreCounted (old new : StampRows) (s : KernelState) (ran : Option ℕ)
       ≡ get_or old.counts p 0 + one_if (is_same_task ran (Some p)
       || not (is_same_actor (get_or old.actors p None) (actor_of (processor_at s p))))
 
--- the rows from which the processors below p were counted
-pub record Walked (old r : StampRows) (s : KernelState) (ran : Option ℕ) (p : ℕ) : Type 0 where
+-- p was counted
+pub record IsSeen (old r : StampRows) (s : KernelState) (ran : Option ℕ) (p : ℕ) : Type 0 where
+  pub count :
+      get_or r.counts p 0
+      ≡ get_or old.counts p 0 + one_if (is_same_task ran (Some p)
+      || not (is_same_actor (get_or old.actors p None) (actor_of (processor_at s p))))
+  pub actor : get_or r.actors p None ≡ actor_of (processor_at s p)
+
+-- the event did not run p, whose row is as it was, and of the lines only those that are left may name it
+pub record IsLeft (old r : StampRows) (ran : Option ℕ) (lines rest : List Line) (p : ℕ) : Type 0 where
+  pub count : get_or r.counts p 0 ≡ get_or old.counts p 0
+  pub actor : get_or r.actors p None ≡ get_or old.actors p None
+  pub other : is_same_task ran (Some p) ≡ false
+  pub named : is_given p rest ≡ is_given p lines
+
+-- the rows from which the processors were counted that the event ran, or that a line before those that are left names
+pub record Marked (old r : StampRows) (s : KernelState) (ran : Option ℕ) (lines rest : List Line) : Type 0 where
   pub counts_long : length r.counts ≡ length old.counts
   pub actors_long : length r.actors ≡ length old.actors
-  pub counts_left : (q : ℕ) → p ≤ q → get_or r.counts q 0 ≡ get_or old.counts q 0
-  pub actors_left : (q : ℕ) → p ≤ q → get_or r.actors q None ≡ get_or old.actors q None
-  pub counted :
-      (q : ℕ) → q < p →
-      get_or r.counts q 0
-      ≡ get_or old.counts q 0 + one_if (is_same_task ran (Some q)
-      || not (is_same_actor (get_or old.actors q None) (actor_of (processor_at s q))))
-  pub now : (q : ℕ) → q < p → get_or r.actors q None ≡ actor_of (processor_at s q)
+  pub each : (p : ℕ) → p < length old.counts → IsSeen old r s ran p ⊎ IsLeft old r ran lines rest p
 
 -- the stamps after a done event of these lines that led from s to u
 abbrev pub stamped : List Line → KernelState → KernelState → List ℕ → List ℕ

@@ -1,14 +1,15 @@
 //! What carries events out: the bodies with their contexts over the tables, and room for the lines of an event.
-ghost use Rattle.std.specs.Prelude.{◌≡◌, ◌+◌, ◌≤◌, ◌<◌, ◌^◌, ◌++◌, ◌∷◌, ℕ, [], get_or, length, replicate, vec_len, vec_capacity, IfOk, IfSome};
+ghost use Rattle.std.specs.Prelude.{◌≡◌, ◌+◌, ◌≤◌, ◌<◌, ◌^◌, ◌++◌, ◌∷◌, ℕ, [], get_or, length, replicate, vec_len, vec_capacity, false, IfOk, IfSome, Some, None};
 ghost use Rattle.fmp_base.specs.Runs.{task_state, state_word as word_of_state};
 ghost use Rattle.fmp_base.specs.Ranges.{IsInRange};
 ghost use Rattle.fmp_base.specs.Setups.{created_state, no_contexts, setup};
 ghost use Rattle.fmp_base.specs.States.{processor_at};
-ghost use Rattle.fmp_base.specs.Steps.{finished};
+ghost use Rattle.fmp_base.specs.Settles.{is_same_task as is_same_place};
+ghost use Rattle.fmp_base.specs.Steps.{actor_of, finished};
 ghost use Rattle.fmp_base.specs.Systems.{tables_of};
 ghost use Rattle.fmp_kernel.specs.Contexts.{Entered};
 ghost use Rattle.fmp_kernel.specs.KernelViews.{SameBodies, done_of, progress_of, with_stamp};
-ghost use Rattle.fmp_kernel.specs.Stamps.{AreActors, AreCounted};
+ghost use Rattle.fmp_kernel.specs.Stamps.{AreActors, AreCounted, is_given};
 ghost use Rattle.fmp_worlds.specs.Stamps.{actor_at, place_run as place_of_lines};
 
 use crate::actors::{Actor, actor_on};
@@ -187,10 +188,14 @@ impl<B: Body> Runner<B> {
         requires many { length stamps.old.counts ≡ self.now.system.processors }
         requires rows { length stamps.old.actors ≡ self.now.system.processors }
         requires few { (p : ℕ) → get_or stamps.old.counts p 0 < 2 ^ 20 }
+        requires left { (p : ℕ) → p < length stamps.old.counts
+            → is_same_place (place_of_lines self.now.lines) (Some p) ≡ false → is_given p self.now.lines ≡ false
+            → get_or stamps.old.actors p None ≡ actor_of (processor_at self.now.world.state p) }
         ensures counts { AreCounted stamps.old stamps.new self.now.world.state (place_of_lines self.now.lines) }
         ensures actors { AreActors stamps.new.actors self.now.system.processors self.now.world.state }
     {
-        stamps.count(&self.tables, place_run(self.lines.as_slice()));
+        let lines = self.lines.as_slice();
+        stamps.count(&self.tables, lines, place_run(lines));
     }
 
     /// Ends an event or setup, of which the first lines are there: those of what it caused follow, all processors

@@ -1,9 +1,9 @@
 //! The stamps of the processors: how many done events ran a processor or left it another actor.
-ghost use Rattle.std.specs.Prelude.{◌≡◌, ◌+◌, ◌<◌, ◌^◌, ◌||◌, ℕ, Some, None, length, get_or, not, replicate, slice_set, IfOk};
+ghost use Rattle.std.specs.Prelude.{◌≡◌, ◌+◌, ◌<◌, ◌^◌, ◌||◌, ℕ, Some, None, false, length, get_or, not, replicate, slice_set, IfOk};
 ghost use Rattle.fmp_base.specs.Settles.{is_same_task as is_same_place};
 ghost use Rattle.fmp_base.specs.States.{processor_at};
 ghost use Rattle.fmp_base.specs.Steps.{actor_of};
-ghost use Rattle.fmp_kernel.specs.Stamps.{AreActors, AreCounted, noted};
+ghost use Rattle.fmp_kernel.specs.Stamps.{AreActors, AreCounted, given_by as given_by_line, is_given, noted, noted_by, run_noted};
 ghost use Rattle.fmp_worlds.specs.Stamps.{place_of as place_of_line, place_run as place_of_lines};
 
 use crate::actors::{acting_on, actor_on, acts_on};
@@ -53,6 +53,17 @@ pub fn place_run(lines: &[Line]) -> Option<u8>
     }
 }
 
+/// The processor that a line of settling gives another actor, if any.
+fn given_by(line: &Line) -> Option<u8>
+    ensures { result ≡ given_by_line line.now }
+{
+    match line {
+        Line::Runs { processor, .. } => Some(*processor),
+        Line::Begins { processor, .. } => Some(*processor),
+        _ => None,
+    }
+}
+
 /// The actors of all processors.
 fn actors(alloc: Global, tables: &Tables) -> Result<Vec<Option<Caller>>, AllocError>
     ensures { IfOk result (λ v. AreActors v.items tables.now.system.processors tables.now.state) }
@@ -90,7 +101,7 @@ impl Stamps {
     fn note(&mut self, tables: &Tables, p: u8, ran: bool)
         requires there { p < length self.old.counts }
         requires processor { p < tables.now.system.processors }
-        requires few { get_or self.old.counts p 0 < 2 ^ 20 }
+        requires few { get_or self.old.counts p 0 < 2 ^ 21 }
         ensures { self.new ≡ noted self.old p (actor_of (processor_at tables.now.state p)) ran }
     {
         let cpu = tables.processor(p);
@@ -100,18 +111,58 @@ impl Stamps {
         }
     }
 
-    /// Counts a done event for the processor that it ran, if any, and for each that has another actor now.
+    /// The same of a processor that may not be there, and is then not counted.
+    fn note_any(&mut self, tables: &Tables, p: u8, ran: bool)
+        requires many { length self.old.counts ≡ tables.now.system.processors }
+        requires few { get_or self.old.counts p 0 < 2 ^ 21 }
+        ensures { self.new ≡ noted self.old p (actor_of (processor_at tables.now.state p)) ran }
+    {
+        if (p as usize) < self.counts.len() {
+            self.note(tables, p, ran);
+        }
+    }
+
+    /// The processor that a line of settling gives another actor, if any, is seen to have it, unless the event ran it.
     #[inline(always)]
-    pub fn count(&mut self, tables: &Tables, ran: Option<u8>)
+    fn note_line(&mut self, tables: &Tables, line: &Line, ran: Option<u8>)
+        requires many { length self.old.counts ≡ tables.now.system.processors }
+        requires few { (p : ℕ) → get_or self.old.counts p 0 < 2 ^ 21 }
+        ensures { self.new ≡ noted_by tables.now.state ran self.old (given_by_line line.now) }
+    {
+        if let Some(p) = given_by(line) {
+            if !is_same_task(ran, Some(p)) {
+                self.note_any(tables, p, false);
+            }
+        }
+    }
+
+    /// The processor that a done event ran, if any, is counted.
+    fn note_run(&mut self, tables: &Tables, ran: Option<u8>)
+        requires many { length self.old.counts ≡ tables.now.system.processors }
+        requires few { (p : ℕ) → get_or self.old.counts p 0 < 2 ^ 20 }
+        ensures { self.new ≡ run_noted tables.now.state self.old ran }
+    {
+        if let Some(p) = ran {
+            self.note_any(tables, p, true);
+        }
+    }
+
+    /// Counts a done event of these lines for the processor that it ran, if any, and for each that has another actor
+    /// now: settling gave it one, and told so in a line.
+    #[inline(always)]
+    pub fn count(&mut self, tables: &Tables, lines: &[Line], ran: Option<u8>)
         requires many { length self.old.counts ≡ tables.now.system.processors }
         requires rows { length self.old.actors ≡ tables.now.system.processors }
         requires few { (p : ℕ) → get_or self.old.counts p 0 < 2 ^ 20 }
+        requires left { (p : ℕ) → p < length self.old.counts
+            → is_same_place ran (Some p) ≡ false → is_given p lines.now ≡ false
+            → get_or self.old.actors p None ≡ actor_of (processor_at tables.now.state p) }
         ensures counts { AreCounted self.old self.new tables.now.state ran }
         ensures actors { AreActors self.new.actors tables.now.system.processors tables.now.state }
     {
-        let count = tables.processor_count() as u8;
-        for p in 0..count {
-            self.note(tables, p, is_same_task(ran, Some(p)));
+        self.note_run(tables, ran);
+        for line in lines {
+            self.note_line(tables, line, ran);
         }
     }
 }

@@ -16,7 +16,7 @@ use Rattle.fmp_base.specs.Systems.{SystemTables}
 use Rattle.fmp_base.specs.TaskCalls.{self_or, by_number, is_dormant, moved_by, assigned_by, allowed_processor, ter_tsk, mig_tsk, migrated, terminated}
 use Rattle.fmp_worlds.proofs.Assigned.{Runs, Fits, Holds, IsRunNowhere, fits-task}
 use Rattle.fmp_worlds.proofs.Bools.{or-false, not-false}
-use Rattle.fmp_worlds.proofs.Changes.{SameHandlers, handlers-moved, holds-ended, holds-ended_itself, handlers-ended_by, handlers-ended_itself, lines-ended_by, lines-ended_itself}
+use Rattle.fmp_worlds.proofs.Changes.{SameActors, actors-moved, holds-ended, holds-ended_itself, actors-ended_by, actors-ended_itself, lines-ended_by, lines-ended_itself}
 use Rattle.fmp_worlds.proofs.Lines.{IsOwn}
 use Rattle.fmp_worlds.proofs.Outcomes.{Keeps, keeps-succeeds, keeps-tested, keeps-refused_if, keeps-on_task}
 use Rattle.fmp_worlds.proofs.Settling.{CanSettle, can_settle, Dispatches}
@@ -63,7 +63,7 @@ keeps-ter_tsk sys s p me t = keeps-on_task sys s (by_number s t) _ (λ u o. by_b
       keeps-refused_if sys s (nat_eq u me) er.Iluse _
       (λ e. keeps-refused_if sys s (is_dormant x.phase || not (nat_eq x.processor p)) er.Obj _
       (λ f. keeps-succeeds sys s _ (λ k a. holds-ended sys (unchanged s) u x (unrun u e (on_processor x p f) k a) a)
-      (handlers-ended_by x.activations sys (unchanged s) u _)
+      (actors-ended_by x.activations sys (unchanged s) u _)
       (λ k a. lines-ended_by x.activations sys s u _ (IsOwn s p) (λ q r h. absurd (unrun u e (on_processor x p f) k a r h)))))
 
 pub keeps-ext_tsk : (sys : SystemTables) (s : KernelState) (p me : ℕ)
@@ -72,7 +72,7 @@ keeps-ext_tsk sys s p me =
     record {
       settles = λ k a. can_settle sys _ (holds-ended_itself sys s p me (task_at s.tasks me) k.runs a);
       spins = λ h. cc;
-      handlers = handlers-ended_itself sys s p me (task_at s.tasks me);
+      actors = actors-ended_itself sys s p me (task_at s.tasks me);
       lines = λ k a. lines-ended_itself sys s p me (task_at s.tasks me) k.runs a;
     }
 
@@ -125,10 +125,10 @@ assigned-settles : (b : Bool) (sys : SystemTables) (s : KernelState) (u c : ℕ)
 assigned-settles true sys s u c a h = can_settle sys s a
 assigned-settles false sys s u c a h = h
 
-handlers-assigned : (b : Bool) (s : KernelState) (u : ℕ) (x : TaskBlock) (c : ℕ)
-    → SameHandlers s (assigned_by b s u x c)
-handlers-assigned true s u x c q = refl
-handlers-assigned false s u x c q = handlers-moved (is_ready x) s u (record x { processor = c }) q
+actors-assigned : (b : Bool) (s : KernelState) (u : ℕ) (x : TaskBlock) (c : ℕ)
+    → SameActors s (assigned_by b s u x c)
+actors-assigned true s u x c q = refl
+actors-assigned false s u x c q = actors-moved (is_ready x) s u (record x { processor = c }) q
 
 pub keeps-mig_tsk : (sys : SystemTables) (s : KernelState) (p me : ℕ) (t c : ℤ) → MayLeave s p me t
     → Keeps (Acts sys s p me) p sys s (mig_tsk sys s p me t c)
@@ -140,6 +140,6 @@ keeps-mig_tsk sys s p me t c may =
           keeps-refused_if sys s (is_dormant x.phase || not (nat_eq x.processor p)) er.Obj _ (λ e. record {
             settles = λ k a. assigned-settles (nat_eq x.processor q) sys s u q a (moved-settles sys s p me u q t may o (on_processor x p e) k a (is_ready x));
             spins = λ h. cc;
-            handlers = handlers-assigned (nat_eq x.processor q) s u x q;
+            actors = λ v n. actors-assigned (nat_eq x.processor q) s u x q v;
             lines = λ k a. tt;
           })

@@ -4,6 +4,7 @@ use Rattle.std.specs.List.{AllByRecursion}
 use Rattle.fmp_base.specs.declared.calls.Reply.{Reply}
 use Rattle.fmp_base.specs.declared.events.Line.{Line}
 use Rattle.fmp_base.specs.declared.events.Line.TheVariants as line
+use Rattle.fmp_base.specs.declared.states.Handler.{Handler}
 use Rattle.fmp_base.specs.declared.states.Phase.{Phase}
 use Rattle.fmp_base.specs.declared.states.Phase.TheVariants.{Dormant, Ready, Waiting}
 use Rattle.fmp_base.specs.declared.states.Processor.{Processor}
@@ -13,7 +14,7 @@ use Rattle.fmp_base.specs.Changes.{started, started_block, released, released_st
 use Rattle.fmp_base.specs.States.{KernelState, Progress, unchanged, task_at, processor_at, with_processor, idle}
 use Rattle.fmp_base.specs.Systems.{SystemTables}
 use Rattle.fmp_base.specs.TaskCalls.{is_dormant, moved_by}
-use Rattle.fmp_worlds.proofs.Assigned.{set_at, set_over, run-once, Runs, Assigned, Holds, IsRunNowhere, assigned-processor, assigned-alike, assigned-unrun}
+use Rattle.fmp_worlds.proofs.Assigned.{set_at, set_over, set_other, run-once, Runs, Assigned, Holds, IsRunNowhere, assigned-processor, assigned-alike, assigned-unrun}
 use Rattle.fmp_worlds.proofs.Lines.{IsOwn}
 
 -- a processor changes, and not what it runs
@@ -79,43 +80,52 @@ pub holds-waits : (s : KernelState) (t : ℕ) (c : WaitCause) (deadline : Option
     → Assigned (slice_set s.tasks t (record (task_at s.tasks t) { phase = Waiting c; deadline = deadline })) s.processors
 holds-waits s t c deadline a = assigned-alike s.tasks s.processors t _ a refl (λ h. refl)
 
--- the handlers that run on the processors stay
-abbrev pub SameHandlers : KernelState → KernelState → Type 0
-SameHandlers s u = (q : ℕ) → (processor_at u q).handler ≡ (processor_at s q).handler
+-- who may act on a processor: the handler that runs there, and the task that it runs
+abbrev pub acting : Processor → Option Handler × Option ℕ
+acting cpu = (cpu.handler, cpu.run)
 
-pub handlers-processor : (s : KernelState) (p : ℕ) (cpu : Processor) → cpu.handler ≡ (processor_at s p).handler
-    → SameHandlers s (with_processor s p cpu)
-handlers-processor s p cpu e q =
-    set_at idle (λ (c : Processor). c.handler ≡ (processor_at s q).handler) s.processors p cpu q
-    (λ same. e ∙ ap (λ (v : ℕ). (processor_at s v).handler) same) refl
+-- who acts on the processors stays
+abbrev pub SameActors : KernelState → KernelState → Type 0
+SameActors s u = (q : ℕ) → acting (processor_at u q) ≡ acting (processor_at s q)
 
-pub handlers-moved : (b : Bool) (s : KernelState) (t : ℕ) (y : TaskBlock) → SameHandlers s (moved_by b s t y)
-handlers-moved true s t y q = refl
-handlers-moved false s t y q = refl
+-- who acts on the processors other than p stays
+abbrev pub SameActorsBeside : ℕ → KernelState → KernelState → Type 0
+SameActorsBeside p s u = (q : ℕ) → (p ≡ q → ⊥) → acting (processor_at u q) ≡ acting (processor_at s q)
 
-handlers-released_state : (b : Bool) (s : KernelState) (t : ℕ) (y : TaskBlock) → SameHandlers s (released_state b s t y)
-handlers-released_state true s t y q = refl
-handlers-released_state false s t y q = refl
+pub actors-processor : (s : KernelState) (p : ℕ) (cpu : Processor) → acting cpu ≡ acting (processor_at s p)
+    → SameActors s (with_processor s p cpu)
+actors-processor s p cpu e q =
+    set_at idle (λ (c : Processor). acting c ≡ acting (processor_at s q)) s.processors p cpu q
+    (λ same. e ∙ ap (λ (v : ℕ). acting (processor_at s v)) same) refl
 
-pub handlers-released : (g : Progress) (t : ℕ) (reply : Reply)
-    → SameHandlers g.state (released g t (task_at g.state.tasks t) reply).state
-handlers-released g t reply = handlers-released_state (task_at g.state.tasks t).suspended g.state t _
+pub actors-moved : (b : Bool) (s : KernelState) (t : ℕ) (y : TaskBlock) → SameActors s (moved_by b s t y)
+actors-moved true s t y q = refl
+actors-moved false s t y q = refl
 
-pub handlers-ended_by : (n : ℕ) (sys : SystemTables) (g : Progress) (t : ℕ) (y : TaskBlock)
-    → SameHandlers g.state (ended_by n sys g t y).state
-handlers-ended_by zero sys g t y q = refl
-handlers-ended_by (suc n) sys g t y q = refl
+actors-released_state : (b : Bool) (s : KernelState) (t : ℕ) (y : TaskBlock) → SameActors s (released_state b s t y)
+actors-released_state true s t y q = refl
+actors-released_state false s t y q = refl
 
-pub handlers-ended_itself : (sys : SystemTables) (s : KernelState) (p t : ℕ) (x : TaskBlock)
-    → SameHandlers s (ended_itself sys s p t x).state
-handlers-ended_itself sys s p t x q =
-    handlers-ended_by x.activations sys (unchanged (with_nothing_run s p)) t _ q ∙ handlers-processor s p _ refl q
+pub actors-released : (g : Progress) (t : ℕ) (reply : Reply)
+    → SameActors g.state (released g t (task_at g.state.tasks t) reply).state
+actors-released g t reply = actors-released_state (task_at g.state.tasks t).suspended g.state t _
 
-pub handlers-suspended : (phase : Phase) (s : KernelState) (t : ℕ) (y : TaskBlock)
-    → SameHandlers s (suspended_by phase s t y)
-handlers-suspended Dormant s t y q = refl
-handlers-suspended Ready s t y q = refl
-handlers-suspended (Waiting c) s t y q = refl
+pub actors-ended_by : (n : ℕ) (sys : SystemTables) (g : Progress) (t : ℕ) (y : TaskBlock)
+    → SameActors g.state (ended_by n sys g t y).state
+actors-ended_by zero sys g t y q = refl
+actors-ended_by (suc n) sys g t y q = refl
+
+pub actors-ended_itself : (sys : SystemTables) (s : KernelState) (p t : ℕ) (x : TaskBlock)
+    → SameActorsBeside p s (ended_itself sys s p t x).state
+actors-ended_itself sys s p t x q apart =
+    actors-ended_by x.activations sys (unchanged (with_nothing_run s p)) t _ q
+    ∙ ap acting (set_other idle s.processors p _ q apart)
+
+pub actors-suspended : (phase : Phase) (s : KernelState) (t : ℕ) (y : TaskBlock)
+    → SameActors s (suspended_by phase s t y)
+actors-suspended Dormant s t y q = refl
+actors-suspended Ready s t y q = refl
+actors-suspended (Waiting c) s t y q = refl
 
 -- an end has at most the line that its task starts
 pub lines-ended_by : (n : ℕ) (sys : SystemTables) (s : KernelState) (t : ℕ) (y : TaskBlock) (P : Line → Type 0)

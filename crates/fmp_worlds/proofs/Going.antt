@@ -33,10 +33,10 @@ use Rattle.fmp_worlds.specs.Settled.{IsSettled}
 use Rattle.fmp_worlds.specs.Stamps.{run_place}
 use Rattle.fmp_worlds.proofs.Assigned.{set_at, set_other, run-once, Runs, Holds}
 use Rattle.fmp_worlds.proofs.CalledLemmas.{keeps-task_call, keeps-handler_call}
-use Rattle.fmp_worlds.proofs.Changes.{handlers-ended_itself, lines-ended_itself}
+use Rattle.fmp_worlds.proofs.Changes.{actors-ended_itself, lines-ended_itself}
 use Rattle.fmp_worlds.proofs.Lines.{IsOwn, all-snoc, all-append, all-map}
 use Rattle.fmp_worlds.proofs.StepLemmas.{IsActor, acts, holds}
-use Rattle.fmp_worlds.proofs.TickLemmas.{handlers-ticked, lines-ticked}
+use Rattle.fmp_worlds.proofs.TickLemmas.{actors-ticked, lines-ticked}
 
 -- a handler of this body goes on from this context
 pub record GoesIn {C : Type 0} (o : Option (HandlerContext (Held C))) (b : ℕ) (c : C) : Type 0 where
@@ -314,13 +314,13 @@ module _ {C : Type 0} (sys : SystemTables) (M : Meaning C) (p : ℕ) (who : Call
       let o = called sys w.state q (caller.Task t) made in
       let f = keeps-task_call sys w.state q t made in
       answered-going o.answer _ q (caller.Task t) made o.progress (all-map (IsOwn w.state q) (Spares p who) o.progress.lines (spare w.state q p who n k) (f.lines i a))
-      (stays w.state o.progress.state (f.handlers p) k)
+      (stays w.state o.progress.state (ap (λ (x : Option Handler × Option ℕ). x.0) (f.actors p n)) k)
       (apart-context sys w.contexts p q who (caller.Task t) b c (Some (Awaits d)) n (apart w.state q (caller.Task t) n i a k) h)
   called-going w q (caller.Handler j) d made n i a k h =
       let o = called sys w.state q (caller.Handler j) made in
       let f = keeps-handler_call sys w.state q j made in
       answered-going o.answer _ q (caller.Handler j) made o.progress (all-map (IsOwn w.state q) (Spares p who) o.progress.lines (spare w.state q p who n k) (f.lines tt a))
-      (stays w.state o.progress.state (f.handlers p) k)
+      (stays w.state o.progress.state (ap (λ (x : Option Handler × Option ℕ). x.0) (f.actors p n)) k)
       (apart-context sys w.contexts p q who (caller.Handler j) b c (Some (Awaits d)) n (apart w.state q (caller.Handler j) n i a k) h)
 
   ended-going : (w : World C) (q : ℕ) (other : Caller) (own : Line) → Spares p who own → (q ≡ p → ⊥) → IsActor sys w.state q other → Holds w.state
@@ -331,7 +331,7 @@ module _ {C : Type 0} (sys : SystemTables) (M : Meaning C) (p : ℕ) (who : Call
       let g = actor_ended sys w.state q (caller.Task t) in
       finished-going w.contexts (own ∷ []) g (one own first)
       (all-map (IsOwn w.state q) (Spares p who) g.lines (spare w.state q p who n k) (lines-ended_itself sys w.state q t x i.runs a))
-      (stays w.state g.state (handlers-ended_itself sys w.state q t x p) k) h
+      (stays w.state g.state (ap (λ (x : Option Handler × Option ℕ). x.0) (actors-ended_itself sys w.state q t x p n)) k) h
   ended-going w q (caller.Handler j) own first n i a k h =
       let g = actor_ended sys w.state q (caller.Handler j) in
       finished-going w.contexts (own ∷ []) g (one own first) tt
@@ -384,7 +384,7 @@ module _ {C : Type 0} (sys : SystemTables) (M : Meaning C) (p : ℕ) (who : Call
       let g = ticked sys w.state in
       finished-going w.contexts (line.Tick (w.state.clock + 1) ∷ []) g (one _ (first who))
       (all-map (IsOwn w.state (suc p)) (Spares p who) g.lines (spare w.state (suc p) p who (λ e. absurd (omega (arith, e))) k) (lines-ticked sys w.state (suc p)))
-      (stays w.state g.state (handlers-ticked sys w.state p) k) h where
+      (stays w.state g.state (ap (λ (x : Option Handler × Option ℕ). x.0) (actors-ticked sys w.state p)) k) h where
         first : (who : Caller) → Spares p who (line.Tick (w.state.clock + 1))
         first (caller.Task t) = tt
         first (caller.Handler j) = tt

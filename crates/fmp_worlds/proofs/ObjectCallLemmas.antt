@@ -15,7 +15,7 @@ use Rattle.fmp_base.specs.SemaphoreCalls as semaphores
 use Rattle.fmp_base.specs.States.{KernelState, Progress, unchanged, task_at}
 use Rattle.fmp_base.specs.Systems.{SystemTables, semaphore_config, flag_config}
 use Rattle.fmp_worlds.proofs.Assigned.{Holds}
-use Rattle.fmp_worlds.proofs.Changes.{SameHandlers, holds-released, handlers-released}
+use Rattle.fmp_worlds.proofs.Changes.{SameActors, holds-released, actors-released}
 use Rattle.fmp_worlds.proofs.Lines.{IsOwn, all-snoc}
 use Rattle.fmp_worlds.proofs.Outcomes.{Keeps, keeps-refused, keeps-succeeds, keeps-succeeds_in, keeps-gives, keeps-within, keeps-tested, keeps-refused_if, keeps-if}
 
@@ -33,19 +33,19 @@ holds-walk clears f bits (t ∷ ts) g a =
     let x = task_at g.state.tasks t in
     holds-walked (is_satisfied x.phase bits) clears f g _ _ a (holds-released g t (given (pos bits)) a) (λ h b. holds-walk clears f bits ts h b)
 
-handlers-walked : (satisfied clears : Bool) (f : ℕ) (g after : Progress) (rest : Progress → Progress)
-    → SameHandlers g.state after.state → ((h : Progress) → SameHandlers h.state (rest h).state)
-    → SameHandlers g.state (walked satisfied clears f g after rest).state
-handlers-walked false clears f g after rest b c q = c g q
-handlers-walked true false f g after rest b c q = c after q ∙ b q
-handlers-walked true true f g after rest b c q = b q
+actors-walked : (satisfied clears : Bool) (f : ℕ) (g after : Progress) (rest : Progress → Progress)
+    → SameActors g.state after.state → ((h : Progress) → SameActors h.state (rest h).state)
+    → SameActors g.state (walked satisfied clears f g after rest).state
+actors-walked false clears f g after rest b c q = c g q
+actors-walked true false f g after rest b c q = c after q ∙ b q
+actors-walked true true f g after rest b c q = b q
 
-handlers-walk : (clears : Bool) (f bits : ℕ) (ts : List ℕ) (g : Progress)
-    → SameHandlers g.state (walk clears f bits ts g).state
-handlers-walk clears f bits [] g q = refl
-handlers-walk clears f bits (t ∷ ts) g q =
+actors-walk : (clears : Bool) (f bits : ℕ) (ts : List ℕ) (g : Progress)
+    → SameActors g.state (walk clears f bits ts g).state
+actors-walk clears f bits [] g q = refl
+actors-walk clears f bits (t ∷ ts) g q =
     let x = task_at g.state.tasks t in
-    handlers-walked (is_satisfied x.phase bits) clears f g _ _ (handlers-released g t (given (pos bits))) (λ h. handlers-walk clears f bits ts h) q
+    actors-walked (is_satisfied x.phase bits) clears f g _ _ (actors-released g t (given (pos bits))) (λ h. actors-walk clears f bits ts h) q
 
 lines-walked : (P : Line → Type 0) (satisfied clears : Bool) (f : ℕ) (g after : Progress) (rest : Progress → Progress)
     → AllByRecursion P g.lines → AllByRecursion P after.lines
@@ -68,7 +68,7 @@ holds-bits_set sys s f bits a =
 
 module _ {K : Type 0} {own : ℕ} (sys : SystemTables) (s : KernelState) where
   signalled_to : (o : Option ℕ) (i count : ℕ) → Keeps K own sys s (semaphores.signalled_to o sys s i count)
-  signalled_to (Some t) i count = keeps-succeeds sys s _ (λ k a. holds-released (unchanged s) t (code er.Ok) a) (handlers-released (unchanged s) t (code er.Ok)) (λ k a. (tt, tt))
+  signalled_to (Some t) i count = keeps-succeeds sys s _ (λ k a. holds-released (unchanged s) t (code er.Ok) a) (actors-released (unchanged s) t (code er.Ok)) (λ k a. (tt, tt))
   signalled_to None i count =
       keeps-if sys s (nat_lt count (semaphore_config sys i).most) _ _ (keeps-succeeds_in sys s _ (λ a. a) (λ q. refl)) (keeps-refused sys s er.Qovr)
 
@@ -102,7 +102,7 @@ module _ {K : Type 0} {own : ℕ} (sys : SystemTables) (s : KernelState) where
       keeps-tested sys s er.Id (numbered (length s.flags) f) _
       (λ i. keeps-tested sys s er.Par (ranged 0 65535 b) _
       (λ bits. keeps-succeeds sys s _ (λ k a. holds-bits_set sys s i (bit_or (pattern_at s i) bits) a)
-      (λ q. handlers-walk (flag_config sys i).clears i _ (wait_queue sys s (queue.Flag i)) (unchanged (with_pattern s i _)) q)
+      (λ q. actors-walk (flag_config sys i).clears i _ (wait_queue sys s (queue.Flag i)) (unchanged (with_pattern s i _)) q)
       (λ k a. lines-walk s own (flag_config sys i).clears i _ (wait_queue sys s (queue.Flag i)) (unchanged (with_pattern s i _)) tt)))
 
   pub keeps-clr_flg : (f b : ℤ) → Keeps K own sys s (flags.clr_flg s f b)

@@ -12,7 +12,7 @@ use Rattle.fmp_base.specs.Outcomes.{Outcome, refused, succeeds, succeeds_in, giv
 use Rattle.fmp_base.specs.States.{KernelState, Progress, unchanged, task_at}
 use Rattle.fmp_base.specs.Systems.{SystemTables}
 use Rattle.fmp_worlds.proofs.Assigned.{Holds}
-use Rattle.fmp_worlds.proofs.Changes.{SameHandlers, holds-waits}
+use Rattle.fmp_worlds.proofs.Changes.{SameActors, SameActorsBeside, holds-waits}
 use Rattle.fmp_worlds.proofs.Lines.{IsOwn}
 use Rattle.fmp_worlds.proofs.Settling.{CanSettle, can_settle}
 
@@ -20,34 +20,34 @@ use Rattle.fmp_worlds.proofs.Settling.{CanSettle, can_settle}
 pub record Keeps (K : Type 0) (own : ℕ) (sys : SystemTables) (s : KernelState) (o : Outcome) : Type 0 where
   pub settles : K → Holds s → CanSettle sys o.progress.state
   pub spins : o.answer ≡ Spins → o.progress ≡ unchanged s
-  pub handlers : SameHandlers s o.progress.state
+  pub actors : SameActorsBeside own s o.progress.state
   pub lines : K → Holds s → AllByRecursion (IsOwn s own) o.progress.lines
 
 module _ {K : Type 0} {own : ℕ} (sys : SystemTables) (s : KernelState) where
   pub keeps-refused : (e : Er) → Keeps K own sys s (refused s e)
   keeps-refused e =
-      record { settles = λ k a. can_settle sys s a; spins = λ h. refl; handlers = λ q. refl; lines = λ k a. tt }
+      record { settles = λ k a. can_settle sys s a; spins = λ h. refl; actors = λ q n. refl; lines = λ k a. tt }
 
-  pub keeps-succeeds : (g : Progress) → (K → Holds s → Holds g.state) → SameHandlers s g.state
+  pub keeps-succeeds : (g : Progress) → (K → Holds s → Holds g.state) → SameActors s g.state
       → (K → Holds s → AllByRecursion (IsOwn s own) g.lines) → Keeps K own sys s (succeeds g)
   keeps-succeeds g h same own_lines =
-      record { settles = λ k a. can_settle sys g.state (h k a); spins = λ e. cc; handlers = same; lines = own_lines }
+      record { settles = λ k a. can_settle sys g.state (h k a); spins = λ e. cc; actors = λ q n. same q; lines = own_lines }
 
-  pub keeps-succeeds_in : (u : KernelState) → (Holds s → Holds u) → SameHandlers s u
+  pub keeps-succeeds_in : (u : KernelState) → (Holds s → Holds u) → SameActors s u
       → Keeps K own sys s (succeeds_in u)
   keeps-succeeds_in u h same = keeps-succeeds (unchanged u) (λ k a. h a) same (λ k a. tt)
 
-  pub keeps-gives : (v : ℤ) (g : Progress) → (Holds s → Holds g.state) → SameHandlers s g.state
+  pub keeps-gives : (v : ℤ) (g : Progress) → (Holds s → Holds g.state) → SameActors s g.state
       → AllByRecursion (IsOwn s own) g.lines → Keeps K own sys s (gives v g)
   keeps-gives v g h same own_lines =
-      record { settles = λ k a. can_settle sys g.state (h a); spins = λ e. cc; handlers = same; lines = λ k a. own_lines }
+      record { settles = λ k a. can_settle sys g.state (h a); spins = λ e. cc; actors = λ q n. same q; lines = λ k a. own_lines }
 
   pub keeps-waits : (t : ℕ) (c : WaitCause) (deadline : Option ℕ)
       → Keeps K own sys s (waits s t (task_at s.tasks t) c deadline)
   keeps-waits t c deadline = record {
     settles = λ k a. can_settle sys _ (holds-waits s t c deadline a);
     spins = λ e. cc;
-    handlers = λ q. refl;
+    actors = λ q n. refl;
     lines = λ k a. tt;
   }
 

@@ -9,7 +9,7 @@ use Rattle.fmp_base.specs.ProcessorCalls.{is_held, is_spin, with_lock}
 use Rattle.fmp_base.specs.States.{KernelState, processor_at}
 use Rattle.fmp_base.specs.Systems.{SystemTables}
 use Rattle.fmp_worlds.proofs.Assigned.{Holds}
-use Rattle.fmp_worlds.proofs.Changes.{holds-processor, handlers-processor}
+use Rattle.fmp_worlds.proofs.Changes.{holds-processor, actors-processor}
 use Rattle.fmp_worlds.proofs.Outcomes.{Keeps, keeps-refused, keeps-succeeds_in, keeps-tested, keeps-refused_if}
 use Rattle.fmp_worlds.proofs.Settling.{can_settle}
 
@@ -26,7 +26,7 @@ module _ {K : Type 0} {own : ℕ} (sys : SystemTables) (s : KernelState) where
       keeps-tested sys s er.Id (numbered (length s.due_times) c) _ (λ i. keeps-succeeds_in sys s _ (λ a. a) (λ q. refl))
 
   cpu_locked_from : (l : Lock) (p : ℕ) → Keeps K own sys s (calls.cpu_locked_from l s p)
-  cpu_locked_from Free p = keeps-succeeds_in sys s _ (λ a. holds-lock s p Cpu a) (handlers-processor s p _ refl)
+  cpu_locked_from Free p = keeps-succeeds_in sys s _ (λ a. holds-lock s p Cpu a) (actors-processor s p _ refl)
   cpu_locked_from Cpu p = keeps-succeeds_in sys s s (λ a. a) (λ q. refl)
   cpu_locked_from (Spin l) p = keeps-succeeds_in sys s s (λ a. a) (λ q. refl)
 
@@ -35,19 +35,19 @@ module _ {K : Type 0} {own : ℕ} (sys : SystemTables) (s : KernelState) where
 
   cpu_unlocked_from : (l : Lock) (p : ℕ) → Keeps K own sys s (calls.cpu_unlocked_from l s p)
   cpu_unlocked_from Free p = keeps-succeeds_in sys s s (λ a. a) (λ q. refl)
-  cpu_unlocked_from Cpu p = keeps-succeeds_in sys s _ (λ a. holds-lock s p Free a) (handlers-processor s p _ refl)
+  cpu_unlocked_from Cpu p = keeps-succeeds_in sys s _ (λ a. holds-lock s p Free a) (actors-processor s p _ refl)
   cpu_unlocked_from (Spin l) p = keeps-refused sys s er.Ctx
 
   pub keeps-unl_cpu : (p : ℕ) → Keeps K own sys s (calls.unl_cpu s p)
   keeps-unl_cpu p = cpu_unlocked_from (processor_at s p).lock p
 
   pub keeps-dispatch_set : (p : ℕ) (disabled : Bool) → Keeps K own sys s (calls.dispatch_set s p disabled)
-  keeps-dispatch_set p disabled = keeps-succeeds_in sys s _ (λ a. holds-processor s p _ refl a) (handlers-processor s p _ refl)
+  keeps-dispatch_set p disabled = keeps-succeeds_in sys s _ (λ a. holds-processor s p _ refl a) (actors-processor s p _ refl)
 
   spin_lock_taken : (held : Bool) (p l : ℕ) → Keeps K own sys s (calls.spin_lock_taken held s p l)
   spin_lock_taken true p l =
-      record { settles = λ k a. can_settle sys s a; spins = λ h. refl; handlers = λ q. refl; lines = λ k a. tt }
-  spin_lock_taken false p l = keeps-succeeds_in sys s _ (λ a. holds-lock s p (Spin l) a) (handlers-processor s p _ refl)
+      record { settles = λ k a. can_settle sys s a; spins = λ h. refl; actors = λ q n. refl; lines = λ k a. tt }
+  spin_lock_taken false p l = keeps-succeeds_in sys s _ (λ a. holds-lock s p (Spin l) a) (actors-processor s p _ refl)
 
   pub keeps-loc_spn : (p : ℕ) (l : ℤ) → Keeps K own sys s (calls.loc_spn sys s p l)
   keeps-loc_spn p l =
@@ -56,9 +56,9 @@ module _ {K : Type 0} {own : ℕ} (sys : SystemTables) (s : KernelState) where
   pub keeps-try_spn : (p : ℕ) (l : ℤ) → Keeps K own sys s (calls.try_spn sys s p l)
   keeps-try_spn p l =
       keeps-tested sys s er.Id (numbered (length sys.spin_locks) l) _
-      (λ i. keeps-refused_if sys s (is_held i s.processors) er.Obj _ (λ e. keeps-succeeds_in sys s _ (λ a. holds-lock s p (Spin i) a) (handlers-processor s p _ refl)))
+      (λ i. keeps-refused_if sys s (is_held i s.processors) er.Obj _ (λ e. keeps-succeeds_in sys s _ (λ a. holds-lock s p (Spin i) a) (actors-processor s p _ refl)))
 
   pub keeps-unl_spn : (p : ℕ) (l : ℤ) → Keeps K own sys s (calls.unl_spn sys s p l)
   keeps-unl_spn p l =
       keeps-tested sys s er.Id (numbered (length sys.spin_locks) l) _
-      (λ i. keeps-refused_if sys s (not (is_spin i (processor_at s p).lock)) er.Iluse _ (λ e. keeps-succeeds_in sys s _ (λ a. holds-lock s p Free a) (handlers-processor s p _ refl)))
+      (λ i. keeps-refused_if sys s (not (is_spin i (processor_at s p).lock)) er.Iluse _ (λ e. keeps-succeeds_in sys s _ (λ a. holds-lock s p Free a) (actors-processor s p _ refl)))

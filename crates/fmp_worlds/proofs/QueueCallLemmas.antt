@@ -14,7 +14,7 @@ use Rattle.fmp_base.specs.Outcomes.{code, given, limit_of, numbered, waits_withi
 use Rattle.fmp_base.specs.Queues.{first_waiting, is_by_priority}
 use Rattle.fmp_base.specs.States.{KernelState, unchanged, task_at}
 use Rattle.fmp_base.specs.Systems.{SystemTables, data_queue_config, mailbox_config}
-use Rattle.fmp_worlds.proofs.Changes.{holds-released, handlers-released}
+use Rattle.fmp_worlds.proofs.Changes.{holds-released, actors-released}
 use Rattle.fmp_worlds.proofs.Outcomes.{Keeps, keeps-succeeds, keeps-succeeds_in, keeps-gives, keeps-within, keeps-tested, keeps-refused_if}
 
 module _ {K : Type 0} {own : ℕ} (sys : SystemTables) (s : KernelState) where
@@ -25,7 +25,7 @@ module _ {K : Type 0} {own : ℕ} (sys : SystemTables) (s : KernelState) where
 
   word_sent_to : (o : Option ℕ) (me : ℕ) (x : TaskBlock) (limit : TimeLimit) (d : ℕ) (v : ℤ)
       → Keeps K own sys s (waits_within limit s me x (cause.Sending d v)) → Keeps K own sys s (words.word_sent_to o sys s me x limit d v)
-  word_sent_to (Some t) me x limit d v h = keeps-succeeds sys s _ (λ k a. holds-released (unchanged s) t (given v) a) (handlers-released (unchanged s) t (given v)) (λ k a. (tt, tt))
+  word_sent_to (Some t) me x limit d v h = keeps-succeeds sys s _ (λ k a. holds-released (unchanged s) t (given v) a) (actors-released (unchanged s) t (given v)) (λ k a. (tt, tt))
   word_sent_to None me x limit d v h = queued_by (has_room sys s d) me x limit d v h
 
   -- also for a handler, which never waits
@@ -45,7 +45,7 @@ module _ {K : Type 0} {own : ℕ} (sys : SystemTables) (s : KernelState) where
   forced_in false d v = keeps-succeeds_in sys s _ (λ a. a) (λ q. refl)
 
   forced_to : (o : Option ℕ) (d : ℕ) (v : ℤ) → Keeps K own sys s (words.forced_to o sys s d v)
-  forced_to (Some t) d v = keeps-succeeds sys s _ (λ k a. holds-released (unchanged s) t (given v) a) (handlers-released (unchanged s) t (given v)) (λ k a. (tt, tt))
+  forced_to (Some t) d v = keeps-succeeds sys s _ (λ k a. holds-released (unchanged s) t (given v) a) (actors-released (unchanged s) t (given v)) (λ k a. (tt, tt))
   forced_to None d v = forced_in (has_room sys s d) d v
 
   pub keeps-fsnd_dtq : (d v : ℤ) → Keeps K own sys s (words.fsnd_dtq sys s d v)
@@ -56,12 +56,12 @@ module _ {K : Type 0} {own : ℕ} (sys : SystemTables) (s : KernelState) where
   oldest_taken : (o : Option ℕ) (d : ℕ) (w : ℤ) (ws : List ℤ) → Keeps K own sys s (words.oldest_taken o s d w ws)
   oldest_taken None d w ws = keeps-gives sys s _ _ (λ a. a) (λ q. refl) tt
   oldest_taken (Some t) d w ws =
-      keeps-gives sys s _ _ (λ a. holds-released (unchanged (with_words s d _)) t (code er.Ok) a) (handlers-released (unchanged (with_words s d _)) t (code er.Ok)) (tt, tt)
+      keeps-gives sys s _ _ (λ a. holds-released (unchanged (with_words s d _)) t (code er.Ok) a) (actors-released (unchanged (with_words s d _)) t (code er.Ok)) (tt, tt)
 
   sender_taken_from : (o : Option ℕ) (me : ℕ) (limit : TimeLimit) (d : ℕ)
       → Keeps K own sys s (words.sender_taken_from o s me (task_at s.tasks me) limit d)
   sender_taken_from None me limit d = keeps-within sys s limit me (cause.Receiving d)
-  sender_taken_from (Some t) me limit d = keeps-gives sys s _ _ (λ a. holds-released (unchanged s) t (code er.Ok) a) (handlers-released (unchanged s) t (code er.Ok)) (tt, tt)
+  sender_taken_from (Some t) me limit d = keeps-gives sys s _ _ (λ a. holds-released (unchanged s) t (code er.Ok) a) (actors-released (unchanged s) t (code er.Ok)) (tt, tt)
 
   received_from : (ws : List ℤ) (me : ℕ) (limit : TimeLimit) (d : ℕ)
       → Keeps K own sys s (words.word_received_from ws sys s me (task_at s.tasks me) limit d)
@@ -79,7 +79,7 @@ module _ {K : Type 0} {own : ℕ} (sys : SystemTables) (s : KernelState) where
   message_sent_to : (o : Option ℕ) (mailbox message : ℕ) → Keeps K own sys s (mailboxes.message_sent_to o sys s mailbox message)
   message_sent_to (Some t) mailbox message =
       keeps-succeeds sys s _ (λ k a. holds-released (unchanged s) t (given (pos (message + 1))) a)
-      (handlers-released (unchanged s) t (given (pos (message + 1)))) (λ k a. (tt, tt))
+      (actors-released (unchanged s) t (given (pos (message + 1)))) (λ k a. (tt, tt))
   message_sent_to None mailbox message = keeps-succeeds_in sys s _ (λ a. a) (λ q. refl)
 
   message_sent : (mailbox message : ℕ) → Keeps K own sys s (mailboxes.message_sent sys s mailbox message)

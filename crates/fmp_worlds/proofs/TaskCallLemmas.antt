@@ -14,7 +14,7 @@ use Rattle.fmp_base.specs.Systems.{SystemTables}
 use Rattle.fmp_base.specs.TaskCalls as calls
 use Rattle.fmp_base.specs.TaskCalls.{self_or, by_number, is_dormant, goes_last, moved_by, or_if_zero, allowed_processor, rotated}
 use Rattle.fmp_worlds.proofs.Assigned.{Assigned, Holds, IsRunNowhere, dormant-unrun}
-use Rattle.fmp_worlds.proofs.Changes.{SameHandlers, handlers-moved, holds-started, holds-released, holds-suspended, holds-changed, handlers-released, handlers-suspended}
+use Rattle.fmp_worlds.proofs.Changes.{SameActors, actors-moved, holds-started, holds-released, holds-suspended, holds-changed, actors-released, actors-suspended}
 use Rattle.fmp_worlds.proofs.Outcomes.{Keeps, keeps-refused, keeps-succeeds, keeps-succeeds_in, keeps-gives, keeps-waits, keeps-within, keeps-tested, keeps-refused_if, keeps-on_task, keeps-if}
 
 -- where its phase says so, the task is run nowhere
@@ -36,15 +36,15 @@ holds-rotated : (s : KernelState) (o : Option ℕ) → Holds s → Holds (rotate
 holds-rotated s None a = a
 holds-rotated s (Some t) a = holds-changed s t (task_at s.tasks t) refl refl a
 
-handlers-resumed : (phase : Phase) (s : KernelState) (t : ℕ) (y : TaskBlock)
-    → SameHandlers s (calls.resumed_by phase s t y)
-handlers-resumed Dormant s t y q = refl
-handlers-resumed Ready s t y q = refl
-handlers-resumed (Waiting c) s t y q = refl
+actors-resumed : (phase : Phase) (s : KernelState) (t : ℕ) (y : TaskBlock)
+    → SameActors s (calls.resumed_by phase s t y)
+actors-resumed Dormant s t y q = refl
+actors-resumed Ready s t y q = refl
+actors-resumed (Waiting c) s t y q = refl
 
-handlers-rotated : (s : KernelState) (o : Option ℕ) → SameHandlers s (rotated s o)
-handlers-rotated s None q = refl
-handlers-rotated s (Some t) q = refl
+actors-rotated : (s : KernelState) (o : Option ℕ) → SameActors s (rotated s o)
+actors-rotated s None q = refl
+actors-rotated s (Some t) q = refl
 
 module _ {K : Type 0} {own : ℕ} (sys : SystemTables) (s : KernelState) where
   queued : (t : ℕ) → Keeps K own sys s (calls.activation_queued sys s t (task_at s.tasks t))
@@ -78,7 +78,7 @@ module _ {K : Type 0} {own : ℕ} (sys : SystemTables) (s : KernelState) where
         by_block u n =
             let x = task_at s.tasks u in
             keeps-refused_if sys s (is_dormant x.phase) er.Obj _
-            (λ e. keeps-succeeds_in sys s _ (λ a. moved (goes_last sys x) s u _ (holds-changed s u _ refl refl a)) (handlers-moved (goes_last sys x) s u _))
+            (λ e. keeps-succeeds_in sys s _ (λ a. moved (goes_last sys x) s u _ (holds-changed s u _ refl refl a)) (actors-moved (goes_last sys x) s u _))
 
   pub keeps-get_pri : (me : ℕ) (t : ℤ) → Keeps K own sys s (calls.get_pri s me t)
   keeps-get_pri me t =
@@ -117,7 +117,7 @@ module _ {K : Type 0} {own : ℕ} (sys : SystemTables) (s : KernelState) where
       (keeps-succeeds_in sys s _ (λ a. holds-changed s t _ refl refl a) (λ q. refl)) (keeps-refused sys s er.Qovr)
 
   woken_from : (c : WaitCause) (t : ℕ) → Keeps K own sys s (calls.woken_from c sys s t (task_at s.tasks t))
-  woken_from cause.Sleep t = keeps-succeeds sys s _ (λ k a. holds-released (unchanged s) t (code er.Ok) a) (handlers-released (unchanged s) t (code er.Ok)) (λ k a. (tt, tt))
+  woken_from cause.Sleep t = keeps-succeeds sys s _ (λ k a. holds-released (unchanged s) t (code er.Ok) a) (actors-released (unchanged s) t (code er.Ok)) (λ k a. (tt, tt))
   woken_from _ t = wakeup_queued t
 
   woken_by : (phase : Phase) (t : ℕ) → Keeps K own sys s (calls.woken_by phase sys s t (task_at s.tasks t))
@@ -139,7 +139,7 @@ module _ {K : Type 0} {own : ℕ} (sys : SystemTables) (s : KernelState) where
   released_by : (phase : Phase) (t : ℕ) → Keeps K own sys s (calls.released_by phase s t (task_at s.tasks t))
   released_by Dormant t = keeps-refused sys s er.Obj
   released_by Ready t = keeps-refused sys s er.Obj
-  released_by (Waiting c) t = keeps-succeeds sys s _ (λ k a. holds-released (unchanged s) t (code er.Rlwai) a) (handlers-released (unchanged s) t (code er.Rlwai)) (λ k a. (tt, tt))
+  released_by (Waiting c) t = keeps-succeeds sys s _ (λ k a. holds-released (unchanged s) t (code er.Rlwai) a) (actors-released (unchanged s) t (code er.Rlwai)) (λ k a. (tt, tt))
 
   pub keeps-rel_wai : (t : ℤ) → Keeps K own sys s (calls.rel_wai s t)
   keeps-rel_wai t = keeps-on_task sys s (by_number s t) _ (λ u o. released_by (task_at s.tasks u).phase u)
@@ -149,13 +149,13 @@ module _ {K : Type 0} {own : ℕ} (sys : SystemTables) (s : KernelState) where
       keeps-on_task sys s (self_or s me t) _
       (λ u o. keeps-refused_if sys s (is_dormant (task_at s.tasks u).phase) er.Obj _
       (λ e. keeps-refused_if sys s (task_at s.tasks u).suspended er.Qovr _
-      (λ f. keeps-succeeds_in sys s _ (λ a. holds-suspended s u a) (handlers-suspended (task_at s.tasks u).phase s u _))))
+      (λ f. keeps-succeeds_in sys s _ (λ a. holds-suspended s u a) (actors-suspended (task_at s.tasks u).phase s u _))))
 
   pub keeps-rsm_tsk : (t : ℤ) → Keeps K own sys s (calls.rsm_tsk s t)
   keeps-rsm_tsk t =
       keeps-on_task sys s (by_number s t) _
       (λ u o. keeps-refused_if sys s (not (task_at s.tasks u).suspended) er.Obj _
-      (λ e. keeps-succeeds_in sys s _ (λ a. resumed (task_at s.tasks u).phase s u _ (holds-changed s u _ refl refl a)) (handlers-resumed (task_at s.tasks u).phase s u _)))
+      (λ e. keeps-succeeds_in sys s _ (λ a. resumed (task_at s.tasks u).phase s u _ (holds-changed s u _ refl refl a)) (actors-resumed (task_at s.tasks u).phase s u _)))
 
   pub keeps-dly_tsk : (me : ℕ) (d : ℤ) → Keeps K own sys s (calls.dly_tsk s me (task_at s.tasks me) d)
   keeps-dly_tsk me d = keeps-tested sys s er.Par (ranged 0 (2 ^ 30) d) _ (λ n. keeps-waits sys s me cause.Delay _)
@@ -163,11 +163,11 @@ module _ {K : Type 0} {own : ℕ} (sys : SystemTables) (s : KernelState) where
   pub keeps-rot_rdq : (p : ℕ) (x : TaskBlock) (priority : ℤ) → Keeps K own sys s (calls.rot_rdq s p x priority)
   keeps-rot_rdq p x priority =
       keeps-tested sys s er.Par (ranged 0 16 priority) _
-      (λ n. keeps-succeeds_in sys s _ (λ a. holds-rotated s (first_ready s p (or_if_zero x.priority n)) a) (handlers-rotated s (first_ready s p (or_if_zero x.priority n))))
+      (λ n. keeps-succeeds_in sys s _ (λ a. holds-rotated s (first_ready s p (or_if_zero x.priority n)) a) (actors-rotated s (first_ready s p (or_if_zero x.priority n))))
 
   pub keeps-irot_rdq : (p : ℕ) (priority : ℤ) → Keeps K own sys s (calls.irot_rdq s p priority)
   keeps-irot_rdq p priority =
-      keeps-tested sys s er.Par (ranged 1 16 priority) _ (λ n. keeps-succeeds_in sys s _ (λ a. holds-rotated s (first_ready s p n) a) (handlers-rotated s (first_ready s p n)))
+      keeps-tested sys s er.Par (ranged 1 16 priority) _ (λ n. keeps-succeeds_in sys s _ (λ a. holds-rotated s (first_ready s p n) a) (actors-rotated s (first_ready s p n)))
 
   pub keeps-get_tid : (me : ℕ) → Keeps K own sys s (calls.get_tid s me)
   keeps-get_tid me = keeps-gives sys s _ _ (λ a. a) (λ q. refl) tt

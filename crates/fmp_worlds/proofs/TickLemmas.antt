@@ -7,7 +7,7 @@ use Rattle.fmp_base.specs.States.{KernelState, Progress, unchanged, task_at, idl
 use Rattle.fmp_base.specs.Systems.{SystemTables, task_config}
 use Rattle.fmp_base.specs.Ticks.{timeout_code, is_due, timed_out, timed_out_by, all_timed_out, is_pending, pended_by, cycled, cycled_by, all_cycled, ticked, with_clock_advanced}
 use Rattle.fmp_worlds.proofs.Assigned.{Runs, Holds}
-use Rattle.fmp_worlds.proofs.Changes.{SameHandlers, holds-released, handlers-released}
+use Rattle.fmp_worlds.proofs.Changes.{SameActors, holds-released, actors-released}
 use Rattle.fmp_worlds.proofs.Lines.{IsOwn, all-snoc}
 
 timed_out_from : (b : Bool) (g : Progress) (t : ℕ) → Holds g.state
@@ -40,13 +40,13 @@ holds-ticked sys s a =
 
 -- the clock begins and ends no handler, and starts no task
 record Clocked (s : KernelState) (own : ℕ) (g : Progress) : Type 0 where
-  handlers : SameHandlers s g.state
+  actors : SameActors s g.state
   lines : AllByRecursion (IsOwn s own) g.lines
 
 clocked-timed_out : (b : Bool) (s : KernelState) (own : ℕ) (g : Progress) (t : ℕ) → Clocked s own g
     → Clocked s own (timed_out_by b g t (task_at g.state.tasks t))
 clocked-timed_out true s own g t c = record {
-  handlers = λ q. handlers-released g t (code (timeout_code (task_at g.state.tasks t).phase)) q ∙ c.handlers q;
+  actors = λ q. actors-released g t (code (timeout_code (task_at g.state.tasks t).phase)) q ∙ c.actors q;
   lines = all-snoc (IsOwn s own) g.lines _ c.lines tt;
 }
 clocked-timed_out false s own g t c = c
@@ -62,13 +62,13 @@ clocked-pended : (b : Bool) (sys : SystemTables) (s : KernelState) (own : ℕ) (
     → Clocked s own (pended_by b sys g i)
 clocked-pended true sys s own g i c = c
 clocked-pended false sys s own g i c =
-    record { handlers = c.handlers; lines = all-snoc (IsOwn s own) g.lines _ c.lines tt }
+    record { actors = c.actors; lines = all-snoc (IsOwn s own) g.lines _ c.lines tt }
 
 clocked-cycled : (b : Bool) (sys : SystemTables) (s : KernelState) (own : ℕ) (g : Progress) (i : ℕ) → Clocked s own g
     → Clocked s own (cycled_by b sys g i)
 clocked-cycled true sys s own g i c =
     let d = clocked-pended (is_pending g.state.pending_cyclics i) sys s own g i c in
-    record { handlers = d.handlers; lines = d.lines }
+    record { actors = d.actors; lines = d.lines }
 clocked-cycled false sys s own g i c = c
 
 clocked-all_cycled : (sys : SystemTables) (s : KernelState) (own : ℕ) (g : Progress) (is : List ℕ) → Clocked s own g
@@ -80,10 +80,10 @@ clocked-all_cycled sys s own g (i ∷ is) c =
 clocked-ticked : (sys : SystemTables) (s : KernelState) (own : ℕ) → Clocked s own (ticked sys s)
 clocked-ticked sys s own =
     clocked-all_cycled sys s own _ (places_from 0 (length s.due_times))
-    (clocked-all_timed_out s own (unchanged (with_clock_advanced s)) (places_from 0 (length s.tasks)) (record { handlers = λ q. refl; lines = tt }))
+    (clocked-all_timed_out s own (unchanged (with_clock_advanced s)) (places_from 0 (length s.tasks)) (record { actors = λ q. refl; lines = tt }))
 
-pub handlers-ticked : (sys : SystemTables) (s : KernelState) → SameHandlers s (ticked sys s).state
-handlers-ticked sys s = let c = clocked-ticked sys s 0 in c.handlers
+pub actors-ticked : (sys : SystemTables) (s : KernelState) → SameActors s (ticked sys s).state
+actors-ticked sys s = let c = clocked-ticked sys s 0 in c.actors
 
 pub lines-ticked : (sys : SystemTables) (s : KernelState) (own : ℕ) → AllByRecursion (IsOwn s own) (ticked sys s).lines
 lines-ticked sys s own = let c = clocked-ticked sys s own in c.lines

@@ -6,6 +6,7 @@ use Rattle.fmp_kernel.specs.KernelViews.{done_of, done_or}
 use Rattle.fmp_worlds.specs.Settled.{IsSettled}
 use Rattle.fmp_worlds.specs.Stamps.{applied}
 use Rattle.fmp_kernel.specs.Stamps.{AreStamps}
+use Rattle.fmp_kernel.proofs.ActorLemmas.{left_applied}
 use Rattle.fmp_kernel.proofs.StampLemmas.{below, stamped_is, stamps_after, view_done, view_nothing}
 use Rattle.fmp_kernel.proofs.StepLemmas.{settled_applied, same_after, by_number}
 use Rattle.fmp_kernel.proofs.kernel.Kernel.apply.Goals as goal
@@ -43,6 +44,13 @@ pub count-requires-clause-rows : goal.count-requires-clause-rows
 count-requires-clause-rows g c =
     let a = c.self.invariant.2 in
     a.actors.long ∙ ap (λ (s : SystemTables). s.processors) (sym c.apply-effect.ensures.bodies.system)
+
+pub count-requires-clause-left : goal.count-requires-clause-left
+count-requires-clause-left g c =
+    let r = c.self.inside.runner in
+    let e = c.apply-effect.ensures in
+    left_applied r.system (g.B.Body.meaning r.body) (done_of r) (done_of c.apply-effect.new.self) _ (ending c.args.s) c.self.inside.stamps r.system.processors c.self.inside.done c.self.invariant.2
+    (sym c.in-Done.is ∙ e.effect) e.after
 
 pub invariant_of-self-in-Done : goal.invariant_of-self-in-Done
 invariant_of-self-in-Done g c =

@@ -2,6 +2,7 @@ use Rattle.std.proofs.Common.{◌∙◌, ap, arith, sym}
 use Rattle.fmp_base.specs.Steps.{step}
 use Rattle.fmp_base.specs.Systems.{SystemTables}
 use Rattle.fmp_kernel.specs.KernelViews.{done_of}
+use Rattle.fmp_kernel.proofs.ActorLemmas.{left_after}
 use Rattle.fmp_kernel.proofs.StampLemmas.{below, stamped_is, stamps_after, view_done, view_nothing}
 use Rattle.fmp_kernel.proofs.StepLemmas.{settled_after}
 use Rattle.fmp_kernel.proofs.kernel.Kernel.step.Goals as goal
@@ -36,6 +37,13 @@ pub count-requires-clause-rows : goal.count-requires-clause-rows
 count-requires-clause-rows g c =
     let a = c.self.invariant.2 in
     a.actors.long ∙ ap (λ (s : SystemTables). s.processors) (sym c.react-effect.ensures.bodies.system)
+
+pub count-requires-clause-left : goal.count-requires-clause-left
+count-requires-clause-left g c =
+    let r = c.self.inside.runner in
+    let e = c.react-effect.ensures in
+    left_after r.system (g.B.Body.meaning r.body) r.bound (done_of r) (done_of c.react-effect.new.self) c.args.e c.self.inside.stamps r.system.processors c.self.inside.done c.self.invariant.2
+    (sym c.in-Done.is ∙ e.effect) e.after
 
 pub invariant_of-self-in-Done : goal.invariant_of-self-in-Done
 invariant_of-self-in-Done g c =

@@ -1,5 +1,4 @@
-use Rattle.std.proofs.Common.{◌≡◌, ◌<◌, length, sym, ◌∙◌, arith}
-use Rattle.fmp_base.specs.States.{processor_at}
+use Rattle.std.proofs.Common.{◌<◌, length, sym, ◌∙◌, arith}
 use Rattle.fmp_base.specs.Steps.{actor_of}
 use Rattle.fmp_kernel.proofs.StampLemmas.{noted_same}
 use Rattle.fmp_kernel.proofs.stamps.Stamps.note.Goals as goal
