@@ -1,4 +1,4 @@
-//! Boards that are followed while they run, and after.
+//! Boards that are followed.
 ghost use Rattle.std.specs.Prelude.{◌≡◌, All, IfOk, length};
 ghost use Rattle.fmp_hostrun.specs.Boards.{IsAt, blank as blank_of};
 
@@ -41,6 +41,17 @@ struct Printed {
     after: Option<Event>,
 }
 
+/// Pulls through a follower, and again where memory was refused.
+fn pull<S: Site>(
+    follower: &mut Follower<'_, '_, S>,
+    out: &mut Vec<u8>,
+) -> Result<Option<Event>, AllocError> {
+    match follower.pull(out) {
+        Ok(event) => Ok(event),
+        Err(_) => follower.pull(out),
+    }
+}
+
 /// Pulls so many events through a follower, yields where there is none yet, and pulls once more: what that gave.
 fn pull_all<S: Site>(
     follower: &mut Follower<'_, '_, S>,
@@ -52,12 +63,12 @@ fn pull_all<S: Site>(
         if left == 0 {
             break;
         }
-        match follower.pull(out)? {
+        match pull(follower, out)? {
             Some(_) => left -= 1,
             None => thread::yield_now(),
         }
     }
-    follower.pull(out)
+    pull(follower, out)
 }
 
 /// Pulls so many events through a follower: what it printed behind what was printed before.
