@@ -121,6 +121,7 @@ each_refused_in_test() {
 each_refused_in_test feeding::three_events_on_one_task
 each_refused_in_test tickets::an_outcome_of_a_task_that_was_suspended_and_resumed
 each_refused_in_test hosting::processors_of_which_one_may_be_refused
+each_refused_in_test following::a_board_that_was_fed
 
 # Its one growth behind those of the board is refused, too.
 made=tickets::a_board_that_takes_no_memory_once_it_is_made

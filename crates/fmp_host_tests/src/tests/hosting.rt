@@ -120,7 +120,7 @@ fn seen_of_both<R: Threads + Wait + Sync>(
 }
 
 /// What a simulation of an image over a steps text prints.
-fn simulated(alloc: Global, image: &Image, steps: &str) -> Result<String, Fail> {
+pub fn simulated(alloc: Global, image: &Image, steps: &str) -> Result<String, Fail> {
     let mut out = Vec::new(alloc);
     sim(
         alloc,
