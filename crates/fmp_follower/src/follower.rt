@@ -19,9 +19,9 @@ use std::marker::Model;
 /// Room for the lines of any event, in bytes: at most 519 lines of at most 128 bytes.
 const EVENT_ROOM: usize = 66_432;
 
-/// Reads the journal of a board from a seat, and prints it: it waits for nobody. The events that the seat is given run on
-/// a kernel of the follower's own, and their lines are printed as a simulation of them prints them. It is seen by the
-/// seat that it reads from.
+/// Reads the journal of a board from a seat, and prints it: it waits for nobody. The events that the seat is given run
+/// on a kernel of the follower's own, and their lines are printed as a simulation of them prints them. It is seen by
+/// the seat that it reads from.
 #[derive(Drop)]
 pub struct Follower<'a, 'b, S: Site> {
     board: &'b Board<'a, S>,
@@ -145,8 +145,8 @@ impl<'a, 'b, S: Site> Follower<'a, 'b, S> {
     }
 
     /// Follows one event and appends the text of its lines. None, and nothing is appended, where as many events were
-    /// given as the row has words, or where the next word was found empty. First 66,432 bytes are reserved, room for the
-    /// lines of any event.
+    /// given as the row has words, or where the next word was found empty. First 66,432 bytes are reserved, room for
+    /// the lines of any event.
     ///
     /// `AllocError` where that room is refused; then nothing has changed, and no event was taken.
     pub fn pull(&mut self, out: &mut Vec<u8>) -> Result<Option<Event>, AllocError>

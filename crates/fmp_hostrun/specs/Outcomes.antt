@@ -101,4 +101,5 @@ abbrev pub Submitted : ImageTables → (n : ℕ) → RowId → TicketState → (
 Submitted i n row t was now result =
     (before : List JournalEntry) × IsJournal i n row.capacity row.seats before × IsPrefix was.seen before
     × AnsweredAfter i n row.capacity before t result
-    × (now.seen ≡ entered before (entry was.number (Run t.processor)) (reaction i n (events before) (Run t.processor)) result)
+    × (now.seen ≡ entered before (entry was.number (Run t.processor))
+    (reaction i n (events before) (Run t.processor)) result)

@@ -38,7 +38,9 @@ CLASS(TCL_1) {
     CRE_TSK(B,{0,0,b,5,256,NULL});
     CRE_SEM(S,{TA_TFIFO,1,2});
 }",
-        "m sig_sem 2, wai_sem 0, pol_sem 2, twai_sem 2 -2, twai_sem 1 -2, twai_sem 1 1073741825, sig_sem 1, sig_sem 1, wai_sem 1, twai_sem 1 5, pol_sem 1, twai_sem 1 0, act_tsk 2, act_tsk 3, chg_pri 3 4, sig_sem 1, sig_sem 1, sig_sem 1, pol_sem 1
+        "m sig_sem 2, wai_sem 0, pol_sem 2, twai_sem 2 -2, twai_sem 1 -2, twai_sem 1 1073741825, sig_sem 1, \
+          sig_sem 1, wai_sem 1, twai_sem 1 5, pol_sem 1, twai_sem 1 0, act_tsk 2, act_tsk 3, chg_pri 3 4, sig_sem 1, \
+          sig_sem 1, sig_sem 1, pol_sem 1
 a wai_sem 1, put 2
 b twai_sem 1 5, put 3",
         "30 run 1",
@@ -100,7 +102,8 @@ CLASS(TCL_1) {
     CRE_TSK(B,{0,0,b,5,256,NULL});
     CRE_FLG(P,{TA_WMUL,0});
 }",
-        "m act_tsk 2, act_tsk 3, set_flg 1 2, clr_flg 1 65533, pol_flg 1 65535 1, wup_tsk 3, set_flg 1 7, pol_flg 1 7 0, pol_flg 1 8 0
+        "m act_tsk 2, act_tsk 3, set_flg 1 2, clr_flg 1 65533, pol_flg 1 65535 1, wup_tsk 3, set_flg 1 7, \
+          pol_flg 1 7 0, pol_flg 1 8 0
 a wai_flg 1 3 0, put 2
 b twai_flg 1 6 1 -1, twai_flg 1 6 1 4, slp_tsk, wai_flg 1 6 1",
         "20 run 1",
@@ -160,7 +163,8 @@ CLASS(TCL_1) {
     CRE_FLG(P,{TA_WMUL|TA_CLR,0});
     CRE_FLG(Q,{TA_WSGL|TA_CLR,2});
 }",
-        "m act_tsk 2, act_tsk 3, pol_flg 2 2 0, pol_flg 2 2 1, set_flg 1 9, pol_flg 1 8 0, pol_flg 2 4 0, wai_flg 2 4 0, twai_flg 2 4 0 0, set_flg 2 3, pol_flg 2 1 1, set_flg 1 1
+        "m act_tsk 2, act_tsk 3, pol_flg 2 2 0, pol_flg 2 2 1, set_flg 1 9, pol_flg 1 8 0, pol_flg 2 4 0, \
+          wai_flg 2 4 0, twai_flg 2 4 0 0, set_flg 2 3, pol_flg 2 1 1, set_flg 1 1
 a wai_flg 1 1 1, wai_flg 2 2 0
 b wai_flg 1 1 1",
         "20 run 1",
@@ -215,7 +219,10 @@ CLASS(TCL_1) {
     CRE_TSK(M,{TA_ACT,0,m,10,256,NULL});
     CRE_FLG(P,{TA_WSGL,2});
 }",
-        "m set_flg 2 -1, set_flg 1 -1, set_flg 1 65536, clr_flg 0 1, clr_flg 1 65536, clr_flg 1 -1, wai_flg 2 0 0, wai_flg 1 0 0, wai_flg 1 65536 0, wai_flg 1 1 2, wai_flg 1 1 -1, pol_flg 2 1 0, pol_flg 1 0 0, pol_flg 1 1 2, twai_flg 2 1 0 1, twai_flg 1 2 0 -2, twai_flg 1 2 0 1073741825, twai_flg 1 0 0 1, twai_flg 1 1 0 0, wai_flg 1 2 0, clr_flg 1 0, pol_flg 1 2 0, set_flg 1 65535, pol_flg 1 65535 0",
+        "m set_flg 2 -1, set_flg 1 -1, set_flg 1 65536, clr_flg 0 1, clr_flg 1 65536, clr_flg 1 -1, wai_flg 2 0 0, \
+          wai_flg 1 0 0, wai_flg 1 65536 0, wai_flg 1 1 2, wai_flg 1 1 -1, pol_flg 2 1 0, pol_flg 1 0 0, \
+          pol_flg 1 1 2, twai_flg 2 1 0 1, twai_flg 1 2 0 -2, twai_flg 1 2 0 1073741825, twai_flg 1 0 0 1, \
+          twai_flg 1 1 0 0, wai_flg 1 2 0, clr_flg 1 0, pol_flg 1 2 0, set_flg 1 65535, pol_flg 1 65535 0",
         "30 run 1",
         "0 p1 M starts
 0 p1 > M

@@ -15,7 +15,8 @@ CLASS(TCL_1) {
     CRE_FLG(P,{TA_WSGL,0});
     CRE_DTQ(D,{TA_TFIFO,1,NULL});
 }",
-        "m sta_cyc 1, stp_cyc 1, loc_spn 1, try_spn 1, unl_spn 1, iact_tsk 1, iwup_tsk 1, irel_wai 1, isig_sem 1, iset_flg 1 1, ipsnd_dtq 1 1, ifsnd_dtq 1 1, irot_rdq 1",
+        "m sta_cyc 1, stp_cyc 1, loc_spn 1, try_spn 1, unl_spn 1, iact_tsk 1, iwup_tsk 1, irel_wai 1, isig_sem 1, \
+          iset_flg 1 1, ipsnd_dtq 1 1, ifsnd_dtq 1 1, irot_rdq 1",
         "16 run 1",
         "0 p1 M starts
 0 p1 > M
@@ -90,7 +91,13 @@ fn a_locked_cpu_bars_calls(rt: HostRuntime) -> Result<(), Fail> {
     shows(
         &rt,
         OBJECTS,
-        "m loc_cpu, loc_cpu, put 1, st_shr 1 2, ld_shr 1, act_tsk 2, can_act 0, ter_tsk 2, chg_pri 0 1, get_pri 0, mact_tsk 2 1, mig_tsk 2 1, slp_tsk, tslp_tsk 0, wup_tsk 0, can_wup 0, rel_wai 2, sus_tsk 2, rsm_tsk 2, dly_tsk 0, sig_sem 1, wai_sem 1, pol_sem 1, twai_sem 1 0, set_flg 1 1, clr_flg 1 0, wai_flg 1 1 0, pol_flg 1 1 0, twai_flg 1 1 0 0, snd_dtq 1 1, psnd_dtq 1 1, tsnd_dtq 1 1 0, fsnd_dtq 1 1, rcv_dtq 1, prcv_dtq 1, trcv_dtq 1 0, snd_mbx 1 1, rcv_mbx 1, prcv_mbx 1, trcv_mbx 1 0, sta_cyc 1, stp_cyc 1, rot_rdq 0, get_tid, dis_dsp, ena_dsp, loc_spn 1, try_spn 1, unl_spn 1, unl_cpu, unl_cpu, can_wup 0, pol_sem 1, pol_flg 1 1 0, prcv_dtq 1, prcv_mbx 1, act_tsk 2
+        "m loc_cpu, loc_cpu, put 1, st_shr 1 2, ld_shr 1, act_tsk 2, can_act 0, ter_tsk 2, chg_pri 0 1, get_pri 0, \
+          mact_tsk 2 1, mig_tsk 2 1, slp_tsk, tslp_tsk 0, wup_tsk 0, can_wup 0, rel_wai 2, sus_tsk 2, rsm_tsk 2, \
+          dly_tsk 0, sig_sem 1, wai_sem 1, pol_sem 1, twai_sem 1 0, set_flg 1 1, clr_flg 1 0, wai_flg 1 1 0, \
+          pol_flg 1 1 0, twai_flg 1 1 0 0, snd_dtq 1 1, psnd_dtq 1 1, tsnd_dtq 1 1 0, fsnd_dtq 1 1, rcv_dtq 1, \
+          prcv_dtq 1, trcv_dtq 1 0, snd_mbx 1 1, rcv_mbx 1, prcv_mbx 1, trcv_mbx 1 0, sta_cyc 1, stp_cyc 1, \
+          rot_rdq 0, get_tid, dis_dsp, ena_dsp, loc_spn 1, try_spn 1, unl_spn 1, unl_cpu, unl_cpu, can_wup 0, \
+          pol_sem 1, pol_flg 1 1 0, prcv_dtq 1, prcv_mbx 1, act_tsk 2
 a put 2",
         "64 run 1",
         "0 p1 M starts
@@ -170,7 +177,10 @@ fn disabled_dispatching_bars_waits(rt: HostRuntime) -> Result<(), Fail> {
     shows(
         &rt,
         OBJECTS,
-        "m dis_dsp, dis_dsp, act_tsk 2, slp_tsk, tslp_tsk -2, dly_tsk -1, wai_sem 9, twai_sem 1 0, wai_flg 1 1 0, twai_flg 1 1 0 0, snd_dtq 1 1, tsnd_dtq 1 1 0, rcv_dtq 1, trcv_dtq 1 0, rcv_mbx 1, trcv_mbx 1 0, sus_tsk 0, sus_tsk 1, mig_tsk 0 9, mig_tsk 1 1, pol_sem 1, pol_flg 1 1 0, psnd_dtq 1 3, prcv_dtq 1, prcv_mbx 1, sus_tsk 2, rsm_tsk 2, mig_tsk 2 1, loc_cpu, unl_cpu, ena_dsp, ena_dsp
+        "m dis_dsp, dis_dsp, act_tsk 2, slp_tsk, tslp_tsk -2, dly_tsk -1, wai_sem 9, twai_sem 1 0, wai_flg 1 1 0, \
+          twai_flg 1 1 0 0, snd_dtq 1 1, tsnd_dtq 1 1 0, rcv_dtq 1, trcv_dtq 1 0, rcv_mbx 1, trcv_mbx 1 0, \
+          sus_tsk 0, sus_tsk 1, mig_tsk 0 9, mig_tsk 1 1, pol_sem 1, pol_flg 1 1 0, psnd_dtq 1 3, prcv_dtq 1, \
+          prcv_mbx 1, sus_tsk 2, rsm_tsk 2, mig_tsk 2 1, loc_cpu, unl_cpu, ena_dsp, ena_dsp
 a put 2, dis_dsp",
         "40 run 1",
         "0 p1 M starts

@@ -13,7 +13,8 @@ CLASS(TCL_1) {
     CRE_TSK(B,{0,0,b,5,256,NULL});
     CRE_DTQ(D,{TA_TPRI,2,NULL});
 }",
-        "m act_tsk 2, snd_dtq 1 4, snd_dtq 1 5, psnd_dtq 1 6, psnd_dtq 1 7, tsnd_dtq 1 7 0, wup_tsk 2, act_tsk 3, rcv_dtq 1, rcv_dtq 1, rcv_dtq 1, prcv_dtq 1, prcv_dtq 1, tsnd_dtq 1 9 5, trcv_dtq 1 5
+        "m act_tsk 2, snd_dtq 1 4, snd_dtq 1 5, psnd_dtq 1 6, psnd_dtq 1 7, tsnd_dtq 1 7 0, wup_tsk 2, act_tsk 3, \
+          rcv_dtq 1, rcv_dtq 1, rcv_dtq 1, prcv_dtq 1, prcv_dtq 1, tsnd_dtq 1 9 5, trcv_dtq 1 5
 a rcv_dtq 1, slp_tsk, snd_dtq 1 7
 b tsnd_dtq 1 8 9",
         "24 run 1",
@@ -77,7 +78,8 @@ CLASS(TCL_1) {
     CRE_DTQ(D,{TA_TPRI,2,NULL});
     CRE_DTQ(E,{TA_TFIFO,0,NULL});
 }",
-        "m fsnd_dtq 1 1, fsnd_dtq 1 2, fsnd_dtq 1 3, trcv_dtq 1 0, trcv_dtq 1 0, trcv_dtq 1 0, act_tsk 2, fsnd_dtq 1 6, rcv_dtq 2, psnd_dtq 2 8, psnd_dtq 2 8, prcv_dtq 2
+        "m fsnd_dtq 1 1, fsnd_dtq 1 2, fsnd_dtq 1 3, trcv_dtq 1 0, trcv_dtq 1 0, trcv_dtq 1 0, act_tsk 2, \
+          fsnd_dtq 1 6, rcv_dtq 2, psnd_dtq 2 8, psnd_dtq 2 8, prcv_dtq 2
 a trcv_dtq 1 5, snd_dtq 2 9, rcv_dtq 2",
         "20 run 1",
         "0 p1 M starts
@@ -127,7 +129,9 @@ CLASS(TCL_1) {
     CRE_DTQ(D,{TA_TPRI,2,NULL});
     CRE_DTQ(E,{TA_TFIFO,0,NULL});
 }",
-        "m snd_dtq 3 1, snd_dtq 0 1, psnd_dtq 3 1, tsnd_dtq 0 1 -2, tsnd_dtq 1 1 -2, tsnd_dtq 1 1 1073741825, fsnd_dtq 3 1, fsnd_dtq 2 1, rcv_dtq 3, prcv_dtq 0, trcv_dtq 3 -2, trcv_dtq 1 -2, trcv_dtq 1 1073741825, prcv_dtq 1",
+        "m snd_dtq 3 1, snd_dtq 0 1, psnd_dtq 3 1, tsnd_dtq 0 1 -2, tsnd_dtq 1 1 -2, tsnd_dtq 1 1 1073741825, \
+          fsnd_dtq 3 1, fsnd_dtq 2 1, rcv_dtq 3, prcv_dtq 0, trcv_dtq 3 -2, trcv_dtq 1 -2, trcv_dtq 1 1073741825, \
+          prcv_dtq 1",
         "16 run 1",
         "0 p1 M starts
 0 p1 > M
@@ -169,7 +173,9 @@ fn messages_are_queued(rt: HostRuntime) -> Result<(), Fail> {
     shows(
         &rt,
         MAILBOXES,
-        "m act_tsk 2, snd_mbx 2 1, snd_mbx 2 1, snd_mbx 2 3, snd_mbx 2 2, snd_mbx 1 3, snd_mbx 2 3, rcv_mbx 2, rcv_mbx 2, trcv_mbx 2 3, prcv_mbx 2, snd_mbx 1 4, snd_mbx 1 2, prcv_mbx 1, rcv_mbx 1, trcv_mbx 1 0, trcv_mbx 1 3
+        "m act_tsk 2, snd_mbx 2 1, snd_mbx 2 1, snd_mbx 2 3, snd_mbx 2 2, snd_mbx 1 3, snd_mbx 2 3, rcv_mbx 2, \
+          rcv_mbx 2, trcv_mbx 2 3, prcv_mbx 2, snd_mbx 1 4, snd_mbx 1 2, prcv_mbx 1, rcv_mbx 1, trcv_mbx 1 0, \
+          trcv_mbx 1 3
 a rcv_mbx 2",
         "22 run 1",
         "0 p1 M starts
@@ -211,7 +217,8 @@ fn mailboxes_are_refused(rt: HostRuntime) -> Result<(), Fail> {
     shows(
         &rt,
         MAILBOXES,
-        "m snd_mbx 3 1, snd_mbx 1 5, snd_mbx 1 0, snd_mbx 1 4, snd_mbx 2 4, rcv_mbx 0, prcv_mbx 3, trcv_mbx 0 -2, trcv_mbx 1 -2, trcv_mbx 1 1073741825, trcv_mbx 2 0
+        "m snd_mbx 3 1, snd_mbx 1 5, snd_mbx 1 0, snd_mbx 1 4, snd_mbx 2 4, rcv_mbx 0, prcv_mbx 3, trcv_mbx 0 -2, \
+          trcv_mbx 1 -2, trcv_mbx 1 1073741825, trcv_mbx 2 0
 a rcv_mbx 2",
         "14 run 1",
         "0 p1 M starts
@@ -250,7 +257,8 @@ CLASS(TCL_1) {
     CRE_MSG(G,{1});
     CRE_MSG(H,{1});
 }",
-        "m act_tsk 2, act_tsk 3, set_flg 1 1, set_flg 1 1, wup_tsk 3, snd_mbx 1 1, snd_mbx 1 2, wup_tsk 3, snd_dtq 1 5, snd_dtq 1 6
+        "m act_tsk 2, act_tsk 3, set_flg 1 1, set_flg 1 1, wup_tsk 3, snd_mbx 1 1, snd_mbx 1 2, wup_tsk 3, \
+          snd_dtq 1 5, snd_dtq 1 6
 a wai_flg 1 1 0, rcv_mbx 1, rcv_dtq 1
 b wai_flg 1 1 0, slp_tsk, rcv_mbx 1, slp_tsk, rcv_dtq 1",
         "24 run 1",

@@ -12,7 +12,8 @@ CLASS(TCL_1) {
     CRE_TSK(A,{0,0,a,10,256,NULL});
     CRE_TSK(B,{0,0,a,10,256,NULL});
 }",
-        "m act_tsk 4, act_tsk -1, act_tsk 2, act_tsk 2, act_tsk 2, act_tsk 0, act_tsk 0, can_act 3, can_act 4, can_act -1, can_act 0, can_act 0, can_act 2, act_tsk 2
+        "m act_tsk 4, act_tsk -1, act_tsk 2, act_tsk 2, act_tsk 2, act_tsk 0, act_tsk 0, can_act 3, can_act 4, \
+          can_act -1, can_act 0, can_act 0, can_act 2, act_tsk 2
 a put 1",
         "20 run 1",
         "0 p1 M starts
@@ -57,7 +58,8 @@ CLASS(TCL_1) {
     CRE_TSK(A,{0,0,a,5,256,NULL});
     CRE_TSK(B,{0,0,a,10,256,NULL});
 }",
-        "m mact_tsk 4 9, mact_tsk 2 0, mact_tsk 2 2, mact_tsk 2 1, mact_tsk 2 1, mact_tsk 2 1, mact_tsk 0 1, can_act 0, mig_tsk 4 9, mig_tsk 3 0, mig_tsk 3 2, mig_tsk 3 1, mig_tsk 2 1, mig_tsk 0 1
+        "m mact_tsk 4 9, mact_tsk 2 0, mact_tsk 2 2, mact_tsk 2 1, mact_tsk 2 1, mact_tsk 2 1, mact_tsk 0 1, \
+          can_act 0, mig_tsk 4 9, mig_tsk 3 0, mig_tsk 3 2, mig_tsk 3 1, mig_tsk 2 1, mig_tsk 0 1
 a put 2",
         "24 run 1",
         "0 p1 M starts
@@ -101,7 +103,8 @@ CLASS(TCL_1) {
     CRE_TSK(M,{TA_ACT,0,m,5,256,NULL});
     CRE_TSK(A,{0,0,a,10,256,NULL});
 }",
-        "m ter_tsk 3, ter_tsk 0, ter_tsk 1, ter_tsk 2, act_tsk 2, chg_pri 2 9, ter_tsk 2, act_tsk 2, get_pri 2, act_tsk 2, dly_tsk 0, ter_tsk 2, ter_tsk 2, ter_tsk 2, ext_tsk, put 9
+        "m ter_tsk 3, ter_tsk 0, ter_tsk 1, ter_tsk 2, act_tsk 2, chg_pri 2 9, ter_tsk 2, act_tsk 2, get_pri 2, \
+          act_tsk 2, dly_tsk 0, ter_tsk 2, ter_tsk 2, ter_tsk 2, ext_tsk, put 9
 a slp_tsk",
         "12 run 1, tick, 8 run 1",
         "0 p1 M starts
@@ -146,7 +149,8 @@ CLASS(TCL_1) {
     CRE_TSK(A,{0,0,a,8,256,NULL});
     CRE_TSK(B,{0,0,b,5,256,NULL});
 }",
-        "m get_pri 4, get_pri 2, chg_pri 4 17, chg_pri 2 17, chg_pri 2 -1, chg_pri 2 3, act_tsk 2, chg_pri 2 16, get_pri 2, chg_pri 2 0, get_pri 2, get_pri 0, act_tsk 3, chg_pri 0 5, chg_pri 2 4, chg_pri 1 16
+        "m get_pri 4, get_pri 2, chg_pri 4 17, chg_pri 2 17, chg_pri 2 -1, chg_pri 2 3, act_tsk 2, chg_pri 2 16, \
+          get_pri 2, chg_pri 2 0, get_pri 2, get_pri 0, act_tsk 3, chg_pri 0 5, chg_pri 2 4, chg_pri 1 16
 a put 2
 b put 3",
         "24 run 1",
@@ -195,7 +199,9 @@ CLASS(TCL_1) {
     CRE_TSK(M,{TA_ACT,0,m,10,256,NULL});
     CRE_TSK(A,{0,0,a,5,256,NULL});
 }",
-        "m wup_tsk 3, wup_tsk 2, can_wup 3, can_wup 2, wup_tsk 0, wup_tsk 1, can_wup 0, can_wup 0, tslp_tsk -2, tslp_tsk 1073741825, tslp_tsk 0, wup_tsk 0, tslp_tsk 0, wup_tsk 0, slp_tsk, act_tsk 2, wup_tsk 2, wup_tsk 2, wup_tsk 2, can_wup 2
+        "m wup_tsk 3, wup_tsk 2, can_wup 3, can_wup 2, wup_tsk 0, wup_tsk 1, can_wup 0, can_wup 0, tslp_tsk -2, \
+          tslp_tsk 1073741825, tslp_tsk 0, wup_tsk 0, tslp_tsk 0, wup_tsk 0, slp_tsk, act_tsk 2, wup_tsk 2, \
+          wup_tsk 2, wup_tsk 2, can_wup 2
 a slp_tsk, tslp_tsk -1, dly_tsk 3",
         "30 run 1",
         "0 p1 M starts
@@ -362,7 +368,9 @@ CLASS(TCL_1) {
     CRE_TSK(A,{0,0,a,10,256,NULL});
     CRE_TSK(B,{0,0,b,10,256,NULL});
 }",
-        "m sus_tsk 4, sus_tsk 3, rsm_tsk 4, rsm_tsk 0, rsm_tsk 2, act_tsk 2, act_tsk 3, rsm_tsk 2, sus_tsk 2, sus_tsk 2, rsm_tsk 2, sus_tsk 0, dly_tsk 0, sus_tsk 2, sus_tsk 2, rsm_tsk 2, sus_tsk 2, wup_tsk 2, rsm_tsk 2, sus_tsk 2, sus_tsk 3, rel_wai 2
+        "m sus_tsk 4, sus_tsk 3, rsm_tsk 4, rsm_tsk 0, rsm_tsk 2, act_tsk 2, act_tsk 3, rsm_tsk 2, sus_tsk 2, \
+          sus_tsk 2, rsm_tsk 2, sus_tsk 0, dly_tsk 0, sus_tsk 2, sus_tsk 2, rsm_tsk 2, sus_tsk 2, wup_tsk 2, \
+          rsm_tsk 2, sus_tsk 2, sus_tsk 3, rel_wai 2
 a slp_tsk
 b rsm_tsk 1, slp_tsk",
         "16 run 1, tick, 12 run 1",
