@@ -2,75 +2,9 @@
 use Rattle.std.proofs.Common.{ℕ, ◌<◌, ◌≤◌, ◌^◌, arith, length, rules}
 use Rattle.std.specs.Prelude.{decimal}
 use Rattle.std.proofs.lemmas.Fmt.{length-decimal-le}
-use Rattle.fmp_base.specs.declared.codes.Er.{Er}
-use Rattle.fmp_base.specs.declared.codes.Er.TheVariants as er
-use Rattle.fmp_base.specs.declared.services.Service.{Service}
-use Rattle.fmp_base.specs.declared.services.Service.TheVariants as service
 use Rattle.fmp_base.specs.declared.calls.Call.{Call}
 use Rattle.fmp_base.specs.declared.calls.Call.TheVariants as call
-use Rattle.fmp_base.specs.Codes.{code_name}
-use Rattle.fmp_base.specs.Services.{service_name, arguments_of}
-
--- the name of a service call has at most nine bytes
-pub short_service : (s : Service) → length (service_name s) ≤ 9
-short_service service.Put = search rules
-short_service service.LdShr = search rules
-short_service service.StShr = search rules
-short_service service.ActTsk = search rules
-short_service service.CanAct = search rules
-short_service service.ExtTsk = search rules
-short_service service.TerTsk = search rules
-short_service service.ChgPri = search rules
-short_service service.GetPri = search rules
-short_service service.MactTsk = search rules
-short_service service.MigTsk = search rules
-short_service service.SlpTsk = search rules
-short_service service.TslpTsk = search rules
-short_service service.WupTsk = search rules
-short_service service.CanWup = search rules
-short_service service.RelWai = search rules
-short_service service.SusTsk = search rules
-short_service service.RsmTsk = search rules
-short_service service.DlyTsk = search rules
-short_service service.SigSem = search rules
-short_service service.WaiSem = search rules
-short_service service.PolSem = search rules
-short_service service.TwaiSem = search rules
-short_service service.SetFlg = search rules
-short_service service.ClrFlg = search rules
-short_service service.WaiFlg = search rules
-short_service service.PolFlg = search rules
-short_service service.TwaiFlg = search rules
-short_service service.SndDtq = search rules
-short_service service.PsndDtq = search rules
-short_service service.TsndDtq = search rules
-short_service service.FsndDtq = search rules
-short_service service.RcvDtq = search rules
-short_service service.PrcvDtq = search rules
-short_service service.TrcvDtq = search rules
-short_service service.SndMbx = search rules
-short_service service.RcvMbx = search rules
-short_service service.PrcvMbx = search rules
-short_service service.TrcvMbx = search rules
-short_service service.StaCyc = search rules
-short_service service.StpCyc = search rules
-short_service service.RotRdq = search rules
-short_service service.GetTid = search rules
-short_service service.LocCpu = search rules
-short_service service.UnlCpu = search rules
-short_service service.DisDsp = search rules
-short_service service.EnaDsp = search rules
-short_service service.LocSpn = search rules
-short_service service.TrySpn = search rules
-short_service service.UnlSpn = search rules
-short_service service.IactTsk = search rules
-short_service service.IwupTsk = search rules
-short_service service.IrelWai = search rules
-short_service service.IsigSem = search rules
-short_service service.IsetFlg = search rules
-short_service service.IpsndDtq = search rules
-short_service service.IfsndDtq = search rules
-short_service service.IrotRdq = search rules
+use Rattle.fmp_base.specs.Services.{arguments_of}
 
 -- a service call has at most four arguments
 pub few_arguments : (c : Call) → length (arguments_of c) ≤ 4
@@ -132,21 +66,6 @@ few_arguments (call.IsetFlg flag pattern) = search rules
 few_arguments (call.IpsndDtq queue word) = search rules
 few_arguments (call.IfsndDtq queue word) = search rules
 few_arguments (call.IrotRdq priority) = search rules
-
--- the name of a code has at most seven bytes
-pub short_code : (e : Er) → length (code_name e) ≤ 7
-short_code er.Ok = search rules
-short_code er.Sys = search rules
-short_code er.Nospt = search rules
-short_code er.Rsatr = search rules
-short_code er.Par = search rules
-short_code er.Id = search rules
-short_code er.Ctx = search rules
-short_code er.Iluse = search rules
-short_code er.Obj = search rules
-short_code er.Qovr = search rules
-short_code er.Rlwai = search rules
-short_code er.Tmout = search rules
 
 -- a number has at most ten digits
 pub short_number : (n : ℕ) → n < 2 ^ 32 → length (decimal n) ≤ 10

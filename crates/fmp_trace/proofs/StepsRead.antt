@@ -1,17 +1,12 @@
 -- Steps that are read one after the other.
-use Rattle.std.proofs.Common.{ℕ, ◌≡◌, ◌+◌, ◌<◌, ◌≤◌, List, ◌∷◌, ◌++◌, Result, Ok, Err, refl, ap, sym, ◌∙◌}
+use Rattle.std.proofs.Common.{ℕ, ◌≡◌, ◌+◌, ◌<◌, ◌≤◌, List, ◌∷◌, ◌++◌, Result, Ok, Err, refl, ap, sym, ◌∙◌, arith}
 use Rattle.std.proofs.lemmas.Fmt.{decimal_digit}
 use Rattle.fmp_base.specs.declared.events.Event.{Event}
 use Rattle.fmp_base.specs.declared.events.Event.TheVariants as event
 use Rattle.fmp_trace.specs.declared.faults.StepsFault.{StepsFault}
-use Rattle.fmp_trace.specs.Steps.{event_text, events_of, in_front, lines_of, read_events}
+use Rattle.fmp_trace.specs.Steps.{Agrees, event_text, events_of, in_front, lines_of, read_events}
 use Rattle.fmp_trace.proofs.LinesOf.{lines_of-ended}
 use Rattle.fmp_trace.proofs.PrintedSteps.{event_in_line, event_of_line-event_text}
-
--- what is left to read ends as the whole does
-abbrev pub Agrees : (rest whole : Result (List Event) StepsFault) → Type 0
-Agrees (Ok es) whole = whole ≡ Ok (read_events whole)
-Agrees (Err f) whole = whole ≡ Err f
 
 pub agrees_at_first : (whole : Result (List Event) StepsFault) → Agrees whole whole
 agrees_at_first (Ok es) = refl
@@ -42,6 +37,17 @@ short_run processors number n rest small low digit high few =
     let e : Event = event.Run n in
     ap (events_of processors number) (written n rest digit ∙ lines_of-ended (event_text e) rest (event_in_line processors e small (low, high)))
     ∙ ap (λ r. in_front r (events_of processors (number + 1) (lines_of rest))) (event_of_line-event_text processors number e small (low, high) few)
+
+-- a line of an interrupt of one digit
+written_int : (n : ℕ) (rest : List ℕ) → n < 10 → lines_of (105 ∷ 110 ∷ 116 ∷ 32 ∷ (48 + n) ∷ 10 ∷ rest) ≡ lines_of (event_text (event.Int n) ++ 10 ∷ rest)
+written_int n rest h = ap (λ ds. lines_of (105 ∷ 110 ∷ 116 ∷ 32 ∷ (ds ++ 10 ∷ rest))) (sym (decimal_digit n h))
+
+pub short_int : (processors number n : ℕ) (rest : List ℕ) → processors < 256 → 1 ≤ n → n ≤ 9 → number ≤ 1048576
+    → events_of processors number (lines_of (105 ∷ 110 ∷ 116 ∷ 32 ∷ (48 + n) ∷ 10 ∷ rest)) ≡ in_front (Ok (event.Int n)) (events_of processors (number + 1) (lines_of rest))
+short_int processors number n rest small low digit few =
+    let e : Event = event.Int n in
+    ap (events_of processors number) (written_int n rest (omega (arith, digit)) ∙ lines_of-ended (event_text e) rest (event_in_line processors e small (low, omega (arith, digit))))
+    ∙ ap (λ r. in_front r (events_of processors (number + 1) (lines_of rest))) (event_of_line-event_text processors number e small (low, omega (arith, digit)) few)
 
 -- a line that is a tick
 pub short_tick : (processors number : ℕ) (rest : List ℕ) → processors < 256 → number ≤ 1048576

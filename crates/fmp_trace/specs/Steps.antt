@@ -102,6 +102,11 @@ abbrev pub read_events : Result (List Event) StepsFault → List Event
 read_events (Ok es) = es
 read_events (Err f) = []
 
+-- what is left to read ends as the whole does
+abbrev pub Agrees : (rest whole : Result (List Event) StepsFault) → Type 0
+Agrees (Ok es) whole = whole ≡ Ok (read_events whole)
+Agrees (Err f) whole = whole ≡ Err f
+
 -- a reader's fault is that of the text, unless memory ran out
 abbrev pub IsFaultOf : StepsFault → Result (List Event) StepsFault → Type 0
 IsFaultOf fault.Memory r = Unit {0}

@@ -4,7 +4,8 @@ ghost use Rattle.fmp_base.specs.Services.{arguments_of};
 ghost use Rattle.std.specs.Fmt.{signed_decimal};
 ghost use Rattle.fmp_base.specs.Texts.{more_numbers_text, numbers_text, call_text, value_text, reply_text, answer_text};
 
-use crate::texts::{LineBytes, ROOM, append_array, append_signed, append_word};
+use crate::padded::{code_word, opening};
+use crate::texts::{LineBytes, ROOM, append_array, append_front, append_signed};
 use fmp_base::{Call, Reply};
 
 /// A comma and a number.
@@ -84,6 +85,7 @@ fn single_argument(call: &Call) -> Option<i32>
 
 /// The arguments of a call, with commas between.
 #[tactic(auto, using(crate::proofs::Short::few_arguments))]
+#[inline(never)]
 fn append_arguments(call: &Call, line: &mut LineBytes, end: usize) -> usize
     requires { end + 72 ≤ ROOM }
     ensures text { take result line.new ≡ take end line.old ++ numbers_text (arguments_of call.now) }
@@ -105,16 +107,15 @@ fn append_argument(call: &Call, line: &mut LineBytes, end: usize) -> usize
     }
 }
 
-/// The name of a call, and its arguments between parentheses.
+/// A blank, the name of a call, and its arguments between parentheses.
 #[inline(always)]
-#[tactic(auto, using(crate::proofs::Short::short_service))]
 pub fn append_call(call: &Call, line: &mut LineBytes, end: usize) -> usize
     requires { end + 84 ≤ ROOM }
-    ensures text { take result line.new ≡ take end line.old ++ call_text call.now }
-    ensures short { result ≤ end + 58 }
+    ensures text { take result line.new ≡ take end line.old ++ (codes " " ++ call_text call.now) }
+    ensures short { result ≤ end + 59 }
 {
-    let end = append_word(call.service().name().as_bytes(), line, end);
-    let end = append_array(*b"(", line, end);
+    let (word, count) = opening(call.service());
+    let end = append_front(word, count, line, end);
     let end = append_argument(call, line, end);
     append_array(*b")", line, end)
 }
@@ -136,21 +137,21 @@ fn append_value(value: Option<i32>, line: &mut LineBytes, end: usize) -> usize
 
 /// The name of the code, and the value where there is one.
 #[inline(always)]
-#[tactic(auto, using(crate::proofs::Short::short_code))]
-pub fn append_reply(reply: Reply, line: &mut LineBytes, end: usize) -> usize
+pub fn append_reply(reply: &Reply, line: &mut LineBytes, end: usize) -> usize
     requires { end + 26 ≤ ROOM }
-    ensures text { take result line.new ≡ take end line.old ++ reply_text reply }
+    ensures text { take result line.new ≡ take end line.old ++ reply_text reply.now }
     ensures short { result ≤ end + 19 }
 {
-    let end = append_word(reply.code.name().as_bytes(), line, end);
+    let (word, count) = code_word(reply.code);
+    let end = append_front(word, count, line, end);
     append_value(reply.value, line, end)
 }
 
 /// A reply, or `wait` where the caller waits.
 #[inline(always)]
-pub fn append_answer(reply: Option<Reply>, line: &mut LineBytes, end: usize) -> usize
+pub fn append_answer(reply: &Option<Reply>, line: &mut LineBytes, end: usize) -> usize
     requires { end + 26 ≤ ROOM }
-    ensures text { take result line.new ≡ take end line.old ++ answer_text reply }
+    ensures text { take result line.new ≡ take end line.old ++ answer_text reply.now }
     ensures short { result ≤ end + 19 }
 {
     match reply {

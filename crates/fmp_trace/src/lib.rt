@@ -9,6 +9,7 @@ mod lines;
 mod names;
 mod numeral;
 mod numerals;
+mod padded;
 mod page;
 mod reading;
 mod states;

@@ -11,9 +11,7 @@ use crate::names::{
     append_caller, append_cyclic_name, append_handler, append_run, append_task_name,
 };
 use crate::numeral::Numeral;
-use crate::texts::{
-    LineBytes, ROOM, append_array, append_line, append_number, append_processor, append_word,
-};
+use crate::texts::{LineBytes, ROOM, append_array, append_line, append_number, append_processor};
 use fmp_base::{Call, Caller, Fault, Handler, Line, Reply, System};
 use std::alloc::AllocError;
 
@@ -29,13 +27,13 @@ pub const REACH: usize = 179;
 fn append_actor(
     sys: &System,
     processor: u8,
-    caller: Caller,
+    caller: &Caller,
     line: &mut LineBytes,
     end: usize,
 ) -> usize
     requires { end + 50 ≤ ROOM }
     ensures text { take result line.new ≡
-        take end line.old ++ (processor_text processor ++ caller_name (tables_of sys.now) caller) }
+        take end line.old ++ (processor_text processor ++ caller_name (tables_of sys.now) caller.now) }
     ensures short { result ≤ end + 37 }
 {
     let end = append_processor(processor, line, end);
@@ -77,7 +75,7 @@ fn append_interrupt(place: u8, line: &mut LineBytes, end: usize) -> usize
 fn append_request(
     sys: &System,
     processor: u8,
-    caller: Caller,
+    caller: &Caller,
     call: &Call,
     line: &mut LineBytes,
     end: usize,
@@ -85,11 +83,10 @@ fn append_request(
     requires { end + 135 ≤ ROOM }
     ensures text { take result line.new ≡
         take end line.old ++ (processor_text processor
-        ++ (caller_name (tables_of sys.now) caller ++ (codes " " ++ call_text call.now))) }
+        ++ (caller_name (tables_of sys.now) caller.now ++ (codes " " ++ call_text call.now))) }
     ensures short { result ≤ end + 96 }
 {
     let end = append_actor(sys, processor, caller, line, end);
-    let end = append_array(*b" ", line, end);
     append_call(call, line, end)
 }
 
@@ -97,17 +94,17 @@ fn append_request(
 fn append_called(
     sys: &System,
     processor: u8,
-    caller: Caller,
+    caller: &Caller,
     call: &Call,
-    reply: Option<Reply>,
+    reply: &Option<Reply>,
     line: &mut LineBytes,
     end: usize,
 ) -> usize
     requires { end + 162 ≤ ROOM }
     ensures text { take result line.new ≡
         take end line.old ++ (processor_text processor
-        ++ (caller_name (tables_of sys.now) caller
-        ++ (codes " " ++ (call_text call.now ++ (codes " " ++ answer_text reply))))) }
+        ++ (caller_name (tables_of sys.now) caller.now
+        ++ (codes " " ++ (call_text call.now ++ (codes " " ++ answer_text reply.now))))) }
     ensures short { result ≤ end + 116 }
 {
     let end = append_request(sys, processor, caller, call, line, end);
@@ -118,32 +115,33 @@ fn append_called(
 fn append_end(
     sys: &System,
     processor: u8,
-    caller: Caller,
+    caller: &Caller,
     line: &mut LineBytes,
     end: usize,
 ) -> usize
     requires { end + 54 ≤ ROOM }
     ensures text { take result line.new ≡
-        take end line.old ++ (processor_text processor ++ (caller_name (tables_of sys.now) caller ++ codes " end")) }
+        take end line.old ++ (processor_text processor ++ (caller_name (tables_of sys.now) caller.now ++ codes " end")) }
     ensures short { result ≤ end + 54 }
 {
     let end = append_actor(sys, processor, caller, line, end);
     append_array(*b" end", line, end)
 }
 
-fn name_of_fault(fault: Fault) -> &'static [u8]
-    ensures { result.now ≡ fault_text fault }
+/// The name of a fault.
+fn fault_name(fault: Fault) -> [u8; 5]
+    ensures { result ≡ fault_text fault }
 {
     match fault {
-        Fault::Overflow => b"F_OVF",
-        Fault::Division => b"F_DIV",
+        Fault::Overflow => *b"F_OVF",
+        Fault::Division => *b"F_DIV",
     }
 }
 
 fn append_fault(
     sys: &System,
     processor: u8,
-    caller: Caller,
+    caller: &Caller,
     fault: Fault,
     line: &mut LineBytes,
     end: usize,
@@ -151,26 +149,26 @@ fn append_fault(
     requires { end + 56 ≤ ROOM }
     ensures text { take result line.new ≡
         take end line.old ++ (processor_text processor
-        ++ (caller_name (tables_of sys.now) caller ++ (codes " " ++ fault_text fault))) }
+        ++ (caller_name (tables_of sys.now) caller.now ++ (codes " " ++ fault_text fault))) }
     ensures short { result ≤ end + 56 }
 {
     let end = append_actor(sys, processor, caller, line, end);
     let end = append_array(*b" ", line, end);
-    append_word(name_of_fault(fault), line, end)
+    append_array(fault_name(fault), line, end)
 }
 
 fn append_release(
     sys: &System,
     processor: u8,
     task: u8,
-    reply: Reply,
+    reply: &Reply,
     line: &mut LineBytes,
     end: usize,
 ) -> usize
     requires { end + 82 ≤ ROOM }
     ensures text { take result line.new ≡
         take end line.old ++ (processor_text processor
-        ++ (task_name (tables_of sys.now) task ++ (codes " gets " ++ reply_text reply))) }
+        ++ (task_name (tables_of sys.now) task ++ (codes " gets " ++ reply_text reply.now))) }
     ensures short { result ≤ end + 82 }
 {
     let end = append_task(sys, processor, task, line, end);
@@ -255,18 +253,18 @@ fn append_body(sys: &System, printed: &Line, line: &mut LineBytes, end: usize) -
             caller,
             call,
             reply,
-        } => append_called(sys, *processor, *caller, call, *reply, line, end),
-        Line::End { processor, caller } => append_end(sys, *processor, *caller, line, end),
+        } => append_called(sys, *processor, caller, call, reply, line, end),
+        Line::End { processor, caller } => append_end(sys, *processor, caller, line, end),
         Line::Fault {
             processor,
             caller,
             fault,
-        } => append_fault(sys, *processor, *caller, *fault, line, end),
+        } => append_fault(sys, *processor, caller, *fault, line, end),
         Line::Gets {
             processor,
             task,
             reply,
-        } => append_release(sys, *processor, *task, *reply, line, end),
+        } => append_release(sys, *processor, *task, reply, line, end),
         Line::Starts { processor, task } => append_start(sys, *processor, *task, line, end),
         Line::Pends { processor, cyclic } => append_pending(sys, *processor, *cyclic, line, end),
         Line::Begins { processor, handler } => append_begin(sys, *processor, *handler, line, end),
@@ -292,6 +290,20 @@ fn put_line(
     append_array(*b"\n", line, end)
 }
 
+/// Appends what is put together to the text.
+#[cold]
+#[inline(never)]
+fn append_all(line: &LineBytes, end: usize, out: &mut Vec<u8>) -> Result<(), AllocError>
+    requires { end ≤ ROOM }
+    ensures ok { OnOk result (out.new.items ≡ out.old.items ++ take end line.now) }
+    ensures kept { Begins out.old.items out.new.items }
+    ensures full { OnErr result (vec_capacity out.old < vec_len out.old + end + 96) }
+    ensures len { OnOk result (vec_len out.new ≡ vec_len out.old + end) }
+    ensures capacity { vec_capacity out.old ≤ vec_capacity out.new }
+{
+    append_line(line, end, out)
+}
+
 /// Appends what is put together where there is no room for one more line, and gives the end of what is left.
 #[inline(always)]
 fn make_room(line: &LineBytes, end: usize, out: &mut Vec<u8>) -> Result<usize, AllocError>
@@ -306,7 +318,7 @@ fn make_room(line: &LineBytes, end: usize, out: &mut Vec<u8>) -> Result<usize, A
     if end + REACH <= ROOM {
         return Ok(end);
     }
-    append_line(line, end, out)?;
+    append_all(line, end, out)?;
     Ok(0)
 }
 

@@ -72,13 +72,13 @@ pub fn append_handler(sys: &System, handler: Handler, line: &mut LineBytes, end:
 
 /// Puts the name of a task or handler that acts behind the end of a line: where the line ends then.
 #[inline(always)]
-pub fn append_caller(sys: &System, caller: Caller, line: &mut LineBytes, end: usize) -> usize
+pub fn append_caller(sys: &System, caller: &Caller, line: &mut LineBytes, end: usize) -> usize
     requires { end + 31 ≤ ROOM }
-    ensures text { take result line.new ≡ take end line.old ++ caller_name (tables_of sys.now) caller }
+    ensures text { take result line.new ≡ take end line.old ++ caller_name (tables_of sys.now) caller.now }
     ensures short { result ≤ end + 31 }
 {
     match caller {
-        Caller::Task(place) => append_task_name(sys, place, line, end),
-        Caller::Handler(handler) => append_handler(sys, handler, line, end),
+        Caller::Task(place) => append_task_name(sys, *place, line, end),
+        Caller::Handler(handler) => append_handler(sys, *handler, line, end),
     }
 }

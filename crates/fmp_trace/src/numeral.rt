@@ -1,5 +1,5 @@
 //! Numbers that are written many times.
-ghost use Rattle.std.specs.Prelude.{◌≡◌, ◌<◌, ◌≤◌, ◌^◌, ◌++◌, ◌+◌, ℕ, decimal, length, take, true};
+ghost use Rattle.std.specs.Prelude.{◌≡◌, ◌<◌, ◌≤◌, ◌^◌, ◌++◌, ◌+◌, ℕ, decimal, length, take, false, true};
 
 use crate::texts::{LineBytes, ROOM, append_front};
 use itoa::write_digits;
@@ -35,6 +35,7 @@ fn count_on(digits: &mut [u8; DIGITS], count: usize) -> bool
     requires few { count ≤ 16 }
     ensures next { (n : ℕ) → n < 2 ^ 32 → take count digits.old ≡ decimal n → result ≡ true
         → take count digits.new ≡ decimal (n + 1) }
+    ensures kept { result ≡ false → digits.new ≡ digits.old }
 {
     let last = digits[count - 1];
     if last >= b'9' {
@@ -65,12 +66,19 @@ impl Numeral {
     pub fn set(&mut self, number: u32)
         ensures { self.new ≡ number }
     {
-        let is_next = self.number < number && number - self.number == 1;
+        let is_next = number > 0 && self.number == number - 1;
         if is_next && count_on(&mut self.bytes, self.count) {
             self.number = number;
         } else {
-            *self = Numeral::new(number);
+            self.renew(number);
         }
+    }
+
+    #[inline(never)]
+    fn renew(&mut self, number: u32)
+        ensures { self.new ≡ number }
+    {
+        *self = Numeral::new(number);
     }
 
     /// Puts the number into a line.

@@ -69,25 +69,49 @@ fn first_line(text: &[u8]) -> (&[u8], &[u8])
     }
 }
 
-/// The processor that the first line of a text lets run, if the line says no more and the number has one digit, and the
-/// text behind the line.
-fn short_run(text: &[u8]) -> Option<(u8, &[u8])>
+/// The processor that the first line of a text lets run, if the line says no more and the number is from 1 to `most`,
+/// and the text behind the line.
+#[inline(always)]
+fn short_run(text: &[u8], most: u8) -> Option<(u8, &[u8])>
+    requires { most ≤ 9 }
     ensures low { IfSome result (λ run. 1 ≤ run.0) }
-    ensures digit { IfSome result (λ run. run.0 < 10) }
+    ensures high { IfSome result (λ run. run.0 ≤ most) }
     ensures line { IfSome result (λ run. text.now ≡ 114 ∷ 117 ∷ 110 ∷ 32 ∷ (48 + run.0) ∷ 10 ∷ run.1.now) }
 {
     let [r, u, n, blank, digit, feed, rest @ ..] = text else {
         return None;
     };
     let word = u32::from_le_bytes([*r, *u, *n, *blank]);
-    let is_run = word == u32::from_le_bytes(*b"run ") && *feed == b'\n';
-    if !is_run || *digit < b'1' || *digit > b'9' {
-        return None;
+    let place = digit.wrapping_sub(b'1');
+    if word == u32::from_le_bytes(*b"run ") && *feed == b'\n' && place < most {
+        Some((place + 1, rest))
+    } else {
+        None
     }
-    Some((*digit - b'0', rest))
+}
+
+/// The interrupt that the first line of a text raises, if the line says no more and the number has one digit, and the
+/// text behind the line.
+#[inline(always)]
+fn short_int(text: &[u8]) -> Option<(u8, &[u8])>
+    ensures low { IfSome result (λ int. 1 ≤ int.0) }
+    ensures high { IfSome result (λ int. int.0 ≤ 9) }
+    ensures line { IfSome result (λ int. text.now ≡ 105 ∷ 110 ∷ 116 ∷ 32 ∷ (48 + int.0) ∷ 10 ∷ int.1.now) }
+{
+    let [i, n, t, blank, digit, feed, rest @ ..] = text else {
+        return None;
+    };
+    let word = u32::from_le_bytes([*i, *n, *t, *blank]);
+    let place = digit.wrapping_sub(b'1');
+    if word == u32::from_le_bytes(*b"int ") && *feed == b'\n' && place < 9 {
+        Some((place + 1, rest))
+    } else {
+        None
+    }
 }
 
 /// What stands behind the first line of a text, if the line is `tick`.
+#[inline(always)]
 fn short_tick(text: &[u8]) -> Option<&[u8]>
     ensures { IfSome result (λ rest. text.now ≡ 116 ∷ 105 ∷ 99 ∷ 107 ∷ 10 ∷ rest.now) }
 {
@@ -102,8 +126,8 @@ fn short_tick(text: &[u8]) -> Option<&[u8]>
     }
 }
 
-/// The event of `short_run` or `short_tick`, where a processor has the number and the number of the line is that of an
-/// event.
+/// The event of `short_run`, `short_int` or `short_tick`, where the number of the line is that of an event, and the
+/// text behind it.
 #[inline(always)]
 pub fn short_event(text: &[u8], number: u32, processors: u8) -> Option<(Event, &[u8])>
     ensures event { IfSome result (λ first. events_of processors number (lines_of text.now)
@@ -114,11 +138,11 @@ pub fn short_event(text: &[u8], number: u32, processors: u8) -> Option<(Event, &
     if number > MOST_STEPS {
         return None;
     }
-    if let Some((processor, rest)) = short_run(text) {
-        if processor <= processors {
-            return Some((Event::Run(processor), rest));
-        }
-        return None;
+    if let Some((processor, rest)) = short_run(text, processors.min(9)) {
+        return Some((Event::Run(processor), rest));
+    }
+    if let Some((interrupt, rest)) = short_int(text) {
+        return Some((Event::Int(interrupt), rest));
     }
     let rest = short_tick(text)?;
     Some((Event::Tick, rest))

@@ -60,25 +60,9 @@ pub fn append_front<const N: usize>(
     end + count
 }
 
-/// A text that is mostly of 4 to 8 bytes: such a one as its first four and its last four.
-#[inline(always)]
-pub fn append_word(text: &[u8], line: &mut LineBytes, end: usize) -> usize
-    requires { end + length text.now ≤ ROOM }
-    ensures text { take result line.new ≡ take end line.old ++ text.now }
-    ensures place { result ≡ end + length text.now }
-{
-    match (text.first_chunk::<4>(), text.last_chunk::<4>()) {
-        (Some(first), Some(last)) if text.len() <= 8 => {
-            let end = append_front(first, text.len() - 4, line, end);
-            append_array(*last, line, end)
-        }
-        _ => append(text, line, end),
-    }
-}
-
-/// A name: its first 15 bytes and its last 16, so that two copies of a length that is known do.
-#[inline(always)]
-pub fn append_name(name: &Name, line: &mut LineBytes, end: usize) -> usize
+/// A name of any length: its first 15 bytes and its last 16, so that two copies of a length that is known do.
+#[inline(never)]
+fn append_long_name(name: &Name, line: &mut LineBytes, end: usize) -> usize
     requires { end + 31 ≤ ROOM }
     ensures text { take result line.new ≡ take end line.old ++ name_text name.now }
     ensures short { result ≤ end + 31 }
@@ -94,6 +78,20 @@ pub fn append_name(name: &Name, line: &mut LineBytes, end: usize) -> usize
     end + usize::from(name.length).min(Name::MAX)
 }
 
+/// A name. Most have at most 16 bytes, and one copy does.
+#[inline(always)]
+pub fn append_name(name: &Name, line: &mut LineBytes, end: usize) -> usize
+    requires { end + 31 ≤ ROOM }
+    ensures text { take result line.new ≡ take end line.old ++ name_text name.now }
+    ensures short { result ≤ end + 31 }
+{
+    let length = usize::from(name.length);
+    match name.bytes.first_chunk::<16>() {
+        Some(front) if length <= 16 => append_front(front, length, line, end),
+        _ => append_long_name(name, line, end),
+    }
+}
+
 /// A number below 10 as its digit.
 #[inline(always)]
 fn append_digit(digit: u8, line: &mut LineBytes, end: usize) -> usize
@@ -107,6 +105,7 @@ fn append_digit(digit: u8, line: &mut LineBytes, end: usize) -> usize
 
 /// A number in decimal digits, of which there are several.
 #[tactic(auto, using(std::proofs::lemmas::Fmt::decimal_digit, std::proofs::lemmas::Fmt::decimal_step))]
+#[inline(never)]
 fn append_digits(number: u32, line: &mut LineBytes, end: usize) -> usize
     requires several { 10 ≤ number }
     requires room { end + 16 ≤ ROOM }

@@ -2,13 +2,11 @@ use Rattle.std.proofs.Common.{◌+◌, ◌-◌, ◌≡◌, ◌∙◌, ap, sym, a
 use Rattle.fmp_trace.proofs.Counting.{counted_on}
 use Rattle.fmp_trace.proofs.numeral.count_on.Goals as goal
 
-pub returns : goal.returns
-returns c =
+pub returns-clause-next : goal.returns-clause-next
+returns-clause-next c =
     let at = c.args.count - 1 in
     let digits = c.args.digits.now in
     let count : at + 1 ≡ c.args.count = omega (arith, c.requires.some) in
-    record {
-      next = λ n small is _.
-          ap (λ k. take k (set digits at (get_or digits at 0 + 1))) (sym count)
-          ∙ counted_on n at digits small (search rules) (ap (λ k. take k digits) count ∙ is) (search rules);
-    }
+    λ n small is _.
+    ap (λ k. take k (set digits at (get_or digits at 0 + 1))) (sym count)
+    ∙ counted_on n at digits small (search rules) (ap (λ k. take k digits) count ∙ is) (search rules)

@@ -1,6 +1,5 @@
 use Rattle.std.proofs.Common.{◌≤◌, length}
-use Rattle.fmp_trace.specs.Steps.{steps_of, events_of, lines_of}
-use Rattle.fmp_trace.proofs.StepsRead.{Agrees}
+use Rattle.fmp_trace.specs.Steps.{Agrees, steps_of, events_of, lines_of}
 use Rattle.fmp_trace.proofs.steps.check.Given as goal
 
 -- the lines that are left read as the whole text does
