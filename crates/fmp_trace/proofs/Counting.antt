@@ -4,7 +4,7 @@ use Rattle.std.specs.Prelude.{◌/◌, ◌%◌}
 use Rattle.std.proofs.Math.Seq.{get_or-append_seam}
 use Rattle.std.proofs.lemmas.Bool.{cases_lt}
 use Rattle.std.proofs.lemmas.Fmt.{decimal_digit, decimal_step}
-use Rattle.std.proofs.lemmas.List.{get_or-take, length-append, take_more_set}
+use Rattle.std.proofs.lemmas.List.{get_or-take, length-append, length-set, take_more_set}
 
 -- The last digit of a number, and the digits before it, which mostly stand before that of the next number too.
 record Digits (n : ℕ) : Type 0 where
@@ -61,3 +61,24 @@ counted_on n at bytes small within is below =
     ∙ ap (λ xs. xs ++ ((get_or bytes at 0 + 1) ∷ [])) (front_is n at bytes d.front (48 + n % 10) within (is ∙ d.here))
     ∙ ap (λ b. d.front ++ (b ∷ [])) (omega (arith, last))
     ∙ sym (d.next few)
+
+carried_by : (n at : ℕ) (bytes : List ℕ) → n < 2 ^ 32 → at + 1 < length bytes → take (at + 1 + 1) bytes ≡ decimal n → 57 ≤ get_or bytes (at + 1) 0
+    → get_or bytes at 0 < 57 → (n < 10) ⊎ (10 ≤ n) → take (at + 1 + 1) (set (set bytes at (get_or bytes at 0 + 1)) (at + 1) 48) ≡ decimal (n + 1)
+carried_by n at bytes small within is nine below (inl h) =
+    absurd (omega (arith, length-take-le (at + 1 + 1) bytes (omega (arith, within)), ap length is, ap length (decimal_digit n h)))
+carried_by n at bytes small within is nine below (inr h) =
+    let whole : decimal n ≡ decimal (n / 10) ++ ((48 + n % 10) ∷ []) = decimal_step n h (omega (arith, small)) in
+    let front : take (at + 1) bytes ≡ decimal (n / 10) = front_is n (at + 1) bytes (decimal (n / 10)) (48 + n % 10) within (is ∙ whole) in
+    let last : get_or bytes (at + 1) 0 ≡ 48 + n % 10 = last_is n (at + 1) bytes (decimal (n / 10)) (48 + n % 10) within (is ∙ whole) in
+    let full : n % 10 ≡ 9 = omega (arith, last, nine) in
+    let tens : (n + 1) / 10 ≡ n / 10 + 1 = omega (arith, full) in
+    let ones : (n + 1) % 10 ≡ 0 = omega (arith, full) in
+    let counted = set bytes at (get_or bytes at 0 + 1) in
+    take_more_set counted (at + 1) 48 (omega (arith, within, length-set bytes at (get_or bytes at 0 + 1)))
+    ∙ ap (λ xs. xs ++ (48 ∷ [])) (counted_on (n / 10) at bytes (omega (arith, small)) (omega (arith, within)) front below)
+    ∙ sym (decimal_step (n + 1) (omega (arith, h)) (omega (arith, small)) ∙ (λ i. decimal (tens i) ++ ((48 + ones i) ∷ [])))
+
+-- where the last digit is 9 and the one before it is below 9, the next number has one more there, and a 0 behind it
+pub carried_on : (n at : ℕ) (bytes : List ℕ) → n < 2 ^ 32 → at + 1 < length bytes → take (at + 1 + 1) bytes ≡ decimal n → 57 ≤ get_or bytes (at + 1) 0
+    → get_or bytes at 0 < 57 → take (at + 1 + 1) (set (set bytes at (get_or bytes at 0 + 1)) (at + 1) 48) ≡ decimal (n + 1)
+carried_on n at bytes small within is nine below = carried_by n at bytes small within is nine below (cases_lt n 10)

@@ -121,7 +121,8 @@ fn append_end(
 ) -> usize
     requires { end + 54 ≤ ROOM }
     ensures text { take result line.new ≡
-        take end line.old ++ (processor_text processor ++ (caller_name (tables_of sys.now) caller.now ++ codes " end")) }
+        take end line.old ++ (processor_text processor
+        ++ (caller_name (tables_of sys.now) caller.now ++ codes " end")) }
     ensures short { result ≤ end + 54 }
 {
     let end = append_actor(sys, processor, caller, line, end);

@@ -1,5 +1,5 @@
 //! Numbers that are written many times.
-ghost use Rattle.std.specs.Prelude.{◌≡◌, ◌<◌, ◌≤◌, ◌^◌, ◌++◌, ◌+◌, ℕ, decimal, length, take, false, true};
+ghost use Rattle.std.specs.Prelude.{◌≡◌, ◌<◌, ◌≤◌, ◌^◌, ◌++◌, ◌+◌, ◌-◌, ℕ, decimal, get_or, length, take, false, true};
 
 use crate::texts::{LineBytes, ROOM, append_front};
 use itoa::write_digits;
@@ -28,7 +28,29 @@ impl Model for Numeral {
     ghost invariant = { λ n. (0 < n.count) × (n.count ≤ 10) × (take n.count n.bytes ≡ decimal n.number) };
 }
 
-/// Counts digits on by one, if only the last of them changes.
+/// Counts digits of which the last is 9 on by one, if only the last two of them change.
+#[inline(never)]
+fn count_tens_on(digits: &mut [u8; DIGITS], count: usize) -> bool
+    requires some { 0 < count }
+    requires few { count ≤ 16 }
+    requires nine { 57 ≤ get_or digits.now (count - 1) 0 }
+    ensures next { (n : ℕ) → n < 2 ^ 32 → take count digits.old ≡ decimal n → result ≡ true
+        → take count digits.new ≡ decimal (n + 1) }
+    ensures kept { result ≡ false → digits.new ≡ digits.old }
+{
+    if count < 2 {
+        return false;
+    }
+    let tens = digits[count - 2];
+    if tens >= b'9' {
+        return false;
+    }
+    digits[count - 2] = tens + 1;
+    digits[count - 1] = b'0';
+    true
+}
+
+/// Counts digits on by one, if only the last two of them change.
 #[inline(always)]
 fn count_on(digits: &mut [u8; DIGITS], count: usize) -> bool
     requires some { 0 < count }
@@ -39,7 +61,7 @@ fn count_on(digits: &mut [u8; DIGITS], count: usize) -> bool
 {
     let last = digits[count - 1];
     if last >= b'9' {
-        return false;
+        return count_tens_on(digits, count);
     }
     digits[count - 1] = last + 1;
     true
@@ -74,6 +96,7 @@ impl Numeral {
         }
     }
 
+    #[cold]
     #[inline(never)]
     fn renew(&mut self, number: u32)
         ensures { self.new ≡ number }

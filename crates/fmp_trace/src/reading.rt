@@ -126,8 +126,7 @@ fn short_tick(text: &[u8]) -> Option<&[u8]>
     }
 }
 
-/// The event of `short_run`, `short_int` or `short_tick`, where the number of the line is that of an event, and the
-/// text behind it.
+/// The event of `short_run` or `short_tick`, where the number of the line is that of an event, and the text behind it.
 #[inline(always)]
 pub fn short_event(text: &[u8], number: u32, processors: u8) -> Option<(Event, &[u8])>
     ensures event { IfSome result (λ first. events_of processors number (lines_of text.now)
@@ -140,9 +139,6 @@ pub fn short_event(text: &[u8], number: u32, processors: u8) -> Option<(Event, &
     }
     if let Some((processor, rest)) = short_run(text, processors.min(9)) {
         return Some((Event::Run(processor), rest));
-    }
-    if let Some((interrupt, rest)) = short_int(text) {
-        return Some((Event::Int(interrupt), rest));
     }
     let rest = short_tick(text)?;
     Some((Event::Tick, rest))
@@ -159,6 +155,11 @@ pub fn long_event(text: &[u8], number: u32, processors: u8) -> Result<(Event, &[
     ensures shorter { IfOk result (λ first. length first.1.now < length text.now) }
     ensures counted { IfOk result (λ _. number ≤ 1048576) }
 {
+    if number <= MOST_STEPS {
+        if let Some((interrupt, rest)) = short_int(text) {
+            return Ok((Event::Int(interrupt), rest));
+        }
+    }
     let (line, rest) = first_line(text);
     Ok((event_at(line, number, processors)?, rest))
 }

@@ -37,7 +37,8 @@ impl<'a> Model for Steps<'a> {
 /// line of the text given has this number.
 fn behind_short(text: &[u8], number: u32, processors: u8) -> (&[u8], u32)
     requires { number ≤ 1048577 }
-    ensures agrees { (whole : Result (List Event) StepsFault) → Agrees (events_of processors number (lines_of text.now)) whole
+    ensures agrees { (whole : Result (List Event) StepsFault)
+        → Agrees (events_of processors number (lines_of text.now)) whole
         → Agrees (events_of processors result.1 (lines_of result.0.now)) whole }
     ensures counted { result.1 ≤ 1048577 }
     ensures within { length result.0.now ≤ length text.now }

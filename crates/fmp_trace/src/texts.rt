@@ -138,8 +138,8 @@ pub fn append_number(number: u32, line: &mut LineBytes, end: usize) -> usize
 }
 
 /// A number in decimal digits, with `-` in front where it is negative.
-#[inline(always)]
-pub fn append_signed(number: i32, line: &mut LineBytes, end: usize) -> usize
+#[inline(never)]
+fn append_any_signed(number: i32, line: &mut LineBytes, end: usize) -> usize
     requires { end + 17 ≤ ROOM }
     ensures text { take result line.new ≡ take end line.old ++ signed_decimal number }
     ensures short { result ≤ end + 11 }
@@ -149,6 +149,20 @@ pub fn append_signed(number: i32, line: &mut LineBytes, end: usize) -> usize
     }
     let end = append_array(*b"-", line, end);
     append_number(number.unsigned_abs(), line, end)
+}
+
+/// A number in decimal digits, with `-` in front where it is negative. Most have one digit.
+#[tactic(auto, using(std::proofs::lemmas::Fmt::decimal_digit))]
+#[inline(always)]
+pub fn append_signed(number: i32, line: &mut LineBytes, end: usize) -> usize
+    requires { end + 17 ≤ ROOM }
+    ensures text { take result line.new ≡ take end line.old ++ signed_decimal number }
+    ensures short { result ≤ end + 11 }
+{
+    if number >= 0 && number < 10 {
+        return append_digit(number as u8, line, end);
+    }
+    append_any_signed(number, line, end)
 }
 
 /// The number of the processor at this place, with the blanks round it.
