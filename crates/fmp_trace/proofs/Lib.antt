@@ -1,6 +1,7 @@
 pub mod Appending
 pub mod Counting
 pub mod EventsRead
+pub mod Hundreds
 pub mod LineBytes
 pub mod LinesOf
 pub mod ListedStates

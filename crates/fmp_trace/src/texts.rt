@@ -103,6 +103,26 @@ fn append_digit(digit: u8, line: &mut LineBytes, end: usize) -> usize
     append_array([b'0' + digit], line, end)
 }
 
+/// A number of three digits.
+#[tactic(auto, using(crate::proofs::Hundreds::decimal_hundreds))]
+fn append_hundreds(number: u32, line: &mut LineBytes, end: usize) -> usize
+    requires least { 100 ≤ number }
+    requires most { number < 1000 }
+    requires room { end + 16 ≤ ROOM }
+    ensures text { take result line.new ≡ take end line.old ++ decimal number }
+    ensures place { result ≡ end + length (decimal number) }
+{
+    append_array(
+        [
+            b'0' + (number / 100) as u8,
+            b'0' + (number / 10 % 10) as u8,
+            b'0' + (number % 10) as u8,
+        ],
+        line,
+        end,
+    )
+}
+
 /// A number in decimal digits, of which there are several.
 #[tactic(auto, using(std::proofs::lemmas::Fmt::decimal_digit, std::proofs::lemmas::Fmt::decimal_step))]
 #[inline(never)]
@@ -118,6 +138,9 @@ fn append_digits(number: u32, line: &mut LineBytes, end: usize) -> usize
             line,
             end,
         );
+    }
+    if number < 1000 {
+        return append_hundreds(number, line, end);
     }
     Numeral::new(number).append(line, end)
 }
