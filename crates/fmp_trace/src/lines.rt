@@ -52,6 +52,7 @@ fn append_task(sys: &System, processor: u8, task: u8, line: &mut LineBytes, end:
     append_task_name(sys, task, line, end)
 }
 
+#[inline(always)]
 fn append_tick(clock: u32, line: &mut LineBytes, end: usize) -> usize
     requires { end + 22 ≤ ROOM }
     ensures text { take result line.new ≡ take end line.old ++ (codes " tick " ++ decimal clock) }
@@ -91,6 +92,7 @@ fn append_request(
 }
 
 /// A service call with its answer.
+#[inline(always)]
 fn append_called(
     sys: &System,
     processor: u8,
@@ -158,6 +160,7 @@ fn append_fault(
     append_array(fault_name(fault), line, end)
 }
 
+#[inline(always)]
 fn append_release(
     sys: &System,
     processor: u8,
@@ -177,6 +180,7 @@ fn append_release(
     append_reply(reply, line, end)
 }
 
+#[inline(always)]
 fn append_start(sys: &System, processor: u8, task: u8, line: &mut LineBytes, end: usize) -> usize
     requires { end + 57 ≤ ROOM }
     ensures text { take result line.new ≡
@@ -223,6 +227,7 @@ fn append_begin(
     append_handler(sys, handler, line, end)
 }
 
+#[inline(always)]
 fn append_dispatch(
     sys: &System,
     processor: u8,
@@ -241,6 +246,7 @@ fn append_dispatch(
 }
 
 /// A line without its number and its end.
+#[inline(always)]
 fn append_body(sys: &System, printed: &Line, line: &mut LineBytes, end: usize) -> usize
     requires { end + 162 ≤ ROOM }
     ensures text { take result line.new ≡ take end line.old ++ line_body (tables_of sys.now) printed.now }
@@ -325,6 +331,7 @@ fn make_room(line: &LineBytes, end: usize, out: &mut Vec<u8>) -> Result<usize, A
 
 /// Puts the lines of the event of this number together behind what ends at this place, and gives their end. Where there
 /// is no room for one more line, what is put together is appended.
+#[inline(always)]
 pub fn put_lines(
     sys: &System,
     number: &Numeral,

@@ -44,6 +44,7 @@ pub fn append_cyclic_name(sys: &System, cyclic: u8, line: &mut LineBytes, end: u
 }
 
 /// The name of the task that runs, or `-`.
+#[inline(always)]
 pub fn append_run(sys: &System, task: Option<u8>, line: &mut LineBytes, end: usize) -> usize
     requires { end + 31 ≤ ROOM }
     ensures text { take result line.new ≡ take end line.old ++ run_text (tables_of sys.now) task }

@@ -45,6 +45,7 @@ impl Page {
 
     /// Prints the lines of the event of this number, each ended by a line feed. Where the page is full, what stands on
     /// it is appended to the text.
+    #[inline(always)]
     pub fn print(
         &mut self,
         sys: &System,
