@@ -142,8 +142,8 @@ pub fn append_reply(reply: &Reply, line: &mut LineBytes, end: usize) -> usize
     ensures text { take result line.new ≡ take end line.old ++ reply_text reply.now }
     ensures short { result ≤ end + 19 }
 {
-    let (word, count) = code_word(reply.code);
-    let end = append_front(word, count, line, end);
+    let word = code_word(reply.code);
+    let end = append_front(&word, usize::from(word[7]), line, end);
     append_value(reply.value, line, end)
 }
 

@@ -1,5 +1,5 @@
 //! Words of the trace, each at the front of an array of a known size, so that one copy puts it into a line.
-ghost use Rattle.std.specs.Prelude.{◌≡◌, ◌≤◌, ◌++◌, codes, take};
+ghost use Rattle.std.specs.Prelude.{◌≡◌, ◌≤◌, ◌++◌, codes, get_or, take};
 ghost use Rattle.fmp_base.specs.Codes.{code_name};
 ghost use Rattle.fmp_base.specs.Services.{service_name};
 
@@ -74,24 +74,24 @@ pub fn opening(service: Service) -> (&'static [u8; 16], usize)
     }
 }
 
-/// The name of a code. It is so many bytes of the array.
+/// The name of a code. The last byte tells its length, and the bytes between mean nothing.
 #[inline(always)]
-pub fn code_word(code: Er) -> (&'static [u8; 8], usize)
-    ensures text { take result.1 result.0.now ≡ code_name code }
-    ensures short { result.1 ≤ 7 }
+pub fn code_word(code: Er) -> [u8; 8]
+    ensures text { take (get_or result 7 0) result ≡ code_name code }
+    ensures short { get_or result 7 0 ≤ 7 }
 {
     match code {
-        Er::Ok => (b"E_OK    ", 4),
-        Er::Sys => (b"E_SYS   ", 5),
-        Er::Nospt => (b"E_NOSPT ", 7),
-        Er::Rsatr => (b"E_RSATR ", 7),
-        Er::Par => (b"E_PAR   ", 5),
-        Er::Id => (b"E_ID    ", 4),
-        Er::Ctx => (b"E_CTX   ", 5),
-        Er::Iluse => (b"E_ILUSE ", 7),
-        Er::Obj => (b"E_OBJ   ", 5),
-        Er::Qovr => (b"E_QOVR  ", 6),
-        Er::Rlwai => (b"E_RLWAI ", 7),
-        Er::Tmout => (b"E_TMOUT ", 7),
+        Er::Ok => *b"E_OK   \x04",
+        Er::Sys => *b"E_SYS  \x05",
+        Er::Nospt => *b"E_NOSPT\x07",
+        Er::Rsatr => *b"E_RSATR\x07",
+        Er::Par => *b"E_PAR  \x05",
+        Er::Id => *b"E_ID   \x04",
+        Er::Ctx => *b"E_CTX  \x05",
+        Er::Iluse => *b"E_ILUSE\x07",
+        Er::Obj => *b"E_OBJ  \x05",
+        Er::Qovr => *b"E_QOVR \x06",
+        Er::Rlwai => *b"E_RLWAI\x07",
+        Er::Tmout => *b"E_TMOUT\x07",
     }
 }
