@@ -22,5 +22,5 @@ pub use delivery::{deliver, deliver_in_place};
 pub use instructions::{BodyCode, Code, Instruction, MachineContext};
 pub use machine::{start, stretch, stretch_in_place};
 pub use operators::{apply_binary, apply_unary};
-pub use verifier::{keeps_table, verify, verify_body};
+pub use verifier::{is_fit, keeps_table, verify, verify_body};
 pub use vm::Vm;

@@ -2,17 +2,19 @@
 ghost use Rattle.std.specs.Prelude.{◌≡◌, ◌+◌, ◌<◌, ◌≤◌, ◌↔◌, ◌^◌, IsTrue, Some, is_some, length, slice_get};
 ghost use Rattle.fmp_base.specs.Services.{out_place};
 ghost use Rattle.fmp_code.specs.Instructions.{body_tables, code_tables};
-ghost use Rattle.fmp_code.specs.Verify.{entry_is, local_fits, places_fit, fits, EachFits, KeepsTable, VerifiedBody, Verified};
+ghost use Rattle.fmp_code.specs.Verify.{AreLow, entry_is, local_fits, places_fit, fits, EachFits, KeepsTable, VerifiedBody, Verified};
 
 use crate::instructions::{BodyCode, Code, Instruction};
 use fmp_base::Service;
 
+#[inline(always)]
 fn is_entry(depths: &[u8], place: usize, depth: usize) -> bool
+    requires { AreLow depths.now }
     ensures { result ≡ entry_is depths.now place depth }
 {
     match depths.get(place) {
         None => false,
-        Some(entry) => *entry as usize == depth && depth <= 64,
+        Some(entry) => *entry as usize == depth,
     }
 }
 
@@ -51,38 +53,57 @@ fn has_places(locals: u8, service: Service, out: Option<u8>, receiver: Option<u8
     takes_out(service) == out.is_some() && is_local(locals, out) && is_local(locals, receiver)
 }
 
-fn is_fit(locals: u8, depths: &[u8], place: usize, depth: usize, instruction: Instruction) -> bool
-    requires { place + 1 < 2 ^ 64 }
+/// Whether a body's code may have an instruction at a place before which so many operands stand: it finds its operands
+/// and its locals, and the places where it goes on have the depths that it leaves. No depth is above 64.
+#[inline(always)]
+pub fn is_fit(
+    locals: u8,
+    depths: &[u8],
+    place: usize,
+    depth: usize,
+    instruction: Instruction,
+) -> bool
+    requires place { place + 1 < 2 ^ 64 }
+    requires depth { depth ≤ 64 }
+    requires low { AreLow depths.now }
     ensures { result ≡ fits locals depths.now place depth instruction }
 {
     let next = place + 1;
-    depth <= 64
-        && match instruction {
-            Instruction::Push(_) => is_entry(depths, next, depth + 1),
-            Instruction::Load(v) => v < locals && is_entry(depths, next, depth + 1),
-            Instruction::Store(v) => {
-                v < locals && 1 <= depth && is_entry(depths, next, depth - 1)
-            }
-            Instruction::Unary(_) => 1 <= depth && is_entry(depths, next, depth),
-            Instruction::Truth => 1 <= depth && is_entry(depths, next, depth),
-            Instruction::Binary(_) => 2 <= depth && is_entry(depths, next, depth - 1),
-            Instruction::Jump(target) => is_entry(depths, target as usize, depth),
-            Instruction::JumpIfZero(target) => {
-                1 <= depth
-                    && is_entry(depths, target as usize, depth - 1)
-                    && is_entry(depths, next, depth - 1)
-            }
-            Instruction::Call {
-                service,
-                out,
-                result: receiver,
-            } => {
-                depth == service.arity() as usize
-                    && has_places(locals, service, out, receiver)
-                    && is_entry(depths, next, 0)
-            }
-            Instruction::End => depth == 0,
+    match instruction {
+        Instruction::Push(_) => is_entry(depths, next, depth + 1),
+        Instruction::Load(v) => v < locals && is_entry(depths, next, depth + 1),
+        Instruction::Store(v) => v < locals && 1 <= depth && is_entry(depths, next, depth - 1),
+        Instruction::Unary(_) => 1 <= depth && is_entry(depths, next, depth),
+        Instruction::Truth => 1 <= depth && is_entry(depths, next, depth),
+        Instruction::Binary(_) => 2 <= depth && is_entry(depths, next, depth - 1),
+        Instruction::Jump(target) => is_entry(depths, target as usize, depth),
+        Instruction::JumpIfZero(target) => {
+            1 <= depth
+                && is_entry(depths, target as usize, depth - 1)
+                && is_entry(depths, next, depth - 1)
         }
+        Instruction::Call {
+            service,
+            out,
+            result: receiver,
+        } => {
+            depth == service.arity() as usize
+                && has_places(locals, service, out, receiver)
+                && is_entry(depths, next, 0)
+        }
+        Instruction::End => depth == 0,
+    }
+}
+
+fn are_low(depths: &[u8]) -> bool
+    ensures { IsTrue result ↔ AreLow depths.now }
+{
+    for depth in depths {
+        if *depth > 64 {
+            return false;
+        }
+    }
+    true
 }
 
 fn starts_at_zero(depths: &[u8]) -> bool
@@ -98,6 +119,9 @@ fn each_fits(locals: u8, instructions: &[Instruction], depths: &[u8]) -> bool
     requires { length depths.now ≡ length instructions.now }
     ensures { IsTrue result ↔ EachFits locals instructions.now depths.now }
 {
+    if !are_low(depths) {
+        return false;
+    }
     for place in 0..instructions.len() {
         if !is_fit(
             locals,
