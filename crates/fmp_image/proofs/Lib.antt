@@ -1,3 +1,4 @@
+pub mod Arguments
 pub mod BodyLaws
 pub mod Chains
 pub mod Entries
@@ -5,6 +6,7 @@ pub mod FieldLaws
 pub mod ImageLaws
 pub mod InRange
 pub mod InstructionLaws
+pub mod KeptCode
 pub mod Names
 pub mod PairLaws
 pub mod PairLists

@@ -1,6 +1,5 @@
 -- Reading pairs one after the other, as a loop does.
-use Rattle.std.proofs.Common.{◌≡◌, ℕ, suc, ◌-◌, ◌+◌, ◌≤◌, ◌<◌, List, [], ◌∷◌, ◌++◌, Result, Ok, Err, Bool, true, false, refl, sym, ap, ◌∙◌, append_assoc, arith}
-use Rattle.std.specs.Prelude.{IfOk, IfErr}
+use Rattle.std.proofs.Common.{◌≡◌, ℕ, suc, ◌-◌, ◌+◌, ◌≤◌, ◌<◌, List, [], ◌∷◌, ◌++◌, Result, Ok, Err, refl, sym, ◌∙◌, append_assoc, arith}
 use Rattle.std.proofs.lemmas.List.{append-nil}
 use Rattle.fmp_image.specs.declared.fault.ImageFault.{ImageFault}
 use Rattle.fmp_image.specs.declared.fault.LoadFault.{LoadFault}
@@ -45,21 +44,3 @@ module _ {A B : Type 0} where
         let k : count - i ≡ 0 = omega arith in
         let one : with_fronts xs ys (pairs_at pair_at (count - i) bytes) ≡ Ok ((xs, ys), bytes) = rw (k, append-nil xs, append-nil ys) refl in
         sym so_far ∙ one
-
-    -- the same where a pair was appended, and a test tells whether there is one
-    pub goes_on_where : (r : Result ((A × B) × List ℕ) ImageFault) (t : Bool) (xs' : List A) (ys' : List B) (after : List ℕ)
-        → pair_at bytes ≡ r → i < count → t ≡ true → (fault : ImageFault) → IfErr r (λ f. (t ≡ false) × (f ≡ fault))
-        → IfOk r (λ x. (t ≡ true) × (x.1 ≡ after) × (xs' ≡ xs ++ x.0.0 ∷ []) × (ys' ≡ ys ++ x.0.1 ∷ []))
-        → with_fronts xs ys (pairs_at pair_at (count - i) bytes) ≡ total
-        → with_fronts xs' ys' (pairs_at pair_at (count - (i + 1)) after) ≡ total
-    goes_on_where (Ok x) t xs' ys' after e lt accepted fault refused pushed so_far =
-        rw (pushed.2, pushed.3, sym pushed.1) (goes_on x.0.0 x.0.1 x.1 lt e so_far)
-    goes_on_where (Err f) t xs' ys' after e lt accepted fault refused pushed so_far = absurd cc
-
-    pub ends_where : (r : Result ((A × B) × List ℕ) ImageFault) (t : Bool) (xs' : List A) (ys' : List B) (after : List ℕ)
-        → pair_at bytes ≡ r → i < count → t ≡ false → (fault : ImageFault) → IfErr r (λ f. (t ≡ false) × (f ≡ fault))
-        → IfOk r (λ x. (t ≡ true) × (x.1 ≡ after) × (xs' ≡ xs ++ x.0.0 ∷ []) × (ys' ≡ ys ++ x.0.1 ∷ []))
-        → with_fronts xs ys (pairs_at pair_at (count - i) bytes) ≡ total → total ≡ Err fault
-    ends_where (Ok x) t xs' ys' after e lt declined fault refused pushed so_far = absurd cc
-    ends_where (Err f) t xs' ys' after e lt declined fault refused pushed so_far =
-        ends (load_fault.Image f) lt e so_far ∙ ap Err refused.1

@@ -1,5 +1,5 @@
 -- An instruction and its depth, read from six bytes at once.
-use Rattle.std.proofs.Common.{◌≡◌, ℕ, ◌≤◌, Bool, true, false, List, [], ◌∷◌, ◌++◌, length, drop, get_or, Option, Some, None, MatchOption, Ok, Err, refl, ap, ◌∙◌, arith}
+use Rattle.std.proofs.Common.{◌≡◌, ℕ, ◌≤◌, Bool, false, List, [], ◌∷◌, ◌++◌, length, drop, get_or, Option, Some, None, MatchOption, Ok, refl, sym, ap, ◌∙◌, arith}
 use Rattle.std.specs.Prelude.{IfOk, IfErr}
 use Rattle.std.specs.Int.{w32, cast_signed}
 use Rattle.std.proofs.lemmas.Bool.{le-ltb}
@@ -28,15 +28,15 @@ unfolding step_at
 step_of_six bytes h = rw (fields_at bytes h) refl
 
 -- what was appended, where there is an instruction
-pub six_pushed : (o : Option Instruction) (depth : ℕ) (after : List ℕ) (t : Bool) (is is' : List Instruction) (ds ds' : List ℕ)
-    → MatchOption o (t ≡ false) (λ i. (t ≡ true) × (is' ≡ is ++ i ∷ [])) → ds' ≡ ds ++ depth ∷ []
-    → IfOk {T = (Instruction × ℕ) × List ℕ} (named o >>= λ i. Ok ((i, depth), after)) (λ x. (t ≡ true) × (x.1 ≡ after) × (is' ≡ is ++ x.0.0 ∷ []) × (ds' ≡ ds ++ x.0.1 ∷ []))
-six_pushed None depth after t is is' ds ds' h e = tt
-six_pushed (Some i) depth after t is is' ds ds' h e = (h.0, refl, h.1, e)
+pub six_pushed : (fit : ℕ → Instruction → Bool) (o : Option Instruction) (entry depth : ℕ) (after : List ℕ) (t : Bool) (is is' : List Instruction)
+    → MatchOption o (t ≡ false) (λ i. (t ≡ fit entry i) × (is' ≡ is ++ i ∷ [])) → entry ≡ depth
+    → IfOk {T = (Instruction × ℕ) × List ℕ} (named o >>= λ i. Ok ((i, depth), after)) (λ x. (t ≡ fit x.0.1 x.0.0) × (x.0.1 ≡ entry) × (x.1 ≡ after) × (is' ≡ is ++ x.0.0 ∷ []))
+six_pushed fit None entry depth after t is is' h e = tt
+six_pushed fit (Some i) entry depth after t is is' h e = (h.0 ∙ ap (λ d. fit d i) e, sym e, refl, h.1)
 
 -- the fault, where there is none
-pub six_refused : (o : Option Instruction) (depth : ℕ) (after : List ℕ) (t : Bool) (is is' : List Instruction)
-    → MatchOption o (t ≡ false) (λ i. (t ≡ true) × (is' ≡ is ++ i ∷ []))
+pub six_refused : (fit : ℕ → Instruction → Bool) (o : Option Instruction) (entry depth : ℕ) (after : List ℕ) (t : Bool) (is is' : List Instruction)
+    → MatchOption o (t ≡ false) (λ i. (t ≡ fit entry i) × (is' ≡ is ++ i ∷ []))
     → IfErr {T = (Instruction × ℕ) × List ℕ} (named o >>= λ i. Ok ((i, depth), after)) (λ f. (t ≡ false) × (f ≡ fault.Code))
-six_refused None depth after t is is' h = (h, refl)
-six_refused (Some i) depth after t is is' h = tt
+six_refused fit None entry depth after t is is' h = (h, refl)
+six_refused fit (Some i) entry depth after t is is' h = tt

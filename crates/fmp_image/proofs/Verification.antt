@@ -1,6 +1,6 @@
 -- The test that code keeps to its depth table says what `KeepsTable` says.
-use Rattle.std.proofs.Common.{◌≡◌, ℕ, zero, suc, ◌+◌, Bool, true, false, ◌&&◌, ◌↔◌, nat_eq, nat_le, List, [], ◌∷◌, length, Option, Some, None, refl, sym, ap, subst, arith}
-use Rattle.std.specs.Prelude.{IsTrue, slice_get}
+use Rattle.std.proofs.Common.{◌≡◌, ℕ, zero, suc, ◌+◌, Bool, true, ◌&&◌, nat_eq, nat_le, List, [], ◌∷◌, length, Option, Some, None, refl, sym, ap, subst, arith}
+use Rattle.std.specs.Prelude.{slice_get}
 use Rattle.std.proofs.lemmas.Bool.{leb-true, le-leb, eqb-true, eq-eqb}
 use Rattle.fmp_code.specs.declared.instructions.Instruction.{Instruction}
 use Rattle.fmp_code.specs.Instructions.{BodyTables}
@@ -38,7 +38,7 @@ module _ {A B : Type 0} (test : ℕ → A → B → Bool) where
       let shift : (place + 1) + k ≡ place + suc k = omega arith in
       rw shift (each (suc k) x y p q)))
 
-from_zero : (k : ℕ) → 0 + k ≡ k
+pub from_zero : (k : ℕ) → 0 + k ≡ k
 from_zero k = omega arith
 
 first_is : (o : Option ℕ) → depth_is o 0 ≡ true → o ≡ Some 0
@@ -73,10 +73,3 @@ table_keeps b h =
     all_pass (λ place i d. fits b.locals b.depths place d i) 0 b.instructions b.depths h.long
     (λ k i d p q. subst (λ m. fits b.locals b.depths m d i ≡ true) (sym (from_zero k)) (h.each k i d p q)) in
     both_true _ _ (both_true _ _ (both_true _ _ first size) long) each
-
-pub test_is : (r : Bool) (b : BodyTables) → (IsTrue r ↔ KeepsTable b) → r ≡ keeps_table b
-test_is true b h = sym (table_keeps b (h.0 refl))
-test_is false b h = no (keeps_table b) refl where
-  no : (s : Bool) → keeps_table b ≡ s → false ≡ s
-  no true e = h.1 (table_kept b e)
-  no false e = refl

@@ -1,5 +1,5 @@
 -- Bodies in an image: what is said of each, and its code.
-use Rattle.std.specs.Prelude.{◌≡◌, ◌<◌, ◌≤◌, ℕ, ℤ, ◌*◌, List, [], ◌∷◌, ◌++◌, length, max, Option, Some, None, Result, Ok, Err, Bool, true, false, ◌&&◌, ◌==◌, nat_eq, nat_le, nat_lt, if◌then◌else◌, slice_get}
+use Rattle.std.specs.Prelude.{◌≡◌, ◌<◌, ◌≤◌, ℕ, ℤ, ◌+◌, ◌*◌, List, [], ◌∷◌, ◌++◌, length, max, Option, Some, None, Result, Ok, Err, Bool, true, false, ◌&&◌, ◌==◌, nat_eq, nat_le, nat_lt, if◌then◌else◌, get_or, slice_get}
 use Rattle.std.specs.List.{AllByRecursion}
 use Rattle.fmp_code.specs.declared.instructions.Instruction.{Instruction}
 use Rattle.fmp_code.specs.Instructions.{BodyTables}
@@ -49,6 +49,12 @@ step_at bytes = do
 abbrev pub code_at : ℕ → List ℕ → Result ((List Instruction × List ℕ) × List ℕ) ImageFault
 code_at size bytes = if nat_lt (length bytes) (6 * size) then Err fault.Short else pairs_at step_at size bytes
 
+-- how many operands stand before each of so many instructions: the last of its six bytes
+abbrev pub AreDepths : ℕ → List ℕ → List ℕ → Type 0
+AreDepths size bytes depths =
+    (length depths ≡ size)
+    × ((place : ℕ) → place < size → get_or depths place 0 ≡ get_or bytes (6 * place + 5) 0)
+
 -- whether code keeps to its depth table and to its own number of locals, as a test
 unfoldable pub keeps_table : BodyTables → Bool
 keeps_table b =
@@ -68,6 +74,12 @@ head_of kind depth = record { kind = kind_of (kind == 1); depth = depth }
 
 abbrev pub tables_of_code : (locals : ℕ) → List Instruction × List ℕ → BodyTables
 tables_of_code locals code = record { locals = locals; instructions = code.0; depths = code.1 }
+
+-- code that was read, where it keeps to its depth table and to its own number of locals
+abbrev pub kept_code : (locals : ℕ) → Result ((List Instruction × List ℕ) × List ℕ) ImageFault
+    → Result ((List Instruction × List ℕ) × List ℕ) ImageFault
+kept_code locals reading =
+    reading >>= λ code. if keeps_table (tables_of_code locals code.0) then Ok code else Err fault.Code
 
 -- a body whose fields are read: its code is judged first, by its own number of locals
 abbrev pub judged : (kind locals depth : ℕ) → List Instruction × List ℕ → List ℕ

@@ -22,7 +22,8 @@ flips (key.Interrupt i) (key.Name b) = refl
 flips (key.Interrupt i) (key.Interrupt j) = nat_eq_equiv.symm i j
 
 goes_along : (a b c : Key) → same_key a b ≡ true → same_key a c ≡ same_key b c
-goes_along (key.Name a) (key.Name b) (key.Name c) e = nat_list_eq_equiv.congr (name_text a) (name_text b) (name_text c) e
+goes_along (key.Name a) (key.Name b) (key.Name c) e =
+    nat_list_eq_equiv.congr (name_text a) (name_text b) (name_text c) e
 goes_along (key.Name a) (key.Name b) (key.Interrupt k) e = refl
 goes_along (key.Name a) (key.Interrupt j) c e = absurd cc
 goes_along (key.Interrupt i) (key.Name b) c e = absurd cc
@@ -41,5 +42,8 @@ hashed_alike (key.Name a) (key.Interrupt j) e = absurd cc
 hashed_alike (key.Interrupt i) (key.Name b) e = absurd cc
 hashed_alike (key.Interrupt i) (key.Interrupt j) e = ap fed.u8 ((Decides-eqb i j).0 e)
 
-pub put_last : (k : Key) (keys after : List Key) → is_taken k keys ≡ false → after ≡ insert_key same_key keys k → after ≡ keys ++ k ∷ []
+pub put_last : (k : Key) (keys after : List Key)
+    → is_taken k keys ≡ false
+    → after ≡ insert_key same_key keys k
+    → after ≡ keys ++ k ∷ []
 put_last k keys after free is = rw free at is

@@ -1,11 +1,14 @@
 //! The bodies of an image, read and put.
 
-ghost use Rattle.std.specs.Prelude.{◌≡◌, ◌++◌, ◌∷◌, [], ◌<◌, ◌≤◌, ◌+◌, ◌*◌, drop, length, map, true, false, vec_len, vec_capacity, IfErr, IfOk, OnOk};
+ghost use Rattle.std.specs.Prelude.{◌≡◌, ◌++◌, ◌∷◌, [], ◌<◌, ◌≤◌, ◌+◌, ◌*◌, ℕ, List, Some, drop, get_or, length, map, slice_get, false, vec_len, vec_capacity, IfErr, IfOk, IsTrue, OnOk};
+ghost use Rattle.fmp_code.specs.declared.instructions.Instruction.{Instruction};
 ghost use Rattle.fmp_code.specs.Instructions.{body_tables};
+ghost use Rattle.fmp_code.specs.Verify.{AreLow, fits};
 ghost use Rattle.fmp_image.specs.declared.fault.ImageFault.TheVariants.{Code};
+ghost use Rattle.fmp_image.specs.declared.fault.LoadFault.TheVariants.{Memory};
 ghost use Rattle.fmp_image.specs.Fields.{Gives, byte};
 ghost use Rattle.fmp_image.specs.Pairs.{pairs_at, pairs_spelled, AllPairs};
-ghost use Rattle.fmp_image.specs.Bodies.{kind_number, kind_of, greatest, step_spelled, step_at, code_at, keeps_table, body_numbers, body_spelled, body_at, IsBody, bodies as all_bodies};
+ghost use Rattle.fmp_image.specs.Bodies.{kind_number, kind_of, greatest, step_spelled, step_at, code_at, AreDepths, keeps_table, tables_of_code, kept_code, body_numbers, body_spelled, body_at, IsBody, bodies as all_bodies};
 
 use crate::fault::{ImageFault, LoadFault};
 use crate::fields::{byte_at, put_byte, put_short, put_word, short_at};
@@ -64,57 +67,73 @@ fn put_body(out: &mut Vec<u8>, head: &BodyHead, body: &BodyCode) -> Result<(), A
     Ok(())
 }
 
-/// Appends the instruction and the depth that the first six bytes spell, if they spell any: whether they do. There is
-/// room for both.
-#[inline(always)]
-fn push_step(bytes: &[u8], instructions: &mut Vec<Instruction>, depths: &mut Vec<u8>) -> bool
-    requires bytes { 6 ≤ length bytes.now }
-    requires room { (vec_len instructions.old < vec_capacity instructions.old)
-        × (vec_len depths.old < vec_capacity depths.old) }
-    ensures pushed { IfOk (step_at bytes.now) (λ x. (result ≡ true) × (x.1 ≡ drop 6 bytes.now)
-        × (instructions.new.items ≡ instructions.old.items ++ x.0.0 ∷ [])
-        × (depths.new.items ≡ depths.old.items ++ x.0.1 ∷ [])) }
-    ensures refused { IfErr (step_at bytes.now) (λ fault. (result ≡ false) × (fault ≡ Code)) }
-    ensures sizes { (vec_len instructions.new ≤ vec_len instructions.old + 1)
-        × (vec_len depths.new ≤ vec_len depths.old + 1) }
-    ensures capacities { (vec_capacity instructions.new ≡ vec_capacity instructions.old)
-        × (vec_capacity depths.new ≡ vec_capacity depths.old) }
+/// How many operands stand before each of so many instructions.
+fn read_depths(alloc: Global, size: u16, bytes: &[u8]) -> Result<Vec<u8>, LoadFault>
+    requires { 6 * size ≤ length bytes.now }
+    ensures read { IfOk result (λ depths. AreDepths size bytes.now depths.items) }
+    ensures fault { IfErr result (λ fault. fault ≡ Memory) }
 {
-    depths.push_reserved(bytes[5]);
-    push_instruction(bytes[0], LittleEndian::read_i32(&bytes[1..]), instructions)
+    let mut depths = Vec::with_capacity(alloc, size as usize)?;
+    for place in 0..size as usize {
+        depths.push_reserved(bytes[6 * place + 5]);
+    }
+    Ok(depths)
 }
 
-fn read_steps<'a>(
-    alloc: Global,
-    size: u16,
-    bytes: &'a [u8],
-) -> Result<((Vec<Instruction>, Vec<u8>), &'a [u8]), LoadFault>
-    requires { 6 * size ≤ length bytes.now }
-    ensures { Gives (λ x. ((x.0.0.items, x.0.1.items), x.1.now)) result (pairs_at step_at size bytes.now) }
+/// Appends the instruction that the first six bytes spell, if they spell one that is fit to stand at this place of a
+/// body: whether they do. There is room for it.
+#[inline(always)]
+fn push_step(
+    locals: u8,
+    depths: &[u8],
+    place: usize,
+    bytes: &[u8],
+    instructions: &mut Vec<Instruction>,
+) -> bool
+    requires bytes { 6 ≤ length bytes.now }
+    requires place { place < length depths.now }
+    requires depth { get_or depths.now place 0 ≡ get_or bytes.now 5 0 }
+    requires low { AreLow depths.now }
+    requires room { vec_len instructions.old < vec_capacity instructions.old }
+    ensures pushed { IfOk (step_at bytes.now) (λ x. (result ≡ fits locals depths.now place x.0.1 x.0.0)
+        × (x.0.1 ≡ get_or depths.now place 0) × (x.1 ≡ drop 6 bytes.now)
+        × (instructions.new.items ≡ instructions.old.items ++ x.0.0 ∷ [])) }
+    ensures refused { IfErr (step_at bytes.now) (λ fault. (result ≡ false) × (fault ≡ Code)) }
+    ensures size { vec_len instructions.new ≤ vec_len instructions.old + 1 }
+    ensures capacity { vec_capacity instructions.new ≡ vec_capacity instructions.old }
 {
-    let mut instructions = Vec::with_capacity(alloc, size as usize)?;
-    let mut depths = Vec::with_capacity(alloc, size as usize)?;
-    let mut rest = bytes;
-    for _ in 0..size {
-        if !push_step(rest, &mut instructions, &mut depths) {
+    let argument = LittleEndian::read_i32(&bytes[1..]);
+    push_instruction(locals, depths, place, bytes[0], argument, instructions)
+}
+
+/// The instructions of a body with these depths. Each is judged as it is read.
+fn read_steps(
+    alloc: Global,
+    locals: u8,
+    depths: &[u8],
+    bytes: &[u8],
+) -> Result<Vec<Instruction>, LoadFault>
+    requires bytes { 6 * length depths.now ≤ length bytes.now }
+    requires size { length depths.now < 65536 }
+    requires depths { AreDepths (length depths.now) bytes.now depths.now }
+    requires first { slice_get depths.now 0 ≡ Some 0 }
+    requires low { AreLow depths.now }
+    ensures { Gives (λ x. ((x.items, depths.now), drop (6 * length depths.now) bytes.now)) result
+        (kept_code locals (pairs_at step_at (length depths.now) bytes.now)) }
+{
+    let mut instructions = Vec::with_capacity(alloc, depths.len())?;
+    for place in 0..depths.len() {
+        if !push_step(
+            locals,
+            depths,
+            place,
+            &bytes[6 * place..],
+            &mut instructions,
+        ) {
             return Err(CODE);
         }
-        rest = &rest[6..];
     }
-    Ok(((instructions, depths), rest))
-}
-
-fn read_code<'a>(
-    alloc: Global,
-    size: u16,
-    bytes: &'a [u8],
-) -> Result<((Vec<Instruction>, Vec<u8>), &'a [u8]), LoadFault>
-    ensures { Gives (λ x. ((x.0.0.items, x.0.1.items), x.1.now)) result (code_at size bytes.now) }
-{
-    if bytes.len() < 6 * size as usize {
-        return Err(LoadFault::Image(ImageFault::Short));
-    }
-    read_steps(alloc, size, bytes)
+    Ok(instructions)
 }
 
 fn greatest(depths: &[u8]) -> u8
@@ -127,10 +146,37 @@ fn greatest(depths: &[u8]) -> u8
     most
 }
 
-fn keeps_table(body: &BodyCode) -> bool
-    ensures { result ≡ keeps_table (body_tables body.now) }
+/// Whether these can be the depths of a body: the first is 0, and none is above 64. No code keeps to others.
+fn is_depth_table(depths: &[u8]) -> bool
+    ensures first { IsTrue result → slice_get depths.now 0 ≡ Some 0 }
+    ensures low { IsTrue result → AreLow depths.now }
+    ensures refused { (locals : ℕ) (code : List Instruction) → result ≡ false
+        → keeps_table (tables_of_code locals (code, depths.now)) ≡ false }
 {
-    fmp_code::keeps_table(body)
+    match depths.first() {
+        None => false,
+        Some(depth) => *depth == 0 && greatest(depths) <= 64,
+    }
+}
+
+fn read_code<'a>(
+    alloc: Global,
+    locals: u8,
+    size: u16,
+    bytes: &'a [u8],
+) -> Result<((Vec<Instruction>, Vec<u8>), &'a [u8]), LoadFault>
+    ensures { Gives (λ x. ((x.0.0.items, x.0.1.items), x.1.now)) result (kept_code locals (code_at size bytes.now)) }
+{
+    let end = 6 * size as usize;
+    if bytes.len() < end {
+        return Err(LoadFault::Image(ImageFault::Short));
+    }
+    let depths = read_depths(alloc, size, bytes)?;
+    if !is_depth_table(&depths) {
+        return Err(CODE);
+    }
+    let instructions = read_steps(alloc, locals, &depths, bytes)?;
+    Ok(((instructions, depths), &bytes[end..]))
 }
 
 fn keeps_numbers(kind: u8, locals: u8, depth: u8, depths: &[u8]) -> bool
@@ -160,15 +206,12 @@ fn read_body<'a>(
     let (locals, rest) = byte_at(rest)?;
     let (depth, rest) = byte_at(rest)?;
     let (size, rest) = short_at(rest)?;
-    let ((instructions, depths), rest) = read_code(alloc, size, rest)?;
+    let ((instructions, depths), rest) = read_code(alloc, locals, size, rest)?;
     let body = BodyCode {
         locals,
         instructions,
         depths,
     };
-    if !keeps_table(&body) {
-        return Err(CODE);
-    }
     if !keeps_numbers(kind, locals, depth, &body.depths) {
         return Err(TABLE);
     }

@@ -1,10 +1,11 @@
 //! Instructions as opcodes and arguments.
 
-ghost use Rattle.std.specs.Prelude.{◌≡◌, ◌<◌, ◌≤◌, ◌+◌, ◌++◌, ◌∷◌, [], pos, true, false, vec_len, vec_capacity, MatchOption};
-ghost use Rattle.fmp_image.specs.Instructions.{unary_number, binary_number, local_number, call_number, opcode_of, argument_of, local_of, service_of_number, unary_of, binary_operator_of, call_of, below, numbered, instruction_of};
+ghost use Rattle.std.specs.Prelude.{◌≡◌, ◌<◌, ◌≤◌, ◌+◌, ◌++◌, ◌∷◌, [], get_or, length, pos, true, false, vec_len, vec_capacity, MatchOption};
+ghost use Rattle.fmp_code.specs.Verify.{AreLow, fits};
+ghost use Rattle.fmp_image.specs.Instructions.{unary_number, binary_number, local_number, call_number, opcode_of, argument_of, local_of, service_of_number, unary_of, binary_operator_of, call_of, numbered, instruction_of};
 
 use fmp_base::{BinaryOperator, Service, UnaryOperator};
-use fmp_code::Instruction;
+use fmp_code::{Instruction, is_fit};
 use fmp_lex::words::SERVICES;
 
 /// The operators with one operand, in the order of their numbers.
@@ -184,85 +185,109 @@ fn call_of(number: u32) -> Option<Instruction>
     }
 }
 
-fn place_of(number: u32) -> Option<u8>
-    ensures { result ≡ below 256 number }
+/// Appends an instruction: whether it is fit to stand at this place of a body. There is room for it.
+#[inline(always)]
+fn push_fit(
+    locals: u8,
+    depths: &[u8],
+    place: usize,
+    instruction: Instruction,
+    out: &mut Vec<Instruction>,
+) -> bool
+    requires room { vec_len out.old < vec_capacity out.old }
+    requires place { place < length depths.now }
+    requires low { AreLow depths.now }
+    ensures fits { result ≡ fits locals depths.now place (get_or depths.now place 0) instruction }
+    ensures items { out.new.items ≡ out.old.items ++ instruction ∷ [] }
+    ensures size { vec_len out.new ≡ vec_len out.old + 1 }
+    ensures capacity { vec_capacity out.new ≡ vec_capacity out.old }
 {
-    if number < 256 {
-        Some(number as u8)
-    } else {
-        None
-    }
+    out.push_reserved(instruction);
+    is_fit(locals, depths, place, depths[place] as usize, instruction)
 }
 
-fn target_of(number: u32) -> Option<u16>
-    ensures { result ≡ below 65536 number }
-{
-    if number < 65536 {
-        Some(number as u16)
-    } else {
-        None
-    }
-}
-
-#[tactic(auto, unfolding(crate::specs::Instructions::numbered))]
-fn numbered(opcode: u8, number: u32) -> Option<Instruction>
-    ensures { result ≡ numbered opcode number }
-{
-    match opcode {
-        2 => place_of(number).map(|place| Instruction::Load(place)),
-        3 => place_of(number).map(|place| Instruction::Store(place)),
-        4 => unary_of(number),
-        5 => binary_operator_of(number).map(|operator| Instruction::Binary(operator)),
-        6 => target_of(number).map(|target| Instruction::Jump(target)),
-        7 => target_of(number).map(|target| Instruction::JumpIfZero(target)),
-        8 => call_of(number),
-        9 => {
-            if number == 0 {
-                Some(Instruction::End)
-            } else {
-                None
-            }
-        }
-        _ => None,
-    }
-}
-
-/// Appends the instruction of an opcode, but for `Push`, and an argument, if there is one: whether there is. There is
-/// room for it. The frequent ones are made in their place.
+/// Appends the instruction of an opcode, but for `Push`, and an argument, if there is one: whether there is, and it is
+/// fit to stand at this place of a body. There is room for it. Each is judged where its kind is known.
 #[inline(always)]
 #[tactic(auto, unfolding(crate::specs::Instructions::numbered))]
-fn push_numbered(opcode: u8, number: u32, out: &mut Vec<Instruction>) -> bool
-    requires { vec_len out.old < vec_capacity out.old }
+fn push_numbered(
+    locals: u8,
+    depths: &[u8],
+    place: usize,
+    opcode: u8,
+    number: u32,
+    out: &mut Vec<Instruction>,
+) -> bool
+    requires room { vec_len out.old < vec_capacity out.old }
+    requires place { place < length depths.now }
+    requires low { AreLow depths.now }
     ensures pushed { MatchOption (numbered opcode number) (result ≡ false)
-        (λ instruction. (result ≡ true) × (out.new.items ≡ out.old.items ++ instruction ∷ [])) }
+        (λ i. (result ≡ fits locals depths.now place (get_or depths.now place 0) i)
+        × (out.new.items ≡ out.old.items ++ i ∷ [])) }
     ensures size { vec_len out.new ≤ vec_len out.old + 1 }
     ensures capacity { vec_capacity out.new ≡ vec_capacity out.old }
 {
     match opcode {
-        2 if number < 256 => out.push_reserved(Instruction::Load(number as u8)),
-        3 if number < 256 => out.push_reserved(Instruction::Store(number as u8)),
-        6 if number < 65536 => out.push_reserved(Instruction::Jump(number as u16)),
-        7 if number < 65536 => out.push_reserved(Instruction::JumpIfZero(number as u16)),
-        _ => match numbered(opcode, number) {
-            Some(instruction) => out.push_reserved(instruction),
-            None => return false,
+        2 => {
+            number < 256 && push_fit(locals, depths, place, Instruction::Load(number as u8), out)
+        }
+        3 => {
+            number < 256 && push_fit(locals, depths, place, Instruction::Store(number as u8), out)
+        }
+        4 => match unary_of(number) {
+            Some(instruction) => push_fit(locals, depths, place, instruction, out),
+            None => false,
         },
+        5 => match binary_operator_of(number) {
+            Some(operator) => {
+                push_fit(locals, depths, place, Instruction::Binary(operator), out)
+            }
+            None => false,
+        },
+        6 => {
+            number < 65536 && push_fit(locals, depths, place, Instruction::Jump(number as u16), out)
+        }
+        7 => {
+            number < 65536
+                && push_fit(
+                    locals,
+                    depths,
+                    place,
+                    Instruction::JumpIfZero(number as u16),
+                    out,
+                )
+        }
+        8 => match call_of(number) {
+            Some(instruction) => push_fit(locals, depths, place, instruction, out),
+            None => false,
+        },
+        9 => number == 0 && push_fit(locals, depths, place, Instruction::End, out),
+        _ => false,
     }
-    true
 }
 
-/// Appends the instruction of an opcode and an argument, if there is one: whether there is. There is room for it.
+/// Appends the instruction of an opcode and an argument, if there is one: whether there is, and it is fit to stand at
+/// this place of a body. There is room for it.
 #[inline(always)]
-pub fn push_instruction(opcode: u8, argument: i32, out: &mut Vec<Instruction>) -> bool
-    requires { vec_len out.old < vec_capacity out.old }
+pub fn push_instruction(
+    locals: u8,
+    depths: &[u8],
+    place: usize,
+    opcode: u8,
+    argument: i32,
+    out: &mut Vec<Instruction>,
+) -> bool
+    requires room { vec_len out.old < vec_capacity out.old }
+    requires place { place < length depths.now }
+    requires low { AreLow depths.now }
     ensures pushed { MatchOption (instruction_of opcode argument) (result ≡ false)
-        (λ instruction. (result ≡ true) × (out.new.items ≡ out.old.items ++ instruction ∷ [])) }
+        (λ i. (result ≡ fits locals depths.now place (get_or depths.now place 0) i)
+        × (out.new.items ≡ out.old.items ++ i ∷ [])) }
     ensures size { vec_len out.new ≤ vec_len out.old + 1 }
     ensures capacity { vec_capacity out.new ≡ vec_capacity out.old }
 {
     if opcode == 1 {
-        out.push_reserved(Instruction::Push(argument));
-        return true;
+        return push_fit(locals, depths, place, Instruction::Push(argument), out);
     }
-    argument >= 0 && push_numbered(opcode, argument as u32, out)
+    push_numbered(locals, depths, place, opcode, argument.cast_unsigned(), out)
 }

@@ -1,31 +1,36 @@
-use Rattle.std.proofs.Common.{◌≡◌, ◌-◌, ◌+◌, ◌*◌, length, drop, refl, rules, arith, false, true}
-use Rattle.std.proofs.lemmas.List.{length-drop, take_rest}
-use Rattle.fmp_image.specs.declared.fault.ImageFault.TheVariants as fault
+use Rattle.std.proofs.Common.{◌≡◌, ◌*◌, false, true, drop, refl, arith}
+use Rattle.std.proofs.lemmas.List.{take_rest}
 use Rattle.fmp_image.specs.Bodies.{step_at}
-use Rattle.fmp_image.specs.Pairs.{pairs_at}
-use Rattle.fmp_image.proofs.PairLoops.{goes_on_where, ends_where, is_done}
+use Rattle.fmp_image.proofs.KeptCode.{goes, stops, done}
 use Rattle.fmp_image.proofs.bodies.read_steps.Goals as goal
 
 pub returns-then-not-push_step : goal.returns-then-not-push_step
 returns-then-not-push_step c =
+    let place = c.loop-place.place in
+    let rest = take_rest c.args.bytes.now (6 * place) in
+    let pushed = rw rest at c.push_step.ensures.pushed in
+    let refused = rw rest at c.push_step.ensures.refused in
     let declined : c.push_step.result ≡ false = c.if-not-push_step.true in
-    ends_where step_at c.loop.instructions.items c.loop.depths.items c.args.size c.loop.counter c.loop.rest.now
-    (pairs_at step_at c.args.size c.args.bytes.now) (step_at c.loop.rest.now) c.push_step.result _ _ _ refl c.loop-test.true
-    declined fault.Code c.push_step.ensures.refused c.push_step.ensures.pushed c.loop.invariant.reading
+    stops c.args.locals c.args.bytes.now c.args.depths.now place c.loop-place.instructions.items c.push_step.new.instructions.items
+    c.push_step.result c.loop-place-test.true (step_at (drop (6 * place) c.args.bytes.now)) refl declined pushed refused
+    c.requires.bytes c.requires.depths c.loop-place.invariant.so_far
 
-pub loop-preserved : goal.loop-preserved
-loop-preserved c =
+pub loop-place-preserved : goal.loop-place-preserved
+loop-place-preserved c =
+    let place = c.loop-place.place in
+    let rest = take_rest c.args.bytes.now (6 * place) in
+    let pushed = rw rest at c.push_step.ensures.pushed in
+    let refused = rw rest at c.push_step.ensures.refused in
     let accepted : c.push_step.result ≡ true = c.if-not-push_step.false in
     record {
-      reading =
-          rw (take_rest c.loop.rest.now 6) (goes_on_where step_at c.loop.instructions.items c.loop.depths.items c.args.size c.loop.counter c.loop.rest.now
-          (pairs_at step_at c.args.size c.args.bytes.now) (step_at c.loop.rest.now) c.push_step.result
-          c.push_step.new.instructions.items c.push_step.new.depths.items (drop 6 c.loop.rest.now) refl c.loop-test.true
-          accepted fault.Code c.push_step.ensures.refused c.push_step.ensures.pushed c.loop.invariant.reading);
-      rest = rw (take_rest c.loop.rest.now 6) (omega (arith, length-drop 6 c.loop.rest.now, c.loop.invariant.rest, c.loop-test.true));
-      instructions = omega (arith, c.loop.invariant.instructions, c.loop-test.true, c.push_step.ensures.sizes.0, c.push_step.ensures.capacities.0);
-      depths = omega (arith, c.loop.invariant.depths, c.loop-test.true, c.push_step.ensures.sizes.1, c.push_step.ensures.capacities.1);
+      so_far =
+          goes c.args.locals c.args.bytes.now c.args.depths.now place c.loop-place.instructions.items c.push_step.new.instructions.items
+          c.push_step.result c.loop-place-test.true (step_at (drop (6 * place) c.args.bytes.now)) refl accepted pushed refused
+          c.loop-place.invariant.so_far;
+      room = omega (arith, c.loop-place.invariant.room, c.loop-place-test.true, c.push_step.ensures.size, c.push_step.ensures.capacity);
     }
 
 pub returns : goal.returns
-returns c = is_done step_at c.loop.instructions.items c.loop.depths.items c.args.size c.loop.counter c.loop.rest.now (pairs_at step_at c.args.size c.args.bytes.now) c.loop-test.false c.loop.invariant.reading
+returns c =
+    done c.args.locals c.args.bytes.now c.args.depths.now c.loop-place.place c.loop-place.instructions.items
+    (omega (arith, c.loop-place.auto.place-end, c.loop-place-test.false)) c.requires.size c.requires.first c.loop-place.invariant.so_far

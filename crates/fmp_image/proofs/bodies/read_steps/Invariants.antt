@@ -1,14 +1,10 @@
-use Rattle.std.proofs.Common.{◌≡◌, ◌≤◌, ◌+◌, ◌-◌, ◌*◌, length, vec_len}
+use Rattle.std.proofs.Common.{◌≤◌, ◌+◌, ◌-◌, length, vec_len}
 use Rattle.std.specs.Prelude.{vec_capacity}
-use Rattle.fmp_image.specs.Bodies.{step_at}
-use Rattle.fmp_image.specs.Pairs.{pairs_at}
-use Rattle.fmp_image.proofs.PairLoops.{with_fronts}
+use Rattle.fmp_image.proofs.KeptCode.{SoFar}
 use Rattle.fmp_image.proofs.bodies.read_steps.Given as goal
 
-abbrev pub invariant-loop : goal.invariant-loop
-invariant-loop l = record {
-  reading : with_fronts l.instructions.items l.depths.items (pairs_at step_at (l.size - l.counter) l.rest) ≡ pairs_at step_at l.size l.bytes;
-  rest : 6 * (l.size - l.counter) ≤ length l.rest;
-  instructions : vec_len l.instructions + (l.size - l.counter) ≤ vec_capacity l.instructions;
-  depths : vec_len l.depths + (l.size - l.counter) ≤ vec_capacity l.depths;
+abbrev pub invariant-loop-place : goal.invariant-loop-place
+invariant-loop-place l = record {
+  so_far : SoFar l.locals l.bytes l.depths l.place l.instructions.items;
+  room : vec_len l.instructions + (length l.depths - l.place) ≤ vec_capacity l.instructions;
 }
