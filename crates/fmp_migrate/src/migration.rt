@@ -90,7 +90,7 @@ fn assign(tables: &mut Tables, t: u8, x: TaskBlock, c: u8)
     }
     let y = TaskBlock { processor: c, ..x };
     if is_ready(&x) {
-        tables.set_last(t, y);
+        tables.set_last(t, &y);
     } else {
         tables.set_task(t, y);
     }

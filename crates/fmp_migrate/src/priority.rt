@@ -28,7 +28,7 @@ fn set_priority(tables: &mut Tables, t: u8, x: TaskBlock, priority: u8)
 {
     let y = TaskBlock { priority, ..x };
     if tables.goes_last(&x) {
-        tables.set_last(t, y);
+        tables.set_last(t, &y);
     } else {
         tables.set_task(t, y);
     }

@@ -50,7 +50,7 @@ fn resume(tables: &mut Tables, t: u8, x: TaskBlock)
     };
     match x.phase {
         Phase::Waiting(_) => tables.set_task(t, y),
-        Phase::Dormant | Phase::Ready => tables.set_last(t, y),
+        Phase::Dormant | Phase::Ready => tables.set_last(t, &y),
     }
 }
 

@@ -38,7 +38,7 @@ pub fn start(tables: &mut Tables, lines: &mut Vec<Line>, t: u8, x: TaskBlock)
         deadline: None,
         ..x
     };
-    tables.set_last(t, y);
+    tables.set_last(t, &y);
     lines.push_reserved(Line::Starts { processor, task: t });
 }
 
@@ -59,7 +59,7 @@ pub fn release(tables: &mut Tables, lines: &mut Vec<Line>, t: u8, x: TaskBlock, 
     if x.suspended {
         tables.set_removed(t, y);
     } else {
-        tables.set_last(t, y);
+        tables.set_last(t, &y);
     }
     lines.push_reserved(Line::Gets {
         processor: x.processor,
@@ -127,7 +127,7 @@ pub fn wait(tables: &mut Tables, t: u8, x: TaskBlock, cause: WaitCause, deadline
 {
     tables.set_last(
         t,
-        TaskBlock {
+        &TaskBlock {
             phase: Phase::Waiting(cause),
             deadline,
             ..x

@@ -100,12 +100,12 @@ impl Tables {
     }
 
     /// Task t becomes x, and goes to the end of the order.
-    pub fn set_last(&mut self, t: u8, x: TaskBlock)
+    pub fn set_last(&mut self, t: u8, x: &TaskBlock)
         requires there { t < length self.old.system.tasks }
-        requires fits { Fits self.old.system x }
-        requires later { IfSome x.deadline (λ w. self.old.state.clock + 1 ≤ w) }
-        requires in_order { is_in_order x ≡ true }
-        ensures { self.new ≡ record self.old { state = with_last self.old.state t x } }
+        requires fits { Fits self.old.system x.now }
+        requires later { IfSome x.now.deadline (λ w. self.old.state.clock + 1 ≤ w) }
+        requires in_order { is_in_order x.now ≡ true }
+        ensures { self.new ≡ record self.old { state = with_last self.old.state t x.now } }
     {
         leave(
             &mut self.ready,
@@ -114,7 +114,7 @@ impl Tables {
             &self.blocks[t as usize],
             t,
         );
-        self.blocks[t as usize] = x;
+        self.blocks[t as usize] = *x;
         join(
             &mut self.ready,
             self.waits,

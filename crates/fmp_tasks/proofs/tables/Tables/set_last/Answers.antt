@@ -38,23 +38,23 @@ join-requires c =
     let tasks = c.self.invariant.tasks in
     let there : c.args.t < length c.self.inside.system.tasks.items = rw (← c.self.view_is) at c.requires.there in
     let l : c.args.t < length c.self.inside.blocks.items = subst (λ (n : ℕ). c.args.t < n) tasks.configs there in
-    let f : Fits (tables_of c.self.inside.system) c.args.x = rw (← c.self.view_is) at c.requires.fits in
+    let f : Fits (tables_of c.self.inside.system) c.args.x.now = rw (← c.self.view_is) at c.requires.fits in
     let is : task_at c.self.inside.blocks.items c.args.t ≡ c.index.result.now = read-at _ _ _ l c.index.ensures in
     let free : is_linked c.args.t (left_from c.self.inside.rings.lists (home c.self.inside.waits c.index.result.now) c.args.t) ≡ false =
     subst (λ (x : TaskBlock). is_linked c.args.t (left_from c.self.inside.rings.lists (home c.self.inside.waits x) c.args.t) ≡ false) is (home-free tasks c.args.t) in
-    let same : c.index-2.result.now ≡ c.args.x = read-set _ _ _ _ l c.index-2.ensures in
-    let ordered = subst (λ (y : TaskBlock). AreOrdered c.self.inside.waits (tables_of c.self.inside.system) (slice_set c.self.inside.blocks.items c.args.t c.args.x)
+    let same : c.index-2.result.now ≡ c.args.x.now = read-set _ _ _ _ l c.index-2.ensures in
+    let ordered = subst (λ (y : TaskBlock). AreOrdered c.self.inside.waits (tables_of c.self.inside.system) (slice_set c.self.inside.blocks.items c.args.t c.args.x.now)
     (record c.self.inside.rings { lists = left_from c.self.inside.rings.lists (home c.self.inside.waits y) c.args.t }) c.args.t) is
-    (ordered-left _ _ _ _ _ _ _ tasks c.args.t c.args.x l f) in
+    (ordered-left _ _ _ _ _ _ _ tasks c.args.t c.args.x.now l f) in
     rw same (record {
       urgent = f.urgent;
       least = f.least;
-      processor = subst (λ (n : ℕ). c.args.x.processor < n) (sym (c.leave.ensures.processors ∙ tasks.processors)) f.processor;
+      processor = subst (λ (n : ℕ). c.args.x.now.processor < n) (sym (c.leave.ensures.processors ∙ tasks.processors)) f.processor;
       processors = own_processors tasks ∙ sym c.leave.ensures.processors;
       exact = c.leave.ensures.exact;
       lent = c.leave.ensures.lent;
       counts = own_counts tasks;
-      queue = subst (λ (n : ObjectCounts). IsSomeThere n (queue_of c.args.x.phase)) (sym (own_counts tasks)) f.queue;
+      queue = subst (λ (n : ObjectCounts). IsSomeThere n (queue_of c.args.x.now.phase)) (sym (own_counts tasks)) f.queue;
       task = rw (c.leave.ensures.rings, tasks.nodes) l;
       there = rw (c.as_slice.ensures.value, length-set) l;
       ordered = rw (c.leave.ensures.rings, c.as_slice.ensures.value) ordered;
@@ -66,17 +66,17 @@ invariant_of-self c =
     let tasks = c.self.invariant.tasks in
     let there : c.args.t < length c.self.inside.system.tasks.items = rw (← c.self.view_is) at c.requires.there in
     let l : c.args.t < length c.self.inside.blocks.items = subst (λ (n : ℕ). c.args.t < n) tasks.configs there in
-    let f : Fits (tables_of c.self.inside.system) c.args.x = rw (← c.self.view_is) at c.requires.fits in
+    let f : Fits (tables_of c.self.inside.system) c.args.x.now = rw (← c.self.view_is) at c.requires.fits in
     let is : task_at c.self.inside.blocks.items c.args.t ≡ c.index.result.now = read-at _ _ _ l c.index.ensures in
-    let after : IfSome c.args.x.deadline (λ w. c.self.inside.clock + 1 ≤ w) = rw (← c.self.view_is) at c.requires.later in
-    let same : c.index-2.result.now ≡ c.args.x = read-set _ _ _ _ l c.index-2.ensures in
+    let after : IfSome c.args.x.now.deadline (λ w. c.self.inside.clock + 1 ≤ w) = rw (← c.self.view_is) at c.requires.later in
+    let same : c.index-2.result.now ≡ c.args.x.now = read-set _ _ _ _ l c.index-2.ensures in
     let moved = rw (c.leave.ensures.rings, c.as_slice.ensures.value, same) at c.join.ensures.rings in
     record {
       system = c.self.invariant.system;
       later = rw c.set_deadline.ensures (NoneBefore-set _ _ _ _ after c.self.invariant.later);
       tasks =
           rw (c.to_end.ensures, c.set_deadline.ensures)
-          (Sound-last tasks c.args.t c.args.x l f c.index.result.now c.join.new.ready c.join.new.rings c.requires.in_order is
+          (Sound-last tasks c.args.t c.args.x.now l f c.index.result.now c.join.new.ready c.join.new.rings c.requires.in_order is
           (c.join.ensures.processors ∙ c.leave.ensures.processors) c.join.ensures.exact moved);
       semaphores = c.self.invariant.semaphores;
       flags = c.self.invariant.flags;
