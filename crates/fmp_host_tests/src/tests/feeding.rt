@@ -81,11 +81,24 @@ fn answered<'a, R: Wait>(
     Ok(fed_by_one::<Brand, R>(rt, alloc, blank, seats, times))
 }
 
-/// What is seen of a board of one task with room for k events, whose processor is fed so often.
+/// What is seen of a board of an image with room for k events, whose first processor is fed so often.
+fn seen_of<R: Wait>(
+    rt: &R,
+    alloc: Global,
+    image: &Image,
+    k: u32,
+    times: u32,
+) -> Result<Seen, Fail> {
+    let (answers, closed) = answered(rt, alloc, image, k, times)?;
+    Seen::of(alloc, answers_text(alloc, answers), image, closed)
+}
+
+/// The same, of an image of one task.
 fn seen_of_one_task<R: Wait>(rt: &R, alloc: Global, k: u32, times: u32) -> Result<Seen, Fail> {
     let image = image_of(alloc, CONFIGURATION, TASKS)?;
-    let (answers, closed) = answered(rt, alloc, &image, k, times)?;
-    Seen::of(alloc, answers_text(alloc, answers), &image, closed)
+    let seen = seen_of(rt, alloc, &image, k, times);
+    drop(image);
+    seen
 }
 
 #[test]
@@ -120,10 +133,17 @@ fn made(alloc: Global, image: &Image, n: u64, k: u32, m: u8) -> Result<String, F
     }
 }
 
+/// What making a board of an image of one task with these limits answers.
+fn made_of_one_task(alloc: Global, n: u64, k: u32, m: u8) -> Result<String, Fail> {
+    let image = image_of(alloc, CONFIGURATION, TASKS)?;
+    let answer = made(alloc, &image, n, k, m);
+    drop(image);
+    answer
+}
+
 #[test]
 fn limits_of_a_board(rt: HostRuntime) -> Result<(), Fail> {
     let alloc = rt.alloc();
-    let image = image_of(alloc, CONFIGURATION, TASKS)?;
     for (n, k, m, expected) in [
         (1, 1, 1, "1 seats"),
         (1 << 48, 1 << 20, 64, "64 seats"),
@@ -135,7 +155,7 @@ fn limits_of_a_board(rt: HostRuntime) -> Result<(), Fail> {
         (1, 1, 65, "H4"),
     ] {
         assert_eq!(rt;
-            made(alloc, &image, n, k, m)?.as_str(),
+            made_of_one_task(alloc, n, k, m)?.as_str(),
             expected,
             "{n} {k} {m}"
         );

@@ -85,8 +85,8 @@ fn pulled<S: Site>(
     })
 }
 
-/// What a follower prints of a board from a seat that was given no event, once it was given so many. None where the seat
-/// was given some.
+/// What a follower prints of a board from a seat that was given no event, once it was given so many. None where the
+/// seat was given some.
 fn followed<S: Site>(
     alloc: Global,
     board: &Board<'_, S>,
@@ -105,27 +105,45 @@ fn followed<S: Site>(
     }
 }
 
-/// Feeds events by one seat, and follows them from another.
+/// The same, from another such seat where memory for following was refused.
+fn followed_again<S: Site>(
+    alloc: Global,
+    board: &Board<'_, S>,
+    readers: (Seat, Seat),
+    events: u32,
+) -> Result<Option<Printed>, AllocError>
+    requires first { IsAt S.row_id readers.0 }
+    requires second { IsAt S.row_id readers.1 }
+{
+    match followed(alloc, board, readers.0, events) {
+        Ok(printed) => Ok(printed),
+        Err(_) => followed(alloc, board, readers.1, events),
+    }
+}
+
+/// Feeds events by one seat, and follows them from another, or from a third where memory was refused.
 fn fed_and_followed<S: Site, R: Wait>(
     rt: &R,
     alloc: Global,
     board: &Board<'_, S>,
     seat: &mut Seat,
-    reader: Seat,
+    readers: (Seat, Seat),
     events: &[Event],
 ) -> Result<Option<Printed>, Fail>
     requires seat { IsAt S.row_id seat.old }
-    requires reader { IsAt S.row_id reader }
+    requires first { IsAt S.row_id readers.0 }
+    requires second { IsAt S.row_id readers.1 }
     ensures { IsAt S.row_id seat.new }
 {
     let mut fed = 0;
     for event in events {
         fed = board.feed(rt, seat, *event)?.number;
     }
-    Ok(followed(alloc, board, reader, fed)?)
+    Ok(followed_again(alloc, board, readers, fed)?)
 }
 
-/// Opens a board that one seat feeds and another follows, and closes it: what the follower printed, and the board then.
+/// Opens a board that one seat feeds and another follows, and closes it: what the follower printed, and the board
+/// then. A third seat is spare.
 fn fed<'a, S: Site, R: Wait>(
     rt: &R,
     alloc: Global,
@@ -135,13 +153,14 @@ fn fed<'a, S: Site, R: Wait>(
 ) -> (Result<Option<Printed>, Fail>, Closed<'a>)
     requires blank { blank ≡ blank_of S.image S.bound S.row_id }
     requires seats { All (IsAt S.row_id) seats.items }
-    requires count { length seats.items ≡ 2 }
+    requires count { length seats.items ≡ 3 }
     ensures { result.1.kernel.system ≡ S.image.system }
 {
     let reader = last_of::<S>(&mut seats);
+    let spare = last_of::<S>(&mut seats);
     let mut seat = last_of::<S>(&mut seats);
     let board: Board<'a, S> = blank.open();
-    let printed = fed_and_followed(rt, alloc, &board, &mut seat, reader, events);
+    let printed = fed_and_followed(rt, alloc, &board, &mut seat, (reader, spare), events);
     (printed, board.close(&mut seat))
 }
 
@@ -217,7 +236,7 @@ fn fed_board<'a, R: Wait>(
 ) -> Result<(Result<Option<Printed>, Fail>, Closed<'a>), Fail>
     ensures { IfOk result (λ r. r.1.kernel.system ≡ image.now.system) }
 {
-    let (blank, seats) = board_of(alloc, image, BOUND, k, 2)?;
+    let (blank, seats) = board_of(alloc, image, BOUND, k, 3)?;
     Ok(fed::<Brand, R>(rt, alloc, blank, seats, events))
 }
 
@@ -276,25 +295,52 @@ fn texts_after(
 ) -> Result<Texts, Fail>
     requires { closed.kernel.system ≡ image.now.system }
 {
-    texts_of(alloc, printed, image, &closed)
+    let texts = texts_of(alloc, printed, image, &closed);
+    drop(closed);
+    texts
 }
 
-/// The texts of a board with room for k events that is fed.
+/// The texts of a board of an image with room for k events that is fed.
+fn texts_of_fed_board<R: Wait>(
+    rt: &R,
+    alloc: Global,
+    image: &Image,
+    k: u32,
+    events: &[Event],
+) -> Result<Texts, Fail> {
+    let (printed, closed) = fed_board(rt, alloc, image, k, events)?;
+    texts_after(alloc, printed, image, closed)
+}
+
+/// The same, of the image of the worked row.
 fn texts_of_fed<R: Wait>(rt: &R, alloc: Global, k: u32, events: &[Event]) -> Result<Texts, Fail> {
     let image = image_of(alloc, CONFIGURATION, TASKS)?;
-    let (printed, closed) = fed_board(rt, alloc, &image, k, events)?;
-    texts_after(alloc, printed, &image, closed)
+    let texts = texts_of_fed_board(rt, alloc, &image, k, events);
+    drop(image);
+    texts
 }
 
-/// The texts of a board that threads run.
+/// The texts of a board of an image that threads run.
+fn texts_of_run_board<R: Threads + Wait + Sync>(
+    rt: &R,
+    alloc: Global,
+    image: &Image,
+    events: u32,
+) -> Result<Texts, Fail> {
+    let (printed, closed) = run_board(rt, alloc, image, events)?;
+    texts_after(alloc, printed, image, closed)
+}
+
+/// The same, of the image of the worked row.
 fn texts_of_run<R: Threads + Wait + Sync>(
     rt: &R,
     alloc: Global,
     events: u32,
 ) -> Result<Texts, Fail> {
     let image = image_of(alloc, CONFIGURATION, TASKS)?;
-    let (printed, closed) = run_board(rt, alloc, &image, events)?;
-    texts_after(alloc, printed, &image, closed)
+    let texts = texts_of_run_board(rt, alloc, &image, events);
+    drop(image);
+    texts
 }
 
 #[test]

@@ -144,21 +144,45 @@ fn lines_of(alloc: Global, trace: &str, task: &str) -> Result<String, Fail> {
     Ok(lines)
 }
 
+/// What is seen of a board of an image of two processors that threads ran, and what a simulation of its journal prints.
+fn seen_and_simulated<R: Threads + Wait + Sync>(
+    rt: &R,
+    alloc: Global,
+    image: &Image,
+    schedule: Schedule,
+) -> Result<(Seen, String), Fail> {
+    let seen = seen_of_both(rt, alloc, image, schedule)?;
+    let printed = simulated(alloc, image, seen.journal.as_str())?;
+    Ok((seen, printed))
+}
+
+/// The same, of the image of two texts.
+fn run_texts<R: Threads + Wait + Sync>(
+    rt: &R,
+    alloc: Global,
+    texts: (&str, &str),
+    schedule: Schedule,
+) -> Result<(Seen, String), Fail> {
+    let (configuration, tasks) = texts;
+    let image = image_of(alloc, configuration, tasks)?;
+    let seen = seen_and_simulated(rt, alloc, &image, schedule);
+    drop(image);
+    seen
+}
+
 #[test]
 fn processors_that_wait_for_one_another(rt: HostRuntime) -> Result<(), Fail> {
     let alloc = rt.alloc();
-    let image = image_of(alloc, CONFIGURATION, TASKS)?;
     let schedule = Schedule {
         capacity: 8,
         turns: 4,
         held: 1,
     };
-    let seen = seen_of_both(&rt, alloc, &image, schedule)?;
+    let (seen, printed) = run_texts(&rt, alloc, (CONFIGURATION, TASKS), schedule)?;
     assert_eq!(rt; seen.answers.as_str(), "6");
     assert_eq!(rt; seen.journal.lines().count(), 6);
     assert!(rt; seen.journal.as_str().starts_with("run 2\n"));
     assert_eq!(rt; seen.states.as_str(), "A DORMANT p1 10\nB DORMANT p2 10\n");
-    let printed = simulated(alloc, &image, seen.journal.as_str())?;
     assert_eq!(rt;
         lines_of(alloc, printed.as_str(), " p1 A ")?.as_str(),
         "starts\nst_shr(1,5) E_OK\nld_shr(1) E_OK 5\nput(5) E_OK\nend\n"
@@ -169,17 +193,14 @@ fn processors_that_wait_for_one_another(rt: HostRuntime) -> Result<(), Fail> {
 
 #[test]
 fn processors_of_which_one_may_be_refused(rt: HostRuntime) -> Result<(), Fail> {
-    let alloc = rt.alloc();
-    let image = image_of(alloc, CONFIGURATION, TASKS)?;
     let schedule = Schedule {
         capacity: 8,
         turns: 4,
         held: 1,
     };
-    let seen = seen_of_both(&rt, alloc, &image, schedule)?;
+    let (seen, printed) = run_texts(&rt, rt.alloc(), (CONFIGURATION, TASKS), schedule)?;
     // A thread is refused only from outside.
     assert!(rt; seen.answers.as_str() == "6" || seen.answers.as_str() == "H5");
-    let printed = simulated(alloc, &image, seen.journal.as_str())?;
     assert!(rt; printed.as_str().ends_with(seen.states.as_str()));
     Ok(())
 }
@@ -192,15 +213,12 @@ fn seen_of_suspended<R: Threads + Wait + Sync>(
     capacity: u32,
     turns: u32,
 ) -> Result<(Seen, String), Fail> {
-    let (configuration, tasks) = SUSPENDED;
-    let image = image_of(alloc, configuration, tasks)?;
     let schedule = Schedule {
         capacity,
         turns,
         held: 2,
     };
-    let seen = seen_of_both(rt, alloc, &image, schedule)?;
-    let printed = simulated(alloc, &image, seen.journal.as_str())?;
+    let (seen, printed) = run_texts(rt, alloc, SUSPENDED, schedule)?;
     let lines = lines_of(alloc, printed.as_str(), " p1 T ")?;
     Ok((seen, lines))
 }

@@ -126,6 +126,8 @@ impl Seen {
     ) -> Result<Seen, Fail>
         requires { closed.kernel.system ≡ image.now.system }
     {
-        Seen::over(alloc, answers, image, &closed)
+        let seen = Seen::over(alloc, answers, image, &closed);
+        drop(closed);
+        seen
     }
 }

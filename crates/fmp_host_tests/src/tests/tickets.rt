@@ -164,10 +164,24 @@ fn closed_after(
 ) -> Result<(Answers, Seen), Fail>
     requires { closed.kernel.system ≡ image.now.system }
 {
-    seen_after(alloc, answers, image, &closed)
+    let seen = seen_after(alloc, answers, image, &closed);
+    drop(closed);
+    seen
 }
 
-/// What was answered, the events that were followed, and the journal and the states in the end.
+/// What was answered by a board of an image, the events that were followed, and the journal and the states in the end.
+fn seen_on<R: Wait>(
+    rt: &R,
+    alloc: Global,
+    image: &Image,
+    k: u32,
+    runs: u32,
+) -> Result<(Answers, Seen), Fail> {
+    let (answers, closed) = answered_by(rt, alloc, image, k, runs)?;
+    closed_after(alloc, answers, image, closed)
+}
+
+/// The same, of the image of two texts.
 fn seen_of<R: Wait>(
     rt: &R,
     alloc: Global,
@@ -177,8 +191,9 @@ fn seen_of<R: Wait>(
 ) -> Result<(Answers, Seen), Fail> {
     let (configuration, tasks) = texts;
     let image = image_of(alloc, configuration, tasks)?;
-    let (answers, closed) = answered_by(rt, alloc, &image, k, runs)?;
-    closed_after(alloc, answers, &image, closed)
+    let seen = seen_on(rt, alloc, &image, k, runs);
+    drop(image);
+    seen
 }
 
 /// What is answered to the event at this place of the journal, from 1, whose call replies E_OK.
@@ -243,7 +258,7 @@ fn overtaken<S: Site, R: Wait>(
 }
 
 /// The events of the journal of a closed board that has two.
-fn both_events(closed: Closed<'_>) -> Option<[Event; 2]> {
+fn both_events(closed: &Closed<'_>) -> Option<[Event; 2]> {
     if closed.len() != 2 {
         return None;
     }
@@ -265,7 +280,10 @@ fn overtaken_on<'a, S: Site, R: Wait>(
     let mut seat = last_of::<S>(&mut seats);
     let board: Board<'a, S> = blank.open();
     let answers = overtaken(rt, &board, &mut seat);
-    (answers, both_events(board.close(&mut seat)))
+    let closed = board.close(&mut seat);
+    let events = both_events(&closed);
+    drop(closed);
+    (answers, events)
 }
 
 /// The same, of a board of an image that is made for it.
@@ -278,12 +296,23 @@ fn overtaken_of<R: Wait>(
     Ok(overtaken_on::<Brand, R>(rt, blank, seats))
 }
 
+/// The same, of the image of two texts.
+fn overtaken_of_texts<R: Wait>(
+    rt: &R,
+    alloc: Global,
+    texts: (&str, &str),
+) -> Result<(Overtaken, Option<[Event; 2]>), Fail> {
+    let (configuration, tasks) = texts;
+    let image = image_of(alloc, configuration, tasks)?;
+    let answers = overtaken_of(rt, alloc, &image);
+    drop(image);
+    answers
+}
+
 #[test]
 fn a_board_that_takes_no_memory_once_it_is_made(rt: HostRuntime) -> Result<(), Fail> {
     let alloc = rt.alloc();
-    let (configuration, tasks) = SUSPENDED;
-    let image = image_of(alloc, configuration, tasks)?;
-    let (answers, journal) = overtaken_of(&rt, alloc, &image)?;
+    let (answers, journal) = overtaken_of_texts(&rt, alloc, SUSPENDED)?;
     // The one growth behind those of the board, for whoever refuses all from there on.
     let _refused: Result<Vec<u8>, AllocError> = Vec::with_capacity(alloc, 1);
     assert_eq!(rt; answers?, [done(1), done(2), Err(BoardFault::Stale)]);
