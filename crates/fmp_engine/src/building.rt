@@ -16,7 +16,10 @@ pub fn check(alloc: Global, cfg: &[u8], src: &[u8]) -> Result<(), BuildFault>
     ensures refuses { IfErr result (IsBuildFault cfg.now src.now) }
 {
     match build(alloc, cfg, src) {
-        Ok(_) => Ok(()),
+        Ok(image) => {
+            drop(image);
+            Ok(())
+        }
         Err(fault) => Err(fault),
     }
 }
@@ -37,7 +40,9 @@ pub fn build_image(
         Ok(image) => image,
         Err(fault) => return Err(fault),
     };
-    let Ok(bytes) = store(alloc, &image) else {
+    let stored = store(alloc, &image);
+    drop(image);
+    let Ok(bytes) = stored else {
         return Err(BuildFault::Memory);
     };
     match out.extend_from_slice(&bytes) {

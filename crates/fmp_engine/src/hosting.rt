@@ -101,7 +101,10 @@ fn run_board<'a, S: Site + Send + Sync, R: Threads + Wait + Sync>(
     let (seats, journaled) = run_all(rt, alloc, &board, &OpenGate, seats, work.turns, work.ticks);
     match journaled {
         Ok(_) => Ok(closed(board, seats)),
-        Err(fault) => Err(fault),
+        Err(fault) => {
+            drop(board);
+            Err(fault)
+        }
     }
 }
 
@@ -122,7 +125,9 @@ fn taken_events(alloc: Global, closed: Closed<'_>) -> Result<Vec<Event>, HostFau
     ensures events { IfOk result (λ events. events.items ≡ closed.entry.events) }
     ensures memory { IfErr result (λ f. f ≡ host_fault.Memory) }
 {
-    events_of(alloc, &closed).map_err(|_| HostFault::Memory)
+    let events = events_of(alloc, &closed);
+    drop(closed);
+    events.map_err(|_| HostFault::Memory)
 }
 
 /// The journal that the threads of a board of an image make.
@@ -196,8 +201,14 @@ fn append_hosted<R: Threads + Wait + Sync>(
         Err(LoadFault::Memory) => return Err(HostFault::Memory),
         Err(fault) => return Err(HostFault::Load(fault)),
     };
-    let journal = journal_of(rt, alloc, &image, work)?;
-    append_journal(alloc, &image, work.bound, &journal, file, out).map_err(|_| HostFault::Memory)
+    let hosted = match journal_of(rt, alloc, &image, work) {
+        Ok(journal) => append_journal(alloc, &image, work.bound, &journal, file, out).map_err(
+            |_| HostFault::Memory,
+        ),
+        Err(fault) => Err(fault),
+    };
+    drop(image);
+    hosted
 }
 
 /// Loads an image, and runs it by threads: one for each processor makes the turns, each of which lets its processor run

@@ -105,7 +105,11 @@ fn append_run<B: Body + Drop, E: Events>(
     ensures err { OnErr result (Begins out.old.items out.new.items) }
 {
     match Kernel::new(alloc, body, sys, n) {
-        Ok(mut kernel) => append_from_setup(alloc, sys, &mut kernel, events, out),
+        Ok(mut kernel) => {
+            let appended = append_from_setup(alloc, sys, &mut kernel, events, out);
+            drop(kernel);
+            appended
+        }
         Err(_) => Err(AllocError),
     }
 }

@@ -32,14 +32,14 @@ fn simulate(
         Err(fault) => return Err(SimFault::Load(fault)),
     };
     let system = image.system();
-    let mut steps = match Steps::new(steps, system.processors) {
-        Ok(steps) => steps,
-        Err(fault) => return Err(SimFault::Steps(fault)),
+    let simulated = match Steps::new(steps, system.processors) {
+        Ok(mut steps) => play(alloc, system, image.vm(), n, &mut steps, out).map_err(
+            |_| SimFault::Memory,
+        ),
+        Err(fault) => Err(SimFault::Steps(fault)),
     };
-    match play(alloc, system, image.vm(), n, &mut steps, out) {
-        Ok(()) => Ok(()),
-        Err(_) => Err(SimFault::Memory),
-    }
+    drop(image);
+    simulated
 }
 
 /// Loads an image, runs it over the events of a steps text within n instructions a stretch, 1 to 2^48, and appends the

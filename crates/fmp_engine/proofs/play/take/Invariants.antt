@@ -7,7 +7,8 @@ use Rattle.fmp_engine.proofs.play.take.Given as goal
 abbrev pub invariant-loop-event : goal.invariant-loop-event
 invariant-loop-event g l =
     record {
-      text : l.out.items ++ (l.page ++ text_of_events g.B.Body.meaning l.kernel (g.E.Events.left l.events)) ≡ l.fn.out.items ++ text_of_events g.B.Body.meaning l.fn.kernel (g.E.Events.left l.fn.events);
+      text : l.out.items ++ (l.page ++ text_of_events g.B.Body.meaning l.kernel (g.E.Events.left l.events))
+          ≡ l.fn.out.items ++ text_of_events g.B.Body.meaning l.fn.kernel (g.E.Events.left l.fn.events);
       state : state_after g.B.Body.meaning l.kernel (g.E.Events.left l.events) ≡ state_after g.B.Body.meaning l.fn.kernel (g.E.Events.left l.fn.events);
       system : l.kernel.system ≡ tables_of l.sys;
       kept : Begins l.fn.out.items l.out.items;
