@@ -59,4 +59,5 @@ abbrev pub IsChecked : {R : Type 0} → List Token → List BodyTree → List En
 IsChecked ts bodies entries (Ok r) = entries_offence bodies entries ≡ None
 IsChecked ts bodies entries (Err build.Memory) = Unit {0}
 IsChecked ts bodies entries (Err (build.At f place why)) =
-    (o : Offence) × (entries_offence bodies entries ≡ Some o) × (build.At f place why ≡ fault_in file.Configuration ts o)
+    (o : Offence) × (entries_offence bodies entries ≡ Some o)
+    × (build.At f place why ≡ fault_in file.Configuration ts o)

@@ -45,8 +45,8 @@ fn next_run<B: Body>(kernel: &Kernel<B>, body: &B, n: u64, p: u8) -> NextRun
     }
 }
 
-/// What the next run of each processor comes to, by places from 0, on a kernel over these bodies with this bound. There is
-/// no actor behind the last processor.
+/// What the next run of each processor comes to, by places from 0, on a kernel over these bodies with this bound.
+/// There is no actor behind the last processor.
 pub fn next_runs<B: Body>(kernel: &Kernel<B>, body: &B, n: u64) -> [NextRun; PROCESSORS]
     requires body { body.now ≡ kernel.now.body }
     requires bound { n ≡ kernel.now.bound }

@@ -109,8 +109,8 @@ fn say_stop<O: Outside>(outside: &mut O, stop: Stop) {
     }
 }
 
-/// Says why the run of a processor does nothing, if that is so: always where it reaches the bound, and of a quiet system
-/// whatever the reason is.
+/// Says why the run of a processor does nothing, if that is so: always where it reaches the bound, and of a quiet
+/// system whatever the reason is.
 fn say_next<O: Outside>(outside: &mut O, stop: Stop, processor: usize, next: NextRun) {
     match (stop, next) {
         (_, NextRun::OverBound) => outside.say(format_args!(
