@@ -114,8 +114,8 @@ pub fn append_call(call: &Call, line: &mut LineBytes, end: usize) -> usize
     ensures text { take result line.new ≡ take end line.old ++ (codes " " ++ call_text call.now) }
     ensures short { result ≤ end + 59 }
 {
-    let (word, count) = opening(call.service());
-    let end = append_front(word, count, line, end);
+    let word = opening(call.service());
+    let end = append_front(word, usize::from(word[15]), line, end);
     let end = append_argument(call, line, end);
     append_array(*b")", line, end)
 }
