@@ -33,14 +33,14 @@ mod queues;
 mod synchronization;
 
 /// The case of a call by task me, which processor p runs.
-fn case_of_task(tables: &mut Tables, lines: &mut Vec<Line>, p: u8, me: u8, made: Call) -> Answer
+fn case_of_task(tables: &mut Tables, lines: &mut Vec<Line>, p: u8, me: u8, made: &Call) -> Answer
     requires caller { me < length tables.old.system.tasks }
     requires processor { p < tables.old.system.processors }
     requires range { IsInRange tables.old.system }
     requires empty { lines.old.items ≡ [] }
     requires room { 255 ≤ vec_capacity lines.old }
     ensures outcome { outcome result tables.new lines.new.items
-        ≡ case_of tables.old.system tables.old.state p me (task_at tables.old.state.tasks me) made }
+        ≡ case_of tables.old.system tables.old.state p me (task_at tables.old.state.tasks me) made.now }
     ensures shape { SameShape tables.old tables.new }
     ensures capacity { vec_capacity lines.new ≡ vec_capacity lines.old }
 {
@@ -56,14 +56,14 @@ fn case_of_task(tables: &mut Tables, lines: &mut Vec<Line>, p: u8, me: u8, made:
 }
 
 /// The case of a call that a handler on processor p may make.
-fn case_of_handler(tables: &mut Tables, lines: &mut Vec<Line>, p: u8, made: Call) -> Answer
-    requires group { IsForHandlers (group_of (service_of made)) }
+fn case_of_handler(tables: &mut Tables, lines: &mut Vec<Line>, p: u8, made: &Call) -> Answer
+    requires group { IsForHandlers (group_of (service_of made.now)) }
     requires processor { p < tables.old.system.processors }
     requires range { IsInRange tables.old.system }
     requires empty { lines.old.items ≡ [] }
     requires room { 255 ≤ vec_capacity lines.old }
     ensures outcome { outcome result tables.new lines.new.items
-        ≡ case_of tables.old.system tables.old.state p 0 (task_at [] 0) made }
+        ≡ case_of tables.old.system tables.old.state p 0 (task_at [] 0) made.now }
     ensures shape { SameShape tables.old tables.new }
     ensures capacity { vec_capacity lines.new ≡ vec_capacity lines.old }
 {
@@ -81,16 +81,17 @@ fn permitted_call(
     lines: &mut Vec<Line>,
     p: u8,
     who: Caller,
-    made: Call,
+    made: &Call,
 ) -> Answer
-    requires permitted { barred (permission (service_of made)) (processor_at tables.old.state p) who made ≡ false }
+    requires permitted { barred (permission (service_of made.now)) (processor_at tables.old.state p) who made.now
+        ≡ false }
     requires caller { IsTaskOf tables.old.system who }
     requires processor { p < tables.old.system.processors }
     requires range { IsInRange tables.old.system }
     requires empty { lines.old.items ≡ [] }
     requires room { 255 ≤ vec_capacity lines.old }
     ensures outcome { outcome result tables.new lines.new.items
-        ≡ case_by tables.old.system tables.old.state p who made }
+        ≡ case_by tables.old.system tables.old.state p who made.now }
     ensures shape { SameShape tables.old tables.new }
     ensures capacity { vec_capacity lines.new ≡ vec_capacity lines.old }
 {
@@ -101,13 +102,14 @@ fn permitted_call(
 }
 
 /// What a call of this caller on processor p comes to. The lines of what it causes are added to those that are given.
-pub fn call(tables: &mut Tables, lines: &mut Vec<Line>, p: u8, who: Caller, made: Call) -> Answer
+pub fn call(tables: &mut Tables, lines: &mut Vec<Line>, p: u8, who: Caller, made: &Call) -> Answer
     requires caller { IsTaskOf tables.old.system who }
     requires processor { p < tables.old.system.processors }
     requires range { IsInRange tables.old.system }
     requires empty { lines.old.items ≡ [] }
     requires room { 255 ≤ vec_capacity lines.old }
-    ensures outcome { outcome result tables.new lines.new.items ≡ called tables.old.system tables.old.state p who made }
+    ensures outcome { outcome result tables.new lines.new.items
+        ≡ called tables.old.system tables.old.state p who made.now }
     ensures shape { SameShape tables.old tables.new }
     ensures capacity { vec_capacity lines.new ≡ vec_capacity lines.old }
 {

@@ -60,19 +60,19 @@ impl<B: Body> Runner<B> {
 
     /// The actor of processor p makes a call, and its context awaits the reply. Where it asks for a held spin lock it
     /// has done nothing, and goes on from the context from which it came to the call.
-    fn make_call(&mut self, p: u8, who: Caller, made: Call, first: &B::Ctx) -> Effect
+    fn make_call(&mut self, p: u8, who: Caller, made: &Call, first: &B::Ctx) -> Effect
         requires there { p < self.old.system.processors }
         requires caller { IsTaskOf self.old.system who }
         requires kept { HasContext self.old.world.contexts p who }
         requires context { B.is_context self.old.body (caller_body self.old.system self.old.world.contexts p who)
             first.now }
         ensures effect { result
-            ≡ effect_of (call_made self.old.system (B.meaning self.old.body) self.old.world.contexts p who made
-            (called self.old.system self.old.world.state p who made)) }
+            ≡ effect_of (call_made self.old.system (B.meaning self.old.body) self.old.world.contexts p who made.now
+            (called self.old.system self.old.world.state p who made.now)) }
         ensures after { done_of self.new
             ≡ done_or (with_contexts (done_of self.old) (with_context self.old.world.contexts p who
             (Some (Goes first.now)))) (call_made self.old.system (B.meaning self.old.body)
-            self.old.world.contexts p who made (called self.old.system self.old.world.state p who made)) }
+            self.old.world.contexts p who made.now (called self.old.system self.old.world.state p who made.now)) }
         ensures bodies { SameBodies self.old self.new }
         ensures clock { self.new.world.state.clock ≡ self.old.world.state.clock }
     {
@@ -81,13 +81,13 @@ impl<B: Body> Runner<B> {
             Answer::Replies(reply) => Line::Call {
                 processor: p,
                 caller: who,
-                call: made,
+                call: *made,
                 reply: Some(reply),
             },
             Answer::Waits => Line::Call {
                 processor: p,
                 caller: who,
-                call: made,
+                call: *made,
                 reply: None,
             },
             Answer::Ends => Line::End {
@@ -160,19 +160,19 @@ impl<B: Body> Runner<B> {
     /// carried out. Where it was over its bound, nothing is.
     #[tactic(auto, using(crate::proofs::HeldLemmas::context_back))]
     #[inline(always)]
-    fn carry_out_stop(&mut self, p: u8, who: Caller, first: &B::Ctx, stop: Stop) -> Effect
+    fn carry_out_stop(&mut self, p: u8, who: Caller, first: &B::Ctx, stop: &Stop) -> Effect
         requires there { p < self.old.system.processors }
         requires caller { IsTaskOf self.old.system who }
         requires kept { HasContext self.old.world.contexts p who }
         requires context { B.is_context self.old.body (caller_body self.old.system self.old.world.contexts p who)
             first.now }
-        requires same { HasNoCall stop → context_of self.old.world.contexts p who ≡ Some (Goes first.now) }
+        requires same { HasNoCall stop.now → context_of self.old.world.contexts p who ≡ Some (Goes first.now) }
         ensures effect { result
-            ≡ effect_of (stopped_on self.old.system (B.meaning self.old.body) self.old.world p who stop) }
+            ≡ effect_of (stopped_on self.old.system (B.meaning self.old.body) self.old.world p who stop.now) }
         ensures after { done_of self.new
             ≡ done_or (with_contexts (done_of self.old) (with_context self.old.world.contexts p who
             (Some (Goes first.now))))
-            (stopped_on self.old.system (B.meaning self.old.body) self.old.world p who stop) }
+            (stopped_on self.old.system (B.meaning self.old.body) self.old.world p who stop.now) }
         ensures bodies { SameBodies self.old self.new }
         ensures clock { self.new.world.state.clock ≡ self.old.world.state.clock }
     {
@@ -191,7 +191,7 @@ impl<B: Body> Runner<B> {
                 let own = Line::Fault {
                     processor: p,
                     caller: who,
-                    fault,
+                    fault: *fault,
                 };
                 self.end_actor(p, who, own);
                 Effect::Done
@@ -216,7 +216,7 @@ impl<B: Body> Runner<B> {
         ensures clock { self.new.world.state.clock ≡ self.old.world.state.clock }
     {
         let stop = self.go_on(p, who, first);
-        self.carry_out_stop(p, who, first, stop)
+        self.carry_out_stop(p, who, first, &stop)
     }
 
     /// The actor of processor p, which goes on from this context, has made this stretch: the call, end or fault is
@@ -242,7 +242,7 @@ impl<B: Body> Runner<B> {
         ensures clock { self.new.world.state.clock ≡ self.old.world.state.clock }
     {
         let stop = self.take(p, who, first, stretch);
-        self.carry_out_stop(p, who, first, stop)
+        self.carry_out_stop(p, who, first, &stop)
     }
 
     /// Processor p runs its actor for a stretch.

@@ -22,11 +22,11 @@ fn is_caller(me: u8, task: i32) -> bool
 }
 
 /// Whether a call that may take a task off its processor is made by task me on itself.
-fn is_on_caller(me: u8, made: Call) -> bool
-    requires { permission (service_of made) ≡ permissions.TasksOnOthers }
-    ensures { result ≡ names_itself me made }
+fn is_on_caller(me: u8, made: &Call) -> bool
+    requires { permission (service_of made.now) ≡ permissions.TasksOnOthers }
+    ensures { result ≡ names_itself me made.now }
 {
-    match made {
+    match *made {
         Call::MigTsk { task, .. } => is_caller(me, task),
         Call::SusTsk { task } => is_caller(me, task),
         _ => unreachable!(),
@@ -34,8 +34,8 @@ fn is_on_caller(me: u8, made: Call) -> bool
 }
 
 /// E_CTX for a caller on this processor.
-pub fn is_barred(cpu: &Processor, who: Caller, made: Call) -> bool
-    ensures { result ≡ barred (permission (service_of made)) cpu.now who made }
+pub fn is_barred(cpu: &Processor, who: Caller, made: &Call) -> bool
+    ensures { result ≡ barred (permission (service_of made.now)) cpu.now who made.now }
 {
     match (made.service().permission(), who) {
         (Permission::Anywhere, _) => false,

@@ -24,6 +24,7 @@ pub enum ServiceGroup {
 }
 
 /// The group of a service call.
+#[inline(always)]
 pub fn group(service: Service) -> ServiceGroup
     ensures { result ≡ group_of service }
 {

@@ -15,18 +15,18 @@ use fmp_objects_queues::{fsnd_dtq, psnd_dtq};
 use fmp_tasks::Tables;
 
 /// A call for handlers, on processor p, whoever makes it.
-pub fn handler_call(tables: &mut Tables, lines: &mut Vec<Line>, p: u8, made: Call) -> Answer
-    requires group { group_of (service_of made) ≡ ServiceGroup.Handlers }
+pub fn handler_call(tables: &mut Tables, lines: &mut Vec<Line>, p: u8, made: &Call) -> Answer
+    requires group { group_of (service_of made.now) ≡ ServiceGroup.Handlers }
     requires processor { p < tables.old.system.processors }
     requires range { IsInRange tables.old.system }
     requires empty { lines.old.items ≡ [] }
     requires room { 255 ≤ vec_capacity lines.old }
     ensures outcome { (me : ℕ) (x : TaskBlock)
-        → outcome result tables.new lines.new.items ≡ case_of tables.old.system tables.old.state p me x made }
+        → outcome result tables.new lines.new.items ≡ case_of tables.old.system tables.old.state p me x made.now }
     ensures shape { SameShape tables.old tables.new }
     ensures capacity { vec_capacity lines.new ≡ vec_capacity lines.old }
 {
-    match made {
+    match *made {
         Call::IactTsk { task } => iact_tsk(tables, lines, task),
         Call::IwupTsk { task } => iwup_tsk(tables, lines, task),
         Call::IrelWai { task } => rel_wai(tables, lines, task),

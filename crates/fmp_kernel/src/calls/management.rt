@@ -19,20 +19,20 @@ pub fn management_call(
     lines: &mut Vec<Line>,
     p: u8,
     me: u8,
-    made: Call,
+    made: &Call,
 ) -> Answer
-    requires group { group_of (service_of made) ≡ ServiceGroup.Management }
+    requires group { group_of (service_of made.now) ≡ ServiceGroup.Management }
     requires caller { me < length tables.old.system.tasks }
     requires few { length tables.old.system.tasks ≤ 255 }
     requires processor { p < tables.old.system.processors }
     requires empty { lines.old.items ≡ [] }
     requires room { 1 ≤ vec_capacity lines.old }
     ensures outcome { outcome result tables.new lines.new.items
-        ≡ case_of tables.old.system tables.old.state p me (task_at tables.old.state.tasks me) made }
+        ≡ case_of tables.old.system tables.old.state p me (task_at tables.old.state.tasks me) made.now }
     ensures shape { SameShape tables.old tables.new }
     ensures capacity { vec_capacity lines.new ≡ vec_capacity lines.old }
 {
-    match made {
+    match *made {
         Call::ActTsk { task } => act_tsk(tables, lines, me, task),
         Call::CanAct { task } => can_act(tables, me, task),
         Call::ExtTsk => ext_tsk(tables, lines, p, me),

@@ -12,19 +12,19 @@ use fmp_objects::{clr_flg, set_flg, sig_sem, twai_flg, twai_sem, wai_flg, wai_se
 use fmp_tasks::Tables;
 
 /// A call by task me on a semaphore or an eventflag.
-pub fn object_call(tables: &mut Tables, lines: &mut Vec<Line>, me: u8, made: Call) -> Answer
-    requires group { group_of (service_of made) ≡ ServiceGroup.Objects }
+pub fn object_call(tables: &mut Tables, lines: &mut Vec<Line>, me: u8, made: &Call) -> Answer
+    requires group { group_of (service_of made.now) ≡ ServiceGroup.Objects }
     requires caller { me < length tables.old.system.tasks }
     requires empty { lines.old.items ≡ [] }
     requires room { 1 ≤ vec_capacity lines.old }
     requires room_for_all { length tables.old.system.tasks ≤ vec_capacity lines.old }
     ensures outcome { (p : ℕ)
         → outcome result tables.new lines.new.items
-        ≡ case_of tables.old.system tables.old.state p me (task_at tables.old.state.tasks me) made }
+        ≡ case_of tables.old.system tables.old.state p me (task_at tables.old.state.tasks me) made.now }
     ensures shape { SameShape tables.old tables.new }
     ensures capacity { vec_capacity lines.new ≡ vec_capacity lines.old }
 {
-    match made {
+    match *made {
         Call::SigSem { semaphore } => sig_sem(tables, lines, semaphore),
         Call::WaiSem { semaphore } => wai_sem(tables, me, TimeLimit::Forever, semaphore),
         Call::PolSem { semaphore } => wai_sem(tables, me, TimeLimit::Poll, semaphore),

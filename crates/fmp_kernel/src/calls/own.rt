@@ -13,13 +13,13 @@ use fmp_tasks::Tables;
 use fmp_tasks::answers::replied;
 
 /// A call of this kernel's own.
-pub fn own_call(tables: &mut Tables, made: Call) -> Answer
-    requires { group_of (service_of made) ≡ ServiceGroup.Own }
+pub fn own_call(tables: &mut Tables, made: &Call) -> Answer
+    requires { group_of (service_of made.now) ≡ ServiceGroup.Own }
     ensures outcome { (p me : ℕ) (x : TaskBlock)
-        → outcome result tables.new [] ≡ case_of tables.old.system tables.old.state p me x made }
+        → outcome result tables.new [] ≡ case_of tables.old.system tables.old.state p me x made.now }
     ensures shape { SameShape tables.old tables.new }
 {
-    match made {
+    match *made {
         Call::Put { .. } => replied(Er::Ok),
         Call::LdShr { word } => ld_shr(tables, word),
         Call::StShr { word, value } => st_shr(tables, word, value),

@@ -42,13 +42,13 @@ fn stp_cyc(tables: &mut Tables, cyclic: i32) -> Answer
 }
 
 /// A call on a cyclic handler or on the state of processor p.
-pub fn processor_call(tables: &mut Tables, p: u8, made: Call) -> Answer
-    requires group { group_of (service_of made) ≡ ServiceGroup.Processors }
+pub fn processor_call(tables: &mut Tables, p: u8, made: &Call) -> Answer
+    requires group { group_of (service_of made.now) ≡ ServiceGroup.Processors }
     ensures outcome { (me : ℕ) (x : TaskBlock)
-        → outcome result tables.new [] ≡ case_of tables.old.system tables.old.state p me x made }
+        → outcome result tables.new [] ≡ case_of tables.old.system tables.old.state p me x made.now }
     ensures shape { SameShape tables.old tables.new }
 {
-    match made {
+    match *made {
         Call::StaCyc { cyclic } => sta_cyc(tables, cyclic),
         Call::StpCyc { cyclic } => stp_cyc(tables, cyclic),
         Call::LocCpu => tables.loc_cpu(p),

@@ -14,18 +14,18 @@ use fmp_objects_queues::{
 use fmp_tasks::Tables;
 
 /// A call by task me on a data queue or a mailbox.
-pub fn queue_call(tables: &mut Tables, lines: &mut Vec<Line>, me: u8, made: Call) -> Answer
-    requires group { group_of (service_of made) ≡ ServiceGroup.Queues }
+pub fn queue_call(tables: &mut Tables, lines: &mut Vec<Line>, me: u8, made: &Call) -> Answer
+    requires group { group_of (service_of made.now) ≡ ServiceGroup.Queues }
     requires caller { me < length tables.old.system.tasks }
     requires empty { lines.old.items ≡ [] }
     requires room { 1 ≤ vec_capacity lines.old }
     ensures outcome { (p : ℕ)
         → outcome result tables.new lines.new.items
-        ≡ case_of tables.old.system tables.old.state p me (task_at tables.old.state.tasks me) made }
+        ≡ case_of tables.old.system tables.old.state p me (task_at tables.old.state.tasks me) made.now }
     ensures shape { SameShape tables.old tables.new }
     ensures capacity { vec_capacity lines.new ≡ vec_capacity lines.old }
 {
-    match made {
+    match *made {
         Call::SndDtq { queue, word } => {
             snd_dtq(tables, lines, me, TimeLimit::Forever, queue, word)
         }

@@ -16,19 +16,19 @@ pub fn synchronization_call(
     tables: &mut Tables,
     lines: &mut Vec<Line>,
     me: u8,
-    made: Call,
+    made: &Call,
 ) -> Answer
-    requires group { group_of (service_of made) ≡ ServiceGroup.Synchronization }
+    requires group { group_of (service_of made.now) ≡ ServiceGroup.Synchronization }
     requires caller { me < length tables.old.system.tasks }
     requires empty { lines.old.items ≡ [] }
     requires room { 1 ≤ vec_capacity lines.old }
     ensures outcome { (p : ℕ)
         → outcome result tables.new lines.new.items
-        ≡ case_of tables.old.system tables.old.state p me (task_at tables.old.state.tasks me) made }
+        ≡ case_of tables.old.system tables.old.state p me (task_at tables.old.state.tasks me) made.now }
     ensures shape { SameShape tables.old tables.new }
     ensures capacity { vec_capacity lines.new ≡ vec_capacity lines.old }
 {
-    match made {
+    match *made {
         Call::SlpTsk => slp_tsk(tables, me),
         Call::TslpTsk { limit } => tslp_tsk(tables, me, limit),
         Call::WupTsk { task } => wup_tsk(tables, lines, me, task),

@@ -10,11 +10,11 @@ use Rattle.fmp_kernel.proofs.runner.Runner.make_call.Goals as goal
 pub returns-in-Spins-clause-after : goal.returns-in-Spins-clause-after
 returns-in-Spins-clause-after g c =
     let h = c.self.inside.tables in
-    let o = called h.system h.state c.args.p c.args.who c.args.made in
+    let o = called h.system h.state c.args.p c.args.who c.args.made.now in
     let e = c.call.ensures.outcome in
     let k : o.answer ≡ Spins = sym (ap (λ (o : Outcome). o.answer) e) ∙ c.in-Spins.is in
     let same = ap (λ (o : Outcome). o.progress.state) e
-    ∙ ap (λ (g : Progress). g.state) (called-spins h.system h.state c.args.p c.args.who c.args.made k) in
+    ∙ ap (λ (g : Progress). g.state) (called-spins h.system h.state c.args.p c.args.who c.args.made.now k) in
     rw (c.put.ensures, ← c.self.view_is, k, same) refl
 
 pub invariant_of-self-in-Spins : goal.invariant_of-self-in-Spins
