@@ -6,8 +6,8 @@ ghost use Rattle.fmp_command.specs.Commands.{KeepsRanges};
 
 use crate::form::{build_command, host_command, program};
 use crate::reading::{asked, entered};
-use clap::Error;
 use clap::error::ErrorKind;
+use clap::{Command, Error};
 use std::alloc::{AllocError, Global};
 
 /// What is said of words that are no text.
@@ -54,29 +54,38 @@ pub enum Cmd {
     Stored,
 }
 
+/// The error for a mistake in the words of a command of this name, which has the status 2.
+fn mistake(
+    command: Result<Command<'_>, AllocError>,
+    name: &str,
+    text: &str,
+) -> Result<Error, AllocError>
+    ensures { IfOk result (λ e. kind_of e ≡ ErrorKind.ValueValidation) }
+{
+    command?
+        .bin_name(name)?
+        .error(ErrorKind::ValueValidation, text)
+}
+
 /// The error for words that are not UTF-8, which has the status 2.
 pub fn not_text(alloc: Global) -> Result<Error, AllocError>
     ensures { IfOk result (λ e. kind_of e ≡ ErrorKind.ValueValidation) }
 {
-    program(alloc)?.error(ErrorKind::ValueValidation, NOT_TEXT)
+    mistake(program(alloc), "fmp", NOT_TEXT)
 }
 
 /// The error for an image that would take the place of a text that it is built of, which has the status 2.
 pub fn image_over_text(alloc: Global) -> Result<Error, AllocError>
     ensures { IfOk result (λ e. kind_of e ≡ ErrorKind.ValueValidation) }
 {
-    build_command(alloc)?
-        .bin_name("fmp build")?
-        .error(ErrorKind::ValueValidation, IMAGE_OVER_TEXT)
+    mistake(build_command(alloc), "fmp build", IMAGE_OVER_TEXT)
 }
 
 /// The error for a journal that would take the place of the image that is run, which has the status 2.
 pub fn journal_over_image(alloc: Global) -> Result<Error, AllocError>
     ensures { IfOk result (λ e. kind_of e ≡ ErrorKind.ValueValidation) }
 {
-    host_command(alloc)?
-        .bin_name("fmp host")?
-        .error(ErrorKind::ValueValidation, JOURNAL_OVER_IMAGE)
+    mistake(host_command(alloc), "fmp host", JOURNAL_OVER_IMAGE)
 }
 
 /// What the words of a command line ask for, of which the first is the program's name. With no more than that it is the

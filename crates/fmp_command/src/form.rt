@@ -1,5 +1,5 @@
 //! The form of the command line.
-ghost use Rattle.std.specs.Prelude.{◌≡◌, IfOk, IsFalse, codes, true};
+ghost use Rattle.std.specs.Prelude.{◌≡◌, IfOk, IsFalse, IsOkAnd, codes, true};
 ghost use Rattle.clap.specs.Words.{app_of, new_app, rule_of, with_rule, with_subcommand};
 ghost use Rattle.fmp_command.specs.Form.{bare_fmp, bound, build, check, count, file, fmp, host, sim};
 
@@ -16,6 +16,9 @@ With no command it builds and runs a small example that it holds.";
 const STEPS: &str =
     "Text of the events, one a line: 'run 1' lets processor 1 run to its next service call,
 'tick' advances the clock, 'int 3' raises interrupt 3";
+
+/// What a journal is.
+const JOURNAL: &str = "File that the events are written to, as the text of 'fmp sim'";
 
 /// The largest bound, 2^48.
 const BOUND_MAX: u64 = 281_474_976_710_656;
@@ -127,6 +130,14 @@ fn tasks_word<'a>(alloc: Global) -> Arg<'a>
     )
 }
 
+/// The word for an image that is read.
+fn image_word<'a>(alloc: Global) -> Arg<'a>
+    ensures rule { rule_of result ≡ file (codes "IMAGE") }
+    ensures local { IsFalse result.global }
+{
+    file_word(alloc, "IMAGE", "Image that 'fmp build' has written")
+}
+
 /// The option for the bound.
 fn bound_option<'a>(alloc: Global) -> Arg<'a>
     ensures rule { rule_of result ≡ bound }
@@ -168,15 +179,16 @@ fn with_argument<'a>(command: Command<'a>, argument: Arg<'a>) -> Result<Command<
     command.arg(argument)
 }
 
-/// A command with one more subcommand.
+/// A command with one more subcommand, where there was memory for that.
 fn with_command<'a>(
     command: Command<'a>,
-    subcommand: Command<'a>,
+    subcommand: Result<Command<'a>, AllocError>,
 ) -> Result<Command<'a>, AllocError>
-    requires { (app_of subcommand).top.is_plain ≡ true }
-    ensures { IfOk result (λ c. app_of c ≡ with_subcommand (app_of command.entry) (app_of subcommand.entry).top) }
+    requires { IfOk subcommand (λ s. (app_of s).top.is_plain ≡ true) }
+    ensures { IfOk result (λ c. IsOkAnd subcommand.entry (λ s.
+        app_of c ≡ with_subcommand (app_of command.entry) (app_of s).top)) }
 {
-    command.subcommand(subcommand)
+    command.subcommand(subcommand?)
 }
 
 fn check_command<'a>(alloc: Global) -> Result<Command<'a>, AllocError>
@@ -196,7 +208,6 @@ fn check_command<'a>(alloc: Global) -> Result<Command<'a>, AllocError>
 pub fn build_command<'a>(alloc: Global) -> Result<Command<'a>, AllocError>
     ensures { IfOk result (λ c. app_of c ≡ build) }
 {
-    let image = file_word(alloc, "OUT", "File that the image is written to");
     let command = named(
         alloc,
         "build",
@@ -205,22 +216,23 @@ pub fn build_command<'a>(alloc: Global) -> Result<Command<'a>, AllocError>
     );
     let command = with_argument(command, config_word(alloc))?;
     let command = with_argument(command, tasks_word(alloc))?;
-    with_argument(command, image)
+    with_argument(
+        command,
+        file_word(alloc, "OUT", "File that the image is written to"),
+    )
 }
 
 fn sim_command<'a>(alloc: Global) -> Result<Command<'a>, AllocError>
     ensures { IfOk result (λ c. app_of c ≡ sim) }
 {
-    let image = file_word(alloc, "IMAGE", "Image that 'fmp build' has written");
-    let steps = file_word(alloc, "STEPS", STEPS);
     let command = named(
         alloc,
         "sim",
         "Runs an image over a list of events: prints what happens, and how the tasks stand then",
         SIM_EXAMPLE,
     );
-    let command = with_argument(command, image)?;
-    let command = with_argument(command, steps)?;
+    let command = with_argument(command, image_word(alloc))?;
+    let command = with_argument(command, file_word(alloc, "STEPS", STEPS))?;
     with_argument(command, bound_option(alloc))
 }
 
@@ -228,20 +240,14 @@ fn sim_command<'a>(alloc: Global) -> Result<Command<'a>, AllocError>
 pub fn host_command<'a>(alloc: Global) -> Result<Command<'a>, AllocError>
     ensures { IfOk result (λ c. app_of c ≡ host) }
 {
-    let image = file_word(alloc, "IMAGE", "Image that 'fmp build' has written");
-    let journal = file_word(
-        alloc,
-        "JOURNAL",
-        "File that the events are written to, as the text of 'fmp sim'",
-    );
     let command = named(
         alloc,
         "host",
         "Runs an image by threads, one a processor: writes the events, and prints what happened",
         HOST_EXAMPLE,
     );
-    let command = with_argument(command, image)?;
-    let command = with_argument(command, journal)?;
+    let command = with_argument(command, image_word(alloc))?;
+    let command = with_argument(command, file_word(alloc, "JOURNAL", JOURNAL))?;
     let command = with_argument(command, count_option(alloc, "turns", "T", TURNS))?;
     let command = with_argument(command, count_option(alloc, "ticks", "K", TICKS))?;
     with_argument(command, bound_option(alloc))
@@ -262,8 +268,8 @@ fn bare<'a>(alloc: Global) -> Command<'a>
 pub fn program<'a>(alloc: Global) -> Result<Command<'a>, AllocError>
     ensures { IfOk result (λ c. app_of c ≡ fmp) }
 {
-    let program = with_command(bare(alloc), check_command(alloc)?)?;
-    let program = with_command(program, build_command(alloc)?)?;
-    let program = with_command(program, sim_command(alloc)?)?;
-    with_command(program, host_command(alloc)?)
+    let program = with_command(bare(alloc), check_command(alloc))?;
+    let program = with_command(program, build_command(alloc))?;
+    let program = with_command(program, sim_command(alloc))?;
+    with_command(program, host_command(alloc))
 }

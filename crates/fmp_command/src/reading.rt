@@ -23,6 +23,21 @@ fn name_of(alloc: Global, words: &ArgMatches<'_>, id: &str) -> Result<String, Al
     String::from_str(alloc, words.get_str(id).unwrap())
 }
 
+/// The names of two files that the words give.
+fn two_names_of(
+    alloc: Global,
+    words: &ArgMatches<'_>,
+    one: &str,
+    two: &str,
+) -> Result<(String, String), AllocError>
+    requires one { IsGiven (rows_of (found_of words.now)) one.now }
+    requires two { IsGiven (rows_of (found_of words.now)) two.now }
+    ensures one { IfOk result (λ names. HasWord (rows_of (found_of words.now)) one.now (string_bytes names.0)) }
+    ensures two { IfOk result (λ names. HasWord (rows_of (found_of words.now)) two.now (string_bytes names.1)) }
+{
+    Ok((name_of(alloc, words, one)?, name_of(alloc, words, two)?))
+}
+
 /// The bound that the words give.
 fn bound_of(words: &ArgMatches<'_>) -> u64
     requires { IsGivenBound (rows_of (found_of words.now)) (codes "bound") }
@@ -48,26 +63,36 @@ pub fn asked(alloc: Global, name: &str, words: &ArgMatches<'_>) -> Result<Cmd, A
     ensures ranges { IfOk result KeepsRanges }
 {
     match name {
-        "check" => Ok(Cmd::Check {
-            config: name_of(alloc, words, "CFG")?,
-            tasks: name_of(alloc, words, "SRC")?,
-        }),
-        "build" => Ok(Cmd::Build {
-            config: name_of(alloc, words, "CFG")?,
-            tasks: name_of(alloc, words, "SRC")?,
-            image: name_of(alloc, words, "OUT")?,
-        }),
-        "sim" => Ok(Cmd::Sim {
-            image: name_of(alloc, words, "IMAGE")?,
-            steps: name_of(alloc, words, "STEPS")?,
-            bound: bound_of(words),
-        }),
-        _ => Ok(Cmd::Host {
-            image: name_of(alloc, words, "IMAGE")?,
-            journal: name_of(alloc, words, "JOURNAL")?,
-            turns: count_of(words, "turns"),
-            ticks: count_of(words, "ticks"),
-            bound: bound_of(words),
-        }),
+        "check" => {
+            let (config, tasks) = two_names_of(alloc, words, "CFG", "SRC")?;
+            Ok(Cmd::Check { config, tasks })
+        }
+        "build" => {
+            let image = name_of(alloc, words, "OUT")?;
+            let (config, tasks) = two_names_of(alloc, words, "CFG", "SRC")?;
+            Ok(Cmd::Build {
+                config,
+                tasks,
+                image,
+            })
+        }
+        "sim" => {
+            let (image, steps) = two_names_of(alloc, words, "IMAGE", "STEPS")?;
+            Ok(Cmd::Sim {
+                image,
+                steps,
+                bound: bound_of(words),
+            })
+        }
+        _ => {
+            let (image, journal) = two_names_of(alloc, words, "IMAGE", "JOURNAL")?;
+            Ok(Cmd::Host {
+                image,
+                journal,
+                turns: count_of(words, "turns"),
+                ticks: count_of(words, "ticks"),
+                bound: bound_of(words),
+            })
+        }
     }
 }

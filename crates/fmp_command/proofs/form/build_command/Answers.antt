@@ -7,4 +7,4 @@ pub with_argument-requires-2 : goal.with_argument-requires-2
 with_argument-requires-2 c = c.tasks_word.ensures.local
 
 pub with_argument-requires-3 : goal.with_argument-requires-3
-with_argument-requires-3 c = c.file_word-image.ensures.local
+with_argument-requires-3 c = c.file_word.ensures.local
