@@ -1,5 +1,5 @@
 //! Reading whole files.
-ghost use Rattle.std.specs.Prelude.{◌≡◌, ◌+◌, ◌<◌, ◌≤◌, ◌||◌, IfOk, IfSome, OnErr};
+ghost use Rattle.std.specs.Prelude.{◌≡◌, ◌+◌, ◌<◌, ◌≤◌, ◌||◌, IfOk, IfSome, OnErr, length};
 ghost use Rattle.fmp_files.specs.Files.{IsPast, IsWithin, LosesAtMost, LosesWithin, ReadsMore, front, is_device};
 
 use crate::device::Source;
@@ -34,24 +34,23 @@ fn room_after(limit: Option<usize>, count: usize) -> usize
     }
 }
 
-/// Appends what one read gives of the next bytes, and says how many these are: 0 at the end.
+/// Appends what one read gives of the next bytes, by way of a buffer, and says how many these are: 0 at the end.
 fn read_more<S: Source>(
     source: &mut S,
-    most: usize,
+    buffer: &mut [u8],
     bytes: &mut Vec<u8>,
 ) -> Result<usize, ReadFault>
-    requires room { 0 < most }
-    requires chunk { most ≤ CHUNK }
-    ensures ok { IfOk result (ReadsMore most (S.left source.old) (S.left source.new) bytes.old.items bytes.new.items) }
-    ensures err { OnErr result (LosesAtMost most (S.left source.old) (S.left source.new)) }
+    requires { 0 < length buffer.old }
+    ensures ok { IfOk result (ReadsMore (length buffer.old)
+        (S.left source.old) (S.left source.new) bytes.old.items bytes.new.items) }
+    ensures err { OnErr result (LosesAtMost (length buffer.old) (S.left source.old) (S.left source.new)) }
     ensures device { S.failed source.new ≡ (S.failed source.old || is_device result) }
 {
-    let mut chunk = [0; CHUNK];
-    let count = match source.read(&mut chunk[..most]) {
+    let count = match source.read(buffer) {
         Ok(count) => count,
         Err(_) => return Err(ReadFault::Device),
     };
-    match bytes.extend_from_slice(&chunk[..count]) {
+    match bytes.extend_from_slice(&buffer[..count]) {
         Ok(()) => Ok(count),
         Err(_) => Err(ReadFault::Memory),
     }
@@ -69,9 +68,10 @@ pub fn read_in<S: Source>(
     ensures device { S.failed source.new ≡ (S.failed source.old || is_device result) }
 {
     let mut bytes = Vec::new(alloc);
+    let mut buffer = [0; CHUNK];
     loop {
         let most = room_after(limit, bytes.len());
-        if most == 0 || read_more(source, most, &mut bytes)? == 0 {
+        if most == 0 || read_more(source, &mut buffer[..most], &mut bytes)? == 0 {
             return Ok(bytes);
         }
     }
