@@ -2,7 +2,7 @@
 use std::ops::{Add, Sub};
 
 /// A length or a place in tenths of a pixel. What leaves the range of numbers stops at its end.
-#[derive(Clone, Copy, Debug, PartialEq, Eq)]
+#[derive(Clone, Copy)]
 pub struct Tenths(pub i32);
 
 /// So many whole pixels.

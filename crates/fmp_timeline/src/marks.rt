@@ -2,7 +2,7 @@
 use fmp_base::{Call, Caller, Er, Fault, Handler, Line, Reply};
 
 /// What a mark says.
-#[derive(Clone, Copy, Debug, PartialEq, Eq)]
+#[derive(Clone, Copy, PartialEq, Eq)]
 pub enum Sign {
     /// A task started.
     Start,
@@ -50,14 +50,14 @@ impl Sign {
 }
 
 /// A mark at an event.
-#[derive(Clone, Copy, Debug, PartialEq, Eq)]
+#[derive(Clone, Copy)]
 pub struct Mark {
     pub event: u32,
     pub sign: Sign,
 }
 
 /// A service call at an event.
-#[derive(Clone, Copy, Debug, PartialEq, Eq)]
+#[derive(Clone, Copy)]
 pub struct Made {
     pub event: u32,
     pub call: Call,
@@ -65,7 +65,7 @@ pub struct Made {
 }
 
 /// What one did to another at an event.
-#[derive(Clone, Copy, Debug, PartialEq, Eq)]
+#[derive(Clone, Copy, PartialEq, Eq)]
 pub enum Bond {
     /// It started the other.
     Starts,
@@ -78,7 +78,7 @@ pub enum Bond {
 }
 
 /// A line from the one who did something to the task that it was done to.
-#[derive(Clone, Copy, Debug, PartialEq, Eq)]
+#[derive(Clone, Copy)]
 pub struct Link {
     pub event: u32,
     pub from: Caller,
@@ -87,7 +87,7 @@ pub struct Link {
 }
 
 /// A task that is assigned to another processor from an event on.
-#[derive(Clone, Copy, Debug, PartialEq, Eq)]
+#[derive(Clone, Copy)]
 pub struct Migration {
     pub event: u32,
     pub task: u8,

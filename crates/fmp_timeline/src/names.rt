@@ -4,7 +4,7 @@ use fmp_base::{Call, Handler, Name, Reply, System, WaitCause};
 use std::alloc::{AllocError, Global};
 
 /// What an argument or a wait is about.
-#[derive(Clone, Copy, Debug, PartialEq, Eq)]
+#[derive(Clone, Copy, PartialEq, Eq)]
 pub enum Topic {
     Task(u8),
     Semaphore(u8),

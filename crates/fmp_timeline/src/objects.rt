@@ -7,7 +7,7 @@ use fmp_base::{Call, Caller, Er, Line, Phase, QueueOrder, System, TaskBlock, Wai
 use std::alloc::{AllocError, Global};
 
 /// What the lane of an object shows.
-#[derive(Clone, Copy, Debug, PartialEq, Eq)]
+#[derive(Clone, Copy, PartialEq, Eq)]
 pub struct ObjectShown {
     /// The count, the pattern, the words or letters that are queued, or the word.
     pub value: i32,
@@ -31,7 +31,7 @@ pub struct Object {
 }
 
 /// A wait of a task for an object.
-#[derive(Clone, Copy, Debug, PartialEq, Eq)]
+#[derive(Clone, Copy, PartialEq, Eq)]
 struct Wait {
     topic: Topic,
     /// Whether it stands in its queue by priority.
@@ -117,8 +117,13 @@ fn releases(lines: &[Line]) -> bool {
     lines.iter().any(|line| matches!(line, Line::Gets { .. }))
 }
 
-/// The tasks that wait for an object, in the order of its queue.
-fn queue_of(alloc: Global, waits: &[Option<Wait>], topic: Topic) -> Result<Vec<u8>, AllocError> {
+/// Appends the tasks that wait for an object, in the order of its queue.
+fn append_queue(
+    alloc: Global,
+    waits: &[Option<Wait>],
+    topic: Topic,
+    out: &mut Vec<u8>,
+) -> Result<(), AllocError> {
     let mut keyed: Vec<(u8, u32, u8)> = Vec::new(alloc);
     for (task, wait) in (0u8..255).zip(waits) {
         if let Some(wait) = wait
@@ -128,11 +133,10 @@ fn queue_of(alloc: Global, waits: &[Option<Wait>], topic: Topic) -> Result<Vec<u
         }
     }
     keyed.sort_unstable();
-    let mut queue = Vec::new(alloc);
     for (_, _, task) in keyed.as_slice() {
-        queue.push(*task)?;
+        out.push(*task)?;
     }
-    Ok(queue)
+    Ok(())
 }
 
 impl Objects {
@@ -161,25 +165,30 @@ impl Objects {
 
     /// The objects of a system, or none where they are not wanted. `AllocError` for want of memory.
     pub fn new(alloc: Global, sys: &System, wanted: bool) -> Result<Objects, AllocError> {
+        let waits = vec![in alloc; None; sys.tasks.len()]?;
         let mut objects = Objects {
             all: Vec::new(alloc),
-            waits: vec![in alloc; None; sys.tasks.len()]?,
+            waits,
             waiting: Vec::new(alloc),
         };
-        if !wanted {
-            return Ok(objects);
-        }
-        for (i, config) in (0u8..255).zip(sys.semaphores.as_slice()) {
-            objects.add(alloc, Topic::Semaphore(i), config.order, (0, 0))?;
-        }
-        for (i, config) in (0u8..255).zip(sys.flags.as_slice()) {
-            objects.add(alloc, Topic::Flag(i), config.order, (0, 0))?;
-        }
-        objects.add_queues(alloc, sys)?;
-        for (i, _) in (0u8..255).zip(sys.shared_words.as_slice()) {
-            objects.add(alloc, Topic::SharedWord(i), QueueOrder::Fifo, (0, 0))?;
+        if wanted {
+            objects.add_all(alloc, sys)?;
         }
         Ok(objects)
+    }
+
+    fn add_all(&mut self, alloc: Global, sys: &System) -> Result<(), AllocError> {
+        for (i, config) in (0u8..255).zip(sys.semaphores.as_slice()) {
+            self.add(alloc, Topic::Semaphore(i), config.order, (0, 0))?;
+        }
+        for (i, config) in (0u8..255).zip(sys.flags.as_slice()) {
+            self.add(alloc, Topic::Flag(i), config.order, (0, 0))?;
+        }
+        self.add_queues(alloc, sys)?;
+        for (i, _) in (0u8..255).zip(sys.shared_words.as_slice()) {
+            self.add(alloc, Topic::SharedWord(i), QueueOrder::Fifo, (0, 0))?;
+        }
+        Ok(())
     }
 
     fn add_queues(&mut self, alloc: Global, sys: &System) -> Result<(), AllocError> {
@@ -291,11 +300,14 @@ impl Objects {
         for object in self.all.iter_mut() {
             if object.moved {
                 object.moved = false;
-                let queue = queue_of(alloc, &self.waits, object.topic)?;
+                let start = self.waiting.len();
+                append_queue(alloc, &self.waits, object.topic, &mut self.waiting)?;
                 let before = object.now.start..object.now.end;
-                if self.waiting.get(before).unwrap_or(&[]) != queue.as_slice() {
-                    object.now.start = self.waiting.len();
-                    self.waiting.extend_from_slice(&queue)?;
+                let queue = self.waiting.get(start..).unwrap_or(&[]);
+                if self.waiting.get(before).unwrap_or(&[]) == queue {
+                    self.waiting.truncate(start);
+                } else {
+                    object.now.start = start;
                     object.now.end = self.waiting.len();
                 }
             }

@@ -13,7 +13,7 @@ const PANEL: u32 = 1680;
 const MOST_EVENTS: u32 = 10_000;
 
 /// What of a run is drawn, and how.
-#[derive(Clone, Copy, Debug, PartialEq, Eq)]
+#[derive(Clone, Copy)]
 pub struct Choice {
     /// The first event that is drawn; 0 is setup.
     pub first: u32,
@@ -22,7 +22,7 @@ pub struct Choice {
 }
 
 /// The measures of a picture. All are pixels but `first`, `last`, `panels` and `per_panel`.
-#[derive(Clone, Copy, Debug, PartialEq, Eq)]
+#[derive(Clone, Copy)]
 pub struct Page {
     pub first: u32,
     pub last: u32,
@@ -181,7 +181,7 @@ impl Page {
 }
 
 /// The events of a panel.
-#[derive(Clone, Copy, Debug, PartialEq, Eq)]
+#[derive(Clone, Copy)]
 pub struct Span {
     pub page: Page,
     pub first: u32,

@@ -15,7 +15,7 @@ use std::alloc::{AllocError, Global};
 const PLACES: usize = 256;
 
 /// An event: what its axis shows, and where its lines end in the text.
-#[derive(Clone, Copy, Debug, PartialEq, Eq)]
+#[derive(Clone, Copy)]
 pub struct Note {
     /// The clock after it.
     pub clock: u32,
@@ -66,51 +66,62 @@ fn place_of(caller: Caller) -> usize {
     }
 }
 
-/// So many tracks with no states.
-fn tracks<S: Copy + PartialEq + Drop>(
+/// Appends so many tracks with no states.
+fn add_tracks<S: Copy + PartialEq + Drop>(
     alloc: Global,
     count: usize,
-) -> Result<Vec<Track<S>>, AllocError> {
-    let mut all = Vec::with_capacity(alloc, count)?;
+    all: &mut Vec<Track<S>>,
+) -> Result<(), AllocError> {
     for _track in 0..count {
         all.push(Track::new(alloc))?;
     }
-    Ok(all)
-}
-
-fn no_deeds(alloc: Global) -> Result<Vec<Deeds>, AllocError> {
-    let mut all = Vec::new(alloc);
-    for _actor in 0..3 * PLACES {
-        all.push(Deeds {
-            marks: Vec::new(alloc),
-            calls: Vec::new(alloc),
-        })?;
-    }
-    Ok(all)
+    Ok(())
 }
 
 impl Run {
     /// A run of a system before its setup, with its objects or without. `AllocError` for want of memory, as of each
     /// call below.
     pub fn new(alloc: Global, sys: &System, objects: bool) -> Result<Run, AllocError> {
-        let processors = usize::from(sys.processors);
-        Ok(Run {
+        let spins = Spins::new(alloc, usize::from(sys.processors))?;
+        let objects = Objects::new(alloc, sys, objects)?;
+        let mut run = Run {
             notes: Vec::new(alloc),
             text: Vec::new(alloc),
-            tasks: tracks(alloc, sys.tasks.len())?,
-            occupants: tracks(alloc, processors)?,
-            locks: tracks(alloc, processors)?,
-            dispatches: tracks(alloc, processors)?,
-            cyclics: tracks(alloc, sys.cyclics.len())?,
-            interrupts: tracks(alloc, 32)?,
-            priorities: vec![in alloc; 0; sys.tasks.len()]?,
-            deeds: no_deeds(alloc)?,
+            tasks: Vec::new(alloc),
+            occupants: Vec::new(alloc),
+            locks: Vec::new(alloc),
+            dispatches: Vec::new(alloc),
+            cyclics: Vec::new(alloc),
+            interrupts: Vec::new(alloc),
+            priorities: Vec::new(alloc),
+            deeds: Vec::new(alloc),
             links: Vec::new(alloc),
             migrations: Vec::new(alloc),
-            spins: Spins::new(alloc, processors)?,
-            objects: Objects::new(alloc, sys, objects)?,
+            spins,
+            objects,
             wrong: Vec::new(alloc),
-        })
+        };
+        run.add_lanes(alloc, sys)?;
+        Ok(run)
+    }
+
+    /// The lanes of a system, with no states and no deeds.
+    fn add_lanes(&mut self, alloc: Global, sys: &System) -> Result<(), AllocError> {
+        let processors = usize::from(sys.processors);
+        add_tracks(alloc, sys.tasks.len(), &mut self.tasks)?;
+        add_tracks(alloc, processors, &mut self.occupants)?;
+        add_tracks(alloc, processors, &mut self.locks)?;
+        add_tracks(alloc, processors, &mut self.dispatches)?;
+        add_tracks(alloc, sys.cyclics.len(), &mut self.cyclics)?;
+        add_tracks(alloc, 32, &mut self.interrupts)?;
+        self.priorities.resize(sys.tasks.len(), 0)?;
+        for _actor in 0..3 * PLACES {
+            self.deeds.push(Deeds {
+                marks: Vec::new(alloc),
+                calls: Vec::new(alloc),
+            })?;
+        }
+        Ok(())
     }
 
     /// The number of the next event; setup has 0.

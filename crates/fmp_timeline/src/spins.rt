@@ -8,7 +8,7 @@ use fmp_base::{Call, Caller, Er, Line, Lock};
 use std::alloc::{AllocError, Global};
 
 /// A stretch over which the turns of a processor do nothing.
-#[derive(Clone, Copy, Debug, PartialEq, Eq)]
+#[derive(Clone, Copy)]
 pub struct Spin {
     /// The last event before it.
     pub from: u32,

@@ -37,7 +37,7 @@ pub struct Moment<'a> {
 }
 
 /// What the lane of a task shows.
-#[derive(Clone, Copy, Debug, PartialEq, Eq)]
+#[derive(Clone, Copy, PartialEq, Eq)]
 pub struct TaskShown {
     /// The place of the processor that the task is assigned to.
     pub processor: u8,
@@ -54,7 +54,7 @@ pub struct TaskShown {
 }
 
 /// What a processor does.
-#[derive(Clone, Copy, Debug, PartialEq, Eq)]
+#[derive(Clone, Copy, PartialEq, Eq)]
 pub struct Occupant {
     /// The place of the task that it runs.
     pub task: Option<u8>,
@@ -74,7 +74,7 @@ impl Occupant {
 }
 
 /// How far a handler is.
-#[derive(Clone, Copy, Debug, PartialEq, Eq)]
+#[derive(Clone, Copy, PartialEq, Eq)]
 pub struct Handling {
     /// It runs.
     pub runs: bool,

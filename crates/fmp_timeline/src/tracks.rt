@@ -3,7 +3,7 @@ use std::alloc::{AllocError, Global};
 use std::ops::Range;
 
 /// A state that lasts from an event to another, which begins the next state, or to the end of the run.
-#[derive(Clone, Copy, Debug, PartialEq, Eq)]
+#[derive(Clone, Copy)]
 pub struct Stay<S> {
     /// The event after which the state is this.
     pub from: u32,
