@@ -1,8 +1,9 @@
 //! The axis of a panel: clock and events.
 use crate::scene::Scene;
-use crate::titles::put_event_title;
+use crate::shapes::{put_box, put_text};
+use crate::titles::put_area;
 use fmp_timeline::Piece::{At, Number, Raw, Text};
-use fmp_timeline::{Note, Span, Tenths, append, put, px, width};
+use fmp_timeline::{Note, Span, Tenths, append, append_number, put, px, width};
 use std::alloc::AllocError;
 
 /// The size of numbers on the axis.
@@ -55,131 +56,111 @@ fn put_words(
         append("\">↑ overview</text></a>\n", out)?;
     }
     if scene.page.panels > 1 {
-        put(
-            &[
-                Raw("<text class=\"pn\" x=\"12\" y=\""),
-                At(top + px(11)),
-                Raw("\">Events "),
-            ],
-            out,
-        )?;
-        put(
-            &[
-                Number(span.first),
-                Raw("–"),
-                Number(span.last),
-                Raw("</text>\n"),
-            ],
-            out,
-        )?;
+        let events = [
+            Raw("Events "),
+            Number(span.first),
+            Raw("–"),
+            Number(span.last),
+        ];
+        put_text(&[Raw("pn")], (px(12), top + px(11)), &events, out)?;
     }
     Ok(())
 }
 
-/// The numbers of events, and the grid below them.
-fn put_grid(
-    scene: &Scene<'_>,
-    span: &Span,
-    top: Tenths,
-    bottom: Tenths,
+/// A line of a path through all lanes.
+fn put_upright(
+    x: Tenths,
+    (top, bottom): (Tenths, Tenths),
     out: &mut Vec<u8>,
 ) -> Result<(), AllocError> {
-    let step = step_of(span.page.column);
-    let mut grid = Vec::new(scene.alloc);
-    for event in span.first..=span.last {
-        if event.checked_rem(step) == Some(0) {
-            let x = span.x(event);
-            put(
-                &[
-                    Raw("M"),
-                    At(x),
-                    Raw(" "),
-                    At(top + px(30)),
-                    Raw("V"),
-                    At(bottom),
-                ],
-                &mut grid,
-            )?;
-            put(
-                &[
-                    Raw("<text class=\"c m\" x=\""),
-                    At(x),
-                    Raw("\" y=\""),
-                    At(top + px(26)),
-                ],
-                out,
-            )?;
-            put(&[Raw("\">"), Number(event), Raw("</text>\n")], out)?;
-        }
-    }
     put(
-        &[Raw("<path class=\"grid\" d=\""), Text(&grid), Raw("\"/>\n")],
+        &[
+            Raw("M"),
+            At(x),
+            Raw(" "),
+            At(top + px(30)),
+            Raw("V"),
+            At(bottom),
+        ],
         out,
     )
+}
+
+/// Whether an event has a grid line.
+fn is_on_grid(span: &Span, event: u32) -> bool {
+    event.checked_rem(step_of(span.page.column)) == Some(0)
+}
+
+/// The numbers of events, and the grid below them.
+fn put_grid(
+    span: &Span,
+    (top, bottom): (Tenths, Tenths),
+    out: &mut Vec<u8>,
+) -> Result<(), AllocError> {
+    for event in span.first..=span.last {
+        if is_on_grid(span, event) {
+            let place = (span.x(event), top + px(26));
+            put_text(&[Raw("c m")], place, &[Number(event)], out)?;
+        }
+    }
+    append("<path class=\"grid\" d=\"", out)?;
+    for event in span.first..=span.last {
+        if is_on_grid(span, event) {
+            put_upright(span.x(event), (top, bottom), out)?;
+        }
+    }
+    append("\"/>\n", out)
+}
+
+/// Whether an event is a tick.
+fn is_tick(scene: &Scene<'_>, event: u32) -> bool {
+    scene
+        .run
+        .notes
+        .get(event as usize)
+        .is_some_and(|note| note.ticks)
 }
 
 /// The lines of the ticks, through all lanes.
 fn put_ticks(
     scene: &Scene<'_>,
     span: &Span,
-    top: Tenths,
-    bottom: Tenths,
+    ends: (Tenths, Tenths),
     out: &mut Vec<u8>,
 ) -> Result<(), AllocError> {
-    let mut lines = Vec::new(scene.alloc);
+    let mut open = false;
     for event in span.first..=span.last {
-        if scene
-            .run
-            .notes
-            .get(event as usize)
-            .is_some_and(|note| note.ticks)
-        {
-            let x = span.x(event);
-            put(
-                &[
-                    Raw("M"),
-                    At(x),
-                    Raw(" "),
-                    At(top + px(30)),
-                    Raw("V"),
-                    At(bottom),
-                ],
-                &mut lines,
-            )?;
+        if is_tick(scene, event) {
+            if !open {
+                let faint = if span.is_narrow() {
+                    "\" stroke-opacity=\".5"
+                } else {
+                    ""
+                };
+                put(&[Raw("<path class=\"tk"), Raw(faint), Raw("\" d=\"")], out)?;
+                open = true;
+            }
+            put_upright(span.x(event), ends, out)?;
         }
     }
-    if lines.is_empty() {
-        return Ok(());
+    if open {
+        append("\"/>\n", out)?;
     }
-    let faint = if span.is_narrow() {
-        "\" stroke-opacity=\".5"
-    } else {
-        ""
-    };
-    put(
-        &[
-            Raw("<path class=\"tk"),
-            Raw(faint),
-            Raw("\" d=\""),
-            Text(&lines),
-            Raw("\"/>\n"),
-        ],
-        out,
-    )
+    Ok(())
 }
 
-/// The clock or the interrupt that a badge shows; empty where an event has none.
-fn badge_text(scene: &Scene<'_>, note: &Note) -> Result<Vec<u8>, AllocError> {
-    let mut text = Vec::new(scene.alloc);
+/// Appends the clock or the interrupt that a badge shows; nothing where an event has none.
+fn append_badge(note: &Note, text: &mut Vec<u8>) -> Result<(), AllocError> {
     if note.ticks {
-        put(&[Number(note.clock)], &mut text)?;
-    } else if let Some(place) = note.interrupt {
-        put(
-            &[Raw("#"), Number(u32::from(place).saturating_add(1))],
-            &mut text,
-        )?;
+        return append_number(note.clock, text);
     }
-    Ok(text)
+    match note.interrupt {
+        Some(place) => {
+            append("#", text)?;
+            append_number(u32::from(place).saturating_add(1), text)
+        }
+        None => Ok(()),
+    }
 }
 
 /// A badge over an event.
@@ -192,45 +173,14 @@ fn put_badge(
 ) -> Result<(), AllocError> {
     let wide = width(text, SMALL) + px(7);
     let (frame, words) = if ticks {
-        ("tkb", "tkt")
+        ("tkb", "tkt c")
     } else {
-        ("ikb", "ikt")
+        ("ikb", "ikt c")
     };
-    put(
-        &[
-            Raw("<path class=\""),
-            Raw(frame),
-            Raw("\" d=\"M"),
-            At(x - wide.half()),
-            Raw(" "),
-        ],
-        out,
-    )?;
-    put(
-        &[
-            At(top + px(2)),
-            Raw("h"),
-            At(wide),
-            Raw("v12h"),
-            At(wide.back()),
-            Raw("z\"/>"),
-        ],
-        out,
-    )?;
-    put(
-        &[
-            Raw("<text class=\""),
-            Raw(words),
-            Raw(" c\" x=\""),
-            At(x),
-            Raw("\" y=\""),
-        ],
-        out,
-    )?;
-    put(
-        &[At(top + px(11)), Raw("\">"), Text(text), Raw("</text>\n")],
-        out,
-    )
+    let corner = (x - wide.half(), top + px(2));
+    put_box(&[Raw(frame)], corner, (wide, px(12)), out)?;
+    append("/>", out)?;
+    put_text(&[Raw(words)], (x, top + px(11)), &[Text(text)], out)
 }
 
 /// The clock that a later panel begins with, in the lead: where it ends.
@@ -245,18 +195,10 @@ fn put_first_clock(
         return Ok(px(0));
     };
     let x = scene.page.left() + px(6);
-    put(
-        &[
-            Raw("<text class=\"m c\" x=\""),
-            At(x),
-            Raw("\" y=\""),
-            At(top + px(11)),
-        ],
-        out,
-    )?;
-    put(&[Raw("\">"), Number(note.clock), Raw("</text>\n")], out)?;
+    let clock = [Number(note.clock)];
+    put_text(&[Raw("m c")], (x, top + px(11)), &clock, out)?;
     let mut text = Vec::new(scene.alloc);
-    put(&[Number(note.clock)], &mut text)?;
+    put(&clock, &mut text)?;
     Ok(x + width(&text, SMALL).half() + px(2))
 }
 
@@ -272,7 +214,8 @@ fn put_badges(
         let Some(note) = scene.run.notes.get(event as usize) else {
             break;
         };
-        let text = badge_text(scene, note)?;
+        let mut text = Vec::new(scene.alloc);
+        append_badge(note, &mut text)?;
         let x = span.x(event);
         let half = (width(&text, SMALL) + px(7)).half();
         if !text.is_empty() && end.is_below(x - half) {
@@ -292,21 +235,8 @@ fn put_areas(
 ) -> Result<(), AllocError> {
     let wide = px(span.page.column);
     for event in span.first..=span.last {
-        let x = span.x(event) - wide.half();
-        put(
-            &[
-                Raw("<path class=\"z\" d=\"M"),
-                At(x),
-                Raw(" "),
-                At(top),
-                Raw("h"),
-                At(wide),
-            ],
-            out,
-        )?;
-        put(&[Raw("v30h"), At(wide.back()), Raw("z\">")], out)?;
-        put_event_title(scene.run, event, out)?;
-        append("</path>\n", out)?;
+        let corner = (span.x(event) - wide.half(), top);
+        put_area(scene.run, corner, (wide, px(30)), event, out)?;
     }
     Ok(())
 }
@@ -320,8 +250,8 @@ pub fn put_axis(
     out: &mut Vec<u8>,
 ) -> Result<(), AllocError> {
     put_words(scene, span, top, out)?;
-    put_grid(scene, span, top, bottom, out)?;
+    put_grid(span, (top, bottom), out)?;
     put_badges(scene, span, top, out)?;
-    put_ticks(scene, span, top, bottom, out)?;
+    put_ticks(scene, span, (top, bottom), out)?;
     put_areas(scene, span, top, out)
 }

@@ -1,12 +1,13 @@
 //! Lanes of objects.
 use crate::rows::Row;
 use crate::scene::Scene;
+use crate::shapes::put_text;
 use crate::tasks::{put_name, put_side};
 use crate::titles::put_title;
 use fmp_timeline::Piece::{At, Raw, Text};
 use fmp_timeline::{
     Object, ObjectShown, Span, Stay, Tenths, Topic, append, append_hexadecimal, append_signed,
-    append_text, bytes_of, put, px, task_bytes, width,
+    bytes_of, put, px, task_bytes, width,
 };
 use std::alloc::AllocError;
 
@@ -29,41 +30,49 @@ fn kind_of(topic: Topic) -> &'static str {
 
 /// The head of the group of objects.
 pub fn put_objects_head(row: &Row, out: &mut Vec<u8>) -> Result<(), AllocError> {
-    put(
-        &[
-            Raw("<text class=\"pn\" x=\"12\" y=\""),
-            At(row.y(120)),
-            Raw("\">Objects</text>\n"),
-        ],
-        out,
-    )
+    put_text(&[Raw("pn")], (px(12), row.y(120)), &[Raw("Objects")], out)
 }
 
-/// A value: of an eventflag's pattern above 9 in hexadecimal digits.
-fn value_text(scene: &Scene<'_>, topic: Topic, value: i32) -> Result<Vec<u8>, AllocError> {
-    let mut text = Vec::new(scene.alloc);
+/// Appends a value: of an eventflag's pattern above 9 in hexadecimal digits.
+fn append_shown(topic: Topic, value: i32, text: &mut Vec<u8>) -> Result<(), AllocError> {
     if matches!(topic, Topic::Flag(_)) && value > 9 {
-        append("0x", &mut text)?;
-        append_hexadecimal(value.unsigned_abs(), &mut text)?;
+        append("0x", text)?;
+        append_hexadecimal(value.unsigned_abs(), text)
     } else {
-        append_signed(value, &mut text)?;
+        append_signed(value, text)
     }
-    Ok(text)
 }
 
-/// The names of the tasks that wait, with commas between.
-fn waiting_text(scene: &Scene<'_>, shown: &ObjectShown) -> Result<Vec<u8>, AllocError> {
-    let mut text = Vec::new(scene.alloc);
+/// Appends these words and the names of the tasks that wait, with commas between, where there are any.
+fn append_waiting(
+    scene: &Scene<'_>,
+    shown: &ObjectShown,
+    words: &str,
+    text: &mut Vec<u8>,
+) -> Result<(), AllocError> {
+    let mut before = words;
     for task in scene.run.objects.waiting_for(shown) {
-        if !text.is_empty() {
-            append(", ", &mut text)?;
-        }
+        append(before, text)?;
         text.extend_from_slice(task_bytes(scene.sys, *task))?;
+        before = ", ";
     }
-    Ok(text)
+    Ok(())
 }
 
-/// The title of a value.
+/// Appends the head of a value's title.
+fn append_head(
+    scene: &Scene<'_>,
+    topic: Topic,
+    shown: &ObjectShown,
+    head: &mut Vec<u8>,
+) -> Result<(), AllocError> {
+    head.extend_from_slice(bytes_of(scene.sys, topic))?;
+    append(" = ", head)?;
+    append_signed(shown.value, head)?;
+    append_waiting(scene, shown, ", waiting: ", head)
+}
+
+/// The end of a value's path with its title.
 fn put_value_title(
     scene: &Scene<'_>,
     topic: Topic,
@@ -71,15 +80,28 @@ fn put_value_title(
     out: &mut Vec<u8>,
 ) -> Result<(), AllocError> {
     let mut head = Vec::new(scene.alloc);
-    head.extend_from_slice(bytes_of(scene.sys, topic))?;
-    append(" = ", &mut head)?;
-    append_signed(stay.state.value, &mut head)?;
-    let waiting = waiting_text(scene, &stay.state)?;
-    if !waiting.is_empty() {
-        append(", waiting: ", &mut head)?;
-        head.extend_from_slice(&waiting)?;
-    }
+    append_head(scene, topic, &stay.state, &mut head)?;
     put_title(scene.run, &[Text(&head)], stay, out)
+}
+
+/// The text of a value from a place on.
+fn put_value_text(
+    row: &Row,
+    left: Tenths,
+    text: &[u8],
+    out: &mut Vec<u8>,
+) -> Result<(), AllocError> {
+    put(
+        &[
+            Raw("<text class=\"wt q\" x=\""),
+            At(left + px(5)),
+            Raw("\" y=\""),
+            At(row.middle(30)),
+            Raw("\" xml:space=\"preserve\">"),
+        ],
+        out,
+    )?;
+    put(&[Text(text), Raw("</text>\n")], out)
 }
 
 /// The value with those who wait behind it, or the value alone, where it fits.
@@ -91,30 +113,14 @@ fn put_value(
     shown: &ObjectShown,
     out: &mut Vec<u8>,
 ) -> Result<(), AllocError> {
-    let mut text = value_text(scene, topic, shown.value)?;
+    let mut text = Vec::new(scene.alloc);
+    append_shown(topic, shown.value, &mut text)?;
     let alone = text.len();
-    let waiting = waiting_text(scene, shown)?;
-    if !waiting.is_empty() {
-        append("  ", &mut text)?;
-        text.extend_from_slice(&waiting)?;
-    }
+    append_waiting(scene, shown, "  ", &mut text)?;
     for count in [text.len(), alone] {
         text.truncate(count);
         if (width(&text, SMALL) + px(6)).is_below(right - left) {
-            put(
-                &[
-                    Raw("<text class=\"wt q\" x=\""),
-                    At(left + px(5)),
-                    Raw("\" y=\""),
-                ],
-                out,
-            )?;
-            put(
-                &[At(row.middle(30)), Raw("\" xml:space=\"preserve\">")],
-                out,
-            )?;
-            append_text(&text, out)?;
-            return append("</text>\n", out);
+            return put_value_text(row, left, &text, out);
         }
     }
     Ok(())
@@ -153,16 +159,10 @@ fn put_stay(
         out,
     )?;
     put(
-        &[
-            At(slant.back()),
-            Raw(" 5.5H"),
-            At(left + slant),
-            Raw("z\">"),
-        ],
+        &[At(slant.back()), Raw(" 5.5H"), At(left + slant), Raw("z\"")],
         out,
     )?;
     put_value_title(scene, topic, stay, out)?;
-    append("</path>\n", out)?;
     if stay.state.start < stay.state.end {
         put(
             &[
@@ -198,14 +198,18 @@ pub fn put_object(
     let kind = kind_of(object.topic);
     let name = bytes_of(scene.sys, object.topic);
     put(
-        &[Raw("<g role=\"group\" aria-label=\""), Raw(kind), Raw(" ")],
+        &[
+            Raw("<g role=\"group\" aria-label=\""),
+            Raw(kind),
+            Raw(" "),
+            Text(name),
+            Raw("\">"),
+        ],
         out,
     )?;
-    append_text(name, out)?;
-    append("\">", out)?;
     let room = scene.page.left() - px(44) - width(kind.as_bytes(), SMALL);
     put_name(row, name, room, false, out)?;
-    put_side(scene, row, kind.as_bytes(), out)?;
+    put_side(scene, row, &[Raw(kind)], out)?;
     for place in object.track.places(span.first, span.last) {
         if let Some(stay) = object.track.stay(place) {
             put_stay(scene, span, row, object.topic, &stay, out)?;

@@ -1,5 +1,6 @@
 //! The legend.
 use crate::scene::Scene;
+use crate::shapes::put_text;
 use fmp_timeline::Piece::{At, Number, Raw};
 use fmp_timeline::{Tenths, append, put, px, width};
 use std::alloc::AllocError;
@@ -153,14 +154,8 @@ struct Pen {
 impl Pen {
     /// The beginning of a row of items with this head.
     fn new(head: &str, y: u32, out: &mut Vec<u8>) -> Result<Pen, AllocError> {
-        put(
-            &[
-                Raw("<text class=\"m k\" x=\"12\" y=\""),
-                Number(y.saturating_add(3)),
-            ],
-            out,
-        )?;
-        put(&[Raw("\">"), Raw(head), Raw("</text>\n")], out)?;
+        let place = (px(12), px(y.saturating_add(3)));
+        put_text(&[Raw("m k")], place, &[Raw(head)], out)?;
         Ok(Pen { x: px(ITEMS), y })
     }
 

@@ -12,6 +12,7 @@ mod picture;
 mod processors;
 mod rows;
 mod scene;
+mod shapes;
 mod signs;
 mod style;
 mod tasks;

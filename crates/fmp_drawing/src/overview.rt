@@ -1,5 +1,6 @@
 //! The overview over a long run: what ran most in each part of it, and a link for each panel.
 use crate::scene::Scene;
+use crate::shapes::{put_line, put_text};
 use fmp_timeline::Piece::{At, Number, Raw, Text};
 use fmp_timeline::{Occupant, Tenths, append, put, px};
 use std::alloc::AllocError;
@@ -12,7 +13,7 @@ const HANDLER: usize = 8;
 const IDLE: usize = 9;
 
 /// The parts of the run that have one look each.
-#[derive(Clone, Copy, Debug, PartialEq, Eq)]
+#[derive(Clone, Copy)]
 struct Bins {
     events: u32,
     bins: u32,
@@ -101,15 +102,14 @@ fn looks_of(scene: &Scene<'_>, bins: &Bins, processor: u8) -> Result<Vec<usize>,
     Ok(looks)
 }
 
-/// The parts of one look, neighbours joined, as a path; empty where there is none.
-fn path_of(
-    scene: &Scene<'_>,
+/// The parts of one look, neighbours joined, as the boxes of a path.
+fn put_parts(
     bins: &Bins,
     looks: &[usize],
     look: usize,
     y: u32,
-) -> Result<Vec<u8>, AllocError> {
-    let mut path = Vec::new(scene.alloc);
+    out: &mut Vec<u8>,
+) -> Result<(), AllocError> {
     let mut from: Option<u32> = None;
     for (bin, this) in (0..=bins.bins).zip(looks.iter().chain(&[LOOKS])) {
         match from {
@@ -118,18 +118,34 @@ fn path_of(
                 let wide = bins.x(bin) - bins.x(start);
                 put(
                     &[Raw("M"), At(bins.x(start)), Raw(" "), Number(y), Raw("h")],
-                    &mut path,
+                    out,
                 )?;
-                put(
-                    &[At(wide), Raw("v10h"), At(wide.back()), Raw("z")],
-                    &mut path,
-                )?;
+                put(&[At(wide), Raw("v10h"), At(wide.back()), Raw("z")], out)?;
                 from = None;
             }
             _ => {}
         }
     }
-    Ok(path)
+    Ok(())
+}
+
+/// The path of the parts of one look.
+fn put_look(
+    bins: &Bins,
+    looks: &[usize],
+    look: usize,
+    y: u32,
+    out: &mut Vec<u8>,
+) -> Result<(), AllocError> {
+    if look == HANDLER {
+        append("<path class=\"hov", out)?;
+    } else {
+        let colour = Number(u32::try_from(look).unwrap_or(0));
+        put(&[Raw("<path class=\"c"), colour, Raw(" f")], out)?;
+    }
+    append("\" d=\"", out)?;
+    put_parts(bins, looks, look, y, out)?;
+    append("\"/>\n", out)
 }
 
 /// The strip of a processor.
@@ -158,31 +174,25 @@ fn put_strip(
         ],
         out,
     )?;
-    put(
-        &[
-            Raw("<path class=\"i\" d=\"M"),
-            At(bins.left),
-            Raw(" "),
-            Number(y.saturating_add(5)),
-        ],
-        out,
-    )?;
-    put(&[Raw("h"), Number(bins.wide), Raw("\"/>\n")], out)?;
+    let start = (bins.left, px(y.saturating_add(5)));
+    put_line("i", start, px(bins.wide), out)?;
+    append("/>\n", out)?;
+    put_looks(scene, bins, processor, y, out)
+}
+
+/// The looks of the parts of a processor's strip.
+fn put_looks(
+    scene: &Scene<'_>,
+    bins: &Bins,
+    processor: u8,
+    y: u32,
+    out: &mut Vec<u8>,
+) -> Result<(), AllocError> {
     let looks = looks_of(scene, bins, processor)?;
     for look in 0..IDLE {
-        let path = path_of(scene, bins, &looks, look, y)?;
-        if path.is_empty() {
-            continue;
+        if looks.contains(&look) {
+            put_look(bins, &looks, look, y, out)?;
         }
-        if look == HANDLER {
-            append("<path class=\"hov", out)?;
-        } else {
-            put(
-                &[Raw("<path class=\"c"), Number(look as u32), Raw(" f")],
-                out,
-            )?;
-        }
-        put(&[Raw("\" d=\""), Text(&path), Raw("\"/>\n")], out)?;
     }
     Ok(())
 }
@@ -328,14 +338,8 @@ pub fn put_overview(scene: &Scene<'_>, top: u32, out: &mut Vec<u8>) -> Result<u3
         "<g role=\"group\" aria-label=\"Overview, with a link for each panel\">\n",
         out,
     )?;
-    put(
-        &[
-            Raw("<text class=\"pn\" x=\"12\" y=\""),
-            Number(y.saturating_add(9)),
-        ],
-        out,
-    )?;
-    append("\">Overview</text>\n", out)?;
+    let place = (px(12), px(y.saturating_add(9)));
+    put_text(&[Raw("pn")], place, &[Raw("Overview")], out)?;
     let mut strip = y.saturating_add(8);
     for processor in 0..scene.sys.processors {
         put_strip(scene, &bins, processor, strip, out)?;

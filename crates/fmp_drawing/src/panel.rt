@@ -96,33 +96,58 @@ fn small_word(word: StateWord) -> &'static str {
     }
 }
 
-/// Appends to a list how many tasks without a lane are in a state, and the names of the first four.
+/// Whether a task is in a state where a panel begins.
+fn is_in(scene: &Scene<'_>, span: &Span, task: u8, word: StateWord) -> bool {
+    let track = scene.run.tasks.get(usize::from(task));
+    match track.and_then(|track| track.at(span.first)) {
+        Some(shown) => shown.word == word,
+        None => false,
+    }
+}
+
+/// How many tasks without a lane are in a state.
+fn asleep_in(scene: &Scene<'_>, span: &Span, rows: &Rows, word: StateWord) -> u32 {
+    let mut count: u32 = 0;
+    for task in rows.asleep.as_slice() {
+        if is_in(scene, span, *task, word) {
+            count = count.saturating_add(1);
+        }
+    }
+    count
+}
+
+/// The names of the first four tasks without a lane that are in a state.
+fn put_asleep_names(
+    scene: &Scene<'_>,
+    span: &Span,
+    rows: &Rows,
+    word: StateWord,
+    out: &mut Vec<u8>,
+) -> Result<(), AllocError> {
+    let mut count: u32 = 0;
+    for task in rows.asleep.as_slice() {
+        if count < 4 && is_in(scene, span, *task, word) {
+            let before = if count > 0 { ", " } else { "" };
+            put(&[Raw(before), Text(task_bytes(scene.sys, *task))], out)?;
+            count = count.saturating_add(1);
+        }
+    }
+    Ok(())
+}
+
+/// How many tasks without a lane are in a state, with the names of the first four: whether there are any.
 fn put_asleep_in(
     scene: &Scene<'_>,
     span: &Span,
     rows: &Rows,
     word: StateWord,
-    list: &mut Vec<u8>,
-) -> Result<(), AllocError> {
-    let mut names = Vec::new(scene.alloc);
-    let mut count: u32 = 0;
-    for task in rows.asleep.as_slice() {
-        let track = scene.run.tasks.get(usize::from(*task));
-        let shown = track.and_then(|track| track.at(span.first));
-        if shown.is_none_or(|shown| shown.word != word) {
-            continue;
-        }
-        count = count.saturating_add(1);
-        if count <= 4 {
-            append(if count > 1 { ", " } else { "" }, &mut names)?;
-            names.extend_from_slice(task_bytes(scene.sys, *task))?;
-        }
-    }
+    before: &str,
+    out: &mut Vec<u8>,
+) -> Result<bool, AllocError> {
+    let count = asleep_in(scene, span, rows, word);
     if count == 0 {
-        return Ok(());
+        return Ok(false);
     }
-    let before = if list.is_empty() { " " } else { "; " };
-    let more = if count > 4 { ", …" } else { "" };
     put(
         &[
             Raw(before),
@@ -131,9 +156,11 @@ fn put_asleep_in(
             Raw(small_word(word)),
             Raw(" ("),
         ],
-        list,
+        out,
     )?;
-    put(&[Text(&names), Raw(more), Raw(")")], list)
+    put_asleep_names(scene, span, rows, word, out)?;
+    append(if count > 4 { ", …)" } else { ")" }, out)?;
+    Ok(true)
 }
 
 /// The line that says which tasks have no lane.
@@ -143,7 +170,10 @@ fn put_asleep(
     rows: &Rows,
     out: &mut Vec<u8>,
 ) -> Result<(), AllocError> {
-    let mut list = Vec::new(scene.alloc);
+    let y = px(rows.bottom) + px(11);
+    put(&[Raw("<text class=\"m\" x=\"12\" y=\""), At(y)], out)?;
+    append("\">No change and no lane here:", out)?;
+    let mut before = " ";
     for word in [
         StateWord::Dormant,
         StateWord::Ready,
@@ -151,20 +181,59 @@ fn put_asleep(
         StateWord::Waiting,
         StateWord::WaitingSuspended,
     ] {
-        put_asleep_in(scene, span, rows, word, &mut list)?;
+        if put_asleep_in(scene, span, rows, word, before, out)? {
+            before = "; ";
+        }
     }
-    let y = px(rows.bottom) + px(11);
-    put(&[Raw("<text class=\"m\" x=\"12\" y=\""), At(y)], out)?;
-    append("\">No change and no lane here:", out)?;
-    out.extend_from_slice(&list)?;
     append("</text>\n", out)
+}
+
+/// A panel with these lanes that begins at this height, or a beginning of it that is too large.
+fn put_rows(
+    scene: &Scene<'_>,
+    span: &Span,
+    top: u32,
+    rows: &Rows,
+    out: &mut Vec<u8>,
+) -> Result<(), AllocError> {
+    let (first, last) = (Number(span.first), Number(span.last));
+    put(
+        &[
+            Raw("<g id=\"e"),
+            first,
+            Raw("\" role=\"group\" aria-label=\"Events "),
+        ],
+        out,
+    )?;
+    put(&[first, Raw(" to "), last, Raw("\">\n")], out)?;
+    put_bands(span, rows, out)?;
+    put_axis(scene, span, px(top), px(rows.bottom), out)?;
+    for row in rows.rows.as_slice() {
+        if out.len() > MOST_BYTES {
+            return Ok(());
+        }
+        put_lane(scene, span, row, out)?;
+    }
+    put_lead(span, top.saturating_add(AXIS), rows.bottom, out)?;
+    put_links(scene, span, rows, out)?;
+    for row in rows.rows.as_slice() {
+        put_marks(scene, span, row, out)?;
+    }
+    if !rows.asleep.is_empty() {
+        put_asleep(scene, span, rows, out)?;
+    }
+    append("</g>\n", out)
+}
+
+/// The lanes of a panel that begins at this height.
+fn rows_of(scene: &Scene<'_>, span: &Span, top: u32) -> Result<Rows, AllocError> {
+    let lanes = top.saturating_add(AXIS);
+    Rows::new(scene.alloc, scene.sys, scene.run, span, lanes)
 }
 
 /// The lower end of a panel that begins at this height.
 pub fn panel_bottom(scene: &Scene<'_>, span: &Span, top: u32) -> Result<u32, AllocError> {
-    let lanes = top.saturating_add(AXIS);
-    let rows = Rows::new(scene.alloc, scene.sys, scene.run, span, lanes)?;
-    Ok(rows.end())
+    Ok(rows_of(scene, span, top)?.end())
 }
 
 /// A panel that begins at this height, or a beginning of it that is too large: its lower end.
@@ -174,41 +243,7 @@ pub fn put_panel(
     top: u32,
     out: &mut Vec<u8>,
 ) -> Result<u32, AllocError> {
-    let lanes = top.saturating_add(AXIS);
-    let rows = Rows::new(scene.alloc, scene.sys, scene.run, span, lanes)?;
-    put(
-        &[
-            Raw("<g id=\"e"),
-            Number(span.first),
-            Raw("\" role=\"group\" aria-label=\"Events "),
-        ],
-        out,
-    )?;
-    put(
-        &[
-            Number(span.first),
-            Raw(" to "),
-            Number(span.last),
-            Raw("\">\n"),
-        ],
-        out,
-    )?;
-    put_bands(span, &rows, out)?;
-    put_axis(scene, span, px(top), px(rows.bottom), out)?;
-    for row in rows.rows.as_slice() {
-        if out.len() > MOST_BYTES {
-            return Ok(rows.end());
-        }
-        put_lane(scene, span, row, out)?;
-    }
-    put_lead(span, lanes, rows.bottom, out)?;
-    put_links(scene, span, &rows, out)?;
-    for row in rows.rows.as_slice() {
-        put_marks(scene, span, row, out)?;
-    }
-    if !rows.asleep.is_empty() {
-        put_asleep(scene, span, &rows, out)?;
-    }
-    append("</g>\n", out)?;
+    let rows = rows_of(scene, span, top)?;
+    put_rows(scene, span, top, &rows, out)?;
     Ok(rows.end())
 }

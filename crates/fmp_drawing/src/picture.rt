@@ -172,17 +172,32 @@ fn put_panels(scene: &Scene<'_>, top: u32, out: &mut Vec<u8>) -> Result<(), Allo
     Ok(())
 }
 
+/// What stands above the panels: the height below it.
+fn put_top(scene: &Scene<'_>, name: &[u8], out: &mut Vec<u8>) -> Result<u32, AllocError> {
+    put_head(scene, name, out)?;
+    let y = put_legend(scene, 64, out)?;
+    put_overview(scene, y.saturating_add(2), out)
+}
+
+/// The picture with this above its panels, which begin at this height, or a beginning of it that is too large.
+fn put_picture(
+    scene: &Scene<'_>,
+    name: &[u8],
+    (above, y): (&[u8], u32),
+    out: &mut Vec<u8>,
+) -> Result<(), AllocError> {
+    put_root(scene, name, height_of(scene, y)?, out)?;
+    out.extend_from_slice(above)?;
+    put_panels(scene, y, out)?;
+    append("</svg>\n", out)
+}
+
 /// The picture, or a beginning of it that is too large.
 fn drawn(scene: &Scene<'_>, name: &[u8]) -> Result<Vec<u8>, AllocError> {
-    let mut head = Vec::new(scene.alloc);
-    put_head(scene, name, &mut head)?;
-    let y = put_legend(scene, 64, &mut head)?;
-    let y = put_overview(scene, y.saturating_add(2), &mut head)?;
+    let mut above = Vec::new(scene.alloc);
+    let y = put_top(scene, name, &mut above)?;
     let mut out = Vec::new(scene.alloc);
-    put_root(scene, name, height_of(scene, y)?, &mut out)?;
-    out.extend_from_slice(&head)?;
-    put_panels(scene, y, &mut out)?;
-    append("</svg>\n", &mut out)?;
+    put_picture(scene, name, (&above, y), &mut out)?;
     Ok(out)
 }
 

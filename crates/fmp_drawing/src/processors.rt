@@ -2,13 +2,14 @@
 use crate::calls::put_calls;
 use crate::rows::Row;
 use crate::scene::{Scene, Taken, letters_that_fit};
-use crate::tasks::{put_frame, put_name, put_side};
+use crate::shapes::{put_box, put_frame, put_line, put_text};
+use crate::tasks::{put_name, put_side};
 use crate::titles::put_title;
 use fmp_base::{Handler, Lock};
-use fmp_timeline::Piece::{At, Number, Raw, Text};
+use fmp_timeline::Piece::{Number, Raw, Text};
 use fmp_timeline::{
-    Handling, Occupant, Span, Spin, Stay, Tenths, Topic, append, append_text, bytes_of,
-    handler_text, put, px, task_bytes, width,
+    Handling, Occupant, Span, Spin, Stay, Tenths, Topic, append, bytes_of, handler_text, put, px,
+    task_bytes, width,
 };
 use std::alloc::AllocError;
 
@@ -27,6 +28,26 @@ fn text_left<S>(span: &Span, stay: &Stay<S>) -> Tenths {
     span.box_left(stay).or_more(span.page.start())
 }
 
+/// The name of a handler on a plate between two places, where it fits.
+fn put_handler_plate(
+    scene: &Scene<'_>,
+    row: &Row,
+    handler: Handler,
+    (left, right): (Tenths, Tenths),
+    out: &mut Vec<u8>,
+) -> Result<(), AllocError> {
+    let label = handler_text(scene.alloc, scene.sys, handler, "int ")?;
+    let wide = width(&label, BOLD) + px(6);
+    if !(wide + px(4)).is_below(right - left) {
+        return Ok(());
+    }
+    let corner = (left + px(3), row.middle(-70));
+    put_box(&[Raw("tb q")], corner, (wide, px(14)), out)?;
+    append("/>", out)?;
+    let place = (left + px(6), row.middle(40));
+    put_text(&[Raw("k q")], place, &[Text(&label)], out)
+}
+
 /// A handler that runs on a processor, with its name on a plate.
 fn put_handler_box(
     scene: &Scene<'_>,
@@ -37,8 +58,8 @@ fn put_handler_box(
     out: &mut Vec<u8>,
 ) -> Result<(), AllocError> {
     let (left, right) = (span.box_left(stay), span.box_right(stay));
-    put_frame("hr", (left, row.y(45)), right - left, px(19), out)?;
-    append(">", out)?;
+    let size = (right - left, px(19));
+    put_frame(&[Raw("hr")], (left, row.y(45)), size, out)?;
     let name = handler_text(scene.alloc, scene.sys, handler, "#")?;
     let head = [
         Raw("p"),
@@ -47,42 +68,7 @@ fn put_handler_box(
         Text(&name),
     ];
     put_title(scene.run, &head, stay, out)?;
-    append("</path>\n", out)?;
-    let label = handler_text(scene.alloc, scene.sys, handler, "int ")?;
-    let wide = width(&label, BOLD) + px(6);
-    let x = text_left(span, stay);
-    if !(wide + px(4)).is_below(right - x) {
-        return Ok(());
-    }
-    put(
-        &[
-            Raw("<path class=\"tb q\" d=\"M"),
-            At(x + px(3)),
-            Raw(" "),
-            At(row.middle(-70)),
-        ],
-        out,
-    )?;
-    put(
-        &[
-            Raw("h"),
-            At(wide),
-            Raw("v14h"),
-            At(wide.back()),
-            Raw("z\"/>"),
-        ],
-        out,
-    )?;
-    put(
-        &[
-            Raw("<text class=\"k q\" x=\""),
-            At(x + px(6)),
-            Raw("\" y=\""),
-            At(row.middle(40)),
-        ],
-        out,
-    )?;
-    put(&[Raw("\">"), Text(&label), Raw("</text>\n")], out)
+    put_handler_plate(scene, row, handler, (text_left(span, stay), right), out)
 }
 
 /// The name of a task in its box, or its first letters where it does not fit.
@@ -103,31 +89,10 @@ fn put_occupant_name(
             None => return Ok(()),
         }
     };
-    put(
-        &[
-            Raw("<text class=\"k d"),
-            Number(scene.colour(task)),
-            Raw(" q\" x=\""),
-        ],
-        out,
-    )?;
-    put(
-        &[
-            At(left + px(4)),
-            Raw("\" y=\""),
-            At(row.middle(40)),
-            Raw("\">"),
-        ],
-        out,
-    )?;
-    put(
-        &[
-            Text(name.get(..letters).unwrap_or(name)),
-            Raw(dots),
-            Raw("</text>\n"),
-        ],
-        out,
-    )
+    let class = [Raw("k d"), Number(scene.colour(task)), Raw(" q")];
+    let letters = name.get(..letters).unwrap_or(name);
+    let place = (left + px(4), row.middle(40));
+    put_text(&class, place, &[Text(letters), Raw(dots)], out)
 }
 
 /// A task that a processor runs.
@@ -140,26 +105,8 @@ fn put_task_box(
     out: &mut Vec<u8>,
 ) -> Result<(), AllocError> {
     let (left, right) = (span.box_left(stay), span.box_right(stay));
-    let wide = right - left - px(1);
-    put(
-        &[
-            Raw("<path class=\"c"),
-            Number(scene.colour(task)),
-            Raw(" f\" d=\"M"),
-        ],
-        out,
-    )?;
-    put(
-        &[
-            At(left + Tenths(5)),
-            Raw(" "),
-            At(row.y(40)),
-            Raw("h"),
-            At(wide),
-        ],
-        out,
-    )?;
-    put(&[Raw("v20h"), At(wide.back()), Raw("z\">")], out)?;
+    let class = [Raw("c"), Number(scene.colour(task)), Raw(" f")];
+    put_frame(&class, (left, row.y(40)), (right - left, px(20)), out)?;
     let name = task_bytes(scene.sys, task);
     let head = [
         Raw("p"),
@@ -168,7 +115,6 @@ fn put_task_box(
         Text(name),
     ];
     put_title(scene.run, &head, stay, out)?;
-    append("</path>\n", out)?;
     put_occupant_name(scene, row, task, (text_left(span, stay), right), out)
 }
 
@@ -182,19 +128,9 @@ fn put_idle(
     out: &mut Vec<u8>,
 ) -> Result<(), AllocError> {
     let (left, right) = (span.box_left(stay), span.box_right(stay));
-    put(
-        &[
-            Raw("<path class=\"i\" d=\"M"),
-            At(left),
-            Raw(" "),
-            At(row.middle(0)),
-        ],
-        out,
-    )?;
-    put(&[Raw("h"), At(right - left), Raw("\">")], out)?;
+    put_line("i", (left, row.middle(0)), right - left, out)?;
     let head = [Raw("p"), Number(number_of(processor)), Raw(": idle")];
-    put_title(scene.run, &head, stay, out)?;
-    append("</path>\n", out)
+    put_title(scene.run, &head, stay, out)
 }
 
 /// The lane of a processor.
@@ -214,11 +150,8 @@ pub fn put_processor(
         ],
         out,
     )?;
-    put(
-        &[Raw("<text class=\"pn\" x=\"12\" y=\""), At(row.middle(40))],
-        out,
-    )?;
-    put(&[Raw("\">Processor "), number, Raw("</text>\n")], out)?;
+    let place = (px(12), row.middle(40));
+    put_text(&[Raw("pn")], place, &[Raw("Processor "), number], out)?;
     if let Some(track) = scene.run.occupants.get(usize::from(processor)) {
         for place in track.places(span.first, span.last) {
             let Some(stay) = track.stay(place) else {
@@ -238,27 +171,15 @@ pub fn put_processor(
     append("</g>\n", out)
 }
 
-/// The box of a bar, without its end.
+/// The box of a bar, without the end of its element.
 fn put_bar(
     class: &str,
     row: &Row,
     (left, right): (Tenths, Tenths),
     out: &mut Vec<u8>,
 ) -> Result<(), AllocError> {
-    let wide = right - left;
-    append("<path class=\"", out)?;
-    append(class, out)?;
-    put(&[Raw("\" d=\"M"), At(left), Raw(" "), At(row.y(0))], out)?;
-    put(
-        &[
-            Raw("h"),
-            At(wide),
-            Raw("v10h"),
-            At(wide.back()),
-            Raw("z\">"),
-        ],
-        out,
-    )
+    let size = (right - left, px(10));
+    put_box(&[Raw(class)], (left, row.y(0)), size, out)
 }
 
 /// The text of a bar, where it fits.
@@ -272,20 +193,8 @@ fn put_bar_text(
     if !(width(label, BAR) + px(4)).is_below(right - left) {
         return Ok(false);
     }
-    append("<text class=\"", out)?;
-    append(class, out)?;
-    put(
-        &[
-            Raw(" q\" x=\""),
-            At(left + px(3)),
-            Raw("\" y=\""),
-            At(row.y(80)),
-            Raw("\">"),
-        ],
-        out,
-    )?;
-    append_text(label, out)?;
-    append("</text>\n", out)?;
+    let place = (left + px(3), row.y(80));
+    put_text(&[Raw(class)], place, &[Text(label)], out)?;
     Ok(true)
 }
 
@@ -315,8 +224,7 @@ fn put_held_lock(
         Raw(" held"),
     ];
     put_title(scene.run, &head, stay, out)?;
-    append("</path>\n", out)?;
-    put_bar_text("lct", row, (text_left(span, stay), ends.1), label, out)?;
+    put_bar_text("lct q", row, (text_left(span, stay), ends.1), label, out)?;
     Ok(())
 }
 
@@ -336,8 +244,8 @@ fn put_spin(
     } else {
         "no progress"
     };
-    put_frame("spb", (left, row.y(5)), right - left, px(9), out)?;
-    append(">", out)?;
+    let size = (right - left, px(9));
+    put_frame(&[Raw("spb")], (left, row.y(5)), size, out)?;
     let number = Number(number_of(stay.state.processor));
     put_title(
         scene.run,
@@ -345,48 +253,15 @@ fn put_spin(
         stay,
         out,
     )?;
-    append("</path>\n", out)?;
     let x = text_left(span, stay);
     for words in [words, ""] {
         let wide = width(words.as_bytes(), BAR) + width(name, BAR) + px(5);
         if (wide + px(20)).is_below(right - x) {
-            put(
-                &[
-                    Raw("<path class=\"tb q\" d=\"M"),
-                    At(x + px(4)),
-                    Raw(" "),
-                    At(row.y(10)),
-                ],
-                out,
-            )?;
-            put(
-                &[
-                    Raw("h"),
-                    At(wide),
-                    Raw("v8h"),
-                    At(wide.back()),
-                    Raw("z\"/>"),
-                ],
-                out,
-            )?;
-            put(
-                &[
-                    Raw("<text class=\"spt q\" x=\""),
-                    At(x + Tenths(65)),
-                    Raw("\" y=\""),
-                ],
-                out,
-            )?;
-            return put(
-                &[
-                    At(row.y(80)),
-                    Raw("\">"),
-                    Raw(words),
-                    Text(name),
-                    Raw("</text>\n"),
-                ],
-                out,
-            );
+            let corner = (x + px(4), row.y(10));
+            put_box(&[Raw("tb q")], corner, (wide, px(8)), out)?;
+            append("/>", out)?;
+            let place = (x + Tenths(65), row.y(80));
+            return put_text(&[Raw("spt q")], place, &[Raw(words), Text(name)], out);
         }
     }
     Ok(())
@@ -436,9 +311,8 @@ pub fn put_dispatch(
             let number = Number(number_of(processor));
             let head = [Raw("p"), number, Raw(": dispatch disabled")];
             put_title(scene.run, &head, &stay, out)?;
-            append("</path>\n", out)?;
-            if !put_bar_text("ldt", row, ends, b"dispatch off", out)? {
-                put_bar_text("ldt", row, ends, b"dsp off", out)?;
+            if !put_bar_text("ldt q", row, ends, b"dispatch off", out)? {
+                put_bar_text("ldt q", row, ends, b"dsp off", out)?;
             }
         }
     }
@@ -446,7 +320,7 @@ pub fn put_dispatch(
 }
 
 /// The name of a handler at the left of its lane.
-fn put_handler_gutter(
+fn put_handler_name(
     scene: &Scene<'_>,
     row: &Row,
     handler: Handler,
@@ -461,23 +335,38 @@ fn put_handler_gutter(
         ],
         out,
     )?;
-    put_name(row, &label, scene.page.left() - px(74), false, out)?;
-    put(
-        &[
-            Raw("<path class=\"hr\" d=\"M16.5 "),
-            At(row.middle(-35)),
-            Raw("h7v7h-7z\"/>\n"),
-        ],
-        out,
-    )?;
+    put_name(row, &label, scene.page.left() - px(74), false, out)
+}
+
+/// The name of a handler, its square and its period at the left of its lane.
+fn put_handler_gutter(
+    scene: &Scene<'_>,
+    row: &Row,
+    handler: Handler,
+    out: &mut Vec<u8>,
+) -> Result<(), AllocError> {
+    put_handler_name(scene, row, handler, out)?;
+    let corner = (Tenths(165), row.middle(-35));
+    put_box(&[Raw("hr")], corner, (px(7), px(7)), out)?;
+    append("/>\n", out)?;
     if let Handler::Cyclic(place) = handler
         && let Some(config) = scene.sys.cyclics.get(usize::from(place))
     {
-        let mut side = Vec::new(scene.alloc);
-        put(&[Raw("every "), Number(config.period)], &mut side)?;
-        put_side(scene, row, &side, out)?;
+        put_side(scene, row, &[Raw("every "), Number(config.period)], out)?;
     }
     Ok(())
+}
+
+/// The end of the path of such a stretch, with its title.
+fn put_handling_title(
+    scene: &Scene<'_>,
+    handler: Handler,
+    words: &str,
+    stay: &Stay<Handling>,
+    out: &mut Vec<u8>,
+) -> Result<(), AllocError> {
+    let label = handler_text(scene.alloc, scene.sys, handler, "interrupt ")?;
+    put_title(scene.run, &[Text(&label), Raw(words)], stay, out)
 }
 
 /// A stretch over which a handler runs or pends.
@@ -489,35 +378,25 @@ fn put_handling(
     stay: &Stay<Handling>,
     out: &mut Vec<u8>,
 ) -> Result<(), AllocError> {
-    let (left, right) = (span.box_left(stay), span.box_right(stay));
+    let left = span.box_left(stay);
+    let wide = span.box_right(stay) - left;
     let words = match (stay.state.runs, stay.state.pends) {
         (false, false) => {
-            put(
-                &[
-                    Raw("<path class=\"dorm\" d=\"M"),
-                    At(left),
-                    Raw(" "),
-                    At(row.middle(5)),
-                ],
-                out,
-            )?;
-            return put(&[Raw("h"), At(right - left), Raw("\"/>\n")], out);
+            put_line("dorm", (left, row.middle(5)), wide, out)?;
+            return append("/>\n", out);
         }
         (false, true) => " is pending",
         (true, false) => " runs",
         (true, true) => " runs and is pending again",
     };
     if stay.state.runs {
-        put_frame("hr", (left, row.y(25)), right - left, px(13), out)?;
+        put_frame(&[Raw("hr")], (left, row.y(25)), (wide, px(13)), out)?;
     } else {
-        put_frame("hp", (left, row.y(45)), right - left, px(9), out)?;
+        put_frame(&[Raw("hp")], (left, row.y(45)), (wide, px(9)), out)?;
     }
-    append(">", out)?;
-    let label = handler_text(scene.alloc, scene.sys, handler, "interrupt ")?;
-    put_title(scene.run, &[Text(&label), Raw(words)], stay, out)?;
-    append("</path>\n", out)?;
+    put_handling_title(scene, handler, words, stay, out)?;
     if stay.state.runs && stay.state.pends {
-        put_frame("hp q", (left, row.y(125)), right - left, px(3), out)?;
+        put_frame(&[Raw("hp q")], (left, row.y(125)), (wide, px(3)), out)?;
         append("/>\n", out)?;
     }
     Ok(())

@@ -7,7 +7,7 @@ use std::alloc::{AllocError, Global};
 const MANY_TASKS: usize = 24;
 
 /// What a lane shows.
-#[derive(Clone, Copy, Debug, PartialEq, Eq)]
+#[derive(Clone, Copy, PartialEq, Eq)]
 pub enum Lane {
     Processor(u8),
     Lock(u8),
@@ -23,7 +23,7 @@ pub enum Lane {
 }
 
 /// A lane at its place, in whole pixels.
-#[derive(Clone, Copy, Debug, PartialEq, Eq)]
+#[derive(Clone, Copy)]
 pub struct Row {
     pub lane: Lane,
     pub top: u32,
@@ -46,6 +46,15 @@ impl Lane {
             Lane::Handler(_) | Lane::ObjectsHead | Lane::Object(_) => 18,
             Lane::Task(..) => 22,
             Lane::Gap => 10,
+        }
+    }
+
+    /// The one whose lane it is.
+    pub fn actor(self) -> Option<Caller> {
+        match self {
+            Lane::Task(task, _) => Some(Caller::Task(task)),
+            Lane::Handler(handler) => Some(Caller::Handler(handler)),
+            _ => None,
         }
     }
 
@@ -224,6 +233,16 @@ impl Rows {
         Ok(())
     }
 
+    fn add_all(&mut self, sys: &System, run: &Run, span: &Span) -> Result<(), AllocError> {
+        for processor in 0..sys.processors {
+            self.add_head(run, span, processor)?;
+            self.add_handlers(sys, run, span, processor)?;
+            self.add_tasks(sys, run, span, processor)?;
+            self.add(Lane::Gap)?;
+        }
+        self.add_objects(sys, run, span)
+    }
+
     /// The lanes of a panel that begins at this height.
     pub fn new(
         alloc: Global,
@@ -237,13 +256,7 @@ impl Rows {
             asleep: Vec::new(alloc),
             bottom: top,
         };
-        for processor in 0..sys.processors {
-            rows.add_head(run, span, processor)?;
-            rows.add_handlers(sys, run, span, processor)?;
-            rows.add_tasks(sys, run, span, processor)?;
-            rows.add(Lane::Gap)?;
-        }
-        rows.add_objects(sys, run, span)?;
+        rows.add_all(sys, run, span)?;
         Ok(rows)
     }
 

@@ -49,7 +49,7 @@ impl<'a> Scene<'a> {
 }
 
 /// Pixels of a lane that a mark takes.
-#[derive(Clone, Copy, Debug, PartialEq, Eq)]
+#[derive(Clone, Copy)]
 pub struct Taken {
     pub from: Tenths,
     pub to: Tenths,

@@ -1,8 +1,9 @@
 //! Marks and their tags, which take room in a lane before its texts do.
 use crate::rows::{Lane, Row};
 use crate::scene::{Scene, Taken};
+use crate::shapes::{put_box, put_text};
 use crate::titles::put_event_title;
-use fmp_base::{Caller, Fault};
+use fmp_base::Fault;
 use fmp_timeline::Piece::{At, Raw, Text};
 use fmp_timeline::{Mark, Run, Sign, Span, Tenths, append, append_number, put, px, width};
 use std::alloc::{AllocError, Global};
@@ -11,7 +12,7 @@ use std::alloc::{AllocError, Global};
 const TAG: Tenths = Tenths(80);
 
 /// A mark at its place, with a tag where there is room for one.
-#[derive(Clone, Copy, Debug, PartialEq, Eq)]
+#[derive(Clone, Copy)]
 pub struct Placed {
     pub mark: Mark,
     pub x: Tenths,
@@ -51,19 +52,24 @@ fn right_of(sign: Sign) -> Tenths {
     px(right)
 }
 
+/// Appends the text of a mark's tag; nothing where it has none.
+fn append_tag(sign: Sign, text: &mut Vec<u8>) -> Result<(), AllocError> {
+    match sign {
+        Sign::Refused(code) => append(code.name(), text),
+        Sign::Faulted(Fault::Overflow) => append("F_OVF", text),
+        Sign::Faulted(Fault::Division) => append("F_DIV", text),
+        Sign::Priority(priority) => {
+            append("pri ", text)?;
+            append_number(u32::from(priority), text)
+        }
+        _ => Ok(()),
+    }
+}
+
 /// The text of a mark's tag; empty where it has none.
 fn tag_text(alloc: Global, sign: Sign) -> Result<Vec<u8>, AllocError> {
     let mut text = Vec::new(alloc);
-    match sign {
-        Sign::Refused(code) => append(code.name(), &mut text)?,
-        Sign::Faulted(Fault::Overflow) => append("F_OVF", &mut text)?,
-        Sign::Faulted(Fault::Division) => append("F_DIV", &mut text)?,
-        Sign::Priority(priority) => {
-            append("pri ", &mut text)?;
-            append_number(u32::from(priority), &mut text)?;
-        }
-        _ => {}
-    }
+    append_tag(sign, &mut text)?;
     Ok(text)
 }
 
@@ -80,23 +86,31 @@ fn stands_on(run: &Run, task: u8, processor: u8, mark: &Mark) -> bool {
         .is_none_or(|shown| shown.processor == processor)
 }
 
+/// Whether a mark of the one whose lane this is stands in this lane.
+fn stands_in(run: &Run, lane: Lane, mark: &Mark) -> bool {
+    match lane {
+        Lane::Task(task, processor) => stands_on(run, task, processor, mark),
+        _ => true,
+    }
+}
+
+/// The marks of the one whose lane this is, from an event on.
+fn marks_from<'a>(scene: &Scene<'a>, lane: Lane, first: u32) -> &'a [Mark] {
+    let Some(deeds) = lane.actor().and_then(|actor| scene.run.deeds_of(actor)) else {
+        return &[];
+    };
+    let from = deeds.marks.partition_point(|mark| mark.event < first);
+    deeds.marks.get(from..).unwrap_or(&[])
+}
+
 /// The marks of a lane in a panel.
 fn marks_of(scene: &Scene<'_>, span: &Span, lane: Lane) -> Result<Vec<Mark>, AllocError> {
     let mut mine = Vec::new(scene.alloc);
-    let (actor, on) = match lane {
-        Lane::Task(task, processor) => (Caller::Task(task), Some((task, processor))),
-        Lane::Handler(handler) => (Caller::Handler(handler), None),
-        _ => return Ok(mine),
-    };
-    let Some(deeds) = scene.run.deeds_of(actor) else {
-        return Ok(mine);
-    };
-    let from = deeds.marks.partition_point(|mark| mark.event < span.first);
-    for mark in deeds.marks.get(from..).unwrap_or(&[]) {
+    for mark in marks_from(scene, lane, span.first) {
         if mark.event > span.last {
             break;
         }
-        if on.is_none_or(|(task, processor)| stands_on(scene.run, task, processor, mark)) {
+        if stands_in(scene.run, lane, mark) {
             mine.push(*mark)?;
         }
     }
@@ -108,7 +122,7 @@ fn shift_of(mark: &Mark, all: &[Mark]) -> Tenths {
     let stops = |other: &Mark| {
         other.event == mark.event && matches!(other.sign, Sign::Ended | Sign::Faulted(_))
     };
-    if mark.sign == Sign::Start && all.iter().any(stops) {
+    if matches!(mark.sign, Sign::Start) && all.iter().any(stops) {
         return px(4);
     }
     px(0)
@@ -147,6 +161,28 @@ fn tag_place(text: &[u8], sign: Sign, start: Tenths, end: Tenths) -> Option<(Ten
     (sign.is_wrong() && short.is_below(end)).then_some((start, 2))
 }
 
+/// A mark at its place among these.
+fn placed_mark(
+    scene: &Scene<'_>,
+    span: &Span,
+    mark: &Mark,
+    all: &[Mark],
+    later: &[Mark],
+) -> Result<Placed, AllocError> {
+    let text = tag_text(scene.alloc, mark.sign)?;
+    let tag = if text.is_empty() {
+        None
+    } else {
+        let end = next_left(span, mark.event, later);
+        tag_place(&text, mark.sign, tag_start(span, mark, all), end)
+    };
+    Ok(Placed {
+        mark: *mark,
+        x: span.x(mark.event) + shift_of(mark, all),
+        tag,
+    })
+}
+
 /// The marks of a lane at their places. None where columns are narrow.
 pub fn placed_marks(scene: &Scene<'_>, span: &Span, lane: Lane) -> Result<Vec<Placed>, AllocError> {
     let mut placed = Vec::new(scene.alloc);
@@ -155,21 +191,16 @@ pub fn placed_marks(scene: &Scene<'_>, span: &Span, lane: Lane) -> Result<Vec<Pl
     }
     let mine = marks_of(scene, span, lane)?;
     for (index, mark) in mine.iter().enumerate() {
-        let text = tag_text(scene.alloc, mark.sign)?;
         let later = mine.get(index..).unwrap_or(&[]);
-        let end = next_left(span, mark.event, later);
-        let tag = if text.is_empty() {
-            None
-        } else {
-            tag_place(&text, mark.sign, tag_start(span, mark, &mine), end)
-        };
-        placed.push(Placed {
-            mark: *mark,
-            x: span.x(mark.event) + shift_of(mark, &mine),
-            tag,
-        })?;
+        placed.push(placed_mark(scene, span, mark, &mine, later)?)?;
     }
     Ok(placed)
+}
+
+/// The width of a tag without its first letters, so many.
+fn tag_width(alloc: Global, sign: Sign, skip: usize) -> Result<Tenths, AllocError> {
+    let text = tag_text(alloc, sign)?;
+    Ok(width(text.get(skip..).unwrap_or(&[]), TAG) + px(5))
 }
 
 /// The pixels that marks and their tags take.
@@ -182,12 +213,8 @@ pub fn taken_by(scene: &Scene<'_>, placed: &[Placed]) -> Result<Vec<Taken>, Allo
             to: p.x + right_of(sign),
         })?;
         if let Some((from, skip)) = p.tag {
-            let text = tag_text(scene.alloc, sign)?;
-            let wide = width(text.get(skip..).unwrap_or(&[]), TAG);
-            taken.push(Taken {
-                from,
-                to: from + wide + px(5),
-            })?;
+            let to = from + tag_width(scene.alloc, sign, skip)?;
+            taken.push(Taken { from, to })?;
         }
     }
     Ok(taken)
@@ -202,44 +229,15 @@ fn put_tag(
 ) -> Result<(), AllocError> {
     let wide = width(text, TAG) + px(5);
     let (frame, words) = if sign.is_wrong() {
-        ("eb", "et")
+        ("eb q", "et q")
     } else {
-        ("pb", "pt")
+        ("pb q", "pt q")
     };
-    put(
-        &[
-            Raw("<path class=\""),
-            Raw(frame),
-            Raw(" q\" d=\"M"),
-            At(from),
-            Raw(" "),
-        ],
-        out,
-    )?;
-    put(
-        &[
-            At(row.middle(-50)),
-            Raw("h"),
-            At(wide),
-            Raw("v10h"),
-            At(wide.back()),
-        ],
-        out,
-    )?;
-    put(
-        &[Raw("z\"/><text class=\""), Raw(words), Raw(" q\" x=\"")],
-        out,
-    )?;
-    put(
-        &[
-            At(from + Tenths(25)),
-            Raw("\" y=\""),
-            At(row.middle(30)),
-            Raw("\">"),
-        ],
-        out,
-    )?;
-    put(&[Text(text), Raw("</text>\n")], out)
+    let corner = (from, row.middle(-50));
+    put_box(&[Raw(frame)], corner, (wide, px(10)), out)?;
+    append("/>", out)?;
+    let place = (from + Tenths(25), row.middle(30));
+    put_text(&[Raw(words)], place, &[Text(text)], out)
 }
 
 fn put_mark(

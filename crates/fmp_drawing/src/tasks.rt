@@ -2,11 +2,13 @@
 use crate::calls::put_calls;
 use crate::rows::Row;
 use crate::scene::{Scene, Taken, fit_left};
+use crate::shapes::{put_box, put_frame, put_line, put_text};
 use crate::titles::put_title;
 use fmp_base::{Caller, StateWord};
 use fmp_timeline::Piece::{At, Number, Raw, Text};
 use fmp_timeline::{
-    Span, Stay, TaskShown, Tenths, append, append_handler, put, px, task_bytes, wait_name, width,
+    Piece, Span, Spin, Stay, TaskShown, Tenths, append, append_handler, put, px, task_bytes,
+    wait_name, width,
 };
 use std::alloc::{AllocError, Global};
 
@@ -73,27 +75,15 @@ fn side_text(scene: &Scene<'_>, task: u8, processor: u8) -> Result<Vec<u8>, Allo
 
 /// The small square of a task's colour.
 fn put_square(row: &Row, colour: u32, home: bool, out: &mut Vec<u8>) -> Result<(), AllocError> {
-    let class = if home { " f" } else { " y" };
-    put(
-        &[
-            Raw("<path class=\"c"),
-            Number(colour),
-            Raw(class),
-            Raw("\" d=\""),
-        ],
-        out,
-    )?;
+    let colour = Number(colour);
     if home {
-        put(
-            &[Raw("M16 "), At(row.middle(-40)), Raw("h8v8h-8z\"/>")],
-            out,
-        )
+        let corner = (px(16), row.middle(-40));
+        put_box(&[Raw("c"), colour, Raw(" f")], corner, (px(8), px(8)), out)?;
     } else {
-        put(
-            &[Raw("M16.5 "), At(row.middle(-35)), Raw("h7v7h-7z\"/>")],
-            out,
-        )
+        let corner = (Tenths(165), row.middle(-35));
+        put_box(&[Raw("c"), colour, Raw(" y")], corner, (px(7), px(7)), out)?;
     }
+    append("/>", out)
 }
 
 /// The name, the colour and the priority of a task at the left of its lane.
@@ -106,160 +96,132 @@ fn put_gutter(
     let name = task_bytes(scene.sys, task);
     let config = scene.sys.tasks.get(usize::from(task));
     let home = config.is_some_and(|config| config.processor == processor);
-    let side = side_text(scene, task, processor)?;
+    let number = Number(u32::from(processor).saturating_add(1));
     put(
         &[
             Raw("<g role=\"group\" aria-label=\"Task "),
             Text(name),
             Raw(" on processor "),
+            number,
+            Raw("\">"),
         ],
         out,
     )?;
-    put(
-        &[Number(u32::from(processor).saturating_add(1)), Raw("\">")],
-        out,
-    )?;
     put_square(row, scene.colour(task), home, out)?;
+    let side = side_text(scene, task, processor)?;
     let room = scene.page.left() - px(44) - width(&side, SMALL);
     put_name(row, name, room, !home, out)?;
-    put_side(scene, row, &side, out)
+    put_side(scene, row, &[Text(&side)], out)
 }
 
 /// What stands at the right end of the gutter.
 pub fn put_side(
     scene: &Scene<'_>,
     row: &Row,
-    side: &[u8],
+    side: &[Piece<'_>],
     out: &mut Vec<u8>,
 ) -> Result<(), AllocError> {
-    let x = scene.page.left() - px(8);
-    put(
-        &[
-            Raw("<text class=\"m e\" x=\""),
-            At(x),
-            Raw("\" y=\""),
-            At(row.middle(30)),
-        ],
-        out,
-    )?;
-    put(&[Raw("\">"), Text(side), Raw("</text>\n")], out)
+    let place = (scene.page.left() - px(8), row.middle(30));
+    put_text(&[Raw("m e")], place, side, out)
 }
 
-/// What a wait is for, and until when: of a name only so many letters, if it is not whole.
-fn wait_label(
+/// Appends what a wait is for, and until when: of a name only so many letters, if it is not whole.
+fn append_wait(
     scene: &Scene<'_>,
     shown: &TaskShown,
     letters: Option<usize>,
     until: bool,
-) -> Result<Vec<u8>, AllocError> {
-    let mut label = Vec::new(scene.alloc);
+    label: &mut Vec<u8>,
+) -> Result<(), AllocError> {
     if let Some(cause) = shown.wait {
         let (arrow, name) = wait_name(scene.sys, cause);
-        append(arrow, &mut label)?;
+        append(arrow, label)?;
         match letters {
             Some(count) => {
                 label.extend_from_slice(name.get(..count).unwrap_or(name))?;
-                append("…", &mut label)?;
+                append("…", label)?;
             }
             None => label.extend_from_slice(name)?,
         }
     }
     if until && let Some(deadline) = shown.deadline {
-        put(&[Raw(" ≤"), Number(deadline)], &mut label)?;
+        put(&[Raw(" ≤"), Number(deadline)], label)?;
     }
-    Ok(label)
+    Ok(())
 }
 
-/// The longest text of a wait that fits between two places, and where it begins.
-fn fitting_label(
+/// Whether the name in the text of a wait can be cut to so many letters.
+fn can_be_cut(scene: &Scene<'_>, shown: &TaskShown, count: usize) -> bool {
+    match shown.wait {
+        Some(cause) => {
+            let (arrow, name) = wait_name(scene.sys, cause);
+            count < name.len() && (count > 2 || !arrow.is_empty())
+        }
+        None => false,
+    }
+}
+
+/// Where the longest text of a wait that fits between two places begins, with this text as the label.
+fn fit_label(
     scene: &Scene<'_>,
     span: &Span,
     taken: &[Taken],
     ends: (Tenths, Tenths),
     shown: &TaskShown,
-) -> Result<Option<(Tenths, Vec<u8>)>, AllocError> {
+    label: &mut Vec<u8>,
+) -> Result<Option<Tenths>, AllocError> {
     for until in [true, false] {
-        let label = wait_label(scene, shown, None, until)?;
-        if let Some(x) = fit_left(span, taken, ends, width(&label, SMALL)) {
-            return Ok(Some((x, label)));
+        label.clear();
+        append_wait(scene, shown, None, until, label)?;
+        let x = fit_left(span, taken, ends, width(label, SMALL));
+        if x.is_some() {
+            return Ok(x);
         }
     }
     for count in (2..31usize).rev() {
-        let fits = shown.wait.is_some_and(|cause| {
-            let (arrow, name) = wait_name(scene.sys, cause);
-            count < name.len() && (count > 2 || !arrow.is_empty())
-        });
-        if !fits {
-            continue;
-        }
-        let label = wait_label(scene, shown, Some(count), false)?;
-        if let Some(x) = fit_left(span, taken, ends, width(&label, SMALL)) {
-            return Ok(Some((x, label)));
+        if can_be_cut(scene, shown, count) {
+            label.clear();
+            append_wait(scene, shown, Some(count), false, label)?;
+            let x = fit_left(span, taken, ends, width(label, SMALL));
+            if x.is_some() {
+                return Ok(x);
+            }
         }
     }
     Ok(None)
 }
 
-/// The title of a state: the task, its state, what it waits for, the handler over it, the processor, and since when.
+/// Appends the head of a state's title: the task, its state, what it waits for, the handler over it.
+fn append_head(
+    scene: &Scene<'_>,
+    task: u8,
+    shown: &TaskShown,
+    head: &mut Vec<u8>,
+) -> Result<(), AllocError> {
+    head.extend_from_slice(task_bytes(scene.sys, task))?;
+    put(&[Raw(" "), Raw(word_of(shown.word))], head)?;
+    if shown.wait.is_some() {
+        append(" ", head)?;
+        append_wait(scene, shown, None, true, head)?;
+    }
+    if let Some(handler) = shown.under {
+        append(" under ", head)?;
+        append_handler(scene.sys, handler, "#", head)?;
+    }
+    Ok(())
+}
+
+/// The end of a state's path with its title: its head, the processor, and since when.
 fn put_task_title(
     scene: &Scene<'_>,
     task: u8,
     stay: &Stay<TaskShown>,
     out: &mut Vec<u8>,
 ) -> Result<(), AllocError> {
-    let shown = stay.state;
     let mut head = Vec::new(scene.alloc);
-    head.extend_from_slice(task_bytes(scene.sys, task))?;
-    put(&[Raw(" "), Raw(word_of(shown.word))], &mut head)?;
-    if shown.wait.is_some() {
-        append(" ", &mut head)?;
-        head.extend_from_slice(&wait_label(scene, &shown, None, true)?)?;
-    }
-    if let Some(handler) = shown.under {
-        append(" under ", &mut head)?;
-        append_handler(scene.sys, handler, "#", &mut head)?;
-    }
-    let processor = u32::from(shown.processor).saturating_add(1);
-    put_title(
-        scene.run,
-        &[Text(&head), Raw(", p"), Number(processor)],
-        stay,
-        out,
-    )
-}
-
-/// A frame of half a pixel less at each side: from a place on, so wide and so high.
-pub fn put_frame(
-    class: &str,
-    (x, y): (Tenths, Tenths),
-    wide: Tenths,
-    high: Tenths,
-    out: &mut Vec<u8>,
-) -> Result<(), AllocError> {
-    let inner = wide - px(1);
-    put(
-        &[
-            Raw("<path class=\""),
-            Raw(class),
-            Raw("\" d=\"M"),
-            At(x + Tenths(5)),
-            Raw(" "),
-        ],
-        out,
-    )?;
-    put(
-        &[
-            At(y),
-            Raw("h"),
-            At(inner),
-            Raw("v"),
-            At(high),
-            Raw("h"),
-            At(inner.back()),
-        ],
-        out,
-    )?;
-    append("z\"", out)
+    append_head(scene, task, &stay.state, &mut head)?;
+    let processor = Number(u32::from(stay.state.processor).saturating_add(1));
+    put_title(scene.run, &[Text(&head), Raw(", p"), processor], stay, out)
 }
 
 /// A wait: its frame, and its text where it fits.
@@ -272,80 +234,25 @@ fn put_wait(
     out: &mut Vec<u8>,
 ) -> Result<(), AllocError> {
     let (left, right) = (span.box_left(stay), span.box_right(stay));
-    let suspended = stay.state.word == StateWord::WaitingSuspended;
-    put_frame("w", (left, row.y(55)), right - left, px(13), out)?;
-    append(">", out)?;
+    let wide = right - left;
+    put_frame(&[Raw("w")], (left, row.y(55)), (wide, px(13)), out)?;
     put_task_title(scene, task, stay, out)?;
-    append("</path>\n", out)?;
+    let suspended = stay.state.word == StateWord::WaitingSuspended;
     if suspended {
-        let wide = right - left - px(2);
-        put(
-            &[
-                Raw("<path class=\"ws q\" d=\"M"),
-                At(left + px(1)),
-                Raw(" "),
-                At(row.y(145)),
-            ],
-            out,
-        )?;
-        put(
-            &[
-                Raw("h"),
-                At(wide),
-                Raw("v4h"),
-                At(wide.back()),
-                Raw("z\"/>\n"),
-            ],
-            out,
-        )?;
+        let corner = (left + px(1), row.y(145));
+        put_box(&[Raw("ws q")], corner, (wide - px(2), px(4)), out)?;
+        append("/>\n", out)?;
     }
-    let Some((x, label)) = fitting_label(scene, span, taken, (left, right), &stay.state)? else {
-        return Ok(());
-    };
     let (class, lower) = if suspended {
         ("wt q s7", 130)
     } else {
         ("wt q", 150)
     };
-    put(
-        &[
-            Raw("<text class=\""),
-            Raw(class),
-            Raw("\" x=\""),
-            At(x),
-            Raw("\" y=\""),
-        ],
-        out,
-    )?;
-    put(
-        &[At(row.y(lower)), Raw("\">"), Text(&label), Raw("</text>\n")],
-        out,
-    )
-}
-
-/// A line through the lane, of a task that is dormant or elsewhere.
-fn put_line(
-    class: &str,
-    span: &Span,
-    row: &Row,
-    stay: &Stay<TaskShown>,
-    out: &mut Vec<u8>,
-) -> Result<(), AllocError> {
-    let (left, right) = (span.box_left(stay), span.box_right(stay));
-    put(
-        &[
-            Raw("<path class=\""),
-            Raw(class),
-            Raw("\" d=\"M"),
-            At(left),
-            Raw(" "),
-        ],
-        out,
-    )?;
-    put(
-        &[At(row.middle(5)), Raw("h"), At(right - left), Raw("\"")],
-        out,
-    )
+    let mut label = Vec::new(scene.alloc);
+    match fit_label(scene, span, taken, (left, right), &stay.state, &mut label)? {
+        Some(x) => put_text(&[Raw(class)], (x, row.y(lower)), &[Text(&label)], out),
+        None => Ok(()),
+    }
 }
 
 /// The full box of a task that runs, with what lies over it.
@@ -357,38 +264,16 @@ fn put_running(
     out: &mut Vec<u8>,
 ) -> Result<(), AllocError> {
     let (left, right) = (span.box_left(stay), span.box_right(stay));
-    let wide = right - left;
-    let shape = [
-        Raw(" d=\"M"),
-        At(left),
-        Raw(" "),
-        At(row.y(30)),
-        Raw("h"),
-        At(wide),
-        Raw("v16h"),
-        At(wide.back()),
-        Raw("z\""),
-    ];
-    put(
-        &[
-            Raw("<path class=\"c"),
-            Number(scene.colour(task)),
-            Raw(" f\""),
-        ],
-        out,
-    )?;
-    put(&shape, out)?;
-    append(">", out)?;
+    let (corner, size) = ((left, row.y(30)), (right - left, px(16)));
+    let class = [Raw("c"), Number(scene.colour(task)), Raw(" f")];
+    put_box(&class, corner, size, out)?;
     put_task_title(scene, task, stay, out)?;
-    append("</path>\n", out)?;
     if stay.state.under.is_some() {
-        append("<path class=\"over q\"", out)?;
-        put(&shape, out)?;
+        put_box(&[Raw("over q")], corner, size, out)?;
         append("/>\n", out)?;
     }
     if stay.state.held {
-        append("<path class=\"hold q\"", out)?;
-        put(&shape, out)?;
+        put_box(&[Raw("hold q")], corner, size, out)?;
         append("/>\n", out)?;
     }
     Ok(())
@@ -403,33 +288,16 @@ fn put_state(
     (task, stay): (u8, &Stay<TaskShown>),
     out: &mut Vec<u8>,
 ) -> Result<(), AllocError> {
-    let (left, right) = (span.box_left(stay), span.box_right(stay));
+    let left = span.box_left(stay);
+    let wide = span.box_right(stay) - left;
     match stay.state.word {
-        StateWord::Dormant => put_line("dorm", span, row, stay, out)?,
+        StateWord::Dormant => put_line("dorm", (left, row.middle(5)), wide, out)?,
         StateWord::Ready => {
-            put(
-                &[
-                    Raw("<path class=\"c"),
-                    Number(scene.colour(task)),
-                    Raw(" y\" d=\"M"),
-                ],
-                out,
-            )?;
-            let wide = right - left - px(1);
-            put(
-                &[
-                    At(left + Tenths(5)),
-                    Raw(" "),
-                    At(row.y(95)),
-                    Raw("h"),
-                    At(wide),
-                ],
-                out,
-            )?;
-            put(&[Raw("v9h"), At(wide.back()), Raw("z\"")], out)?;
+            let class = [Raw("c"), Number(scene.colour(task)), Raw(" y")];
+            put_frame(&class, (left, row.y(95)), (wide, px(9)), out)?;
         }
         StateWord::Suspended if !stay.state.held => {
-            put_frame("s", (left, row.y(55)), right - left, px(13), out)?;
+            put_frame(&[Raw("s")], (left, row.y(55)), (wide, px(13)), out)?;
         }
         StateWord::Waiting | StateWord::WaitingSuspended => {
             return put_wait(scene, span, row, taken, (task, stay), out);
@@ -438,9 +306,31 @@ fn put_state(
             return put_running(scene, span, row, (task, stay), out);
         }
     }
-    append(">", out)?;
-    put_task_title(scene, task, stay, out)?;
-    append("</path>\n", out)
+    put_task_title(scene, task, stay, out)
+}
+
+/// The zigzags over one stretch along the foot of a task that asks in vain.
+fn put_zigzags(
+    span: &Span,
+    row: &Row,
+    colour: u32,
+    spin: &Stay<Spin>,
+    out: &mut Vec<u8>,
+) -> Result<(), AllocError> {
+    let (left, right) = (span.box_left(spin), span.box_right(spin));
+    let count = u32::try_from((right - left - px(2)).0).unwrap_or(0) / 40;
+    put(
+        &[Raw("<path class=\"g"), Number(colour), Raw(" q\" d=\"")],
+        out,
+    )?;
+    for step in 0..count.min(5000) {
+        let x = left + px(1) + px(4).times(step);
+        put(
+            &[Raw("M"), At(x), Raw(" "), At(row.y(180)), Raw("l2-3l2 3")],
+            out,
+        )?;
+    }
+    append("\"/>\n", out)
 }
 
 /// The zigzags along the foot of a task that asks in vain.
@@ -452,27 +342,9 @@ fn put_spins(
     out: &mut Vec<u8>,
 ) -> Result<(), AllocError> {
     for spin in scene.run.spins.of(scene.alloc, processor, span)?.iter() {
-        if spin.state.actor != Caller::Task(task) {
-            continue;
+        if spin.state.actor == Caller::Task(task) {
+            put_zigzags(span, row, scene.colour(task), spin, out)?;
         }
-        let (left, right) = (span.box_left(spin), span.box_right(spin));
-        let count = u32::try_from((right - left - px(2)).0).unwrap_or(0) / 40;
-        put(
-            &[
-                Raw("<path class=\"g"),
-                Number(scene.colour(task)),
-                Raw(" q\" d=\""),
-            ],
-            out,
-        )?;
-        for step in 0..count.min(5000) {
-            let x = left + px(1) + px(4).times(step);
-            put(
-                &[Raw("M"), At(x), Raw(" "), At(row.y(180)), Raw("l2-3l2 3")],
-                out,
-            )?;
-        }
-        append("\"/>\n", out)?;
     }
     Ok(())
 }
@@ -495,7 +367,9 @@ pub fn put_task(
             if stay.state.processor == processor {
                 put_state(scene, span, row, taken, (task, &stay), out)?;
             } else {
-                put_line("away", span, row, &stay, out)?;
+                let left = span.box_left(&stay);
+                let wide = span.box_right(&stay) - left;
+                put_line("away", (left, row.middle(5)), wide, out)?;
                 append("/>\n", out)?;
             }
         }

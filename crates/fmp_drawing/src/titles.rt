@@ -1,6 +1,7 @@
 //! What a box says when it is pointed at: its state, and the lines of the event that made it.
+use crate::shapes::put_box;
 use fmp_timeline::Piece::{Number, Raw};
-use fmp_timeline::{Piece, Run, Stay, append, append_text, put};
+use fmp_timeline::{Piece, Run, Stay, Tenths, append, append_text, put};
 use std::alloc::AllocError;
 
 /// No more lines than this stand in a title.
@@ -41,14 +42,28 @@ pub fn put_event_title(run: &Run, event: u32, out: &mut Vec<u8>) -> Result<(), A
     append("</title>", out)
 }
 
-/// A title with a head, from where to where a state lasts, and the lines of the event that began it.
+/// What is pointed at for the lines of an event: a box.
+pub fn put_area(
+    run: &Run,
+    corner: (Tenths, Tenths),
+    size: (Tenths, Tenths),
+    event: u32,
+    out: &mut Vec<u8>,
+) -> Result<(), AllocError> {
+    put_box(&[Raw("z")], corner, size, out)?;
+    append(">", out)?;
+    put_event_title(run, event, out)?;
+    append("</path>\n", out)
+}
+
+/// The end of a path with a title: a head, from where to where a state lasts, and the lines of the event that began it.
 pub fn put_title<S>(
     run: &Run,
     head: &[Piece<'_>],
     stay: &Stay<S>,
     out: &mut Vec<u8>,
 ) -> Result<(), AllocError> {
-    append("<title>", out)?;
+    append("><title>", out)?;
     put(head, out)?;
     match stay.to {
         Some(to) => put(
@@ -59,5 +74,5 @@ pub fn put_title<S>(
     }
     append("\n", out)?;
     append_lines(lines_of(run, stay.from), out)?;
-    append("</title>", out)
+    append("</title></path>\n", out)
 }
