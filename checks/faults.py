@@ -198,6 +198,17 @@ WARNINGS = [
      "t.cfg:2: warning: `F` is an eventflag that nothing sets\n"),
     (ONE + "CRE_TSK(T, { TA_ACT, 0, m, 1, 64, NULL }); CRE_SEM(S, { 0, 1, 1 }); }",
      "task m { var s; s = S; wai_sem(S); sig_sem(s); }", ""),
+    (ONE + "CRE_TSK(T, { TA_ACT, 0, m, 1, 64, NULL }); CRE_SEM(S, { 0, 1, 1 });\nDEF_INH(1, { 0, h }); }",
+     "task m {\n    isig_sem(S);\n    irot_rdq(TPRI_SELF);\n    loc_cpu();\n    put(1);\n}\n"
+     "handler h {\n    var x;\n    sig_sem(S);\n    wai_sem(S);\n    x = act_tsk(1);\n    loc_cpu();\n    put(1);\n"
+     "    isig_sem(S);\n}\n",
+     "t.src:2: warning: `isig_sem` answers E_CTX in a task; there it is `sig_sem`\n"
+     "t.src:3: warning: `irot_rdq` answers E_CTX in a task; there it is `rot_rdq`\n"
+     "t.src:9: warning: `sig_sem` answers E_CTX in a handler; there it is `isig_sem`\n"
+     "t.src:10: warning: `wai_sem` answers E_CTX in a handler\n"
+     "t.src:11: warning: `act_tsk` answers E_CTX in a handler; there it is `iact_tsk`\n"
+     "t.src:11: warning: the argument 1 is no name; `act_tsk` takes a task\n"
+     "t.src:12: warning: `loc_cpu` answers E_CTX in a handler\n"),
 ]
 
 

@@ -4,6 +4,7 @@
 mod apis;
 mod around;
 mod calls;
+mod contexts;
 mod excerpt;
 mod expected_api;
 mod expected_statement;

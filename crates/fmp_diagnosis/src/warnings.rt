@@ -1,11 +1,12 @@
-//! What is legal in two texts, and mostly a mistake: a number in place of an object's name, or an object of another
-//! kind, as the argument of a call; bodies and objects that nothing uses; semaphores that nothing signals, flags that
-//! nothing sets.
+//! What is legal in two texts, and mostly a mistake: a call that its body may never make; a number in place of an
+//! object's name, or an object of another kind, as the argument of a call; bodies and objects that nothing uses;
+//! semaphores that nothing signals, flags that nothing sets.
 ghost use Rattle.std.specs.Prelude.{◌<◌, OnOk};
 ghost use Rattle.fmp_diagnosis.specs.Words.{IsSaid};
 
 use crate::apis::{api_at, entry_of, is_symbol, value_of};
 use crate::around::{begins_body, is_same, line_of, list_of, name_at};
+use crate::contexts::{BodyKind, counterpart};
 use crate::fields::{Field, object_of};
 use crate::objects::{Object, Objects};
 use crate::reports::FileNames;
@@ -13,15 +14,17 @@ use crate::sentence::Texts;
 use crate::wanted::{Wanted, raised_by, takes_caller, wanted_at};
 use crate::words::{Word, say};
 use fmp_base::{Name, Service};
-use fmp_lex::{Api, Constant, Symbol, TokenKind, Tokens};
+use fmp_lex::{Api, Constant, Keyword, Symbol, TokenKind, Tokens};
 use std::alloc::{AllocError, Global};
 
-/// Of so many arguments of calls is warned at most.
-const ARGUMENTS: u32 = 100;
+/// Of so many calls and arguments is warned at most.
+const CALLS: u32 = 100;
 
 /// A call that is walked over.
 #[derive(Clone, Copy)]
 struct Walk {
+    /// The kind of the body that it stands in.
+    body: Option<BodyKind>,
     service: Option<Service>,
     /// How many parentheses are open in it.
     open: usize,
@@ -33,10 +36,15 @@ impl Walk {
     /// The walk behind a token.
     fn behind(self, kind: TokenKind) -> Walk {
         match kind {
+            TokenKind::Keyword(Keyword::Task | Keyword::Handler) => Walk {
+                body: BodyKind::begun_by(kind),
+                ..self
+            },
             TokenKind::Service(service) => Walk {
                 service: Some(service),
                 open: 0,
                 argument: 0,
+                ..self
             },
             TokenKind::Symbol(Symbol::LeftParen) => Walk {
                 open: self.open.saturating_add(1),
@@ -58,6 +66,19 @@ impl Walk {
         }
     }
 
+    /// The call of this token, where the body that it stands in may never make it.
+    fn barred(self, kind: TokenKind) -> Option<BarredCall> {
+        let TokenKind::Service(service) = kind else {
+            return None;
+        };
+        let body = self.body?;
+        if body.bars(service) {
+            Some(BarredCall { service, body })
+        } else {
+            None
+        }
+    }
+
     /// The argument that begins behind this token at a place, where it is not to be just any number.
     fn argument_behind(self, at: usize, kind: TokenKind) -> Option<Argument> {
         let service = match kind {
@@ -70,6 +91,13 @@ impl Walk {
             wanted: wanted_at(service, self.argument)?,
         })
     }
+}
+
+/// A call that bodies of this kind may never make.
+#[derive(Clone, Copy)]
+struct BarredCall {
+    service: Service,
+    body: BodyKind,
 }
 
 /// An argument of a call: the place of its first token, the call, and what the call takes there.
@@ -121,7 +149,7 @@ struct Warnings {
     signals_any: bool,
     /// Whether some call sets a flag that is not given by its name.
     sets_any: bool,
-    /// Of how many arguments more is warned.
+    /// Of how many calls and arguments more is warned.
     room: u32,
 }
 
@@ -197,7 +225,48 @@ fn say_wanted(argument: Argument, out: &mut Vec<u8>) -> Result<(), AllocError>
     )
 }
 
+/// Says what such a call answers, and which one does the same there.
+fn say_barred(barred: BarredCall, out: &mut Vec<u8>) -> Result<(), AllocError>
+    ensures { OnOk result (IsSaid out.old.items out.new.items) }
+{
+    let answer = [
+        Word::Quoted(barred.service.name()),
+        Word::Text(" answers E_CTX in "),
+        Word::Text(barred.body.called()),
+    ];
+    say(&answer, out)?;
+    match counterpart(barred.service) {
+        Some(other) => say(
+            &[
+                Word::Text("; there it is "),
+                Word::Quoted(other.name()),
+                Word::Text("\n"),
+            ],
+            out,
+        ),
+        None => say(&[Word::Text("\n")], out),
+    }
+}
+
 impl Warnings {
+    /// Warns of a call that its body may never make, where there is room.
+    fn warn_of_call(
+        &mut self,
+        name: &str,
+        line: Option<u32>,
+        barred: BarredCall,
+        out: &mut Vec<u8>,
+    ) -> Result<(), AllocError>
+        ensures { OnOk result (0 < self.old.room → IsSaid out.old.items out.new.items) }
+    {
+        if self.room == 0 {
+            return Ok(());
+        }
+        self.room -= 1;
+        begin(name, line, out)?;
+        say_barred(barred, out)
+    }
+
     /// Warns of an argument, where there is room.
     fn warn(
         &mut self,
@@ -286,6 +355,7 @@ impl Warnings {
         out: &mut Vec<u8>,
     ) -> Result<(), AllocError> {
         let mut walk = Walk {
+            body: None,
             service: None,
             open: 0,
             argument: 0,
@@ -294,6 +364,9 @@ impl Warnings {
             if let Some(kind) = tokens.kind(at) {
                 self.note_name(tokens, at, kind);
                 walk = walk.behind(kind);
+                if let Some(barred) = walk.barred(kind) {
+                    self.warn_of_call(name, line_of(tokens, at), barred, out)?;
+                }
                 if let Some(argument) = walk.argument_behind(at, kind) {
                     if let Some(wrong) = self.wrong(tokens, argument) {
                         self.warn(name, tokens, argument, wrong, out)?;
@@ -411,7 +484,7 @@ impl Warnings {
             objects: Objects::of(alloc, cfg)?,
             signals_any: false,
             sets_any: false,
-            room: ARGUMENTS,
+            room: CALLS,
         })
     }
 
@@ -444,7 +517,7 @@ fn warnings_on(
 }
 
 /// The warnings of two texts that have no fault, a line each: those of the task text in order of text, first of at
-/// most 100 arguments of its calls and then of its bodies, and those of the objects of the configuration. `AllocError`
+/// most 100 of its calls and their arguments and then of its bodies, and those of the objects of the configuration. `AllocError`
 /// for want of memory.
 pub fn warnings_of(
     alloc: Global,
