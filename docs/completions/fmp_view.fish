@@ -1,10 +1,10 @@
 # Completion of fmp_view for fish. Made by checks/manual.py from the program's help.
 complete -c fmp_view -f -n __fish_use_subcommand -a code -d 'Says what a code means, when it comes, and an example'
-complete -c fmp_view -f -n __fish_use_subcommand -a fault -d 'Shows the fault of two texts: its line, what is wrong there and what was expected; or their warnings'
+complete -c fmp_view -f -n __fish_use_subcommand -a fault -d 'Shows the fault of two texts and what was expected there; else their warnings, if any'
 complete -c fmp_view -f -n __fish_use_subcommand -a drive -d 'Prints a steps text that runs a system until it is quiet, or so many events are done'
-complete -c fmp_view -f -n __fish_use_subcommand -a stats -d 'Prints for each task of a run its starts, calls, waits, time-outs, preemptions and share'
+complete -c fmp_view -f -n __fish_use_subcommand -a stats -d 'Prints a table of what each task of a run did, with its share of the events'
 complete -c fmp_view -f -n __fish_use_subcommand -a waves -d 'Writes a run as a value change dump, which waveform viewers show'
-complete -c fmp_view -f -n __fish_use_subcommand -a timeline -d 'Writes a run as a picture, which browsers show: states between events, calls, and who did what to whom'
+complete -c fmp_view -f -n __fish_use_subcommand -a timeline -d 'Writes a run as a picture for browsers: states, calls, and who did what to whom'
 complete -c fmp_view -n '__fish_use_subcommand' -s h -l help -d 'Print help'
 complete -c fmp_view -n '__fish_use_subcommand' -s V -l version -d 'Print version'
 complete -c fmp_view -n '__fish_seen_subcommand_from code' -s h -l help -d 'Print help'

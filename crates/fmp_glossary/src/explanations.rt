@@ -56,7 +56,7 @@ impl Topic {
                 "A static API has attributes that are not for its kind of object.",
             Topic::Reply(Er::Par) =>
                 "A value is out of its range: a priority, a time limit, a pattern, a mode, a size.",
-            Topic::Reply(Er::Id) => "There is no object, or no processor, of this number.",
+            Topic::Reply(Er::Id) => "There is no object of this number.",
             Topic::Reply(Er::Ctx) =>
                 "Not allowed here: by a handler, under a lock, or, where it waits, with dispatching disabled.",
             Topic::Reply(Er::Iluse) =>
@@ -74,8 +74,7 @@ impl Topic {
             Topic::TwiceNamed => "An object, a body or a variable has the name of one before it.",
             Topic::UnknownName => "A name is used that nothing has.",
             Topic::Refused => "An API refuses its values, with the error code behind B4.",
-            Topic::Limit =>
-                "A number, a name, a text, a nesting or a count is greater than the limit.",
+            Topic::Limit => "A number, a name, a text, a nesting or a count is out of its limits.",
             Topic::StackTooSmall => "The stack of a task does not hold the operands of its body.",
             Topic::WrongEntryKind => "A task names a handler as its entry, or a handler a task.",
             Topic::ImageShort => "A field ends past the end of the bytes.",

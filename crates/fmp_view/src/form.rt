@@ -11,17 +11,18 @@ a run as a table, as a waveform or as a picture.";
 /// An example, and what the program's answers mean.
 const EXAMPLE_AND_STATUS: &str = "Example, with the image of the example of 'fmp build --help':
   fmp_view code E_PAR
-  fmp_view fault queue.cfg queue.src
-  fmp_view drive queue.img --events 20 > queue.steps
-  fmp_view stats queue.img queue.steps
-  fmp_view waves queue.img queue.steps queue.vcd
-  fmp_view timeline queue.img queue.steps queue.svg
+  fmp_view fault examples/queue.cfg examples/queue.src
+  fmp_view drive queue.img --events 20 > drive.steps
+  fmp_view stats queue.img drive.steps
+  fmp_view waves queue.img drive.steps queue.vcd
+  fmp_view timeline queue.img drive.steps queue.svg
 
 Status, and the line on standard error with it:
   0        done; help or the version was asked for
-  1        a fault of what was read: 'image: L2', 'steps:4: S1'; that which 'fault' prints
+  1        a fault of what was read: 'image: L2', 'steps:4: S1'; with 'fault', which prints it
+           on standard output, a fault of the texts, and not for warnings
   2        a mistake in the command line; a word that is no code; OUT is a file that is read;
-           a picture with no event, or with more than 40,000,000 bytes
+           a picture that begins behind the last event, or has more than 40,000,000 bytes
   3        'file: NAME', a file could not be read or written ('-' is standard output); 'memory'";
 
 /// What a steps text is.
@@ -31,8 +32,8 @@ const STEPS: &str = "Text of the events, one a line, as 'fmp sim' reads it";
 const EVENTS: &str = "How many events are done at most, 0 to 2^20";
 
 /// What a seed is.
-const SEED: &str = "Order at random by this number, with ticks and the system's interrupts between;
-without it the processors run in turn, and the clock ticks where all of them are idle";
+const SEED: &str = "Order of processors at random by this number, with ticks and interrupts between;
+without it they run in turn, and the clock ticks where all are idle";
 
 /// What a bound is.
 const BOUND: &str = "How many instructions a body may take up to its next service call, 1 to 2^48;
@@ -42,9 +43,8 @@ a step that would take more does nothing";
 const FROM: &str = "First event that is drawn, 0 to 2^20; setup is 0";
 
 /// What the last event of a picture is.
-const TO: &str =
-    "Last event that is drawn, 0 to 2^20; without it the last of the run. At most 10,000 events
-are drawn";
+const TO: &str = "Last event that is drawn, 0 to 2^20; without it the last of the run.
+At most 10,000 events are drawn";
 
 /// The largest bound, 2^48.
 pub const BOUND_MAX: u64 = 281_474_976_710_656;
@@ -113,7 +113,7 @@ fn drive_command<'a>(alloc: Global) -> Result<Command<'a>, AllocError> {
 
 fn stats_command<'a>(alloc: Global) -> Result<Command<'a>, AllocError> {
     let command = Command::new(alloc, "stats").about(
-        "Prints for each task of a run its starts, calls, waits, time-outs, preemptions and share",
+        "Prints a table of what each task of a run did, with its share of the events",
     );
     of_run(alloc, command)
 }
@@ -129,7 +129,7 @@ pub fn waves_command<'a>(alloc: Global) -> Result<Command<'a>, AllocError> {
 /// The command `timeline`.
 pub fn timeline_command<'a>(alloc: Global) -> Result<Command<'a>, AllocError> {
     let command = Command::new(alloc, "timeline").about(
-        "Writes a run as a picture, which browsers show: states between events, calls, and who did what to whom",
+        "Writes a run as a picture for browsers: states, calls, and who did what to whom",
     );
     let command = of_run(alloc, command)?;
     let command = command.arg(word(alloc, "OUT", "File that the picture, an SVG, is written to"))?;
@@ -146,7 +146,7 @@ pub fn timeline_command<'a>(alloc: Global) -> Result<Command<'a>, AllocError> {
 
 fn fault_command<'a>(alloc: Global) -> Result<Command<'a>, AllocError> {
     let command = Command::new(alloc, "fault").about(
-        "Shows the fault of two texts: its line, what is wrong there and what was expected; or their warnings",
+        "Shows the fault of two texts and what was expected there; else their warnings, if any",
     );
     let command = command.arg(word(alloc, "CFG", "Configuration, as 'fmp check' reads it"))?;
     command.arg(word(alloc, "SRC", "Bodies of its tasks and handlers"))
