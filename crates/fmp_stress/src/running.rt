@@ -154,6 +154,19 @@ fn told(alloc: Global, hosted: &Hosted, timed: bool) -> Result<String, Exit> {
     }
 }
 
+/// Writes what came of a board: what is to be printed.
+fn write_all<O: Outside>(
+    alloc: Global,
+    outside: &mut O,
+    asked: &Asked,
+    hosted: &Hosted,
+) -> Result<String, Exit> {
+    let journal = asked.journal.as_str();
+    write_steps(alloc, outside, journal, &hosted.journal)?;
+    write_followed(alloc, outside, journal, &hosted.teams, asked.plan.followers)?;
+    told(alloc, hosted, asked.timed)
+}
+
 /// Hosts an image and writes what came of it: what is to be printed.
 fn carry_out<O: Outside, R: Threads + Wait + Clock + Sync>(
     rt: &R,
@@ -163,10 +176,7 @@ fn carry_out<O: Outside, R: Threads + Wait + Clock + Sync>(
 ) -> Result<String, Exit> {
     let image = read_image(alloc, outside, asked.image.as_str())?;
     let hosted = host(rt, alloc, &image, &asked.plan)?;
-    let journal = asked.journal.as_str();
-    write_steps(alloc, outside, journal, &hosted.journal)?;
-    write_followed(alloc, outside, journal, &hosted.teams, asked.plan.followers)?;
-    told(alloc, &hosted, asked.timed)
+    write_all(alloc, outside, asked, &hosted)
 }
 
 /// The same words, borrowed.

@@ -25,7 +25,7 @@ pub struct Run {
 }
 
 /// What is drawn of a run.
-#[derive(Clone, Copy, Debug, PartialEq, Eq)]
+#[derive(Clone, Copy)]
 pub struct Drawing {
     /// The events.
     pub choice: Choice,

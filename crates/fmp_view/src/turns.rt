@@ -7,7 +7,7 @@ use std::alloc::{AllocError, Global};
 
 /// A turn of a processor that does nothing: nothing runs there, or what runs asks in vain for a spin lock or exceeds
 /// its bound.
-#[derive(Clone, Copy, Debug, PartialEq, Eq)]
+#[derive(Clone, Copy, PartialEq, Eq)]
 pub struct IdleTurn {
     /// The last event before it.
     pub event: u32,

@@ -1,7 +1,7 @@
 //! The variables of a dump.
 
 /// An object for which tasks can wait, by its place.
-#[derive(Clone, Copy, Debug, PartialEq, Eq)]
+#[derive(Clone, Copy)]
 pub enum Object {
     Semaphore(usize),
     Flag(usize),
@@ -10,7 +10,7 @@ pub enum Object {
 }
 
 /// What a variable shows, of the processor, task, handler or object at its place.
-#[derive(Clone, Copy, Debug, PartialEq, Eq)]
+#[derive(Clone, Copy)]
 pub enum Variable {
     /// The clock.
     Clock,
