@@ -145,10 +145,10 @@ impl Objects {
         alloc: Global,
         topic: Topic,
         order: QueueOrder,
-        (value, most): (i32, i32),
+        most: i32,
     ) -> Result<(), AllocError> {
         let now = ObjectShown {
-            value,
+            value: 0,
             start: 0,
             end: 0,
         };
@@ -179,14 +179,14 @@ impl Objects {
 
     fn add_all(&mut self, alloc: Global, sys: &System) -> Result<(), AllocError> {
         for (i, config) in (0u8..255).zip(sys.semaphores.as_slice()) {
-            self.add(alloc, Topic::Semaphore(i), config.order, (0, 0))?;
+            self.add(alloc, Topic::Semaphore(i), config.order, 0)?;
         }
         for (i, config) in (0u8..255).zip(sys.flags.as_slice()) {
-            self.add(alloc, Topic::Flag(i), config.order, (0, 0))?;
+            self.add(alloc, Topic::Flag(i), config.order, 0)?;
         }
         self.add_queues(alloc, sys)?;
         for (i, _) in (0u8..255).zip(sys.shared_words.as_slice()) {
-            self.add(alloc, Topic::SharedWord(i), QueueOrder::Fifo, (0, 0))?;
+            self.add(alloc, Topic::SharedWord(i), QueueOrder::Fifo, 0)?;
         }
         Ok(())
     }
@@ -194,10 +194,10 @@ impl Objects {
     fn add_queues(&mut self, alloc: Global, sys: &System) -> Result<(), AllocError> {
         for (i, config) in (0u8..255).zip(sys.data_queues.as_slice()) {
             let most = i32::from(config.capacity);
-            self.add(alloc, Topic::DataQueue(i), config.order, (0, most))?;
+            self.add(alloc, Topic::DataQueue(i), config.order, most)?;
         }
         for (i, config) in (0u8..255).zip(sys.mailboxes.as_slice()) {
-            self.add(alloc, Topic::Mailbox(i), config.order, (0, i32::MAX))?;
+            self.add(alloc, Topic::Mailbox(i), config.order, i32::MAX)?;
         }
         Ok(())
     }

@@ -2,6 +2,7 @@
 use crate::marks::Migration;
 use crate::run::{Note, Run};
 use crate::states::{Moment, handling_of, occupant_of};
+use crate::tracks::Track;
 use fmp_base::{Handler, Line};
 use std::alloc::{AllocError, Global};
 
@@ -19,18 +20,30 @@ fn note(moment: &Moment<'_>, end: usize) -> Note {
     }
 }
 
+/// Shows the state after an event at a place of these tracks.
+fn show_at<S: Copy + PartialEq + Drop>(
+    tracks: &mut [Track<S>],
+    place: usize,
+    event: u32,
+    state: S,
+) -> Result<(), AllocError> {
+    match tracks.get_mut(place) {
+        Some(track) => track.show(event, state),
+        None => Ok(()),
+    }
+}
+
 impl Run {
     /// Keeps which tasks are assigned to another processor than before.
     fn take_migrations(&mut self, event: u32, moment: &Moment<'_>) -> Result<(), AllocError> {
-        let both = self.tasks.iter().zip(moment.states);
-        for (task, (track, state)) in (0u8..255).zip(both) {
-            if let Some(before) = track.last()
-                && before.processor != state.processor
+        for (task, state) in (0u8..255).zip(moment.states) {
+            if let Some(from) = self.processor_of(task)
+                && from != state.processor
             {
                 self.migrations.push(Migration {
                     event,
                     task,
-                    from: before.processor,
+                    from,
                     to: state.processor,
                 })?;
             }
@@ -39,8 +52,8 @@ impl Run {
     }
 
     fn show_tasks(&mut self, event: u32, moment: &Moment<'_>) -> Result<(), AllocError> {
-        for (track, shown) in self.tasks.iter_mut().zip(moment.tasks) {
-            track.show(event, *shown)?;
+        for (place, shown) in moment.tasks.iter().enumerate() {
+            show_at(&mut self.tasks, place, event, *shown)?;
         }
         for (priority, state) in self.priorities.iter_mut().zip(moment.states) {
             *priority = state.priority;
@@ -49,28 +62,22 @@ impl Run {
     }
 
     fn show_processors(&mut self, event: u32, moment: &Moment<'_>) -> Result<(), AllocError> {
-        for (track, x) in self.occupants.iter_mut().zip(moment.processors) {
-            track.show(event, occupant_of(x))?;
-        }
-        for (track, x) in self.locks.iter_mut().zip(moment.processors) {
-            track.show(event, x.lock)?;
-        }
-        for (track, x) in self.dispatches.iter_mut().zip(moment.processors) {
-            track.show(event, !x.dispatch_disabled)?;
+        for (place, x) in moment.processors.iter().enumerate() {
+            show_at(&mut self.occupants, place, event, occupant_of(x))?;
+            show_at(&mut self.locks, place, event, x.lock)?;
+            show_at(&mut self.dispatches, place, event, !x.dispatch_disabled)?;
         }
         Ok(())
     }
 
     fn show_handlers(&mut self, event: u32, moment: &Moment<'_>) -> Result<(), AllocError> {
-        let rows = self.cyclics.iter_mut().zip(moment.pending_cyclics);
-        for (place, (track, pends)) in (0u8..255).zip(rows) {
-            let handler = Handler::Cyclic(place);
-            track.show(event, handling_of(handler, *pends, moment.processors))?;
+        for (place, pends) in (0u8..255).zip(moment.pending_cyclics) {
+            let shown = handling_of(Handler::Cyclic(place), *pends, moment.processors);
+            show_at(&mut self.cyclics, usize::from(place), event, shown)?;
         }
-        let rows = self.interrupts.iter_mut().zip(moment.pending_interrupts);
-        for (place, (track, pends)) in (0u8..32).zip(rows) {
-            let handler = Handler::Interrupt(place);
-            track.show(event, handling_of(handler, *pends, moment.processors))?;
+        for (place, pends) in (0u8..32).zip(moment.pending_interrupts) {
+            let shown = handling_of(Handler::Interrupt(place), *pends, moment.processors);
+            show_at(&mut self.interrupts, usize::from(place), event, shown)?;
         }
         Ok(())
     }

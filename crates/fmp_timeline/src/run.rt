@@ -197,12 +197,18 @@ impl Run {
         }
     }
 
+    /// The place of the processor that a task is assigned to after the last event.
+    pub fn processor_of(&self, task: u8) -> Option<u8> {
+        Some(self.tasks.get(usize::from(task))?.last()?.processor)
+    }
+
     /// Whether a task is assigned to another processor than before.
     fn is_moved(&self, task: u8, moment: &Moment<'_>) -> bool {
-        let place = usize::from(task);
-        let before = self.tasks.get(place).and_then(|track| track.last());
-        match (before, moment.states.get(place)) {
-            (Some(before), Some(after)) => before.processor != after.processor,
+        match (
+            self.processor_of(task),
+            moment.states.get(usize::from(task)),
+        ) {
+            (Some(before), Some(after)) => before != after.processor,
             _ => false,
         }
     }

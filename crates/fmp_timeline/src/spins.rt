@@ -20,6 +20,25 @@ pub struct Spin {
     pub actor: Caller,
 }
 
+impl Spin {
+    /// Whether it is of a processor and lasts over one of these events.
+    fn meets(&self, processor: u8, first: u32, last: u32) -> bool {
+        let lasts = match self.to {
+            Some(to) => to > first,
+            None => true,
+        };
+        lasts && self.processor == processor && self.from <= last
+    }
+
+    fn stay(self) -> Stay<Spin> {
+        Stay {
+            from: self.from,
+            to: self.to,
+            state: self,
+        }
+    }
+}
+
 /// All such stretches of a run.
 #[derive(Drop)]
 pub struct Spins {
@@ -87,12 +106,16 @@ impl Spins {
         Ok(())
     }
 
+    /// The stretch of a processor that goes on.
+    fn open_at(&self, processor: u8) -> Option<Spin> {
+        *self.open.get(usize::from(processor))?
+    }
+
     /// Whether a stretch of a processor meets these events.
     pub fn meet(&self, processor: u8, first: u32, last: u32) -> bool {
-        let meets = |spin: &Spin| {
-            spin.processor == processor && spin.from <= last && spin.to.is_none_or(|to| to > first)
-        };
-        self.ended.iter().any(meets) || self.open.iter().flatten().any(meets)
+        let meets = |spin: &Spin| spin.meets(processor, first, last);
+        let open = self.open_at(processor);
+        self.ended.iter().any(meets) || open.as_ref().is_some_and(meets)
     }
 
     /// The stretches of a processor that meet a panel, in order.
@@ -103,15 +126,15 @@ impl Spins {
         span: &Span,
     ) -> Result<Vec<Stay<Spin>>, AllocError> {
         let mut mine = Vec::new(alloc);
-        for spin in self.ended.iter().chain(self.open.iter().flatten()) {
-            let meets = spin.from <= span.last && spin.to.is_none_or(|to| to > span.first);
-            if spin.processor == processor && meets {
-                mine.push(Stay {
-                    from: spin.from,
-                    to: spin.to,
-                    state: *spin,
-                })?;
+        for spin in &self.ended {
+            if spin.meets(processor, span.first, span.last) {
+                mine.push(spin.stay())?;
             }
+        }
+        if let Some(spin) = self.open_at(processor)
+            && spin.meets(processor, span.first, span.last)
+        {
+            mine.push(spin.stay())?;
         }
         Ok(mine)
     }
