@@ -1,3 +1,4 @@
 mod Entering
 mod Given
+mod Growing
 mod Rows

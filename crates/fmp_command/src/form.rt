@@ -171,24 +171,28 @@ fn named<'a>(alloc: Global, name: &'a str, about: &'a str, example: &'a str) -> 
     Command::new(alloc, name).about(about).after_help(example)
 }
 
-/// A command with one more argument.
-fn with_argument<'a>(command: Command<'a>, argument: Arg<'a>) -> Result<Command<'a>, AllocError>
+/// A command with one more argument, where there was memory for the command.
+fn with_argument<'a>(
+    command: Result<Command<'a>, AllocError>,
+    argument: Arg<'a>,
+) -> Result<Command<'a>, AllocError>
     requires { IsFalse argument.global }
-    ensures { IfOk result (λ c. app_of c ≡ with_rule (app_of command.entry) (rule_of argument.entry)) }
+    ensures { IfOk result (λ c. IsOkAnd command.entry (λ b.
+        app_of c ≡ with_rule (app_of b) (rule_of argument.entry))) }
 {
-    command.arg(argument)
+    command?.arg(argument)
 }
 
-/// A command with one more subcommand, where there was memory for that.
+/// A command with one more subcommand, where there was memory for both.
 fn with_command<'a>(
-    command: Command<'a>,
+    command: Result<Command<'a>, AllocError>,
     subcommand: Result<Command<'a>, AllocError>,
 ) -> Result<Command<'a>, AllocError>
     requires { IfOk subcommand (λ s. (app_of s).top.is_plain ≡ true) }
-    ensures { IfOk result (λ c. IsOkAnd subcommand.entry (λ s.
-        app_of c ≡ with_subcommand (app_of command.entry) (app_of s).top)) }
+    ensures { IfOk result (λ c. IsOkAnd command.entry (λ b. IsOkAnd subcommand.entry (λ s.
+        app_of c ≡ with_subcommand (app_of b) (app_of s).top))) }
 {
-    command.subcommand(subcommand?)
+    command?.subcommand(subcommand?)
 }
 
 fn check_command<'a>(alloc: Global) -> Result<Command<'a>, AllocError>
@@ -200,7 +204,7 @@ fn check_command<'a>(alloc: Global) -> Result<Command<'a>, AllocError>
         "Checks the two texts of a system: prints 'ok', or the first fault with its line",
         CHECK_EXAMPLE,
     );
-    let command = with_argument(command, config_word(alloc))?;
+    let command = with_argument(Ok(command), config_word(alloc));
     with_argument(command, tasks_word(alloc))
 }
 
@@ -214,8 +218,8 @@ pub fn build_command<'a>(alloc: Global) -> Result<Command<'a>, AllocError>
         "Compiles the two texts of a system into an image: prints 'ok' and its number of bytes",
         BUILD_EXAMPLE,
     );
-    let command = with_argument(command, config_word(alloc))?;
-    let command = with_argument(command, tasks_word(alloc))?;
+    let command = with_argument(Ok(command), config_word(alloc));
+    let command = with_argument(command, tasks_word(alloc));
     with_argument(
         command,
         file_word(alloc, "OUT", "File that the image is written to"),
@@ -231,8 +235,8 @@ fn sim_command<'a>(alloc: Global) -> Result<Command<'a>, AllocError>
         "Runs an image over a list of events: prints what happens, and how the tasks stand then",
         SIM_EXAMPLE,
     );
-    let command = with_argument(command, image_word(alloc))?;
-    let command = with_argument(command, file_word(alloc, "STEPS", STEPS))?;
+    let command = with_argument(Ok(command), image_word(alloc));
+    let command = with_argument(command, file_word(alloc, "STEPS", STEPS));
     with_argument(command, bound_option(alloc))
 }
 
@@ -246,10 +250,10 @@ pub fn host_command<'a>(alloc: Global) -> Result<Command<'a>, AllocError>
         "Runs an image by threads, one a processor: writes the events, and prints what happened",
         HOST_EXAMPLE,
     );
-    let command = with_argument(command, image_word(alloc))?;
-    let command = with_argument(command, file_word(alloc, "JOURNAL", JOURNAL))?;
-    let command = with_argument(command, count_option(alloc, "turns", "T", TURNS))?;
-    let command = with_argument(command, count_option(alloc, "ticks", "K", TICKS))?;
+    let command = with_argument(Ok(command), image_word(alloc));
+    let command = with_argument(command, file_word(alloc, "JOURNAL", JOURNAL));
+    let command = with_argument(command, count_option(alloc, "turns", "T", TURNS));
+    let command = with_argument(command, count_option(alloc, "ticks", "K", TICKS));
     with_argument(command, bound_option(alloc))
 }
 
@@ -268,8 +272,8 @@ fn bare<'a>(alloc: Global) -> Command<'a>
 pub fn program<'a>(alloc: Global) -> Result<Command<'a>, AllocError>
     ensures { IfOk result (λ c. app_of c ≡ fmp) }
 {
-    let program = with_command(bare(alloc), check_command(alloc))?;
-    let program = with_command(program, build_command(alloc))?;
-    let program = with_command(program, sim_command(alloc))?;
+    let program = with_command(Ok(bare(alloc)), check_command(alloc));
+    let program = with_command(program, build_command(alloc));
+    let program = with_command(program, sim_command(alloc));
     with_command(program, host_command(alloc))
 }
