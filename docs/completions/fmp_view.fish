@@ -10,7 +10,7 @@ complete -c fmp_view -n '__fish_use_subcommand' -s V -l version -d 'Print versio
 complete -c fmp_view -n '__fish_seen_subcommand_from code' -s h -l help -d 'Print help'
 complete -c fmp_view -n '__fish_seen_subcommand_from fault' -s h -l help -d 'Print help'
 complete -c fmp_view -n '__fish_seen_subcommand_from drive' -l events -x -d 'How many events are done at most, 0 to 2^20 [default: 1000]'
-complete -c fmp_view -n '__fish_seen_subcommand_from drive' -l seed -x -d 'Order at random by this number, with ticks and the system'\''s interrupts between; without it the processors run in turn, and the clock ticks where all of them are idle'
+complete -c fmp_view -n '__fish_seen_subcommand_from drive' -l seed -x -d 'Order of processors at random by this number, with ticks and interrupts between; without it they run in turn, and the clock ticks where all are idle'
 complete -c fmp_view -n '__fish_seen_subcommand_from drive' -l bound -x -d 'How many instructions a body may take up to its next service call, 1 to 2^48; a step that would take more does nothing [default: 100000]'
 complete -c fmp_view -n '__fish_seen_subcommand_from drive' -s h -l help -d 'Print help'
 complete -c fmp_view -n '__fish_seen_subcommand_from stats' -l bound -x -d 'How many instructions a body may take up to its next service call, 1 to 2^48; a step that would take more does nothing [default: 100000]'
