@@ -1,5 +1,5 @@
 -- Bodies and variables are judged one after another.
-use Rattle.std.proofs.Common.{◌≡◌, ℕ, zero, suc, ◌+◌, ◌<◌, ◌≤◌, List, [], ◌∷◌, ◌++◌, Option, Some, None, Err, length, slice_get, take, drop, get_or, map, refl, sym, ap, ◌∙◌, subst, arith, drop-cons}
+use Rattle.std.proofs.Common.{◌≡◌, ℕ, zero, suc, ◌+◌, ◌<◌, ◌≤◌, List, [], ◌∷◌, ◌++◌, Option, Some, None, Err, length, slice_get, take, drop, get_or, map, refl, sym, ap, ◌∙◌, subst, arith, drop-cons, append_assoc}
 use Rattle.std.proofs.lemmas.List.{take_more}
 use Rattle.fmp_base.specs.declared.names.Name.{Name}
 use Rattle.fmp_base.specs.Systems.{SystemTables}
@@ -17,7 +17,7 @@ use Rattle.fmp_code.specs.Verify.{Verified}
 use Rattle.fmp_codegen.specs.declared.offences.Offence.{Offence}
 use Rattle.fmp_tasklang.specs.CallForms.{CallsFit}
 use Rattle.fmp_codegen.specs.declared.entries.EntryUse.{EntryUse}
-use Rattle.fmp_codegen.specs.Compiling.{body_offence, bodies_offence, compiled, IsAccepted, IsCompiled}
+use Rattle.fmp_codegen.specs.Compiling.{body_offence, bodies_offence, compiled, compiled_body, IsAccepted, IsCompiled}
 use Rattle.fmp_codegen.specs.Entries.{at_token, body_place, entry_fault, entries_offence, IsChecked}
 use Rattle.fmp_codegen.specs.Laws.{DoesText}
 use Rattle.fmp_codegen.specs.Naming.{fault_in, first_offence}
@@ -25,7 +25,7 @@ use Rattle.fmp_codegen.proofs.Bodies.{does_text}
 use Rattle.fmp_codegen.proofs.Loops.{drop-all, map-step}
 use Rattle.fmp_codegen.proofs.VerifiedBodies.{is_verified}
 
-map-append : {A B : Type 0} (f : A → B) (xs ys : List A) → map f (xs ++ ys) ≡ map f xs ++ map f ys
+pub map-append : {A B : Type 0} (f : A → B) (xs ys : List A) → map f (xs ++ ys) ≡ map f xs ++ map f ys
 map-append f [] ys = refl
 map-append f (x ∷ xs) ys = ap (λ zs. f x ∷ zs) (map-append f xs ys)
 
@@ -59,6 +59,17 @@ module _ (tables : SystemTables) (bodies : List Body) (i : ℕ) (b : Body) (with
   -- the first body with a fault
   pub judged-here : (o : Offence) → Some o ≡ body_offence tables (names_before i) (body_view b) → judged i ≡ whole → whole ≡ Some o
   judged-here o h before = sym before ∙ unrolled ∙ ap (λ x. first_offence x (judged (i + 1))) (sym h)
+
+-- one more body is compiled
+pub compiled-on :
+    (tables : SystemTables) (bodies : List Body) (i : ℕ) (b : Body) → i < length bodies → b ≡ get_or bodies i b →
+    (code grown : List BodyTables) (c : BodyTables) (whole : List BodyTables) → grown ≡ code ++ c ∷ [] → c ≡ compiled_body tables (body_view b) →
+    code ++ compiled tables (map body_view (drop i bodies)) ≡ whole → grown ++ compiled tables (map body_view (drop (i + 1) bodies)) ≡ whole
+compiled-on tables bodies i b within is code grown c whole grows made before =
+    let rest = compiled tables (map body_view (drop (i + 1) bodies)) in
+    let joined : (code ++ c ∷ []) ++ rest ≡ code ++ c ∷ rest = append_assoc code (c ∷ []) rest in
+    ap (λ (cs : List BodyTables). cs ++ rest) grows ∙ joined ∙ ap (λ (x : BodyTables). code ++ x ∷ rest) made
+    ∙ sym (ap (λ bs. code ++ compiled tables bs) (map-step body_view bodies i b within is)) ∙ before
 
 pub code-tied :
     (tables : SystemTables) (bodies : List BodyTree) (code : List BodyTables) → IsAccepted tables bodies →

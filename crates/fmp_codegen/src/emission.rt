@@ -22,7 +22,7 @@ use fmp_tasklang::{Expression, Link, Operator, ServiceCall, Statement, Word};
 use std::alloc::AllocError;
 
 /// The code that is made so far, with the number of operands before each instruction.
-#[derive(Debug, Drop)]
+#[derive(Drop)]
 pub struct Output {
     pub instructions: Vec<Instruction>,
     pub depths: Vec<u8>,

@@ -9,7 +9,7 @@ ghost use Rattle.fmp_codegen.specs.Sizes.{expression_size, arguments_size, state
 use fmp_tasklang::{Expression, Link, Operator, Statement};
 
 /// The number of instructions of a tree, cut at 65536, and the number of operands that it needs, cut at 2^30.
-#[derive(Clone, Copy, Debug, PartialEq, Eq)]
+#[derive(Clone, Copy)]
 pub struct Extent {
     pub size: usize,
     pub depth: usize,

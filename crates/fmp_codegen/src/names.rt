@@ -153,7 +153,7 @@ fn object_in(objects: &Objects<'_>, name: &Name) -> Meaning
 }
 
 /// What a name means in a body.
-#[derive(Clone, Copy, Debug, PartialEq, Eq)]
+#[derive(Clone, Copy)]
 pub enum Meaning {
     /// A local variable, by its place among the locals.
     Variable(u8),

@@ -5,7 +5,7 @@ ghost use Rattle.fmp_codegen.specs.Naming.{fault_in};
 use fmp_lex::{BuildFault, FaultKind, TextFile, Tokens, offence_at};
 
 /// A fault of the task text and the place of its token in the list of tokens.
-#[derive(Clone, Copy, Debug, PartialEq, Eq)]
+#[derive(Clone, Copy)]
 pub struct Offence {
     pub at: u32,
     pub why: FaultKind,

@@ -33,7 +33,7 @@ pub struct CompiledText {
 }
 
 /// What is made of the bodies that are read so far: their code, or the first fault in them.
-#[derive(Debug, Drop)]
+#[derive(Drop)]
 pub struct Made {
     pub headings: Vec<Heading>,
     pub bodies: Vec<BodyCode>,

@@ -1,9 +1,9 @@
-use Rattle.std.proofs.Common.{rules, ◌≡◌, [], Some, ◌<◌, ◌≤◌, length, map, arith}
+use Rattle.std.proofs.Common.{rules, ◌≡◌, ◌∙◌, ◌++◌, ◌∷◌, [], None, Some, ◌<◌, ◌≤◌, length, map, take, ap, arith}
 use Rattle.fmp_base.specs.Systems.{tables_of}
 use Rattle.fmp_tasklang.specs.Views.{body_view, program_view}
 use Rattle.fmp_code.specs.Instructions.{body_tables}
-use Rattle.fmp_codegen.specs.Compiling.{bodies_offence}
-use Rattle.fmp_codegen.proofs.Judging.{compiled-stopped, judged-here, code-tied, code-verified, all-accepted, all-compiled}
+use Rattle.fmp_codegen.specs.Compiling.{bodies_offence, body_offence, compiled_body}
+use Rattle.fmp_codegen.proofs.Judging.{compiled-on, compiled-stopped, judged-here, judged-on, map-append, code-tied, code-verified, all-accepted, all-compiled}
 use Rattle.fmp_codegen.proofs.Limits.{few-viewed, low-bodies}
 use Rattle.fmp_codegen.proofs.compiling.compile.Goals as goal
 
@@ -49,3 +49,26 @@ returns-clause-low c =
     let bodies = c.args.program.now.bodies.items in
     let last : length bodies ≤ c.loop-i.i = omega (arith, c.loop-i-test.false) in
     low-bodies tables bodies (all-accepted tables bodies c.loop-i.i last c.loop-i.invariant.rest)
+
+pub returns-clause-compiled : goal.returns-clause-compiled
+returns-clause-compiled c =
+    let tables = tables_of c.args.system.now in
+    let bodies = c.args.program.now.bodies.items in
+    let last : length bodies ≤ c.loop-i.i = omega (arith, c.loop-i-test.false) in (
+      all-accepted tables bodies c.loop-i.i last c.loop-i.invariant.rest,
+      all-compiled tables bodies c.loop-i.i last (map body_tables c.loop-i.bodies.items) c.loop-i.invariant.code,
+    )
+
+pub loop-i-preserved : goal.loop-i-preserved
+loop-i-preserved c =
+    let tables = tables_of c.args.system.now in
+    let items = c.args.program.now.bodies.items in
+    let bodies = program_view c.args.program.now in
+    let code = c.in_ok-code-in-Ok.code in
+    let within : c.loop-i.i < length items = omega (arith, c.loop-i-test.true, c.len-i-end.ensures) in
+    let grows = ap (map body_tables) c.in_ok-append-in-Ok.ensures ∙ map-append body_tables c.loop-i.bodies.items (code ∷ []) in
+    record {
+      rest = judged-on tables items c.loop-i.i c.index-body.result.now within (search rules) (bodies_offence tables [] bodies) (search rules) c.loop-i.invariant.rest;
+      code = compiled-on tables items c.loop-i.i c.index-body.result.now within (search rules) (map body_tables c.loop-i.bodies.items) _ (body_tables code) _ grows
+          c.in_ok-code-in-Ok.ensures c.loop-i.invariant.code;
+    }
