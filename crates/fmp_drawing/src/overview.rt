@@ -111,10 +111,11 @@ fn put_parts(
     out: &mut Vec<u8>,
 ) -> Result<(), AllocError> {
     let mut from: Option<u32> = None;
-    for (bin, this) in (0..=bins.bins).zip(looks.iter().chain(&[LOOKS])) {
+    for bin in 0..=bins.bins {
+        let is_look = looks.get(bin as usize) == Some(&look);
         match from {
-            None if *this == look => from = Some(bin),
-            Some(start) if *this != look => {
+            None if is_look => from = Some(bin),
+            Some(start) if !is_look => {
                 let wide = bins.x(bin) - bins.x(start);
                 put(
                     &[Raw("M"), At(bins.x(start)), Raw(" "), Number(y), Raw("h")],

@@ -35,6 +35,46 @@ fn task_count(scene: &Scene<'_>) -> u32 {
     u32::try_from(scene.sys.tasks.len()).unwrap_or(u32::MAX)
 }
 
+/// The title and the description of the picture, for those who hear it read.
+fn put_description(scene: &Scene<'_>, name: &[u8], out: &mut Vec<u8>) -> Result<(), AllocError> {
+    put(
+        &[
+            Raw("<title id=\"title\">Timeline of "),
+            Text(name),
+            Raw(", events "),
+            Number(scene.page.first),
+            Raw(" to "),
+            Number(scene.page.last),
+        ],
+        out,
+    )?;
+    append("</title>\n<desc id=\"desc\">", out)?;
+    append_count(u32::from(scene.sys.processors), " processor", out)?;
+    append(", ", out)?;
+    append_count(task_count(scene), " task", out)?;
+    append(
+        ". The horizontal axis counts events of the simulator, not time; dashed vertical lines are ",
+        out,
+    )?;
+    append(
+        "clock ticks.\nEvery lane is a group that lists its states in order.</desc>\n",
+        out,
+    )
+}
+
+/// The style and the shapes of the picture.
+fn put_style(out: &mut Vec<u8>) -> Result<(), AllocError> {
+    put(&[Raw("<style>"), Raw(LIGHT)], out)?;
+    put(
+        &[
+            Raw("\n@media screen and (prefers-color-scheme:dark){"),
+            Raw(DARK),
+        ],
+        out,
+    )?;
+    put(&[Raw("}</style>\n"), Raw(SHAPES), Raw("\n")], out)
+}
+
 /// The first lines of the picture: its size, its title, its description, its style and its shapes.
 fn put_root(
     scene: &Scene<'_>,
@@ -63,43 +103,8 @@ fn put_root(
         "\" id=\"top\" role=\"graphics-document\"\naria-labelledby=\"title desc\" lang=\"en\">\n",
         out,
     )?;
-    put(
-        &[
-            Raw("<title id=\"title\">Timeline of "),
-            Text(name),
-            Raw(", events "),
-        ],
-        out,
-    )?;
-    put(
-        &[
-            Number(scene.page.first),
-            Raw(" to "),
-            Number(scene.page.last),
-        ],
-        out,
-    )?;
-    append("</title>\n<desc id=\"desc\">", out)?;
-    append_count(u32::from(scene.sys.processors), " processor", out)?;
-    append(", ", out)?;
-    append_count(task_count(scene), " task", out)?;
-    append(
-        ". The horizontal axis counts events of the simulator, not time; dashed vertical lines are ",
-        out,
-    )?;
-    append(
-        "clock ticks.\nEvery lane is a group that lists its states in order.</desc>\n",
-        out,
-    )?;
-    put(&[Raw("<style>"), Raw(LIGHT)], out)?;
-    put(
-        &[
-            Raw("\n@media screen and (prefers-color-scheme:dark){"),
-            Raw(DARK),
-        ],
-        out,
-    )?;
-    put(&[Raw("}</style>\n"), Raw(SHAPES), Raw("\n")], out)
+    put_description(scene, name, out)?;
+    put_style(out)
 }
 
 /// The title, and in small what is drawn.
