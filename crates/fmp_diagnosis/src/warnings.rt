@@ -248,13 +248,34 @@ fn say_barred(barred: BarredCall, out: &mut Vec<u8>) -> Result<(), AllocError>
     }
 }
 
+/// What is mostly a mistake at a call.
+#[derive(Clone, Copy)]
+enum Mistake {
+    /// Its body may never make it.
+    Barred(BarredCall),
+    /// It has this argument, which is wrong.
+    Argument(Argument, Wrong),
+}
+
+fn say_mistake(mistake: Mistake, out: &mut Vec<u8>) -> Result<(), AllocError>
+    ensures { OnOk result (IsSaid out.old.items out.new.items) }
+{
+    match mistake {
+        Mistake::Barred(barred) => say_barred(barred, out),
+        Mistake::Argument(argument, wrong) => {
+            say_wrong(wrong, out)?;
+            say_wanted(argument, out)
+        }
+    }
+}
+
 impl Warnings {
-    /// Warns of a call that its body may never make, where there is room.
-    fn warn_of_call(
+    /// Warns of a mistake at a call, where there is room.
+    fn warn(
         &mut self,
         name: &str,
         line: Option<u32>,
-        barred: BarredCall,
+        mistake: Mistake,
         out: &mut Vec<u8>,
     ) -> Result<(), AllocError>
         ensures { OnOk result (0 < self.old.room → IsSaid out.old.items out.new.items) }
@@ -264,27 +285,7 @@ impl Warnings {
         }
         self.room -= 1;
         begin(name, line, out)?;
-        say_barred(barred, out)
-    }
-
-    /// Warns of an argument, where there is room.
-    fn warn(
-        &mut self,
-        name: &str,
-        tokens: &Tokens<'_>,
-        argument: Argument,
-        wrong: Wrong,
-        out: &mut Vec<u8>,
-    ) -> Result<(), AllocError>
-        ensures { OnOk result (0 < self.old.room → IsSaid out.old.items out.new.items) }
-    {
-        if self.room == 0 {
-            return Ok(());
-        }
-        self.room -= 1;
-        begin(name, line_of(tokens, argument.at), out)?;
-        say_wrong(wrong, out)?;
-        say_wanted(argument, out)
+        say_mistake(mistake, out)
     }
 
     /// A call signals or sets an object that is not given by its name.
@@ -365,11 +366,13 @@ impl Warnings {
                 self.note_name(tokens, at, kind);
                 walk = walk.behind(kind);
                 if let Some(barred) = walk.barred(kind) {
-                    self.warn_of_call(name, line_of(tokens, at), barred, out)?;
+                    let line = line_of(tokens, at);
+                    self.warn(name, line, Mistake::Barred(barred), out)?;
                 }
                 if let Some(argument) = walk.argument_behind(at, kind) {
                     if let Some(wrong) = self.wrong(tokens, argument) {
-                        self.warn(name, tokens, argument, wrong, out)?;
+                        let line = line_of(tokens, argument.at);
+                        self.warn(name, line, Mistake::Argument(argument, wrong), out)?;
                     }
                 }
             }
@@ -517,8 +520,8 @@ fn warnings_on(
 }
 
 /// The warnings of two texts that have no fault, a line each: those of the task text in order of text, first of at
-/// most 100 of its calls and their arguments and then of its bodies, and those of the objects of the configuration. `AllocError`
-/// for want of memory.
+/// most 100 of its calls and their arguments and then of its bodies, and those of the objects of the configuration.
+/// `AllocError` for want of memory.
 pub fn warnings_of(
     alloc: Global,
     names: FileNames<'_>,
