@@ -45,7 +45,8 @@ pub trait Outside {
     fn print(&mut self, bytes: &[u8]) -> Result<(), WriteFault>
         ensures ok { OnOk result (Does (done self.old) (printed bytes.now ∷ []) (done self.new)) }
         ensures err { OnErr result (Begins printed bytes.now (done self.old) (done self.new)) }
-        ensures device { OnErr result (IsTrue (output_can_fail self.old)) };
+        ensures device { OnErr result (IsTrue (output_can_fail self.old)) }
+        ensures output { output_can_fail self.new ≡ output_can_fail self.old };
 
     /// Writes a text to standard error, as far as that goes.
     fn say<D: Display + Drop>(&mut self, text: D)
