@@ -1,4 +1,5 @@
 pub mod Built
 pub mod Hosting
+pub mod Outlets
 pub mod Plays
 pub mod Simulations

@@ -1,5 +1,5 @@
 -- What a simulation of an image over a steps text prints, or why it prints nothing.
-use Rattle.std.specs.Prelude.{◌≡◌, ◌++◌, ℕ, List, Ok, Err}
+use Rattle.std.specs.Prelude.{◌≡◌, ◌++◌, ℕ, List, [], Ok, Err}
 use Rattle.fmp_base.specs.declared.events.Event.{Event}
 use Rattle.fmp_base.specs.Finishes.{IsFinished}
 use Rattle.fmp_base.specs.Runs.{Trace, done_events}
@@ -14,8 +14,11 @@ use Rattle.fmp_tasklang.specs.Texts.{text_meaning}
 use Rattle.fmp_tasklang.specs.Trees.{BodyTree}
 use Rattle.fmp_trace.specs.declared.faults.StepsFault.{StepsFault}
 use Rattle.fmp_trace.specs.Steps.{steps_of}
+use Rattle.fmp_engine.specs.declared.fault.SimCut.{SimCut}
+use Rattle.fmp_engine.specs.declared.fault.SimCut.TheVariants as cut
 use Rattle.fmp_engine.specs.declared.fault.SimFault.{SimFault}
 use Rattle.fmp_engine.specs.declared.fault.SimFault.TheVariants as fault
+use Rattle.fmp_engine.specs.Outlets.{Given}
 
 -- The bytes spell an image, and the steps read as events. The text that was appended is all that the image prints over
 -- these events, within n instructions a stretch.
@@ -57,3 +60,17 @@ IsWhySim (fault.Load (load.Image f)) image steps = image_at image ≡ Err f
 IsWhySim (fault.Load load.Memory) image steps = ⊥
 IsWhySim (fault.Steps f) image steps = IsWhySteps f image steps
 IsWhySim fault.Memory image steps = Unit {0}
+
+-- An outlet was given the front of what a simulation of an image over a steps text prints, and this is left of it.
+pub record SimulatesInto {T : Type 0} (gave : T → T → List ℕ → Type 0) (image steps : List ℕ) (n : ℕ) (from to : T)
+    (left : List ℕ) : Type 0 where
+  pub text : List ℕ
+  pub simulated : Simulates image steps n [] text
+  pub given : Given gave from to left text
+
+-- why an outlet was not given all that a simulation prints: it was refused, or the outlet took no more
+abbrev pub IsWhySimCut : {T : Type 0} → (gave stopped : T → T → List ℕ → Type 0) → (image steps : List ℕ) → (n : ℕ)
+    → (from to : T) → SimCut → Type 0
+IsWhySimCut gave stopped image steps n from to (cut.Refused f) = IsWhySim f image steps × gave from to []
+IsWhySimCut gave stopped image steps n from to cut.Stopped =
+    (left : List ℕ) × SimulatesInto stopped image steps n from to left

@@ -16,3 +16,21 @@ pub enum SimFault {
     #[error("memory")]
     Memory,
 }
+
+/// Why a text that was to be given to an outlet was not given, or not to its end.
+#[derive(Clone, Copy, Debug, PartialEq, Eq)]
+pub enum Cut {
+    /// Memory ran out before the first piece.
+    Memory,
+    /// The outlet took no more.
+    Stopped,
+}
+
+/// Why an outlet was not given all that a simulation prints.
+#[derive(Clone, Copy, Debug, PartialEq, Eq)]
+pub enum SimCut {
+    /// The simulation was refused, and the outlet was given nothing.
+    Refused(SimFault),
+    /// The outlet took no more.
+    Stopped,
+}

@@ -5,10 +5,12 @@ mod building;
 mod events;
 mod fault;
 mod hosting;
+mod outlet;
 mod play;
 mod simulation;
 
 pub use building::{build_image, check};
-pub use fault::SimFault;
+pub use fault::{SimCut, SimFault};
 pub use hosting::{HostFault, Workload, host};
-pub use simulation::sim;
+pub use outlet::{Outlet, Stopped};
+pub use simulation::{sim, sim_into};

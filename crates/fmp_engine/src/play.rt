@@ -1,117 +1,236 @@
 //! A run of a system on the kernel, and its text.
 
-ghost use Rattle.std.specs.Prelude.{◌≡◌, ℕ, ◌+◌, ◌++◌, ◌<◌, ◌≤◌, ◌^◌, length, map, OnOk, OnErr, IfOk};
+ghost use Rattle.std.specs.Prelude.{◌≡◌, ℕ, [], ◌+◌, ◌++◌, ◌<◌, ◌≤◌, ◌^◌, length, map, OnOk, OnErr, IfErr, vec_capacity, vec_len};
 ghost use Rattle.fmp_base.specs.Ranges.{IsInRange};
 ghost use Rattle.fmp_base.specs.Runs.{task_state};
 ghost use Rattle.fmp_base.specs.Setups.{setup};
 ghost use Rattle.fmp_base.specs.States.{places_from};
 ghost use Rattle.fmp_base.specs.Systems.{tables_of};
-ghost use Rattle.fmp_base.specs.Texts.{whole_text};
+ghost use Rattle.fmp_base.specs.Texts.{states_text, whole_text};
 ghost use Rattle.fmp_kernel.specs.Contexts.{Entered};
 ghost use Rattle.fmp_kernel.specs.KernelViews.{view_of_setup};
-ghost use Rattle.fmp_trace.specs.Fronts.{Begins};
-ghost use Rattle.fmp_engine.specs.Plays.{HasTaken};
+ghost use Rattle.fmp_engine.specs.Outlets.{Given, GivenFront};
+ghost use Rattle.fmp_engine.specs.Plays.{HasGiven, IsWhyCut, text_of_events};
 
 use crate::events::Events;
+use crate::fault::Cut;
+use crate::outlet::{Outlet, Stopped};
 use fmp_base::{Effect, System, TaskState};
 use fmp_body::Body;
 use fmp_kernel::Kernel;
 use fmp_trace::{Page, print, print_states};
 use std::alloc::{AllocError, Global};
 
-/// Takes all events on a kernel, and appends the text of their lines. Where memory runs out, what stood before is still
-/// the front of the text.
-fn take<B: Body, E: Events>(
+/// A text of so many bytes is a piece that the outlet is given.
+const PIECE: usize = 65_536;
+
+/// Room for a piece, for the lines of one more event and for those of the states at the end.
+const PIECE_ROOM: usize = 393_216;
+
+/// The most tasks that a system has.
+const TASKS_MAX: usize = 255;
+
+/// Gives the outlet the text that was put together. Then no text is left.
+fn give_all<T: Outlet>(text: &mut Vec<u8>, outlet: &mut T) -> Result<(), Stopped>
+    ensures ok { OnOk result (Given T.gave outlet.old outlet.new [] text.old.items) }
+    ensures err { OnErr result (GivenFront T.stopped outlet.old outlet.new text.old.items) }
+    ensures left { text.new.items ≡ [] }
+    ensures len { vec_len text.new ≡ 0 }
+    ensures capacity { vec_capacity text.new ≡ vec_capacity text.old }
+{
+    let given = outlet.give(text.as_slice());
+    text.clear();
+    given
+}
+
+/// Gives the outlet the text that was put together, if it is a piece. The text that is left is shorter than one.
+#[inline(always)]
+fn give_piece<T: Outlet>(text: &mut Vec<u8>, outlet: &mut T) -> Result<(), Stopped>
+    ensures ok { OnOk result (Given T.gave outlet.old outlet.new text.new.items text.old.items) }
+    ensures err { OnErr result (GivenFront T.stopped outlet.old outlet.new text.old.items) }
+    ensures short { vec_len text.new < PIECE }
+    ensures capacity { vec_capacity text.new ≡ vec_capacity text.old }
+{
+    if text.len() < PIECE {
+        return Ok(());
+    }
+    give_all(text, outlet)
+}
+
+/// Takes all events on a kernel: the text of their lines goes to the outlet, and what is no piece is left.
+fn take<B: Body, E: Events, T: Outlet>(
     sys: &System,
     kernel: &mut Kernel<B>,
     events: &mut E,
-    out: &mut Vec<u8>,
-) -> Result<(), AllocError>
+    text: &mut Vec<u8>,
+    outlet: &mut T,
+) -> Result<(), Stopped>
     requires system { kernel.old.system ≡ tables_of sys.now }
     requires few { kernel.old.done + length (E.left events.old) ≤ 2 ^ 20 }
-    ensures ok { OnOk result
-        (HasTaken B.meaning kernel.old kernel.new (E.left events.old) out.old.items out.new.items) }
-    ensures err { OnErr result (Begins out.old.items out.new.items) }
+    requires short { vec_len text.old < PIECE }
+    requires room { PIECE_ROOM ≤ vec_capacity text.old }
+    ensures ok { OnOk result (HasGiven T.gave B.meaning kernel.old kernel.new (E.left events.old)
+        outlet.old outlet.new text.old.items text.new.items) }
+    ensures err { OnErr result (GivenFront T.stopped outlet.old outlet.new
+        (text.old.items ++ text_of_events B.meaning kernel.old (E.left events.old))) }
+    ensures short { OnOk result (vec_len text.new < PIECE + 1120) }
+    ensures room { vec_capacity text.old ≤ vec_capacity text.new }
 {
     let mut page = Page::new();
     while let Some(event) = events.next_event() {
         match kernel.step(event) {
-            Effect::Done => page.print(sys, kernel.done(), kernel.lines(), out)?,
+            Effect::Done => {
+                kernel.lines_are_few();
+                page.print(sys, kernel.done(), kernel.lines(), text);
+                give_piece(text, outlet)?;
+            }
             Effect::Nothing => {}
         }
     }
-    page.finish(out)
+    page.finish(text);
+    Ok(())
 }
 
-/// The states of all tasks, in order of number.
-fn states<B: Body>(
-    alloc: Global,
-    kernel: &Kernel<B>,
-    count: u8,
-) -> Result<Vec<TaskState>, AllocError>
-    requires { count ≡ length kernel.now.system.tasks }
-    ensures { IfOk result (λ xs. xs.items ≡ map (task_state kernel.now.world.state) (places_from 0 count)) }
+/// Puts the states of all tasks, in order of number, into a list that has room for them.
+fn put_states<B: Body>(kernel: &Kernel<B>, count: u8, states: &mut Vec<TaskState>)
+    requires count { count ≡ length kernel.now.system.tasks }
+    requires none { states.old.items ≡ [] }
+    requires room { TASKS_MAX ≤ vec_capacity states.old }
+    ensures states { states.new.items ≡ map (task_state kernel.now.world.state) (places_from 0 count) }
+    ensures few { vec_len states.new ≤ TASKS_MAX }
 {
-    let mut xs = Vec::with_capacity(alloc, count as usize)?;
     for t in 0..count {
-        xs.push(kernel.state(t))?;
+        states.push_reserved(kernel.state(t));
     }
-    Ok(xs)
 }
 
-/// Appends the text of a run of a kernel after setup: its lines, those of the events that did something, and the states
-/// at the end. Where memory runs out, what stood before is still the front of the text.
-fn append_from_setup<B: Body, E: Events>(
-    alloc: Global,
+/// Gives the outlet the text that was put together, and behind it the states of all tasks.
+fn give_states<B: Body, T: Outlet>(
+    sys: &System,
+    kernel: &Kernel<B>,
+    text: &mut Vec<u8>,
+    states: &mut Vec<TaskState>,
+    outlet: &mut T,
+) -> Result<(), Stopped>
+    requires system { kernel.now.system ≡ tables_of sys.now }
+    requires tasks { length sys.now.tasks.items ≤ TASKS_MAX }
+    requires short { vec_len text.old < PIECE + 1120 }
+    requires room { PIECE_ROOM ≤ vec_capacity text.old }
+    requires no_states { states.old.items ≡ [] }
+    requires states_room { TASKS_MAX ≤ vec_capacity states.old }
+    ensures ok { OnOk result (Given T.gave outlet.old outlet.new []
+        (text.old.items ++ states_text (tables_of sys.now) kernel.now.world.state)) }
+    ensures err { OnErr result (GivenFront T.stopped outlet.old outlet.new
+        (text.old.items ++ states_text (tables_of sys.now) kernel.now.world.state)) }
+{
+    put_states(kernel, sys.tasks.len() as u8, states);
+    if print_states(sys, states.as_slice(), text).is_err() {
+        unreachable!();
+    }
+    give_all(text, outlet)
+}
+
+/// Gives the outlet the text of a run of a kernel after setup: its lines, those of the events that did something, and
+/// the states at the end.
+fn give_from_setup<B: Body, E: Events, T: Outlet>(
     sys: &System,
     kernel: &mut Kernel<B>,
     events: &mut E,
-    out: &mut Vec<u8>,
-) -> Result<(), AllocError>
+    text: &mut Vec<u8>,
+    states: &mut Vec<TaskState>,
+    outlet: &mut T,
+) -> Result<(), Stopped>
     requires system { kernel.old.system ≡ tables_of sys.now }
     requires fresh { kernel.old.done ≡ 0 }
-    requires tasks { length sys.now.tasks.items ≤ 255 }
+    requires tasks { length sys.now.tasks.items ≤ TASKS_MAX }
     requires few { length (E.left events.old) ≤ 2 ^ 20 }
+    requires no_text { text.old.items ≡ [] }
+    requires room { PIECE_ROOM ≤ vec_capacity text.old }
+    requires no_states { states.old.items ≡ [] }
+    requires states_room { TASKS_MAX ≤ vec_capacity states.old }
     ensures ok { (body : B) (n : ℕ) →
         kernel.old ≡ view_of_setup body n (tables_of sys.now) (setup (tables_of sys.now) (B.meaning body)) →
-        OnOk result (out.new.items ≡
-        out.old.items ++ whole_text (tables_of sys.now) (B.meaning body) n (E.left events.old)) }
-    ensures err { OnErr result (Begins out.old.items out.new.items) }
+        OnOk result (Given T.gave outlet.old outlet.new []
+        (whole_text (tables_of sys.now) (B.meaning body) n (E.left events.old))) }
+    ensures err { (body : B) (n : ℕ) →
+        kernel.old ≡ view_of_setup body n (tables_of sys.now) (setup (tables_of sys.now) (B.meaning body)) →
+        OnErr result (GivenFront T.stopped outlet.old outlet.new
+        (whole_text (tables_of sys.now) (B.meaning body) n (E.left events.old))) }
 {
-    let count = sys.tasks.len() as u8;
-    print(sys, 0, kernel.lines(), out)?;
-    take(sys, kernel, events, out)?;
-    let states = states(alloc, kernel, count)?;
-    print_states(sys, states.as_slice(), out)
+    kernel.lines_are_few();
+    if print(sys, 0, kernel.lines(), text).is_err() {
+        unreachable!();
+    }
+    give_piece(text, outlet)?;
+    take(sys, kernel, events, text, outlet)?;
+    give_states(sys, kernel, text, states, outlet)
 }
 
-/// Appends the text of a run of a system over events. Where memory runs out, what stood before is still the front of
-/// the text.
-fn append_run<B: Body + Drop, E: Events>(
+/// Makes a kernel, and gives the outlet the text of its run over events.
+fn give_run<B: Body + Drop, E: Events, T: Outlet>(
     alloc: Global,
     sys: &System,
     body: B,
     n: u64,
     events: &mut E,
-    out: &mut Vec<u8>,
-) -> Result<(), AllocError>
+    text: &mut Vec<u8>,
+    states: &mut Vec<TaskState>,
+    outlet: &mut T,
+) -> Result<(), Cut>
     requires low { 1 ≤ n }
     requires high { n ≤ 2 ^ 48 }
     requires entries { Entered B.has_entry body (tables_of sys.now) }
     requires range { IsInRange (tables_of sys.now) }
     requires few { length (E.left events.old) ≤ 2 ^ 20 }
-    ensures ok { OnOk result
-        (out.new.items ≡ out.old.items ++ whole_text (tables_of sys.now) (B.meaning body) n (E.left events.old)) }
-    ensures err { OnErr result (Begins out.old.items out.new.items) }
+    requires no_text { text.old.items ≡ [] }
+    requires room { PIECE_ROOM ≤ vec_capacity text.old }
+    requires no_states { states.old.items ≡ [] }
+    requires states_room { TASKS_MAX ≤ vec_capacity states.old }
+    ensures ok { OnOk result (Given T.gave outlet.old outlet.new []
+        (whole_text (tables_of sys.now) (B.meaning body) n (E.left events.old))) }
+    ensures err { IfErr result (IsWhyCut T.gave T.stopped outlet.old outlet.new
+        (whole_text (tables_of sys.now) (B.meaning body) n (E.left events.old))) }
 {
     match Kernel::new(alloc, body, sys, n) {
         Ok(mut kernel) => {
-            let appended = append_from_setup(alloc, sys, &mut kernel, events, out);
+            let given = give_from_setup(sys, &mut kernel, events, text, states, outlet);
             drop(kernel);
-            appended
+            match given {
+                Ok(()) => Ok(()),
+                Err(Stopped) => Err(Cut::Stopped),
+            }
         }
-        Err(_) => Err(AllocError),
+        Err(_) => Err(Cut::Memory),
     }
+}
+
+/// Runs a system over events within n units a stretch, and gives the outlet all that it prints, piece by piece. Memory
+/// can run out only before the first piece.
+pub fn play_into<B: Body + Drop, E: Events, T: Outlet>(
+    alloc: Global,
+    sys: &System,
+    body: B,
+    n: u64,
+    events: &mut E,
+    outlet: &mut T,
+) -> Result<(), Cut>
+    requires low { 1 ≤ n }
+    requires high { n ≤ 2 ^ 48 }
+    requires entries { Entered B.has_entry body (tables_of sys.now) }
+    requires range { IsInRange (tables_of sys.now) }
+    requires few { length (E.left events.old) ≤ 2 ^ 20 }
+    ensures ok { OnOk result (Given T.gave outlet.old outlet.new []
+        (whole_text (tables_of sys.now) (B.meaning body) n (E.left events.old))) }
+    ensures err { IfErr result (IsWhyCut T.gave T.stopped outlet.old outlet.new
+        (whole_text (tables_of sys.now) (B.meaning body) n (E.left events.old))) }
+{
+    let Ok(mut text) = Vec::with_capacity(alloc, PIECE_ROOM) else {
+        return Err(Cut::Memory);
+    };
+    let Ok(mut states) = Vec::with_capacity(alloc, TASKS_MAX) else {
+        return Err(Cut::Memory);
+    };
+    give_run(alloc, sys, body, n, events, &mut text, &mut states, outlet)
 }
 
 /// Runs a system over events within n units a stretch, and appends all that it prints. Want of memory is the only
@@ -134,9 +253,10 @@ pub fn play<B: Body + Drop, E: Events>(
     ensures err { OnErr result (out.new.items ≡ out.old.items) }
 {
     let before = out.len();
-    let played = append_run(alloc, sys, body, n, events, out);
-    if played.is_err() {
-        out.truncate(before);
+    match play_into(alloc, sys, body, n, events, out) {
+        Ok(()) => return Ok(()),
+        Err(Cut::Memory) => {}
+        Err(Cut::Stopped) => out.truncate(before),
     }
-    played
+    Err(AllocError)
 }

@@ -1,19 +1,96 @@
 //! A simulation: an image run on the kernel over the events of a steps text.
 
-ghost use Rattle.std.specs.Prelude.{◌≡◌, ◌≤◌, ◌^◌, ℕ, List, IfErr, OnErr, OnOk};
+ghost use Rattle.std.specs.Prelude.{◌≡◌, ◌≤◌, ◌^◌, ℕ, List, [], IfErr, OnErr, OnOk};
 ghost use Rattle.fmp_build.specs.Building.{Builds};
-ghost use Rattle.fmp_engine.specs.Simulations.{IsWhySim, PrintsTexts, Simulates};
+ghost use Rattle.fmp_engine.specs.Simulations.{IsWhySim, IsWhySimCut, PrintsTexts, Simulates, SimulatesInto};
 ghost use Rattle.fmp_image.specs.Images.{ImageTables, Spells};
 
-use crate::fault::SimFault;
-use crate::play::play;
+use crate::fault::{Cut, SimCut, SimFault};
+use crate::outlet::Outlet;
+use crate::play::play_into;
 use fmp_build::laws::built_image_prints_text;
-use fmp_image::{LoadFault, load};
+use fmp_image::{Image, LoadFault, load};
 use fmp_trace::Steps;
 use std::alloc::Global;
 
-/// Loads an image, runs it over the events of a steps text, and appends what it prints.
-fn simulate(
+/// Runs an image over the events of a steps text, and gives an outlet what it prints.
+fn simulate_image<T: Outlet>(
+    alloc: Global,
+    image: &Image,
+    steps: &[u8],
+    n: u64,
+    outlet: &mut T,
+) -> Result<(), SimCut>
+    requires low { 1 ≤ n }
+    requires high { n ≤ 2 ^ 48 }
+    ensures ok { (bytes : List ℕ) → Spells image.now bytes →
+        OnOk result (SimulatesInto T.gave bytes steps.now n outlet.old outlet.new []) }
+    ensures err { (bytes : List ℕ) → Spells image.now bytes →
+        IfErr result (IsWhySimCut T.gave T.stopped bytes steps.now n outlet.old outlet.new) }
+{
+    image.keeps_rules();
+    let system = image.system();
+    let mut events = match Steps::new(steps, system.processors) {
+        Ok(events) => events,
+        Err(fault) => return Err(SimCut::Refused(SimFault::Steps(fault))),
+    };
+    match play_into(alloc, system, image.vm(), n, &mut events, outlet) {
+        Ok(()) => Ok(()),
+        Err(Cut::Memory) => Err(SimCut::Refused(SimFault::Memory)),
+        Err(Cut::Stopped) => Err(SimCut::Stopped),
+    }
+}
+
+/// Loads an image, runs it over the events of a steps text, and gives an outlet what it prints.
+fn simulate<T: Outlet>(
+    alloc: Global,
+    image: &[u8],
+    steps: &[u8],
+    n: u64,
+    outlet: &mut T,
+) -> Result<(), SimCut>
+    requires low { 1 ≤ n }
+    requires high { n ≤ 2 ^ 48 }
+    ensures ok { OnOk result (SimulatesInto T.gave image.now steps.now n outlet.old outlet.new []) }
+    ensures err { IfErr result (IsWhySimCut T.gave T.stopped image.now steps.now n outlet.old outlet.new) }
+{
+    let image = match load(alloc, image) {
+        Ok(image) => image,
+        Err(LoadFault::Memory) => return Err(SimCut::Refused(SimFault::Memory)),
+        Err(fault) => return Err(SimCut::Refused(SimFault::Load(fault))),
+    };
+    let simulated = simulate_image(alloc, &image, steps, n, outlet);
+    drop(image);
+    simulated
+}
+
+/// Loads an image, runs it over the events of a steps text within n instructions a stretch, 1 to 2^48, and gives an
+/// outlet the trace and the states of the tasks at the end, piece by piece. No more than a piece of the text stands in
+/// memory.
+///
+/// The image is judged first, then the steps. Where one of them is refused or memory runs out, the outlet has been
+/// given nothing.
+pub fn sim_into<T: Outlet>(
+    alloc: Global,
+    image: &[u8],
+    steps: &[u8],
+    n: u64,
+    outlet: &mut T,
+) -> Result<(), SimCut>
+    requires low { 1 ≤ n }
+    requires high { n ≤ 2 ^ 48 }
+    ensures ok { OnOk result (SimulatesInto T.gave image.now steps.now n outlet.old outlet.new []) }
+    // Where two texts build the image, what it prints is what they mean.
+    ensures headline { (cfg src : List ℕ) (i : ImageTables) (b : Builds cfg src i) → Spells i image.now →
+        (text : List ℕ) → Simulates image.now steps.now n [] text → PrintsTexts i b.tasks.bodies steps.now n [] text }
+    ensures err { IfErr result (IsWhySimCut T.gave T.stopped image.now steps.now n outlet.old outlet.new) }
+{
+    built_image_prints_text();
+    simulate(alloc, image, steps, n, outlet)
+}
+
+/// Appends what a simulation prints. After an error nothing has been appended.
+fn append_simulated(
     alloc: Global,
     image: &[u8],
     steps: &[u8],
@@ -26,20 +103,15 @@ fn simulate(
     ensures refused { IfErr result (λ f. IsWhySim f image.now steps.now) }
     ensures err { OnErr result (out.new.items ≡ out.old.items) }
 {
-    let image = match load(alloc, image) {
-        Ok(image) => image,
-        Err(LoadFault::Memory) => return Err(SimFault::Memory),
-        Err(fault) => return Err(SimFault::Load(fault)),
-    };
-    let system = image.system();
-    let simulated = match Steps::new(steps, system.processors) {
-        Ok(mut steps) => play(alloc, system, image.vm(), n, &mut steps, out).map_err(
-            |_| SimFault::Memory,
-        ),
-        Err(fault) => Err(SimFault::Steps(fault)),
-    };
-    drop(image);
-    simulated
+    let before = out.len();
+    match simulate(alloc, image, steps, n, out) {
+        Ok(()) => Ok(()),
+        Err(SimCut::Refused(fault)) => Err(fault),
+        Err(SimCut::Stopped) => {
+            out.truncate(before);
+            Err(SimFault::Memory)
+        }
+    }
 }
 
 /// Loads an image, runs it over the events of a steps text within n instructions a stretch, 1 to 2^48, and appends the
@@ -63,5 +135,5 @@ pub fn sim(
     ensures err { OnErr result (out.new.items ≡ out.old.items) }
 {
     built_image_prints_text();
-    simulate(alloc, image, steps, n, out)
+    append_simulated(alloc, image, steps, n, out)
 }

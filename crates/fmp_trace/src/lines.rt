@@ -366,6 +366,7 @@ fn append_lines(
     ensures ok { OnOk result (out.new.items ≡ out.old.items ++ lines_text (tables_of sys.now) number lines.now) }
     ensures err { OnErr result (Begins out.old.items out.new.items) }
     ensures full { OnErr result (vec_capacity out.old < vec_len out.old + lines_room (length lines.now)) }
+    ensures capacity { vec_capacity out.old ≤ vec_capacity out.new }
 {
     let mut bytes = [0; ROOM];
     let end = put_lines(sys, &Numeral::new(number), lines, &mut bytes, 0, out)?;
@@ -378,6 +379,7 @@ pub fn print(sys: &System, number: u32, lines: &[Line], out: &mut Vec<u8>) -> Re
     ensures ok { OnOk result (out.new.items ≡ out.old.items ++ lines_text (tables_of sys.now) number lines.now) }
     ensures err { OnErr result (out.new.items ≡ out.old.items) }
     ensures full { OnErr result (vec_capacity out.old < vec_len out.old + lines_room (length lines.now)) }
+    ensures capacity { vec_capacity out.old ≤ vec_capacity out.new }
 {
     let before = out.len();
     let printed = append_lines(sys, number, lines, out);

@@ -1,14 +1,13 @@
 //! The lines of a trace, put together on a page before they go to a text.
-ghost use Rattle.std.specs.Prelude.{◌≡◌, ◌++◌, [], OnOk, OnErr};
+ghost use Rattle.std.specs.Prelude.{◌≡◌, ◌≤◌, ◌+◌, ◌++◌, [], length, vec_capacity, vec_len};
 ghost use Rattle.fmp_base.specs.Systems.{tables_of};
 ghost use Rattle.fmp_base.specs.Texts.{lines_text};
-ghost use Rattle.fmp_trace.specs.Fronts.{Begins};
+ghost use Rattle.fmp_trace.specs.Rooms.{page_room};
 
 use crate::lines::put_lines;
 use crate::numeral::Numeral;
 use crate::texts::{LineBytes, ROOM, append_line};
 use fmp_base::{Line, System};
-use std::alloc::AllocError;
 use std::marker::Model;
 
 /// Lines that are put together and not yet appended to a text. It is seen as the list of their bytes.
@@ -44,30 +43,31 @@ impl Page {
     }
 
     /// Prints the lines of the event of this number, each ended by a line feed. Where the page is full, what stands on
-    /// it is appended to the text.
+    /// it is appended to the text, which has room for it and for the lines.
     #[inline(always)]
-    pub fn print(
-        &mut self,
-        sys: &System,
-        number: u32,
-        lines: &[Line],
-        out: &mut Vec<u8>,
-    ) -> Result<(), AllocError>
-        ensures ok { OnOk result (out.new.items ++ self.new
-            ≡ out.old.items ++ (self.old ++ lines_text (tables_of sys.now) number lines.now)) }
-        ensures kept { Begins out.old.items out.new.items }
+    pub fn print(&mut self, sys: &System, number: u32, lines: &[Line], out: &mut Vec<u8>)
+        requires room { vec_len out.old + page_room (length lines.now) ≤ vec_capacity out.old }
+        ensures text { out.new.items ++ self.new
+            ≡ out.old.items ++ (self.old ++ lines_text (tables_of sys.now) number lines.now) }
+        ensures len { vec_len out.new ≤ vec_len out.old + page_room (length lines.now) }
+        ensures capacity { vec_capacity out.old ≤ vec_capacity out.new }
     {
         self.number.set(number);
-        self.end = put_lines(sys, &self.number, lines, &mut self.bytes, self.end, out)?;
-        Ok(())
+        match put_lines(sys, &self.number, lines, &mut self.bytes, self.end, out) {
+            Ok(end) => self.end = end,
+            Err(_) => unreachable!(),
+        }
     }
 
-    /// Appends what stands on the page to the text. Where memory runs out, what stood before is still the front of the
-    /// text.
-    pub fn finish(&self, out: &mut Vec<u8>) -> Result<(), AllocError>
-        ensures ok { OnOk result (out.new.items ≡ out.old.items ++ self.now) }
-        ensures err { OnErr result (Begins out.old.items out.new.items) }
+    /// Appends what stands on the page to a text that has room for it.
+    pub fn finish(&self, out: &mut Vec<u8>)
+        requires room { vec_len out.old + page_room 0 ≤ vec_capacity out.old }
+        ensures text { out.new.items ≡ out.old.items ++ self.now }
+        ensures len { vec_len out.new ≤ vec_len out.old + page_room 0 }
+        ensures capacity { vec_capacity out.old ≤ vec_capacity out.new }
     {
-        append_line(&self.bytes, self.end, out)
+        if append_line(&self.bytes, self.end, out).is_err() {
+            unreachable!();
+        }
     }
 }

@@ -1,9 +1,10 @@
 //! The states of the tasks at the end.
-ghost use Rattle.std.specs.Prelude.{◌≡◌, ◌≤◌, ◌+◌, ◌++◌, codes, length, take, OnOk, OnErr};
+ghost use Rattle.std.specs.Prelude.{◌≡◌, ◌<◌, ◌≤◌, ◌+◌, ◌++◌, codes, length, take, vec_capacity, vec_len, OnOk, OnErr};
 ghost use Rattle.fmp_base.specs.Systems.{tables_of};
 ghost use Rattle.fmp_base.specs.Texts.{task_name, word_text, state_text};
 ghost use Rattle.fmp_trace.specs.Fronts.{Begins};
 ghost use Rattle.fmp_trace.specs.ListedStates.{listed_states_text, ListedStatesAreStates};
+ghost use Rattle.fmp_trace.specs.Rooms.{states_room};
 
 use crate::names::append_name_at;
 use crate::texts::{
@@ -58,6 +59,7 @@ fn put_state(sys: &System, task: usize, state: TaskState, line: &mut LineBytes) 
 fn append_states(sys: &System, states: &[TaskState], out: &mut Vec<u8>) -> Result<(), AllocError>
     ensures ok { OnOk result (out.new.items ≡ out.old.items ++ listed_states_text (tables_of sys.now) 0 states.now) }
     ensures err { OnErr result (Begins out.old.items out.new.items) }
+    ensures full { OnErr result (vec_capacity out.old < vec_len out.old + states_room (length states.now)) }
 {
     let mut line = [0; ROOM];
     for (task, state) in states.iter().enumerate() {
@@ -68,10 +70,11 @@ fn append_states(sys: &System, states: &[TaskState], out: &mut Vec<u8>) -> Resul
 }
 
 /// Appends a line for each state: the first is that of the first task, and so on. Where memory runs out, the
-/// text stays as it was.
+/// text stays as it was; it never does where the text has room for so many states.
 pub fn print_states(sys: &System, states: &[TaskState], out: &mut Vec<u8>) -> Result<(), AllocError>
     ensures ok { OnOk result (out.new.items ≡ out.old.items ++ listed_states_text (tables_of sys.now) 0 states.now) }
     ensures err { OnErr result (out.new.items ≡ out.old.items) }
+    ensures full { OnErr result (vec_capacity out.old < vec_len out.old + states_room (length states.now)) }
 {
     let before = out.len();
     let printed = append_states(sys, states, out);

@@ -1,8 +1,0 @@
-use Rattle.std.proofs.Common.{◌≡◌, ◌++◌, ◌-◌, map}
-use Rattle.fmp_base.specs.Runs.{task_state}
-use Rattle.fmp_base.specs.States.{places_from}
-use Rattle.fmp_engine.proofs.play.states.Given as goal
-
-abbrev pub invariant-loop-t : goal.invariant-loop-t
-invariant-loop-t g l =
-    l.xs.items ++ map (task_state l.kernel.world.state) (places_from l.t (l.count - l.t)) ≡ map (task_state l.kernel.world.state) (places_from 0 l.count)
