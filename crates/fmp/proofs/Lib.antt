@@ -1,2 +1,4 @@
 mod Carried
+mod Printed
 mod RunLemmas
+mod Simulated

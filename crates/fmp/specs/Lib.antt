@@ -1,3 +1,6 @@
 pub mod Commands
 pub mod Performed
+pub mod Printing
+pub mod Prints
+pub mod PrintsLaws
 pub mod Runs

@@ -1,14 +1,15 @@
 -- What a run of the program reads, writes, prints and says, and the status that it ends with.
-use Rattle.std.specs.Prelude.{ℕ, ◌≡◌, ◌≢◌, ◌⊎◌, Bool, IsTrue, List, [], ◌∷◌, Option, None, Some, IfSome, IsSomeAnd, string_bytes, ⊤}
+use Rattle.std.specs.Prelude.{ℕ, ◌≡◌, ◌≢◌, ◌⊎◌, ◌++◌, Bool, IsTrue, List, [], ◌∷◌, Option, None, Some, IfSome, IsSomeAnd, string_bytes, ⊤}
 use Rattle.fmp_command.specs.Asked.{AsksFor, IsRefused}
 use Rattle.fmp_command.specs.declared.asking.Cmd.{Cmd}
-use Rattle.fmp_files.specs.Deeds.{Begins, Deed, Does, Says, printed, wrote}
+use Rattle.fmp_files.specs.Deeds.{Begins, Deed, Does, Says, wrote}
 use Rattle.fmp_files.specs.Files.{front}
 use Rattle.fmp_files.specs.Outside.{Files}
 use Rattle.clap.specs.declared.error.kind.ErrorKind.{ErrorKind}
 use Rattle.clap.specs.declared.error.kind.ErrorKind.TheVariants.{DisplayHelp, DisplayVersion, OutOfMemory}
 use Rattle.fmp.specs.Commands.{inputs_of, limit_of, output_of}
 use Rattle.fmp.specs.Performed.{CarriesOut, IsWhyNot, status_of}
+use Rattle.fmp.specs.Prints.{Prints}
 use Rattle.fmp.specs.declared.perform.Exit.{Exit}
 use Rattle.fmp.specs.declared.perform.Exit.TheVariants.{Build, Sim, Host, File, Memory}
 
@@ -88,11 +89,12 @@ pub data Fails (files : Files) (cmd : Cmd) (before after : Option (List Deed)) (
   unwritten : (file out : List ℕ) → Performs files cmd file out → IsFailureAt files (output_of cmd) exit
       → BeginsFile (output_of cmd) file before after → Fails files cmd before after exit
 
--- how printing ends: all of it stands on standard output, or that can fail, has done so, and this was said
+-- how printing ends: all of it stands on standard output, or that can fail, has done so with this left, and this was
+-- said
 pub data EndsPrinting (bytes : List ℕ) (can_fail : Bool) (before after : Option (List Deed)) (status : ℕ) : Type 0 where
-  all_printed : Does before (printed bytes ∷ []) after → status ≡ 0 → EndsPrinting bytes can_fail before after status
-  some_printed : IsTrue can_fail → (between : Option (List Deed)) → Begins printed bytes before between
-      → Says between after → status ≡ 3 → EndsPrinting bytes can_fail before after status
+  all_printed : Prints before bytes after → status ≡ 0 → EndsPrinting bytes can_fail before after status
+  some_printed : IsTrue can_fail → (front left : List ℕ) → bytes ≡ front ++ left → (between : Option (List Deed))
+      → Prints before front between → Says between after → status ≡ 3 → EndsPrinting bytes can_fail before after status
 
 -- help or the version is asked for
 abbrev pub IsShown : ErrorKind → Type 0

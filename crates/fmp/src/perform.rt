@@ -72,7 +72,7 @@ fn no_image(fault: BuildFault) -> Exit
 }
 
 /// The end of a program that does not run an image.
-fn no_run(fault: SimFault) -> Exit
+pub fn no_run(fault: SimFault) -> Exit
     ensures { (image steps : List ℕ) → IsWhySim fault image steps → IsWhyNoRun image steps result }
 {
     match fault {

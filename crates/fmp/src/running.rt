@@ -1,16 +1,19 @@
 //! A run of the program, from the words of its command line to its status.
-ghost use Rattle.std.specs.Prelude.{◌≡◌, ◌⊎◌, IsTrue, IsFalse, IfOk, map, string_bytes};
+ghost use Rattle.std.specs.Prelude.{◌≡◌, ◌⊎◌, IsTrue, IsFalse, IfOk, length, map, string_bytes};
 ghost use Rattle.clap.specs.Words.{kind_of};
-ghost use Rattle.fmp_command.specs.Commands.{KeepsRanges};
+ghost use Rattle.fmp_command.specs.Commands.{IsBound, KeepsRanges};
 ghost use Rattle.fmp_files.specs.Deeds.{Says};
+ghost use Rattle.fmp.specs.Commands.{IsSimulation};
 ghost use Rattle.fmp.specs.Performed.{status_of};
-ghost use Rattle.fmp.specs.Runs.{CanBeOver, Ends, EndsCommand, EndsPrinting, EndsRefused, KeepsInputs};
+ghost use Rattle.fmp.specs.Runs.{AreInputs, CanBeOver, Ends, EndsCommand, EndsPrinting, EndsRefused, KeepsInputs};
 
-use crate::carrying::{carry_out, failed};
-use crate::perform::Exit;
+use crate::carrying::{carry_out, failed, read_inputs};
+use crate::perform::{Exit, no_run};
+use crate::printing::print_simulation;
 use clap::Error;
 use clap::error::ErrorKind;
 use fmp_command::{Cmd, command, image_over_text, journal_over_image};
+use fmp_engine::SimCut;
 use fmp_files::{Outside, WriteFault};
 use std::alloc::{AllocError, Global};
 use std::sync::Wait;
@@ -88,6 +91,41 @@ fn refuse_over_input<O: Outside>(alloc: Global, outside: &mut O, cmd: &Cmd) -> u
     }
 }
 
+/// Prints the run of the image of a command over its steps, and gives the status.
+fn simulate<O: Outside>(
+    alloc: Global,
+    outside: &mut O,
+    cmd: &Cmd,
+    texts: &[Vec<u8>],
+    bound: u64,
+) -> u8
+    requires bound { IsBound bound }
+    requires inputs { length texts.now ≡ 2 }
+    requires command { IsSimulation cmd.now bound }
+    requires read { AreInputs (O.files outside.old) cmd.now (map (λ t. t.items) texts.now) }
+    ensures { EndsCommand (O.files outside.old) (O.output_can_fail outside.old) cmd.now
+        (O.done outside.old) (O.done outside.new) result }
+{
+    match print_simulation(alloc, outside, &texts[0], &texts[1], bound) {
+        Ok(()) => 0,
+        Err(SimCut::Refused(fault)) => end(outside, &no_run(fault)),
+        Err(SimCut::Stopped) => end(outside, &failed(alloc, "-")),
+    }
+}
+
+/// Reads the files of a command that simulates, prints the run, and gives the status.
+fn run_simulation<O: Outside>(alloc: Global, outside: &mut O, cmd: &Cmd, bound: u64) -> u8
+    requires bound { IsBound bound }
+    requires command { IsSimulation cmd.now bound }
+    ensures { EndsCommand (O.files outside.old) (O.output_can_fail outside.old) cmd.now
+        (O.done outside.old) (O.done outside.new) result }
+{
+    match read_inputs(alloc, outside, cmd) {
+        Ok(texts) => simulate(alloc, outside, cmd, &texts, bound),
+        Err(exit) => end(outside, &exit),
+    }
+}
+
 /// Carries out a command, writes its file and then prints, and gives the status.
 fn run_command<O: Outside, R: Threads + Wait + Sync>(
     rt: &R,
@@ -101,6 +139,9 @@ fn run_command<O: Outside, R: Threads + Wait + Sync>(
 {
     if is_over_input(outside, cmd) {
         return refuse_over_input(alloc, outside, cmd);
+    }
+    if let Cmd::Sim { bound, .. } = cmd {
+        return run_simulation(alloc, outside, cmd, *bound);
     }
     match carry_out(rt, alloc, outside, cmd) {
         Ok(out) => print(alloc, outside, &out),

@@ -1,7 +1,8 @@
 use Rattle.std.proofs.Common.{map, subst, sym}
 use Rattle.fmp.specs.Commands.{output_of}
 use Rattle.fmp.specs.Runs.{AreInputs, BeginsFile, Performs, faulty, unwritten}
-use Rattle.fmp.proofs.Carried.{does_nothing, err_is}
+use Rattle.fmp.specs.PrintsLaws.{does_nothing}
+use Rattle.fmp.proofs.Carried.{err_is}
 use Rattle.fmp.proofs.carrying.carry_out.Goals as goal
 
 pub returns-in_err-file-clause-err : goal.returns-in_err-file-clause-err

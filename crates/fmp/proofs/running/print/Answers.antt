@@ -1,9 +1,14 @@
-use Rattle.std.proofs.Common.{◌∙◌, codes}
-use Rattle.fmp.specs.Runs.{some_printed}
+use Rattle.std.proofs.Common.{◌∙◌, codes, refl}
+use Rattle.fmp.specs.PrintsLaws.{prints_front, prints_one}
+use Rattle.fmp.specs.Runs.{all_printed, some_printed}
 use Rattle.fmp.proofs.Carried.{status_for}
 use Rattle.fmp.proofs.running.print.Goals as goal
 
+pub returns-in-Ok : goal.returns-in-Ok
+returns-in-Ok g c = all_printed (prints_one _ _ c.args.bytes.now c.in-Ok.ensures.ok) refl
+
 pub returns-in-Err-Device : goal.returns-in-Err-Device
 returns-in-Err-Device g c =
-    some_printed c.in-Err-Device.ensures.device (g.O.Outside.done c.print.new.self) c.in-Err-Device.ensures.err c.end.ensures.said
-    (c.end.ensures.status ∙ status_for (codes "-") c.failed.result c.failed.ensures)
+    let begun = prints_front _ _ c.args.bytes.now c.in-Err-Device.ensures.err in
+    some_printed c.in-Err-Device.ensures.device begun.front begun.left begun.bytes_are (g.O.Outside.done c.print.new.self)
+    begun.printed_front c.end.ensures.said (c.end.ensures.status ∙ status_for (codes "-") c.failed.result c.failed.ensures)
