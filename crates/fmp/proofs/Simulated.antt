@@ -1,5 +1,5 @@
 -- How a run ends that prints a simulation.
-use Rattle.std.proofs.Common.{◌≡◌, ℕ, refl, sym, subst, ◌∙◌, append-nil, Bool, IsTrue, List, [], ◌∷◌, Option, length}
+use Rattle.std.proofs.Common.{◌≡◌, ℕ, refl, sym, subst, ◌∙◌, append-nil, Bool, IsTrue, List, [], Option}
 use Rattle.fmp_build.specs.Building.{Builds}
 use Rattle.fmp_command.specs.declared.asking.Cmd.{Cmd}
 use Rattle.fmp_command.specs.declared.asking.Cmd.TheVariants.{Check, Build, Sim, Host, Stored}
@@ -22,17 +22,6 @@ pub runs_image : (image steps : List ℕ) (n : ℕ) (text : List ℕ)
     → Simulates image steps n [] text → RunsImage image steps n [] text
 runs_image image steps n text headline s =
     record { printed = s; meant = λ cfg src i b spelled. headline cfg src i b spelled text s }
-
--- a command that simulates reads two texts
-pub two_texts : (files : Files) (cmd : Cmd) (n : ℕ) (texts : List (List ℕ)) → IsSimulation cmd n → AreInputs files cmd texts → length texts ≡ 2
-two_texts files (Check config tasks) n texts is read = absurd is
-two_texts files (Build config tasks image) n texts is read = absurd is
-two_texts files (Sim image steps bound) n [] is read = absurd read
-two_texts files (Sim image steps bound) n (x ∷ []) is read = absurd read.1
-two_texts files (Sim image steps bound) n (x ∷ y ∷ []) is read = refl
-two_texts files (Sim image steps bound) n (x ∷ y ∷ z ∷ texts) is read = absurd read.1.1
-two_texts files (Host image journal turns ticks bound) n texts is read = absurd is
-two_texts files Stored n texts is read = absurd is
 
 module _ (files : Files) (can_fail : Bool) (before : Option (List Deed)) where
   -- a simulation has been carried out: it writes no file
