@@ -254,12 +254,12 @@ for it in eight_processors rotation delays priorities; do ratio $it two_tasks; d
 ratio rotation rotation_of_16_tasks
 ratio equal_delays_of_252_tasks equal_delays_of_16_tasks
 
-# What a run holds beside the text that it prints.
+# What a run holds, and how much it prints meanwhile.
 echo
 for it in two_tasks eight_processors rotation delays priorities; do
     awk -v t="${spent[$it]}" -v bytes="${printed[$it]}" -v name="${it//_/ }" 'BEGIN {
         split(t, s, " ")
-        printf "At its peak %s holds %.1f MiB: %.1f of text that is printed, and %.1f beside it.\n", name, s[4] / 1024, bytes / 1048576, s[4] / 1024 - bytes / 1048576 }'
+        printf "At its peak %s holds %.1f MiB; it prints %.1f.\n", name, s[4] / 1024, bytes / 1048576 }'
 done
 
 # Boards that threads share.

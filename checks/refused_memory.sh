@@ -3,8 +3,8 @@
 # status 3, print nothing and write no file, or else answer as it does with memory. So it does with tests of boards,
 # which ask again where making a board or a follower, or running a board, was refused for want of memory, and then want
 # what they want with memory; and it refuses all from the Nth on: the calls of a board that is made take none. Then it
-# counts the allocations of longer and longer runs: events take none, so only the growth of the list of events and of
-# the trace is seen.
+# counts the allocations of longer and longer runs: events take none, so only the growth of the text that is read is
+# seen.
 #
 #   checks/refused_memory.sh
 #
