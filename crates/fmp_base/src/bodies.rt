@@ -13,7 +13,7 @@ pub enum Fault {
 
 /// A stretch of a body: what it does up to its next service call, its end or its fault, with the context
 /// that it leaves.
-#[derive(Clone, Copy, Debug, PartialEq, Eq)]
+#[derive(Clone, Copy, Debug)]
 pub enum Stretch<C> {
     /// It makes this service call.
     Call(C, Call),

@@ -4,13 +4,15 @@ ghost use Rattle.fmp_base.specs.Services.{service_of};
 
 use crate::codes::Er;
 use crate::services::Service;
+use std::fmt;
+use std::fmt::{Debug, Formatter, Write};
 
 /// A service call with its arguments, as the caller passes them: any number may stand anywhere.
 ///
 /// Objects, tasks, processors and messages go by their numbers, from 1; `task` 0 is TSK_SELF, the caller, where a call
 /// allows it. A `limit` is in ticks, or -1 (TMO_FEVR) or 0 (TMO_POL); a `delay` is in ticks; a `priority` is 1 to 16,
 /// or 0 (TPRI_INI, TPRI_SELF) where a call allows it.
-#[derive(Clone, Copy, Debug, PartialEq, Eq)]
+#[derive(Clone, Copy)]
 pub enum Call {
     /// Prints a value into the trace (this kernel's own).
     Put {
@@ -344,5 +346,13 @@ impl Call {
             Call::IfsndDtq { .. } => Service::IfsndDtq,
             Call::IrotRdq { .. } => Service::IrotRdq,
         }
+    }
+}
+
+impl Debug for Call {
+    /// The call's name and its arguments, as `snd_dtq[1, 7]`.
+    fn fmt<W: Write>(&self, f: &mut Formatter<W>) -> Result<(), fmt::Error> {
+        f.write_str(self.service().name())?;
+        self.arguments().as_slice().fmt(f)
     }
 }

@@ -24,7 +24,7 @@ pub enum Effect {
 }
 
 /// A line of the trace without its event's number. Tasks, handlers and processors go by their places.
-#[derive(Clone, Copy, Debug, PartialEq, Eq)]
+#[derive(Clone, Copy, Debug)]
 pub enum Line {
     /// The clock is now this.
     Tick(u32),
