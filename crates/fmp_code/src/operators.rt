@@ -39,15 +39,12 @@ fn divided(x: i32, y: i32) -> Result<i32, Fault>
     }
 }
 
+#[tactic(auto, using(std::proofs::lemmas::Int::rem_below))]
 fn remainder(x: i32, y: i32) -> i32
     requires { is_zero y ≡ false }
     ensures { result ≡ int_rem x y }
 {
-    if y == -1 {
-        (x as i64 % y as i64) as i32
-    } else {
-        x % y
-    }
+    if y == -1 { 0 } else { x % y }
 }
 
 /// What a binary operator gives.
