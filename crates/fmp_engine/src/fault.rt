@@ -1,4 +1,4 @@
-//! Why a simulation prints nothing.
+//! Why a simulation prints nothing, or not all.
 use fmp_image::LoadFault;
 use fmp_trace::StepsFault;
 use thiserror::Error;
