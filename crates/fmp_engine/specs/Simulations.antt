@@ -12,8 +12,8 @@ use Rattle.fmp_image.specs.Images.{ImageTables, Spells, image_at}
 use Rattle.fmp_tasklang.specs.Contexts.{TextContext}
 use Rattle.fmp_tasklang.specs.Texts.{text_meaning}
 use Rattle.fmp_tasklang.specs.Trees.{BodyTree}
-use Rattle.fmp_trace.specs.declared.faults.StepsFault.{StepsFault}
-use Rattle.fmp_trace.specs.Steps.{steps_of}
+use Rattle.fmp_steps.specs.declared.faults.StepsFault.{StepsFault}
+use Rattle.fmp_steps.specs.Steps.{steps_of}
 use Rattle.fmp_engine.specs.declared.fault.SimCut.{SimCut}
 use Rattle.fmp_engine.specs.declared.fault.SimCut.TheVariants as cut
 use Rattle.fmp_engine.specs.declared.fault.SimFault.{SimFault}

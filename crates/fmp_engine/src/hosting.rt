@@ -5,10 +5,10 @@ ghost use Rattle.fmp_build.specs.Building.{Builds};
 ghost use Rattle.fmp_code.specs.Machine.{code_meaning};
 ghost use Rattle.fmp_engine.specs.Hosting.{FitsBoard, Hosts, HostsTexts, IsHosted, IsWhyHost, IsWhyNoJournal, IsWorkload};
 ghost use Rattle.fmp_engine.specs.declared.hosting.HostFault.TheVariants as host_fault;
-ghost use Rattle.fmp_hostrun.specs.Boards.{IsAt, IsClosed, blank as blank_of};
-ghost use Rattle.fmp_hostrun.specs.declared.fault.BoardFault.TheVariants.{Limit};
+ghost use Rattle.fmp_board.specs.Boards.{IsAt, IsClosed, blank as blank_of};
+ghost use Rattle.fmp_board.specs.declared.fault.BoardFault.TheVariants.{Limit};
 ghost use Rattle.fmp_image.specs.Images.{ImageTables, Spells};
-ghost use Rattle.fmp_trace.specs.Steps.{steps_text};
+ghost use Rattle.fmp_steps.specs.Steps.{steps_text};
 
 use crate::events::Journal;
 use crate::play::play;

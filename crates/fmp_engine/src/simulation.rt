@@ -65,8 +65,7 @@ fn simulate<T: Outlet>(
 }
 
 /// Loads an image, runs it over the events of a steps text within n instructions a stretch, 1 to 2^48, and gives an
-/// outlet the trace and the states of the tasks at the end, piece by piece. No more than a piece of the text stands in
-/// memory.
+/// outlet the trace and the states of the tasks at the end, piece by piece.
 ///
 /// The image is judged first, then the steps. Where one of them is refused or memory runs out, the outlet has been
 /// given nothing.

@@ -16,7 +16,7 @@ use Rattle.fmp_kernel.specs.KernelViews.{KernelView, view_after_all, view_of_set
 use Rattle.fmp_row.specs.Seats.{RowId, SeatState, given}
 use Rattle.fmp_row.specs.Views.{looked_at}
 use Rattle.fmp_row.specs.Words.{event_in}
-use Rattle.fmp_hostrun.specs.Boards.{IsAt}
+use Rattle.fmp_board.specs.Boards.{IsAt}
 
 -- a follower, by the seat that it reads from
 pub record FollowerState : Type 0 where

@@ -4,13 +4,13 @@ ghost use Rattle.fmp_base.specs.Steps.{step};
 ghost use Rattle.fmp_base.specs.Systems.{tables_of};
 ghost use Rattle.fmp_code.specs.Machine.{code_meaning};
 ghost use Rattle.fmp_follower.specs.Followers.{Continues, FollowedTextIsFront, Follows, IsFollowing, followed_text, reaction_text};
-ghost use Rattle.fmp_hostrun.specs.Replays.{kernel_after};
+ghost use Rattle.fmp_board.specs.Replays.{kernel_after};
 ghost use Rattle.fmp_kernel.specs.KernelViews.{view_after};
 ghost use Rattle.fmp_row.specs.Seats.{given};
 
 use fmp_base::{Effect, Event, System};
+use fmp_board::{Board, Seat, Site, kernel_of};
 use fmp_code::Vm;
-use fmp_hostrun::{Board, Seat, Site, kernel_of};
 use fmp_kernel::Kernel;
 use fmp_trace::print;
 use std::alloc::{AllocError, Global};
@@ -107,7 +107,7 @@ fn advance<'a, S: Site>(
 impl<'a, 'b, S: Site> Follower<'a, 'b, S> {
     ghost use Rattle.std.specs.Prelude.{◌≡◌, ◌++◌, [], IfOk, OnOk, OnErr};
     ghost use Rattle.fmp_row.specs.Seats.{given};
-    ghost use Rattle.fmp_hostrun.specs.Boards.{IsAt};
+    ghost use Rattle.fmp_board.specs.Boards.{IsAt};
     ghost use Rattle.fmp_follower.specs.Followers.{Continues, Follows, events_of, followed_text, kernel_over};
 
     /// A follower of a board from a seat of it that was given no event yet. The lines of setup are appended.

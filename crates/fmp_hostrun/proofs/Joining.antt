@@ -5,10 +5,10 @@ use Rattle.std.specs.List.{AllZip}
 use Rattle.std.specs.Prelude.{IfErr, IfOk}
 use Rattle.fmp_image.specs.Images.{ImageTables}
 use Rattle.fmp_row.specs.Seats.{RowId, SeatState}
-use Rattle.fmp_hostrun.specs.declared.fault.BoardFault.{BoardFault}
+use Rattle.fmp_board.specs.declared.fault.BoardFault.{BoardFault}
 use Rattle.fmp_hostrun.specs.declared.turns.Load.{Load}
 use Rattle.fmp_hostrun.specs.declared.turns.Part.{Part}
-use Rattle.fmp_hostrun.specs.Boards.{IsTurnFault}
+use Rattle.fmp_board.specs.Boards.{IsTurnFault}
 use Rattle.fmp_hostrun.specs.Works.{AllAdded, IsDone, Job, both, mine_of, part_at, seats_of}
 use Rattle.fmp_hostrun.proofs.Starting.{none_left}
 

@@ -1,11 +1,3 @@
-pub mod Blanks
-pub mod Copying
-pub mod Crossing
-pub mod Drawing
-pub mod Entering
-pub mod Entries
 pub mod Joining
-pub mod Replaying
 pub mod Starting
-pub mod Visiting
 pub mod Working

@@ -6,13 +6,13 @@ use Rattle.std.specs.List.{All, AllZip}
 use Rattle.std.specs.Prelude.{IfErr, IfOk}
 use Rattle.fmp_image.specs.Images.{ImageTables}
 use Rattle.fmp_row.specs.Seats.{RowId, SeatState}
-use Rattle.fmp_hostrun.specs.declared.fault.BoardFault.{BoardFault}
-use Rattle.fmp_hostrun.specs.Boards.{IsAt, IsTurnFault}
-use Rattle.fmp_hostrun.specs.Visits.{Kept}
+use Rattle.fmp_board.specs.declared.fault.BoardFault.{BoardFault}
+use Rattle.fmp_board.specs.Boards.{IsAt, IsTurnFault}
+use Rattle.fmp_board.specs.Visits.{Kept}
 use Rattle.fmp_hostrun.specs.declared.turns.Load.{Load}
 use Rattle.fmp_hostrun.specs.Works.{AllAdded, AllButOne, CameBack, CameBackAs, mine_of, part_at}
 use Rattle.fmp_hostrun.proofs.Working.{added_begin}
-use Rattle.fmp_hostrun.specs.declared.fault.BoardFault.TheVariants as fault
+use Rattle.fmp_board.specs.declared.fault.BoardFault.TheVariants as fault
 
 -- seats: those whose threads were started, the one whose thread was refused, those that were spared then, and the rest
 abbrev pub Started : (refused : Bool) → (seats started spared rest : List SeatState) → Type 0

@@ -14,14 +14,14 @@ use Rattle.fmp_row.specs.declared.entry.JournalEntry.{JournalEntry}
 use Rattle.fmp_row.specs.Seats.{RowId, SeatState, events}
 use Rattle.fmp_row.specs.Views.{own}
 use Rattle.fmp_row.specs.Words.{entry}
-use Rattle.fmp_hostrun.specs.declared.fault.BoardFault.{BoardFault}
-use Rattle.fmp_hostrun.specs.declared.receipt.Receipt.{Receipt}
-use Rattle.fmp_hostrun.specs.Outcomes.{AnsweredAfter, Submitted, TicketState}
-use Rattle.fmp_hostrun.specs.Receipts.{receipt_of}
-use Rattle.fmp_hostrun.specs.Replays.{reaction}
-use Rattle.fmp_hostrun.specs.Visits.{FedAfter, Fed, Kept, Visited, entered, journaled}
+use Rattle.fmp_board.specs.declared.fault.BoardFault.{BoardFault}
+use Rattle.fmp_board.specs.declared.receipt.Receipt.{Receipt}
+use Rattle.fmp_board.specs.Outcomes.{AnsweredAfter, Submitted, TicketState}
+use Rattle.fmp_board.specs.Receipts.{receipt_of}
+use Rattle.fmp_board.specs.Replays.{reaction}
+use Rattle.fmp_board.specs.Visits.{FedAfter, Fed, Kept, Visited, entered, journaled}
 use Rattle.fmp_hostrun.specs.Works.{Added, IsCounted}
-use Rattle.fmp_hostrun.proofs.Visiting.{kept_none, kept_more, kept_on}
+use Rattle.fmp_board.proofs.Visiting.{kept_none, kept_more, kept_on}
 
 -- entries of one seat
 

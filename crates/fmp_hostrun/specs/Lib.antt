@@ -1,7 +1,1 @@
-pub mod Boards
-pub mod Outcomes
-pub mod Receipts
-pub mod Replays
-pub mod Sites
-pub mod Visits
 pub mod Works

@@ -7,12 +7,12 @@ use Rattle.fmp_image.specs.Images.{ImageTables}
 use Rattle.fmp_row.specs.Seats.{RowId, SeatState}
 use Rattle.fmp_row.specs.Views.{own}
 use Rattle.fmp_row.specs.Words.{entry}
-use Rattle.fmp_hostrun.specs.declared.fault.BoardFault.{BoardFault}
-use Rattle.fmp_hostrun.specs.declared.fault.BoardFault.TheVariants as fault
+use Rattle.fmp_board.specs.declared.fault.BoardFault.{BoardFault}
+use Rattle.fmp_board.specs.declared.fault.BoardFault.TheVariants as fault
 use Rattle.fmp_hostrun.specs.declared.turns.Load.{Load}
 use Rattle.fmp_hostrun.specs.declared.turns.Part.{Part}
-use Rattle.fmp_hostrun.specs.Boards.{IsTurnFault}
-use Rattle.fmp_hostrun.specs.Visits.{Kept}
+use Rattle.fmp_board.specs.Boards.{IsTurnFault}
+use Rattle.fmp_board.specs.Visits.{Kept}
 
 -- the part of the thread at this place, from 0: the processors come first, and then the ticks
 abbrev pub part_at : Load → (place : ℕ) → Part

@@ -1,20 +1,16 @@
 //! What takes events from many threads.
 ghost use Rattle.std.specs.Prelude.{◌≡◌, ◌+◌, ◌⊎◌, ℕ, IfErr, IfSome};
 ghost use Rattle.fmp_base.specs.declared.events.Event.TheVariants.{Run};
-ghost use Rattle.fmp_hostrun.specs.Boards.{IsAt};
-ghost use Rattle.fmp_hostrun.specs.Outcomes.{IsDrawn};
-ghost use Rattle.fmp_hostrun.specs.Visits.{Visited, journaled};
+ghost use Rattle.fmp_board.specs.Boards.{IsAt};
+ghost use Rattle.fmp_board.specs.Outcomes.{IsDrawn};
+ghost use Rattle.fmp_board.specs.Visits.{Visited, journaled};
 ghost use Rattle.fmp_hostrun.specs.Works.{Added};
-ghost use Rattle.fmp_hostrun.specs.declared.fault.BoardFault.TheVariants.{Full, Stale};
+ghost use Rattle.fmp_board.specs.declared.fault.BoardFault.TheVariants.{Full, Stale};
 ghost use Rattle.fmp_image.specs.Images.{ImageTables};
 ghost use Rattle.fmp_row.specs.Seats.{RowId};
 
-use crate::board::Board;
-use crate::fault::BoardFault;
-use crate::outcome::Outcome;
-use crate::receipt::Receipt;
-use crate::site::Site;
 use fmp_base::Event;
+use fmp_board::{Board, BoardFault, Outcome, Receipt, Site};
 use fmp_row::Seat;
 use std::sync::Wait;
 

@@ -1,29 +1,12 @@
-//! A board that many threads share: a kernel and its journal under one lock, seats for the callers, and workers that
-//! run one processor each.
+//! Threads that share a board: a worker for each processor, and one for the ticks.
 #![tactic(auto)]
 
-mod blank;
-mod board;
-mod book;
-mod closed;
-mod desk;
-mod fault;
 mod feed;
-mod outcome;
-mod receipt;
 mod running;
-mod site;
-mod submitting;
 mod turns;
 
-pub use blank::{Blank, kernel_of};
-pub use board::Board;
-pub use book::Book;
-pub use closed::Closed;
-pub use fault::BoardFault;
-pub use fmp_row::Seat;
-pub use outcome::{Outcome, Ticket};
-pub use receipt::Receipt;
+pub use fmp_board::{
+    Blank, Board, BoardFault, Book, Closed, Outcome, Receipt, Seat, Site, Ticket, kernel_of,
+};
 pub use running::run_all;
-pub use site::Site;
 pub use turns::Gate;

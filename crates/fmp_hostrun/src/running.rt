@@ -1,16 +1,14 @@
 //! A thread for each processor of a board, and one for the ticks.
 ghost use Rattle.std.specs.Prelude.{◌≡◌, ◌+◌, ◌<◌, ◌≤◌, ◌^◌, [], ◌++◌, ◌↔◌, ◌≢◌, All, Err, IfErr, IfOk, length, map, vec_len, vec_capacity};
 ghost use Rattle.std.specs.List.{AllZip};
-ghost use Rattle.fmp_hostrun.specs.Boards.{IsAt, IsTurnFault};
-ghost use Rattle.fmp_hostrun.specs.Visits.{Kept};
+ghost use Rattle.fmp_board.specs.Boards.{IsAt, IsTurnFault};
+ghost use Rattle.fmp_board.specs.Visits.{Kept};
 ghost use Rattle.fmp_hostrun.specs.Works.{AllAdded, AreRun, CameBack, CameBackAs, GaveBack, IsDone, both, job_of, mine_of, seats_of};
-ghost use Rattle.fmp_hostrun.specs.declared.fault.BoardFault.TheVariants.{Limit};
+ghost use Rattle.fmp_board.specs.declared.fault.BoardFault.TheVariants.{Limit};
 
-use crate::board::Board;
-use crate::fault::BoardFault;
 use crate::feed::Feed;
-use crate::site::Site;
 use crate::turns::{Gate, Load, Part, run_part};
+use fmp_board::{Board, BoardFault, Site};
 use fmp_row::Seat;
 use std::alloc::{AllocError, Global};
 use std::marker::PhantomData;

@@ -1,13 +1,13 @@
 //! What one thread of a board does: the turns of a processor, or the ticks.
 ghost use Rattle.std.specs.Prelude.{◌≡◌, ◌+◌, ◌⊎◌, cond, IfOk, IfErr};
 ghost use Rattle.fmp_base.specs.declared.events.Event.TheVariants.{Run};
-ghost use Rattle.fmp_hostrun.specs.declared.fault.BoardFault.TheVariants.{Full, Held};
-ghost use Rattle.fmp_hostrun.specs.Boards.{IsAt, IsTurnFault};
+ghost use Rattle.fmp_board.specs.declared.fault.BoardFault.TheVariants.{Full, Held};
+ghost use Rattle.fmp_board.specs.Boards.{IsAt, IsTurnFault};
 ghost use Rattle.fmp_hostrun.specs.Works.{Added, GaveBack};
 
-use crate::fault::BoardFault;
 use crate::feed::Feed;
 use fmp_base::Event;
+use fmp_board::BoardFault;
 use fmp_row::Seat;
 use std::sync::Wait;
 use std::thread;

@@ -12,7 +12,7 @@ use Rattle.fmp_base.specs.Systems.{SystemTables}
 use Rattle.fmp_base.specs.Stretches.{Ending}
 use Rattle.fmp_body.specs.Contexts.{OfCall}
 use Rattle.fmp_kernel.specs.Contexts.{AllContexts, OfOption, OfHeld, HandlerFits, Fitting, Entered, IsThere, HasContext, IsFor}
-use Rattle.fmp_kernel.specs.Groups.{IsTaskOf}
+use Rattle.fmp_calls.specs.Groups.{IsTaskOf}
 use Rattle.fmp_kernel.specs.Rooms.{HasPlaces}
 use Rattle.fmp_worlds.specs.Stamps.{going_from, going_by}
 

@@ -2,7 +2,6 @@ mod ActorLemmas
 mod ContextLemmas
 mod CyclicLemmas
 mod FrontLemmas
-mod GroupLemmas
 mod HeldLemmas
 mod PlaceLemmas
 mod RangeLemmas

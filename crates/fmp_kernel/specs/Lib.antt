@@ -1,5 +1,4 @@
 pub mod Contexts
-pub mod Groups
 pub mod KernelViews
 pub mod NextTicks
 pub mod Rooms

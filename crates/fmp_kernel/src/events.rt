@@ -8,19 +8,19 @@ ghost use Rattle.fmp_base.specs.Steps.{Did, actor_ended, actor_of, call_made, ef
 ghost use Rattle.fmp_base.specs.Stretches.{ending};
 ghost use Rattle.fmp_body.specs.Contexts.{OfCall};
 ghost use Rattle.fmp_kernel.specs.Contexts.{HasContext, HasNoCall, IsFor, kept_after, stop_of};
-ghost use Rattle.fmp_kernel.specs.Groups.{IsTaskOf};
+ghost use Rattle.fmp_calls.specs.Groups.{IsTaskOf};
 ghost use Rattle.fmp_kernel.specs.KernelViews.{SameBodies, done_of, done_or, kept_in, stopped_on, with_contexts};
 ghost use Rattle.fmp_tasks.specs.Tables.{SameShape};
 ghost use Rattle.fmp_worlds.specs.Stamps.{actor_at, applied_by};
 
 use crate::actors::actor_on;
-use crate::calls::call;
 use crate::contexts::stretch;
 use crate::deliveries::entry_of;
 use crate::runner::Runner;
 use crate::ticks::advance;
 use fmp_base::{Answer, Call, Caller, Effect, Event, Line, Processor, Stretch};
 use fmp_body::{Body, Stop};
+use fmp_calls::call;
 use fmp_migrate::end_itself;
 use fmp_tasks::Tables;
 

@@ -4,7 +4,6 @@
 #![tactic(auto)]
 
 pub mod actors;
-mod calls;
 mod contexts;
 mod deliveries;
 mod events;

@@ -6,8 +6,8 @@ ghost use Rattle.fmp_base.specs.Queues.{top};
 ghost use Rattle.fmp_base.specs.States.{processor_at};
 ghost use Rattle.fmp_tasks.specs.Tables.{HasHandler, progress, SameShape};
 
-use crate::calls::context::is_cpu_locked;
 use fmp_base::{Handler, Line, Processor};
+use fmp_calls::is_cpu_locked;
 use fmp_tasks::Tables;
 
 /// Whether two processors run the same task, or both none.

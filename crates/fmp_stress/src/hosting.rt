@@ -1,6 +1,6 @@
 //! A board that is opened, run by its seats, and closed.
 ghost use Rattle.std.specs.Prelude.{◌≡◌, ◌<◌, All, IfOk, length};
-ghost use Rattle.fmp_hostrun.specs.Boards.{IsAt, blank as blank_of};
+ghost use Rattle.fmp_board.specs.Boards.{IsAt, blank as blank_of};
 
 use crate::asking::Plan;
 use crate::exit::Exit;

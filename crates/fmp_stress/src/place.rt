@@ -1,7 +1,7 @@
 //! A seat of a board with what came of its calls.
 ghost use Rattle.std.specs.Prelude.{IfSome};
-ghost use Rattle.fmp_hostrun.specs.Boards.{IsAt};
-ghost use Rattle.fmp_hostrun.specs.Outcomes.{IsDrawn};
+ghost use Rattle.fmp_board.specs.Boards.{IsAt};
+ghost use Rattle.fmp_board.specs.Outcomes.{IsDrawn};
 
 use fmp_base::Event;
 use fmp_follower::Follower;
@@ -193,7 +193,7 @@ fn printed<S: Site>(
 }
 
 impl<S: Site> Place<S> {
-    ghost use Rattle.fmp_hostrun.specs.Boards.{IsAt};
+    ghost use Rattle.fmp_board.specs.Boards.{IsAt};
 
     /// A seat that made no call yet.
     pub fn new(alloc: Global, seat: Seat) -> Place<S>

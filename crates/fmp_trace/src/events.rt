@@ -1,7 +1,7 @@
 //! Steps texts, as they are written.
 ghost use Rattle.std.specs.Prelude.{◌≡◌, ◌≤◌, ◌+◌, ◌∷◌, [], ◌++◌, take, OnOk, OnErr};
 ghost use Rattle.fmp_trace.specs.Fronts.{Begins};
-ghost use Rattle.fmp_trace.specs.Steps.{event_text, steps_text};
+ghost use Rattle.fmp_steps.specs.Steps.{event_text, steps_text};
 ghost use Rattle.fmp_trace.specs.StepsLaws.{PrintedStepsReadBack};
 
 use crate::texts::{LineBytes, ROOM, append_array, append_line, append_number};

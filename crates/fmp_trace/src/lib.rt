@@ -4,22 +4,16 @@
 
 mod calls;
 mod events;
-mod faults;
 mod lines;
 mod names;
 mod numeral;
-mod numerals;
 mod padded;
 mod page;
-mod reading;
 mod states;
-mod steps;
 mod texts;
 
 pub use events::{print_steps, printed_steps_read_back};
-pub use faults::StepsFault;
+pub use fmp_steps::{MOST_STEPS, Steps, StepsFault, read_steps};
 pub use lines::print;
 pub use page::Page;
-pub use reading::{MOST_STEPS, read_steps};
 pub use states::{listed_states_are_states, print_states};
-pub use steps::Steps;

@@ -5,7 +5,7 @@ use Rattle.fmp_code.specs.Instructions.{BodyTables}
 use Rattle.fmp_code.specs.Machine.{code_meaning}
 use Rattle.fmp_driver.specs.Driving.{IsDriven}
 use Rattle.fmp_driver.specs.NextRuns.{AreNext}
-use Rattle.fmp_hostrun.specs.Replays.{kernel_after}
+use Rattle.fmp_board.specs.Replays.{kernel_after}
 use Rattle.fmp_image.specs.Images.{ImageTables}
 use Rattle.fmp_kernel.specs.KernelViews.{KernelView}
 use Rattle.fmp_view.specs.declared.driving.Drive.{Drive}

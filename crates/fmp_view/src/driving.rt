@@ -1,13 +1,13 @@
 //! Steps of an image that is driven.
 ghost use Rattle.std.specs.Prelude.{◌≡◌, ◌+◌, ◌≤◌, ◌^◌, [], IfOk, length};
 ghost use Rattle.fmp_driver.specs.Driving.{IsDriven};
-ghost use Rattle.fmp_hostrun.specs.Replays.{kernel_after};
+ghost use Rattle.fmp_board.specs.Replays.{kernel_after};
 ghost use Rattle.fmp_view.specs.Drives.{DrivesImage};
 
 use fmp_base::System;
+use fmp_board::kernel_of;
 use fmp_code::Vm;
 use fmp_driver::{Driven, NextRun, Plan, drive, next_runs};
-use fmp_hostrun::kernel_of;
 use fmp_image::Image;
 use fmp_kernel::{Body, Kernel};
 use std::alloc::{AllocError, Global};

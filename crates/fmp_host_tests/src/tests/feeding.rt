@@ -1,6 +1,6 @@
 //! Boards that one seat feeds.
 ghost use Rattle.std.specs.Prelude.{◌≡◌, ◌<◌, All, IfOk, length};
-ghost use Rattle.fmp_hostrun.specs.Boards.{IsAt, blank as blank_of};
+ghost use Rattle.fmp_board.specs.Boards.{IsAt, blank as blank_of};
 
 use crate::tests::showing::{BOUND, Seen, board_of, image_of, last_of};
 use fmp_base::Event;

@@ -1,6 +1,6 @@
 //! Boards that are followed.
 ghost use Rattle.std.specs.Prelude.{◌≡◌, All, IfOk, length};
-ghost use Rattle.fmp_hostrun.specs.Boards.{IsAt, blank as blank_of};
+ghost use Rattle.fmp_board.specs.Boards.{IsAt, blank as blank_of};
 
 use crate::SecondFirst;
 use crate::tests::hosting::{CONFIGURATION, TASKS, simulated};

@@ -1,6 +1,6 @@
 //! A board that threads run.
 ghost use Rattle.std.specs.Prelude.{◌≡◌, All, IfOk, IfSome};
-ghost use Rattle.fmp_hostrun.specs.Boards.{IsAt, blank as blank_of};
+ghost use Rattle.fmp_board.specs.Boards.{IsAt, blank as blank_of};
 
 use crate::SecondFirst;
 use crate::tests::showing::{BOUND, Seen, board_of, image_of};

@@ -1,6 +1,6 @@
 //! Images of texts, and what is seen of boards of them.
 ghost use Rattle.std.specs.Prelude.{◌≡◌, ◌+◌, ◌<◌, All, IfOk, length};
-ghost use Rattle.fmp_hostrun.specs.Boards.{IsAt, blank as blank_of};
+ghost use Rattle.fmp_board.specs.Boards.{IsAt, blank as blank_of};
 
 use fmp_base::Event;
 use fmp_build::build;

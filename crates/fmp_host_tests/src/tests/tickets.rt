@@ -1,7 +1,7 @@
 //! Boards whose stretches are made outside the lock, and a seat that follows them.
 ghost use Rattle.std.specs.Prelude.{◌≡◌, ◌<◌, All, IfOk, length};
-ghost use Rattle.fmp_hostrun.specs.Boards.{IsAt, blank as blank_of};
-ghost use Rattle.fmp_hostrun.specs.Outcomes.{IsDrawn};
+ghost use Rattle.fmp_board.specs.Boards.{IsAt, blank as blank_of};
+ghost use Rattle.fmp_board.specs.Outcomes.{IsDrawn};
 ghost use mathlib.Core.List.{IsPrefix};
 
 use crate::tests::hosting::{CONFIGURATION, SUSPENDED, TASKS};
@@ -58,7 +58,7 @@ fn followed<S: Site>(
 }
 
 /// Feeds a run of processor 2 so often, and then submits both outcomes.
-#[tactic(auto, using(fmp_hostrun::proofs::Visiting::drawn_later, fmp_hostrun::proofs::Visiting::prefix_then))]
+#[tactic(auto, using(fmp_board::proofs::Visiting::drawn_later, fmp_board::proofs::Visiting::prefix_then))]
 fn submitted<S: Site, R: Wait>(
     rt: &R,
     alloc: Global,

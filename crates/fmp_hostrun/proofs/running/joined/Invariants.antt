@@ -1,7 +1,7 @@
 use Rattle.std.proofs.Common.{◌≡◌, ◌+◌, ◌≤◌, ◌++◌, List, IfErr, IfOk, map, length, vec_len, vec_capacity}
 use Rattle.std.specs.List.{AllZip}
 use Rattle.std.specs.Vec.Iter.{into_iter_items, into_iter_len}
-use Rattle.fmp_hostrun.specs.Boards.{IsTurnFault}
+use Rattle.fmp_board.specs.Boards.{IsTurnFault}
 use Rattle.fmp_hostrun.specs.Works.{IsDone, Job, job_of}
 use Rattle.fmp_hostrun.proofs.Joining.{IsCount}
 use Rattle.fmp_hostrun.proofs.running.joined.Given as goal

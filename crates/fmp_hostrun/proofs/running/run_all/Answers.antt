@@ -1,6 +1,6 @@
 use Rattle.std.proofs.Common.{rules}
 use denote.Param.Send.{sendable}
-use Rattle.fmp_hostrun.proofs.Crossing.{board_sync}
+use Rattle.fmp_board.proofs.Crossing.{board_sync}
 use Rattle.fmp_hostrun.proofs.Starting.{all_as_they_were, all_at, kept_as_they_were, kept_back, same_count}
 use Rattle.fmp_hostrun.proofs.running.run_all.Goals as goal
 

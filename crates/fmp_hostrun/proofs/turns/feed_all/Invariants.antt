@@ -1,5 +1,5 @@
 use Rattle.std.proofs.Common.{◌≡◌, ◌+◌, ◌≤◌}
-use Rattle.fmp_hostrun.specs.Boards.{IsAt}
+use Rattle.fmp_board.specs.Boards.{IsAt}
 use Rattle.fmp_hostrun.specs.Works.{Added}
 use Rattle.fmp_hostrun.proofs.turns.feed_all.Given as goal
 

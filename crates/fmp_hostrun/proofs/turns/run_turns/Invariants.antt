@@ -1,6 +1,6 @@
 use Rattle.std.proofs.Common.{◌≡◌, ◌+◌, ◌≤◌}
 use Rattle.fmp_base.specs.declared.events.Event.TheVariants.{Run}
-use Rattle.fmp_hostrun.specs.Boards.{IsAt}
+use Rattle.fmp_board.specs.Boards.{IsAt}
 use Rattle.fmp_hostrun.specs.Works.{Added}
 use Rattle.fmp_hostrun.proofs.turns.run_turns.Given as goal
 

@@ -1,4 +1,4 @@
-use Rattle.fmp_hostrun.proofs.Visiting.{drawn_later}
+use Rattle.fmp_board.proofs.Visiting.{drawn_later}
 use Rattle.fmp_stress.proofs.place.submitted_after.Goals as goal
 
 pub submit-requires-clause-drawn : goal.submit-requires-clause-drawn

@@ -1,6 +1,6 @@
 use denote.Param.Send.{sendable}
 use Rattle.std.proofs.Crossing.{crosses}
-use Rattle.fmp_hostrun.proofs.Crossing.{board_sync}
+use Rattle.fmp_board.proofs.Crossing.{board_sync}
 use Rattle.fmp_stress.proofs.asking.Plan.TheSendSync as plan
 use Rattle.fmp_stress.proofs.threads.work_all.Goals as goal
 

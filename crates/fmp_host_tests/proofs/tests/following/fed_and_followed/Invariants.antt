@@ -1,4 +1,4 @@
-use Rattle.fmp_hostrun.specs.Boards.{IsAt}
+use Rattle.fmp_board.specs.Boards.{IsAt}
 use Rattle.fmp_host_tests.proofs.tests.following.fed_and_followed.Given as goal
 
 abbrev pub invariant-loop-event : goal.invariant-loop-event

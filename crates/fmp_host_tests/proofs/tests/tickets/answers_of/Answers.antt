@@ -1,4 +1,4 @@
-use Rattle.fmp_hostrun.proofs.Visiting.{drawn_later}
+use Rattle.fmp_board.proofs.Visiting.{drawn_later}
 use Rattle.fmp_host_tests.proofs.tests.tickets.answers_of.Goals as goal
 
 pub submitted-requires-clause-first : goal.submitted-requires-clause-first

@@ -1,4 +1,4 @@
-use Rattle.fmp_hostrun.proofs.Visiting.{drawn_later}
+use Rattle.fmp_board.proofs.Visiting.{drawn_later}
 use Rattle.fmp_host_tests.proofs.tests.tickets.overtaken.Goals as goal
 
 pub submit-answer-requires-clause-drawn : goal.submit-answer-requires-clause-drawn

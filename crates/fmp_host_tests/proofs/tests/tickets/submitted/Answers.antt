@@ -1,4 +1,4 @@
-use Rattle.fmp_hostrun.proofs.Visiting.{drawn_later}
+use Rattle.fmp_board.proofs.Visiting.{drawn_later}
 use Rattle.fmp_host_tests.proofs.tests.tickets.submitted.Goals as goal
 
 pub loop-preserved : goal.loop-preserved

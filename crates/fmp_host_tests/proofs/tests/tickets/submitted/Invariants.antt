@@ -1,5 +1,5 @@
-use Rattle.fmp_hostrun.specs.Boards.{IsAt}
-use Rattle.fmp_hostrun.specs.Outcomes.{IsDrawn}
+use Rattle.fmp_board.specs.Boards.{IsAt}
+use Rattle.fmp_board.specs.Outcomes.{IsDrawn}
 use Rattle.fmp_host_tests.proofs.tests.tickets.submitted.Given as goal
 
 -- both tickets were drawn after a beginning of what the seat has seen

@@ -1,6 +1,6 @@
 use Rattle.std.proofs.Common.{◌≡◌, ◌+◌, ◌≤◌, All, map, length, vec_len, vec_capacity}
 use Rattle.std.specs.Vec.Iter.{into_iter_items, into_iter_len}
-use Rattle.fmp_hostrun.specs.Boards.{IsAt}
+use Rattle.fmp_board.specs.Boards.{IsAt}
 use Rattle.fmp_hostrun.specs.Works.{job_of, seats_of}
 use Rattle.fmp_hostrun.proofs.Joining.{ArePlaced}
 use Rattle.fmp_hostrun.proofs.Starting.{Started}

@@ -1,0 +1,189 @@
+-- Actors that were drawn after a beginning of a journal, and their stretches.
+use Rattle.std.proofs.Common.{◌≡◌, ◌≢◌, ℕ, zero, suc, ◌<◌, ◌≤◌, List, [], ◌∷◌, ◌++◌, Option, Some, None, Bool, true, false, nat_eq, MatchBool, get_or, refl, sym, ap, ◌∙◌, subst, arith}
+use Rattle.std.proofs.lemmas.Bool.{eqb-true}
+use Rattle.std.proofs.lemmas.Bool.Decides.{nat_tests}
+use Rattle.fmp_base.specs.declared.events.Event.{Event}
+use Rattle.fmp_base.specs.declared.events.Event.TheVariants.{Run}
+use Rattle.fmp_base.specs.Meanings.{Meaning}
+use Rattle.fmp_base.specs.Runs.{run, run_on}
+use Rattle.fmp_base.specs.Setups.{setup}
+use Rattle.fmp_base.specs.Steps.{Done, Reaction, Nothing, Did, step}
+use Rattle.fmp_base.specs.Stretches.{Ending}
+use Rattle.fmp_base.specs.Systems.{SystemTables}
+use Rattle.fmp_code.specs.declared.instructions.MachineContext.{MachineContext}
+use Rattle.fmp_code.specs.Instructions.{BodyTables}
+use Rattle.fmp_code.specs.Machine.{code_meaning}
+use Rattle.fmp_image.specs.Images.{ImageTables}
+use Rattle.fmp_kernel.specs.declared.actors.Actor.{Actor}
+use Rattle.fmp_kernel.specs.KernelViews.{KernelView, actor_in, done_or, view_after, view_after_all, view_of_setup, with_stamp}
+use Rattle.fmp_row.specs.declared.entry.JournalEntry.{JournalEntry}
+use Rattle.fmp_row.specs.Seats.{events}
+use Rattle.fmp_worlds.specs.Stamps.{EndsSo, Going, actor_at, applied, stamp}
+use Rattle.fmp_worlds.proofs.SettledLaws.{run-settled, setup-settled}
+use Rattle.fmp_worlds.proofs.StampLaws.{applied-runs, equal_stamps}
+use Rattle.fmp_board.specs.Boards.{IsReplay}
+use Rattle.fmp_board.specs.Outcomes.{TicketState, IsDrawn, IsTicketOf, OutcomeState, IsOutcome, actor_after, stamp_after, stamp_at}
+use Rattle.fmp_board.specs.Replays.{done_after, kernel_after, reaction, replay, stamps_after, stamps_on, stamps_or}
+use Rattle.fmp_board.proofs.Replaying.{step_of_replay}
+
+abbrev Kernels : Type 0
+Kernels = KernelView (List BodyTables) MachineContext
+
+events-append : (xs ys : List JournalEntry) → events (xs ++ ys) ≡ events xs ++ events ys
+events-append [] ys = refl
+events-append (x ∷ xs) ys = ap (λ (es : List Event). x.event ∷ es) (events-append xs ys)
+
+-- an actor without its stamp
+abbrev going_of : Actor MachineContext → Going MachineContext
+going_of a = record { entry = a.entry; context = a.context }
+
+-- what an actor with a stamp was made of
+record IsStamped (stamp : ℕ) (o : Option (Going MachineContext)) (a : Actor MachineContext) : Type 0 where
+  goes : o ≡ Some (going_of a)
+  stamp_is : stamp ≡ a.stamp
+
+is_stamped : (stamp : ℕ) (o : Option (Going MachineContext)) (a : Actor MachineContext) → with_stamp stamp o ≡ Some a → IsStamped stamp o a
+is_stamped stamp None a h = cc
+is_stamped stamp (Some g) a h =
+    let made : Actor MachineContext = record { entry = g.entry; context = g.context; stamp = stamp } in
+    let same : made ≡ a = cc in
+    record {
+      goes = ap (λ (x : Actor MachineContext). Some (going_of x)) same;
+      stamp_is = ap (λ (x : Actor MachineContext). x.stamp) same;
+    }
+
+-- to hand in the stretch of the actor of a processor is to run the processor
+applied_runs : (k : Kernels) (p : ℕ) (a : Actor MachineContext) (x : Ending MachineContext) → actor_in k p ≡ Some a
+    → x ≡ (code_meaning k.body).stretch a.entry k.bound a.context
+    → applied k.system (code_meaning k.body) k.world p x ≡ step k.system (code_meaning k.body) k.bound k.world (Run p)
+applied_runs k zero a x h e = absurd (cc)
+applied_runs k (suc q) a x h e =
+    let s = is_stamped (get_or k.stamps q 0) (actor_at k.system k.world q) a h in
+    applied-runs k.system (code_meaning k.body) k.bound k.world q x
+    (subst (λ (o : Option (Going MachineContext)). EndsSo (code_meaning k.body) k.bound x o) (sym s.goes) e)
+
+-- the kernel that is the replay of a journal has the actors after it
+pub actor_there : (i : ImageTables) (n k m : ℕ) (kernel : Kernels) (journal : List JournalEntry) (p : ℕ) → IsReplay i n k m kernel journal
+    → actor_in kernel p ≡ actor_after i n journal p
+actor_there i n k m kernel journal p r = ap (λ (v : Kernels). actor_in v p) r.kernel_is
+
+pub outcome_runs : (i : ImageTables) (n k m : ℕ) (kernel : Kernels) (journal : List JournalEntry) (o : OutcomeState) → IsReplay i n k m kernel journal
+    → IsOutcome o → IsTicketOf i n o.ticket → actor_after i n journal o.ticket.processor ≡ Some o.ticket.actor
+    → applied kernel.system (code_meaning kernel.body) kernel.world o.ticket.processor o.ending ≡ reaction i n (events journal) (Run o.ticket.processor)
+outcome_runs i n k m kernel journal o r is of here =
+    let body : kernel.body ≡ o.ticket.image.code = ap (λ (v : Kernels). v.body) r.kernel_is ∙ sym (ap (λ (x : ImageTables). x.code) of.image_is) in
+    let bound : kernel.bound ≡ o.ticket.bound = ap (λ (v : Kernels). v.bound) r.kernel_is ∙ sym of.bound_is in
+    let ends : o.ending ≡ (code_meaning kernel.body).stretch o.ticket.actor.entry kernel.bound o.ticket.actor.context =
+    is.ending_is
+    ∙ ap (λ (c : List BodyTables). (code_meaning c).stretch o.ticket.actor.entry o.ticket.bound o.ticket.actor.context) (sym body)
+    ∙ ap (λ (b : ℕ). (code_meaning kernel.body).stretch o.ticket.actor.entry b o.ticket.actor.context) (sym bound) in
+    applied_runs kernel o.ticket.processor o.ticket.actor o.ending (actor_there i n k m kernel journal o.ticket.processor r ∙ here) ends
+    ∙ step_of_replay i n (events journal) (Run o.ticket.processor) kernel r.kernel_is
+
+-- runs
+
+module _ {C : Type 0} (sys : SystemTables) (M : Meaning C) (bound : ℕ) where
+  world_after : (d : Done C) (es : List Event) → (done_after sys M bound d es).world ≡ (run sys M bound d.world es).world
+  world_after d [] = refl
+  world_after d (e ∷ es) = by_reaction (step sys M bound d.world e) (λ n. world_after n es) where
+    by_reaction : (x : Reaction C) → ((n : Done C) → (done_after sys M bound n es).world ≡ (run sys M bound n.world es).world)
+        → (done_after sys M bound (done_or d x) es).world ≡ (run_on d.world x (λ v. run sys M bound v es)).world
+    by_reaction Nothing rest = rest d
+    by_reaction (Did n) rest = rest n
+
+abbrev last_of : Kernels → Done MachineContext
+last_of k = record { world = k.world; lines = k.lines }
+
+stamps_of_all : (k : Kernels) (es : List Event)
+    → (view_after_all code_meaning k es).stamps ≡ stamps_on k.system (code_meaning k.body) k.bound (last_of k) k.stamps es
+stamps_of_all k [] = refl
+stamps_of_all k (e ∷ es) = by_reaction (step k.system (code_meaning k.body) k.bound k.world e) (λ v. stamps_of_all v es) where
+  by_reaction : (x : Reaction MachineContext)
+      → ((v : Kernels) → (view_after_all code_meaning v es).stamps ≡ stamps_on v.system (code_meaning v.body) v.bound (last_of v) v.stamps es)
+      → (view_after_all code_meaning (view_after k x) es).stamps
+      ≡ stamps_on k.system (code_meaning k.body) k.bound (done_or (last_of k) x) (stamps_or (last_of k) x k.stamps) es
+  by_reaction Nothing rest = rest k
+  by_reaction (Did d) rest = rest (view_after k (Did d))
+
+world_of : (i : ImageTables) (n : ℕ) (es : List Event)
+    → (replay i n es).world ≡ (run i.system (code_meaning i.code) n (setup i.system (code_meaning i.code)).world es).world
+unfolding replay
+world_of i n es = world_after i.system (code_meaning i.code) n (setup i.system (code_meaning i.code)) es
+
+-- the stamp of an actor is that of its processor
+pub stamp_of_actor : (i : ImageTables) (n : ℕ) (journal : List JournalEntry) (p : ℕ) (a : Actor MachineContext) → actor_after i n journal p ≡ Some a
+    → stamp_after i n journal p ≡ a.stamp
+stamp_of_actor i n journal zero a h = absurd (cc)
+stamp_of_actor i n journal (suc q) a h =
+    let s = is_stamped (get_or (stamps_after i n (events journal)) q 0) (actor_at i.system (replay i n (events journal)).world q) a h in
+    s.stamp_is
+
+-- the stamps of a kernel count events: the law of kernels
+abbrev StampsCount : Type 0
+StampsCount =
+    (meaning : List BodyTables → Meaning MachineContext) (body : List BodyTables) (n : ℕ) (sys : SystemTables) (es : List Event) (p : ℕ) → p < sys.processors
+    → get_or (view_after_all meaning (view_of_setup body n sys (setup sys (meaning body))) es).stamps p 0 ≡ stamp sys (meaning body) n (setup sys (meaning body)).world es p
+
+module _ (law : StampsCount) where
+  -- the stamp of a processor after a replay counts its events
+  stamp_counts : (i : ImageTables) (n : ℕ) (es : List Event) (p : ℕ) → p < i.system.processors
+      → get_or (stamps_after i n es) p 0 ≡ stamp i.system (code_meaning i.code) n (setup i.system (code_meaning i.code)).world es p
+  unfolding stamps_after
+  stamp_counts i n es p lt =
+      let first : Kernels = view_of_setup i.code n i.system (setup i.system (code_meaning i.code)) in
+      sym (ap (λ (xs : List ℕ). get_or xs p 0) (stamps_of_all first es)) ∙ law code_meaning i.code n i.system es p lt
+
+  -- where the stamp of the processor at place q is that of an actor that was drawn before, it still has this actor
+  same_place : (i : ImageTables) (n : ℕ) (es fs : List Event) (q : ℕ) (a : Actor MachineContext) → q < i.system.processors
+      → actor_in (kernel_after i n es) (suc q) ≡ Some a → get_or (stamps_after i n (es ++ fs)) q 0 ≡ a.stamp
+      → actor_in (kernel_after i n (es ++ fs)) (suc q) ≡ Some a
+  same_place i n es fs q a lt was same =
+      let sys = i.system in
+      let M = code_meaning i.code in
+      let w = (setup sys M).world in
+      let s = is_stamped (get_or (stamps_after i n es) q 0) (actor_at sys (replay i n es).world q) a was in
+      let then : actor_at sys (run sys M n w es).world q ≡ Some (going_of a) =
+      sym (ap (λ v. actor_at sys v q) (world_of i n es)) ∙ s.goes in
+      let counts : stamp sys M n w (es ++ fs) q ≡ stamp sys M n w es q =
+      sym (stamp_counts i n (es ++ fs) q lt) ∙ same ∙ sym s.stamp_is ∙ stamp_counts i n es q lt in
+      let now : actor_at sys (replay i n (es ++ fs)).world q ≡ Some (going_of a) =
+      ap (λ v. actor_at sys v q) (world_of i n (es ++ fs))
+      ∙ equal_stamps sys M n w es fs q (going_of a) (run-settled sys M n w es (setup-settled sys M)) counts then in
+      ap (λ (o : Option (Going MachineContext)). with_stamp (get_or (stamps_after i n (es ++ fs)) q 0) o) now
+      ∙ ap (λ (k : ℕ). with_stamp k (Some (going_of a))) same
+
+  by_number : (i : ImageTables) (n : ℕ) (es fs : List Event) (p : ℕ) (a : Actor MachineContext) → p ≤ i.system.processors
+      → actor_in (kernel_after i n es) p ≡ Some a → stamp_at p (stamps_after i n (es ++ fs)) ≡ a.stamp
+      → actor_in (kernel_after i n (es ++ fs)) p ≡ Some a
+  by_number i n es fs zero a le was same = absurd (cc)
+  by_number i n es fs (suc q) a le was same = same_place i n es fs q a (omega (arith, le)) was same
+
+  -- an actor that was drawn is the present one where its stamp is
+  drawn_now : (i : ImageTables) (n : ℕ) (journal : List JournalEntry) (t : TicketState) → IsDrawn i n journal t
+      → stamp_after i n journal t.processor ≡ t.actor.stamp → actor_after i n journal t.processor ≡ Some t.actor
+  drawn_now i n journal t d same =
+      let rest = d.begins.0 in
+      let all : events journal ≡ events d.begin ++ events rest = sym (ap events d.begins.1) ∙ events-append d.begin rest in
+      ap (λ (es : List Event). actor_in (kernel_after i n es) t.processor) all
+      ∙ by_number i n (events d.begin) (events rest) t.processor t.actor d.is_of.is_processor d.actor_is
+      (sym (ap (λ (es : List Event). stamp_at t.processor (stamps_after i n es)) all) ∙ same)
+
+  -- whether a processor has the stamp of an actor that was drawn before, by its present actor
+  pub stamp_test : (i : ImageTables) (n k m : ℕ) (kernel : Kernels) (journal : List JournalEntry) (t : TicketState) (a : Actor MachineContext) → IsReplay i n k m kernel journal
+      → IsDrawn i n journal t → actor_in kernel t.processor ≡ Some a
+      → MatchBool (nat_eq a.stamp t.actor.stamp) (actor_after i n journal t.processor ≡ Some t.actor) (stamp_after i n journal t.processor ≢ t.actor.stamp)
+  stamp_test i n k m kernel journal t a r d h = by_test (nat_eq a.stamp t.actor.stamp) refl where
+    now : stamp_after i n journal t.processor ≡ a.stamp
+    now = stamp_of_actor i n journal t.processor a (sym (actor_there i n k m kernel journal t.processor r) ∙ h)
+
+    by_test : (b : Bool) → nat_eq a.stamp t.actor.stamp ≡ b
+        → MatchBool b (actor_after i n journal t.processor ≡ Some t.actor) (stamp_after i n journal t.processor ≢ t.actor.stamp)
+    by_test true e = drawn_now i n journal t d (now ∙ eqb-true a.stamp t.actor.stamp e)
+    by_test false e = λ same. absurd (let other : a.stamp ≡ t.actor.stamp = sym now ∙ same in grind (arith, nat_tests, other, e))
+
+  -- a processor without an actor has none of its stamps
+  pub none_test : (i : ImageTables) (n k m : ℕ) (kernel : Kernels) (journal : List JournalEntry) (t : TicketState) → IsReplay i n k m kernel journal
+      → IsDrawn i n journal t → actor_in kernel t.processor ≡ None → stamp_after i n journal t.processor ≢ t.actor.stamp
+  none_test i n k m kernel journal t r d h = λ same.
+      let there : Some t.actor ≡ None = sym (drawn_now i n journal t d same) ∙ sym (actor_there i n k m kernel journal t.processor r) ∙ h in
+      absurd (cc)

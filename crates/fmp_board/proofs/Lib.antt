@@ -1,0 +1,8 @@
+pub mod Blanks
+pub mod Copying
+pub mod Crossing
+pub mod Drawing
+pub mod Entering
+pub mod Entries
+pub mod Replaying
+pub mod Visiting

@@ -1,0 +1,13 @@
+-- The events so far are copied.
+use Rattle.std.proofs.Common.{◌≡◌, ◌≤◌, length, take, vec_capacity}
+use Rattle.fmp_row.specs.Seats.{events}
+use Rattle.fmp_board.proofs.book.copied.Given as goal
+
+abbrev pub invariant-loop-place : goal.invariant-loop-place
+invariant-loop-place l =
+    record {
+      same : l.scribe ≡ l.fn.scribe;
+      copied : l.room.items ≡ take l.place (events l.fn.scribe.journal);
+      count : length l.room.items ≡ l.place;
+      room : length l.fn.scribe.journal ≤ vec_capacity l.room;
+    }

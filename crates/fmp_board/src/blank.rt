@@ -1,0 +1,179 @@
+//! A board that is not yet open.
+ghost use Rattle.std.specs.Prelude.{◌≡◌, ◌<◌, ◌≤◌, ◌^◌, [], IfOk, MatchResult, All, vec_capacity};
+ghost use Rattle.fmp_board.specs.Boards.{InRange, IsAt};
+ghost use Rattle.fmp_row.specs.Seats.{AreNew};
+ghost use Rattle.fmp_board.specs.Replays.{kernel_after};
+
+use crate::board::Board;
+use crate::book::Book;
+use crate::fault::BoardFault;
+use crate::site::Site;
+use fmp_base::Event;
+use fmp_code::Vm;
+use fmp_image::Image;
+use fmp_kernel::Kernel;
+use fmp_row::{EmptyRow, Row, Scribe, Seat};
+use std::alloc::{AllocError, Global};
+use std::marker::Model;
+
+/// The most instructions that a stretch may take, 2^48.
+const BOUND_MAX: u64 = 281_474_976_710_656;
+
+/// The most events that a board may have room for, 2^20.
+const CAPACITY_MAX: u32 = 1_048_576;
+
+/// The most seats that a board may have.
+const SEATS_MAX: u8 = 64;
+
+/// A board that is not yet open: the kernel of its image after setup, and a row in which nothing is written.
+#[derive(Drop)]
+pub struct Blank<'a> {
+    image: &'a Image,
+    kernel: Kernel<Vm<'a>>,
+    row: Row,
+    scribe: Scribe,
+    room: Vec<Event>,
+    bound: u64,
+    capacity: u32,
+    seats: u8,
+}
+
+impl<'a> Model for Blank<'a> {
+    ghost use Rattle.std.specs.Prelude.{◌≡◌, ◌≤◌, [], vec_capacity};
+    ghost use Rattle.fmp_row.specs.Seats.{new_scribe};
+    ghost use Rattle.fmp_board.specs.Boards.{BlankState, InRange, IsReplay, IsRoom};
+
+    ghost Value = { BlankState };
+
+    ghost view = { λ b. record { image = b.image.now; bound = b.bound; row = b.row } };
+
+    ghost invariant = { λ b. InRange b.bound b.row.capacity b.row.seats
+        × IsReplay b.image.now b.bound b.row.capacity b.row.seats b.kernel [] × (b.scribe ≡ new_scribe b.row)
+        × IsRoom b.row b.capacity b.seats × (b.room.items ≡ []) × (b.row.capacity ≤ vec_capacity b.room) };
+}
+
+/// The kernel of an image after setup, for whoever runs an image without a board. A stretch of a body takes at most n
+/// instructions, 1 to 2^48. `AllocError` for want of memory: no call of the kernel takes any.
+pub fn kernel_of<'a>(alloc: Global, image: &'a Image, n: u64) -> Result<Kernel<Vm<'a>>, AllocError>
+    requires low { 1 ≤ n }
+    requires high { n ≤ 2 ^ 48 }
+    ensures { IfOk result (λ kernel. kernel ≡ kernel_after image.now n []) }
+{
+    image.keeps_rules();
+    match Kernel::new(alloc, image.vm(), image.system(), n) {
+        Ok(kernel) => Ok(kernel),
+        Err(_) => Err(AllocError),
+    }
+}
+
+impl<'a> Blank<'a> {
+    ghost use Rattle.std.specs.Prelude.{◌≡◌, ◌≤◌, [], IfOk, MatchResult, All, vec_capacity};
+    ghost use Rattle.fmp_board.specs.Boards.{InRange, IsAt, IsReplay, IsRoom, blank};
+    ghost use Rattle.fmp_row.specs.Seats.{AreNew, RowId, new_scribe};
+    ghost use Rattle.fmp_board.specs.declared.fault.BoardFault.TheVariants.{Memory, Limit};
+
+    /// A blank of these parts.
+    fn of(
+        image: &'a Image,
+        kernel: Kernel<Vm<'a>>,
+        row: Row,
+        scribe: Scribe,
+        room: Vec<Event>,
+        bound: u64,
+        limits: (u32, u8),
+    ) -> Blank<'a>
+        requires range { InRange bound row.capacity row.seats }
+        requires kernel { IsReplay image.now bound row.capacity row.seats kernel [] }
+        requires scribe { scribe ≡ new_scribe row }
+        requires limits { IsRoom row limits.0 limits.1 }
+        requires room { (room.items ≡ []) × (row.capacity ≤ vec_capacity room) }
+        ensures { result ≡ blank image.now bound row }
+    {
+        let (capacity, seats) = limits;
+        Blank {
+            image,
+            kernel,
+            row,
+            scribe,
+            room,
+            bound,
+            capacity,
+            seats,
+        }
+    }
+
+    /// All that a board takes in memory, the kernel last.
+    #[tactic(auto, using(crate::proofs::Blanks::range_of, crate::proofs::Blanks::room_of))]
+    fn made(
+        alloc: Global,
+        image: &'a Image,
+        n: u64,
+        k: u32,
+        m: u8,
+    ) -> Result<(Blank<'a>, Vec<Seat>), AllocError>
+        requires { InRange n k m }
+        ensures blank { IfOk result (λ made. made.0 ≡ blank image.now n made.0.row) }
+        ensures row { IfOk result (λ made. (made.0.row.capacity ≡ k) × (made.0.row.seats ≡ m)) }
+        ensures seats { IfOk result (λ made. AreNew made.0.row made.1.items) }
+        ensures at { IfOk result (λ made. All (IsAt made.0.row) made.1.items) }
+    {
+        let room = Vec::with_capacity(alloc, k as usize)?;
+        let EmptyRow { row, scribe, seats } = EmptyRow::new(alloc, k, m)?;
+        let kernel = kernel_of(alloc, image, n)?;
+        Ok((
+            Blank::of(image, kernel, row, scribe, room, n, (k, m)),
+            seats,
+        ))
+    }
+
+    /// A board of an image that is not yet open, and its seats, numbered from 0: stretches of bodies take at most n
+    /// instructions, 1 to 2^48; there is room for k events, 1 to 2^20; and there are m seats, 1 to 64.
+    ///
+    /// `BoardFault::Limit`, exactly where n, k or m is out of its range, and else `BoardFault::Memory` for want of
+    /// memory.
+    pub fn new(
+        alloc: Global,
+        image: &'a Image,
+        n: u64,
+        k: u32,
+        m: u8,
+    ) -> Result<(Blank<'a>, Vec<Seat>), BoardFault>
+        ensures made { MatchResult result
+            (λ made. InRange n k m × (made.0 ≡ blank image.now n made.0.row)
+            × (made.0.row.capacity ≡ k) × (made.0.row.seats ≡ m) × AreNew made.0.row made.1.items)
+            (λ f. (InRange n k m → f ≡ Memory) × ((InRange n k m → ⊥) → f ≡ Limit)) }
+        ensures seats { IfOk result (λ made. All (IsAt made.0.row) made.1.items) }
+    {
+        let in_range = 1 <= n
+            && n <= BOUND_MAX
+            && 1 <= k
+            && k <= CAPACITY_MAX
+            && 1 <= m
+            && m <= SEATS_MAX;
+        if !in_range {
+            return Err(BoardFault::Limit);
+        }
+        match Blank::made(alloc, image, n, k, m) {
+            Ok(made) => Ok(made),
+            Err(_) => Err(BoardFault::Memory),
+        }
+    }
+
+    /// Opens the board, for the site that stands for it.
+    pub fn open<S: Site>(self) -> Board<'a, S>
+        requires { self ≡ blank S.image S.bound S.row_id }
+    {
+        let Blank {
+            image,
+            kernel,
+            row,
+            scribe,
+            room,
+            bound,
+            capacity,
+            seats,
+        } = self;
+        let book = Book::new(image, kernel, scribe, bound, capacity, seats);
+        Board::new(image, row, room, bound, book)
+    }
+}

@@ -1,0 +1,104 @@
+//! The book of a board as it lies under the free lock.
+ghost use Rattle.std.specs.Prelude.{◌≡◌, ◌+◌, ◌≤◌, [], IfSome, vec_capacity};
+
+use crate::book::Book;
+use crate::closed::Closed;
+use crate::fault::BoardFault;
+use crate::outcome::{Outcome, Ticket};
+use crate::receipt::Receipt;
+use crate::site::Site;
+use fmp_base::Event;
+use fmp_row::Seat;
+
+/// A book of whose journal each seat has counted its entries: who enters one is shown it before the lock is free. Its
+/// calls are those of the board.
+#[derive(Drop)]
+pub(crate) struct Desk<'a, S: Site> {
+    book: Book<'a, S>,
+    ghost counted: { book.marks ≡ [] },
+}
+
+impl<'a, S: Site> Desk<'a, S> {
+    ghost use Rattle.std.specs.Prelude.{◌≡◌, ◌+◌, ◌≤◌, [], IfSome, vec_capacity};
+    ghost use Rattle.fmp_row.specs.Seats.{events};
+    ghost use Rattle.fmp_board.specs.Boards.{IsAt, IsClosed};
+    ghost use Rattle.fmp_board.specs.Outcomes.{Drew, IsDrawn, Submitted};
+    ghost use Rattle.fmp_board.specs.Visits.{Fed, Visited, journaled};
+
+    pub fn new(book: Book<'a, S>) -> Desk<'a, S>
+        requires { book.marks ≡ [] }
+    {
+        Desk { book }
+    }
+
+    /// The seat sees the journal.
+    #[tactic(auto, using(crate::proofs::Visiting::visited, crate::proofs::Visiting::none_counted))]
+    pub fn show(&mut self, seat: &mut Seat)
+        requires { IsAt S.row_id seat.old }
+        ensures at { IsAt S.row_id seat.new }
+        ensures visited { Visited S.image S.bound S.row_id seat.old seat.new }
+        ensures mine { seat.new.mine ≡ seat.old.mine }
+        ensures seen { seat.new.seen ≡ self.new.book.journal }
+        ensures book { self.new.book ≡ self.old.book }
+    {
+        self.book.show(seat);
+    }
+
+    /// A ticket for the stretch that the actor of processor p makes next, if it has one.
+    #[tactic(auto, using(crate::proofs::Visiting::drawn_here))]
+    pub fn ticket(&mut self, seat: &mut Seat, p: u8) -> Option<Ticket<'a>>
+        requires { IsAt S.row_id seat.old }
+        ensures at { IsAt S.row_id seat.new }
+        ensures visited { Visited S.image S.bound S.row_id seat.old seat.new }
+        ensures mine { seat.new.mine ≡ seat.old.mine }
+        ensures drew { Drew S.image S.bound seat.new.seen p result }
+        ensures drawn { IfSome result (IsDrawn S.image S.bound seat.new.seen) }
+    {
+        self.show(seat);
+        self.book.ticket(p)
+    }
+
+    /// Takes the run of an outcome's processor, by the stretch that was made outside the lock.
+    pub fn submit(&mut self, seat: &mut Seat, outcome: Outcome) -> Result<Receipt, BoardFault>
+        requires at { IsAt S.row_id seat.old }
+        requires drawn { IsDrawn S.image S.bound seat.old.seen outcome.ticket }
+        ensures at { IsAt S.row_id seat.new }
+        ensures visited { Visited S.image S.bound S.row_id seat.old seat.new }
+        ensures mine { seat.new.mine ≡ seat.old.mine + journaled result }
+        ensures submitted { Submitted S.image S.bound S.row_id outcome.ticket seat.old seat.new result }
+    {
+        self.show(seat);
+        let answer = self.book.enter_outcome(seat.number(), outcome);
+        self.book.show(seat);
+        answer
+    }
+
+    /// Takes an event.
+    pub fn feed(&mut self, seat: &mut Seat, event: Event) -> Result<Receipt, BoardFault>
+        requires at { IsAt S.row_id seat.old }
+        ensures at { IsAt S.row_id seat.new }
+        ensures visited { Visited S.image S.bound S.row_id seat.old seat.new }
+        ensures mine { seat.new.mine ≡ seat.old.mine + journaled result }
+        ensures fed { Fed S.image S.bound S.row_id event seat.old seat.new result }
+    {
+        self.show(seat);
+        let answer = self.book.enter(seat.number(), event);
+        self.book.show(seat);
+        answer
+    }
+
+    /// The kernel, and the events of the journal in a list that has room for them.
+    pub fn close(mut self, seat: &mut Seat, room: Vec<Event>) -> Closed<'a>
+        requires at { IsAt S.row_id seat.old }
+        requires room { (room.items ≡ []) × (S.row_id.capacity ≤ vec_capacity room) }
+        ensures at { IsAt S.row_id seat.new }
+        ensures visited { Visited S.image S.bound S.row_id seat.old seat.new }
+        ensures mine { seat.new.mine ≡ seat.old.mine }
+        ensures closed { IsClosed S.image S.bound S.row_id.capacity S.row_id.seats result }
+        ensures journal { result.events ≡ events seat.new.seen }
+    {
+        self.show(seat);
+        let Desk { book } = self;
+        book.into_closed(room)
+    }
+}

@@ -1,0 +1,23 @@
+//! A board that many threads share: a kernel and its journal under one lock, and seats for the callers.
+#![tactic(auto)]
+
+mod blank;
+mod board;
+mod book;
+mod closed;
+mod desk;
+mod fault;
+mod outcome;
+mod receipt;
+mod site;
+mod submitting;
+
+pub use blank::{Blank, kernel_of};
+pub use board::Board;
+pub use book::Book;
+pub use closed::Closed;
+pub use fault::BoardFault;
+pub use fmp_row::Seat;
+pub use outcome::{Outcome, Ticket};
+pub use receipt::Receipt;
+pub use site::Site;

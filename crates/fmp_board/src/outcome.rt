@@ -1,0 +1,129 @@
+//! Stretches that are worked out outside the lock of a board.
+ghost use Rattle.std.specs.Prelude.{◌≡◌};
+ghost use Rattle.fmp_board.specs.Outcomes.{IsTicket, ending_of};
+
+use fmp_base::Stretch;
+use fmp_body::Body;
+use fmp_code::MachineContext;
+use fmp_image::Image;
+use fmp_kernel::Actor;
+use std::marker::Model;
+use std::snapshot::Snapshot;
+
+/// The actor of a processor as a board has it, with all that its next stretch needs.
+#[derive(Drop)]
+pub struct Ticket<'a> {
+    image: &'a Image,
+    bound: u64,
+    processor: u8,
+    actor: Actor<MachineContext>,
+}
+
+impl<'a> Model for Ticket<'a> {
+    ghost use Rattle.fmp_board.specs.Outcomes.{TicketState, IsTicket};
+
+    ghost Value = { TicketState };
+
+    ghost view = { λ t. record { image = t.image.now; bound = t.bound; processor = t.processor; actor = t.actor } };
+
+    ghost invariant = { λ t. IsTicket
+        (record { image = t.image.now; bound = t.bound; processor = t.processor; actor = t.actor }) };
+}
+
+impl<'a> Ticket<'a> {
+    ghost use Rattle.std.specs.Prelude.{◌≡◌};
+    ghost use Rattle.fmp_board.specs.Outcomes.{IsTicket, ending_of};
+
+    pub(crate) fn new(
+        image: &'a Image,
+        bound: u64,
+        processor: u8,
+        actor: Actor<MachineContext>,
+    ) -> Ticket<'a>
+        requires { IsTicket (record { image = image.now; bound = bound; processor = processor; actor = actor }) }
+        ensures { result ≡ record { image = image.now; bound = bound; processor = processor; actor = actor } }
+    {
+        Ticket {
+            image,
+            bound,
+            processor,
+            actor,
+        }
+    }
+
+    /// The stretch of the actor up to its next service call, its end or its fault. It needs no board, so others may go
+    /// on with theirs meanwhile.
+    pub fn stretch(self) -> Outcome
+        ensures ticket { result.ticket ≡ self.entry }
+        ensures ending { result.ending ≡ ending_of self.entry }
+    {
+        let Ticket {
+            image,
+            bound,
+            processor,
+            actor,
+        } = self;
+        let stretch = image.vm().stretch(actor.entry, bound, actor.context);
+        Outcome {
+            image: Snapshot::of(image),
+            bound,
+            processor,
+            actor,
+            stretch,
+        }
+    }
+}
+
+/// How the stretch of a ticket's actor ended. Its type keeps that it is the stretch of just that actor's context, by
+/// the code of the image, of at most so many instructions.
+#[derive(Drop)]
+pub struct Outcome {
+    image: Snapshot<Image>,
+    bound: u64,
+    processor: u8,
+    actor: Actor<MachineContext>,
+    stretch: Stretch<MachineContext>,
+}
+
+impl Model for Outcome {
+    ghost use Rattle.fmp_base.specs.Stretches.{ending};
+    ghost use Rattle.fmp_board.specs.Outcomes.{OutcomeState, IsOutcome};
+
+    ghost Value = { OutcomeState };
+
+    ghost view = { λ o. record {
+      ticket = record { image = o.image.value; bound = o.bound; processor = o.processor; actor = o.actor };
+      ending = ending o.stretch;
+    } };
+
+    ghost invariant = { λ o. IsOutcome (record {
+      ticket = record { image = o.image.value; bound = o.bound; processor = o.processor; actor = o.actor };
+      ending = ending o.stretch;
+    }) };
+}
+
+impl Outcome {
+    ghost use Rattle.std.specs.Prelude.{◌≡◌};
+    ghost use Rattle.fmp_base.specs.Stretches.{ending};
+    ghost use Rattle.fmp_board.specs.Outcomes.{IsOutcome};
+
+    /// The processor whose actor made the stretch.
+    pub fn processor(&self) -> u8
+        ensures { result ≡ self.now.ticket.processor }
+    {
+        self.processor
+    }
+
+    pub(crate) fn actor(&self) -> Actor<MachineContext>
+        ensures { result ≡ self.now.ticket.actor }
+    {
+        self.actor
+    }
+
+    pub(crate) fn stretch(&self) -> Stretch<MachineContext>
+        ensures ending { ending result ≡ self.now.ending }
+        ensures outcome { IsOutcome self.now }
+    {
+        self.stretch
+    }
+}

@@ -1,0 +1,91 @@
+//! Tickets of a book, and the outcomes of their stretches.
+ghost use Rattle.std.specs.Prelude.{◌≡◌, ◌≢◌, ◌<◌, length, Some, None, IfOk, OnOk, OnErr, MatchBool, MatchOption, MatchResult};
+ghost use Rattle.fmp_base.specs.declared.events.Event.TheVariants.{Run};
+ghost use Rattle.fmp_row.specs.Seats.{events};
+ghost use Rattle.fmp_row.specs.Words.{entry};
+ghost use Rattle.fmp_board.specs.Boards.{IsJournal};
+ghost use Rattle.fmp_board.specs.Outcomes.{AnsweredAfter, Drew, IsDrawn, IsTicketOf, IsWhyRefused, actor_after, stamp_after};
+ghost use Rattle.fmp_board.specs.Receipts.{journal_after, marks_after, receipt_of};
+ghost use Rattle.fmp_board.specs.Replays.{reaction};
+
+use crate::book::Book;
+use crate::fault::BoardFault;
+use crate::outcome::{Outcome, Ticket};
+use crate::receipt::{Receipt, call_reply};
+use crate::site::Site;
+use fmp_base::{Effect, Event};
+use fmp_code::{MachineContext, Vm};
+use fmp_kernel::laws::stamps_count_events;
+
+impl<'a, S: Site> Book<'a, S> {
+    /// A ticket for the stretch that the actor of processor p makes next. None where there is no such processor, or it
+    /// has no actor.
+    pub fn ticket(&self, p: u8) -> Option<Ticket<'a>>
+        ensures ticket { Drew S.image S.bound self.now.journal p result }
+        ensures legal { IsJournal S.image S.bound S.row_id.capacity S.row_id.seats self.now.journal }
+    {
+        if p as usize > self.kernel.tables().processor_count() {
+            return None;
+        }
+        let actor = self.kernel.actor(p)?;
+        Some(Ticket::new(self.image, self.bound, p, actor))
+    }
+
+    /// Whether the processor of an outcome has the stamp that its ticket had.
+    fn has_stamp(&self, outcome: &Outcome) -> bool
+        requires { IsDrawn S.image S.bound self.now.journal outcome.now.ticket }
+        ensures { MatchBool result
+            (actor_after S.image S.bound self.now.journal outcome.now.ticket.processor ≡ Some outcome.now.ticket.actor)
+            (stamp_after S.image S.bound self.now.journal outcome.now.ticket.processor
+            ≢ outcome.now.ticket.actor.stamp) }
+    {
+        stamps_count_events::<Vm<'_>, MachineContext>();
+        match self.kernel.actor(outcome.processor()) {
+            Some(actor) => actor.stamp == outcome.actor().stamp,
+            None => false,
+        }
+    }
+
+    /// Takes the run of an outcome's processor on the kernel, by the stretch that was made before, and journals it
+    /// under the number of a seat if it does something. The outcome's ticket was drawn after a beginning of the
+    /// journal.
+    ///
+    /// `BoardFault::Stale`, exactly where the stamp of the processor is no more that of the ticket; else
+    /// `BoardFault::Full`, exactly where the journal has no room for one more event. Then nothing has changed.
+    pub fn enter_outcome(&mut self, seat: u8, outcome: Outcome) -> Result<Receipt, BoardFault>
+        requires seat { seat < S.row_id.seats }
+        requires drawn { IsDrawn S.image S.bound self.old.journal outcome.ticket }
+        ensures answer { AnsweredAfter S.image S.bound S.row_id.capacity self.old.journal outcome.ticket result }
+        ensures journal { OnOk result (self.new.journal
+            ≡ journal_after self.old.journal (entry seat (Run outcome.ticket.processor))
+            (reaction S.image S.bound (events self.old.journal) (Run outcome.ticket.processor))) }
+        ensures marks { OnOk result (self.new.marks
+            ≡ marks_after self.old.marks seat
+            (reaction S.image S.bound (events self.old.journal) (Run outcome.ticket.processor))) }
+        ensures same { OnErr result (self.new ≡ self.old) }
+        ensures legal { IsJournal S.image S.bound S.row_id.capacity S.row_id.seats self.old.journal }
+    {
+        if !self.has_stamp(&outcome) {
+            return Err(BoardFault::Stale);
+        }
+        if self.scribe.is_full() {
+            return Err(BoardFault::Full);
+        }
+        let event = Event::Run(outcome.processor());
+        match self.kernel.apply(outcome.processor(), outcome.stretch()) {
+            Effect::Nothing => Ok(Receipt {
+                number: 0,
+                effect: Effect::Nothing,
+                reply: None,
+            }),
+            Effect::Done => {
+                self.scribe.write(seat, event);
+                Ok(Receipt {
+                    number: self.scribe.len(),
+                    effect: Effect::Done,
+                    reply: call_reply(self.kernel.lines()),
+                })
+            }
+        }
+    }
+}

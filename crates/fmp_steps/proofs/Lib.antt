@@ -1,0 +1,4 @@
+pub mod EventsRead
+pub mod LinesOf
+pub mod Numbers
+pub mod Words

@@ -1,0 +1,48 @@
+//! Numbers in decimal digits, of any length.
+ghost use Rattle.std.specs.Prelude.{◌≡◌};
+ghost use Rattle.fmp_steps.specs.Steps.{digits_number, number_of, capped, ranged_number};
+
+use crate::faults::Flaw;
+
+/// Greater numbers than this one are read as it.
+const CAP: u32 = 1000;
+
+/// The number that digits spell, at most `CAP`; none where a byte is no digit.
+fn digits_in(text: &[u8]) -> Option<u32>
+    ensures { result ≡ capped (digits_number text.now) }
+{
+    let mut value = 0;
+    for byte in text {
+        if !byte.is_ascii_digit() {
+            return None;
+        }
+        value = (value * 10 + u32::from(*byte - b'0')).min(CAP);
+    }
+    Some(value)
+}
+
+/// The number that a text spells without leading zeros, at most `CAP`; none where it is no number.
+fn number_in(text: &[u8]) -> Option<u32>
+    ensures { result ≡ capped (number_of text.now) }
+{
+    match text {
+        [] | [b'0', _, ..] => None,
+        _ => digits_in(text),
+    }
+}
+
+/// The number that a text spells, if it is one from 1 to `most`.
+pub fn ranged_in(text: &[u8], most: u8) -> Result<u8, Flaw>
+    ensures { result ≡ ranged_number most (number_of text.now) }
+{
+    match number_in(text) {
+        Some(number) => {
+            if number >= 1 && number <= u32::from(most) {
+                Ok(number as u8)
+            } else {
+                Err(Flaw::Range)
+            }
+        }
+        None => Err(Flaw::Form),
+    }
+}
