@@ -2,9 +2,8 @@
 use crate::scene::Scene;
 use crate::shapes::{put_box, put_text};
 use crate::titles::put_area;
-use fmp_timeline::Piece::{At, Number, Raw, Text};
-use fmp_timeline::{Note, Span, Tenths, append, append_number, put, px, width};
-use std::alloc::AllocError;
+use fmp_timeline::Piece::{At, Label, Number, Numbered, Raw};
+use fmp_timeline::{Canvas, Note, Run, Span, Tenths, number_width, px};
 
 /// The size of numbers on the axis.
 const SMALL: Tenths = Tenths(90);
@@ -20,70 +19,34 @@ fn step_of(column: u32) -> u32 {
 }
 
 /// The words at the left of the axis.
-fn put_words(
-    scene: &Scene<'_>,
-    span: &Span,
-    top: Tenths,
-    out: &mut Vec<u8>,
-) -> Result<(), AllocError> {
-    let x = scene.page.left() - px(8);
-    put(
-        &[
-            Raw("<text class=\"m e\" x=\""),
-            At(x),
-            Raw("\" y=\""),
-            At(top + px(10)),
-        ],
-        out,
-    )?;
-    put(
-        &[
-            Raw("\">clock</text><text class=\"m e\" x=\""),
-            At(x),
-            Raw("\" y=\""),
-        ],
-        out,
-    )?;
-    put(&[At(top + px(26)), Raw("\">event</text>\n")], out)?;
+fn put_words(scene: &Scene<'_>, span: &Span, top: Tenths, out: &mut Canvas) {
+    let x = At(scene.page.left() - px(8));
+    let (upper, lower) = (At(top + px(10)), At(top + px(26)));
+    out.put(
+        "<text class=\"m e\" x=\"{}\" y=\"{}\">clock</text>",
+        &[x, upper],
+    );
+    out.put(
+        "<text class=\"m e\" x=\"{}\" y=\"{}\">event</text>\n",
+        &[x, lower],
+    );
     if scene.has_overview() {
-        put(
-            &[
-                Raw("<a href=\"#top\"><text class=\"m\" x=\"12\" y=\""),
-                At(top + px(26)),
-            ],
-            out,
-        )?;
-        append("\">↑ overview</text></a>\n", out)?;
+        out.put(
+            "<a href=\"#top\"><text class=\"m\" x=\"12\" y=\"{}\">↑ overview</text></a>\n",
+            &[lower],
+        );
     }
     if scene.page.panels > 1 {
-        let events = [
-            Raw("Events "),
-            Number(span.first),
-            Raw("–"),
-            Number(span.last),
-        ];
-        put_text(&[Raw("pn")], (px(12), top + px(11)), &events, out)?;
+        out.put(
+            "<text class=\"pn\" x=\"12\" y=\"{}\">Events {}–{}</text>\n",
+            &[At(top + px(11)), Number(span.first), Number(span.last)],
+        );
     }
-    Ok(())
 }
 
 /// A line of a path through all lanes.
-fn put_upright(
-    x: Tenths,
-    (top, bottom): (Tenths, Tenths),
-    out: &mut Vec<u8>,
-) -> Result<(), AllocError> {
-    put(
-        &[
-            Raw("M"),
-            At(x),
-            Raw(" "),
-            At(top + px(30)),
-            Raw("V"),
-            At(bottom),
-        ],
-        out,
-    )
+fn put_upright(x: Tenths, (top, bottom): (Tenths, Tenths), out: &mut Canvas) {
+    out.put("M{} {}V{}", &[At(x), At(top + px(30)), At(bottom)]);
 }
 
 /// Whether an event has a grid line.
@@ -92,166 +55,137 @@ fn is_on_grid(span: &Span, event: u32) -> bool {
 }
 
 /// The numbers of events, and the grid below them.
-fn put_grid(
-    span: &Span,
-    (top, bottom): (Tenths, Tenths),
-    out: &mut Vec<u8>,
-) -> Result<(), AllocError> {
+fn put_grid(span: &Span, (top, bottom): (Tenths, Tenths), out: &mut Canvas) {
     for event in span.first..=span.last {
         if is_on_grid(span, event) {
             let place = (span.x(event), top + px(26));
-            put_text(&[Raw("c m")], place, &[Number(event)], out)?;
+            put_text(Raw("c m"), place, Number(event), out);
         }
     }
-    append("<path class=\"grid\" d=\"", out)?;
+    out.raw("<path class=\"grid\" d=\"");
     for event in span.first..=span.last {
         if is_on_grid(span, event) {
-            put_upright(span.x(event), (top, bottom), out)?;
+            put_upright(span.x(event), (top, bottom), out);
         }
     }
-    append("\"/>\n", out)
+    out.raw("\"/>\n");
 }
 
 /// Whether an event is a tick.
 fn is_tick(scene: &Scene<'_>, event: u32) -> bool {
-    scene
-        .run
-        .notes
-        .get(event as usize)
-        .is_some_and(|note| note.ticks)
+    match scene.run.notes.get(event as usize) {
+        Some(note) => note.ticks,
+        None => false,
+    }
 }
 
 /// The lines of the ticks, through all lanes.
-fn put_ticks(
-    scene: &Scene<'_>,
-    span: &Span,
-    ends: (Tenths, Tenths),
-    out: &mut Vec<u8>,
-) -> Result<(), AllocError> {
+fn put_ticks(scene: &Scene<'_>, span: &Span, ends: (Tenths, Tenths), out: &mut Canvas) {
     let mut open = false;
     for event in span.first..=span.last {
         if is_tick(scene, event) {
             if !open {
-                let faint = if span.is_narrow() {
+                out.raw("<path class=\"tk");
+                out.raw(if span.is_narrow() {
                     "\" stroke-opacity=\".5"
                 } else {
                     ""
-                };
-                put(&[Raw("<path class=\"tk"), Raw(faint), Raw("\" d=\"")], out)?;
+                });
+                out.raw("\" d=\"");
                 open = true;
             }
-            put_upright(span.x(event), ends, out)?;
+            put_upright(span.x(event), ends, out);
         }
     }
     if open {
-        append("\"/>\n", out)?;
+        out.raw("\"/>\n");
     }
-    Ok(())
 }
 
-/// Appends the clock or the interrupt that a badge shows; nothing where an event has none.
-fn append_badge(note: &Note, text: &mut Vec<u8>) -> Result<(), AllocError> {
-    if note.ticks {
-        return append_number(note.clock, text);
-    }
+/// What the badge of an event shows, if it has one: the clock or an interrupt, as words and a number.
+fn badge_of(note: &Note) -> Option<(&'static str, u32)> {
     match note.interrupt {
-        Some(place) => {
-            append("#", text)?;
-            append_number(u32::from(place).saturating_add(1), text)
-        }
-        None => Ok(()),
+        _ if note.ticks => Some(("", note.clock)),
+        Some(place) => Some(("#", u32::from(place).saturating_add(1))),
+        None => None,
     }
 }
 
 /// A badge over an event.
-fn put_badge(
-    x: Tenths,
-    top: Tenths,
-    text: &[u8],
-    ticks: bool,
-    out: &mut Vec<u8>,
-) -> Result<(), AllocError> {
-    let wide = width(text, SMALL) + px(7);
+fn put_badge(x: Tenths, top: Tenths, text: &Canvas, ticks: bool, out: &mut Canvas) {
+    let wide = text.width(SMALL) + px(7);
     let (frame, words) = if ticks {
         ("tkb", "tkt c")
     } else {
         ("ikb", "ikt c")
     };
     let corner = (x - wide.half(), top + px(2));
-    put_box(&[Raw(frame)], corner, (wide, px(12)), out)?;
-    append("/>", out)?;
-    put_text(&[Raw(words)], (x, top + px(11)), &[Text(text)], out)
+    put_box(Raw(frame), corner, (wide, px(12)), out);
+    out.raw("/>");
+    put_text(Raw(words), (x, top + px(11)), Label(text), out);
+}
+
+/// What the axis shows of the event before this one, if there is one.
+fn note_before<'a>(run: &'a Run, event: u32) -> Option<&'a Note> {
+    run.notes.get(event.checked_sub(1)? as usize)
 }
 
 /// The clock that a later panel begins with, in the lead: where it ends.
-fn put_first_clock(
-    scene: &Scene<'_>,
-    span: &Span,
-    top: Tenths,
-    out: &mut Vec<u8>,
-) -> Result<Tenths, AllocError> {
-    let before = span.first.checked_sub(1);
-    let Some(note) = before.and_then(|event| scene.run.notes.get(event as usize)) else {
-        return Ok(px(0));
+fn put_first_clock(scene: &Scene<'_>, span: &Span, top: Tenths, out: &mut Canvas) -> Tenths {
+    let Some(note) = note_before(scene.run, span.first) else {
+        return px(0);
     };
     let x = scene.page.left() + px(6);
-    let clock = [Number(note.clock)];
-    put_text(&[Raw("m c")], (x, top + px(11)), &clock, out)?;
-    let mut text = Vec::new(scene.alloc);
-    put(&clock, &mut text)?;
-    Ok(x + width(&text, SMALL).half() + px(2))
+    put_text(Raw("m c"), (x, top + px(11)), Number(note.clock), out);
+    x + number_width(note.clock, SMALL).half() + px(2)
+}
+
+/// The badge of an event, if it has one that begins behind this place: where it ends.
+fn put_badge_after(
+    scene: &Scene<'_>,
+    note: &Note,
+    x: Tenths,
+    top: Tenths,
+    end: Tenths,
+    out: &mut Canvas,
+) -> Tenths {
+    let Some((words, number)) = badge_of(note) else {
+        return end;
+    };
+    let mut text = Canvas::new(scene.alloc);
+    text.numbered(words, number, "");
+    let half = (text.width(SMALL) + px(7)).half();
+    if !end.is_below(x - half) {
+        return end;
+    }
+    put_badge(x, top, &text, note.ticks, out);
+    x + half + px(1)
 }
 
 /// The clock at each tick and the number of each interrupt, but those that would touch the one before.
-fn put_badges(
-    scene: &Scene<'_>,
-    span: &Span,
-    top: Tenths,
-    out: &mut Vec<u8>,
-) -> Result<(), AllocError> {
-    let mut end = put_first_clock(scene, span, top, out)?;
+fn put_badges(scene: &Scene<'_>, span: &Span, top: Tenths, out: &mut Canvas) {
+    let mut end = put_first_clock(scene, span, top, out);
     for event in span.first..=span.last {
-        let Some(note) = scene.run.notes.get(event as usize) else {
-            break;
-        };
-        let mut text = Vec::new(scene.alloc);
-        append_badge(note, &mut text)?;
-        let x = span.x(event);
-        let half = (width(&text, SMALL) + px(7)).half();
-        if !text.is_empty() && end.is_below(x - half) {
-            put_badge(x, top, &text, note.ticks, out)?;
-            end = x + half + px(1);
+        if let Some(note) = scene.run.notes.get(event as usize) {
+            end = put_badge_after(scene, note, span.x(event), top, end, out);
         }
     }
-    Ok(())
 }
 
 /// What is pointed at for the lines of each event.
-fn put_areas(
-    scene: &Scene<'_>,
-    span: &Span,
-    top: Tenths,
-    out: &mut Vec<u8>,
-) -> Result<(), AllocError> {
+fn put_areas(scene: &Scene<'_>, span: &Span, top: Tenths, out: &mut Canvas) {
     let wide = px(span.page.column);
     for event in span.first..=span.last {
         let corner = (span.x(event) - wide.half(), top);
-        put_area(scene.run, corner, (wide, px(30)), event, out)?;
+        put_area(scene.run, corner, (wide, px(30)), event, out);
     }
-    Ok(())
 }
 
 /// The axis of a panel between these heights, with its grid.
-pub fn put_axis(
-    scene: &Scene<'_>,
-    span: &Span,
-    top: Tenths,
-    bottom: Tenths,
-    out: &mut Vec<u8>,
-) -> Result<(), AllocError> {
-    put_words(scene, span, top, out)?;
-    put_grid(span, (top, bottom), out)?;
-    put_badges(scene, span, top, out)?;
-    put_ticks(scene, span, (top, bottom), out)?;
-    put_areas(scene, span, top, out)
+pub fn put_axis(scene: &Scene<'_>, span: &Span, top: Tenths, bottom: Tenths, out: &mut Canvas) {
+    put_words(scene, span, top, out);
+    put_grid(span, (top, bottom), out);
+    put_badges(scene, span, top, out);
+    put_ticks(scene, span, (top, bottom), out);
+    put_areas(scene, span, top, out);
 }

@@ -2,14 +2,12 @@
 use crate::rows::Row;
 use crate::scene::Scene;
 use crate::shapes::put_text;
-use crate::tasks::{put_name, put_side};
+use crate::tasks::{NAME, put_name, put_side};
 use crate::titles::put_title;
-use fmp_timeline::Piece::{At, Raw, Text};
+use fmp_timeline::Piece::{At, Label, Raw, Text};
 use fmp_timeline::{
-    Object, ObjectShown, Span, Stay, Tenths, Topic, append, append_hexadecimal, append_signed,
-    bytes_of, put, px, task_bytes, width,
+    Canvas, Object, ObjectShown, Span, Stay, Tenths, Topic, bytes_of, px, task_bytes, width,
 };
-use std::alloc::AllocError;
 
 /// The size of values.
 const SMALL: Tenths = Tenths(90);
@@ -29,79 +27,46 @@ fn kind_of(topic: Topic) -> &'static str {
 }
 
 /// The head of the group of objects.
-pub fn put_objects_head(row: &Row, out: &mut Vec<u8>) -> Result<(), AllocError> {
-    put_text(&[Raw("pn")], (px(12), row.y(120)), &[Raw("Objects")], out)
+pub fn put_objects_head(row: &Row, out: &mut Canvas) {
+    put_text(Raw("pn"), (px(12), row.y(120)), Raw("Objects"), out);
 }
 
 /// Appends a value: of an eventflag's pattern above 9 in hexadecimal digits.
-fn append_shown(topic: Topic, value: i32, text: &mut Vec<u8>) -> Result<(), AllocError> {
+fn append_shown(topic: Topic, value: i32, text: &mut Canvas) {
     if matches!(topic, Topic::Flag(_)) && value > 9 {
-        append("0x", text)?;
-        append_hexadecimal(value.unsigned_abs(), text)
+        text.raw("0x");
+        text.hexadecimal(value.unsigned_abs());
     } else {
-        append_signed(value, text)
+        text.signed(value);
     }
 }
 
 /// Appends these words and the names of the tasks that wait, with commas between, where there are any.
-fn append_waiting(
-    scene: &Scene<'_>,
-    shown: &ObjectShown,
-    words: &str,
-    text: &mut Vec<u8>,
-) -> Result<(), AllocError> {
+fn append_waiting(scene: &Scene<'_>, shown: &ObjectShown, words: &str, text: &mut Canvas) {
     let mut before = words;
     for task in scene.run.objects.waiting_for(shown) {
-        append(before, text)?;
-        text.extend_from_slice(task_bytes(scene.sys, *task))?;
+        text.raw(before);
+        text.plain(task_bytes(scene.sys, *task));
         before = ", ";
     }
-    Ok(())
-}
-
-/// Appends the head of a value's title.
-fn append_head(
-    scene: &Scene<'_>,
-    topic: Topic,
-    shown: &ObjectShown,
-    head: &mut Vec<u8>,
-) -> Result<(), AllocError> {
-    head.extend_from_slice(bytes_of(scene.sys, topic))?;
-    append(" = ", head)?;
-    append_signed(shown.value, head)?;
-    append_waiting(scene, shown, ", waiting: ", head)
 }
 
 /// The end of a value's path with its title.
-fn put_value_title(
-    scene: &Scene<'_>,
-    topic: Topic,
-    stay: &Stay<ObjectShown>,
-    out: &mut Vec<u8>,
-) -> Result<(), AllocError> {
-    let mut head = Vec::new(scene.alloc);
-    append_head(scene, topic, &stay.state, &mut head)?;
-    put_title(scene.run, &[Text(&head)], stay, out)
+fn put_value_title(scene: &Scene<'_>, topic: Topic, stay: &Stay<ObjectShown>, out: &mut Canvas) {
+    let mut head = Canvas::new(scene.alloc);
+    head.plain(bytes_of(scene.sys, topic));
+    head.raw(" = ");
+    head.signed(stay.state.value);
+    append_waiting(scene, &stay.state, ", waiting: ", &mut head);
+    put_title(scene.run, "{}", &[Label(&head)], stay, out);
 }
 
 /// The text of a value from a place on.
-fn put_value_text(
-    row: &Row,
-    left: Tenths,
-    text: &[u8],
-    out: &mut Vec<u8>,
-) -> Result<(), AllocError> {
-    put(
-        &[
-            Raw("<text class=\"wt q\" x=\""),
-            At(left + px(5)),
-            Raw("\" y=\""),
-            At(row.middle(30)),
-            Raw("\" xml:space=\"preserve\">"),
-        ],
-        out,
-    )?;
-    put(&[Text(text), Raw("</text>\n")], out)
+fn put_value_text(row: &Row, left: Tenths, text: &Canvas, out: &mut Canvas) {
+    out.put(
+        "<text class=\"wt q\" x=\"{}\" y=\"{}\" xml:space=\"preserve\">{}</text>\n",
+        &[At(left + px(5)), At(row.middle(30)), Label(text)],
+    );
 }
 
 /// The value with those who wait behind it, or the value alone, where it fits.
@@ -111,19 +76,43 @@ fn put_value(
     (left, right): (Tenths, Tenths),
     topic: Topic,
     shown: &ObjectShown,
-    out: &mut Vec<u8>,
-) -> Result<(), AllocError> {
-    let mut text = Vec::new(scene.alloc);
-    append_shown(topic, shown.value, &mut text)?;
+    out: &mut Canvas,
+) {
+    let mut text = Canvas::new(scene.alloc);
+    append_shown(topic, shown.value, &mut text);
     let alone = text.len();
-    append_waiting(scene, shown, "  ", &mut text)?;
+    append_waiting(scene, shown, "  ", &mut text);
     for count in [text.len(), alone] {
-        text.truncate(count);
-        if (width(&text, SMALL) + px(6)).is_below(right - left) {
+        text.shorten(count);
+        if (text.width(SMALL) + px(6)).is_below(right - left) {
             return put_value_text(row, left, &text, out);
         }
     }
-    Ok(())
+}
+
+/// The box of a value: a hexagon whose ends slant so far, without the end of its element.
+fn put_hexagon(row: &Row, (left, right): (Tenths, Tenths), slant: Tenths, out: &mut Canvas) {
+    let (begin, end) = (At(left + slant), At(right - slant));
+    out.put(
+        "<path class=\"b\" d=\"M{} {}l{}-5.5H{}l{} 5.5l{} 5.5H{}z\"",
+        &[
+            At(left),
+            At(row.middle(0)),
+            At(slant),
+            end,
+            At(slant),
+            At(slant.back()),
+            begin,
+        ],
+    );
+}
+
+/// The bar at the foot of a value while tasks wait.
+fn put_queue_bar(row: &Row, (left, right): (Tenths, Tenths), out: &mut Canvas) {
+    out.put(
+        "<path class=\"bq q\" d=\"M{} {}H{}v2.5H{}z\"/>\n",
+        &[At(left), At(row.middle(35)), At(right), At(left)],
+    );
 }
 
 /// A value as long as it lasts, with a bar at its foot while tasks wait.
@@ -133,87 +122,34 @@ fn put_stay(
     row: &Row,
     topic: Topic,
     stay: &Stay<ObjectShown>,
-    out: &mut Vec<u8>,
-) -> Result<(), AllocError> {
+    out: &mut Canvas,
+) {
     let (left, right) = (span.box_left(stay), span.box_right(stay));
     let slant = (right - left).half().or_less(Tenths(25));
-    put(
-        &[
-            Raw("<path class=\"b\" d=\"M"),
-            At(left),
-            Raw(" "),
-            At(row.middle(0)),
-            Raw("l"),
-        ],
-        out,
-    )?;
-    put(
-        &[
-            At(slant),
-            Raw("-5.5H"),
-            At(right - slant),
-            Raw("l"),
-            At(slant),
-            Raw(" 5.5l"),
-        ],
-        out,
-    )?;
-    put(
-        &[At(slant.back()), Raw(" 5.5H"), At(left + slant), Raw("z\"")],
-        out,
-    )?;
-    put_value_title(scene, topic, stay, out)?;
+    put_hexagon(row, (left, right), slant, out);
+    put_value_title(scene, topic, stay, out);
     if stay.state.start < stay.state.end {
-        put(
-            &[
-                Raw("<path class=\"bq q\" d=\"M"),
-                At(left + slant),
-                Raw(" "),
-            ],
-            out,
-        )?;
-        put(
-            &[
-                At(row.middle(35)),
-                Raw("H"),
-                At(right - slant),
-                Raw("v2.5H"),
-            ],
-            out,
-        )?;
-        put(&[At(left + slant), Raw("z\"/>\n")], out)?;
+        put_queue_bar(row, (left + slant, right - slant), out);
     }
     let begin = left.or_more(span.page.start() - px(3));
-    put_value(scene, row, (begin, right), topic, &stay.state, out)
+    put_value(scene, row, (begin, right), topic, &stay.state, out);
 }
 
 /// The lane of an object.
-pub fn put_object(
-    scene: &Scene<'_>,
-    span: &Span,
-    row: &Row,
-    object: &Object,
-    out: &mut Vec<u8>,
-) -> Result<(), AllocError> {
+pub fn put_object(scene: &Scene<'_>, span: &Span, row: &Row, object: &Object, out: &mut Canvas) {
     let kind = kind_of(object.topic);
     let name = bytes_of(scene.sys, object.topic);
-    put(
-        &[
-            Raw("<g role=\"group\" aria-label=\""),
-            Raw(kind),
-            Raw(" "),
-            Text(name),
-            Raw("\">"),
-        ],
-        out,
-    )?;
+    out.put(
+        "<g role=\"group\" aria-label=\"{} {}\">",
+        &[Raw(kind), Text(name)],
+    );
     let room = scene.page.left() - px(44) - width(kind.as_bytes(), SMALL);
-    put_name(row, name, room, false, out)?;
-    put_side(scene, row, &[Raw(kind)], out)?;
+    put_name(row, Text(name), width(name, NAME), room, false, out);
+    put_side(scene, row, Raw(kind), out);
     for place in object.track.places(span.first, span.last) {
         if let Some(stay) = object.track.stay(place) {
-            put_stay(scene, span, row, object.topic, &stay, out)?;
+            put_stay(scene, span, row, object.topic, &stay, out);
         }
     }
-    append("</g>\n", out)
+    out.raw("</g>\n");
 }

@@ -2,8 +2,7 @@
 use crate::scene::Scene;
 use crate::shapes::put_text;
 use fmp_timeline::Piece::{At, Number, Raw};
-use fmp_timeline::{Tenths, append, put, px, width};
-use std::alloc::AllocError;
+use fmp_timeline::{Canvas, Tenths, px, width};
 
 /// A shape, what it means, and how wide it is in pixels.
 struct Item(&'static str, &'static str, u32);
@@ -119,29 +118,12 @@ static MARKS: [Item; 13] = [
 const ITEMS: u32 = 74;
 
 /// An item at its place.
-fn put_item(item: &Item, x: Tenths, y: u32, out: &mut Vec<u8>) -> Result<(), AllocError> {
-    put(
-        &[
-            Raw("<g transform=\"translate("),
-            At(x),
-            Raw(" "),
-            Number(y),
-            Raw(")\">"),
-        ],
-        out,
-    )?;
-    put(
-        &[
-            Raw(item.0),
-            Raw("<text x=\""),
-            Number(item.2.saturating_add(5)),
-        ],
-        out,
-    )?;
-    put(
-        &[Raw("\" y=\"3\">"), Raw(item.1), Raw("</text></g>\n")],
-        out,
-    )
+fn put_item(item: &Item, x: Tenths, y: u32, out: &mut Canvas) {
+    let wide = Number(item.2.saturating_add(5));
+    out.put(
+        "<g transform=\"translate({} {})\">{}<text x=\"{}\" y=\"3\">{}</text></g>\n",
+        &[At(x), Number(y), Raw(item.0), wide, Raw(item.1)],
+    );
 }
 
 /// Where the next item stands, and the height of its row.
@@ -153,22 +135,28 @@ struct Pen {
 
 impl Pen {
     /// The beginning of a row of items with this head.
-    fn new(head: &str, y: u32, out: &mut Vec<u8>) -> Result<Pen, AllocError> {
+    fn new(head: &str, y: u32, out: &mut Canvas) -> Pen {
         let place = (px(12), px(y.saturating_add(3)));
-        put_text(&[Raw("m k")], place, &[Raw(head)], out)?;
-        Ok(Pen { x: px(ITEMS), y })
+        put_text(Raw("m k"), place, Raw(head), out);
+        Pen { x: px(ITEMS), y }
     }
 
     /// An item, in a new row where it does not fit into this one.
-    fn put(&mut self, scene: &Scene<'_>, item: &Item, out: &mut Vec<u8>) -> Result<(), AllocError> {
+    fn put(&mut self, scene: &Scene<'_>, item: &Item, out: &mut Canvas) {
         let wide = px(item.2) + width(item.1.as_bytes(), Tenths(90));
         if (px(scene.page.wide) - px(20)).is_below(self.x + wide) {
             self.x = px(ITEMS);
             self.y = self.below();
         }
-        put_item(item, self.x, self.y, out)?;
+        put_item(item, self.x, self.y, out);
         self.x = self.x + wide + px(20);
-        Ok(())
+    }
+
+    /// These items.
+    fn put_all(&mut self, scene: &Scene<'_>, items: &[Item], out: &mut Canvas) {
+        for item in items {
+            self.put(scene, item, out);
+        }
     }
 
     /// The height below the row.
@@ -178,23 +166,17 @@ impl Pen {
 }
 
 /// The legend from this height on: the height below it.
-pub fn put_legend(scene: &Scene<'_>, top: u32, out: &mut Vec<u8>) -> Result<u32, AllocError> {
-    append("<g role=\"group\" aria-label=\"Legend\">\n", out)?;
-    let mut pen = Pen::new("Task", top, out)?;
-    for item in &TASK {
-        pen.put(scene, item, out)?;
-    }
-    let mut pen = Pen::new("Processor", pen.below(), out)?;
-    for item in &PROCESSOR {
-        pen.put(scene, item, out)?;
-    }
+pub fn put_legend(scene: &Scene<'_>, top: u32, out: &mut Canvas) -> u32 {
+    out.raw("<g role=\"group\" aria-label=\"Legend\">\n");
+    let mut pen = Pen::new("Task", top, out);
+    pen.put_all(scene, &TASK, out);
+    let mut pen = Pen::new("Processor", pen.below(), out);
+    pen.put_all(scene, &PROCESSOR, out);
     if !scene.run.objects.all.is_empty() {
-        pen.put(scene, &OBJECT, out)?;
+        pen.put(scene, &OBJECT, out);
     }
-    let mut pen = Pen::new("Marks", pen.below(), out)?;
-    for item in &MARKS {
-        pen.put(scene, item, out)?;
-    }
-    append("</g>\n", out)?;
-    Ok(pen.below())
+    let mut pen = Pen::new("Marks", pen.below(), out);
+    pen.put_all(scene, &MARKS, out);
+    out.raw("</g>\n");
+    pen.below()
 }

@@ -3,8 +3,7 @@ use crate::rows::{Row, Rows};
 use crate::scene::Scene;
 use fmp_base::Caller;
 use fmp_timeline::Piece::{At, Number, Raw};
-use fmp_timeline::{Bond, Link, Migration, Span, Tenths, append, put, px};
-use std::alloc::AllocError;
+use fmp_timeline::{Bond, Canvas, Link, Migration, Span, Tenths, px};
 
 /// Where a link ends in the lane of the other.
 fn link_end(bond: Bond, row: &Row, down: bool) -> Tenths {
@@ -21,52 +20,22 @@ fn link_end(bond: Bond, row: &Row, down: bool) -> Tenths {
 }
 
 /// A link from one lane to another.
-fn put_link(
-    x: Tenths,
-    bond: Bond,
-    from: &Row,
-    to: &Row,
-    out: &mut Vec<u8>,
-) -> Result<(), AllocError> {
+fn put_link(x: Tenths, bond: Bond, from: &Row, to: &Row, out: &mut Canvas) {
     let down = from.top < to.top;
-    let end = link_end(bond, to, down);
-    let start = from.middle(0);
-    put(
-        &[
-            Raw("<path class=\"ln q\" d=\"M"),
-            At(x),
-            Raw(" "),
-            At(start),
-            Raw("V"),
-            At(end),
-        ],
-        out,
-    )?;
-    put(
-        &[
-            Raw("\"/><circle class=\"dot q\" cx=\""),
-            At(x),
-            Raw("\" cy=\""),
-            At(start),
-        ],
-        out,
-    )?;
-    append("\" r=\"2.2\"/>", out)?;
+    let (x, start, end) = (At(x), At(from.middle(0)), At(link_end(bond, to, down)));
+    out.put("<path class=\"ln q\" d=\"M{} {}V{}\"/>", &[x, start, end]);
+    out.put(
+        "<circle class=\"dot q\" cx=\"{}\" cy=\"{}\" r=\"2.2\"/>",
+        &[x, start],
+    );
     if matches!(bond, Bond::Migrates | Bond::Changes) {
         let head = if down { "l3-5h-6z" } else { "l3 5h-6z" };
-        put(
-            &[
-                Raw("<path class=\"dot q\" d=\"M"),
-                At(x),
-                Raw(" "),
-                At(end),
-                Raw(head),
-            ],
-            out,
-        )?;
-        append("\"/>", out)?;
+        out.put(
+            "<path class=\"dot q\" d=\"M{} {}{}\"/>",
+            &[x, end, Raw(head)],
+        );
     }
-    append("\n", out)
+    out.raw("\n");
 }
 
 /// The lanes of a link, if both are there and are two.
@@ -83,58 +52,24 @@ fn lanes_of(scene: &Scene<'_>, rows: &Rows, link: &Link) -> Option<(Row, Row)> {
 }
 
 /// A migration from lane to lane.
-fn put_migration(
-    colour: u32,
-    x: Tenths,
-    from: &Row,
-    to: &Row,
-    out: &mut Vec<u8>,
-) -> Result<(), AllocError> {
+fn put_migration(colour: u32, x: Tenths, from: &Row, to: &Row, out: &mut Canvas) {
     let (tip, neck, head) = if from.top < to.top {
         (to.y(30), to.y(-40), "l4.5 -7h-9z")
     } else {
         let tip = to.y(-30) + px(to.height);
         (tip, tip + px(7), "l4.5 7h-9z")
     };
-    put(
-        &[
-            Raw("<path class=\"c"),
-            Number(colour),
-            Raw(" q o mg\" d=\"M"),
-            At(x),
-            Raw(" "),
-        ],
-        out,
-    )?;
-    put(
-        &[
-            At(from.middle(0)),
-            Raw("V"),
-            At(neck),
-            Raw("\"/><path class=\"c"),
-            Number(colour),
-        ],
-        out,
-    )?;
-    put(
-        &[
-            Raw(" q f\" d=\"M"),
-            At(x),
-            Raw(" "),
-            At(tip),
-            Raw(head),
-            Raw("\"/>\n"),
-        ],
-        out,
-    )
+    out.put(
+        "<path class=\"c{} q o mg\" d=\"M{} {}V{}\"/>",
+        &[Number(colour), At(x), At(from.middle(0)), At(neck)],
+    );
+    out.put(
+        "<path class=\"c{} q f\" d=\"M{} {}{}\"/>\n",
+        &[Number(colour), At(x), At(tip), Raw(head)],
+    );
 }
 
-fn put_migrations(
-    scene: &Scene<'_>,
-    span: &Span,
-    rows: &Rows,
-    out: &mut Vec<u8>,
-) -> Result<(), AllocError> {
+fn put_migrations(scene: &Scene<'_>, span: &Span, rows: &Rows, out: &mut Canvas) {
     let all: &[Migration] = &scene.run.migrations;
     let first = all.partition_point(|migration| migration.event < span.first);
     for migration in all.get(first..).unwrap_or(&[]) {
@@ -145,19 +80,13 @@ fn put_migrations(
         let to = rows.of_task(migration.task, migration.to);
         if let (Some(from), Some(to)) = (from, to) {
             let colour = scene.colour(migration.task);
-            put_migration(colour, span.x(migration.event), &from, &to, out)?;
+            put_migration(colour, span.x(migration.event), &from, &to, out);
         }
     }
-    Ok(())
 }
 
 /// The links and the migrations of a panel. Narrow columns have migrations alone.
-pub fn put_links(
-    scene: &Scene<'_>,
-    span: &Span,
-    rows: &Rows,
-    out: &mut Vec<u8>,
-) -> Result<(), AllocError> {
+pub fn put_links(scene: &Scene<'_>, span: &Span, rows: &Rows, out: &mut Canvas) {
     let all: &[Link] = &scene.run.links;
     let first = all.partition_point(|link| link.event < span.first);
     for link in all.get(first..).unwrap_or(&[]) {
@@ -165,8 +94,8 @@ pub fn put_links(
             break;
         }
         if let Some((from, to)) = lanes_of(scene, rows, link) {
-            put_link(span.x(link.event), link.bond, &from, &to, out)?;
+            put_link(span.x(link.event), link.bond, &from, &to, out);
         }
     }
-    put_migrations(scene, span, rows, out)
+    put_migrations(scene, span, rows, out);
 }

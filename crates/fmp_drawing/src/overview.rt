@@ -1,8 +1,8 @@
 //! The overview over a long run: what ran most in each part of it, and a link for each panel.
 use crate::scene::Scene;
 use crate::shapes::{put_line, put_text};
-use fmp_timeline::Piece::{At, Number, Raw, Text};
-use fmp_timeline::{Occupant, Tenths, append, put, px};
+use fmp_timeline::Piece::{At, Number, Raw};
+use fmp_timeline::{Canvas, Occupant, Tenths, px};
 use std::alloc::AllocError;
 
 /// The eight colours, a handler, and nothing.
@@ -102,257 +102,157 @@ fn looks_of(scene: &Scene<'_>, bins: &Bins, processor: u8) -> Result<Vec<usize>,
     Ok(looks)
 }
 
+/// Parts that are neighbours, from one up to another, as a box of a path.
+fn put_run(bins: &Bins, from: u32, to: u32, y: u32, out: &mut Canvas) {
+    let x = bins.x(from);
+    let wide = bins.x(to) - x;
+    out.put(
+        "M{} {}h{}v10h{}z",
+        &[At(x), Number(y), At(wide), At(wide.back())],
+    );
+}
+
 /// The parts of one look, neighbours joined, as the boxes of a path.
-fn put_parts(
-    bins: &Bins,
-    looks: &[usize],
-    look: usize,
-    y: u32,
-    out: &mut Vec<u8>,
-) -> Result<(), AllocError> {
+fn put_parts(bins: &Bins, looks: &[usize], look: usize, y: u32, out: &mut Canvas) {
     let mut from: Option<u32> = None;
     for bin in 0..=bins.bins {
         let is_look = looks.get(bin as usize) == Some(&look);
         match from {
             None if is_look => from = Some(bin),
             Some(start) if !is_look => {
-                let wide = bins.x(bin) - bins.x(start);
-                put(
-                    &[Raw("M"), At(bins.x(start)), Raw(" "), Number(y), Raw("h")],
-                    out,
-                )?;
-                put(&[At(wide), Raw("v10h"), At(wide.back()), Raw("z")], out)?;
+                put_run(bins, start, bin, y, out);
                 from = None;
             }
             _ => {}
         }
     }
-    Ok(())
 }
 
 /// The path of the parts of one look.
-fn put_look(
-    bins: &Bins,
-    looks: &[usize],
-    look: usize,
-    y: u32,
-    out: &mut Vec<u8>,
-) -> Result<(), AllocError> {
+fn put_look(bins: &Bins, looks: &[usize], look: usize, y: u32, out: &mut Canvas) {
     if look == HANDLER {
-        append("<path class=\"hov", out)?;
+        out.raw("<path class=\"hov");
     } else {
-        let colour = Number(u32::try_from(look).unwrap_or(0));
-        put(&[Raw("<path class=\"c"), colour, Raw(" f")], out)?;
+        out.numbered("<path class=\"c", u32::try_from(look).unwrap_or(0), " f");
     }
-    append("\" d=\"", out)?;
-    put_parts(bins, looks, look, y, out)?;
-    append("\"/>\n", out)
+    out.raw("\" d=\"");
+    put_parts(bins, looks, look, y, out);
+    out.raw("\"/>\n");
 }
 
-/// The strip of a processor.
+/// The number of a processor at its strip, and the line of the strip.
+fn put_strip_head(bins: &Bins, processor: u8, y: u32, out: &mut Canvas) {
+    let number = Number(u32::from(processor).saturating_add(1));
+    let (x, foot) = (At(bins.left - px(8)), Number(y.saturating_add(8)));
+    out.put(
+        "<text class=\"m e\" x=\"{}\" y=\"{}\">p{}</text>",
+        &[x, foot, number],
+    );
+    let start = (bins.left, px(y.saturating_add(5)));
+    put_line("i", start, px(bins.wide), out);
+    out.raw("/>\n");
+}
+
+/// The strip of a processor. `AllocError` for want of memory.
 fn put_strip(
     scene: &Scene<'_>,
     bins: &Bins,
     processor: u8,
     y: u32,
-    out: &mut Vec<u8>,
+    out: &mut Canvas,
 ) -> Result<(), AllocError> {
-    let number = u32::from(processor).saturating_add(1);
-    put(
-        &[
-            Raw("<text class=\"m e\" x=\""),
-            At(bins.left - px(8)),
-            Raw("\" y=\""),
-        ],
-        out,
-    )?;
-    put(
-        &[
-            Number(y.saturating_add(8)),
-            Raw("\">p"),
-            Number(number),
-            Raw("</text>"),
-        ],
-        out,
-    )?;
-    let start = (bins.left, px(y.saturating_add(5)));
-    put_line("i", start, px(bins.wide), out)?;
-    append("/>\n", out)?;
-    put_looks(scene, bins, processor, y, out)
-}
-
-/// The looks of the parts of a processor's strip.
-fn put_looks(
-    scene: &Scene<'_>,
-    bins: &Bins,
-    processor: u8,
-    y: u32,
-    out: &mut Vec<u8>,
-) -> Result<(), AllocError> {
+    put_strip_head(bins, processor, y, out);
     let looks = looks_of(scene, bins, processor)?;
     for look in 0..IDLE {
         if looks.contains(&look) {
-            put_look(bins, &looks, look, y, out)?;
+            put_look(bins, &looks, look, y, out);
         }
     }
     Ok(())
+}
+
+/// A red stroke, as high as the share of these in the events of a part.
+fn put_stroke(bins: &Bins, bin: u32, count: u32, y: u32, out: &mut Canvas) {
+    let next = bin.saturating_add(1);
+    let share = part(80, count, bins.start(next).saturating_sub(bins.start(bin)));
+    let x = bins.x(bin) + (bins.x(next) - bins.x(bin)).half();
+    let high = Tenths(15) + Tenths(1).times(share);
+    out.put("M{} {}v{}", &[At(x), Number(y), At(high.back())]);
+}
+
+/// How many of these events are before this one.
+fn count_before(events: &[u32], end: u32) -> usize {
+    events.partition_point(|event| *event < end)
 }
 
 /// Red strokes, as high as the share of a part's events that were refused or at fault.
-fn put_wrong(scene: &Scene<'_>, bins: &Bins, y: u32, out: &mut Vec<u8>) -> Result<(), AllocError> {
+fn put_wrong(scene: &Scene<'_>, bins: &Bins, y: u32, out: &mut Canvas) {
     let wrong = scene.run.wrong.as_slice();
-    append("<path class=\"er thin\" d=\"", out)?;
+    out.raw("<path class=\"er thin\" d=\"");
+    let mut before = count_before(wrong, bins.start(0));
     for bin in 0..bins.bins {
-        let (start, end) = (bins.start(bin), bins.start(bin.saturating_add(1)));
-        let before = wrong.partition_point(|event| *event < start);
-        let count = wrong
-            .partition_point(|event| *event < end)
-            .saturating_sub(before);
-        let share = part(
-            80,
-            u32::try_from(count).unwrap_or(0),
-            end.saturating_sub(start),
-        );
+        let after = count_before(wrong, bins.start(bin.saturating_add(1)));
+        let count = u32::try_from(after.saturating_sub(before)).unwrap_or(0);
         if count > 0 {
-            let x = bins.x(bin) + (bins.x(bin.saturating_add(1)) - bins.x(bin)).half();
-            let high = Tenths(15) + Tenths(1).times(share);
-            put(
-                &[
-                    Raw("M"),
-                    At(x),
-                    Raw(" "),
-                    Number(y),
-                    Raw("v"),
-                    At(high.back()),
-                ],
-                out,
-            )?;
+            put_stroke(bins, bin, count, y, out);
         }
+        before = after;
     }
-    append("\"/>\n", out)
+    out.raw("\"/>\n");
 }
 
 /// The number of the first event of a panel in its frame, where it fits.
-fn put_frame_number(
-    first: u32,
-    (left, right): (Tenths, Tenths),
-    bottom: u32,
-    out: &mut Vec<u8>,
-) -> Result<(), AllocError> {
-    if (right - left).is_below(px(36)) {
-        return Ok(());
+fn put_frame_number(first: u32, (left, right): (Tenths, Tenths), bottom: u32, out: &mut Canvas) {
+    if !(right - left).is_below(px(36)) {
+        let (x, y) = (At(left + px(3)), Number(bottom.saturating_sub(3)));
+        out.put(
+            "<text class=\"m\" x=\"{}\" y=\"{}\">{}</text>",
+            &[x, y, Number(first)],
+        );
     }
-    put(
-        &[
-            Raw("<text class=\"m\" x=\""),
-            At(left + px(3)),
-            Raw("\" y=\""),
-        ],
-        out,
-    )?;
-    put(
-        &[
-            Number(bottom.saturating_sub(3)),
-            Raw("\">"),
-            Number(first),
-            Raw("</text>"),
-        ],
-        out,
-    )
 }
 
 /// The frame of a panel, which is a link.
-fn put_frame(
-    bins: &Bins,
-    (first, last): (u32, u32),
-    (top, bottom): (u32, u32),
-    out: &mut Vec<u8>,
-) -> Result<(), AllocError> {
+fn put_frame(bins: &Bins, (first, last): (u32, u32), (top, bottom): (u32, u32), out: &mut Canvas) {
     let left = bins.event_x(first);
     let right = bins.event_x(last.saturating_add(1)).or_more(left + px(2));
-    put(
-        &[
-            Raw("<a href=\"#e"),
-            Number(first),
-            Raw("\" aria-label=\"Events "),
-        ],
-        out,
-    )?;
-    put(
-        &[
-            Number(first),
-            Raw(" to "),
-            Number(last),
-            Raw("\"><path class=\"pl\" d=\"M"),
-        ],
-        out,
-    )?;
-    put(
-        &[
-            At(left),
-            Raw(" "),
-            Number(top),
-            Raw("H"),
-            At(right),
-            Raw("V"),
-            Number(bottom),
-        ],
-        out,
-    )?;
-    put(
-        &[
-            Raw("H"),
-            At(left),
-            Raw("z\"><title>events "),
-            Number(first),
-            Raw(" to "),
-        ],
-        out,
-    )?;
-    put(&[Number(last), Raw("</title></path>")], out)?;
-    put_frame_number(first, (left, right), bottom, out)?;
-    append("</a>\n", out)
+    let events = [Number(first), Number(first), Number(last)];
+    out.put("<a href=\"#e{}\" aria-label=\"Events {} to {}\">", &events);
+    let (x, upper, lower) = (At(left), Number(top), Number(bottom));
+    out.put(
+        "<path class=\"pl\" d=\"M{} {}H{}V{}H{}z\"><title>events {} to {}</title></path>",
+        &[x, upper, At(right), lower, x, Number(first), Number(last)],
+    );
+    put_frame_number(first, (left, right), bottom, out);
+    out.raw("</a>\n");
 }
 
 /// The frames of the panels.
-fn put_frames(
-    scene: &Scene<'_>,
-    bins: &Bins,
-    ends: (u32, u32),
-    out: &mut Vec<u8>,
-) -> Result<(), AllocError> {
+fn put_frames(scene: &Scene<'_>, bins: &Bins, ends: (u32, u32), out: &mut Canvas) {
     for panel in 0..scene.page.panels {
         let first = scene.page.panel_start(panel);
-        put_frame(bins, (first, scene.page.panel_end(first)), ends, out)?;
+        put_frame(bins, (first, scene.page.panel_end(first)), ends, out);
     }
-    Ok(())
 }
 
-/// The overview from this height on, if there is one: the height below it.
-pub fn put_overview(scene: &Scene<'_>, top: u32, out: &mut Vec<u8>) -> Result<u32, AllocError> {
+/// The overview from this height on, if there is one: the height below it. `AllocError` for want of memory.
+pub fn put_overview(scene: &Scene<'_>, top: u32, out: &mut Canvas) -> Result<u32, AllocError> {
     if !scene.has_overview() {
         return Ok(top);
     }
     let y = top.saturating_add(6);
     let bins = Bins::new(scene);
-    append(
-        "<g role=\"group\" aria-label=\"Overview, with a link for each panel\">\n",
-        out,
-    )?;
+    out.raw("<g role=\"group\" aria-label=\"Overview, with a link for each panel\">\n");
     let place = (px(12), px(y.saturating_add(9)));
-    put_text(&[Raw("pn")], place, &[Raw("Overview")], out)?;
+    put_text(Raw("pn"), place, Raw("Overview"), out);
     let mut strip = y.saturating_add(8);
     for processor in 0..scene.sys.processors {
         put_strip(scene, &bins, processor, strip, out)?;
         strip = strip.saturating_add(12);
     }
-    put_wrong(scene, &bins, y.saturating_add(7), out)?;
-    put_frames(
-        scene,
-        &bins,
-        (y.saturating_sub(2), strip.saturating_add(12)),
-        out,
-    )?;
-    append("</g>\n", out)?;
+    put_wrong(scene, &bins, y.saturating_add(7), out);
+    let ends = (y.saturating_sub(2), strip.saturating_add(12));
+    put_frames(scene, &bins, ends, out);
+    out.raw("</g>\n");
     Ok(strip.saturating_add(24))
 }

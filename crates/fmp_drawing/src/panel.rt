@@ -5,83 +5,66 @@ use crate::links::put_links;
 use crate::picture::MOST_BYTES;
 use crate::processors::{put_dispatch, put_handler, put_lock, put_processor};
 use crate::rows::{Lane, Row, Rows};
-use crate::scene::Scene;
-use crate::signs::{placed_marks, put_marks, taken_by};
+use crate::scene::{Scene, Taken};
+use crate::signs::{put_marks, taken_in};
 use crate::tasks::put_task;
 use fmp_base::StateWord;
 use fmp_timeline::Piece::{At, Number, Raw, Text};
-use fmp_timeline::{Span, append, put, px, task_bytes};
+use fmp_timeline::{Canvas, Span, px, task_bytes};
 use std::alloc::AllocError;
 
 /// The height of an axis.
 const AXIS: u32 = 34;
 
 /// The bands behind the heads of the processors' groups.
-fn put_bands(span: &Span, rows: &Rows, out: &mut Vec<u8>) -> Result<(), AllocError> {
-    append("<path class=\"pband\" d=\"", out)?;
+fn put_bands(span: &Span, rows: &Rows, out: &mut Canvas) {
+    out.raw("<path class=\"pband\" d=\"");
     for row in rows.rows.as_slice() {
         if row.lane.is_head() {
-            put(
-                &[Raw("M0 "), At(row.y(0)), Raw("H"), At(span.end()), Raw("v")],
-                out,
-            )?;
-            put(&[Number(row.height), Raw("H0z")], out)?;
+            out.put(
+                "M0 {}H{}v{}H0z",
+                &[At(row.y(0)), At(span.end()), Number(row.height)],
+            );
         }
     }
-    append("\"/>\n", out)
+    out.raw("\"/>\n");
 }
 
-/// A lane with its boxes and texts.
-fn put_lane(
-    scene: &Scene<'_>,
-    span: &Span,
-    row: &Row,
-    out: &mut Vec<u8>,
-) -> Result<(), AllocError> {
-    let placed = placed_marks(scene, span, row.lane)?;
-    let taken = taken_by(scene, &placed)?;
+/// A lane with its boxes and texts, beside these pixels of its marks.
+fn put_lane_beside(scene: &Scene<'_>, span: &Span, row: &Row, taken: &[Taken], out: &mut Canvas) {
     match row.lane {
         Lane::Processor(processor) => put_processor(scene, span, row, processor, out),
         Lane::Lock(processor) => put_lock(scene, span, row, processor, out),
         Lane::Dispatch(processor) => put_dispatch(scene, span, row, processor, out),
-        Lane::Handler(handler) => put_handler(scene, span, row, &taken, handler, out),
-        Lane::Task(task, processor) => put_task(scene, span, row, &taken, (task, processor), out),
+        Lane::Handler(handler) => put_handler(scene, span, row, taken, handler, out),
+        Lane::Task(task, processor) => put_task(scene, span, row, taken, (task, processor), out),
         Lane::ObjectsHead => put_objects_head(row, out),
-        Lane::Object(place) => match scene.run.objects.all.get(place) {
-            Some(object) => put_object(scene, span, row, object, out),
-            None => Ok(()),
-        },
-        Lane::Gap => Ok(()),
+        Lane::Object(place) => {
+            if let Some(object) = scene.run.objects.all.get(place) {
+                put_object(scene, span, row, object, out);
+            }
+        }
+        Lane::Gap => {}
     }
 }
 
+/// A lane with its boxes and texts. `AllocError` for want of memory.
+fn put_lane(scene: &Scene<'_>, span: &Span, row: &Row, out: &mut Canvas) -> Result<(), AllocError> {
+    let taken = taken_in(scene, span, row.lane)?;
+    put_lane_beside(scene, span, row, &taken, out);
+    Ok(())
+}
+
 /// The wash over the lead, which shows the states that the panel begins with.
-fn put_lead(span: &Span, top: u32, bottom: u32, out: &mut Vec<u8>) -> Result<(), AllocError> {
-    if span.first == 0 {
-        return Ok(());
+fn put_lead(span: &Span, top: u32, bottom: u32, out: &mut Canvas) {
+    if span.first > 0 {
+        let (left, lead) = (At(span.page.left()), px(span.page.lead));
+        let (top, bottom) = (Number(top), Number(bottom));
+        out.put(
+            "<path class=\"lead q\" d=\"M{} {}h{}V{}h{}z\"/>\n",
+            &[left, top, At(lead), bottom, At(lead.back())],
+        );
     }
-    let lead = px(span.page.lead);
-    put(
-        &[
-            Raw("<path class=\"lead q\" d=\"M"),
-            At(span.page.left()),
-            Raw(" "),
-            Number(top),
-        ],
-        out,
-    )?;
-    put(
-        &[
-            Raw("h"),
-            At(lead),
-            Raw("V"),
-            Number(bottom),
-            Raw("h"),
-            At(lead.back()),
-        ],
-        out,
-    )?;
-    append("z\"/>\n", out)
 }
 
 /// The small letters of a state's word.
@@ -98,11 +81,12 @@ fn small_word(word: StateWord) -> &'static str {
 
 /// Whether a task is in a state where a panel begins.
 fn is_in(scene: &Scene<'_>, span: &Span, task: u8, word: StateWord) -> bool {
-    let track = scene.run.tasks.get(usize::from(task));
-    match track.and_then(|track| track.at(span.first)) {
-        Some(shown) => shown.word == word,
-        None => false,
+    if let Some(track) = scene.run.tasks.get(usize::from(task))
+        && let Some(shown) = track.at(span.first)
+    {
+        return shown.word == word;
     }
+    false
 }
 
 /// How many tasks without a lane are in a state.
@@ -122,17 +106,16 @@ fn put_asleep_names(
     span: &Span,
     rows: &Rows,
     word: StateWord,
-    out: &mut Vec<u8>,
-) -> Result<(), AllocError> {
+    out: &mut Canvas,
+) {
     let mut count: u32 = 0;
     for task in rows.asleep.as_slice() {
         if count < 4 && is_in(scene, span, *task, word) {
-            let before = if count > 0 { ", " } else { "" };
-            put(&[Raw(before), Text(task_bytes(scene.sys, *task))], out)?;
+            out.raw(if count > 0 { ", " } else { "" });
+            out.text(task_bytes(scene.sys, *task));
             count = count.saturating_add(1);
         }
     }
-    Ok(())
 }
 
 /// How many tasks without a lane are in a state, with the names of the first four: whether there are any.
@@ -142,37 +125,25 @@ fn put_asleep_in(
     rows: &Rows,
     word: StateWord,
     before: &str,
-    out: &mut Vec<u8>,
-) -> Result<bool, AllocError> {
+    out: &mut Canvas,
+) -> bool {
     let count = asleep_in(scene, span, rows, word);
-    if count == 0 {
-        return Ok(false);
+    if count > 0 {
+        let head = [Raw(before), Number(count), Raw(small_word(word))];
+        out.put("{}{} {} (", &head);
+        put_asleep_names(scene, span, rows, word, out);
+        out.raw(if count > 4 { ", …)" } else { ")" });
     }
-    put(
-        &[
-            Raw(before),
-            Number(count),
-            Raw(" "),
-            Raw(small_word(word)),
-            Raw(" ("),
-        ],
-        out,
-    )?;
-    put_asleep_names(scene, span, rows, word, out)?;
-    append(if count > 4 { ", …)" } else { ")" }, out)?;
-    Ok(true)
+    count > 0
 }
 
 /// The line that says which tasks have no lane.
-fn put_asleep(
-    scene: &Scene<'_>,
-    span: &Span,
-    rows: &Rows,
-    out: &mut Vec<u8>,
-) -> Result<(), AllocError> {
+fn put_asleep(scene: &Scene<'_>, span: &Span, rows: &Rows, out: &mut Canvas) {
     let y = px(rows.bottom) + px(11);
-    put(&[Raw("<text class=\"m\" x=\"12\" y=\""), At(y)], out)?;
-    append("\">No change and no lane here:", out)?;
+    out.put(
+        "<text class=\"m\" x=\"12\" y=\"{}\">No change and no lane here:",
+        &[At(y)],
+    );
     let mut before = " ";
     for word in [
         StateWord::Dormant,
@@ -181,48 +152,69 @@ fn put_asleep(
         StateWord::Waiting,
         StateWord::WaitingSuspended,
     ] {
-        if put_asleep_in(scene, span, rows, word, before, out)? {
+        if put_asleep_in(scene, span, rows, word, before, out) {
             before = "; ";
         }
     }
-    append("</text>\n", out)
+    out.raw("</text>\n");
 }
 
-/// A panel with these lanes that begins at this height, or a beginning of it that is too large.
+/// The lanes of a panel, until they are too large. `AllocError` for want of memory.
+fn put_lanes(
+    scene: &Scene<'_>,
+    span: &Span,
+    rows: &Rows,
+    out: &mut Canvas,
+) -> Result<(), AllocError> {
+    for row in rows.rows.as_slice() {
+        if out.len() <= MOST_BYTES {
+            put_lane(scene, span, row, out)?;
+        }
+    }
+    Ok(())
+}
+
+/// The marks of all lanes. `AllocError` for want of memory.
+fn put_all_marks(
+    scene: &Scene<'_>,
+    span: &Span,
+    rows: &Rows,
+    out: &mut Canvas,
+) -> Result<(), AllocError> {
+    for row in rows.rows.as_slice() {
+        put_marks(scene, span, row, out)?;
+    }
+    Ok(())
+}
+
+/// A panel with these lanes that begins at this height, or a beginning of it that is too large. `AllocError` for want
+/// of memory.
 fn put_rows(
     scene: &Scene<'_>,
     span: &Span,
     top: u32,
     rows: &Rows,
-    out: &mut Vec<u8>,
+    out: &mut Canvas,
 ) -> Result<(), AllocError> {
     let (first, last) = (Number(span.first), Number(span.last));
-    put(
-        &[
-            Raw("<g id=\"e"),
-            first,
-            Raw("\" role=\"group\" aria-label=\"Events "),
-        ],
-        out,
-    )?;
-    put(&[first, Raw(" to "), last, Raw("\">\n")], out)?;
-    put_bands(span, rows, out)?;
-    put_axis(scene, span, px(top), px(rows.bottom), out)?;
-    for row in rows.rows.as_slice() {
-        if out.len() > MOST_BYTES {
-            return Ok(());
-        }
-        put_lane(scene, span, row, out)?;
+    out.put(
+        "<g id=\"e{}\" role=\"group\" aria-label=\"Events {} to {}\">\n",
+        &[first, first, last],
+    );
+    put_bands(span, rows, out);
+    put_axis(scene, span, px(top), px(rows.bottom), out);
+    put_lanes(scene, span, rows, out)?;
+    if out.len() > MOST_BYTES {
+        return Ok(());
     }
-    put_lead(span, top.saturating_add(AXIS), rows.bottom, out)?;
-    put_links(scene, span, rows, out)?;
-    for row in rows.rows.as_slice() {
-        put_marks(scene, span, row, out)?;
-    }
+    put_lead(span, top.saturating_add(AXIS), rows.bottom, out);
+    put_links(scene, span, rows, out);
+    put_all_marks(scene, span, rows, out)?;
     if !rows.asleep.is_empty() {
-        put_asleep(scene, span, rows, out)?;
+        put_asleep(scene, span, rows, out);
     }
-    append("</g>\n", out)
+    out.raw("</g>\n");
+    Ok(())
 }
 
 /// The lanes of a panel that begins at this height.
@@ -241,7 +233,7 @@ pub fn put_panel(
     scene: &Scene<'_>,
     span: &Span,
     top: u32,
-    out: &mut Vec<u8>,
+    out: &mut Canvas,
 ) -> Result<u32, AllocError> {
     let rows = rows_of(scene, span, top)?;
     put_rows(scene, span, top, &rows, out)?;

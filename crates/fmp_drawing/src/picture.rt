@@ -7,8 +7,8 @@ use crate::panel::{panel_bottom, put_panel};
 use crate::scene::Scene;
 use crate::style::{DARK, LIGHT, SHAPES};
 use fmp_base::System;
-use fmp_timeline::Piece::{Number, Raw, Text};
-use fmp_timeline::{Page, Run, Span, append, append_number, append_text, put};
+use fmp_timeline::Piece::{Number, Text};
+use fmp_timeline::{Canvas, Page, Run, Span};
 use std::alloc::{AllocError, Global};
 use thiserror::Error;
 
@@ -19,15 +19,18 @@ pub const MOST_BYTES: usize = 40_000_000;
 const BETWEEN: u32 = 24;
 
 /// A number of things.
-fn append_count(count: u32, thing: &str, out: &mut Vec<u8>) -> Result<(), AllocError> {
-    append_number(count, out)?;
-    append(thing, out)?;
-    append(if count == 1 { "" } else { "s" }, out)
+fn put_count(count: u32, thing: &str, out: &mut Canvas) {
+    out.number(count);
+    out.raw(thing);
+    out.raw(if count == 1 { "" } else { "s" });
 }
 
 /// The clock after an event.
 fn clock_at(run: &Run, event: u32) -> u32 {
-    run.notes.get(event as usize).map_or(0, |note| note.clock)
+    match run.notes.get(event as usize) {
+        Some(note) => note.clock,
+        None => 0,
+    }
 }
 
 /// How many tasks there are.
@@ -36,112 +39,68 @@ fn task_count(scene: &Scene<'_>) -> u32 {
 }
 
 /// The title and the description of the picture, for those who hear it read.
-fn put_description(scene: &Scene<'_>, name: &[u8], out: &mut Vec<u8>) -> Result<(), AllocError> {
-    put(
-        &[
-            Raw("<title id=\"title\">Timeline of "),
-            Text(name),
-            Raw(", events "),
-            Number(scene.page.first),
-            Raw(" to "),
-            Number(scene.page.last),
-        ],
-        out,
-    )?;
-    append("</title>\n<desc id=\"desc\">", out)?;
-    append_count(u32::from(scene.sys.processors), " processor", out)?;
-    append(", ", out)?;
-    append_count(task_count(scene), " task", out)?;
-    append(
-        ". The horizontal axis counts events of the simulator, not time; dashed vertical lines are ",
-        out,
-    )?;
-    append(
-        "clock ticks.\nEvery lane is a group that lists its states in order.</desc>\n",
-        out,
-    )
+fn put_description(scene: &Scene<'_>, name: &[u8], out: &mut Canvas) {
+    let (first, last) = (Number(scene.page.first), Number(scene.page.last));
+    out.put(
+        "<title id=\"title\">Timeline of {}, events {} to {}</title>\n<desc id=\"desc\">",
+        &[Text(name), first, last],
+    );
+    put_count(u32::from(scene.sys.processors), " processor", out);
+    out.raw(", ");
+    put_count(task_count(scene), " task", out);
+    out.raw(
+        ". The horizontal axis counts events of the simulator, not time; dashed vertical lines are \
+         clock ticks.\nEvery lane is a group that lists its states in order.</desc>\n",
+    );
 }
 
 /// The style and the shapes of the picture.
-fn put_style(out: &mut Vec<u8>) -> Result<(), AllocError> {
-    put(&[Raw("<style>"), Raw(LIGHT)], out)?;
-    put(
-        &[
-            Raw("\n@media screen and (prefers-color-scheme:dark){"),
-            Raw(DARK),
-        ],
-        out,
-    )?;
-    put(&[Raw("}</style>\n"), Raw(SHAPES), Raw("\n")], out)
+fn put_style(out: &mut Canvas) {
+    out.raw("<style>");
+    out.raw(LIGHT);
+    out.raw("\n@media screen and (prefers-color-scheme:dark){");
+    out.raw(DARK);
+    out.raw("}</style>\n");
+    out.raw(SHAPES);
+    out.raw("\n");
 }
 
 /// The first lines of the picture: its size, its title, its description, its style and its shapes.
-fn put_root(
-    scene: &Scene<'_>,
-    name: &[u8],
-    high: u32,
-    out: &mut Vec<u8>,
-) -> Result<(), AllocError> {
+fn put_root(scene: &Scene<'_>, name: &[u8], high: u32, out: &mut Canvas) {
     let (wide, high) = (Number(scene.page.wide), Number(high));
-    append(
-        "<svg xmlns=\"http://www.w3.org/2000/svg\" viewBox=\"0 0 ",
-        out,
-    )?;
-    put(
-        &[
-            wide,
-            Raw(" "),
-            high,
-            Raw("\" width=\""),
-            wide,
-            Raw("\" height=\""),
-            high,
-        ],
-        out,
-    )?;
-    append(
-        "\" id=\"top\" role=\"graphics-document\"\naria-labelledby=\"title desc\" lang=\"en\">\n",
-        out,
-    )?;
-    put_description(scene, name, out)?;
-    put_style(out)
+    out.put(
+        "<svg xmlns=\"http://www.w3.org/2000/svg\" viewBox=\"0 0 {} {}\" width=\"{}\" height=\"{}\"",
+        &[wide, high, wide, high],
+    );
+    out.raw(
+        " id=\"top\" role=\"graphics-document\"\naria-labelledby=\"title desc\" lang=\"en\">\n",
+    );
+    put_description(scene, name, out);
+    put_style(out);
+}
+
+/// What is drawn of a run: its events, and the clocks at their ends.
+fn put_extent(scene: &Scene<'_>, out: &mut Canvas) {
+    let (first, last) = (scene.page.first, scene.page.last);
+    out.put(" · events {}–{}", &[Number(first), Number(last)]);
+    if first > 0 || last < scene.last_event() {
+        out.numbered(" of 0–", scene.last_event(), "");
+    }
+    let (from, to) = (clock_at(scene.run, first), clock_at(scene.run, last));
+    out.put(" · clock {}–{}", &[Number(from), Number(to)]);
 }
 
 /// The title, and in small what is drawn.
-fn put_head(scene: &Scene<'_>, name: &[u8], out: &mut Vec<u8>) -> Result<(), AllocError> {
-    let (page, run) = (&scene.page, scene.run);
-    append("<text class=\"h1\" x=\"12\" y=\"26\">", out)?;
-    append_text(name, out)?;
-    append("</text>\n<text class=\"h2\" x=\"12\" y=\"42\">", out)?;
-    append_count(u32::from(scene.sys.processors), " processor", out)?;
-    append(" · ", out)?;
-    append_count(task_count(scene), " task", out)?;
-    put(
-        &[
-            Raw(" · events "),
-            Number(page.first),
-            Raw("–"),
-            Number(page.last),
-        ],
-        out,
-    )?;
-    let end = run.next_event().saturating_sub(1);
-    if page.first > 0 || page.last < end {
-        put(&[Raw(" of 0–"), Number(end)], out)?;
-    }
-    put(
-        &[
-            Raw(" · clock "),
-            Number(clock_at(run, page.first)),
-            Raw("–"),
-        ],
-        out,
-    )?;
-    put(&[Number(clock_at(run, page.last))], out)?;
-    append(
-        " · a column is one event, not a length of time</text>\n",
-        out,
-    )
+fn put_head(scene: &Scene<'_>, name: &[u8], out: &mut Canvas) {
+    out.put(
+        "<text class=\"h1\" x=\"12\" y=\"26\">{}</text>\n<text class=\"h2\" x=\"12\" y=\"42\">",
+        &[Text(name)],
+    );
+    put_count(u32::from(scene.sys.processors), " processor", out);
+    out.raw(" · ");
+    put_count(task_count(scene), " task", out);
+    put_extent(scene, out);
+    out.raw(" · a column is one event, not a length of time</text>\n");
 }
 
 /// The panel with this number.
@@ -164,8 +123,8 @@ fn height_of(scene: &Scene<'_>, top: u32) -> Result<u32, AllocError> {
     Ok(y.saturating_sub(4))
 }
 
-/// Appends the panels from this height on, until they are too large.
-fn put_panels(scene: &Scene<'_>, top: u32, out: &mut Vec<u8>) -> Result<(), AllocError> {
+/// The panels from this height on, until they are too large.
+fn put_panels(scene: &Scene<'_>, top: u32, out: &mut Canvas) -> Result<(), AllocError> {
     let mut y = top;
     for panel in 0..scene.page.panels {
         if out.len() > MOST_BYTES {
@@ -178,9 +137,9 @@ fn put_panels(scene: &Scene<'_>, top: u32, out: &mut Vec<u8>) -> Result<(), Allo
 }
 
 /// What stands above the panels: the height below it.
-fn put_top(scene: &Scene<'_>, name: &[u8], out: &mut Vec<u8>) -> Result<u32, AllocError> {
-    put_head(scene, name, out)?;
-    let y = put_legend(scene, 64, out)?;
+fn put_top(scene: &Scene<'_>, name: &[u8], out: &mut Canvas) -> Result<u32, AllocError> {
+    put_head(scene, name, out);
+    let y = put_legend(scene, 64, out);
     put_overview(scene, y.saturating_add(2), out)
 }
 
@@ -188,22 +147,23 @@ fn put_top(scene: &Scene<'_>, name: &[u8], out: &mut Vec<u8>) -> Result<u32, All
 fn put_picture(
     scene: &Scene<'_>,
     name: &[u8],
-    (above, y): (&[u8], u32),
-    out: &mut Vec<u8>,
+    (above, y): (&Canvas, u32),
+    out: &mut Canvas,
 ) -> Result<(), AllocError> {
-    put_root(scene, name, height_of(scene, y)?, out)?;
-    out.extend_from_slice(above)?;
+    put_root(scene, name, height_of(scene, y)?, out);
+    out.join(above);
     put_panels(scene, y, out)?;
-    append("</svg>\n", out)
+    out.raw("</svg>\n");
+    Ok(())
 }
 
 /// The picture, or a beginning of it that is too large.
 fn drawn(scene: &Scene<'_>, name: &[u8]) -> Result<Vec<u8>, AllocError> {
-    let mut above = Vec::new(scene.alloc);
+    let mut above = Canvas::new(scene.alloc);
     let y = put_top(scene, name, &mut above)?;
-    let mut out = Vec::new(scene.alloc);
+    let mut out = Canvas::new(scene.alloc);
     put_picture(scene, name, (&above, y), &mut out)?;
-    Ok(out)
+    out.finish()
 }
 
 /// Why there is no picture.

@@ -3,15 +3,14 @@ use crate::calls::put_calls;
 use crate::rows::Row;
 use crate::scene::{Scene, Taken, letters_that_fit};
 use crate::shapes::{put_box, put_frame, put_line, put_text};
-use crate::tasks::{put_name, put_side};
+use crate::tasks::{NAME, put_name, put_side};
 use crate::titles::put_title;
 use fmp_base::{Handler, Lock};
-use fmp_timeline::Piece::{Number, Raw, Text};
+use fmp_timeline::Piece::{At, Label, Number, Numbered, Raw, Text};
 use fmp_timeline::{
-    Handling, Occupant, Span, Spin, Stay, Tenths, Topic, append, bytes_of, handler_text, put, px,
+    Canvas, Handling, Occupant, Span, Spin, Stay, Tenths, Topic, Track, bytes_of, handler_text, px,
     task_bytes, width,
 };
-use std::alloc::AllocError;
 
 /// The size of names in a processor's boxes.
 const BOLD: Tenths = Tenths(100);
@@ -34,18 +33,17 @@ fn put_handler_plate(
     row: &Row,
     handler: Handler,
     (left, right): (Tenths, Tenths),
-    out: &mut Vec<u8>,
-) -> Result<(), AllocError> {
-    let label = handler_text(scene.alloc, scene.sys, handler, "int ")?;
-    let wide = width(&label, BOLD) + px(6);
-    if !(wide + px(4)).is_below(right - left) {
-        return Ok(());
+    out: &mut Canvas,
+) {
+    let label = handler_text(scene.alloc, scene.sys, handler, "int ");
+    let wide = label.width(BOLD) + px(6);
+    if (wide + px(4)).is_below(right - left) {
+        let corner = (left + px(3), row.middle(-70));
+        put_box(Raw("tb q"), corner, (wide, px(14)), out);
+        out.raw("/>");
+        let place = (left + px(6), row.middle(40));
+        put_text(Raw("k q"), place, Label(&label), out);
     }
-    let corner = (left + px(3), row.middle(-70));
-    put_box(&[Raw("tb q")], corner, (wide, px(14)), out)?;
-    append("/>", out)?;
-    let place = (left + px(6), row.middle(40));
-    put_text(&[Raw("k q")], place, &[Text(&label)], out)
 }
 
 /// A handler that runs on a processor, with its name on a plate.
@@ -55,20 +53,23 @@ fn put_handler_box(
     row: &Row,
     (processor, handler): (u8, Handler),
     stay: &Stay<Occupant>,
-    out: &mut Vec<u8>,
-) -> Result<(), AllocError> {
+    out: &mut Canvas,
+) {
     let (left, right) = (span.box_left(stay), span.box_right(stay));
     let size = (right - left, px(19));
-    put_frame(&[Raw("hr")], (left, row.y(45)), size, out)?;
-    let name = handler_text(scene.alloc, scene.sys, handler, "#")?;
-    let head = [
-        Raw("p"),
-        Number(number_of(processor)),
-        Raw(": "),
-        Text(&name),
-    ];
-    put_title(scene.run, &head, stay, out)?;
-    put_handler_plate(scene, row, handler, (text_left(span, stay), right), out)
+    put_frame(Raw("hr"), (left, row.y(45)), size, out);
+    let name = handler_text(scene.alloc, scene.sys, handler, "#");
+    let head = [Number(number_of(processor)), Label(&name)];
+    put_title(scene.run, "p{}: {}", &head, stay, out);
+    put_handler_plate(scene, row, handler, (text_left(span, stay), right), out);
+}
+
+/// How many letters of a name stand in its box, and what stands behind them, where some fit.
+fn fit_name(name: &[u8], room: Tenths) -> Option<(usize, &'static str)> {
+    if width(name, BOLD).is_below(room) {
+        return Some((name.len(), ""));
+    }
+    Some((letters_that_fit(name, 4, BOLD, room)?, "…"))
 }
 
 /// The name of a task in its box, or its first letters where it does not fit.
@@ -77,22 +78,18 @@ fn put_occupant_name(
     row: &Row,
     task: u8,
     (left, right): (Tenths, Tenths),
-    out: &mut Vec<u8>,
-) -> Result<(), AllocError> {
+    out: &mut Canvas,
+) {
     let name = task_bytes(scene.sys, task);
-    let room = right - left - px(6);
-    let (letters, dots) = if width(name, BOLD).is_below(room) {
-        (name.len(), "")
-    } else {
-        match letters_that_fit(name, 4, BOLD, room) {
-            Some(count) => (count, "…"),
-            None => return Ok(()),
-        }
-    };
-    let class = [Raw("k d"), Number(scene.colour(task)), Raw(" q")];
-    let letters = name.get(..letters).unwrap_or(name);
-    let place = (left + px(4), row.middle(40));
-    put_text(&class, place, &[Text(letters), Raw(dots)], out)
+    if let Some((letters, dots)) = fit_name(name, right - left - px(6)) {
+        let colour = Number(scene.colour(task));
+        let letters = Text(name.get(..letters).unwrap_or(name));
+        let (x, y) = (At(left + px(4)), At(row.middle(40)));
+        out.put(
+            "<text class=\"k d{} q\" x=\"{}\" y=\"{}\">{}{}</text>\n",
+            &[colour, x, y, letters, Raw(dots)],
+        );
+    }
 }
 
 /// A task that a processor runs.
@@ -102,20 +99,17 @@ fn put_task_box(
     row: &Row,
     (processor, task): (u8, u8),
     stay: &Stay<Occupant>,
-    out: &mut Vec<u8>,
-) -> Result<(), AllocError> {
+    out: &mut Canvas,
+) {
     let (left, right) = (span.box_left(stay), span.box_right(stay));
-    let class = [Raw("c"), Number(scene.colour(task)), Raw(" f")];
-    put_frame(&class, (left, row.y(40)), (right - left, px(20)), out)?;
-    let name = task_bytes(scene.sys, task);
+    let class = Numbered("c", scene.colour(task), " f");
+    put_frame(class, (left, row.y(40)), (right - left, px(20)), out);
     let head = [
-        Raw("p"),
         Number(number_of(processor)),
-        Raw(": "),
-        Text(name),
+        Text(task_bytes(scene.sys, task)),
     ];
-    put_title(scene.run, &head, stay, out)?;
-    put_occupant_name(scene, row, task, (text_left(span, stay), right), out)
+    put_title(scene.run, "p{}: {}", &head, stay, out);
+    put_occupant_name(scene, row, task, (text_left(span, stay), right), out);
 }
 
 /// A processor that runs nothing.
@@ -125,77 +119,66 @@ fn put_idle(
     row: &Row,
     processor: u8,
     stay: &Stay<Occupant>,
-    out: &mut Vec<u8>,
-) -> Result<(), AllocError> {
+    out: &mut Canvas,
+) {
     let (left, right) = (span.box_left(stay), span.box_right(stay));
-    put_line("i", (left, row.middle(0)), right - left, out)?;
-    let head = [Raw("p"), Number(number_of(processor)), Raw(": idle")];
-    put_title(scene.run, &head, stay, out)
+    put_line("i", (left, row.middle(0)), right - left, out);
+    let number = Number(number_of(processor));
+    put_title(scene.run, "p{}: idle", &[number], stay, out);
 }
 
-/// The lane of a processor.
-pub fn put_processor(
+/// What a processor does, as long as it does it.
+fn put_occupant(
     scene: &Scene<'_>,
     span: &Span,
     row: &Row,
     processor: u8,
-    out: &mut Vec<u8>,
-) -> Result<(), AllocError> {
-    let number = Number(number_of(processor));
-    put(
-        &[
-            Raw("<g role=\"group\" aria-label=\"Processor "),
-            number,
-            Raw("\">"),
-        ],
-        out,
-    )?;
+    stay: &Stay<Occupant>,
+    out: &mut Canvas,
+) {
+    match (stay.state.handler, stay.state.task) {
+        (Some(handler), _) => put_handler_box(scene, span, row, (processor, handler), stay, out),
+        (None, Some(task)) => put_task_box(scene, span, row, (processor, task), stay, out),
+        (None, None) => put_idle(scene, span, row, processor, stay, out),
+    }
+}
+
+/// The lane of a processor.
+pub fn put_processor(scene: &Scene<'_>, span: &Span, row: &Row, processor: u8, out: &mut Canvas) {
+    let number = number_of(processor);
+    out.numbered("<g role=\"group\" aria-label=\"Processor ", number, "\">");
     let place = (px(12), row.middle(40));
-    put_text(&[Raw("pn")], place, &[Raw("Processor "), number], out)?;
+    put_text(Raw("pn"), place, Numbered("Processor ", number, ""), out);
     if let Some(track) = scene.run.occupants.get(usize::from(processor)) {
         for place in track.places(span.first, span.last) {
-            let Some(stay) = track.stay(place) else {
-                break;
-            };
-            match (stay.state.handler, stay.state.task) {
-                (Some(handler), _) => {
-                    put_handler_box(scene, span, row, (processor, handler), &stay, out)?;
-                }
-                (None, Some(task)) => {
-                    put_task_box(scene, span, row, (processor, task), &stay, out)?;
-                }
-                (None, None) => put_idle(scene, span, row, processor, &stay, out)?,
+            if let Some(stay) = track.stay(place) {
+                put_occupant(scene, span, row, processor, &stay, out);
             }
         }
     }
-    append("</g>\n", out)
+    out.raw("</g>\n");
 }
 
 /// The box of a bar, without the end of its element.
-fn put_bar(
-    class: &str,
-    row: &Row,
-    (left, right): (Tenths, Tenths),
-    out: &mut Vec<u8>,
-) -> Result<(), AllocError> {
+fn put_bar(class: &str, row: &Row, (left, right): (Tenths, Tenths), out: &mut Canvas) {
     let size = (right - left, px(10));
-    put_box(&[Raw(class)], (left, row.y(0)), size, out)
+    put_box(Raw(class), (left, row.y(0)), size, out);
 }
 
-/// The text of a bar, where it fits.
+/// The text of a bar, where it fits: whether it does.
 fn put_bar_text(
     class: &str,
     row: &Row,
     (left, right): (Tenths, Tenths),
     label: &[u8],
-    out: &mut Vec<u8>,
-) -> Result<bool, AllocError> {
-    if !(width(label, BAR) + px(4)).is_below(right - left) {
-        return Ok(false);
+    out: &mut Canvas,
+) -> bool {
+    let fits = (width(label, BAR) + px(4)).is_below(right - left);
+    if fits {
+        let place = (left + px(3), row.y(80));
+        put_text(Raw(class), place, Text(label), out);
     }
-    let place = (left + px(3), row.y(80));
-    put_text(&[Raw(class)], place, &[Text(label)], out)?;
-    Ok(true)
+    fits
 }
 
 /// A lock that is held.
@@ -205,137 +188,124 @@ fn put_held_lock(
     row: &Row,
     processor: u8,
     stay: &Stay<Lock>,
-    out: &mut Vec<u8>,
-) -> Result<(), AllocError> {
+    out: &mut Canvas,
+) {
     let ends = (span.box_left(stay), span.box_right(stay));
     let (words, label) = match stay.state {
-        Lock::Free => return Ok(()),
+        Lock::Free => return,
         Lock::Cpu => ("", b"CPU lock".as_slice()),
         Lock::Spin(place) => ("spin lock ", bytes_of(scene.sys, Topic::SpinLock(place))),
     };
-    put_bar("lc", row, ends, out)?;
-    let number = Number(number_of(processor));
-    let head = [
-        Raw("p"),
-        number,
-        Raw(": "),
-        Raw(words),
-        Text(label),
-        Raw(" held"),
-    ];
-    put_title(scene.run, &head, stay, out)?;
-    put_bar_text("lct q", row, (text_left(span, stay), ends.1), label, out)?;
-    Ok(())
+    put_bar("lc", row, ends, out);
+    let head = [Number(number_of(processor)), Raw(words), Text(label)];
+    put_title(scene.run, "p{}: {}{} held", &head, stay, out);
+    put_bar_text("lct q", row, (text_left(span, stay), ends.1), label, out);
+}
+
+/// What a stretch over which an actor asks in vain says: words, and the name of the lock that it asks for.
+fn spin_text<'a>(scene: &Scene<'a>, spin: &Spin) -> (&'static str, &'a [u8]) {
+    match scene.run.lock_of(spin) {
+        Some(lock) => ("spins for ", bytes_of(scene.sys, Topic::SpinLock(lock))),
+        None => ("no progress", &[]),
+    }
+}
+
+/// The text of such a stretch between two places, where it fits: whether it does.
+fn put_spin_text<'a>(
+    row: &Row,
+    (left, right): (Tenths, Tenths),
+    words: &'a str,
+    name: &'a [u8],
+    out: &mut Canvas,
+) -> bool {
+    let wide = width(words.as_bytes(), BAR) + width(name, BAR) + px(5);
+    let fits = (wide + px(20)).is_below(right - left);
+    if fits {
+        let corner = (left + px(4), row.y(10));
+        put_box(Raw("tb q"), corner, (wide, px(8)), out);
+        out.put(
+            "/><text class=\"spt q\" x=\"{}\" y=\"{}\">{}{}</text>\n",
+            &[At(left + Tenths(65)), At(row.y(80)), Raw(words), Text(name)],
+        );
+    }
+    fits
 }
 
 /// A stretch over which a processor's actor asks in vain.
-fn put_spin(
+fn put_spin(scene: &Scene<'_>, span: &Span, row: &Row, stay: &Stay<Spin>, out: &mut Canvas) {
+    let (left, right) = (span.box_left(stay), span.box_right(stay));
+    let (words, name) = spin_text(scene, &stay.state);
+    let size = (right - left, px(9));
+    put_frame(Raw("spb"), (left, row.y(5)), size, out);
+    let number = Number(number_of(stay.state.processor));
+    let head = [number, Raw(words), Text(name)];
+    put_title(scene.run, "p{}: {}{}", &head, stay, out);
+    let ends = (text_left(span, stay), right);
+    if !put_spin_text(row, ends, words, name, out) {
+        put_spin_text(row, ends, "", name, out);
+    }
+}
+
+/// The stretches of a processor over which it spins but holds no lock.
+fn put_spins(
     scene: &Scene<'_>,
     span: &Span,
     row: &Row,
-    stay: &Stay<Spin>,
-    out: &mut Vec<u8>,
-) -> Result<(), AllocError> {
-    let (left, right) = (span.box_left(stay), span.box_right(stay));
-    let lock = scene.run.lock_of(&stay.state);
-    let name = lock.map_or(&[][..], |lock| bytes_of(scene.sys, Topic::SpinLock(lock)));
-    let words = if lock.is_some() {
-        "spins for "
-    } else {
-        "no progress"
-    };
-    let size = (right - left, px(9));
-    put_frame(&[Raw("spb")], (left, row.y(5)), size, out)?;
-    let number = Number(number_of(stay.state.processor));
-    put_title(
-        scene.run,
-        &[Raw("p"), number, Raw(": "), Raw(words), Text(name)],
-        stay,
-        out,
-    )?;
-    let x = text_left(span, stay);
-    for words in [words, ""] {
-        let wide = width(words.as_bytes(), BAR) + width(name, BAR) + px(5);
-        if (wide + px(20)).is_below(right - x) {
-            let corner = (x + px(4), row.y(10));
-            put_box(&[Raw("tb q")], corner, (wide, px(8)), out)?;
-            append("/>", out)?;
-            let place = (x + Tenths(65), row.y(80));
-            return put_text(&[Raw("spt q")], place, &[Raw(words), Text(name)], out);
+    processor: u8,
+    track: &Track<Lock>,
+    out: &mut Canvas,
+) {
+    let spins = &scene.run.spins;
+    for place in spins.places() {
+        if let Some(stay) = spins.stay(place, processor, span)
+            && track.at(stay.from) == Some(Lock::Free)
+        {
+            put_spin(scene, span, row, &stay, out);
         }
     }
-    Ok(())
 }
 
 /// The bar of a processor's lock.
-pub fn put_lock(
+pub fn put_lock(scene: &Scene<'_>, span: &Span, row: &Row, processor: u8, out: &mut Canvas) {
+    if let Some(track) = scene.run.locks.get(usize::from(processor)) {
+        for place in track.places(span.first, span.last) {
+            if let Some(stay) = track.stay(place) {
+                put_held_lock(scene, span, row, processor, &stay, out);
+            }
+        }
+        put_spins(scene, span, row, processor, track, out);
+    }
+}
+
+/// A stretch over which a processor does not dispatch.
+fn put_no_dispatch(
     scene: &Scene<'_>,
     span: &Span,
     row: &Row,
     processor: u8,
-    out: &mut Vec<u8>,
-) -> Result<(), AllocError> {
-    let Some(track) = scene.run.locks.get(usize::from(processor)) else {
-        return Ok(());
-    };
-    for place in track.places(span.first, span.last) {
-        if let Some(stay) = track.stay(place) {
-            put_held_lock(scene, span, row, processor, &stay, out)?;
-        }
+    stay: &Stay<bool>,
+    out: &mut Canvas,
+) {
+    let ends = (span.box_left(stay), span.box_right(stay));
+    put_bar("ld", row, ends, out);
+    let number = Number(number_of(processor));
+    put_title(scene.run, "p{}: dispatch disabled", &[number], stay, out);
+    if !put_bar_text("ldt q", row, ends, b"dispatch off", out) {
+        put_bar_text("ldt q", row, ends, b"dsp off", out);
     }
-    for stay in scene.run.spins.of(scene.alloc, processor, span)?.iter() {
-        if track.at(stay.from) == Some(Lock::Free) {
-            put_spin(scene, span, row, stay, out)?;
-        }
-    }
-    Ok(())
 }
 
 /// The bar of a processor's dispatching.
-pub fn put_dispatch(
-    scene: &Scene<'_>,
-    span: &Span,
-    row: &Row,
-    processor: u8,
-    out: &mut Vec<u8>,
-) -> Result<(), AllocError> {
-    let Some(track) = scene.run.dispatches.get(usize::from(processor)) else {
-        return Ok(());
-    };
-    for place in track.places(span.first, span.last) {
-        if let Some(stay) = track.stay(place)
-            && !stay.state
-        {
-            let ends = (span.box_left(&stay), span.box_right(&stay));
-            put_bar("ld", row, ends, out)?;
-            let number = Number(number_of(processor));
-            let head = [Raw("p"), number, Raw(": dispatch disabled")];
-            put_title(scene.run, &head, &stay, out)?;
-            if !put_bar_text("ldt q", row, ends, b"dispatch off", out)? {
-                put_bar_text("ldt q", row, ends, b"dsp off", out)?;
+pub fn put_dispatch(scene: &Scene<'_>, span: &Span, row: &Row, processor: u8, out: &mut Canvas) {
+    if let Some(track) = scene.run.dispatches.get(usize::from(processor)) {
+        for place in track.places(span.first, span.last) {
+            if let Some(stay) = track.stay(place)
+                && !stay.state
+            {
+                put_no_dispatch(scene, span, row, processor, &stay, out);
             }
         }
     }
-    Ok(())
-}
-
-/// The name of a handler at the left of its lane.
-fn put_handler_name(
-    scene: &Scene<'_>,
-    row: &Row,
-    handler: Handler,
-    out: &mut Vec<u8>,
-) -> Result<(), AllocError> {
-    let label = handler_text(scene.alloc, scene.sys, handler, "interrupt ")?;
-    put(
-        &[
-            Raw("<g role=\"group\" aria-label=\"Handler "),
-            Text(&label),
-            Raw("\">"),
-        ],
-        out,
-    )?;
-    put_name(row, &label, scene.page.left() - px(74), false, out)
 }
 
 /// The name of a handler, its square and its period at the left of its lane.
@@ -343,30 +313,33 @@ fn put_handler_gutter(
     scene: &Scene<'_>,
     row: &Row,
     handler: Handler,
-    out: &mut Vec<u8>,
-) -> Result<(), AllocError> {
-    put_handler_name(scene, row, handler, out)?;
+    name: &Canvas,
+    out: &mut Canvas,
+) {
+    out.put(
+        "<g role=\"group\" aria-label=\"Handler {}\">",
+        &[Label(name)],
+    );
+    let room = scene.page.left() - px(74);
+    put_name(row, Label(name), name.width(NAME), room, false, out);
     let corner = (Tenths(165), row.middle(-35));
-    put_box(&[Raw("hr")], corner, (px(7), px(7)), out)?;
-    append("/>\n", out)?;
+    put_box(Raw("hr"), corner, (px(7), px(7)), out);
+    out.raw("/>\n");
     if let Handler::Cyclic(place) = handler
         && let Some(config) = scene.sys.cyclics.get(usize::from(place))
     {
-        put_side(scene, row, &[Raw("every "), Number(config.period)], out)?;
+        put_side(scene, row, Numbered("every ", config.period, ""), out);
     }
-    Ok(())
 }
 
-/// The end of the path of such a stretch, with its title.
-fn put_handling_title(
-    scene: &Scene<'_>,
-    handler: Handler,
-    words: &str,
-    stay: &Stay<Handling>,
-    out: &mut Vec<u8>,
-) -> Result<(), AllocError> {
-    let label = handler_text(scene.alloc, scene.sys, handler, "interrupt ")?;
-    put_title(scene.run, &[Text(&label), Raw(words)], stay, out)
+/// What a handler does, where it does something.
+fn words_of(handling: Handling) -> Option<&'static str> {
+    match (handling.runs, handling.pends) {
+        (false, false) => None,
+        (false, true) => Some(" is pending"),
+        (true, false) => Some(" runs"),
+        (true, true) => Some(" runs and is pending again"),
+    }
 }
 
 /// A stretch over which a handler runs or pends.
@@ -374,32 +347,27 @@ fn put_handling(
     scene: &Scene<'_>,
     span: &Span,
     row: &Row,
-    handler: Handler,
+    name: &Canvas,
     stay: &Stay<Handling>,
-    out: &mut Vec<u8>,
-) -> Result<(), AllocError> {
+    out: &mut Canvas,
+) {
     let left = span.box_left(stay);
     let wide = span.box_right(stay) - left;
-    let words = match (stay.state.runs, stay.state.pends) {
-        (false, false) => {
-            put_line("dorm", (left, row.middle(5)), wide, out)?;
-            return append("/>\n", out);
-        }
-        (false, true) => " is pending",
-        (true, false) => " runs",
-        (true, true) => " runs and is pending again",
+    let Some(words) = words_of(stay.state) else {
+        put_line("dorm", (left, row.middle(5)), wide, out);
+        out.raw("/>\n");
+        return;
     };
     if stay.state.runs {
-        put_frame(&[Raw("hr")], (left, row.y(25)), (wide, px(13)), out)?;
+        put_frame(Raw("hr"), (left, row.y(25)), (wide, px(13)), out);
     } else {
-        put_frame(&[Raw("hp")], (left, row.y(45)), (wide, px(9)), out)?;
+        put_frame(Raw("hp"), (left, row.y(45)), (wide, px(9)), out);
     }
-    put_handling_title(scene, handler, words, stay, out)?;
+    put_title(scene.run, "{}{}", &[Label(name), Raw(words)], stay, out);
     if stay.state.runs && stay.state.pends {
-        put_frame(&[Raw("hp q")], (left, row.y(125)), (wide, px(3)), out)?;
-        append("/>\n", out)?;
+        put_frame(Raw("hp q"), (left, row.y(125)), (wide, px(3)), out);
+        out.raw("/>\n");
     }
-    Ok(())
 }
 
 /// The lane of a handler.
@@ -409,16 +377,17 @@ pub fn put_handler(
     row: &Row,
     taken: &[Taken],
     handler: Handler,
-    out: &mut Vec<u8>,
-) -> Result<(), AllocError> {
-    put_handler_gutter(scene, row, handler, out)?;
+    out: &mut Canvas,
+) {
+    let name = handler_text(scene.alloc, scene.sys, handler, "interrupt ");
+    put_handler_gutter(scene, row, handler, &name, out);
     if let Some(track) = scene.run.handling(handler) {
         for place in track.places(span.first, span.last) {
             if let Some(stay) = track.stay(place) {
-                put_handling(scene, span, row, handler, &stay, out)?;
+                put_handling(scene, span, row, &name, &stay, out);
             }
         }
     }
-    put_calls(scene, span, row, taken, out)?;
-    append("</g>\n", out)
+    put_calls(scene, span, row, taken, out);
+    out.raw("</g>\n");
 }

@@ -1,6 +1,6 @@
 //! Which lanes a panel has, and where they stand.
-use fmp_base::{Caller, Handler, InterruptConfig, Lock, StateWord, System};
-use fmp_timeline::{Page, Run, Span, Tenths, Track, px};
+use fmp_base::{Caller, Handler, Lock, StateWord, System};
+use fmp_timeline::{Run, Span, TaskShown, Tenths, Track, px};
 use std::alloc::{AllocError, Global};
 
 /// With more tasks than this, a panel has no lanes in which nothing happens.
@@ -116,15 +116,39 @@ fn is_awake(run: &Run, task: u8, span: &Span) -> bool {
     let Some(track) = run.tasks.get(usize::from(task)) else {
         return false;
     };
-    let places = track.places(span.first, span.last);
-    if places.len() > 1 {
-        return true;
+    let changes = track.places(span.first, span.last).len() > 1;
+    changes || runs_at(track, span.first) || has_mark(run, task, span)
+}
+
+/// Whether a task runs after this event.
+fn runs_at(track: &Track<TaskShown>, event: u32) -> bool {
+    match track.at(event) {
+        Some(shown) => shown.word == StateWord::Running,
+        None => false,
     }
-    let runs = track
-        .at(span.first)
-        .is_some_and(|shown| shown.word == StateWord::Running);
-    let deeds = run.deeds_of(Caller::Task(task));
-    runs || deeds.is_some_and(|deeds| deeds.marks.iter().any(|m| m.event > 0 && span.has(m.event)))
+}
+
+/// Whether a task has a mark in a panel, after setup.
+fn has_mark(run: &Run, task: u8, span: &Span) -> bool {
+    let Some(deeds) = run.deeds_of(Caller::Task(task)) else {
+        return false;
+    };
+    for mark in &deeds.marks {
+        if mark.event > 0 && span.has(mark.event) {
+            return true;
+        }
+    }
+    false
+}
+
+/// Whether a processor handles the interrupt at this place.
+fn handles(sys: &System, processor: u8, place: u8) -> bool {
+    for config in sys.interrupts.as_slice() {
+        if config.processor == processor && config.number == place.saturating_add(1) {
+            return true;
+        }
+    }
+    false
 }
 
 impl Rows {
@@ -153,28 +177,47 @@ impl Rows {
         Ok(())
     }
 
-    fn add_handlers(
+    /// The lane of a handler, where there are few tasks or something happens to it.
+    fn add_handler(
+        &mut self,
+        run: &Run,
+        span: &Span,
+        many: bool,
+        handler: Handler,
+    ) -> Result<(), AllocError> {
+        if many && !run.is_handling(handler, span) {
+            return Ok(());
+        }
+        self.add(Lane::Handler(handler))
+    }
+
+    fn add_interrupts(
         &mut self,
         sys: &System,
         run: &Run,
         span: &Span,
         processor: u8,
     ) -> Result<(), AllocError> {
-        let few = sys.tasks.len() <= MANY_TASKS;
+        let many = sys.tasks.len() > MANY_TASKS;
         for place in 0..32u8 {
-            let number = place.saturating_add(1);
-            let mine = |config: &InterruptConfig| {
-                config.processor == processor && config.number == number
-            };
-            let handler = Handler::Interrupt(place);
-            if sys.interrupts.iter().any(mine) && (few || run.is_handling(handler, span)) {
-                self.add(Lane::Handler(handler))?;
+            if handles(sys, processor, place) {
+                self.add_handler(run, span, many, Handler::Interrupt(place))?;
             }
         }
+        Ok(())
+    }
+
+    fn add_cyclics(
+        &mut self,
+        sys: &System,
+        run: &Run,
+        span: &Span,
+        processor: u8,
+    ) -> Result<(), AllocError> {
+        let many = sys.tasks.len() > MANY_TASKS;
         for (place, config) in (0u8..255).zip(sys.cyclics.as_slice()) {
-            let handler = Handler::Cyclic(place);
-            if config.processor == processor && (few || run.is_handling(handler, span)) {
-                self.add(Lane::Handler(handler))?;
+            if config.processor == processor {
+                self.add_handler(run, span, many, Handler::Cyclic(place))?;
             }
         }
         Ok(())
@@ -236,7 +279,8 @@ impl Rows {
     fn add_all(&mut self, sys: &System, run: &Run, span: &Span) -> Result<(), AllocError> {
         for processor in 0..sys.processors {
             self.add_head(run, span, processor)?;
-            self.add_handlers(sys, run, span, processor)?;
+            self.add_interrupts(sys, run, span, processor)?;
+            self.add_cyclics(sys, run, span, processor)?;
             self.add_tasks(sys, run, span, processor)?;
             self.add(Lane::Gap)?;
         }
@@ -268,10 +312,18 @@ impl Rows {
         self.bottom.saturating_add(14)
     }
 
+    fn of_lane(&self, lane: Lane) -> Option<Row> {
+        for row in &self.rows {
+            if row.lane == lane {
+                return Some(*row);
+            }
+        }
+        None
+    }
+
     /// The lane of a task on a processor.
     pub fn of_task(&self, task: u8, processor: u8) -> Option<Row> {
-        let lane = Lane::Task(task, processor);
-        self.rows.iter().find(|row| row.lane == lane).copied()
+        self.of_lane(Lane::Task(task, processor))
     }
 
     /// The lane of one who acts, with the task where it is after this event.
@@ -281,10 +333,7 @@ impl Rows {
                 let shown = run.tasks.get(usize::from(task))?.at(event)?;
                 self.of_task(task, shown.processor)
             }
-            Caller::Handler(handler) => {
-                let lane = Lane::Handler(handler);
-                self.rows.iter().find(|row| row.lane == lane).copied()
-            }
+            Caller::Handler(handler) => self.of_lane(Lane::Handler(handler)),
         }
     }
 }

@@ -1,7 +1,7 @@
 //! What all parts of a picture are drawn from, and where a text can stand.
-use crate::rows::colours;
+use crate::rows::{Lane, colours};
 use fmp_base::System;
-use fmp_timeline::{Page, Run, Span, Tenths, px, width};
+use fmp_timeline::{Deeds, Page, Run, Span, Tenths, px, width};
 use std::alloc::{AllocError, Global};
 
 /// What a picture is drawn from.
@@ -45,6 +45,11 @@ impl<'a> Scene<'a> {
     /// The number of a task's colour.
     pub fn colour(&self, task: u8) -> u32 {
         u32::from(self.colours.get(usize::from(task)).copied().unwrap_or(0))
+    }
+
+    /// What the one whose lane this is did, and what came to it.
+    pub fn deeds_in(&self, lane: Lane) -> Option<&'a Deeds> {
+        self.run.deeds_of(lane.actor()?)
     }
 }
 

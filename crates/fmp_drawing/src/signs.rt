@@ -5,8 +5,8 @@ use crate::shapes::{put_box, put_text};
 use crate::titles::put_event_title;
 use fmp_base::Fault;
 use fmp_timeline::Piece::{At, Raw, Text};
-use fmp_timeline::{Mark, Run, Sign, Span, Tenths, append, append_number, put, px, width};
-use std::alloc::{AllocError, Global};
+use fmp_timeline::{Canvas, Mark, Run, Sign, Span, Tenths, px, width};
+use std::alloc::AllocError;
 
 /// The size of tags.
 const TAG: Tenths = Tenths(80);
@@ -16,8 +16,8 @@ const TAG: Tenths = Tenths(80);
 pub struct Placed {
     pub mark: Mark,
     pub x: Tenths,
-    /// Where the tag begins, and how many of its first letters are left out.
-    pub tag: Option<(Tenths, usize)>,
+    /// Where the tag begins, and its text.
+    pub tag: Option<(Tenths, &'static [u8])>,
 }
 
 /// The name of a mark's shape, and what it takes to the left and to the right of its event's line.
@@ -52,25 +52,27 @@ fn right_of(sign: Sign) -> Tenths {
     px(right)
 }
 
-/// Appends the text of a mark's tag; nothing where it has none.
-fn append_tag(sign: Sign, text: &mut Vec<u8>) -> Result<(), AllocError> {
-    match sign {
-        Sign::Refused(code) => append(code.name(), text),
-        Sign::Faulted(Fault::Overflow) => append("F_OVF", text),
-        Sign::Faulted(Fault::Division) => append("F_DIV", text),
-        Sign::Priority(priority) => {
-            append("pri ", text)?;
-            append_number(u32::from(priority), text)
-        }
-        _ => Ok(()),
-    }
+/// The tags of the priorities from 1 to 16.
+static PRIORITIES: [&str; 16] = [
+    "pri 1", "pri 2", "pri 3", "pri 4", "pri 5", "pri 6", "pri 7", "pri 8", "pri 9", "pri 10",
+    "pri 11", "pri 12", "pri 13", "pri 14", "pri 15", "pri 16",
+];
+
+/// The tag of a priority.
+fn priority_tag(priority: u8) -> &'static str {
+    let place = usize::from(priority).saturating_sub(1);
+    PRIORITIES.get(place).copied().unwrap_or("")
 }
 
 /// The text of a mark's tag; empty where it has none.
-fn tag_text(alloc: Global, sign: Sign) -> Result<Vec<u8>, AllocError> {
-    let mut text = Vec::new(alloc);
-    append_tag(sign, &mut text)?;
-    Ok(text)
+fn tag_text(sign: Sign) -> &'static str {
+    match sign {
+        Sign::Refused(code) => code.name(),
+        Sign::Faulted(Fault::Overflow) => "F_OVF",
+        Sign::Faulted(Fault::Division) => "F_DIV",
+        Sign::Priority(priority) => priority_tag(priority),
+        _ => "",
+    }
 }
 
 /// Whether a mark of a task stands in its lane on this processor.
@@ -80,10 +82,12 @@ fn stands_on(run: &Run, task: u8, processor: u8, mark: &Mark) -> bool {
     } else {
         mark.event
     };
-    let track = run.tasks.get(usize::from(task));
-    track
-        .and_then(|track| track.at(event))
-        .is_none_or(|shown| shown.processor == processor)
+    if let Some(track) = run.tasks.get(usize::from(task))
+        && let Some(shown) = track.at(event)
+    {
+        return shown.processor == processor;
+    }
+    true
 }
 
 /// Whether a mark of the one whose lane this is stands in this lane.
@@ -96,7 +100,7 @@ fn stands_in(run: &Run, lane: Lane, mark: &Mark) -> bool {
 
 /// The marks of the one whose lane this is, from an event on.
 fn marks_from<'a>(scene: &Scene<'a>, lane: Lane, first: u32) -> &'a [Mark] {
-    let Some(deeds) = lane.actor().and_then(|actor| scene.run.deeds_of(actor)) else {
+    let Some(deeds) = scene.deeds_in(lane) else {
         return &[];
     };
     let from = deeds.marks.partition_point(|mark| mark.event < first);
@@ -117,12 +121,19 @@ fn marks_of(scene: &Scene<'_>, span: &Span, lane: Lane) -> Result<Vec<Mark>, All
     Ok(mine)
 }
 
+/// Whether one of these marks says that a body stops at this event.
+fn stops_at(event: u32, all: &[Mark]) -> bool {
+    for mark in all {
+        if mark.event == event && matches!(mark.sign, Sign::Ended | Sign::Faulted(_)) {
+            return true;
+        }
+    }
+    false
+}
+
 /// How far a mark stands beside its event's line: a start beside an end of the same event.
 fn shift_of(mark: &Mark, all: &[Mark]) -> Tenths {
-    let stops = |other: &Mark| {
-        other.event == mark.event && matches!(other.sign, Sign::Ended | Sign::Faulted(_))
-    };
-    if matches!(mark.sign, Sign::Start) && all.iter().any(stops) {
+    if matches!(mark.sign, Sign::Start) && stops_at(mark.event, all) {
         return px(4);
     }
     px(0)
@@ -130,10 +141,12 @@ fn shift_of(mark: &Mark, all: &[Mark]) -> Tenths {
 
 /// Where the marks after this one begin.
 fn next_left(span: &Span, event: u32, later: &[Mark]) -> Tenths {
-    match later.iter().find(|other| other.event > event) {
-        Some(other) => span.x(other.event) - left_of(other.sign),
-        None => span.end() + px(20),
+    for mark in later {
+        if mark.event > event {
+            return span.x(mark.event) - left_of(mark.sign);
+        }
     }
+    span.end() + px(20)
 }
 
 /// Where the tag of a mark begins.
@@ -151,40 +164,36 @@ fn tag_start(span: &Span, mark: &Mark, all: &[Mark]) -> Tenths {
     x + most + px(2)
 }
 
-/// Where the tag of a mark begins, and how many of its first letters are left out.
-fn tag_place(text: &[u8], sign: Sign, start: Tenths, end: Tenths) -> Option<(Tenths, usize)> {
-    let whole = start + width(text, TAG) + px(5);
-    if whole.is_below(end) {
-        return Some((start, 0));
+/// The room that a tag takes.
+fn tag_width(text: &[u8]) -> Tenths {
+    width(text, TAG) + px(5)
+}
+
+/// The text of a mark's tag as it fits between two places, without its first letters where it says what went wrong.
+fn fit_tag(sign: Sign, start: Tenths, end: Tenths) -> Option<(Tenths, &'static [u8])> {
+    let text = tag_text(sign).as_bytes();
+    if text.is_empty() {
+        return None;
     }
-    let short = start + width(text.get(2..).unwrap_or(&[]), TAG) + px(5);
-    (sign.is_wrong() && short.is_below(end)).then_some((start, 2))
+    if (start + tag_width(text)).is_below(end) {
+        return Some((start, text));
+    }
+    let short = text.get(2..).unwrap_or(&[]);
+    (sign.is_wrong() && (start + tag_width(short)).is_below(end)).then_some((start, short))
 }
 
 /// A mark at its place among these.
-fn placed_mark(
-    scene: &Scene<'_>,
-    span: &Span,
-    mark: &Mark,
-    all: &[Mark],
-    later: &[Mark],
-) -> Result<Placed, AllocError> {
-    let text = tag_text(scene.alloc, mark.sign)?;
-    let tag = if text.is_empty() {
-        None
-    } else {
-        let end = next_left(span, mark.event, later);
-        tag_place(&text, mark.sign, tag_start(span, mark, all), end)
-    };
-    Ok(Placed {
+fn placed_mark(span: &Span, mark: &Mark, all: &[Mark], later: &[Mark]) -> Placed {
+    let end = next_left(span, mark.event, later);
+    Placed {
         mark: *mark,
         x: span.x(mark.event) + shift_of(mark, all),
-        tag,
-    })
+        tag: fit_tag(mark.sign, tag_start(span, mark, all), end),
+    }
 }
 
 /// The marks of a lane at their places. None where columns are narrow.
-pub fn placed_marks(scene: &Scene<'_>, span: &Span, lane: Lane) -> Result<Vec<Placed>, AllocError> {
+fn placed_marks(scene: &Scene<'_>, span: &Span, lane: Lane) -> Result<Vec<Placed>, AllocError> {
     let mut placed = Vec::new(scene.alloc);
     if span.is_narrow() {
         return Ok(placed);
@@ -192,81 +201,65 @@ pub fn placed_marks(scene: &Scene<'_>, span: &Span, lane: Lane) -> Result<Vec<Pl
     let mine = marks_of(scene, span, lane)?;
     for (index, mark) in mine.iter().enumerate() {
         let later = mine.get(index..).unwrap_or(&[]);
-        placed.push(placed_mark(scene, span, mark, &mine, later)?)?;
+        placed.push(placed_mark(span, mark, &mine, later))?;
     }
     Ok(placed)
 }
 
-/// The width of a tag without its first letters, so many.
-fn tag_width(alloc: Global, sign: Sign, skip: usize) -> Result<Tenths, AllocError> {
-    let text = tag_text(alloc, sign)?;
-    Ok(width(text.get(skip..).unwrap_or(&[]), TAG) + px(5))
+/// The pixels that a mark takes.
+fn taken_by(placed: &Placed) -> Taken {
+    let sign = placed.mark.sign;
+    Taken {
+        from: placed.x - left_of(sign),
+        to: placed.x + right_of(sign),
+    }
 }
 
-/// The pixels that marks and their tags take.
-pub fn taken_by(scene: &Scene<'_>, placed: &[Placed]) -> Result<Vec<Taken>, AllocError> {
+/// The pixels that the marks of a lane and their tags take.
+pub fn taken_in(scene: &Scene<'_>, span: &Span, lane: Lane) -> Result<Vec<Taken>, AllocError> {
     let mut taken = Vec::new(scene.alloc);
-    for p in placed {
-        let sign = p.mark.sign;
-        taken.push(Taken {
-            from: p.x - left_of(sign),
-            to: p.x + right_of(sign),
-        })?;
-        if let Some((from, skip)) = p.tag {
-            let to = from + tag_width(scene.alloc, sign, skip)?;
+    for placed in &placed_marks(scene, span, lane)? {
+        taken.push(taken_by(placed))?;
+        if let Some((from, text)) = placed.tag {
+            let to = from + tag_width(text);
             taken.push(Taken { from, to })?;
         }
     }
     Ok(taken)
 }
 
-fn put_tag(
-    text: &[u8],
-    sign: Sign,
-    from: Tenths,
-    row: &Row,
-    out: &mut Vec<u8>,
-) -> Result<(), AllocError> {
-    let wide = width(text, TAG) + px(5);
+fn put_tag(text: &[u8], sign: Sign, from: Tenths, row: &Row, out: &mut Canvas) {
     let (frame, words) = if sign.is_wrong() {
         ("eb q", "et q")
     } else {
         ("pb q", "pt q")
     };
     let corner = (from, row.middle(-50));
-    put_box(&[Raw(frame)], corner, (wide, px(10)), out)?;
-    append("/>", out)?;
+    put_box(Raw(frame), corner, (tag_width(text), px(10)), out);
+    out.raw("/>");
     let place = (from + Tenths(25), row.middle(30));
-    put_text(&[Raw(words)], place, &[Text(text)], out)
+    put_text(Raw(words), place, Text(text), out);
 }
 
-fn put_mark(
-    scene: &Scene<'_>,
-    row: &Row,
-    placed: &Placed,
-    out: &mut Vec<u8>,
-) -> Result<(), AllocError> {
+/// The shape of a mark.
+fn put_shape(run: &Run, shape: &str, row: &Row, placed: &Placed, out: &mut Canvas) {
+    out.raw("<g>");
+    put_event_title(run, placed.mark.event, out);
+    out.put(
+        "<use href=\"#{}\" x=\"{}\" y=\"{}\"/></g>\n",
+        &[Raw(shape), At(placed.x), At(row.middle(0))],
+    );
+}
+
+fn put_mark(run: &Run, row: &Row, placed: &Placed, out: &mut Canvas) {
     let sign = placed.mark.sign;
     let (shape, _, _) = shape_of(sign);
     if !shape.is_empty() {
-        append("<g>", out)?;
-        put_event_title(scene.run, placed.mark.event, out)?;
-        put(
-            &[
-                Raw("<use href=\"#"),
-                Raw(shape),
-                Raw("\" x=\""),
-                At(placed.x),
-            ],
-            out,
-        )?;
-        put(&[Raw("\" y=\""), At(row.middle(0)), Raw("\"/></g>\n")], out)?;
+        put_shape(run, shape, row, placed, out);
     }
-    if let Some((from, skip)) = placed.tag {
-        let text = tag_text(scene.alloc, sign)?;
-        put_tag(text.get(skip..).unwrap_or(&[]), sign, from, row, out)?;
+    if let Some((from, text)) = placed.tag {
+        put_tag(text, sign, from, row, out);
     }
-    Ok(())
 }
 
 /// The class of a mark's tick where columns are narrow; none where it has no tick.
@@ -280,56 +273,42 @@ fn tick_class(sign: Sign) -> Option<&'static str> {
 }
 
 /// The ticks of one class of marks, as one path.
-fn put_ticks(
-    span: &Span,
-    row: &Row,
-    marks: &[Mark],
-    class: &'static str,
-    out: &mut Vec<u8>,
-) -> Result<(), AllocError> {
+fn put_ticks(span: &Span, row: &Row, marks: &[Mark], class: &'static str, out: &mut Canvas) {
     let mut open = false;
     for mark in marks {
         if tick_class(mark.sign) == Some(class) {
             if !open {
-                put(
-                    &[Raw("<path class=\""), Raw(class), Raw(" thin q\" d=\"")],
-                    out,
-                )?;
+                out.put("<path class=\"{} thin q\" d=\"", &[Raw(class)]);
                 open = true;
             }
-            put(
-                &[
-                    Raw("M"),
-                    At(span.x(mark.event)),
-                    Raw(" "),
-                    At(row.y(0)),
-                    Raw("v7"),
-                ],
-                out,
-            )?;
+            out.put("M{} {}v7", &[At(span.x(mark.event)), At(row.y(0))]);
         }
     }
     if open {
-        append("\"/>\n", out)?;
+        out.raw("\"/>\n");
     }
-    Ok(())
 }
 
-/// The marks of a lane.
+/// The marks of a lane where columns are narrow.
+fn put_all_ticks(span: &Span, row: &Row, marks: &[Mark], out: &mut Canvas) {
+    put_ticks(span, row, marks, "er", out);
+    put_ticks(span, row, marks, "am", out);
+    put_ticks(span, row, marks, "mk", out);
+}
+
+/// The marks of a lane. `AllocError` for want of memory.
 pub fn put_marks(
     scene: &Scene<'_>,
     span: &Span,
     row: &Row,
-    out: &mut Vec<u8>,
+    out: &mut Canvas,
 ) -> Result<(), AllocError> {
     if span.is_narrow() {
-        let mine = marks_of(scene, span, row.lane)?;
-        put_ticks(span, row, &mine, "er", out)?;
-        put_ticks(span, row, &mine, "am", out)?;
-        return put_ticks(span, row, &mine, "mk", out);
+        put_all_ticks(span, row, &marks_of(scene, span, row.lane)?, out);
+        return Ok(());
     }
     for placed in &placed_marks(scene, span, row.lane)? {
-        put_mark(scene, row, placed, out)?;
+        put_mark(scene.run, row, placed, out);
     }
     Ok(())
 }

@@ -1,45 +1,55 @@
 //! What a box says when it is pointed at: its state, and the lines of the event that made it.
 use crate::shapes::put_box;
 use fmp_timeline::Piece::{Number, Raw};
-use fmp_timeline::{Piece, Run, Stay, Tenths, append, append_text, put};
-use std::alloc::AllocError;
+use fmp_timeline::{Canvas, Piece, Run, Stay, Tenths};
 
 /// No more lines than this stand in a title.
 const MOST_LINES: u32 = 12;
 
+/// Where the lines before an event end.
+fn end_before(run: &Run, place: usize) -> usize {
+    if let Some(before) = place.checked_sub(1)
+        && let Some(note) = run.notes.get(before)
+    {
+        return note.end;
+    }
+    0
+}
+
 /// The lines of an event, without the last line feed.
 fn lines_of(run: &Run, event: u32) -> &[u8] {
     let place = event as usize;
-    let before = place.checked_sub(1).and_then(|place| run.notes.get(place));
-    let start = before.map_or(0, |note| note.end);
-    let end = run.notes.get(place).map_or(start, |note| note.end);
-    run.text.get(start..end.saturating_sub(1)).unwrap_or(&[])
+    match run.notes.get(place) {
+        Some(note) => {
+            let lines = end_before(run, place)..note.end.saturating_sub(1);
+            run.text.get(lines).unwrap_or(&[])
+        }
+        None => &[],
+    }
 }
 
 /// The lines of an event, those beyond the twelfth as their number.
-fn append_lines(lines: &[u8], out: &mut Vec<u8>) -> Result<(), AllocError> {
+fn put_lines(lines: &[u8], out: &mut Canvas) {
     let mut count: u32 = 0;
     for line in lines.split(|byte| *byte == b'\n') {
         if count < MOST_LINES {
             if count > 0 {
-                append("\n", out)?;
+                out.raw("\n");
             }
-            append_text(line, out)?;
+            out.text(line);
         }
         count = count.saturating_add(1);
     }
     if count > MOST_LINES {
-        let more = count.saturating_sub(MOST_LINES);
-        put(&[Raw("\n… and "), Number(more), Raw(" lines more")], out)?;
+        out.numbered("\n… and ", count.saturating_sub(MOST_LINES), " lines more");
     }
-    Ok(())
 }
 
 /// A title with the lines of an event.
-pub fn put_event_title(run: &Run, event: u32, out: &mut Vec<u8>) -> Result<(), AllocError> {
-    append("<title>", out)?;
-    append_lines(lines_of(run, event), out)?;
-    append("</title>", out)
+pub fn put_event_title(run: &Run, event: u32, out: &mut Canvas) {
+    out.raw("<title>");
+    put_lines(lines_of(run, event), out);
+    out.raw("</title>");
 }
 
 /// What is pointed at for the lines of an event: a box.
@@ -48,31 +58,23 @@ pub fn put_area(
     corner: (Tenths, Tenths),
     size: (Tenths, Tenths),
     event: u32,
-    out: &mut Vec<u8>,
-) -> Result<(), AllocError> {
-    put_box(&[Raw("z")], corner, size, out)?;
-    append(">", out)?;
-    put_event_title(run, event, out)?;
-    append("</path>\n", out)
+    out: &mut Canvas,
+) {
+    put_box(Raw("z"), corner, size, out);
+    out.raw(">");
+    put_event_title(run, event, out);
+    out.raw("</path>\n");
 }
 
-/// The end of a path with a title: a head, from where to where a state lasts, and the lines of the event that began it.
-pub fn put_title<S>(
-    run: &Run,
-    head: &[Piece<'_>],
-    stay: &Stay<S>,
-    out: &mut Vec<u8>,
-) -> Result<(), AllocError> {
-    append("><title>", out)?;
-    put(head, out)?;
+/// The end of a path with a title: a head as a form and its values, from where to where a state lasts, and the lines of
+/// the event that began it.
+pub fn put_title<S>(run: &Run, head: &str, values: &[Piece<'_>], stay: &Stay<S>, out: &mut Canvas) {
+    out.raw("><title>");
+    out.put(head, values);
     match stay.to {
-        Some(to) => put(
-            &[Raw(", events "), Number(stay.from), Raw(" to "), Number(to)],
-            out,
-        )?,
-        None => put(&[Raw(", from event "), Number(stay.from), Raw(" on")], out)?,
+        Some(to) => out.put(", events {} to {}\n", &[Number(stay.from), Number(to)]),
+        None => out.numbered(", from event ", stay.from, " on\n"),
     }
-    append("\n", out)?;
-    append_lines(lines_of(run, stay.from), out)?;
-    append("</title></path>\n", out)
+    put_lines(lines_of(run, stay.from), out);
+    out.raw("</title></path>\n");
 }

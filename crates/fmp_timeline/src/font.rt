@@ -1,6 +1,7 @@
 //! How wide a text is. There is no font at hand, so this is the width in Helvetica with some room, which other fonts
 //! without serifs keep within.
 use crate::lengths::Tenths;
+use itoa::Buffer;
 
 /// The widths of the characters from the blank on, in thousandths of the size.
 static WIDTHS: [u16; 95] = [
@@ -35,4 +36,9 @@ pub fn width(text: &[u8], size: Tenths) -> Tenths {
     let wide = i64::from(sum).saturating_mul(i64::from(size.0));
     let tenths = wide.saturating_mul(108).checked_div(100_000).unwrap_or(0);
     Tenths(i32::try_from(tenths).unwrap_or(i32::MAX))
+}
+
+/// The width of a number's decimal digits in this size.
+pub fn number_width(number: u32, size: Tenths) -> Tenths {
+    width(Buffer::new().format(number).as_bytes(), size)
 }

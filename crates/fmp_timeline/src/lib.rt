@@ -1,6 +1,7 @@
 //! Timelines: what a picture of a run shows, lane by lane, and where.
 #![tactic(auto)]
 
+mod canvas;
 mod font;
 mod lengths;
 mod marks;
@@ -11,20 +12,18 @@ mod recording;
 mod run;
 mod spins;
 mod states;
-mod svg;
 mod tracks;
 
-pub use font::width;
+pub use canvas::{Canvas, Piece};
+pub use font::{number_width, width};
 pub use lengths::{Tenths, px};
 pub use marks::{Bond, Link, Made, Mark, Migration, Sign};
 pub use names::{
-    Topic, append_call, append_handler, append_signed, append_value, bytes_of, handler_text,
-    task_bytes, wait_name,
+    Topic, append_call, append_handler, append_value, bytes_of, handler_text, task_bytes, wait_name,
 };
 pub use objects::{Object, ObjectShown, Objects};
 pub use page::{Choice, Page, Span};
 pub use run::{Deeds, Note, Run};
 pub use spins::{Spin, Spins};
 pub use states::{Handling, Moment, Occupant, TaskShown, tasks_shown};
-pub use svg::{Piece, append, append_hexadecimal, append_length, append_number, append_text, put};
 pub use tracks::{Stay, Track};

@@ -131,10 +131,14 @@ pub fn bond_of(call: Call) -> Option<(i32, Bond)> {
 
 /// Whether one of these lines says that this task starts or is released.
 pub fn moves(lines: &[Line], place: u8) -> bool {
-    lines.iter().any(|line| match line {
-        Line::Starts { task, .. } | Line::Gets { task, .. } => *task == place,
-        _ => false,
-    })
+    for line in lines {
+        if let Line::Starts { task, .. } | Line::Gets { task, .. } = line
+            && *task == place
+        {
+            return true;
+        }
+    }
+    false
 }
 
 /// The mark of a code that a call answers at once.

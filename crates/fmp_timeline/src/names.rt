@@ -1,7 +1,7 @@
 //! The names that a picture has for tasks, handlers, objects and calls.
-use crate::svg::{append, append_number};
+use crate::canvas::Canvas;
 use fmp_base::{Call, Handler, Name, Reply, System, WaitCause};
-use std::alloc::{AllocError, Global};
+use std::alloc::Global;
 
 /// What an argument or a wait is about.
 #[derive(Clone, Copy, PartialEq, Eq)]
@@ -17,16 +17,24 @@ pub enum Topic {
 }
 
 /// The name of what a topic is, where there is one.
-pub fn name_of(sys: &System, topic: Topic) -> Option<&Name> {
+fn name_of(sys: &System, topic: Topic) -> Option<&Name> {
     match topic {
         Topic::Task(place) => Some(&sys.tasks.get(usize::from(place))?.name),
+        Topic::SharedWord(place) => Some(&sys.shared_words.get(usize::from(place))?.name),
+        Topic::SpinLock(place) => Some(&sys.spin_locks.get(usize::from(place))?.name),
+        Topic::Cyclic(place) => Some(&sys.cyclics.get(usize::from(place))?.name),
+        _ => object_name(sys, topic),
+    }
+}
+
+/// The name of an object that tasks wait for, where a topic is one and it is there.
+fn object_name(sys: &System, topic: Topic) -> Option<&Name> {
+    match topic {
         Topic::Semaphore(place) => Some(&sys.semaphores.get(usize::from(place))?.name),
         Topic::Flag(place) => Some(&sys.flags.get(usize::from(place))?.name),
         Topic::DataQueue(place) => Some(&sys.data_queues.get(usize::from(place))?.name),
         Topic::Mailbox(place) => Some(&sys.mailboxes.get(usize::from(place))?.name),
-        Topic::SharedWord(place) => Some(&sys.shared_words.get(usize::from(place))?.name),
-        Topic::SpinLock(place) => Some(&sys.spin_locks.get(usize::from(place))?.name),
-        Topic::Cyclic(place) => Some(&sys.cyclics.get(usize::from(place))?.name),
+        _ => None,
     }
 }
 
@@ -44,31 +52,18 @@ pub fn task_bytes(sys: &System, place: u8) -> &[u8] {
 }
 
 /// Appends the name of a handler: of an interrupt these words and its number.
-pub fn append_handler(
-    sys: &System,
-    handler: Handler,
-    words: &str,
-    out: &mut Vec<u8>,
-) -> Result<(), AllocError> {
+pub fn append_handler(sys: &System, handler: Handler, words: &str, out: &mut Canvas) {
     match handler {
-        Handler::Cyclic(place) => out.extend_from_slice(bytes_of(sys, Topic::Cyclic(place))),
-        Handler::Interrupt(place) => {
-            append(words, out)?;
-            append_number(u32::from(place).saturating_add(1), out)
-        }
+        Handler::Cyclic(place) => out.plain(bytes_of(sys, Topic::Cyclic(place))),
+        Handler::Interrupt(place) => out.numbered(words, u32::from(place).saturating_add(1), ""),
     }
 }
 
 /// The name of a handler as a text.
-pub fn handler_text(
-    alloc: Global,
-    sys: &System,
-    handler: Handler,
-    words: &str,
-) -> Result<Vec<u8>, AllocError> {
-    let mut text = Vec::new(alloc);
-    append_handler(sys, handler, words, &mut text)?;
-    Ok(text)
+pub fn handler_text(alloc: Global, sys: &System, handler: Handler, words: &str) -> Canvas {
+    let mut text = Canvas::new(alloc);
+    append_handler(sys, handler, words, &mut text);
+    text
 }
 
 /// What the first argument of a call names, as its kind with this place.
@@ -127,14 +122,6 @@ fn object_of(call: Call, place: u8) -> Option<Topic> {
     }
 }
 
-/// A number in decimal digits, with `-` in front where it is negative.
-pub fn append_signed(number: i32, out: &mut Vec<u8>) -> Result<(), AllocError> {
-    if number < 0 {
-        append("-", out)?;
-    }
-    append_number(number.unsigned_abs(), out)
-}
-
 /// The name of the message with this number.
 fn message_name(sys: &System, number: i32) -> Option<&Name> {
     let place = usize::try_from(number.checked_sub(1)?).ok()?;
@@ -153,44 +140,37 @@ fn argument_name(sys: &System, call: Call, index: usize, number: i32) -> Option<
     }
 }
 
-fn append_argument(
-    sys: &System,
-    call: Call,
-    index: usize,
-    number: i32,
-    out: &mut Vec<u8>,
-) -> Result<(), AllocError> {
+fn append_argument(sys: &System, call: Call, index: usize, number: i32, out: &mut Canvas) {
     if index > 0 {
-        append(",", out)?;
+        out.raw(",");
     }
     match argument_name(sys, call, index, number) {
-        Some(name) => out.extend_from_slice(name.as_bytes()),
+        Some(name) => out.plain(name.as_bytes()),
         None if index == 0 && number == 0 && topic_of(call, 0) == Some(Topic::Task(0)) => {
-            append("self", out)
+            out.raw("self");
         }
-        None => append_signed(number, out),
+        None => out.signed(number),
     }
 }
 
-/// A call with the names of what its arguments are about.
-pub fn append_call(sys: &System, call: Call, out: &mut Vec<u8>) -> Result<(), AllocError> {
-    append(call.service().name(), out)?;
-    append("(", out)?;
+/// Appends a call with the names of what its arguments are about.
+pub fn append_call(sys: &System, call: Call, out: &mut Canvas) {
+    out.raw(call.service().name());
+    out.raw("(");
     let arguments = call.arguments();
     for (index, number) in arguments.as_slice().iter().enumerate() {
-        append_argument(sys, call, index, *number, out)?;
+        append_argument(sys, call, index, *number, out);
     }
-    append(")", out)
+    out.raw(")");
 }
 
-/// The value that a call gives.
-pub fn append_value(reply: Option<Reply>, out: &mut Vec<u8>) -> Result<(), AllocError> {
-    match reply.and_then(|reply| reply.value) {
-        Some(value) => {
-            append(" = ", out)?;
-            append_signed(value, out)
-        }
-        None => Ok(()),
+/// Appends the value that a call gives.
+pub fn append_value(reply: Option<Reply>, out: &mut Canvas) {
+    if let Some(reply) = reply
+        && let Some(value) = reply.value
+    {
+        out.raw(" = ");
+        out.signed(value);
     }
 }
 

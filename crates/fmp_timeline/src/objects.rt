@@ -114,7 +114,29 @@ fn replaced_task(lines: &[Line]) -> Option<u8> {
 
 /// Whether an event released a task.
 fn releases(lines: &[Line]) -> bool {
-    lines.iter().any(|line| matches!(line, Line::Gets { .. }))
+    for line in lines {
+        if matches!(line, Line::Gets { .. }) {
+            return true;
+        }
+    }
+    false
+}
+
+/// The tasks that wait for an object, each with what it queues by before it, in no order.
+fn keyed_waits(
+    alloc: Global,
+    waits: &[Option<Wait>],
+    topic: Topic,
+) -> Result<Vec<(u8, u32, u8)>, AllocError> {
+    let mut keyed = Vec::new(alloc);
+    for (task, wait) in (0u8..255).zip(waits) {
+        if let Some(wait) = wait
+            && wait.topic == topic
+        {
+            keyed.push((wait.rank, wait.since, task))?;
+        }
+    }
+    Ok(keyed)
 }
 
 /// Appends the tasks that wait for an object, in the order of its queue.
@@ -124,14 +146,7 @@ fn append_queue(
     topic: Topic,
     out: &mut Vec<u8>,
 ) -> Result<(), AllocError> {
-    let mut keyed: Vec<(u8, u32, u8)> = Vec::new(alloc);
-    for (task, wait) in (0u8..255).zip(waits) {
-        if let Some(wait) = wait
-            && wait.topic == topic
-        {
-            keyed.push((wait.rank, wait.since, task))?;
-        }
-    }
+    let mut keyed = keyed_waits(alloc, waits, topic)?;
     keyed.sort_unstable();
     for (_, _, task) in keyed.as_slice() {
         out.push(*task)?;
@@ -178,35 +193,60 @@ impl Objects {
     }
 
     fn add_all(&mut self, alloc: Global, sys: &System) -> Result<(), AllocError> {
+        self.add_semaphores(alloc, sys)?;
+        self.add_flags(alloc, sys)?;
+        self.add_data_queues(alloc, sys)?;
+        self.add_mailboxes(alloc, sys)?;
+        self.add_shared_words(alloc, sys)
+    }
+
+    fn add_semaphores(&mut self, alloc: Global, sys: &System) -> Result<(), AllocError> {
         for (i, config) in (0u8..255).zip(sys.semaphores.as_slice()) {
             self.add(alloc, Topic::Semaphore(i), config.order, 0)?;
-        }
-        for (i, config) in (0u8..255).zip(sys.flags.as_slice()) {
-            self.add(alloc, Topic::Flag(i), config.order, 0)?;
-        }
-        self.add_queues(alloc, sys)?;
-        for (i, _) in (0u8..255).zip(sys.shared_words.as_slice()) {
-            self.add(alloc, Topic::SharedWord(i), QueueOrder::Fifo, 0)?;
         }
         Ok(())
     }
 
-    fn add_queues(&mut self, alloc: Global, sys: &System) -> Result<(), AllocError> {
+    fn add_flags(&mut self, alloc: Global, sys: &System) -> Result<(), AllocError> {
+        for (i, config) in (0u8..255).zip(sys.flags.as_slice()) {
+            self.add(alloc, Topic::Flag(i), config.order, 0)?;
+        }
+        Ok(())
+    }
+
+    fn add_data_queues(&mut self, alloc: Global, sys: &System) -> Result<(), AllocError> {
         for (i, config) in (0u8..255).zip(sys.data_queues.as_slice()) {
             let most = i32::from(config.capacity);
             self.add(alloc, Topic::DataQueue(i), config.order, most)?;
         }
+        Ok(())
+    }
+
+    fn add_mailboxes(&mut self, alloc: Global, sys: &System) -> Result<(), AllocError> {
         for (i, config) in (0u8..255).zip(sys.mailboxes.as_slice()) {
             self.add(alloc, Topic::Mailbox(i), config.order, i32::MAX)?;
         }
         Ok(())
     }
 
+    fn add_shared_words(&mut self, alloc: Global, sys: &System) -> Result<(), AllocError> {
+        for (i, _) in (0u8..255).zip(sys.shared_words.as_slice()) {
+            self.add(alloc, Topic::SharedWord(i), QueueOrder::Fifo, 0)?;
+        }
+        Ok(())
+    }
+
     /// Whether a task that waits so for this object stands in its queue by priority.
     fn is_ranked(&self, topic: Topic, cause: WaitCause) -> bool {
-        let object = self.all.iter().find(|object| object.topic == topic);
-        let order = object.map_or(QueueOrder::Fifo, |object| object.order);
-        order == QueueOrder::Priority && !matches!(cause, WaitCause::Receiving(_))
+        if matches!(cause, WaitCause::Receiving(_)) {
+            return false;
+        }
+        for object in &self.all {
+            if object.topic == topic {
+                return object.order == QueueOrder::Priority;
+            }
+        }
+        false
     }
 
     /// The wait of a task after an event, if it waits for an object. It keeps its place where nothing moved it.
@@ -271,7 +311,10 @@ impl Objects {
         if releases(lines) {
             return;
         }
-        let Some((topic, change)) = accepted(lines).and_then(|(call, _)| level_change(call)) else {
+        let Some((call, _)) = accepted(lines) else {
+            return;
+        };
+        let Some((topic, change)) = level_change(call) else {
             return;
         };
         for object in self.all.iter_mut() {

@@ -1,10 +1,9 @@
 //! The places of a picture's parts: how wide a column is, how many panels there are, and where an event stands.
-use crate::font::width;
+use crate::font::{number_width, width};
 use crate::lengths::{Tenths, px};
 use crate::run::Run;
 use crate::tracks::Stay;
 use fmp_base::System;
-use itoa::Buffer;
 
 /// The width of a panel's events.
 const PANEL: u32 = 1680;
@@ -112,8 +111,7 @@ fn widest_object(sys: &System) -> u32 {
 
 /// The width of the words over a panel that ends with this event, and of those beside them.
 fn heading_width(last: u32) -> u32 {
-    let mut digits = Buffer::new();
-    let number = width(digits.format(last).as_bytes(), Tenths(120));
+    let number = number_width(last, Tenths(120));
     let heading = width("Events –".as_bytes(), Tenths(120)) + number.times(2);
     u32::try_from(heading.0).unwrap_or(0) / 10 + 60
 }

@@ -3,7 +3,7 @@ use crate::marks::Migration;
 use crate::run::{Note, Run};
 use crate::states::{Moment, handling_of, occupant_of};
 use crate::tracks::Track;
-use fmp_base::{Handler, Line};
+use fmp_base::{Handler, Line, TaskState};
 use std::alloc::{AllocError, Global};
 
 /// What the axis shows of an event.
@@ -55,10 +55,13 @@ impl Run {
         for (place, shown) in moment.tasks.iter().enumerate() {
             show_at(&mut self.tasks, place, event, *shown)?;
         }
-        for (priority, state) in self.priorities.iter_mut().zip(moment.states) {
+        Ok(())
+    }
+
+    fn take_priorities(&mut self, states: &[TaskState]) {
+        for (priority, state) in self.priorities.iter_mut().zip(states) {
             *priority = state.priority;
         }
-        Ok(())
     }
 
     fn show_processors(&mut self, event: u32, moment: &Moment<'_>) -> Result<(), AllocError> {
@@ -70,11 +73,15 @@ impl Run {
         Ok(())
     }
 
-    fn show_handlers(&mut self, event: u32, moment: &Moment<'_>) -> Result<(), AllocError> {
+    fn show_cyclics(&mut self, event: u32, moment: &Moment<'_>) -> Result<(), AllocError> {
         for (place, pends) in (0u8..255).zip(moment.pending_cyclics) {
             let shown = handling_of(Handler::Cyclic(place), *pends, moment.processors);
             show_at(&mut self.cyclics, usize::from(place), event, shown)?;
         }
+        Ok(())
+    }
+
+    fn show_interrupts(&mut self, event: u32, moment: &Moment<'_>) -> Result<(), AllocError> {
         for (place, pends) in (0u8..32).zip(moment.pending_interrupts) {
             let shown = handling_of(Handler::Interrupt(place), *pends, moment.processors);
             show_at(&mut self.interrupts, usize::from(place), event, shown)?;
@@ -85,25 +92,38 @@ impl Run {
     /// One moment more: setup, and then each event that did something. `AllocError` for want of memory.
     pub fn show(&mut self, alloc: Global, moment: &Moment<'_>) -> Result<(), AllocError> {
         let event = self.next_event();
+        self.take_deeds(event, moment)?;
+        self.objects.show(alloc, event, moment)?;
+        self.show_lanes(event, moment)?;
         self.text.extend_from_slice(moment.text)?;
+        self.notes.push(note(moment, self.text.len()))?;
+        Ok(())
+    }
+
+    /// What an event did.
+    fn take_deeds(&mut self, event: u32, moment: &Moment<'_>) -> Result<(), AllocError> {
         self.take_lines(event, moment.lines)?;
         self.take_call(event, moment)?;
         self.take_migrations(event, moment)?;
-        self.spins.show(event, moment)?;
-        self.objects.show(alloc, event, moment)?;
+        self.spins.show(event, moment)
+    }
+
+    /// The states after an event.
+    fn show_lanes(&mut self, event: u32, moment: &Moment<'_>) -> Result<(), AllocError> {
+        self.take_priorities(moment.states);
         self.show_tasks(event, moment)?;
         self.show_processors(event, moment)?;
-        self.show_handlers(event, moment)?;
-        self.notes.push(note(moment, self.text.len()))?;
-        Ok(())
+        self.show_cyclics(event, moment)?;
+        self.show_interrupts(event, moment)
     }
 
     /// A turn of the processor at this place did nothing, since its actor asks for a spin lock or makes no progress.
     pub fn turn_in_vain(&mut self, processor: u8) {
         let event = self.next_event().saturating_sub(1);
-        let track = self.occupants.get(usize::from(processor));
-        let occupant = track.and_then(|track| track.last());
-        if let Some(actor) = occupant.and_then(|x| x.actor()) {
+        if let Some(track) = self.occupants.get(usize::from(processor))
+            && let Some(occupant) = track.last()
+            && let Some(actor) = occupant.actor()
+        {
             self.spins.begin(event, processor, actor);
         }
     }

@@ -6,6 +6,7 @@ use crate::states::{Moment, occupant_of};
 use crate::tracks::Stay;
 use fmp_base::{Call, Caller, Er, Line, Lock};
 use std::alloc::{AllocError, Global};
+use std::ops::Range;
 
 /// A stretch over which the turns of a processor do nothing.
 #[derive(Clone, Copy)]
@@ -62,9 +63,11 @@ fn is_own(lines: &[Line], place: u8) -> bool {
 
 /// Whether a stretch ends at this moment.
 fn ends(spin: &Spin, moment: &Moment<'_>) -> bool {
-    let now = moment.processors.get(usize::from(spin.processor));
-    is_own(moment.lines, spin.processor)
-        || now.and_then(|x| occupant_of(x).actor()) != Some(spin.actor)
+    let actor = match moment.processors.get(usize::from(spin.processor)) {
+        Some(processor) => occupant_of(processor).actor(),
+        None => None,
+    };
+    is_own(moment.lines, spin.processor) || actor != Some(spin.actor)
 }
 
 impl Spins {
@@ -113,30 +116,30 @@ impl Spins {
 
     /// Whether a stretch of a processor meets these events.
     pub fn meet(&self, processor: u8, first: u32, last: u32) -> bool {
-        let meets = |spin: &Spin| spin.meets(processor, first, last);
-        let open = self.open_at(processor);
-        self.ended.iter().any(meets) || open.as_ref().is_some_and(meets)
-    }
-
-    /// The stretches of a processor that meet a panel, in order.
-    pub fn of(
-        &self,
-        alloc: Global,
-        processor: u8,
-        span: &Span,
-    ) -> Result<Vec<Stay<Spin>>, AllocError> {
-        let mut mine = Vec::new(alloc);
         for spin in &self.ended {
-            if spin.meets(processor, span.first, span.last) {
-                mine.push(spin.stay())?;
+            if spin.meets(processor, first, last) {
+                return true;
             }
         }
-        if let Some(spin) = self.open_at(processor)
-            && spin.meets(processor, span.first, span.last)
-        {
-            mine.push(spin.stay())?;
+        match self.open_at(processor) {
+            Some(spin) => spin.meets(processor, first, last),
+            None => false,
         }
-        Ok(mine)
+    }
+
+    /// The places of all stretches: of those that ended, and behind them of the one that goes on.
+    pub fn places(&self) -> Range<usize> {
+        0..self.ended.len().saturating_add(1)
+    }
+
+    /// The stretch at a place, if it is of this processor and meets a panel.
+    pub fn stay(&self, place: usize, processor: u8, span: &Span) -> Option<Stay<Spin>> {
+        let spin = match self.ended.get(place) {
+            Some(spin) => *spin,
+            None => self.open_at(processor)?,
+        };
+        spin.meets(processor, span.first, span.last)
+            .then_some(spin.stay())
     }
 }
 
@@ -183,7 +186,10 @@ impl Run {
         let deeds = self.deeds_of(spin.actor)?;
         let place = deeds.calls.partition_point(|made| made.event <= spin.from);
         let next = deeds.calls.get(place);
-        let before = next.map_or(u32::MAX, |made| made.event);
+        let before = match next {
+            Some(made) => made.event,
+            None => u32::MAX,
+        };
         match (stop_between(&deeds.marks, spin.from, before), next) {
             (Some(Sign::Ended | Sign::Faulted(_)), _) => None,
             (None, Some(made)) => lock_got(made),

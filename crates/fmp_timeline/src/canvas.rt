@@ -1,0 +1,170 @@
+//! The text that a picture is drawn into.
+use crate::font::width;
+use crate::lengths::Tenths;
+use itoa::Buffer;
+use std::alloc::{AllocError, Global};
+
+/// A value in the text of a picture.
+#[derive(Clone, Copy)]
+pub enum Piece<'a> {
+    /// As it stands.
+    Raw(&'a str),
+    /// Bytes whose marks of SVG are escaped.
+    Text(&'a [u8]),
+    /// A text made before, whose marks of SVG are escaped.
+    Label(&'a Canvas),
+    /// A number in decimal digits.
+    Number(u32),
+    /// A number in decimal digits between two words.
+    Numbered(&'a str, u32, &'a str),
+    /// A length in pixels, with a decimal where it is no whole number.
+    At(Tenths),
+}
+
+/// The digits of hexadecimal numbers.
+const DIGITS: &[u8; 16] = b"0123456789ABCDEF";
+
+/// The text of a picture, or of a label in it. Once memory has run out it takes no more, which `finish` tells.
+#[derive(Drop)]
+pub struct Canvas {
+    bytes: Vec<u8>,
+    is_cut: bool,
+}
+
+impl Canvas {
+    /// A text without bytes.
+    pub fn new(alloc: Global) -> Canvas {
+        Canvas {
+            bytes: Vec::new(alloc),
+            is_cut: false,
+        }
+    }
+
+    /// How many bytes there are.
+    pub fn len(&self) -> usize {
+        self.bytes.len()
+    }
+
+    /// The width of the text in this size.
+    pub fn width(&self, size: Tenths) -> Tenths {
+        width(&self.bytes, size)
+    }
+
+    /// Keeps the first bytes, so many.
+    pub fn shorten(&mut self, count: usize) {
+        self.bytes.truncate(count);
+    }
+
+    /// Bytes as they stand.
+    pub fn plain(&mut self, bytes: &[u8]) {
+        self.is_cut = self.is_cut || self.bytes.extend_from_slice(bytes).is_err();
+    }
+
+    /// A text as it stands.
+    pub fn raw(&mut self, text: &str) {
+        self.plain(text.as_bytes());
+    }
+
+    /// Another text as it stands.
+    pub fn join(&mut self, other: &Canvas) {
+        self.plain(&other.bytes);
+        self.is_cut = self.is_cut || other.is_cut;
+    }
+
+    fn byte(&mut self, byte: u8) {
+        self.is_cut = self.is_cut || self.bytes.push(byte).is_err();
+    }
+
+    /// A number in decimal digits.
+    pub fn number(&mut self, number: u32) {
+        self.raw(Buffer::new().format(number));
+    }
+
+    /// A number in decimal digits between two words.
+    pub fn numbered(&mut self, before: &str, number: u32, behind: &str) {
+        self.raw(before);
+        self.number(number);
+        self.raw(behind);
+    }
+
+    /// A number in decimal digits, with `-` in front where it is negative.
+    pub fn signed(&mut self, number: i32) {
+        let sign = if number < 0 { "-" } else { "" };
+        self.numbered(sign, number.unsigned_abs(), "");
+    }
+
+    /// A number in hexadecimal digits.
+    pub fn hexadecimal(&mut self, number: u32) {
+        let mut begun = false;
+        for place in (0..8u32).rev() {
+            let digit = number.checked_shr(place.saturating_mul(4)).unwrap_or(0) % 16;
+            begun = begun || digit > 0 || place == 0;
+            if begun {
+                self.byte(DIGITS.get(digit as usize).copied().unwrap_or(b'0'));
+            }
+        }
+    }
+
+    /// A length in pixels, with one decimal where it is no whole number.
+    fn length(&mut self, length: Tenths) {
+        let tenths = length.0.unsigned_abs();
+        let sign = if length.0 < 0 { "-" } else { "" };
+        self.numbered(sign, tenths / 10, "");
+        if tenths % 10 != 0 {
+            self.numbered(".", tenths % 10, "");
+        }
+    }
+
+    /// A byte, escaped where it is a mark of SVG.
+    fn escaped(&mut self, byte: u8) {
+        match byte {
+            b'&' => self.raw("&amp;"),
+            b'<' => self.raw("&lt;"),
+            b'>' => self.raw("&gt;"),
+            b'"' => self.raw("&quot;"),
+            _ => self.byte(byte),
+        }
+    }
+
+    /// A text whose marks of SVG are escaped.
+    pub fn text(&mut self, text: &[u8]) {
+        for byte in text {
+            self.escaped(*byte);
+        }
+    }
+
+    fn label(&mut self, label: &Canvas) {
+        self.text(&label.bytes);
+        self.is_cut = self.is_cut || label.is_cut;
+    }
+
+    fn piece(&mut self, piece: &Piece<'_>) {
+        match piece {
+            Piece::Raw(text) => self.raw(text),
+            Piece::Text(text) => self.text(text),
+            Piece::Label(label) => self.label(label),
+            Piece::Number(number) => self.number(*number),
+            Piece::Numbered(before, number, behind) => self.numbered(before, *number, behind),
+            Piece::At(length) => self.length(*length),
+        }
+    }
+
+    /// A text with these values in place of each `{}`.
+    pub fn put(&mut self, form: &str, values: &[Piece<'_>]) {
+        let mut values = values.iter();
+        for part in form.split("{}") {
+            self.raw(part);
+            if let Some(value) = values.next() {
+                self.piece(value);
+            }
+        }
+    }
+
+    /// The bytes. `AllocError` if memory ran out.
+    pub fn finish(self) -> Result<Vec<u8>, AllocError> {
+        if self.is_cut {
+            return Err(AllocError);
+        }
+        Ok(self.bytes)
+    }
+}
