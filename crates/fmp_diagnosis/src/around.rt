@@ -58,11 +58,16 @@ pub fn begins_body(kind: TokenKind) -> bool {
     matches!(kind, TokenKind::Keyword(Keyword::Task | Keyword::Handler))
 }
 
+/// Whether a body begins at a place.
+pub fn begins_body_at(tokens: &Tokens<'_>, at: usize) -> bool {
+    tokens.kind(at).is_some_and(begins_body)
+}
+
 /// The place of the word with which the last body begins.
 pub fn last_body(tokens: &Tokens<'_>) -> usize {
     let mut found = 0;
     for at in 0..tokens.len() {
-        if tokens.kind(at).is_some_and(begins_body) {
+        if begins_body_at(tokens, at) {
             found = at;
         }
     }
@@ -79,10 +84,15 @@ pub fn name_at(tokens: &Tokens<'_>, at: usize) -> Option<Name> {
 
 /// The line of the token at a place, from 1.
 pub fn line_of(tokens: &Tokens<'_>, at: usize) -> Option<u32> {
-    tokens.place(at).map(|place| place.line)
+    Some(tokens.place(at)?.line)
 }
 
 /// Whether two names have the same letters.
 pub fn is_same(a: &Name, b: &Name) -> bool {
     a.as_bytes() == b.as_bytes()
+}
+
+/// Whether one of these names has the same letters as a name.
+pub fn is_among(names: &[Name], name: &Name) -> bool {
+    names.iter().any(|one| is_same(one, name))
 }

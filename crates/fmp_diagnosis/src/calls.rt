@@ -24,6 +24,14 @@ pub fn out_place(service: Service) -> Option<u8>
     }
 }
 
+/// Whether `&` and a variable stand at a place of a call's arguments, from 0.
+pub fn is_out_place(service: Service, place: usize) -> bool {
+    match out_place(service) {
+        Some(out) => usize::from(out) == place,
+        None => false,
+    }
+}
+
 /// How many arguments a call has, the out place among them.
 pub fn argument_count(service: Service) -> usize {
     let out = if out_place(service).is_some() { 1 } else { 0 };

@@ -4,7 +4,7 @@ ghost use Rattle.fmp_diagnosis.specs.Words.{IsSaid};
 
 use crate::apis::{api_at, is_symbol};
 use crate::fields::{Field, fields_of, object_of};
-use crate::words::{Word, say};
+use crate::words::{Word, say, say_text};
 use fmp_lex::{Api, Keyword, Symbol, TokenKind, Tokens};
 use std::alloc::AllocError;
 
@@ -38,9 +38,13 @@ fn last_head(tokens: &Tokens<'_>) -> Option<(Head, usize)> {
 
 /// How many commas stand behind a place.
 fn commas_behind(tokens: &Tokens<'_>, at: usize) -> usize {
-    (at..tokens.len())
-        .filter(|place| is_symbol(tokens, *place, Symbol::Comma))
-        .count()
+    let mut count = 0usize;
+    for place in at..tokens.len() {
+        if is_symbol(tokens, place, Symbol::Comma) {
+            count = count.saturating_add(1);
+        }
+    }
+    count
 }
 
 /// What is to come in a head of this many tokens: `NUM_PRC ( number ) ;`.
@@ -74,21 +78,17 @@ fn behind_class(count: usize) -> &'static str
 fn say_field(api: Api, field: usize, out: &mut Vec<u8>) -> Result<(), AllocError>
     ensures { OnOk result (IsSaid out.old.items out.new.items) }
 {
-    let of = Word::Text(" of ");
-    let name = Word::Quoted(api.name());
-    match fields_of(api).get(field) {
-        Some(Field::Name) => say(
-            &[Word::Text("a name for "), Word::Text(object_of(api))],
-            out,
-        ),
-        Some(Field::Entry) => say(
-            &[Word::Text("the name of a body, the entry"), of, name],
-            out,
-        ),
-        Some(Field::Null) => say(&[Word::Text("`NULL`"), of, name], out),
-        Some(field) => say(&[Word::The(field.called()), of, name], out),
-        None => say(&[Word::Text("a value"), of, name], out),
-    }
+    let what = match fields_of(api).get(field) {
+        Some(Field::Name) => {
+            let words = [Word::Text("a name for "), Word::Text(object_of(api))];
+            return say(&words, out);
+        }
+        Some(Field::Entry) => Word::Text("the name of a body, the entry"),
+        Some(Field::Null) => Word::Text("`NULL`"),
+        Some(field) => Word::The(field.called()),
+        None => Word::Text("a value"),
+    };
+    say(&[what, Word::Text(" of "), Word::Quoted(api.name())], out)
 }
 
 /// What is to come behind a field.
@@ -105,7 +105,7 @@ fn say_behind_field(api: Api, field: usize, out: &mut Vec<u8>) -> Result<(), All
             out,
         );
     }
-    say(&[Word::Text("`,` and ")], out)?;
+    say_text("`,` and ", out)?;
     say_field(api, next, out)
 }
 
@@ -121,15 +121,15 @@ fn say_in_api(
 {
     let field = commas_behind(tokens, at);
     match last {
-        TokenKind::Api(_) => say(&[Word::Text("`(`")], out),
+        TokenKind::Api(_) => say_text("`(`", out),
         TokenKind::Symbol(Symbol::LeftParen) => say_field(api, 0, out),
-        TokenKind::Symbol(Symbol::Comma) if field == 1 => say(&[Word::Text("`{`")], out),
+        TokenKind::Symbol(Symbol::Comma) if field == 1 => say_text("`{`", out),
         TokenKind::Symbol(Symbol::Comma | Symbol::LeftBrace) => say_field(api, field, out),
-        TokenKind::Symbol(Symbol::Or) => say(&[Word::Text("a number or a constant")], out),
-        TokenKind::Symbol(Symbol::Minus) => say(&[Word::Text("a number")], out),
-        TokenKind::Symbol(Symbol::RightBrace) => say(&[Word::Text("`)`")], out),
-        TokenKind::Symbol(Symbol::RightParen) => say(&[Word::Text("`;`")], out),
-        _ if field == 0 => say(&[Word::Text("`,`")], out),
+        TokenKind::Symbol(Symbol::Or) => say_text("a number or a constant", out),
+        TokenKind::Symbol(Symbol::Minus) => say_text("a number", out),
+        TokenKind::Symbol(Symbol::RightBrace) => say_text("`)`", out),
+        TokenKind::Symbol(Symbol::RightParen) => say_text("`;`", out),
+        _ if field == 0 => say_text("`,`", out),
         _ => say_behind_field(api, field, out),
     }
 }
@@ -145,16 +145,16 @@ fn say_from_api(
 {
     let last = tokens.len().saturating_sub(1);
     if is_symbol(tokens, last, Symbol::Semicolon) {
-        return say(&[Word::Text("a static API or `}`")], out);
+        return say_text("a static API or `}`", out);
     }
     if is_symbol(tokens, last, Symbol::RightBrace)
         && is_symbol(tokens, last.saturating_sub(1), Symbol::Semicolon)
     {
-        return say(&[Word::Text("`CLASS` or the end of the text")], out);
+        return say_text("`CLASS` or the end of the text", out);
     }
     match tokens.kind(last) {
         Some(kind) => say_in_api(tokens, at, api, kind, out),
-        None => say(&[Word::Text("`NUM_PRC`")], out),
+        None => say_text("`NUM_PRC`", out),
     }
 }
 
@@ -174,19 +174,11 @@ pub fn say_expected(tokens: &Tokens<'_>, out: &mut Vec<u8>) -> Result<(), AllocE
     ensures { OnOk result (IsSaid out.old.items out.new.items) }
 {
     match last_head(tokens) {
-        None => say(&[Word::Text("`NUM_PRC`")], out),
+        None => say_text("`NUM_PRC`", out),
         Some((Head::Processors, at)) => {
-            say(
-                &[Word::Text(behind_processors(tokens.len().saturating_sub(at)))],
-                out,
-            )
+            say_text(behind_processors(tokens.len().saturating_sub(at)), out)
         }
-        Some((Head::Class, at)) => {
-            say(
-                &[Word::Text(behind_class(tokens.len().saturating_sub(at)))],
-                out,
-            )
-        }
+        Some((Head::Class, at)) => say_text(behind_class(tokens.len().saturating_sub(at)), out),
         Some((Head::Api(api), at)) => say_from_api(tokens, at, api, out),
     }
 }

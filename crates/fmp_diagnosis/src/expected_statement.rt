@@ -3,8 +3,8 @@ ghost use Rattle.std.specs.Prelude.{◌<◌, length, OnOk};
 ghost use Rattle.fmp_diagnosis.specs.Words.{IsSaid};
 
 use crate::around::name_at;
-use crate::calls::{argument_count, nesting_from, out_place};
-use crate::words::{Word, counted, say};
+use crate::calls::{argument_count, is_out_place, nesting_from};
+use crate::words::{Word, counted, say, say_text};
 use fmp_base::{Name, Service};
 use fmp_lex::{Keyword, Symbol, TokenKind, Tokens};
 use std::alloc::AllocError;
@@ -82,7 +82,7 @@ fn say_argument(service: Service, place: usize, out: &mut Vec<u8>) -> Result<(),
             out,
         );
     }
-    if out_place(service).map(usize::from) == Some(place) {
+    if is_out_place(service, place) {
         return say(
             &[
                 Word::Text("`&` and a variable, the out place of "),
@@ -141,20 +141,17 @@ fn say_in_call(
     ensures { OnOk result (IsSaid out.old.items out.new.items) }
 {
     let nesting = nesting_from(tokens, at.saturating_add(1));
-    let is_out = out_place(service).map(usize::from) == Some(nesting.commas);
+    let is_out = is_out_place(service, nesting.commas);
     match last {
-        TokenKind::Service(_) => say(&[Word::Text("`(`")], out),
-        _ if nesting.open == 0 => say(&[Word::Text("`;`")], out),
-        TokenKind::Symbol(Symbol::And) if is_out => say(
-            &[Word::Text("the name of a variable")],
-            out,
-        ),
+        TokenKind::Service(_) => say_text("`(`", out),
+        _ if nesting.open == 0 => say_text("`;`", out),
+        TokenKind::Symbol(Symbol::And) if is_out => say_text("the name of a variable", out),
         TokenKind::Symbol(Symbol::LeftParen | Symbol::Comma) if nesting.open == 1 => {
             say_argument(service, nesting.commas, out)
         }
-        _ if !ends_operand(last) => say(&[Word::Text(OPERAND)], out),
+        _ if !ends_operand(last) => say_text(OPERAND, out),
         _ if nesting.open == 1 => say_behind_argument(service, nesting.commas, out),
-        _ => say(&[Word::Text("`)`")], out),
+        _ => say_text("`)`", out),
     }
 }
 
@@ -197,7 +194,7 @@ fn say_assignment(
     if let Some(TokenKind::Service(service)) = tokens.kind(source) {
         return say_in_call(tokens, source, service, last, out);
     }
-    say(&[Word::Text(behind_name(tokens, begin, last))], out)
+    say_text(behind_name(tokens, begin, last), out)
 }
 
 /// What is to come behind a keyword at the head of a statement, of which so many tokens are there.
@@ -230,22 +227,6 @@ fn within_keyword(
     }
 }
 
-/// Says what is to come behind a statement that begins with a keyword.
-fn say_keyword(
-    tokens: &Tokens<'_>,
-    begin: usize,
-    keyword: Keyword,
-    last: TokenKind,
-    out: &mut Vec<u8>,
-) -> Result<(), AllocError>
-    ensures { OnOk result (IsSaid out.old.items out.new.items) }
-{
-    say(
-        &[Word::Text(within_keyword(tokens, begin, keyword, last))],
-        out,
-    )
-}
-
 /// What is to come where a statement begins.
 fn at_begin(tokens: &Tokens<'_>) -> &'static str
     ensures { 0 < length result.now }
@@ -263,12 +244,14 @@ pub fn say_expected(tokens: &Tokens<'_>, out: &mut Vec<u8>) -> Result<(), AllocE
 {
     let begin = statement_begin(tokens);
     let Some(last) = tokens.kind(tokens.len().saturating_sub(1)) else {
-        return say(&[Word::Text("`task` or `handler`")], out);
+        return say_text("`task` or `handler`", out);
     };
     match tokens.kind(begin) {
-        Some(TokenKind::Keyword(keyword)) => say_keyword(tokens, begin, keyword, last, out),
+        Some(TokenKind::Keyword(keyword)) => {
+            say_text(within_keyword(tokens, begin, keyword, last), out)
+        }
         Some(TokenKind::Service(service)) => say_in_call(tokens, begin, service, last, out),
         Some(TokenKind::Name(_)) => say_assignment(tokens, begin, last, out),
-        _ => say(&[Word::Text(at_begin(tokens))], out),
+        _ => say_text(at_begin(tokens), out),
     }
 }

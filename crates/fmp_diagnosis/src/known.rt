@@ -3,7 +3,7 @@ ghost use Rattle.std.specs.Prelude.{OnOk};
 ghost use Rattle.fmp_diagnosis.specs.Words.{MaySay};
 
 use crate::apis::object_name;
-use crate::around::{begins_body, last_body, name_at};
+use crate::around::{begins_body_at, last_body, name_at};
 use crate::nearness::{nearest, other_case};
 use crate::words::{Word, say};
 use fmp_base::{Name, Service};
@@ -79,7 +79,7 @@ pub fn objects(alloc: Global, tokens: &Tokens<'_>) -> Result<Vec<Name>, AllocErr
 pub fn bodies(alloc: Global, tokens: &Tokens<'_>) -> Result<Vec<Name>, AllocError> {
     let mut known = Vec::new(alloc);
     for at in 0..tokens.len() {
-        if tokens.kind(at).is_some_and(begins_body) {
+        if begins_body_at(tokens, at) {
             if let Some(name) = name_at(tokens, at.saturating_add(1)) {
                 known.push(name)?;
             }

@@ -4,9 +4,9 @@ ghost use Rattle.fmp_diagnosis.specs.Words.{IsSaid, IsSaidFirst, quoted};
 ghost use Rattle.fmp_base.specs.Names.{name_text};
 
 use crate::apis::api_at;
-use crate::around::{Around, begins_body};
+use crate::around::{Around, begins_body, begins_body_at};
 use crate::syntax::say_too_great;
-use crate::words::{Word, counted, say, say_of};
+use crate::words::{Word, counted, say, say_of, say_text};
 use fmp_base::Name;
 use fmp_lex::{Api, Keyword, Symbol, TextFile, TokenKind, Tokens};
 use std::alloc::AllocError;
@@ -16,9 +16,13 @@ const TEXT_MAX: usize = 1_048_576;
 
 /// How many bodies begin among tokens.
 fn count_bodies(tokens: &Tokens<'_>) -> usize {
-    (0..tokens.len())
-        .filter(|at| tokens.kind(*at).is_some_and(begins_body))
-        .count()
+    let mut count = 0usize;
+    for at in 0..tokens.len() {
+        if begins_body_at(tokens, at) {
+            count = count.saturating_add(1);
+        }
+    }
+    count
 }
 
 /// Says that the text has too many bytes.
@@ -65,7 +69,7 @@ fn say_in_configuration(around: &Around<'_>, out: &mut Vec<u8>) -> Result<(), Al
             ],
             out,
         ),
-        _ => say(&[Word::Text("a limit is passed")], out),
+        _ => say_text("a limit is passed", out),
     }
 }
 
@@ -89,9 +93,12 @@ fn excess_of_body(tokens: &Tokens<'_>) -> &'static str
 
 /// The place behind the body with whose first word the tokens begin.
 fn body_end(tokens: &Tokens<'_>) -> usize {
-    (1..tokens.len())
-        .find(|at| tokens.kind(*at).is_some_and(begins_body))
-        .unwrap_or(tokens.len())
+    for at in 1..tokens.len() {
+        if begins_body_at(tokens, at) {
+            return at;
+        }
+    }
+    tokens.len()
 }
 
 /// How many parentheses are open at most among the tokens up to a place.
@@ -114,12 +121,9 @@ fn say_body(around: &Around<'_>, out: &mut Vec<u8>) -> Result<(), AllocError>
     ensures { OnOk result (IsSaid out.old.items out.new.items) }
 {
     if count_bodies(&around.before.tokens) >= 255 {
-        return say(
-            &[Word::Text("this is the 256th body; a text has at most 255")],
-            out,
-        );
+        return say_text("this is the 256th body; a text has at most 255", out);
     }
-    say(&[Word::Text(excess_of_body(&around.rest.tokens))], out)
+    say_text(excess_of_body(&around.rest.tokens), out)
 }
 
 fn say_variable(name: Name, out: &mut Vec<u8>) -> Result<(), AllocError>
@@ -142,10 +146,7 @@ fn say_in_source(around: &Around<'_>, out: &mut Vec<u8>) -> Result<(), AllocErro
         (Some(TokenKind::Name(name)), Some(TokenKind::Keyword(Keyword::Var))) => {
             say_variable(name, out)
         }
-        _ => say(
-            &[Word::Text("this opens level 65 of nesting; there are at most 64")],
-            out,
-        ),
+        _ => say_text("this opens level 65 of nesting; there are at most 64", out),
     }
 }
 

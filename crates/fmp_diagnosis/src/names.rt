@@ -4,10 +4,10 @@ ghost use Rattle.fmp_diagnosis.specs.Words.{IsSaid, IsSaidFirst, quoted};
 ghost use Rattle.fmp_base.specs.Names.{name_text};
 
 use crate::apis::{api_at, entry_of, object_name, unknown_constant};
-use crate::around::{Around, is_same, last_body, line_of, list_of, name_at};
+use crate::around::{Around, is_among, is_same, last_body, line_of, list_of, name_at};
 use crate::fields::Field;
 use crate::known::{bodies, constants, objects, say_nearest, variables};
-use crate::words::{Word, say, say_of};
+use crate::words::{Word, say, say_of, say_text};
 use fmp_base::Name;
 use fmp_lex::{Api, Keyword, Symbol, TextFile, TokenKind, Tokens};
 use std::alloc::{AllocError, Global};
@@ -18,22 +18,31 @@ const TWICE: &str = "a name is used twice";
 /// What is said where no name is found that nothing has.
 const UNKNOWN: &str = "nothing has this name";
 
-/// The first place among tokens whose object has this name.
-fn object_at(tokens: &Tokens<'_>, name: &Name) -> Option<usize> {
-    (0..tokens.len()).find(|at| object_name(tokens, *at).is_some_and(|one| is_same(&one, name)))
-}
-
 /// Where the first object of this name is made, by its line.
 fn line_of_object(tokens: &Tokens<'_>, name: &Name) -> Option<u32> {
-    line_of(tokens, object_at(tokens, name)?)
+    for at in 0..tokens.len() {
+        if let Some(one) = object_name(tokens, at) {
+            if is_same(&one, name) {
+                return line_of(tokens, at);
+            }
+        }
+    }
+    None
+}
+
+/// Whether this name stands at a place.
+fn has_name(tokens: &Tokens<'_>, at: usize, name: &Name) -> bool {
+    match name_at(tokens, at) {
+        Some(one) => is_same(&one, name),
+        None => false,
+    }
 }
 
 /// Where this name stands behind a keyword for the first time from a place on, by its line.
 fn line_behind(tokens: &Tokens<'_>, from: usize, name: &Name, keywords: &[Keyword]) -> Option<u32> {
     for at in from..tokens.len() {
         if let Some(TokenKind::Keyword(keyword)) = tokens.kind(at) {
-            let next = name_at(tokens, at.saturating_add(1));
-            if keywords.contains(&keyword) && next.is_some_and(|one| is_same(&one, name)) {
+            if keywords.contains(&keyword) && has_name(tokens, at.saturating_add(1), name) {
                 return line_of(tokens, at);
             }
         }
@@ -51,17 +60,14 @@ fn say_used(
     ensures said { OnOk result (IsSaid out.old.items out.new.items) }
     ensures names { OnOk result (IsSaidFirst (quoted (name_text name)) out.old.items out.new.items) }
 {
-    say_of(
-        &name,
-        &[Word::Text(" is the name of "), Word::Text(what)],
-        out,
-    )?;
+    let is = Word::Text(" is the name of ");
+    let what = Word::Text(what);
     match line {
-        Some(line) => say(
-            &[Word::Text(", at line "), Word::Number(i64::from(line))],
-            out,
-        ),
-        None => Ok(()),
+        Some(line) => {
+            let line = Word::Number(i64::from(line));
+            say_of(&name, &[is, what, Word::Text(", at line "), line], out)
+        }
+        None => say_of(&name, &[is, what], out),
     }
 }
 
@@ -114,12 +120,12 @@ pub fn say_twice(
                 let line = line_of_object(&around.before.tokens, &name);
                 say_used(name, "an object already", line, out)
             }
-            None => say(&[Word::Text(TWICE)], out),
+            None => say_text(TWICE, out),
         };
     }
     match name_at(&around.rest.tokens, 0) {
         Some(name) => say_twice_in_source(alloc, cfg, around, name, out),
-        None => say(&[Word::Text(TWICE)], out),
+        None => say_text(TWICE, out),
     }
 }
 
@@ -136,16 +142,17 @@ fn say_class(around: &Around<'_>, name: Name, out: &mut Vec<u8>) -> Result<(), A
     ensures { OnOk result (IsSaid out.old.items out.new.items) }
 {
     let count = processors(&around.before.tokens);
-    say(&[Word::Text("there is no class "), Word::Name(name)], out)?;
+    let none = Word::Text("there is no class ");
+    let name = Word::Name(name);
     if count == 1 {
-        return say(
-            &[Word::Text(": with 1 processor they are `TCL_1` and `TCL_1_ONLY`")],
-            out,
-        );
+        let classes = Word::Text(": with 1 processor they are `TCL_1` and `TCL_1_ONLY`");
+        return say(&[none, name, classes], out);
     }
     let count = Word::Number(i64::from(count));
     say(
         &[
+            none,
+            name,
             Word::Text(": with "),
             count,
             Word::Text(" processors they are `TCL_n` and `TCL_n_ONLY` for n from 1 to "),
@@ -217,7 +224,7 @@ fn say_unknown_in_api(
     }
     match entry_of(tokens, 0, api) {
         Some(name) => say_unknown_entry(alloc, src, name, out),
-        None => say(&[Word::Text(UNKNOWN)], out),
+        None => say_text(UNKNOWN, out),
     }
 }
 
@@ -250,7 +257,7 @@ fn say_written(
     ensures said { OnOk result (IsSaid out.old.items out.new.items) }
     ensures names { OnOk result (IsSaidFirst (quoted (name_text name)) out.old.items out.new.items) }
 {
-    if objects.iter().any(|one| is_same(one, &name)) {
+    if is_among(objects, &name) {
         let words = [Word::Text(" is an object; only a variable is written")];
         return say_of(&name, &words, out);
     }
@@ -329,6 +336,6 @@ pub fn say_unknown(
     match (name_at(tokens, 0), file) {
         (Some(name), TextFile::Configuration) => say_class(around, name, out),
         (Some(name), TextFile::Source) => say_unknown_in_source(alloc, cfg, around, name, out),
-        (None, _) => say(&[Word::Text(UNKNOWN)], out),
+        (None, _) => say_text(UNKNOWN, out),
     }
 }

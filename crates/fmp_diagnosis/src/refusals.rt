@@ -8,7 +8,7 @@ use crate::around::{Around, line_of};
 use crate::fields::{Field, attributes_of, fields_of, object_of};
 use crate::needs::operands_of;
 use crate::sentence::Texts;
-use crate::words::{Word, say};
+use crate::words::{Word, say, say_text};
 use fmp_base::{Er, Name};
 use fmp_lex::{Api, Tokens};
 use std::alloc::{AllocError, Global};
@@ -112,12 +112,16 @@ fn say_excess(api: Api, excess: Excess, out: &mut Vec<u8>) -> Result<(), AllocEr
     )
 }
 
-/// The place of the API before that defines the handler of this interrupt.
-fn definition_of(tokens: &Tokens<'_>, number: i32) -> Option<usize> {
-    (0..tokens.len()).find(|at| {
-        api_at(tokens, *at) == Some(Api::DefInh)
-            && value_of(tokens, *at, Api::DefInh, Field::InterruptNumber) == number
-    })
+/// Where the handler of this interrupt is defined first, by its line.
+fn line_of_handler(tokens: &Tokens<'_>, number: i32) -> Option<u32> {
+    for at in 0..tokens.len() {
+        if let Some(Api::DefInh) = api_at(tokens, at) {
+            if value_of(tokens, at, Api::DefInh, Field::InterruptNumber) == number {
+                return line_of(tokens, at);
+            }
+        }
+    }
+    None
 }
 
 /// Says that the interrupt has a handler already.
@@ -125,10 +129,7 @@ fn say_taken(around: &Around<'_>, out: &mut Vec<u8>) -> Result<(), AllocError>
     ensures { OnOk result (IsSaid out.old.items out.new.items) }
 {
     let number = value_of(&around.rest.tokens, 0, Api::DefInh, Field::InterruptNumber);
-    let before = &around.before.tokens;
-    let line = definition_of(before, number)
-        .and_then(|at| line_of(before, at))
-        .unwrap_or(1);
+    let line = line_of_handler(&around.before.tokens, number).unwrap_or(1);
     say(
         &[
             Word::Text("interrupt "),
@@ -146,7 +147,7 @@ pub fn say_refusal(around: &Around<'_>, code: Er, out: &mut Vec<u8>) -> Result<(
 {
     let tokens = &around.rest.tokens;
     let Some(api) = api_at(tokens, 0) else {
-        return say(&[Word::Text("a value is out of its range")], out);
+        return say_text("a value is out of its range", out);
     };
     match (code, first_excess(tokens, api)) {
         (Er::Rsatr, _) => say_attribute(tokens, api, out),
@@ -170,7 +171,7 @@ pub fn say_wrong_kind(around: &Around<'_>, out: &mut Vec<u8>) -> Result<(), Allo
     let tokens = &around.rest.tokens;
     let api = api_at(tokens, 0).unwrap_or(Api::CreTsk);
     let Some(name) = entry_of(tokens, 0, api) else {
-        return say(&[Word::Text("the entry is a body of the other kind")], out);
+        return say_text("the entry is a body of the other kind", out);
     };
     let (is, wanted) = if api == Api::CreTsk {
         ("handler", "task")
@@ -201,15 +202,17 @@ fn say_need(
 ) -> Result<(), AllocError>
     ensures { OnOk result (IsSaid out.old.items out.new.items) }
 {
-    say(
-        &[Word::Text("; "), Word::Name(name), Word::Text(" needs ")],
-        out,
-    )?;
-    if let Some(operands) = operands_of(alloc, texts, &name)? {
-        let bytes = i64::from(operands).saturating_mul(4);
-        say(&[Word::Number(bytes), Word::Text(", ")], out)?;
+    let mark = Word::Text("; ");
+    let body = Word::Name(name);
+    let needs = Word::Text(" needs ");
+    let rate = Word::Text("4 for each operand that stands at once");
+    match operands_of(alloc, texts, &name)? {
+        Some(operands) => {
+            let bytes = Word::Number(i64::from(operands).saturating_mul(4));
+            say(&[mark, body, needs, bytes, Word::Text(", "), rate], out)
+        }
+        None => say(&[mark, body, needs, rate], out),
     }
-    say(&[Word::Text("4 for each operand that stands at once")], out)
 }
 
 /// Says that the stack of the task at the place is too small for its body.

@@ -5,7 +5,7 @@ ghost use Rattle.fmp_base.specs.Names.{name_text};
 
 use crate::around::{Around, name_at};
 use crate::known::{apis, keywords, say_nearest, services};
-use crate::words::{Word, append_quoted, counted, say, say_of, say_token};
+use crate::words::{Word, append_quoted, counted, say, say_of, say_quoted, say_text, say_token};
 use crate::{expected_api, expected_statement};
 use fmp_base::Name;
 use fmp_lex::{Keyword, LexFault, Symbol, TextFile, TokenKind};
@@ -13,6 +13,10 @@ use std::alloc::{AllocError, Global};
 
 /// A number of more bytes is not repeated.
 const SHOWN_MAX: usize = 40;
+
+/// What is said behind a number that is too great.
+const TOO_GREAT: &str =
+    " is too great: a number is at most 2147483647, with at most 8 hexadecimal digits";
 
 /// How many bytes of a word or a number stand at the head of these.
 fn word_length(bytes: &[u8]) -> usize {
@@ -22,23 +26,25 @@ fn word_length(bytes: &[u8]) -> usize {
         .unwrap_or(bytes.len())
 }
 
+/// The first of these bytes, a space where there is none.
+fn first_of(bytes: &[u8]) -> u8 {
+    bytes.first().copied().unwrap_or(b' ')
+}
+
 /// Says why no token begins with these bytes.
 fn say_no_token(bytes: &[u8], out: &mut Vec<u8>) -> Result<(), AllocError>
     ensures { OnOk result (IsSaid out.old.items out.new.items) }
 {
-    let first = bytes.first().copied().unwrap_or(b' ');
+    let first = first_of(bytes);
     if first.is_ascii_digit() {
-        append_quoted(&bytes[..word_length(bytes).min(bytes.len())], out)?;
-        return say(&[Word::Text(" is no number")], out);
+        let number = &bytes[..word_length(bytes).min(bytes.len())];
+        return say_quoted(number, &[Word::Text(" is no number")], out);
     }
     if first == b'/' {
-        return say(
-            &[Word::Text("the comment that begins here is not closed")],
-            out,
-        );
+        return say_text("the comment that begins here is not closed", out);
     }
     if first.is_ascii_graphic() {
-        say(&[Word::Text("no token begins with ")], out)?;
+        say_text("no token begins with ", out)?;
         return append_quoted(&[first], out);
     }
     say(
@@ -59,17 +65,12 @@ fn say_great_number(bytes: &[u8], length: usize, out: &mut Vec<u8>) -> Result<()
             Word::Text("a number of "),
             counted(length),
             Word::Text(" characters"),
+            Word::Text(TOO_GREAT),
         ];
-        say(&words, out)?;
-    } else {
-        append_quoted(&bytes[..length.min(bytes.len())], out)?;
+        return say(&words, out);
     }
-    say(
-        &[Word::Text(
-            " is too great: a number is at most 2147483647, with at most 8 hexadecimal digits",
-        )],
-        out,
-    )
+    let number = &bytes[..length.min(bytes.len())];
+    say_quoted(number, &[Word::Text(TOO_GREAT)], out)
 }
 
 /// Says which limit the word or the number passes that these bytes begin with.
@@ -77,7 +78,7 @@ pub fn say_too_great(bytes: &[u8], out: &mut Vec<u8>) -> Result<(), AllocError>
     ensures { OnOk result (IsSaid out.old.items out.new.items) }
 {
     let length = word_length(bytes);
-    if bytes.first().is_some_and(|b| b.is_ascii_digit()) {
+    if first_of(bytes).is_ascii_digit() {
         return say_great_number(bytes, length, out);
     }
     say(
@@ -96,10 +97,10 @@ fn say_found(around: &Around<'_>, out: &mut Vec<u8>) -> Result<(), AllocError>
 {
     match around.here() {
         Some(kind) => {
-            say(&[Word::Text(", found ")], out)?;
+            say_text(", found ", out)?;
             say_token(kind, out)
         }
-        None => say(&[Word::Text(", but the text ends here")], out),
+        None => say_text(", but the text ends here", out),
     }
 }
 
@@ -229,7 +230,7 @@ fn say_in_configuration(
     if let Some(name) = misspelt_api(around) {
         return say_misspelt_api(alloc, &name, out);
     }
-    say(&[Word::Text("expected ")], out)?;
+    say_text("expected ", out)?;
     expected_api::say_expected(&around.before.tokens, out)?;
     say_found(around, out)?;
     say_keyword(alloc, TextFile::Configuration, around, out)
@@ -243,9 +244,9 @@ fn say_in_source(alloc: Global, around: &Around<'_>, out: &mut Vec<u8>) -> Resul
         return say_misspelt_call(alloc, &name, out);
     }
     if let Some(text) = remark(around) {
-        return say(&[Word::Text(text)], out);
+        return say_text(text, out);
     }
-    say(&[Word::Text("expected ")], out)?;
+    say_text("expected ", out)?;
     expected_statement::say_expected(&around.before.tokens, out)?;
     say_found(around, out)?;
     say_keyword(alloc, TextFile::Source, around, out)

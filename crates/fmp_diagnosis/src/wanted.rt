@@ -26,7 +26,7 @@ impl Wanted {
 pub fn wanted_at(service: Service, place: usize) -> Option<Wanted> {
     match object_wanted(service, place) {
         Some(api) => Some(Wanted::Object(api)),
-        None => number_wanted(service, place).map(Wanted::Number),
+        None => Some(Wanted::Number(number_wanted(service, place)?)),
     }
 }
 

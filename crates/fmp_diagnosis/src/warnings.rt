@@ -5,7 +5,7 @@ ghost use Rattle.std.specs.Prelude.{◌<◌, OnOk};
 ghost use Rattle.fmp_diagnosis.specs.Words.{IsSaid};
 
 use crate::apis::{api_at, entry_of, is_symbol, value_of};
-use crate::around::{begins_body, is_same, line_of, list_of, name_at};
+use crate::around::{begins_body_at, is_among, line_of, list_of, name_at};
 use crate::contexts::{BodyKind, counterpart};
 use crate::fields::{Field, object_of};
 use crate::objects::{Object, Objects};
@@ -229,22 +229,26 @@ fn say_wanted(argument: Argument, out: &mut Vec<u8>) -> Result<(), AllocError>
 fn say_barred(barred: BarredCall, out: &mut Vec<u8>) -> Result<(), AllocError>
     ensures { OnOk result (IsSaid out.old.items out.new.items) }
 {
-    let answer = [
-        Word::Quoted(barred.service.name()),
-        Word::Text(" answers E_CTX in "),
-        Word::Text(barred.body.called()),
-    ];
-    say(&answer, out)?;
+    let call = Word::Quoted(barred.service.name());
+    let answers = Word::Text(" answers E_CTX in ");
+    let body = Word::Text(barred.body.called());
+    let end = Word::Text("\n");
     match counterpart(barred.service) {
-        Some(other) => say(
-            &[
-                Word::Text("; there it is "),
-                Word::Quoted(other.name()),
-                Word::Text("\n"),
-            ],
-            out,
-        ),
-        None => say(&[Word::Text("\n")], out),
+        Some(other) => {
+            let other = Word::Quoted(other.name());
+            say(
+                &[
+                    call,
+                    answers,
+                    body,
+                    Word::Text("; there it is "),
+                    other,
+                    end,
+                ],
+                out,
+            )
+        }
+        None => say(&[call, answers, body, end], out),
     }
 }
 
@@ -342,7 +346,7 @@ impl Warnings {
 
     /// Notes the object whose name stands at a place. Bodies have names of their own.
     fn note_name(&mut self, tokens: &Tokens<'_>, at: usize, kind: TokenKind) {
-        let is_body = at > 0 && tokens.kind(at - 1).is_some_and(begins_body);
+        let is_body = at > 0 && begins_body_at(tokens, at - 1);
         if let (TokenKind::Name(name), false) = (kind, is_body) {
             self.objects.note_named(name);
         }
@@ -396,11 +400,11 @@ fn entries(alloc: Global, tokens: &Tokens<'_>) -> Result<Vec<Name>, AllocError> 
 
 /// The name of the body whose first word stands at a place, where it is none of these.
 fn body_beside(tokens: &Tokens<'_>, at: usize, entries: &[Name]) -> Option<Name> {
-    if !tokens.kind(at).is_some_and(begins_body) {
+    if !begins_body_at(tokens, at) {
         return None;
     }
     let name = name_at(tokens, at.saturating_add(1))?;
-    if entries.iter().any(|one| is_same(one, &name)) {
+    if is_among(entries, &name) {
         return None;
     }
     Some(name)

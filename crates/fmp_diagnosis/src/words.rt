@@ -1,5 +1,5 @@
 //! Sentences are put together of words.
-ghost use Rattle.std.specs.Prelude.{◌≡◌, ◌++◌, OnOk};
+ghost use Rattle.std.specs.Prelude.{◌≡◌, ◌<◌, ◌++◌, length, OnOk};
 ghost use Rattle.fmp_diagnosis.specs.Words as spec;
 ghost use Rattle.fmp_base.specs.Names.{name_text};
 ghost use Rattle.fmp_diagnosis.specs.Words.{IsSaid, IsSaidFirst};
@@ -69,13 +69,29 @@ pub fn say(words: &[Word], out: &mut Vec<u8>) -> Result<(), AllocError>
     Ok(())
 }
 
+/// Appends a text that is not empty.
+pub fn say_text(text: &str, out: &mut Vec<u8>) -> Result<(), AllocError>
+    requires { 0 < length text.now }
+    ensures { OnOk result (IsSaid out.old.items out.new.items) }
+{
+    append(text, out)
+}
+
+/// Appends bytes in quotes, and words behind them.
+pub fn say_quoted(bytes: &[u8], words: &[Word], out: &mut Vec<u8>) -> Result<(), AllocError>
+    ensures said { OnOk result (IsSaid out.old.items out.new.items) }
+    ensures quotes { OnOk result (IsSaidFirst (spec.quoted bytes.now) out.old.items out.new.items) }
+{
+    append_quoted(bytes, out)?;
+    say(words, out)
+}
+
 /// Appends a name in quotes, and words behind it.
 pub fn say_of(name: &Name, words: &[Word], out: &mut Vec<u8>) -> Result<(), AllocError>
     ensures said { OnOk result (IsSaid out.old.items out.new.items) }
     ensures names { OnOk result (IsSaidFirst (spec.quoted (name_text name.now)) out.old.items out.new.items) }
 {
-    append_quoted(name.as_bytes(), out)?;
-    say(words, out)
+    say_quoted(name.as_bytes(), words, out)
 }
 
 /// A symbol as the texts write it.
@@ -136,6 +152,6 @@ pub fn say_token(kind: TokenKind, out: &mut Vec<u8>) -> Result<(), AllocError>
         ),
         TokenKind::Keyword(keyword) => say(&[Word::Quoted(keyword.name())], out),
         TokenKind::Symbol(symbol) => say(&[Word::Quoted(symbol_text(symbol))], out),
-        TokenKind::Bad(_) => say(&[Word::Text("no token")], out),
+        TokenKind::Bad(_) => say_text("no token", out),
     }
 }
