@@ -1,7 +1,11 @@
 //! What the program is asked to do.
 use crate::form::program;
+use clap::error::ErrorKind;
 use clap::{ArgMatches, Error};
 use std::alloc::{AllocError, Global};
+
+/// What is said of words that are no text.
+const NOT_TEXT: &str = "invalid UTF-8 was detected in one or more arguments";
 
 /// What the seats of a board are to do.
 #[derive(Clone, Copy)]
@@ -27,17 +31,17 @@ pub struct Plan {
 }
 
 /// What the program is asked to do: the names of its files, the plan, and whether times are printed.
-#[derive(Drop)]
-pub struct Asked {
-    pub image: String,
-    pub journal: String,
+#[derive(Clone, Copy)]
+pub struct Asked<'a> {
+    pub image: &'a str,
+    pub journal: &'a str,
     pub plan: Plan,
     pub timed: bool,
 }
 
 /// A word that the command line gives.
-fn word_of(alloc: Global, words: &ArgMatches<'_>, id: &str) -> Result<String, AllocError> {
-    String::from_str(alloc, words.get_str(id).unwrap_or(""))
+fn word_of<'a>(words: &ArgMatches<'a>, id: &str) -> &'a str {
+    words.get_str(id).unwrap_or("")
 }
 
 /// A number that the command line gives.
@@ -61,12 +65,17 @@ fn plan_of(words: &ArgMatches<'_>) -> Plan {
 
 /// What the words of a command line ask for, of which the first is the program's name. An error is that of the words'
 /// form, or `OutOfMemory`.
-pub fn asked_of<'a>(alloc: Global, words: &'a [&'a str]) -> Result<Asked, Error> {
+pub fn asked_of<'a>(alloc: Global, words: &'a [String]) -> Result<Asked<'a>, Error> {
     let words = program(alloc)?.try_get_matches_from(words)?;
     Ok(Asked {
-        image: word_of(alloc, &words, "IMAGE")?,
-        journal: word_of(alloc, &words, "JOURNAL")?,
+        image: word_of(&words, "IMAGE"),
+        journal: word_of(&words, "JOURNAL"),
         plan: plan_of(&words),
         timed: words.get_flag("time"),
     })
+}
+
+/// The error for words that are not UTF-8, which has the status 2.
+pub fn not_text(alloc: Global) -> Result<Error, AllocError> {
+    program(alloc)?.error(ErrorKind::ValueValidation, NOT_TEXT)
 }

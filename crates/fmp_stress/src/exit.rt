@@ -2,23 +2,30 @@
 use fmp_hostrun::BoardFault;
 use fmp_image::LoadFault;
 use std::alloc::{AllocError, Global};
-use thiserror::Error;
+use std::fmt;
 
 /// Why the program ends with nothing printed: its message is one line.
-#[derive(Debug, Drop, Error)]
+#[derive(Drop)]
 pub enum Exit {
     /// The bytes spell no image.
-    #[error("{0}")]
     Load(LoadFault),
     /// There is no such board.
-    #[error("board: {0}")]
     Board(BoardFault),
     /// A file could not be read or written.
-    #[error("file: {0}")]
     File(String),
     /// Memory ran out.
-    #[error("memory")]
-    Memory(#[from(alloc)] AllocError),
+    Memory(AllocError),
+}
+
+impl fmt::Display for Exit {
+    fn fmt<W: fmt::Write>(&self, f: &mut fmt::Formatter<W>) -> fmt::Result {
+        match self {
+            Exit::Load(fault) => write!(f, "{fault}"),
+            Exit::Board(fault) => write!(f, "board: {fault}"),
+            Exit::File(name) => write!(f, "file: {name}"),
+            Exit::Memory(_) => f.write_str("memory"),
+        }
+    }
 }
 
 impl Exit {

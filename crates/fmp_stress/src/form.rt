@@ -16,13 +16,33 @@ const BOUND_MAX: u64 = 281_474_976_710_656;
 /// The largest number of events, 2^20.
 const EVENTS_MAX: u64 = 1_048_576;
 
-/// An option with a number in this range.
-fn number<'a>(alloc: Global, id: &'a str, range: (u64, u64), help: &'a str) -> Arg<'a> {
+/// A command line, where there was memory for it.
+type Made<'a> = Result<Command<'a>, AllocError>;
+
+/// A command line with one more argument.
+fn with_argument<'a>(program: Made<'a>, argument: Arg<'a>) -> Made<'a> {
+    program?.arg(argument)
+}
+
+/// A word that has to be there.
+fn word<'a>(alloc: Global, id: &'a str, help: &'a str) -> Arg<'a> {
+    Arg::new(alloc, id).required(true).help(help)
+}
+
+/// An option with a number in this range, which is the default where none is given.
+fn number<'a>(
+    alloc: Global,
+    id: &'a str,
+    range: (u64, u64),
+    default: &'a str,
+    help: &'a str,
+) -> Arg<'a> {
     let (low, high) = range;
     Arg::new(alloc, id)
         .long(id)
         .value_name("N")
         .value_parser(ValueParser::unsigned(low, high))
+        .default_value(default)
         .help(help)
 }
 
@@ -34,82 +54,51 @@ fn flag<'a>(alloc: Global, id: &'a str, help: &'a str) -> Arg<'a> {
         .help(help)
 }
 
-/// The options for the seats of the board.
-fn with_seats<'a>(alloc: Global, program: Command<'a>) -> Result<Command<'a>, AllocError> {
-    let seats = number(
-        alloc,
-        "seats",
-        (1, 64),
-        "How many seats the board has; the last one reads the finished row",
-    );
-    let program = program.arg(seats.default_value("8"))?;
-    let followers = number(
-        alloc,
-        "followers",
-        (0, 63),
-        "How many of them follow while the others call",
-    );
-    let program = program.arg(followers.default_value("0"))?;
-    let share = number(
-        alloc,
-        "share",
-        (1, 64),
-        "How many seats a thread has; two of them meet now and then",
-    );
-    program.arg(share.default_value("1"))
+/// A command line with the options for the seats of the board.
+fn with_seats<'a>(alloc: Global, program: Made<'a>) -> Made<'a> {
+    let help = "How many seats the board has; the last one reads the finished row";
+    let program = with_argument(program, number(alloc, "seats", (1, 64), "8", help));
+    let help = "How many of them follow while the others call";
+    let program = with_argument(program, number(alloc, "followers", (0, 63), "0", help));
+    let help = "How many seats a thread has; two of them meet now and then";
+    with_argument(program, number(alloc, "share", (1, 64), "1", help))
 }
 
-/// The options for what is done.
-fn with_work<'a>(alloc: Global, program: Command<'a>) -> Result<Command<'a>, AllocError> {
-    let turns = number(alloc, "turns", (1, EVENTS_MAX), "How many turns a seat has");
-    let program = program.arg(turns.default_value("100"))?;
-    let ticks = number(
-        alloc,
-        "ticks",
-        (0, EVENTS_MAX),
-        "How many ticks the first seat that calls feeds, one a turn at most",
-    );
-    let program = program.arg(ticks.default_value("0"))?;
-    let capacity = number(
-        alloc,
-        "capacity",
-        (1, EVENTS_MAX),
-        "How many events the journal has room for",
-    );
-    let program = program.arg(capacity.default_value("1048576"))?;
-    let bound = number(
-        alloc,
-        "bound",
-        (1, BOUND_MAX),
-        "How many instructions a stretch may take",
-    );
-    program.arg(bound.default_value("100000"))
+/// A command line with the options for what is done.
+fn with_work<'a>(alloc: Global, program: Made<'a>) -> Made<'a> {
+    let range = (1, EVENTS_MAX);
+    let help = "How many turns a seat has";
+    let program = with_argument(program, number(alloc, "turns", range, "100", help));
+    let help = "How many ticks the first seat that calls feeds, one a turn at most";
+    let program = with_argument(program, number(alloc, "ticks", (0, EVENTS_MAX), "0", help));
+    let help = "How many events the journal has room for";
+    let program = with_argument(program, number(alloc, "capacity", range, "1048576", help));
+    let help = "How many instructions a stretch may take";
+    with_argument(
+        program,
+        number(alloc, "bound", (1, BOUND_MAX), "100000", help),
+    )
+}
+
+/// The command line with none of its arguments yet.
+fn bare<'a>(alloc: Global) -> Command<'a> {
+    Command::new(alloc, "fmp_stress")
+        .version("0.1.0")
+        .about(ABOUT)
+        .arg_required_else_help(true)
 }
 
 /// The whole command line.
-pub fn program<'a>(alloc: Global) -> Result<Command<'a>, AllocError> {
-    let program = Command::new(alloc, "fmp_stress")
-        .version("0.1.0")
-        .about(ABOUT)
-        .arg_required_else_help(true);
-    let image = Arg::new(alloc, "IMAGE").required(true);
-    let program = program.arg(image.help("Image that 'fmp build' has written"))?;
-    let journal = Arg::new(alloc, "JOURNAL").required(true);
-    let program = program.arg(journal.help("File that the journal is written to"))?;
-    let program = with_seats(alloc, program)?;
-    let program = with_work(alloc, program)?;
-    let seed = number(alloc, "seed", (0, u64::MAX), "What the turns are drawn by");
-    let program = program.arg(seed.default_value("1"))?;
-    let own = flag(
-        alloc,
-        "own",
-        "Each seat takes tickets of one processor, by its number, and does nothing else",
-    );
-    let program = program.arg(own)?;
-    let time = flag(
-        alloc,
-        "time",
-        "Print how long the calls and the last reads took",
-    );
-    program.arg(time)
+pub fn program<'a>(alloc: Global) -> Made<'a> {
+    let image = word(alloc, "IMAGE", "Image that 'fmp build' has written");
+    let program = with_argument(Ok(bare(alloc)), image);
+    let journal = word(alloc, "JOURNAL", "File that the journal is written to");
+    let program = with_seats(alloc, with_argument(program, journal));
+    let program = with_work(alloc, program);
+    let help = "What the turns are drawn by";
+    let program = with_argument(program, number(alloc, "seed", (0, u64::MAX), "1", help));
+    let help = "Each seat takes tickets of one processor, by its number, and does nothing else";
+    let program = with_argument(program, flag(alloc, "own", help));
+    let help = "Print how long the calls and the last reads took";
+    with_argument(program, flag(alloc, "time", help))
 }

@@ -10,6 +10,7 @@ use fmp_files::{Outside, ReadFault, WriteFault};
 use fmp_image::{Image, load};
 use fmp_trace::print_steps;
 use std::alloc::{AllocError, Global};
+use std::fmt;
 use std::sync::Wait;
 use std::thread::Threads;
 use std::time::Clock;
@@ -124,33 +125,43 @@ fn write_followed<O: Outside>(
     Ok(())
 }
 
-/// What is printed of a board.
-fn told(alloc: Global, hosted: &Hosted, timed: bool) -> Result<String, Exit> {
-    let answers = hosted.answers;
-    let text = format!(in alloc;
-        "seats {}\nevents {}\njournaled {}\nnothing {}\nidle {}\nstale {}\nfull {}\nmissed {}\nlost {}\ndiffering {}\n",
-        hosted.seats,
-        hosted.journal.len(),
-        answers.journaled,
-        answers.nothing,
-        answers.idle,
-        answers.stale,
-        answers.full,
-        answers.missed,
-        answers.lost,
-        hosted.differing,
-    );
-    let times = hosted.times;
-    let text = match text {
-        Ok(text) if timed => format!(in alloc;
-            "{text}calls {} us\nreads {} in {} us\n",
-            times.calls, times.read, times.reads
-        ),
-        other => other,
-    };
-    match text {
-        Ok(text) => Ok(text),
-        Err(_) => Err(Exit::Memory(AllocError)),
+/// What is printed of a board: a line for each count and, where that is wanted, how long it took.
+#[derive(Clone, Copy)]
+struct Summary<'a> {
+    hosted: &'a Hosted,
+    timed: bool,
+}
+
+impl Summary<'_> {
+    /// Each count, by its name.
+    fn counts(&self) -> [(&'static str, usize); 10] {
+        let answers = self.hosted.answers;
+        [
+            ("seats", self.hosted.seats as usize),
+            ("events", self.hosted.journal.len()),
+            ("journaled", answers.journaled as usize),
+            ("nothing", answers.nothing as usize),
+            ("idle", answers.idle as usize),
+            ("stale", answers.stale as usize),
+            ("full", answers.full as usize),
+            ("missed", answers.missed as usize),
+            ("lost", answers.lost as usize),
+            ("differing", self.hosted.differing as usize),
+        ]
+    }
+}
+
+impl fmt::Display for Summary<'_> {
+    fn fmt<W: fmt::Write>(&self, f: &mut fmt::Formatter<W>) -> fmt::Result {
+        for (name, count) in &self.counts() {
+            write!(f, "{name} {count}\n")?;
+        }
+        let times = self.hosted.times;
+        if self.timed {
+            write!(f, "calls {} us\n", times.calls)?;
+            write!(f, "reads {} in {} us\n", times.read, times.reads)?;
+        }
+        Ok(())
     }
 }
 
@@ -158,34 +169,43 @@ fn told(alloc: Global, hosted: &Hosted, timed: bool) -> Result<String, Exit> {
 fn write_all<O: Outside>(
     alloc: Global,
     outside: &mut O,
-    asked: &Asked,
+    asked: Asked<'_>,
     hosted: &Hosted,
 ) -> Result<String, Exit> {
-    let journal = asked.journal.as_str();
+    let journal = asked.journal;
     write_steps(alloc, outside, journal, &hosted.journal)?;
     write_followed(alloc, outside, journal, &hosted.teams, asked.plan.followers)?;
-    told(alloc, hosted, asked.timed)
+    let summary = Summary {
+        hosted,
+        timed: asked.timed,
+    };
+    match summary.to_string(alloc) {
+        Ok(text) => Ok(text),
+        Err(_) => Err(Exit::Memory(AllocError)),
+    }
 }
 
 /// Hosts an image and writes what came of it: what is to be printed.
+fn host_image<O: Outside, R: Threads + Wait + Clock + Sync>(
+    rt: &R,
+    alloc: Global,
+    outside: &mut O,
+    image: &Image,
+    asked: Asked<'_>,
+) -> Result<String, Exit> {
+    let hosted = host(rt, alloc, image, &asked.plan)?;
+    write_all(alloc, outside, asked, &hosted)
+}
+
+/// Does what was asked for: what is to be printed.
 fn carry_out<O: Outside, R: Threads + Wait + Clock + Sync>(
     rt: &R,
     alloc: Global,
     outside: &mut O,
-    asked: &Asked,
+    asked: Asked<'_>,
 ) -> Result<String, Exit> {
-    let image = read_image(alloc, outside, asked.image.as_str())?;
-    let hosted = host(rt, alloc, &image, &asked.plan)?;
-    write_all(alloc, outside, asked, &hosted)
-}
-
-/// The same words, borrowed.
-fn borrowed<'a>(alloc: Global, words: &'a [String]) -> Result<Vec<&'a str>, AllocError> {
-    let mut texts = Vec::new(alloc);
-    for word in words {
-        texts.push(word.as_str())?;
-    }
-    Ok(texts)
+    let image = read_image(alloc, outside, asked.image)?;
+    host_image(rt, alloc, outside, &image, asked)
 }
 
 /// Does what was asked for, and gives the status.
@@ -193,7 +213,7 @@ fn perform<O: Outside, R: Threads + Wait + Clock + Sync>(
     rt: &R,
     alloc: Global,
     outside: &mut O,
-    asked: &Asked,
+    asked: Asked<'_>,
 ) -> u8 {
     match carry_out(rt, alloc, outside, asked) {
         Ok(text) => print(alloc, outside, text.as_str()),
@@ -208,12 +228,8 @@ pub fn run<O: Outside, R: Threads + Wait + Clock + Sync>(
     outside: &mut O,
     words: &[String],
 ) -> u8 {
-    let texts = match borrowed(alloc, words) {
-        Ok(texts) => texts,
-        Err(error) => return end(outside, &Exit::Memory(error)),
-    };
-    match asked_of(alloc, &texts) {
-        Ok(asked) => perform(rt, alloc, outside, &asked),
+    match asked_of(alloc, words) {
+        Ok(asked) => perform(rt, alloc, outside, asked),
         Err(error) => refuse(alloc, outside, &error),
     }
 }

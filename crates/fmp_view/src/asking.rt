@@ -3,9 +3,12 @@ ghost use Rattle.std.specs.Prelude.{◌≤◌, ◌^◌, IfOk};
 
 use crate::form::{BOUND_MAX, EVENTS_MAX, program, timeline_command, waves_command};
 use clap::error::ErrorKind;
-use clap::{ArgMatches, Error};
+use clap::{ArgMatches, Command, Error};
 use fmp_timeline::Choice;
 use std::alloc::{AllocError, Global};
+
+/// What is said of words that are no text.
+const NOT_TEXT: &str = "invalid UTF-8 was detected in one or more arguments";
 
 /// What is said of a word that is no code.
 const NO_CODE: &str = "no code is printed so";
@@ -17,10 +20,10 @@ const OUT_OVER_INPUT: &str = "the file OUT is one of the two that are read";
 const FROM_AFTER_TO: &str = "--from is later than --to";
 
 /// What a run is of: the names of its files, and the bound of a stretch, 1 to 2^48.
-#[derive(Drop)]
-pub struct Run {
-    pub image: String,
-    pub steps: String,
+#[derive(Clone, Copy)]
+pub struct Run<'a> {
+    pub image: &'a str,
+    pub steps: &'a str,
     pub bound: u64,
 }
 
@@ -34,33 +37,33 @@ pub struct Drawing {
 }
 
 /// What the program is asked to do.
-#[derive(Drop)]
-pub enum Cmd {
+#[derive(Clone, Copy)]
+pub enum Cmd<'a> {
     /// Say what the code of this word means.
-    Code(String),
+    Code(&'a str),
     /// Show the fault of the texts of these files, of the configuration and of the bodies, or their warnings.
     Fault {
-        cfg: String,
-        src: String,
+        cfg: &'a str,
+        src: &'a str,
     },
     /// Print steps of an image: at most so many, 0 to 2^20, in turn or at random.
     Drive {
-        image: String,
+        image: &'a str,
         events: u32,
         seed: Option<u64>,
         bound: u64,
     },
     /// Print the table of a run.
-    Stats(Run),
+    Stats(Run<'a>),
     /// Write the waveform of a run to a file.
-    Waves(Run, String),
+    Waves(Run<'a>, &'a str),
     /// Write the picture of a run to a file.
-    Timeline(Run, String, Drawing),
+    Timeline(Run<'a>, &'a str, Drawing),
 }
 
 /// A word that the command line gives.
-fn word_of(alloc: Global, words: &ArgMatches<'_>, id: &str) -> Result<String, AllocError> {
-    String::from_str(alloc, words.get_str(id).unwrap_or(""))
+fn word_of<'a>(words: &ArgMatches<'a>, id: &str) -> &'a str {
+    words.get_str(id).unwrap_or("")
 }
 
 /// The bound that the command line gives.
@@ -68,12 +71,12 @@ fn bound_of(words: &ArgMatches<'_>) -> u64 {
     words.get_one::<u64>("bound").unwrap_or(1)
 }
 
-fn run_of(alloc: Global, words: &ArgMatches<'_>) -> Result<Run, AllocError> {
-    Ok(Run {
-        image: word_of(alloc, words, "IMAGE")?,
-        steps: word_of(alloc, words, "STEPS")?,
+fn run_of<'a>(words: &ArgMatches<'a>) -> Run<'a> {
+    Run {
+        image: word_of(words, "IMAGE"),
+        steps: word_of(words, "STEPS"),
         bound: bound_of(words),
-    })
+    }
 }
 
 fn drawing_of(words: &ArgMatches<'_>) -> Drawing {
@@ -87,51 +90,57 @@ fn drawing_of(words: &ArgMatches<'_>) -> Drawing {
 }
 
 /// What a subcommand of this name asks for with its words.
-fn asked(alloc: Global, name: &str, words: &ArgMatches<'_>) -> Result<Cmd, AllocError> {
+fn asked<'a>(name: &str, words: &ArgMatches<'a>) -> Cmd<'a> {
     match name {
-        "code" => Ok(Cmd::Code(word_of(alloc, words, "CODE")?)),
-        "fault" => {
-            let cfg = word_of(alloc, words, "CFG")?;
-            Ok(Cmd::Fault {
-                cfg,
-                src: word_of(alloc, words, "SRC")?,
-            })
-        }
-        "drive" => Ok(Cmd::Drive {
-            image: word_of(alloc, words, "IMAGE")?,
+        "code" => Cmd::Code(word_of(words, "CODE")),
+        "fault" => Cmd::Fault {
+            cfg: word_of(words, "CFG"),
+            src: word_of(words, "SRC"),
+        },
+        "drive" => Cmd::Drive {
+            image: word_of(words, "IMAGE"),
             events: words.get_one::<u32>("events").unwrap_or(0),
             seed: words.get_one::<u64>("seed"),
             bound: bound_of(words),
-        }),
-        "stats" => Ok(Cmd::Stats(run_of(alloc, words)?)),
-        "timeline" => {
-            let out = word_of(alloc, words, "OUT")?;
-            Ok(Cmd::Timeline(run_of(alloc, words)?, out, drawing_of(words)))
-        }
-        _ => Ok(Cmd::Waves(run_of(alloc, words)?, word_of(alloc, words, "OUT")?)),
+        },
+        "stats" => Cmd::Stats(run_of(words)),
+        "timeline" => Cmd::Timeline(run_of(words), word_of(words, "OUT"), drawing_of(words)),
+        _ => Cmd::Waves(run_of(words), word_of(words, "OUT")),
     }
 }
 
-/// What the words of a command line ask for, of which the first is the program's name. An error is that of the words'
-/// form, or `OutOfMemory`.
-pub fn command<'a>(alloc: Global, words: &'a [&'a str]) -> Result<Cmd, Error> {
-    let matches = program(alloc)?.try_get_matches_from(words)?;
-    match matches.subcommand() {
-        Some((name, words)) => Ok(asked(alloc, name, words)?),
-        None => Err(program(alloc)?.error(ErrorKind::MissingSubcommand, NO_CODE)?),
-    }
+/// The error for a mistake in the words of a command, which has the status 2.
+fn mistake(command: Result<Command<'_>, AllocError>, text: &str) -> Result<Error, AllocError> {
+    command?.error(ErrorKind::ValueValidation, text)
+}
+
+/// The error for a mistake in the words of the subcommand of this name, which has the status 2.
+fn mistake_of(
+    command: Result<Command<'_>, AllocError>,
+    name: &str,
+    text: &str,
+) -> Result<Error, AllocError> {
+    mistake(command?.bin_name(name), text)
+}
+
+/// The error for words that are not UTF-8, which has the status 2.
+pub fn not_text(alloc: Global) -> Result<Error, AllocError> {
+    mistake(program(alloc), NOT_TEXT)
 }
 
 /// The error for a word that is no code, which has the status 2.
 pub fn no_code(alloc: Global) -> Result<Error, AllocError> {
-    program(alloc)?.error(ErrorKind::ValueValidation, NO_CODE)
+    mistake(program(alloc), NO_CODE)
 }
 
 /// The error for a dump that would take the place of a file that is read, which has the status 2.
 pub fn dump_over_input(alloc: Global) -> Result<Error, AllocError> {
-    waves_command(alloc)?
-        .bin_name("fmp_view waves")?
-        .error(ErrorKind::ValueValidation, OUT_OVER_INPUT)
+    mistake_of(waves_command(alloc), "fmp_view waves", OUT_OVER_INPUT)
+}
+
+/// The error for words of `timeline` that have the right form.
+fn no_picture(alloc: Global, why: &str) -> Result<Error, AllocError> {
+    mistake_of(timeline_command(alloc), "fmp_view timeline", why)
 }
 
 /// The error for a picture that would take the place of a file that is read, which has the status 2.
@@ -144,11 +153,19 @@ pub fn picture_of_nothing(alloc: Global) -> Result<Error, AllocError> {
     no_picture(alloc, FROM_AFTER_TO)
 }
 
-/// The error for words of `timeline` that have the right form.
-fn no_picture(alloc: Global, why: &str) -> Result<Error, AllocError> {
-    timeline_command(alloc)?
-        .bin_name("fmp_view timeline")?
-        .error(ErrorKind::ValueValidation, why)
+/// What the words of a command line ask for that have the right form.
+fn asked_by<'a>(alloc: Global, words: &ArgMatches<'a>) -> Result<Cmd<'a>, Error> {
+    match words.subcommand() {
+        Some((name, words)) => Ok(asked(name, words)),
+        None => Err(no_code(alloc)?),
+    }
+}
+
+/// What the words of a command line ask for, of which the first is the program's name. An error is that of the words'
+/// form, or `OutOfMemory`.
+pub fn command<'a>(alloc: Global, words: &'a [String]) -> Result<Cmd<'a>, Error> {
+    let words = program(alloc)?.try_get_matches_from(words)?;
+    asked_by(alloc, &words)
 }
 
 /// A bound in its range.

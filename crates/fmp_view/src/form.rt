@@ -52,6 +52,24 @@ pub const BOUND_MAX: u64 = 281_474_976_710_656;
 /// The largest number of events, 2^20.
 pub const EVENTS_MAX: u32 = 1_048_576;
 
+/// A command, where there was memory for it.
+type Made<'a> = Result<Command<'a>, AllocError>;
+
+/// A command of this name, and what help says of it.
+fn named<'a>(alloc: Global, name: &'a str, about: &'a str) -> Command<'a> {
+    Command::new(alloc, name).about(about)
+}
+
+/// A command with one more argument.
+fn with_argument<'a>(command: Made<'a>, argument: Arg<'a>) -> Made<'a> {
+    command?.arg(argument)
+}
+
+/// A command with one more subcommand.
+fn with_command<'a>(command: Made<'a>, subcommand: Made<'a>) -> Made<'a> {
+    command?.subcommand(subcommand?)
+}
+
 /// A word that has to be there.
 fn word<'a>(alloc: Global, id: &'a str, help: &'a str) -> Arg<'a> {
     Arg::new(alloc, id).required(true).help(help)
@@ -84,86 +102,92 @@ fn image<'a>(alloc: Global) -> Arg<'a> {
 }
 
 /// A command with the words for a run, and the option for its bound.
-fn of_run<'a>(alloc: Global, command: Command<'a>) -> Result<Command<'a>, AllocError> {
-    let command = command.arg(image(alloc))?;
-    let command = command.arg(word(alloc, "STEPS", STEPS))?;
-    command.arg(bound(alloc))
+fn of_run<'a>(alloc: Global, name: &'a str, about: &'a str) -> Made<'a> {
+    let command = with_argument(Ok(named(alloc, name, about)), image(alloc));
+    let command = with_argument(command, word(alloc, "STEPS", STEPS));
+    with_argument(command, bound(alloc))
 }
 
-fn code_command<'a>(alloc: Global) -> Result<Command<'a>, AllocError> {
-    Command::new(alloc, "code")
-        .about("Says what a code means, when it comes, and an example")
-        .arg(word(
-            alloc,
-            "CODE",
-            "A code as it is printed: E_PAR, F_OVF, B4, L2, S1, H4",
-        ))
+fn code_command<'a>(alloc: Global) -> Made<'a> {
+    let about = "Says what a code means, when it comes, and an example";
+    let code = "A code as it is printed: E_PAR, F_OVF, B4, L2, S1, H4";
+    with_argument(Ok(named(alloc, "code", about)), word(alloc, "CODE", code))
 }
 
-fn drive_command<'a>(alloc: Global) -> Result<Command<'a>, AllocError> {
-    let command = Command::new(alloc, "drive").about(
-        "Prints a steps text that runs a system until it is quiet, or so many events are done",
-    );
-    let command = command.arg(image(alloc))?;
-    let events = number(alloc, "events", "N", 0, u64::from(EVENTS_MAX), EVENTS);
-    let command = command.arg(events.default_value("1000"))?;
-    let command = command.arg(number(alloc, "seed", "S", 0, u64::MAX, SEED))?;
-    command.arg(bound(alloc))
+fn drive_command<'a>(alloc: Global) -> Made<'a> {
+    let about =
+        "Prints a steps text that runs a system until it is quiet, or so many events are done";
+    let most = u64::from(EVENTS_MAX);
+    let events = number(alloc, "events", "N", 0, most, EVENTS).default_value("1000");
+    let command = with_argument(Ok(named(alloc, "drive", about)), image(alloc));
+    let command = with_argument(command, events);
+    let command = with_argument(command, number(alloc, "seed", "S", 0, u64::MAX, SEED));
+    with_argument(command, bound(alloc))
 }
 
-fn stats_command<'a>(alloc: Global) -> Result<Command<'a>, AllocError> {
-    let command = Command::new(alloc, "stats").about(
-        "Prints a table of what each task of a run did, with its share of the events",
-    );
-    of_run(alloc, command)
+fn stats_command<'a>(alloc: Global) -> Made<'a> {
+    let about = "Prints a table of what each task of a run did, with its share of the events";
+    of_run(alloc, "stats", about)
 }
 
 /// The command `waves`.
-pub fn waves_command<'a>(alloc: Global) -> Result<Command<'a>, AllocError> {
-    let command = Command::new(alloc, "waves").about(
-        "Writes a run as a value change dump, which waveform viewers show",
-    );
-    of_run(alloc, command)?.arg(word(alloc, "OUT", "File that the dump is written to"))
+pub fn waves_command<'a>(alloc: Global) -> Made<'a> {
+    let about = "Writes a run as a value change dump, which waveform viewers show";
+    let command = of_run(alloc, "waves", about);
+    with_argument(
+        command,
+        word(alloc, "OUT", "File that the dump is written to"),
+    )
+}
+
+/// The option for whether the objects are drawn too.
+fn objects<'a>(alloc: Global) -> Arg<'a> {
+    Arg::new(alloc, "objects")
+        .long("objects")
+        .action(ArgAction::SetTrue)
+        .help("Draw semaphores, eventflags, data queues, mailboxes and shared words too")
 }
 
 /// The command `timeline`.
-pub fn timeline_command<'a>(alloc: Global) -> Result<Command<'a>, AllocError> {
-    let command = Command::new(alloc, "timeline").about(
-        "Writes a run as a picture for browsers: states, calls, and who did what to whom",
-    );
-    let command = of_run(alloc, command)?;
-    let command = command.arg(word(alloc, "OUT", "File that the picture, an SVG, is written to"))?;
+pub fn timeline_command<'a>(alloc: Global) -> Made<'a> {
+    let about = "Writes a run as a picture for browsers: states, calls, and who did what to whom";
+    let out = "File that the picture, an SVG, is written to";
     let most = u64::from(EVENTS_MAX);
-    let from = number(alloc, "from", "K", 0, most, FROM);
-    let command = command.arg(from.default_value("0"))?;
-    let command = command.arg(number(alloc, "to", "K", 0, most, TO))?;
-    let objects = Arg::new(alloc, "objects")
-        .long("objects")
-        .action(ArgAction::SetTrue)
-        .help("Draw semaphores, eventflags, data queues, mailboxes and shared words too");
-    command.arg(objects)
+    let from = number(alloc, "from", "K", 0, most, FROM).default_value("0");
+    let command = of_run(alloc, "timeline", about);
+    let command = with_argument(command, word(alloc, "OUT", out));
+    let command = with_argument(command, from);
+    let command = with_argument(command, number(alloc, "to", "K", 0, most, TO));
+    with_argument(command, objects(alloc))
 }
 
-fn fault_command<'a>(alloc: Global) -> Result<Command<'a>, AllocError> {
-    let command = Command::new(alloc, "fault").about(
-        "Shows the fault of two texts and what was expected there; else their warnings, if any",
-    );
-    let command = command.arg(word(alloc, "CFG", "Configuration, as 'fmp check' reads it"))?;
-    command.arg(word(alloc, "SRC", "Bodies of its tasks and handlers"))
+fn fault_command<'a>(alloc: Global) -> Made<'a> {
+    let about =
+        "Shows the fault of two texts and what was expected there; else their warnings, if any";
+    let cfg = word(alloc, "CFG", "Configuration, as 'fmp check' reads it");
+    let command = with_argument(Ok(named(alloc, "fault", about)), cfg);
+    with_argument(
+        command,
+        word(alloc, "SRC", "Bodies of its tasks and handlers"),
+    )
 }
 
-/// The whole command line.
-pub fn program<'a>(alloc: Global) -> Result<Command<'a>, AllocError> {
-    let program = Command::new(alloc, "fmp_view")
+/// The command line with none of its commands yet.
+fn bare<'a>(alloc: Global) -> Command<'a> {
+    Command::new(alloc, "fmp_view")
         .version("0.1.0")
         .about(ABOUT)
         .after_help(EXAMPLE_AND_STATUS)
         .subcommand_required(true)
-        .arg_required_else_help(true);
-    let program = program.subcommand(code_command(alloc)?)?;
-    let program = program.subcommand(fault_command(alloc)?)?;
-    let program = program.subcommand(drive_command(alloc)?)?;
-    let program = program.subcommand(stats_command(alloc)?)?;
-    let program = program.subcommand(waves_command(alloc)?)?;
-    program.subcommand(timeline_command(alloc)?)
+        .arg_required_else_help(true)
+}
+
+/// The whole command line.
+pub fn program<'a>(alloc: Global) -> Made<'a> {
+    let program = with_command(Ok(bare(alloc)), code_command(alloc));
+    let program = with_command(program, fault_command(alloc));
+    let program = with_command(program, drive_command(alloc));
+    let program = with_command(program, stats_command(alloc));
+    let program = with_command(program, waves_command(alloc));
+    with_command(program, timeline_command(alloc))
 }

@@ -17,8 +17,8 @@ mod running;
 mod timeline;
 mod turns;
 
+use asking::not_text;
 use clap::Error;
-use clap::error::ErrorKind as Kind;
 use fmp_files::Host;
 use running::{refuse, run};
 use std::alloc::AllocError;
@@ -26,15 +26,12 @@ use std::env;
 use std::io::ErrorKind;
 use std::process::ExitCode;
 
-/// What is said of words that are no text.
-const NOT_TEXT: &str = "invalid UTF-8 was detected in one or more arguments";
-
 /// The words of the command line.
 fn words_of(rt: &HostRuntime) -> Result<Vec<String>, Error> {
     match env::args(rt) {
         Ok(words) => Ok(words.collect(rt.alloc())?),
         Err(error) if error.kind() == ErrorKind::OutOfMemory => Err(Error::from(AllocError)),
-        Err(_) => Err(form::program(rt.alloc())?.error(Kind::ValueValidation, NOT_TEXT)?),
+        Err(_) => Err(not_text(rt.alloc())?),
     }
 }
 

@@ -3,7 +3,7 @@ use crate::asking::{
     Cmd, Drawing, Run, command, dump_over_input, no_code, picture_of_nothing, picture_over_input,
 };
 use crate::commands::{Ending, code, stats, steps, waves};
-use crate::exit::{Exit, failed};
+use crate::exit::Exit;
 use crate::faults::{Shown, shown_fault};
 use crate::timeline::{TimelineFault, timeline};
 use clap::Error;
@@ -11,30 +11,31 @@ use clap::error::ErrorKind;
 use fmp_base::Call;
 use fmp_diagnosis::{FileNames, Texts};
 use fmp_driver::{NextRun, Stop};
+use fmp_engine::SimFault;
 use fmp_files::{Outside, ReadFault, WriteFault};
 use std::alloc::{AllocError, Global};
 
 /// Says why the program ends, and gives its status.
-fn end<O: Outside>(outside: &mut O, exit: &Exit) -> u8 {
+fn end<O: Outside>(outside: &mut O, exit: Exit<'_>) -> u8 {
     outside.say(format_args!("{exit}\n"));
     exit.status()
 }
 
 /// Prints all that there is to print, and gives the status.
-fn print<O: Outside>(alloc: Global, outside: &mut O, bytes: &[u8]) -> u8 {
+fn print<O: Outside>(outside: &mut O, bytes: &[u8]) -> u8 {
     match outside.print(bytes) {
         Ok(()) => 0,
-        Err(WriteFault::Device) => end(outside, &failed(alloc, "-")),
+        Err(WriteFault::Device) => end(outside, Exit::File("-")),
     }
 }
 
 /// Says what is wrong with the words of the command line, or prints what they ask to be shown.
 pub fn refuse<O: Outside>(alloc: Global, outside: &mut O, error: &Error) -> u8 {
     match error.kind() {
-        ErrorKind::OutOfMemory => end(outside, &Exit::Memory(AllocError)),
+        ErrorKind::OutOfMemory => end(outside, Exit::Memory),
         ErrorKind::DisplayHelp | ErrorKind::DisplayVersion => match error.to_string(alloc) {
-            Ok(text) => print(alloc, outside, text.as_bytes()),
-            Err(_) => end(outside, &Exit::Memory(AllocError)),
+            Ok(text) => print(outside, text.as_bytes()),
+            Err(_) => end(outside, Exit::Memory),
         },
         _ => {
             outside.say(format_args!("{error}"));
@@ -47,58 +48,69 @@ pub fn refuse<O: Outside>(alloc: Global, outside: &mut O, error: &Error) -> u8 {
 fn refuse_so<O: Outside>(alloc: Global, outside: &mut O, refusal: Result<Error, AllocError>) -> u8 {
     match refusal {
         Ok(error) => refuse(alloc, outside, &error),
-        Err(error) => end(outside, &Exit::Memory(error)),
+        Err(_) => end(outside, Exit::Memory),
     }
 }
 
 /// The bytes of a file.
-fn read<O: Outside>(alloc: Global, outside: &O, name: &str) -> Result<Vec<u8>, Exit> {
+fn read<'a, O: Outside>(alloc: Global, outside: &O, name: &'a str) -> Result<Vec<u8>, Exit<'a>> {
     match outside.read(alloc, name, None) {
         Ok(bytes) => Ok(bytes),
-        Err(ReadFault::Device) => Err(failed(alloc, name)),
-        Err(ReadFault::Memory) => Err(Exit::Memory(AllocError)),
+        Err(ReadFault::Device) => Err(Exit::File(name)),
+        Err(ReadFault::Memory) => Err(Exit::Memory),
+    }
+}
+
+/// What was made of files, or the fault of what was read.
+fn or_fault<T>(made: Result<T, SimFault>) -> Result<T, Exit<'static>> {
+    match made {
+        Ok(x) => Ok(x),
+        Err(fault) => Err(Exit::Sim(fault)),
     }
 }
 
 /// What a drive prints, and how it ended.
-fn driven_steps<O: Outside>(
+fn driven_steps<'a, O: Outside>(
     alloc: Global,
     outside: &O,
-    image: &str,
+    image: &'a str,
     events: u32,
     seed: Option<u64>,
     bound: u64,
-) -> Result<(Vec<u8>, Ending), Exit> {
+) -> Result<(Vec<u8>, Ending), Exit<'a>> {
     let image = read(alloc, outside, image)?;
-    match steps(alloc, &image, events, seed, bound) {
-        Ok(made) => Ok(made),
-        Err(fault) => Err(Exit::Sim(fault)),
-    }
+    or_fault(steps(alloc, &image, events, seed, bound))
 }
 
-/// The bytes of the two files of a run.
-fn read_run<O: Outside>(alloc: Global, outside: &O, run: &Run) -> Result<(Vec<u8>, Vec<u8>), Exit> {
-    let image = read(alloc, outside, &run.image)?;
-    let steps = read(alloc, outside, &run.steps)?;
-    Ok((image, steps))
+/// The bytes of two files.
+fn read_both<'a, O: Outside>(
+    alloc: Global,
+    outside: &O,
+    one: &'a str,
+    other: &'a str,
+) -> Result<(Vec<u8>, Vec<u8>), Exit<'a>> {
+    let first = read(alloc, outside, one)?;
+    Ok((first, read(alloc, outside, other)?))
 }
 
 /// The table of a run.
-fn run_stats<O: Outside>(alloc: Global, outside: &O, run: &Run) -> Result<Vec<u8>, Exit> {
-    let (image, steps) = read_run(alloc, outside, run)?;
-    match stats(alloc, &image, &steps, run.bound) {
-        Ok(table) => Ok(table),
-        Err(fault) => Err(Exit::Sim(fault)),
-    }
+fn run_stats<'a, O: Outside>(
+    alloc: Global,
+    outside: &O,
+    run: Run<'a>,
+) -> Result<Vec<u8>, Exit<'a>> {
+    let (image, steps) = read_both(alloc, outside, run.image, run.steps)?;
+    or_fault(stats(alloc, &image, &steps, run.bound))
 }
 
 /// The waveform of a run.
-fn run_waves<O: Outside>(alloc: Global, outside: &O, run: &Run) -> Result<Vec<u8>, Exit> {
-    let (image, steps) = read_run(alloc, outside, run)?;
-    match waves(alloc, &image, &steps, run.bound) {
-        Ok(dump) => Ok(dump),
-        Err(fault) => Err(Exit::Sim(fault)),
-    }
+fn run_waves<'a, O: Outside>(
+    alloc: Global,
+    outside: &O,
+    run: Run<'a>,
+) -> Result<Vec<u8>, Exit<'a>> {
+    let (image, steps) = read_both(alloc, outside, run.image, run.steps)?;
+    or_fault(waves(alloc, &image, &steps, run.bound))
 }
 
 /// Says why a drive has stopped.
@@ -134,41 +146,37 @@ fn say_end<O: Outside>(outside: &mut O, ending: Ending) {
     }
 }
 
-fn run_drive<O: Outside>(
-    alloc: Global,
-    outside: &mut O,
-    made: Result<(Vec<u8>, Ending), Exit>,
-) -> u8 {
+fn run_drive<O: Outside>(outside: &mut O, made: Result<(Vec<u8>, Ending), Exit<'_>>) -> u8 {
     match made {
         Ok((text, ending)) => {
             say_end(outside, ending);
-            print(alloc, outside, &text)
+            print(outside, &text)
         }
-        Err(exit) => end(outside, &exit),
+        Err(exit) => end(outside, exit),
     }
 }
 
 /// Writes all that there is to write to a file, and gives the status.
-fn write<O: Outside>(alloc: Global, outside: &mut O, out: &str, bytes: &[u8]) -> u8 {
+fn write<O: Outside>(outside: &mut O, out: &str, bytes: &[u8]) -> u8 {
     match outside.write(out, bytes) {
         Ok(()) => 0,
-        Err(WriteFault::Device) => end(outside, &failed(alloc, out)),
+        Err(WriteFault::Device) => end(outside, Exit::File(out)),
     }
 }
 
 /// Whether a file is one of those of a run.
-fn is_read<O: Outside>(outside: &O, out: &str, run: &Run) -> bool {
-    outside.is_one_file(out, &run.image) || outside.is_one_file(out, &run.steps)
+fn is_read<O: Outside>(outside: &O, out: &str, run: Run<'_>) -> bool {
+    outside.is_one_file(out, run.image) || outside.is_one_file(out, run.steps)
 }
 
 /// Writes a dump to its file.
-fn write_waves<O: Outside>(alloc: Global, outside: &mut O, run: &Run, out: &str) -> u8 {
+fn write_waves<O: Outside>(alloc: Global, outside: &mut O, run: Run<'_>, out: &str) -> u8 {
     if is_read(outside, out, run) {
         return refuse_so(alloc, outside, dump_over_input(alloc));
     }
     match run_waves(alloc, outside, run) {
-        Ok(dump) => write(alloc, outside, out, &dump),
-        Err(exit) => end(outside, &exit),
+        Ok(dump) => write(outside, out, &dump),
+        Err(exit) => end(outside, exit),
     }
 }
 
@@ -185,14 +193,14 @@ fn title_of(image: &str) -> &str {
 }
 
 /// The picture of a run.
-fn run_timeline<O: Outside>(
+fn run_timeline<'a, O: Outside>(
     alloc: Global,
     outside: &O,
-    run: &Run,
+    run: Run<'a>,
     drawing: Drawing,
-) -> Result<Vec<u8>, Exit> {
-    let (image, steps) = read_run(alloc, outside, run)?;
-    let title = title_of(&run.image).as_bytes();
+) -> Result<Vec<u8>, Exit<'a>> {
+    let (image, steps) = read_both(alloc, outside, run.image, run.steps)?;
+    let title = title_of(run.image).as_bytes();
     match timeline(alloc, &image, &steps, run.bound, title, drawing) {
         Ok(picture) => Ok(picture),
         Err(TimelineFault::Sim(fault)) => Err(Exit::Sim(fault)),
@@ -204,7 +212,7 @@ fn run_timeline<O: Outside>(
 fn write_timeline<O: Outside>(
     alloc: Global,
     outside: &mut O,
-    run: &Run,
+    run: Run<'_>,
     out: &str,
     drawing: Drawing,
 ) -> u8 {
@@ -215,43 +223,47 @@ fn write_timeline<O: Outside>(
         return refuse_so(alloc, outside, picture_of_nothing(alloc));
     }
     match run_timeline(alloc, outside, run, drawing) {
-        Ok(picture) => write(alloc, outside, out, &picture),
-        Err(exit) => end(outside, &exit),
+        Ok(picture) => write(outside, out, &picture),
+        Err(exit) => end(outside, exit),
     }
 }
 
 fn say_code<O: Outside>(alloc: Global, outside: &mut O, word: &str) -> u8 {
     match code(alloc, word) {
-        Ok(Some(text)) => print(alloc, outside, &text),
+        Ok(Some(text)) => print(outside, &text),
         Ok(None) => refuse_so(alloc, outside, no_code(alloc)),
-        Err(error) => end(outside, &Exit::Memory(error)),
+        Err(_) => end(outside, Exit::Memory),
     }
 }
 
 /// What is shown of the texts of two files.
-fn shown_of<O: Outside>(alloc: Global, outside: &O, cfg: &str, src: &str) -> Result<Shown, Exit> {
-    let cfg_text = read(alloc, outside, cfg)?;
-    let src_text = read(alloc, outside, src)?;
+fn shown_of<'a, O: Outside>(
+    alloc: Global,
+    outside: &O,
+    cfg: &'a str,
+    src: &'a str,
+) -> Result<Shown, Exit<'a>> {
+    let (cfg_text, src_text) = read_both(alloc, outside, cfg, src)?;
     let texts = Texts {
         cfg: &cfg_text,
         src: &src_text,
     };
     match shown_fault(alloc, FileNames { cfg, src }, texts) {
         Ok(shown) => Ok(shown),
-        Err(error) => Err(Exit::Memory(error)),
+        Err(_) => Err(Exit::Memory),
     }
 }
 
 /// Prints the fault of the texts of two files, with status 1, or their warnings.
 fn print_fault<O: Outside>(alloc: Global, outside: &mut O, cfg: &str, src: &str) -> u8 {
     match shown_of(alloc, outside, cfg, src) {
-        Ok(shown) => print(alloc, outside, shown.text()).max(shown.status()),
-        Err(exit) => end(outside, &exit),
+        Ok(shown) => print(outside, shown.text()).max(shown.status()),
+        Err(exit) => end(outside, exit),
     }
 }
 
 /// Carries out a command, and gives the status.
-fn carry_out<O: Outside>(alloc: Global, outside: &mut O, cmd: &Cmd) -> u8 {
+fn carry_out<O: Outside>(alloc: Global, outside: &mut O, cmd: Cmd<'_>) -> u8 {
     match cmd {
         Cmd::Code(word) => say_code(alloc, outside, word),
         Cmd::Fault { cfg, src } => print_fault(alloc, outside, cfg, src),
@@ -261,35 +273,22 @@ fn carry_out<O: Outside>(alloc: Global, outside: &mut O, cmd: &Cmd) -> u8 {
             seed,
             bound,
         } => {
-            let made = driven_steps(alloc, outside, image, *events, *seed, *bound);
-            run_drive(alloc, outside, made)
+            let made = driven_steps(alloc, outside, image, events, seed, bound);
+            run_drive(outside, made)
         }
         Cmd::Stats(run) => match run_stats(alloc, outside, run) {
-            Ok(table) => print(alloc, outside, &table),
-            Err(exit) => end(outside, &exit),
+            Ok(table) => print(outside, &table),
+            Err(exit) => end(outside, exit),
         },
         Cmd::Waves(run, out) => write_waves(alloc, outside, run, out),
-        Cmd::Timeline(run, out, drawing) => write_timeline(alloc, outside, run, out, *drawing),
+        Cmd::Timeline(run, out, drawing) => write_timeline(alloc, outside, run, out, drawing),
     }
-}
-
-/// The same words, borrowed.
-fn borrowed<'a>(alloc: Global, words: &'a [String]) -> Result<Vec<&'a str>, AllocError> {
-    let mut texts = Vec::new(alloc);
-    for word in words {
-        texts.push(word.as_str())?;
-    }
-    Ok(texts)
 }
 
 /// Does what the words of a command line ask for, of which the first is the program's name, and gives the status.
 pub fn run<O: Outside>(alloc: Global, outside: &mut O, words: &[String]) -> u8 {
-    let texts = match borrowed(alloc, words) {
-        Ok(texts) => texts,
-        Err(error) => return end(outside, &Exit::Memory(error)),
-    };
-    match command(alloc, &texts) {
-        Ok(cmd) => carry_out(alloc, outside, &cmd),
+    match command(alloc, words) {
+        Ok(cmd) => carry_out(alloc, outside, cmd),
         Err(error) => refuse(alloc, outside, &error),
     }
 }
