@@ -2,5 +2,6 @@
 mod feeding;
 mod following;
 mod hosting;
+mod playing;
 mod showing;
 mod tickets;

@@ -1,21 +1,20 @@
 //! Boards that are followed.
-ghost use Rattle.std.specs.Prelude.{◌≡◌, All, IfOk, length};
-ghost use Rattle.fmp_board.specs.Boards.{IsAt, blank as blank_of};
+ghost use Rattle.std.specs.Prelude.{◌≡◌, All};
+ghost use Rattle.fmp_board.specs.Boards.{IsAt};
 
 use crate::SecondFirst;
-use crate::tests::hosting::{CONFIGURATION, TASKS, simulated};
-use crate::tests::showing::{BOUND, Seen, board_of, image_of, last_of};
+use crate::tests::hosting::TWO_TASKS;
+use crate::tests::playing::{Play, Told, fed, played};
+use crate::tests::showing::{Seen, one};
 use fmp_base::Event;
 use fmp_follower::{Follower, followed_text_is_front};
-use fmp_hostrun::{Blank, Board, Closed, Seat, Site, run_all};
-use fmp_image::Image;
+use fmp_hostrun::{Board, Seat, Site, run_all};
 use std::alloc::{AllocError, Global};
-use std::marker::Brand;
 use std::process::Abort;
 use std::sync::Wait;
 use std::test::Fail;
-use std::thread;
 use std::thread::Threads;
+use std::{mem, thread};
 
 /// How often a follower that is given nothing yields before it gives up.
 const MOST_YIELDS: u32 = 10_000_000;
@@ -32,7 +31,7 @@ const EVENTS: [Event; 6] = [
 
 /// What a follower printed.
 #[derive(Drop)]
-struct Printed {
+pub struct Printed {
     /// The lines of setup and of the events that it was given.
     text: Vec<u8>,
     /// How many events its kernel has done.
@@ -76,13 +75,13 @@ fn pulled<S: Site>(
     follower: &mut Follower<'_, '_, S>,
     events: u32,
     mut text: Vec<u8>,
-) -> Result<Printed, AllocError> {
+) -> Result<Option<Printed>, AllocError> {
     let after = pull_all(follower, events, &mut text)?;
-    Ok(Printed {
+    Ok(Some(Printed {
         text,
         done: follower.kernel().done(),
         after,
-    })
+    }))
 }
 
 /// What a follower prints of a board from a seat that was given no event, once it was given so many. None where the
@@ -90,78 +89,41 @@ fn pulled<S: Site>(
 fn followed<S: Site>(
     alloc: Global,
     board: &Board<'_, S>,
-    mut seat: Seat,
+    seat: &mut Seat,
     events: u32,
 ) -> Result<Option<Printed>, AllocError>
-    requires { IsAt S.row_id seat }
+    requires { IsAt S.row_id seat.old }
 {
     if seat.place() != 0 {
         return Ok(None);
     }
     let mut text = Vec::new(alloc);
-    match Follower::new(alloc, board, &mut seat, &mut text) {
-        Ok(mut follower) => Ok(Some(pulled(&mut follower, events, text)?)),
+    match Follower::new(alloc, board, seat, &mut text) {
+        Ok(mut follower) => pulled(&mut follower, events, text),
         Err(fault) => Err(fault),
     }
 }
 
-/// The same, from another such seat where memory for following was refused.
-fn followed_again<S: Site>(
-    alloc: Global,
-    board: &Board<'_, S>,
-    readers: (Seat, Seat),
-    events: u32,
-) -> Result<Option<Printed>, AllocError>
-    requires first { IsAt S.row_id readers.0 }
-    requires second { IsAt S.row_id readers.1 }
-{
-    match followed(alloc, board, readers.0, events) {
-        Ok(printed) => Ok(printed),
-        Err(_) => followed(alloc, board, readers.1, events),
-    }
-}
-
-/// Feeds events by one seat, and follows them from another, or from a third where memory was refused.
-fn fed_and_followed<S: Site, R: Wait>(
+/// One seat of a board feeds these events, and another follows them then, or a third where memory was refused: what the
+/// follower printed.
+pub fn follow<S: Site, R: Wait>(
     rt: &R,
     alloc: Global,
     board: &Board<'_, S>,
-    seat: &mut Seat,
-    readers: (Seat, Seat),
+    seats: &mut Vec<Seat>,
     events: &[Event],
 ) -> Result<Option<Printed>, Fail>
-    requires seat { IsAt S.row_id seat.old }
-    requires first { IsAt S.row_id readers.0 }
-    requires second { IsAt S.row_id readers.1 }
-    ensures { IsAt S.row_id seat.new }
+    requires { All (IsAt S.row_id) seats.old.items }
 {
-    let mut fed = 0;
-    for event in events {
-        fed = board.feed(rt, seat, *event)?.number;
+    let mut seat = one::<S>(seats).ok_or("a seat")?;
+    let mut reader = one::<S>(seats).ok_or("a seat")?;
+    let mut spare = one::<S>(seats).ok_or("a seat")?;
+    fed(rt, alloc, board, &mut seat, events)?;
+    let count = u32::try_from(events.len()).unwrap_or(u32::MAX);
+    match followed(alloc, board, &mut reader, count) {
+        Ok(printed) => Ok(printed),
+        Err(_) => Ok(followed(alloc, board, &mut spare, count)?),
     }
-    Ok(followed_again(alloc, board, readers, fed)?)
-}
-
-/// Opens a board that one seat feeds and another follows, and closes it: what the follower printed, and the board
-/// then. A third seat is spare.
-fn fed<'a, S: Site, R: Wait>(
-    rt: &R,
-    alloc: Global,
-    blank: Blank<'a>,
-    mut seats: Vec<Seat>,
-    events: &[Event],
-) -> (Result<Option<Printed>, Fail>, Closed<'a>)
-    requires blank { blank ≡ blank_of S.image S.bound S.row_id }
-    requires seats { All (IsAt S.row_id) seats.items }
-    requires count { length seats.items ≡ 3 }
-    ensures { result.1.kernel.system ≡ S.image.system }
-{
-    let reader = last_of::<S>(&mut seats);
-    let spare = last_of::<S>(&mut seats);
-    let mut seat = last_of::<S>(&mut seats);
-    let board: Board<'a, S> = blank.open();
-    let printed = fed_and_followed(rt, alloc, &board, &mut seat, (reader, spare), events);
-    (printed, board.close(&mut seat))
 }
 
 /// Has threads write a board, and then pulls so many events through a follower of it.
@@ -178,198 +140,78 @@ fn written_and_pulled<S: Site + Send + Sync, R: Threads + Wait + Sync>(
 {
     let gate = SecondFirst::new(1);
     let (_seats, _journaled) = run_all(rt, alloc, board, &gate, seats, 4, 0);
-    Ok(Some(pulled(follower, events, text)?))
+    pulled(follower, events, text)
 }
 
-/// Makes a follower, has threads write the board, and then pulls so many events. None where the seat was given some.
-fn written_and_followed<S: Site + Send + Sync, R: Threads + Wait + Sync>(
+/// Makes a follower, has threads write the board by the other seats, and then pulls so many events: what the follower
+/// printed. None where its seat was given some before.
+pub fn watch<S: Site + Send + Sync, R: Threads + Wait + Sync>(
     rt: &R,
     alloc: Global,
     board: &Board<'_, S>,
-    seats: Vec<Seat>,
-    mut reader: Seat,
+    seats: &mut Vec<Seat>,
     events: u32,
-) -> Result<Option<Printed>, AllocError>
-    requires seats { All (IsAt S.row_id) seats.items }
-    requires reader { IsAt S.row_id reader }
+) -> Result<Option<Printed>, Fail>
+    requires { All (IsAt S.row_id) seats.old.items }
 {
+    let mut reader = one::<S>(seats).ok_or("a seat")?;
     if reader.place() != 0 {
         return Ok(None);
     }
+    let writers = mem::replace(seats, Vec::new(alloc));
     let mut text = Vec::new(alloc);
-    match Follower::new(alloc, board, &mut reader, &mut text) {
+    let printed = match Follower::new(alloc, board, &mut reader, &mut text) {
         Ok(mut follower) => {
-            written_and_pulled(rt, alloc, board, seats, &mut follower, events, text)
+            written_and_pulled(rt, alloc, board, writers, &mut follower, events, text)
         }
         Err(fault) => Err(fault),
-    }
+    };
+    printed.map_err(Fail::from)
 }
 
-/// Opens a board that the threads of two processors write and another seat follows, and closes it: what the follower
-/// printed, and the board then.
-fn run<'a, S: Site + Send + Sync, R: Threads + Wait + Sync>(
-    rt: &R,
-    alloc: Global,
-    blank: Blank<'a>,
-    mut seats: Vec<Seat>,
-    events: u32,
-) -> (Result<Option<Printed>, Fail>, Closed<'a>)
-    requires blank { blank ≡ blank_of S.image S.bound S.row_id }
-    requires seats { All (IsAt S.row_id) seats.items }
-    requires count { length seats.items ≡ 5 }
-    ensures { result.1.kernel.system ≡ S.image.system }
-{
-    let reader = last_of::<S>(&mut seats);
-    let mut seat = last_of::<S>(&mut seats);
-    let board: Board<'a, S> = blank.open();
-    let printed = written_and_followed(rt, alloc, &board, seats, reader, events);
-    (printed.map_err(Fail::from), board.close(&mut seat))
+/// What a follower printed, with the states at the end behind it.
+fn with_states(alloc: Global, printed: &Printed, seen: &Seen) -> Result<String, Fail> {
+    let mut text = String::from_str(alloc, str::from_utf8(&printed.text)?)?;
+    text.push_str(seen.states.as_str())?;
+    Ok(text)
 }
 
-/// A board of an image of two processors with room for k events that is fed, and followed then.
-fn fed_board<'a, R: Wait>(
-    rt: &R,
-    alloc: Global,
-    image: &'a Image,
-    k: u32,
-    events: &[Event],
-) -> Result<(Result<Option<Printed>, Fail>, Closed<'a>), Fail>
-    ensures { IfOk result (λ r. r.1.kernel.system ≡ image.now.system) }
-{
-    let (blank, seats) = board_of(alloc, image, BOUND, k, 3)?;
-    Ok(fed::<Brand, R>(rt, alloc, blank, seats, events))
-}
-
-/// A board of an image of two processors that threads write, and that is followed for so many events.
-fn run_board<'a, R: Threads + Wait + Sync>(
-    rt: &R,
-    alloc: Global,
-    image: &'a Image,
-    events: u32,
-) -> Result<(Result<Option<Printed>, Fail>, Closed<'a>), Fail>
-    ensures { IfOk result (λ r. r.1.kernel.system ≡ image.now.system) }
-{
-    let (blank, seats) = board_of(alloc, image, BOUND, 8, 5)?;
-    Ok(run::<Brand, R>(rt, alloc, blank, seats, events))
-}
-
-/// What a follower printed of a board beside what a simulation prints of its journal.
-#[derive(Drop)]
-struct Texts {
-    /// What the follower printed, and behind it the states at the end.
-    followed: String,
-    /// What the simulation prints.
-    simulated: String,
-    /// How many events the kernel of the follower has done.
+/// A follower that was given so many events printed what a simulation of the journal prints, and then found no more.
+fn prints_as_simulated(
+    rt: &(impl Abort + AllocGlobal),
+    told: (Told, Seen),
     done: u32,
-    /// What it was given after all events.
-    after: Option<Event>,
-}
-
-fn texts_of(
-    alloc: Global,
-    printed: Result<Option<Printed>, Fail>,
-    image: &Image,
-    closed: &Closed<'_>,
-) -> Result<Texts, Fail>
-    requires { closed.now.kernel.system ≡ image.now.system }
-{
-    let Printed { text, done, after } = printed?.ok_or("a seat that was given nothing")?;
-    let seen = Seen::over(alloc, Ok(String::new(alloc)), image, closed)?;
-    let mut followed = String::from_str(alloc, str::from_utf8(&text)?)?;
-    followed.push_str(seen.states.as_str())?;
-    Ok(Texts {
-        followed,
-        simulated: simulated(alloc, image, seen.journal.as_str())?,
-        done,
-        after,
-    })
-}
-
-/// The same, of a board that is given up.
-fn texts_after(
-    alloc: Global,
-    printed: Result<Option<Printed>, Fail>,
-    image: &Image,
-    closed: Closed<'_>,
-) -> Result<Texts, Fail>
-    requires { closed.kernel.system ≡ image.now.system }
-{
-    let texts = texts_of(alloc, printed, image, &closed);
-    drop(closed);
-    texts
-}
-
-/// The texts of a board of an image with room for k events that is fed.
-fn texts_of_fed_board<R: Wait>(
-    rt: &R,
-    alloc: Global,
-    image: &Image,
-    k: u32,
-    events: &[Event],
-) -> Result<Texts, Fail> {
-    let (printed, closed) = fed_board(rt, alloc, image, k, events)?;
-    texts_after(alloc, printed, image, closed)
-}
-
-/// The same, of the image of the worked row.
-fn texts_of_fed<R: Wait>(rt: &R, alloc: Global, k: u32, events: &[Event]) -> Result<Texts, Fail> {
-    let image = image_of(alloc, CONFIGURATION, TASKS)?;
-    let texts = texts_of_fed_board(rt, alloc, &image, k, events);
-    drop(image);
-    texts
-}
-
-/// The texts of a board of an image that threads run.
-fn texts_of_run_board<R: Threads + Wait + Sync>(
-    rt: &R,
-    alloc: Global,
-    image: &Image,
-    events: u32,
-) -> Result<Texts, Fail> {
-    let (printed, closed) = run_board(rt, alloc, image, events)?;
-    texts_after(alloc, printed, image, closed)
-}
-
-/// The same, of the image of the worked row.
-fn texts_of_run<R: Threads + Wait + Sync>(
-    rt: &R,
-    alloc: Global,
-    events: u32,
-) -> Result<Texts, Fail> {
-    let image = image_of(alloc, CONFIGURATION, TASKS)?;
-    let texts = texts_of_run_board(rt, alloc, &image, events);
-    drop(image);
-    texts
+) -> Result<(), Fail> {
+    let (told, seen) = told;
+    let printed = told.printed.ok_or("a seat that was given nothing")?;
+    assert_eq!(rt;
+        with_states(rt.alloc(), &printed, &seen)?.as_str(),
+        seen.simulated.as_str()
+    );
+    assert_eq!(rt; printed.done, done);
+    assert_eq!(rt; printed.after, None);
+    Ok(())
 }
 
 #[test]
 fn setup_alone(rt: HostRuntime) -> Result<(), Fail> {
-    let texts = texts_of_fed(&rt, rt.alloc(), 1, &[])?;
     followed_text_is_front();
-    assert_eq!(rt; texts.followed.as_str(), texts.simulated.as_str());
-    assert_eq!(rt; texts.done, 0);
-    assert_eq!(rt; texts.after, None);
-    Ok(())
+    let told = played(&rt, rt.alloc(), TWO_TASKS, 1, Play::Follow(&[]))?;
+    prints_as_simulated(&rt, told, 0)
 }
 
 #[test]
 fn a_board_that_was_fed(rt: HostRuntime) -> Result<(), Fail> {
     // A row whose words are all written, and one with empty words behind.
     for k in [6, 8] {
-        let texts = texts_of_fed(&rt, rt.alloc(), k, &EVENTS)?;
-        assert_eq!(rt; texts.followed.as_str(), texts.simulated.as_str());
-        assert_eq!(rt; texts.done, 6);
-        assert_eq!(rt; texts.after, None);
+        let told = played(&rt, rt.alloc(), TWO_TASKS, k, Play::Follow(&EVENTS))?;
+        prints_as_simulated(&rt, told, 6)?;
     }
     Ok(())
 }
 
 #[test]
 fn a_board_that_threads_write(rt: HostRuntime) -> Result<(), Fail> {
-    let texts = texts_of_run(&rt, rt.alloc(), 6)?;
-    assert_eq!(rt; texts.followed.as_str(), texts.simulated.as_str());
-    assert_eq!(rt; texts.done, 6);
-    assert_eq!(rt; texts.after, None);
-    Ok(())
+    let told = played(&rt, rt.alloc(), TWO_TASKS, 8, Play::Watch(6))?;
+    prints_as_simulated(&rt, told, 6)
 }

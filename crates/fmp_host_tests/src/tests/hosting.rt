@@ -1,12 +1,11 @@
 //! A board that threads run.
-ghost use Rattle.std.specs.Prelude.{◌≡◌, All, IfOk, IfSome};
+ghost use Rattle.std.specs.Prelude.{◌≡◌, All, IfOk};
 ghost use Rattle.fmp_board.specs.Boards.{IsAt, blank as blank_of};
 
 use crate::SecondFirst;
-use crate::tests::showing::{BOUND, Seen, board_of, image_of};
-use fmp_engine::sim;
+use crate::tests::showing::{BOUND, Seen, board_of, image_of, one};
 use fmp_hostrun::{Blank, Board, BoardFault, Closed, Seat, Site, run_all};
-use fmp_image::{Image, store};
+use fmp_image::Image;
 use std::alloc::Global;
 use std::marker::Brand;
 use std::process::Abort;
@@ -14,11 +13,13 @@ use std::sync::Wait;
 use std::test::Fail;
 use std::thread::Threads;
 
-pub const CONFIGURATION: &str = "NUM_PRC(2);
+/// The texts of two tasks, one of each processor, of which the first uses a shared word.
+pub const TWO_TASKS: (&str, &str) = (
+    "NUM_PRC(2);
 CLASS(TCL_1) { CRE_TSK(A,{TA_ACT,0,a,10,256,NULL}); CRE_SHR(W,{0}); }
-CLASS(TCL_2) { CRE_TSK(B,{TA_ACT,0,b,10,256,NULL}); }";
-
-pub const TASKS: &str = "task a { var v; st_shr(W,5); ld_shr(W,&v); put(v); } task b { put(9); }";
+CLASS(TCL_2) { CRE_TSK(B,{TA_ACT,0,b,10,256,NULL}); }",
+    "task a { var v; st_shr(W,5); ld_shr(W,&v); put(v); } task b { put(9); }",
+);
 
 /// The texts of a task that another one, of another processor, suspends and resumes.
 pub const SUSPENDED: (&str, &str) = (
@@ -37,15 +38,6 @@ struct Schedule {
     turns: u32,
     /// For how many turns of processor 2 the first one of processor 1 is held.
     held: u32,
-}
-
-/// A seat of those of a board.
-fn one<S: Site>(seats: &mut Vec<Seat>) -> Option<Seat>
-    requires { All (IsAt S.row_id) seats.old.items }
-    ensures seat { IfSome result (IsAt S.row_id) }
-    ensures others { All (IsAt S.row_id) seats.new.items }
-{
-    seats.pop()
 }
 
 /// Runs a board by threads at this gate, and again where memory was refused: the seats, and what was answered.
@@ -86,20 +78,6 @@ fn run<'a, S: Site + Send + Sync, R: Threads + Wait + Sync>(
     Ok((journaled, board.close(&mut seat)))
 }
 
-/// Runs a board of an image of two processors: how many events were journaled, and the board then.
-fn run_both<'a, R: Threads + Wait + Sync>(
-    rt: &R,
-    alloc: Global,
-    image: &'a Image,
-    schedule: Schedule,
-) -> Result<(Result<u32, BoardFault>, Closed<'a>), Fail>
-    ensures { IfOk result (λ r. r.1.kernel.system ≡ image.now.system) }
-{
-    let gate = SecondFirst::new(schedule.held);
-    let (blank, seats) = board_of(alloc, image, BOUND, schedule.capacity, 3)?;
-    run::<Brand, R>(rt, alloc, blank, seats, &gate, schedule.turns)
-}
-
 /// How many events were journaled, or the name of a refusal.
 fn journaled_text(alloc: Global, journaled: Result<u32, BoardFault>) -> Result<String, Fail> {
     match journaled {
@@ -108,28 +86,33 @@ fn journaled_text(alloc: Global, journaled: Result<u32, BoardFault>) -> Result<S
     }
 }
 
-/// What is seen of a board of an image of two processors that threads ran.
-fn seen_of_both<R: Threads + Wait + Sync>(
+/// Runs a board of an image of two processors: how many events were journaled, and what is seen of the board then.
+fn run_both<R: Threads + Wait + Sync>(
     rt: &R,
     alloc: Global,
     image: &Image,
     schedule: Schedule,
-) -> Result<Seen, Fail> {
-    let (journaled, closed) = run_both(rt, alloc, image, schedule)?;
-    Seen::of(alloc, journaled_text(alloc, journaled), image, closed)
+) -> Result<(String, Seen), Fail> {
+    let gate = SecondFirst::new(schedule.held);
+    let (blank, seats) = board_of(alloc, image, BOUND, schedule.capacity, 3)?;
+    let (journaled, closed) = run::<Brand, R>(rt, alloc, blank, seats, &gate, schedule.turns)?;
+    let seen = Seen::of(alloc, image, &closed);
+    drop(closed);
+    let seen = seen?;
+    Ok((journaled_text(alloc, journaled)?, seen))
 }
 
-/// What a simulation of an image over a steps text prints.
-pub fn simulated(alloc: Global, image: &Image, steps: &str) -> Result<String, Fail> {
-    let mut out = Vec::new(alloc);
-    sim(
-        alloc,
-        &store(alloc, image)?,
-        steps.as_bytes(),
-        BOUND,
-        &mut out,
-    )?;
-    Ok(String::from_str(alloc, str::from_utf8(&out)?)?)
+/// The same, of the image of two texts.
+fn run_texts<R: Threads + Wait + Sync>(
+    rt: &R,
+    alloc: Global,
+    texts: (&str, &str),
+    schedule: Schedule,
+) -> Result<(String, Seen), Fail> {
+    let image = image_of(alloc, texts)?;
+    let answer = run_both(rt, alloc, &image, schedule);
+    drop(image);
+    answer
 }
 
 /// The lines of a task in a trace, behind its processor and its name.
@@ -144,32 +127,6 @@ fn lines_of(alloc: Global, trace: &str, task: &str) -> Result<String, Fail> {
     Ok(lines)
 }
 
-/// What is seen of a board of an image of two processors that threads ran, and what a simulation of its journal prints.
-fn seen_and_simulated<R: Threads + Wait + Sync>(
-    rt: &R,
-    alloc: Global,
-    image: &Image,
-    schedule: Schedule,
-) -> Result<(Seen, String), Fail> {
-    let seen = seen_of_both(rt, alloc, image, schedule)?;
-    let printed = simulated(alloc, image, seen.journal.as_str())?;
-    Ok((seen, printed))
-}
-
-/// The same, of the image of two texts.
-fn run_texts<R: Threads + Wait + Sync>(
-    rt: &R,
-    alloc: Global,
-    texts: (&str, &str),
-    schedule: Schedule,
-) -> Result<(Seen, String), Fail> {
-    let (configuration, tasks) = texts;
-    let image = image_of(alloc, configuration, tasks)?;
-    let seen = seen_and_simulated(rt, alloc, &image, schedule);
-    drop(image);
-    seen
-}
-
 #[test]
 fn processors_that_wait_for_one_another(rt: HostRuntime) -> Result<(), Fail> {
     let alloc = rt.alloc();
@@ -178,16 +135,16 @@ fn processors_that_wait_for_one_another(rt: HostRuntime) -> Result<(), Fail> {
         turns: 4,
         held: 1,
     };
-    let (seen, printed) = run_texts(&rt, alloc, (CONFIGURATION, TASKS), schedule)?;
-    assert_eq!(rt; seen.answers.as_str(), "6");
+    let (journaled, seen) = run_texts(&rt, alloc, TWO_TASKS, schedule)?;
+    assert_eq!(rt; journaled.as_str(), "6");
     assert_eq!(rt; seen.journal.lines().count(), 6);
     assert!(rt; seen.journal.as_str().starts_with("run 2\n"));
     assert_eq!(rt; seen.states.as_str(), "A DORMANT p1 10\nB DORMANT p2 10\n");
     assert_eq!(rt;
-        lines_of(alloc, printed.as_str(), " p1 A ")?.as_str(),
+        lines_of(alloc, seen.simulated.as_str(), " p1 A ")?.as_str(),
         "starts\nst_shr(1,5) E_OK\nld_shr(1) E_OK 5\nput(5) E_OK\nend\n"
     );
-    assert!(rt; printed.as_str().ends_with(seen.states.as_str()));
+    assert!(rt; seen.simulated.as_str().ends_with(seen.states.as_str()));
     Ok(())
 }
 
@@ -198,45 +155,41 @@ fn processors_of_which_one_may_be_refused(rt: HostRuntime) -> Result<(), Fail> {
         turns: 4,
         held: 1,
     };
-    let (seen, printed) = run_texts(&rt, rt.alloc(), (CONFIGURATION, TASKS), schedule)?;
+    let (journaled, seen) = run_texts(&rt, rt.alloc(), TWO_TASKS, schedule)?;
     // A thread is refused only from outside.
-    assert!(rt; seen.answers.as_str() == "6" || seen.answers.as_str() == "H5");
-    assert!(rt; printed.as_str().ends_with(seen.states.as_str()));
+    assert!(rt; journaled.as_str() == "6" || journaled.as_str() == "H5");
+    assert!(rt; seen.simulated.as_str().ends_with(seen.states.as_str()));
     Ok(())
 }
 
-/// What is seen of a board whose second processor suspends and resumes the first one's task before that one's first
-/// outcome is submitted, and the lines of that task.
-fn seen_of_suspended<R: Threads + Wait + Sync>(
-    rt: &R,
-    alloc: Global,
-    capacity: u32,
-    turns: u32,
-) -> Result<(Seen, String), Fail> {
-    let schedule = Schedule {
+/// How a board is run whose second processor suspends and resumes the first one's task before that one's first outcome
+/// is submitted.
+const fn suspending(capacity: u32, turns: u32) -> Schedule {
+    Schedule {
         capacity,
         turns,
         held: 2,
-    };
-    let (seen, printed) = run_texts(rt, alloc, SUSPENDED, schedule)?;
-    let lines = lines_of(alloc, printed.as_str(), " p1 T ")?;
-    Ok((seen, lines))
+    }
 }
 
 #[test]
 fn a_stale_outcome_ends_its_turn(rt: HostRuntime) -> Result<(), Fail> {
-    let (seen, lines) = seen_of_suspended(&rt, rt.alloc(), 6, 3)?;
-    assert_eq!(rt; seen.answers.as_str(), "5");
+    let alloc = rt.alloc();
+    let (journaled, seen) = run_texts(&rt, alloc, SUSPENDED, suspending(6, 3))?;
+    assert_eq!(rt; journaled.as_str(), "5");
     assert!(rt; seen.journal.as_str().starts_with("run 2\nrun 2\n"));
-    assert_eq!(rt; lines.as_str(), "starts\nput(1) E_OK\nend\n");
+    assert_eq!(rt;
+        lines_of(alloc, seen.simulated.as_str(), " p1 T ")?.as_str(),
+        "starts\nput(1) E_OK\nend\n"
+    );
     assert_eq!(rt; seen.states.as_str(), "T DORMANT p1 10\nS DORMANT p2 10\n");
     Ok(())
 }
 
 #[test]
 fn threads_that_fill_a_board(rt: HostRuntime) -> Result<(), Fail> {
-    let (seen, _lines) = seen_of_suspended(&rt, rt.alloc(), 4, 3)?;
-    assert_eq!(rt; seen.answers.as_str(), "H2");
+    let (journaled, seen) = run_texts(&rt, rt.alloc(), SUSPENDED, suspending(4, 3))?;
+    assert_eq!(rt; journaled.as_str(), "H2");
     assert_eq!(rt; seen.journal.lines().count(), 4);
     assert!(rt; seen.journal.as_str().starts_with("run 2\nrun 2\n"));
     Ok(())
@@ -244,10 +197,14 @@ fn threads_that_fill_a_board(rt: HostRuntime) -> Result<(), Fail> {
 
 #[test]
 fn two_turns_of_which_one_is_stale(rt: HostRuntime) -> Result<(), Fail> {
-    let (seen, lines) = seen_of_suspended(&rt, rt.alloc(), 6, 2)?;
-    assert_eq!(rt; seen.answers.as_str(), "3");
+    let alloc = rt.alloc();
+    let (journaled, seen) = run_texts(&rt, alloc, SUSPENDED, suspending(6, 2))?;
+    assert_eq!(rt; journaled.as_str(), "3");
     assert_eq!(rt; seen.journal.as_str(), "run 2\nrun 2\nrun 1\n");
-    assert_eq!(rt; lines.as_str(), "starts\nput(1) E_OK\n");
+    assert_eq!(rt;
+        lines_of(alloc, seen.simulated.as_str(), " p1 T ")?.as_str(),
+        "starts\nput(1) E_OK\n"
+    );
     assert_eq!(rt; seen.states.as_str(), "T RUNNING p1 10\nS RUNNING p2 10\n");
     Ok(())
 }

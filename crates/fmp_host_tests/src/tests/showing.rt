@@ -1,11 +1,12 @@
-//! Images of texts, and what is seen of boards of them.
-ghost use Rattle.std.specs.Prelude.{◌≡◌, ◌+◌, ◌<◌, All, IfOk, length};
+//! Images of texts, their boards, and what is seen of boards that are closed.
+ghost use Rattle.std.specs.Prelude.{◌≡◌, ◌+◌, ◌<◌, All, IfOk, IfSome, length};
 ghost use Rattle.fmp_board.specs.Boards.{IsAt, blank as blank_of};
 
 use fmp_base::Event;
 use fmp_build::build;
+use fmp_engine::sim;
 use fmp_hostrun::{Blank, BoardFault, Closed, Seat, Site};
-use fmp_image::Image;
+use fmp_image::{Image, store};
 use fmp_trace::{print_states, print_steps};
 use std::alloc::Global;
 use std::test::Fail;
@@ -16,17 +17,17 @@ pub const BOUND: u64 = 100_000;
 /// What is seen of a board that is closed.
 #[derive(Drop)]
 pub struct Seen {
-    /// What the calls answered.
-    pub answers: String,
     /// The journal, as a steps text.
     pub journal: String,
     /// The states of the tasks.
     pub states: String,
+    /// What a simulation of the image over the journal prints.
+    pub simulated: String,
 }
 
-/// The image that two texts build.
-pub fn image_of(alloc: Global, cfg: &str, src: &str) -> Result<Image, Fail> {
-    let image = build(alloc, cfg.as_bytes(), src.as_bytes())?;
+/// The image that two texts build, a configuration and its tasks.
+pub fn image_of(alloc: Global, texts: (&str, &str)) -> Result<Image, Fail> {
+    let image = build(alloc, texts.0.as_bytes(), texts.1.as_bytes())?;
     Ok(image)
 }
 
@@ -41,7 +42,7 @@ pub fn board_of<'a>(
 ) -> Result<(Blank<'a>, Vec<Seat>), BoardFault>
     ensures blank { IfOk result (λ made. made.0 ≡ blank_of image.now n made.0.row) }
     ensures seats { IfOk result (λ made. All (IsAt made.0.row) made.1.items) }
-    ensures count { IfOk result (λ made. length made.1.items ≡ m) }
+    ensures some { IfOk result (λ made. 0 < length made.1.items) }
 {
     match Blank::new(alloc, image, n, k, m) {
         Err(BoardFault::Memory) => Blank::new(alloc, image, n, k, m),
@@ -55,12 +56,20 @@ pub fn last_of<S: Site>(seats: &mut Vec<Seat>) -> Seat
     requires some { 0 < length seats.old.items }
     ensures seat { IsAt S.row_id result }
     ensures others { All (IsAt S.row_id) seats.new.items }
-    ensures count { length seats.new.items + 1 ≡ length seats.old.items }
 {
     let Some(seat) = seats.pop() else {
         unreachable!()
     };
     seat
+}
+
+/// A seat of those of a board.
+pub fn one<S: Site>(seats: &mut Vec<Seat>) -> Option<Seat>
+    requires { All (IsAt S.row_id) seats.old.items }
+    ensures seat { IfSome result (IsAt S.row_id) }
+    ensures others { All (IsAt S.row_id) seats.new.items }
+{
+    seats.pop()
 }
 
 /// The bytes of a text.
@@ -98,36 +107,32 @@ fn states_of(alloc: Global, image: &Image, closed: &Closed<'_>) -> Result<String
     text_of(alloc, &text)
 }
 
+/// What a simulation of an image over a steps text prints.
+fn simulated(alloc: Global, image: &Image, steps: &str) -> Result<String, Fail> {
+    let mut out = Vec::new(alloc);
+    sim(
+        alloc,
+        &store(alloc, image)?,
+        steps.as_bytes(),
+        BOUND,
+        &mut out,
+    )?;
+    text_of(alloc, &out)
+}
+
 impl Seen {
     ghost use Rattle.std.specs.Prelude.{◌≡◌};
 
-    /// What is seen of a closed board of an image whose calls answered so.
-    pub fn over(
-        alloc: Global,
-        answers: Result<String, Fail>,
-        image: &Image,
-        closed: &Closed<'_>,
-    ) -> Result<Seen, Fail>
+    /// What is seen of a closed board of an image.
+    pub fn of(alloc: Global, image: &Image, closed: &Closed<'_>) -> Result<Seen, Fail>
         requires { closed.now.kernel.system ≡ image.now.system }
     {
+        let journal = journal_of(alloc, closed)?;
+        let simulated = simulated(alloc, image, journal.as_str())?;
         Ok(Seen {
-            answers: answers?,
-            journal: journal_of(alloc, closed)?,
+            journal,
             states: states_of(alloc, image, closed)?,
+            simulated,
         })
-    }
-
-    /// The same, of a board that is given up.
-    pub fn of(
-        alloc: Global,
-        answers: Result<String, Fail>,
-        image: &Image,
-        closed: Closed<'_>,
-    ) -> Result<Seen, Fail>
-        requires { closed.kernel.system ≡ image.now.system }
-    {
-        let seen = Seen::over(alloc, answers, image, &closed);
-        drop(closed);
-        seen
     }
 }

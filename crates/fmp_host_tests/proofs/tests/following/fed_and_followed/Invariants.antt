@@ -1,5 +1,0 @@
-use Rattle.fmp_board.specs.Boards.{IsAt}
-use Rattle.fmp_host_tests.proofs.tests.following.fed_and_followed.Given as goal
-
-abbrev pub invariant-loop-event : goal.invariant-loop-event
-invariant-loop-event g l = IsAt g.S.Site.row_id l.seat
