@@ -3,7 +3,7 @@
 use crate::calls::Call;
 
 /// Why a body stops in the middle of a statement.
-#[derive(Clone, Copy, Debug, PartialEq, Eq)]
+#[derive(Clone, Copy, Debug)]
 pub enum Fault {
     /// A result outside 32 bits.
     Overflow,
@@ -26,7 +26,7 @@ pub enum Stretch<C> {
 }
 
 /// What is kept of a body between its stretches.
-#[derive(Clone, Copy, Debug, PartialEq, Eq)]
+#[derive(Clone, Copy, Debug)]
 pub enum Held<C> {
     /// A context from which the body goes on.
     Goes(C),
@@ -35,7 +35,7 @@ pub enum Held<C> {
 }
 
 /// What is kept of a handler that runs.
-#[derive(Clone, Copy, Debug, PartialEq, Eq)]
+#[derive(Clone, Copy, Debug)]
 pub struct HandlerContext<C> {
     /// The number of its body.
     pub body: u8,
@@ -44,7 +44,7 @@ pub struct HandlerContext<C> {
 }
 
 /// How a handler begins.
-#[derive(Clone, Copy, Debug, PartialEq, Eq)]
+#[derive(Clone, Copy, Debug)]
 pub struct HandlerStart {
     /// The number of its body.
     pub body: u8,

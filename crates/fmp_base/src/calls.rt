@@ -269,7 +269,7 @@ pub struct Reply {
 }
 
 /// What a service call comes to at once.
-#[derive(Clone, Copy, Debug, PartialEq, Eq)]
+#[derive(Clone, Copy, Debug)]
 pub enum Answer {
     /// The caller is told this and goes on.
     Replies(Reply),

@@ -94,7 +94,7 @@ pub enum StateWord {
 }
 
 /// What is shown of a task at the end.
-#[derive(Clone, Copy, Debug, PartialEq, Eq)]
+#[derive(Clone, Copy, Debug)]
 pub struct TaskState {
     /// How far it is from running.
     pub word: StateWord,

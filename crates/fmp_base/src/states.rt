@@ -1,6 +1,6 @@
 //! The records of the kernel's state: tasks, processors, waits and locks.
 /// How far a task is from running (uITRON 4.0, section 3.2.1), its suspension aside.
-#[derive(Clone, Copy, Debug, PartialEq, Eq)]
+#[derive(Clone, Copy, Debug)]
 pub enum Phase {
     /// Not started.
     Dormant,
@@ -46,7 +46,7 @@ pub enum FlagMode {
 }
 
 /// How long a caller may wait.
-#[derive(Clone, Copy, Debug, PartialEq, Eq)]
+#[derive(Clone, Copy, Debug)]
 pub enum TimeLimit {
     /// TMO_FEVR: without end.
     Forever,
@@ -57,7 +57,7 @@ pub enum TimeLimit {
 }
 
 /// A queue of waiting tasks, by the place of its object.
-#[derive(Clone, Copy, Debug, PartialEq, Eq)]
+#[derive(Clone, Copy, Debug)]
 pub enum WaitQueue {
     /// For a resource of this semaphore.
     Semaphore(u8),
@@ -72,7 +72,7 @@ pub enum WaitQueue {
 }
 
 /// The task control block, without what never changes and without the context of the body.
-#[derive(Clone, Copy, Debug, PartialEq, Eq)]
+#[derive(Clone, Copy, Debug)]
 pub struct TaskBlock {
     /// How far it is from running, its suspension aside.
     pub phase: Phase,
@@ -122,7 +122,7 @@ pub enum Caller {
 }
 
 /// A processor.
-#[derive(Clone, Copy, Debug, PartialEq, Eq)]
+#[derive(Clone, Copy, Debug)]
 pub struct Processor {
     /// The place of the task that it runs, if any.
     pub run: Option<u8>,

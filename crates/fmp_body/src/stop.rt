@@ -3,7 +3,7 @@
 use fmp_base::{Call, Fault};
 
 /// How a stretch stops that leaves its context in place of the one from which it began.
-#[derive(Clone, Copy, Debug)]
+#[derive(Clone, Copy)]
 pub enum Stop {
     /// It makes this service call.
     Call(Call),

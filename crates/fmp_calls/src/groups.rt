@@ -5,7 +5,7 @@ ghost use Rattle.fmp_calls.specs.Groups.{group_of};
 use fmp_base::Service;
 
 /// The group in which a service call is carried out.
-#[derive(Clone, Copy, Debug, PartialEq, Eq)]
+#[derive(Clone, Copy)]
 pub enum ServiceGroup {
     /// This kernel's own calls.
     Own,

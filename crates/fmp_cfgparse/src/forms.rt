@@ -5,7 +5,7 @@ ghost use Rattle.fmp_cfgparse.specs.Grammar.{api_parts};
 use fmp_lex::{Api, Mark};
 
 /// A part of the form of a static API.
-#[derive(Clone, Copy, Debug, PartialEq, Eq)]
+#[derive(Clone, Copy)]
 pub enum Part {
     Mark(Mark),
     Name,

@@ -14,7 +14,7 @@ use fmp_lex::{Api, FaultKind};
 use indexmap::IndexSet;
 
 /// What has been made so far: the tables, and the names of all objects.
-#[derive(Debug, Drop)]
+#[derive(Drop)]
 pub struct Making {
     pub system: System,
     /// In order of text, over all kinds.

@@ -20,7 +20,7 @@ use fmp_lex::{Api, FaultKind};
 use std::alloc::AllocFailed;
 
 /// What ends the making of a system.
-#[derive(Debug, Drop)]
+#[derive(Drop)]
 pub enum Stop {
     /// An allocation was refused.
     Memory,

@@ -4,7 +4,7 @@ ghost use Rattle.fmp_base.specs.Names.{name_text};
 ghost use Rattle.fmp_cfgparse.specs.Apis.{class_of};
 
 /// The processors of a class: the place of the initial one, and whether it is the only one allowed.
-#[derive(Clone, Copy, Debug, PartialEq, Eq)]
+#[derive(Clone, Copy)]
 pub struct ClassPlace {
     pub processor: u8,
     pub only: bool,

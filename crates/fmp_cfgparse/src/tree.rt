@@ -3,7 +3,7 @@ use fmp_base::Name;
 use fmp_lex::{Api, Constant};
 
 /// A part of a value. Whether it has an unknown constant is judged when the value is worked out.
-#[derive(Clone, Copy, Debug, PartialEq, Eq)]
+#[derive(Clone, Copy)]
 pub enum Item {
     /// A number, 0 to 2147483647.
     Number(i32),
@@ -16,7 +16,7 @@ pub enum Item {
 }
 
 /// What a static API is given at one place.
-#[derive(Debug, Drop)]
+#[derive(Drop)]
 pub enum Field {
     /// Items that are joined by or; there is at least one.
     Value(Vec<Item>),
@@ -25,7 +25,7 @@ pub enum Field {
 }
 
 /// A static API with its first field and those of its packet, in order of text, without NULL.
-#[derive(Debug, Drop)]
+#[derive(Drop)]
 pub struct StaticApi {
     pub kind: Api,
     /// The place of the API's word among the tokens.
@@ -34,7 +34,7 @@ pub struct StaticApi {
 }
 
 /// A class with its static APIs.
-#[derive(Debug, Drop)]
+#[derive(Drop)]
 pub struct Class {
     pub name: Name,
     /// The place of the name among the tokens.
@@ -43,7 +43,7 @@ pub struct Class {
 }
 
 /// The syntax tree of a configuration.
-#[derive(Debug, Drop)]
+#[derive(Drop)]
 pub struct Configuration {
     /// The number of NUM_PRC.
     pub processors: i32,

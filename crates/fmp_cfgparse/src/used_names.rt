@@ -15,7 +15,7 @@ use indexmap::IndexSet;
 use std::hash::{Hash, Hasher};
 
 /// The name of an object. Two are equal where their bytes are.
-#[derive(Clone, Copy, Debug)]
+#[derive(Clone, Copy)]
 pub struct ObjectName {
     pub name: Name,
 }

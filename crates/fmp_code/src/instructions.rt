@@ -2,7 +2,7 @@
 use fmp_base::{BinaryOperator, Service, UnaryOperator};
 
 /// An instruction of the stack machine. Places in a body count from 0, and so do its locals.
-#[derive(Clone, Copy, Debug, PartialEq, Eq)]
+#[derive(Clone, Copy)]
 pub enum Instruction {
     /// Pushes a number.
     Push(i32),
@@ -33,7 +33,7 @@ pub enum Instruction {
 }
 
 /// The code of one body.
-#[derive(Debug, Drop)]
+#[derive(Drop)]
 pub struct BodyCode {
     /// How many locals the body has.
     pub locals: u8,
@@ -43,13 +43,13 @@ pub struct BodyCode {
 }
 
 /// The code of all bodies, in order of number.
-#[derive(Debug, Drop)]
+#[derive(Drop)]
 pub struct Code {
     pub bodies: Vec<BodyCode>,
 }
 
 /// Where a body stands between two stretches: the place of the next instruction, and its locals.
-#[derive(Clone, Copy, Debug, PartialEq, Eq)]
+#[derive(Clone, Copy)]
 pub struct MachineContext {
     pub pc: u16,
     pub locals: [i32; 64],

@@ -16,7 +16,7 @@ use fmp_tasklang::{BodyKind, Program};
 use std::alloc::Global;
 
 /// The entry of a static API: CRE_TSK, CRE_CYC or DEF_INH.
-#[derive(Clone, Copy, Debug, PartialEq, Eq)]
+#[derive(Clone, Copy)]
 pub struct EntryUse {
     /// The place of the word of the API in the list of tokens of the configuration.
     pub at: usize,

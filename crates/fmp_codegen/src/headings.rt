@@ -14,7 +14,7 @@ use fmp_base::Name;
 use fmp_tasklang::{Body, BodyKind};
 
 /// What is known of a body without its statements.
-#[derive(Clone, Copy, Debug, PartialEq, Eq)]
+#[derive(Clone, Copy)]
 pub struct Heading {
     pub kind: BodyKind,
     pub name: Name,

@@ -26,7 +26,7 @@ use fmp_tasklang::{Body, body, body_kind_at};
 use std::alloc::{AllocError, Global};
 
 /// The code of the bodies of a text, and what is known of each body beside it.
-#[derive(Debug, Drop)]
+#[derive(Drop)]
 pub struct CompiledText {
     pub headings: Vec<Heading>,
     pub code: Code,

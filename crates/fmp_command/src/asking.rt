@@ -20,7 +20,7 @@ const IMAGE_OVER_TEXT: &str = "the file OUT is one of the two that are read";
 const JOURNAL_OVER_IMAGE: &str = "the file JOURNAL is the image that is read";
 
 /// What the program is asked to do. Each word is the name of a file.
-#[derive(Debug, Drop)]
+#[derive(Drop)]
 pub enum Cmd {
     /// Check that a configuration and the bodies of its tasks have no fault.
     Check {

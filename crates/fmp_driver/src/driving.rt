@@ -11,7 +11,7 @@ use fmp_kernel::{Body, Kernel};
 use std::alloc::{AllocError, Global};
 
 /// Why a drive has stopped.
-#[derive(Clone, Copy, Debug, PartialEq, Eq)]
+#[derive(Clone, Copy)]
 pub enum Stop {
     /// No processor can do anything, and no wait ends by the clock.
     Quiet,

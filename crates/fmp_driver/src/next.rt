@@ -10,7 +10,7 @@ use fmp_kernel::{Body, Kernel};
 const PROCESSORS: usize = 8;
 
 /// What the next run of a processor comes to, as far as the stretch of its actor tells it.
-#[derive(Clone, Copy, Debug)]
+#[derive(Clone, Copy)]
 pub enum NextRun {
     /// The processor runs neither a task nor a handler, so its run does nothing.
     NoActor,

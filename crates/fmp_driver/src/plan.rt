@@ -10,7 +10,7 @@ use rand_pcg::Pcg32;
 use std::alloc::{AllocError, Global};
 
 /// What is tried first.
-#[derive(Clone, Copy, Debug, PartialEq, Eq)]
+#[derive(Clone, Copy)]
 pub enum Wish {
     /// The processors, from this number on.
     Run(u8),

@@ -11,7 +11,7 @@ use fmp_kernel::{Body, Kernel};
 const INTERRUPTS_END: u8 = 33;
 
 /// Whose events are tried.
-#[derive(Clone, Copy, Debug, PartialEq, Eq)]
+#[derive(Clone, Copy)]
 pub enum Source {
     /// A processor runs its actor.
     Processor,

@@ -18,7 +18,7 @@ pub enum SimFault {
 }
 
 /// Why a text that was to be given to an outlet was not given, or not to its end.
-#[derive(Clone, Copy, Debug, PartialEq, Eq)]
+#[derive(Clone, Copy)]
 pub enum Cut {
     /// Memory ran out before the first piece.
     Memory,
@@ -27,7 +27,7 @@ pub enum Cut {
 }
 
 /// Why an outlet was not given all that a simulation prints.
-#[derive(Clone, Copy, Debug, PartialEq, Eq)]
+#[derive(Clone, Copy)]
 pub enum SimCut {
     /// The simulation was refused, and the outlet was given nothing.
     Refused(SimFault),

@@ -24,7 +24,7 @@ use std::thread::Threads;
 use thiserror::Error;
 
 /// What the threads of a host are to do.
-#[derive(Clone, Copy, Debug, PartialEq, Eq)]
+#[derive(Clone, Copy)]
 pub struct Workload {
     /// How many turns each processor has, at most 2^20.
     pub turns: u32,

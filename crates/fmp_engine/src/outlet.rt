@@ -4,7 +4,7 @@ ghost use Rattle.fmp_engine.specs.Outlets.{GivenFront};
 ghost use Rattle.fmp_engine.specs.Outlets.{appended_nothing, appended_twice};
 
 /// An outlet that takes no more.
-#[derive(Clone, Copy, Debug, PartialEq, Eq)]
+#[derive(Clone, Copy)]
 pub struct Stopped;
 
 /// Where a text goes, piece by piece.

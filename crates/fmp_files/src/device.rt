@@ -8,7 +8,7 @@ ghost use Rattle.fmp_files.specs.Files.{took_none};
 use std::io::{Read, Write};
 
 /// A call that failed. An interrupted call is one.
-#[derive(Clone, Copy, Debug, PartialEq, Eq)]
+#[derive(Clone, Copy)]
 pub struct Failed;
 
 /// What bytes are read from.

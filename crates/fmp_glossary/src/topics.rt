@@ -6,7 +6,7 @@ ghost use Rattle.fmp_glossary.specs.Topics.{EveryTopicIsFound, topic_named, topi
 use fmp_base::Er;
 
 /// A code that the programs print.
-#[derive(Clone, Copy, Debug, PartialEq, Eq)]
+#[derive(Clone, Copy, PartialEq, Eq)]
 pub enum Topic {
     /// A main error code, as a call answers it and as a static API refuses with it.
     Reply(Er),

@@ -25,7 +25,7 @@ pub trait Gate: Sync {
 }
 
 /// What a thread of a board does: a processor's runs, each a turn, or it feeds other events, so many times.
-#[derive(Clone, Copy, Debug, PartialEq, Eq)]
+#[derive(Clone, Copy)]
 pub(crate) struct Part {
     pub event: Event,
     pub times: u32,

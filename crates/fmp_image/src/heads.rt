@@ -1,14 +1,14 @@
 //! What the tables of an image say of a body beside its code.
 
 /// What a body is the body of.
-#[derive(Clone, Copy, Debug, PartialEq, Eq)]
+#[derive(Clone, Copy)]
 pub enum BodyKind {
     Task,
     Handler,
 }
 
 /// What an image says of a body beside its code.
-#[derive(Clone, Copy, Debug, PartialEq, Eq)]
+#[derive(Clone, Copy)]
 pub struct BodyHead {
     pub kind: BodyKind,
     /// The greatest number of operands that stand before an instruction of the body, 0 to 64.

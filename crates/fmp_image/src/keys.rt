@@ -15,7 +15,7 @@ use std::hash::{Hash, Hasher};
 
 /// What may stand only once in an image: the name of an object, or the number of an interrupt with a handler. Two names
 /// are the same where their bytes are.
-#[derive(Clone, Copy, Debug)]
+#[derive(Clone, Copy)]
 pub enum Key {
     Name(Name),
     Interrupt(u8),

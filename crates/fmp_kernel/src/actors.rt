@@ -9,7 +9,7 @@ use fmp_tasks::Tables;
 
 /// The actor of a processor: the number of its body, the context from which it goes on, and the stamp of the
 /// processor, which is another one after any event that may have changed the actor or its context.
-#[derive(Clone, Copy, Debug, PartialEq, Eq)]
+#[derive(Clone, Copy)]
 pub struct Actor<C> {
     pub entry: u8,
     pub context: C,

@@ -20,7 +20,7 @@ use std::alloc::{AllocError, Global};
 pub const TEXT_MAX: usize = 1_048_576;
 
 /// How a piece of a text begins.
-#[derive(Clone, Copy, Debug, PartialEq, Eq)]
+#[derive(Clone, Copy)]
 pub enum Start {
     Space,
     LineComment,

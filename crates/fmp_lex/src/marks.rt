@@ -9,7 +9,7 @@ use crate::token::Symbol;
 use crate::words::Keyword;
 
 /// A token that stands in every use of a form. None of them goes on with a value or an expression.
-#[derive(Clone, Copy, Debug, PartialEq, Eq)]
+#[derive(Clone, Copy)]
 pub enum Mark {
     LeftParen,
     RightParen,

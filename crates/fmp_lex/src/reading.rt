@@ -9,7 +9,7 @@ use crate::words::Keyword;
 use std::alloc::{AllocError, AllocFailed};
 
 /// Why a list of tokens is no list of a grammar.
-#[derive(Clone, Copy, Debug, PartialEq, Eq)]
+#[derive(Clone, Copy)]
 pub enum GrammarFault {
     /// No list of the grammar has this token in this place, or the end.
     Syntax,
@@ -18,14 +18,14 @@ pub enum GrammarFault {
 }
 
 /// The first fault of a list of tokens: its place in the list, and why the list is none of the grammar.
-#[derive(Clone, Copy, Debug, PartialEq, Eq)]
+#[derive(Clone, Copy)]
 pub struct FirstFault {
     pub at: usize,
     pub why: GrammarFault,
 }
 
 /// What ends the reading of a list of tokens.
-#[derive(Debug, Drop)]
+#[derive(Drop)]
 pub enum ReadError {
     /// An allocation was refused.
     Memory,

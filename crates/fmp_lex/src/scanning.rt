@@ -3,7 +3,7 @@ ghost use Rattle.std.specs.Prelude.{◌≡◌, ℕ, ◌+◌, ◌<◌, ◌≤◌,
 ghost use Rattle.fmp_lex.specs.Scanning.{in_class, IsRun, IsFirstClose, NeverCloses, digit_of, value_from, Saturated};
 
 /// A class of bytes.
-#[derive(Clone, Copy, Debug, PartialEq, Eq)]
+#[derive(Clone, Copy)]
 pub enum Class {
     /// The letters, the digits and `_`, of which names and words are made.
     Word,

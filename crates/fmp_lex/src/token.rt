@@ -19,7 +19,7 @@ pub enum LexFault {
 }
 
 /// A symbol, of one byte or of two.
-#[derive(Clone, Copy, Debug, PartialEq, Eq)]
+#[derive(Clone, Copy, PartialEq, Eq)]
 pub enum Symbol {
     AndAnd,
     OrOr,
@@ -49,7 +49,7 @@ pub enum Symbol {
 }
 
 /// What a token is. A word of the language is never a name.
-#[derive(Clone, Copy, Debug, PartialEq, Eq)]
+#[derive(Clone, Copy, PartialEq, Eq)]
 pub enum TokenKind {
     /// A number, 0 to 2147483647.
     Number(i32),
@@ -64,7 +64,7 @@ pub enum TokenKind {
 }
 
 /// A token, the line of its first byte, counted from 1, and its bytes, from `start` up to `end`.
-#[derive(Clone, Copy, Debug, PartialEq, Eq)]
+#[derive(Clone, Copy)]
 pub struct Token {
     pub kind: TokenKind,
     pub line: u32,

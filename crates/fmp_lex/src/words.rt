@@ -8,7 +8,7 @@ use crate::initials::{apis_from, constants_from, keywords_from, services_from};
 use fmp_base::{Er, Service};
 
 /// A constant of the uITRON 4.0 specification that may stand in both texts.
-#[derive(Clone, Copy, Debug, PartialEq, Eq)]
+#[derive(Clone, Copy, PartialEq, Eq)]
 pub enum Constant {
     /// A main error code.
     Code(Er),
@@ -33,7 +33,7 @@ pub enum Constant {
 }
 
 /// A static API of the configuration.
-#[derive(Clone, Copy, Debug, PartialEq, Eq)]
+#[derive(Clone, Copy, PartialEq, Eq)]
 pub enum Api {
     CreTsk,
     CreSem,
@@ -48,7 +48,7 @@ pub enum Api {
 }
 
 /// A word of the grammars that names no constant, no API and no call.
-#[derive(Clone, Copy, Debug, PartialEq, Eq)]
+#[derive(Clone, Copy, PartialEq, Eq)]
 pub enum Keyword {
     NumPrc,
     Class,

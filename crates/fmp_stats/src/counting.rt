@@ -6,7 +6,7 @@ ghost use Rattle.fmp_stats.specs.Counting as spec;
 use fmp_base::{Caller, Er, Line, StateWord, TaskState};
 
 /// What a task did in a run. Each count ends at the greatest number that it can have.
-#[derive(Clone, Copy, Debug, PartialEq, Eq)]
+#[derive(Clone, Copy)]
 pub struct Tally {
     /// How often it started.
     pub starts: u32,

@@ -19,7 +19,7 @@ pub enum StepsFault {
 }
 
 /// What is wrong with a line.
-#[derive(Clone, Copy, Debug, PartialEq, Eq)]
+#[derive(Clone, Copy, Debug)]
 pub enum Flaw {
     /// It is not of the form of an event.
     Form,

@@ -16,7 +16,7 @@ use fmp_lex::{ReadError, Symbol, Tokens, expect_mark};
 use std::alloc::Global;
 
 /// What a call is passed at one place.
-#[derive(Debug, Drop)]
+#[derive(Drop)]
 pub enum Argument {
     Value(Expression),
     /// The variable at the out place.

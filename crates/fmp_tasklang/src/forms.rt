@@ -6,7 +6,7 @@ use fmp_base::Service;
 use fmp_lex::Mark;
 
 /// A part of the form of a call. What goes on with an expression is never the mark behind it.
-#[derive(Clone, Copy, Debug, PartialEq, Eq)]
+#[derive(Clone, Copy)]
 pub enum Part {
     Mark(Mark),
     /// An argument, and the mark behind it.

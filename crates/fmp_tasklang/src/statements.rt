@@ -19,7 +19,7 @@ use fmp_lex::{FirstFault, GrammarFault, Keyword, ReadError, Symbol, TokenKind, T
 use std::alloc::Global;
 
 /// What stands behind `name =`.
-#[derive(Debug, Drop)]
+#[derive(Drop)]
 pub enum Given {
     Value(Expression),
     Call(ServiceCall),

@@ -2,7 +2,7 @@
 use fmp_base::{BinaryOperator, Name, Service, UnaryOperator};
 
 /// A name in a text.
-#[derive(Clone, Copy, Debug, PartialEq, Eq)]
+#[derive(Clone, Copy)]
 pub struct Word {
     pub name: Name,
     /// The place of its token in the list of tokens.
@@ -10,7 +10,7 @@ pub struct Word {
 }
 
 /// An operator between two operands.
-#[derive(Clone, Copy, Debug, PartialEq, Eq)]
+#[derive(Clone, Copy)]
 pub enum Operator {
     Binary(BinaryOperator),
     /// `&&`
@@ -21,7 +21,7 @@ pub enum Operator {
 
 /// An expression. However many operators it has, the tree is no deeper than its parentheses and unary operators
 /// nest, so no recursion over it is deep.
-#[derive(Debug, Drop)]
+#[derive(Drop)]
 #[cycle(expression)]
 pub enum Expression {
     /// A number, or the value of a constant.
@@ -41,7 +41,7 @@ pub enum Expression {
 }
 
 /// A further operand of a chain, with the operator before it.
-#[derive(Debug, Drop)]
+#[derive(Drop)]
 #[cycle(expression)]
 pub struct Link {
     pub operator: Operator,
@@ -49,7 +49,7 @@ pub struct Link {
 }
 
 /// A service call.
-#[derive(Debug, Drop)]
+#[derive(Drop)]
 pub struct ServiceCall {
     pub service: Service,
     /// The arguments, without the out place.
@@ -61,7 +61,7 @@ pub struct ServiceCall {
 }
 
 /// A statement.
-#[derive(Debug, Drop)]
+#[derive(Drop)]
 pub enum Statement {
     /// `target = value;`
     Assign {
@@ -95,7 +95,7 @@ pub enum Statement {
 }
 
 /// What a body is for.
-#[derive(Clone, Copy, Debug, PartialEq, Eq)]
+#[derive(Clone, Copy)]
 pub enum BodyKind {
     Task,
     /// A cyclic handler or an interrupt handler.
@@ -103,7 +103,7 @@ pub enum BodyKind {
 }
 
 /// The body of a task or of a handler.
-#[derive(Debug, Drop)]
+#[derive(Drop)]
 pub struct Body {
     pub kind: BodyKind,
     /// The place of the word `task` or `handler` in the list of tokens.
@@ -115,7 +115,7 @@ pub struct Body {
 }
 
 /// The bodies of a text, in order.
-#[derive(Debug, Drop)]
+#[derive(Drop)]
 pub struct Program {
     pub bodies: Vec<Body>,
 }

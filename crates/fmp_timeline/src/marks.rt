@@ -2,7 +2,7 @@
 use fmp_base::{Call, Caller, Er, Fault, Handler, Line, Reply};
 
 /// What a mark says.
-#[derive(Clone, Copy, PartialEq, Eq)]
+#[derive(Clone, Copy)]
 pub enum Sign {
     /// A task started.
     Start,
@@ -65,7 +65,7 @@ pub struct Made {
 }
 
 /// What one did to another at an event.
-#[derive(Clone, Copy, PartialEq, Eq)]
+#[derive(Clone, Copy)]
 pub enum Bond {
     /// It started the other.
     Starts,

@@ -12,7 +12,7 @@ const PANEL: u32 = 1680;
 const MOST_EVENTS: u32 = 10_000;
 
 /// What of a run is drawn, and how.
-#[derive(Clone, Copy, Debug, PartialEq, Eq)]
+#[derive(Clone, Copy)]
 pub struct Choice {
     /// The first event that is drawn; 0 is setup.
     pub first: u32,

@@ -15,7 +15,7 @@ use fmp_base::{QueueOrder, Steps, TaskBlock, WaitQueue};
 use fmp_ring::{Rings, as_byte};
 
 /// How many objects of each kind have wait queues, 0 to 255 each.
-#[derive(Clone, Copy, Debug, PartialEq, Eq)]
+#[derive(Clone, Copy)]
 pub struct ObjectCounts {
     pub semaphores: u8,
     pub flags: u8,
@@ -25,7 +25,7 @@ pub struct ObjectCounts {
 
 /// The wait queues of all objects (uITRON 4.0, section 4.4). They are lists of the rings that each call is lent, behind
 /// sixteen ready queues for each of so many processors. Objects and tasks go by their places, from 0.
-#[derive(Clone, Copy, Debug, PartialEq, Eq)]
+#[derive(Clone, Copy)]
 pub struct WaitQueues {
     pub processors: u8,
     pub counts: ObjectCounts,
