@@ -12,7 +12,7 @@ use Rattle.fmp_base.specs.Systems.{body_of, defined_for, found}
 use Rattle.fmp_code.specs.Instructions.{BodyTables}
 use Rattle.fmp_image.specs.Images.{ImageTables, IsImage}
 use Rattle.fmp_image.proofs.Entries.{task_bodies, cyclic_bodies, interrupt_bodies}
-use Rattle.fmp_kernel.specs.Contexts.{BeginsIn, Entered}
+use Rattle.fmp_contexts.specs.Contexts.{BeginsIn, Entered}
 
 module _ (n : ℕ) where
   task_at : (other : TaskConfig) (ts : List TaskConfig) (t : ℕ) → AllByRecursion (λ x. body_of x.entry < n) ts → t < length ts

@@ -7,7 +7,7 @@ ghost use Rattle.fmp_base.specs.Setups.{setup};
 ghost use Rattle.fmp_base.specs.States.{places_from};
 ghost use Rattle.fmp_base.specs.Systems.{tables_of};
 ghost use Rattle.fmp_base.specs.Texts.{states_text, whole_text};
-ghost use Rattle.fmp_kernel.specs.Contexts.{Entered};
+ghost use Rattle.fmp_contexts.specs.Contexts.{Entered};
 ghost use Rattle.fmp_kernel.specs.KernelViews.{view_of_setup};
 ghost use Rattle.fmp_engine.specs.Outlets.{Given, GivenFront};
 ghost use Rattle.fmp_engine.specs.Plays.{HasGiven, IsWhyCut, text_of_events};

@@ -1,12 +1,10 @@
 mod ActorLemmas
-mod ContextLemmas
 mod CyclicLemmas
 mod FrontLemmas
-mod HeldLemmas
 mod PlaceLemmas
-mod RangeLemmas
 mod SettleLemmas
 mod StampLemmas
 mod StepLemmas
+mod StopLemmas
 mod TickLemmas
 mod ViewLemmas

@@ -1,4 +1,3 @@
-pub mod Contexts
 pub mod KernelViews
 pub mod NextTicks
 pub mod Rooms

@@ -1,13 +1,7 @@
 -- What is true of the vectors and the clock of a kernel.
-use Rattle.std.specs.Prelude.{◌≡◌, ℕ, ◌≤◌, ◌^◌, length}
-use Rattle.fmp_base.specs.Meanings.{Contexts}
+use Rattle.std.specs.Prelude.{◌≡◌, ℕ, ◌≤◌, ◌^◌}
 use Rattle.fmp_base.specs.Ranges.{IsInRange}
 use Rattle.fmp_base.specs.Systems.{SystemTables}
-
--- a place for the context of each task, and of the handler of each processor
-pub record HasPlaces {C : Type 0} (sys : SystemTables) (cs : Contexts C) : Type 0 where
-  pub tasks : length cs.tasks ≡ length sys.tasks
-  pub handlers : length cs.handlers ≡ sys.processors
 
 -- the system is in range, and there is room for the lines that an event causes and for all its lines
 pub record HasRoom (sys : SystemTables) (caused_room lines_room : ℕ) : Type 0 where

@@ -7,20 +7,19 @@ ghost use Rattle.fmp_base.specs.States.{processor_at};
 ghost use Rattle.fmp_base.specs.Steps.{Did, actor_ended, actor_of, call_made, effect_of, finished, handler_ended as ended_handler, run_by, step, stretched};
 ghost use Rattle.fmp_base.specs.Stretches.{ending};
 ghost use Rattle.fmp_body.specs.Contexts.{OfCall};
-ghost use Rattle.fmp_kernel.specs.Contexts.{HasContext, HasNoCall, IsFor, kept_after, stop_of};
+ghost use Rattle.fmp_contexts.specs.Contexts.{HasContext, HasNoCall, IsFor, kept_after, stop_of};
 ghost use Rattle.fmp_calls.specs.Groups.{IsTaskOf};
 ghost use Rattle.fmp_kernel.specs.KernelViews.{SameBodies, done_of, done_or, kept_in, stopped_on, with_contexts};
 ghost use Rattle.fmp_tasks.specs.Tables.{SameShape};
 ghost use Rattle.fmp_worlds.specs.Stamps.{actor_at, applied_by};
 
 use crate::actors::actor_on;
-use crate::contexts::stretch;
-use crate::deliveries::entry_of;
 use crate::runner::Runner;
 use crate::ticks::advance;
 use fmp_base::{Answer, Call, Caller, Effect, Event, Line, Processor, Stretch};
 use fmp_body::{Body, Stop};
 use fmp_calls::call;
+use fmp_contexts::{entry_of, stretch};
 use fmp_migrate::end_itself;
 use fmp_tasks::Tables;
 
@@ -105,7 +104,7 @@ impl<B: Body> Runner<B> {
 
     /// The actor of processor p makes a stretch from this context, from which it goes on. Where it makes a call, its
     /// context awaits the reply, else it is the first one again.
-    #[tactic(auto, using(crate::proofs::ContextLemmas::task_of, crate::proofs::ContextLemmas::entry_of, crate::proofs::ContextLemmas::goes_fits))]
+    #[tactic(auto, using(fmp_contexts::proofs::ContextLemmas::task_of, fmp_contexts::proofs::ContextLemmas::entry_of, fmp_contexts::proofs::ContextLemmas::goes_fits))]
     fn go_on(&mut self, p: u8, who: Caller, first: &B::Ctx) -> Stop
         requires { context_of self.old.world.contexts p who ≡ Some (Goes first.now) }
         ensures stop { result ≡ stop_of ((B.meaning self.old.body).stretch
@@ -131,7 +130,7 @@ impl<B: Body> Runner<B> {
 
     /// The stretch of the actor of processor p, which goes on from this context, is handed in. Where it makes a call,
     /// its context awaits the reply.
-    #[tactic(auto, using(crate::proofs::ContextLemmas::task_of, crate::proofs::ContextLemmas::goes_fits, crate::proofs::ContextLemmas::has_context, crate::proofs::HeldLemmas::context_back))]
+    #[tactic(auto, using(fmp_contexts::proofs::ContextLemmas::task_of, fmp_contexts::proofs::ContextLemmas::goes_fits, fmp_contexts::proofs::ContextLemmas::has_context, fmp_contexts::proofs::HeldLemmas::context_back))]
     fn take(&mut self, p: u8, who: Caller, first: &B::Ctx, stretch: Stretch<B::Ctx>) -> Stop
         requires goes { context_of self.old.world.contexts p who ≡ Some (Goes first.now) }
         requires context { OfCall
@@ -158,7 +157,7 @@ impl<B: Body> Runner<B> {
 
     /// A stretch of the actor of processor p has stopped so, and left what is kept of it: the call, end or fault is
     /// carried out. Where it was over its bound, nothing is.
-    #[tactic(auto, using(crate::proofs::HeldLemmas::context_back))]
+    #[tactic(auto, using(fmp_contexts::proofs::HeldLemmas::context_back))]
     #[inline(always)]
     fn carry_out_stop(&mut self, p: u8, who: Caller, first: &B::Ctx, stop: &Stop) -> Effect
         requires there { p < self.old.system.processors }
@@ -267,7 +266,7 @@ impl<B: Body> Runner<B> {
     }
 
     /// Processor p runs its actor, whose stretch is this one.
-    #[tactic(auto, using(crate::proofs::ContextLemmas::has_context, crate::proofs::ContextLemmas::task_of, crate::proofs::ContextLemmas::going_fits))]
+    #[tactic(auto, using(fmp_contexts::proofs::ContextLemmas::has_context, fmp_contexts::proofs::ContextLemmas::task_of, fmp_contexts::proofs::ContextLemmas::going_fits))]
     pub fn apply(&mut self, p: u8, stretch: Stretch<B::Ctx>) -> Effect
         requires { IsFor B.is_context self.old.body (ending stretch) (actor_at self.old.system self.old.world p) }
         ensures effect { result
@@ -305,7 +304,7 @@ impl<B: Body> Runner<B> {
 
     /// An interrupt, by its number, is raised: its handler becomes pending. Nothing happens where it has none, or it is
     /// pending already.
-    #[tactic(auto, using(crate::proofs::RangeLemmas::no_interrupt_beyond))]
+    #[tactic(auto, using(fmp_contexts::proofs::RangeLemmas::no_interrupt_beyond))]
     fn interrupt(&mut self, number: u8) -> Effect
         ensures effect { result
             ≡ effect_of

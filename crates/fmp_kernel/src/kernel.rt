@@ -6,7 +6,7 @@ ghost use Rattle.fmp_base.specs.Setups.{setup};
 ghost use Rattle.fmp_base.specs.Steps.{effect_of, step};
 ghost use Rattle.fmp_base.specs.Stretches.{ending};
 ghost use Rattle.fmp_base.specs.Systems.{tables_of};
-ghost use Rattle.fmp_kernel.specs.Contexts.{Entered, IsFor};
+ghost use Rattle.fmp_contexts.specs.Contexts.{Entered, IsFor};
 ghost use Rattle.fmp_kernel.specs.KernelViews.{actor_in, view_after, view_of_setup};
 ghost use Rattle.fmp_worlds.specs.Settled.{RunOnce};
 ghost use Rattle.fmp_worlds.specs.Stamps.{actor_at_number, applied};

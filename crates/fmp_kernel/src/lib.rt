@@ -4,10 +4,7 @@
 #![tactic(auto)]
 
 pub mod actors;
-mod contexts;
-mod deliveries;
 mod events;
-mod kept;
 pub mod kernel;
 pub mod laws;
 mod runner;

@@ -7,19 +7,18 @@ ghost use Rattle.fmp_base.specs.States.{processor_at};
 ghost use Rattle.fmp_base.specs.Settles.{is_same_task as is_same_place};
 ghost use Rattle.fmp_base.specs.Steps.{actor_of, finished};
 ghost use Rattle.fmp_base.specs.Systems.{tables_of};
-ghost use Rattle.fmp_kernel.specs.Contexts.{Entered};
+ghost use Rattle.fmp_contexts.specs.Contexts.{Entered};
 ghost use Rattle.fmp_kernel.specs.KernelViews.{SameBodies, done_of, progress_of, with_stamp};
 ghost use Rattle.fmp_kernel.specs.Stamps.{AreActors, AreCounted, is_given};
 ghost use Rattle.fmp_worlds.specs.Stamps.{actor_at, place_run as place_of_lines};
 
 use crate::actors::{Actor, actor_on};
-use crate::contexts::BodyContexts;
-use crate::deliveries::{carry_out, entry_of};
 use crate::settling::{is_same_task, settle};
 use crate::stamps::{Stamps, place_run};
 use crate::starting::start_active;
 use fmp_base::{Line, Phase, StateWord, System, TaskState};
 use fmp_body::Body;
+use fmp_contexts::{BodyContexts, carry_out, entry_of};
 use fmp_tasks::Tables;
 use std::alloc::{AllocError, Global};
 use std::marker::Model;
@@ -38,9 +37,9 @@ pub struct Runner<B: Body> {
 
 impl<B: Body> Model for Runner<B> {
     ghost use Rattle.std.specs.Prelude.{vec_capacity};
-    ghost use Rattle.fmp_kernel.specs.Contexts.{Fitting, Entered};
+    ghost use Rattle.fmp_contexts.specs.Contexts.{Fitting, Entered, HasPlaces};
     ghost use Rattle.fmp_kernel.specs.KernelViews.{RunnerView};
-    ghost use Rattle.fmp_kernel.specs.Rooms.{HasPlaces, HasRoom};
+    ghost use Rattle.fmp_kernel.specs.Rooms.{HasRoom};
 
     ghost Value = { RunnerView B B.Ctx };
 
@@ -158,7 +157,7 @@ impl<B: Body> Runner<B> {
     }
 
     /// The actor of processor p, with this stamp: none where it has no actor, or one that awaits a reply.
-    #[tactic(auto, using(crate::proofs::ContextLemmas::entry_of, crate::proofs::ContextLemmas::goes_fits))]
+    #[tactic(auto, using(fmp_contexts::proofs::ContextLemmas::entry_of, fmp_contexts::proofs::ContextLemmas::goes_fits))]
     pub fn actor(&self, p: u8, stamp: u32) -> Option<Actor<B::Ctx>>
         ensures value { result ≡ with_stamp stamp (actor_at self.now.system self.now.world p) }
         ensures entry { IfSome result (λ a. B.has_entry self.now.body a.entry) }

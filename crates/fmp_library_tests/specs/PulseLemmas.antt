@@ -5,7 +5,7 @@ use Rattle.fmp_base.specs.Stretches.{is_over}
 use Rattle.fmp_base.specs.declared.bodies.HandlerStart.{HandlerStart}
 use Rattle.fmp_base.specs.Meanings.{handler_start}
 use Rattle.fmp_base.specs.Systems.{SystemTables}
-use Rattle.fmp_kernel.specs.Contexts.{BeginsIn, Entered}
+use Rattle.fmp_contexts.specs.Contexts.{BeginsIn, Entered}
 use Rattle.fmp_library_tests.specs.Pulses.{beat, pulse_meaning}
 
 beat_stays : (left low high : ℕ) → low ≤ high → is_over (beat low left) ≡ false → beat high left ≡ beat low left

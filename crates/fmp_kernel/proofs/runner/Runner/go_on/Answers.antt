@@ -1,7 +1,7 @@
 use Rattle.std.proofs.Common.{ℕ, Some, subst}
 use Rattle.fmp_base.specs.declared.bodies.Held.TheVariants.{Goes}
-use Rattle.fmp_kernel.specs.Contexts.{OfHeld, kept_after}
-use Rattle.fmp_kernel.proofs.ContextLemmas.{fitting_set, has_context, places_set}
+use Rattle.fmp_contexts.specs.Contexts.{OfHeld, kept_after}
+use Rattle.fmp_contexts.proofs.ContextLemmas.{fitting_set, has_context, places_set}
 use Rattle.fmp_kernel.proofs.runner.Runner.go_on.Goals as goal
 
 pub invariant_of-self : goal.invariant_of-self

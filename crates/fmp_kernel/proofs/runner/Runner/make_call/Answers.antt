@@ -4,7 +4,7 @@ use Rattle.fmp_base.specs.Calls.{called}
 use Rattle.fmp_base.specs.Outcomes.{Outcome}
 use Rattle.fmp_base.specs.States.{Progress}
 use Rattle.fmp_worlds.proofs.SettledLaws.{called-spins}
-use Rattle.fmp_kernel.proofs.ContextLemmas.{fitting_set, places_set}
+use Rattle.fmp_contexts.proofs.ContextLemmas.{fitting_set, places_set}
 use Rattle.fmp_kernel.proofs.runner.Runner.make_call.Goals as goal
 
 pub returns-in-Spins-clause-after : goal.returns-in-Spins-clause-after

@@ -2,10 +2,11 @@ use Rattle.std.proofs.Common.{◌∙◌, ap}
 use Rattle.fmp_base.specs.declared.bodies.Held.TheVariants.{Goes}
 use Rattle.fmp_base.specs.Meanings.{caller_body}
 use Rattle.fmp_base.specs.Steps.{effect_of}
-use Rattle.fmp_kernel.specs.Contexts.{kept_after}
+use Rattle.fmp_contexts.specs.Contexts.{kept_after}
 use Rattle.fmp_kernel.specs.KernelViews.{done_of, done_or}
-use Rattle.fmp_kernel.proofs.ContextLemmas.{has_context}
-use Rattle.fmp_kernel.proofs.HeldLemmas.{body_set, context_back, context_twice, has_set, kept_same, stops_so}
+use Rattle.fmp_contexts.proofs.ContextLemmas.{has_context}
+use Rattle.fmp_contexts.proofs.HeldLemmas.{body_set, context_back, context_twice, has_set, kept_same}
+use Rattle.fmp_kernel.proofs.StopLemmas.{stops_so}
 use Rattle.fmp_kernel.proofs.runner.Runner.make_stretch.Goals as goal
 
 pub carry_out_stop-requires-clause-kept : goal.carry_out_stop-requires-clause-kept

@@ -1,5 +1,5 @@
 use Rattle.std.proofs.Common.{refl, ap, length}
-use Rattle.fmp_kernel.proofs.ContextLemmas.{fitting_nothing, places_of_nothing}
+use Rattle.fmp_contexts.proofs.ContextLemmas.{fitting_nothing, places_of_nothing}
 use Rattle.fmp_kernel.proofs.runner.Runner.new.Goals as goal
 
 pub invariant_of-result : goal.invariant_of-result

@@ -1,6 +1,6 @@
 use Rattle.std.proofs.Common.{Some}
 use Rattle.fmp_base.specs.declared.bodies.Held.TheVariants.{Awaits, Goes}
-use Rattle.fmp_kernel.proofs.ContextLemmas.{fitting_set, has_context, places_set}
+use Rattle.fmp_contexts.proofs.ContextLemmas.{fitting_set, has_context, places_set}
 use Rattle.fmp_kernel.proofs.runner.Runner.take.Goals as goal
 
 pub invariant_of-self : goal.invariant_of-self

@@ -4,7 +4,7 @@ ghost use Rattle.std.specs.Option.{option_copied};
 ghost use Rattle.fmp_base.specs.declared.bodies.Held.{Held};
 ghost use Rattle.fmp_base.specs.declared.bodies.Held.TheVariants.{Awaits, Goes};
 ghost use Rattle.fmp_base.specs.Meanings.{told};
-ghost use Rattle.fmp_kernel.specs.Contexts.{OfHeld, going_context, held_by, kept_after, stop_of};
+ghost use Rattle.fmp_contexts.specs.Contexts.{OfHeld, going_context, held_by, kept_after, stop_of};
 
 use fmp_base::Reply;
 use fmp_body::{Body, Stop};
@@ -19,7 +19,7 @@ pub struct Kept<C: Copy> {
 
 impl<C: Copy> Model for Kept<C> {
     ghost use Rattle.fmp_base.specs.declared.bodies.Held.{Held};
-    ghost use Rattle.fmp_kernel.specs.Contexts.{held_by};
+    ghost use Rattle.fmp_contexts.specs.Contexts.{held_by};
 
     ghost Value = { Held C };
 

@@ -1,8 +1,7 @@
 use Rattle.std.proofs.Common.{◌≡◌, drop}
 use Rattle.fmp_base.specs.Meanings.{contexts_after_all}
-use Rattle.fmp_kernel.specs.Contexts.{Fitting}
-use Rattle.fmp_kernel.specs.Rooms.{HasPlaces}
-use Rattle.fmp_kernel.proofs.deliveries.carry_out.Given as goal
+use Rattle.fmp_contexts.specs.Contexts.{Fitting, HasPlaces}
+use Rattle.fmp_contexts.proofs.deliveries.carry_out.Given as goal
 
 abbrev pub invariant-loop-line : goal.invariant-loop-line
 invariant-loop-line g l =

@@ -4,7 +4,7 @@ ghost use Rattle.std.specs.Option.{option_copied};
 ghost use Rattle.fmp_base.specs.declared.bodies.Held.TheVariants.{Goes};
 ghost use Rattle.fmp_base.specs.Meanings.{body_in, context_at, context_for, context_in, context_of, told as told_by, with_context, with_handler_context};
 ghost use Rattle.fmp_base.specs.Systems.{body_of};
-ghost use Rattle.fmp_kernel.specs.Contexts.{HasContext, IsThere, OfHeld, OfOption, going_context, held_by, kept_after, stop_of};
+ghost use Rattle.fmp_contexts.specs.Contexts.{HasContext, IsThere, OfHeld, OfOption, going_context, held_by, kept_after, stop_of};
 
 use crate::kept::{self, Kept};
 use fmp_base::{Caller, Entry, Reply};

@@ -1,9 +1,9 @@
 use Rattle.std.proofs.Common.{ℕ, subst}
 use Rattle.fmp_base.specs.Meanings.{context_of, told}
-use Rattle.fmp_kernel.specs.Contexts.{OfHeld, OfOption}
-use Rattle.fmp_kernel.proofs.ContextLemmas.{fitting_set}
-use Rattle.fmp_kernel.proofs.HeldLemmas.{told_there}
-use Rattle.fmp_kernel.proofs.deliveries.tell.Goals as goal
+use Rattle.fmp_contexts.specs.Contexts.{OfHeld, OfOption}
+use Rattle.fmp_contexts.proofs.ContextLemmas.{fitting_set}
+use Rattle.fmp_contexts.proofs.HeldLemmas.{told_there}
+use Rattle.fmp_contexts.proofs.deliveries.tell.Goals as goal
 
 pub returns-clause-fitting : goal.returns-clause-fitting
 returns-clause-fitting g c =

@@ -1,5 +1,5 @@
 use Rattle.std.proofs.Common.{◌≡◌, None, replicate, vec_capacity}
-use Rattle.fmp_kernel.proofs.contexts.empty_places.Given as goal
+use Rattle.fmp_contexts.proofs.contexts.empty_places.Given as goal
 
 abbrev pub invariant-loop : goal.invariant-loop
 invariant-loop g l =

@@ -2,8 +2,7 @@
 ghost use Rattle.std.specs.Prelude.{◌≡◌};
 ghost use Rattle.fmp_base.specs.Meanings.{caller_body, contexts_after, contexts_after_all, delivered_to, handler_begun, handler_start as start_of_handler, task_begun};
 ghost use Rattle.fmp_base.specs.Ranges.{IsInRange};
-ghost use Rattle.fmp_kernel.specs.Contexts.{Entered, Fitting};
-ghost use Rattle.fmp_kernel.specs.Rooms.{HasPlaces};
+ghost use Rattle.fmp_contexts.specs.Contexts.{Entered, Fitting, HasPlaces};
 
 use crate::contexts::{self, BodyContexts, body_number};
 use fmp_base::{Caller, Handler, HandlerStart, Line, Reply};

@@ -1,5 +1,5 @@
 -- What holds of the contexts of bodies.
-use Rattle.std.specs.Prelude.{◌<◌, ℕ, zero, suc, List, [], ◌∷◌, Option, Some, None, Bool, true, false, length}
+use Rattle.std.specs.Prelude.{◌≡◌, ◌<◌, ℕ, zero, suc, List, [], ◌∷◌, Option, Some, None, Bool, true, false, length}
 use Rattle.fmp_base.specs.declared.bodies.HandlerContext.{HandlerContext}
 use Rattle.fmp_base.specs.declared.bodies.HandlerStart.{HandlerStart}
 use Rattle.fmp_base.specs.declared.bodies.Held.{Held}
@@ -51,6 +51,11 @@ BeginsIn P (Some h) = P h.body
 pub record Entered {B : Type 0} (has_entry : B → ℕ → Type 0) (body : B) (sys : SystemTables) : Type 0 where
   pub tasks : (t : ℕ) → t < length sys.tasks → has_entry body (task_body sys t)
   pub handlers : (h : Handler) → BeginsIn (has_entry body) (handler_start sys h)
+
+-- a place for the context of each task, and of the handler of each processor
+pub record HasPlaces {C : Type 0} (sys : SystemTables) (cs : Contexts C) : Type 0 where
+  pub tasks : length cs.tasks ≡ length sys.tasks
+  pub handlers : length cs.handlers ≡ sys.processors
 
 abbrev pub IsThere : {A : Type 0} → Option A → Type 0
 IsThere None = ⊥

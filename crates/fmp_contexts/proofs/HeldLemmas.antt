@@ -4,16 +4,13 @@ use Rattle.fmp_base.specs.declared.bodies.HandlerContext.{HandlerContext}
 use Rattle.fmp_base.specs.declared.bodies.Held.{Held}
 use Rattle.fmp_base.specs.declared.bodies.Held.TheVariants.{Goes}
 use Rattle.fmp_base.specs.declared.calls.Reply.{Reply}
-use Rattle.fmp_base.specs.declared.events.Line.TheVariants as line
 use Rattle.fmp_base.specs.declared.states.Caller.{Caller}
 use Rattle.fmp_base.specs.declared.states.Caller.TheVariants as caller
-use Rattle.fmp_base.specs.Meanings.{Meaning, Contexts, World, context_at, context_in, body_in, context_of, caller_body, context_for, with_context, told}
-use Rattle.fmp_kernel.specs.KernelViews.{stopped_on}
-use Rattle.fmp_base.specs.Steps.{Did, actor_ended, finished, stretched}
+use Rattle.fmp_base.specs.Meanings.{Meaning, Contexts, context_at, context_in, body_in, context_of, caller_body, context_for, with_context, told}
 use Rattle.fmp_base.specs.Stretches.{Ending}
 use Rattle.fmp_base.specs.Stretches as ends
 use Rattle.fmp_base.specs.Systems.{SystemTables}
-use Rattle.fmp_kernel.specs.Contexts.{IsThere, HasContext, HasNoCall, kept_after, stop_of}
+use Rattle.fmp_contexts.specs.Contexts.{IsThere, HasContext, HasNoCall, kept_after, stop_of}
 
 -- a place is written twice, or with what stands there
 set_twice : {A : Type 0} (xs : List A) (i : ℕ) (x y : A) → slice_set (slice_set xs i x) i y ≡ slice_set xs i y
@@ -81,17 +78,6 @@ context_back {C} cs p (caller.Task t) c h =
 context_back {C} cs p (caller.Handler i) c h =
     ap (λ (o : Option (HandlerContext C)). record cs { handlers = slice_set cs.handlers p o }) (rebuilt (context_at cs.handlers p) c h)
     ∙ ap (λ (hs : List (Option (HandlerContext C))). record cs { handlers = hs }) (set_back cs.handlers p)
-
--- a stretch that stops so, and what it leaves of its context
-pub stops_so : {C : Type 0} (sys : SystemTables) (M : Meaning C) (w : World C) (p : ℕ) (who : Caller) (first : C) (x : Ending C)
-    → context_of w.contexts p who ≡ Some (Goes first)
-    → stopped_on sys M (record w { contexts = with_context w.contexts p who (Some (kept_after first x)) }) p who (stop_of x) ≡ stretched sys M w p who x
-stops_so sys M w p who first (ends.Call c made) h = refl
-stops_so {C} sys M w p who first (ends.End c) h =
-    ap (λ (cs : Contexts (Held C)). Did (finished sys M cs (line.End p who ∷ []) (actor_ended sys w.state p who))) (context_back w.contexts p who (Goes first) h)
-stops_so {C} sys M w p who first (ends.Fault c fault) h =
-    ap (λ (cs : Contexts (Held C)). Did (finished sys M cs (line.Fault p who fault ∷ []) (actor_ended sys w.state p who))) (context_back w.contexts p who (Goes first) h)
-stops_so sys M w p who first (ends.Over kept) h = refl
 
 kept_first : {C : Type 0} (first : C) (x : Ending C) → HasNoCall (stop_of x) → kept_after first x ≡ Goes first
 kept_first first (ends.Call c asked) h = absurd h

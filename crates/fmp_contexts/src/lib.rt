@@ -1,0 +1,10 @@
+//! The contexts of the bodies of tasks and handlers, kept in place between their stretches, and what the lines of an
+//! event mean for them.
+#![tactic(auto)]
+
+mod contexts;
+mod deliveries;
+mod kept;
+
+pub use contexts::{BodyContexts, stretch};
+pub use deliveries::{carry_out, entry_of};
