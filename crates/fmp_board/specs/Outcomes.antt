@@ -6,7 +6,7 @@ use Rattle.fmp_base.specs.Stretches.{Ending}
 use Rattle.fmp_body.specs.Contexts.{OfCall}
 use Rattle.fmp_code.specs.declared.instructions.MachineContext.{MachineContext}
 use Rattle.fmp_code.specs.Machine.{code_meaning}
-use Rattle.fmp_code.specs.Vms.{IsContext}
+use Rattle.fmp_machine.specs.Vms.{IsContext}
 use Rattle.fmp_image.specs.Images.{ImageTables}
 use Rattle.fmp_kernel.specs.declared.actors.Actor.{Actor}
 use Rattle.fmp_kernel.specs.KernelViews.{actor_in}

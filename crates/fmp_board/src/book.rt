@@ -8,9 +8,9 @@ use crate::fault::BoardFault;
 use crate::receipt::{Receipt, call_reply};
 use crate::site::Site;
 use fmp_base::{Effect, Event};
-use fmp_code::Vm;
 use fmp_image::Image;
 use fmp_kernel::Kernel;
+use fmp_machine::Vm;
 use fmp_row::{JournalEntry, Scribe, Seat};
 use std::marker::{Model, PhantomData};
 

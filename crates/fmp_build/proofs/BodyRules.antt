@@ -7,12 +7,12 @@ use Rattle.fmp_tasklang.specs.Trees.{BodyTree}
 use Rattle.fmp_code.specs.Instructions.{BodyTables}
 use Rattle.fmp_code.specs.Verify.{Verified, VerifiedBody}
 use Rattle.fmp_codegen.specs.Compiling.{compiled_body, compiled}
-use Rattle.fmp_codegen.specs.Depths.{body_depth}
-use Rattle.fmp_codegen.specs.DepthTables.{body_depths}
+use Rattle.fmp_scopes.specs.Depths.{body_depth}
+use Rattle.fmp_scopes.specs.DepthTables.{body_depths}
 use Rattle.fmp_codegen.specs.Laws as codegen
-use Rattle.fmp_image.specs.Bodies.{greatest, IsBody}
-use Rattle.fmp_image.specs.Instructions.{HasWord}
-use Rattle.fmp_image.specs.Pairs.{AllPairs}
+use Rattle.fmp_image_parts.specs.Bodies.{greatest, IsBody}
+use Rattle.fmp_image_parts.specs.Instructions.{HasWord}
+use Rattle.fmp_image_parts.specs.Pairs.{AllPairs}
 use Rattle.fmp_build.specs.Building.{built_head, built_heads}
 
 same_greatest : (ds : List ℕ) → greatest ds ≡ codegen.greatest ds

@@ -7,8 +7,8 @@ use Rattle.fmp_tasklang.specs.Trees.{BodyTree}
 use Rattle.fmp_tasklang.proofs.CallForms.{calls_fit}
 use Rattle.fmp_code.specs.Verify.{Verified}
 use Rattle.fmp_codegen.specs.Compiling.{compiled, IsAccepted}
-use Rattle.fmp_codegen.specs.Depths.{body_depth}
-use Rattle.fmp_codegen.specs.DepthTables.{body_depths}
+use Rattle.fmp_scopes.specs.Depths.{body_depth}
+use Rattle.fmp_scopes.specs.DepthTables.{body_depths}
 use Rattle.fmp_codegen.specs.Laws as codegen
 use Rattle.fmp_codegen.proofs.Limits.{few-bodies}
 use Rattle.fmp_image.specs.Images.{ImageTables, IsImage}

@@ -2,10 +2,10 @@
 use Rattle.std.proofs.Common.{◌≡◌, ℕ, ◌≤◌, min, List, [], ◌∷◌, map, refl, ap, ap₂, ◌∙◌, subst, arith}
 use Rattle.std.specs.List.{AllByRecursion}
 use Rattle.fmp_tasklang.specs.Trees.{BodyTree}
-use Rattle.fmp_codegen.specs.declared.headings.Heading.{Heading}
-use Rattle.fmp_codegen.specs.Depths.{body_depth}
-use Rattle.fmp_codegen.specs.Headings.{heading_of, AreHeadings}
-use Rattle.fmp_image.specs.declared.heads.BodyHead.{BodyHead}
+use Rattle.fmp_scopes.specs.declared.headings.Heading.{Heading}
+use Rattle.fmp_scopes.specs.Depths.{body_depth}
+use Rattle.fmp_scopes.specs.Headings.{heading_of, AreHeadings}
+use Rattle.fmp_image_parts.specs.declared.heads.BodyHead.{BodyHead}
 use Rattle.fmp_build.specs.Building.{built_kind, head_of, built_heads}
 
 low_exact : (d : ℕ) → min d 1073741824 ≤ 64 → min d 1073741824 ≡ d

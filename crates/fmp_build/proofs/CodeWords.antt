@@ -14,9 +14,9 @@ use Rattle.fmp_tasklang.specs.Trees.{ExpressionTree, number, named, unary, binar
 use Rattle.fmp_code.specs.declared.instructions.Instruction.{Instruction}
 use Rattle.fmp_code.specs.Instructions.{BodyTables}
 use Rattle.fmp_codegen.specs.Compiling.{compiled}
-use Rattle.fmp_codegen.specs.Scheme.{name_code, expression_code, arguments_code, statement_code, block_code}
-use Rattle.fmp_codegen.specs.Sizes.{expression_size, statement_size, block_size}
-use Rattle.fmp_image.specs.Instructions.{HasWord}
+use Rattle.fmp_scopes.specs.Scheme.{name_code, expression_code, arguments_code, statement_code, block_code}
+use Rattle.fmp_scopes.specs.Sizes.{expression_size, statement_size, block_size}
+use Rattle.fmp_image_parts.specs.Instructions.{HasWord}
 use Rattle.fmp_build.proofs.TextNumbers.{ExpressionHasWords, StatementHasWords, BlockHasWords, BodyHasWords}
 
 -- ---- the numbers of objects

@@ -11,8 +11,8 @@ use Rattle.fmp_base.specs.Systems.{SystemTables}
 use Rattle.fmp_tasklang.specs.declared.trees.BodyKind.{BodyKind}
 use Rattle.fmp_tasklang.specs.declared.trees.BodyKind.TheVariants.{Task, Handler}
 use Rattle.fmp_tasklang.specs.Trees.{BodyTree}
-use Rattle.fmp_codegen.specs.declared.entries.EntryUse.{EntryUse}
-use Rattle.fmp_codegen.specs.Entries.{body_place, entry_fault}
+use Rattle.fmp_scopes.specs.declared.entries.EntryUse.{EntryUse}
+use Rattle.fmp_scopes.specs.Entries.{body_place, entry_fault}
 
 -- the entry of an API whose word is the first token
 abbrev pub wanted : Name → BodyKind → Option ℕ → EntryUse

@@ -13,10 +13,10 @@ use Rattle.fmp_tasklang.specs.declared.trees.BodyKind as language
 use Rattle.fmp_tasklang.specs.declared.trees.BodyKind.TheVariants as written
 use Rattle.fmp_tasklang.specs.Texts.{body_at}
 use Rattle.fmp_tasklang.specs.Trees.{BodyTree}
-use Rattle.fmp_codegen.specs.declared.entries.EntryUse.{EntryUse}
-use Rattle.fmp_codegen.specs.Depths.{body_depth}
-use Rattle.fmp_codegen.specs.Entries.{body_place, is_kind, holds, body_fault, entry_fault}
-use Rattle.fmp_image.specs.Rows.{is_task, is_handler, is_task_body, is_handler_body}
+use Rattle.fmp_scopes.specs.declared.entries.EntryUse.{EntryUse}
+use Rattle.fmp_scopes.specs.Depths.{body_depth}
+use Rattle.fmp_scopes.specs.Entries.{body_place, is_kind, holds, body_fault, entry_fault}
+use Rattle.fmp_image_rows.specs.Rows.{is_task, is_handler, is_task_body, is_handler_body}
 use Rattle.fmp_build.specs.Building.{built_kind, built_head, built_heads}
 use Rattle.fmp_build.proofs.Entering.{wanted}
 

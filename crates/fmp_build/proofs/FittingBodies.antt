@@ -7,8 +7,9 @@ use Rattle.fmp_base.specs.declared.systems.CyclicConfig.{CyclicConfig}
 use Rattle.fmp_base.specs.declared.systems.InterruptConfig.{InterruptConfig}
 use Rattle.fmp_base.specs.Ranges.{TaskInRange, CyclicInRange, InterruptInRange}
 use Rattle.fmp_cfgparse.specs.Tables.{IsObjectName, TaskConfigured, CyclicConfigured}
-use Rattle.fmp_image.specs.Rows.{Frame, row, in_range, bit, is_start_bit, is_task_body, is_handler_body, task_form, cyclic_form, interrupt_form}
-use Rattle.fmp_image.proofs.Verification.{both_true}
+use Rattle.fmp_image_parts.specs.Fields.{in_range}
+use Rattle.fmp_image_rows.specs.Rows.{Frame, row, bit, is_start_bit, is_task_body, is_handler_body, task_form, cyclic_form, interrupt_form}
+use Rattle.fmp_image_parts.proofs.Verification.{both_true}
 use Rattle.fmp_build.proofs.FittingRows.{object_is_name, name_room, lies_in_range}
 
 start_again : (b : Bool) → (bit b 2 == 2) ≡ b

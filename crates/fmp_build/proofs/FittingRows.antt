@@ -23,9 +23,10 @@ use Rattle.fmp_lex.specs.declared.words.Constant.{Constant}
 use Rattle.fmp_lex.specs.declared.words.Keyword.{Keyword}
 use Rattle.fmp_cfgparse.specs.Tables.{is_identifier, IsObjectName, SharedWordConfigured}
 use Rattle.fmp_image.specs.Images.{KeepRules}
-use Rattle.fmp_image.specs.Keys.{begins_and_goes_on, is_reserved, is_name}
-use Rattle.fmp_image.specs.Rows.{Frame, RowForm, row, in_range, bit, order_bit, order_of, semaphore_form, flag_form, data_queue_form, mailbox_form, message_form, shared_word_form, spin_lock_form}
-use Rattle.fmp_image.proofs.Verification.{both_true}
+use Rattle.fmp_image_parts.specs.Keys.{begins_and_goes_on, is_reserved, is_name}
+use Rattle.fmp_image_parts.specs.Fields.{in_range}
+use Rattle.fmp_image_rows.specs.Rows.{Frame, RowForm, row, bit, order_bit, order_of, semaphore_form, flag_form, data_queue_form, mailbox_form, message_form, shared_word_form, spin_lock_form}
+use Rattle.fmp_image_parts.proofs.Verification.{both_true}
 
 -- ---- names
 

@@ -13,11 +13,11 @@ use Rattle.fmp_cfgparse.specs.Tables.{IsConfiguration}
 use Rattle.fmp_cfgparse.specs.Trees.{configuration_view}
 use Rattle.fmp_cfgparse.proofs.Tables.{made_keeps}
 use Rattle.fmp_tasklang.specs.Trees.{BodyTree}
-use Rattle.fmp_codegen.specs.declared.entries.EntryUse.{EntryUse}
+use Rattle.fmp_scopes.specs.declared.entries.EntryUse.{EntryUse}
 use Rattle.fmp_codegen.specs.declared.texts.CompiledText.{CompiledText}
 use Rattle.fmp_codegen.specs.Compiling.{bodies_offence, IsAccepted}
-use Rattle.fmp_codegen.specs.Entries.{entries_offence, IsChecked}
-use Rattle.fmp_codegen.specs.Naming.{fault_in}
+use Rattle.fmp_scopes.specs.Entries.{entries_offence, IsChecked}
+use Rattle.fmp_scopes.specs.Naming.{fault_in}
 use Rattle.fmp_codegen.specs.Texts.{IsTextCompiled}
 use Rattle.fmp_image.specs.Images.{ImageTables}
 use Rattle.fmp_cfgparse.specs.declared.reading.Configured.{Configured}

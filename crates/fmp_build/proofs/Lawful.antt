@@ -15,14 +15,14 @@ use Rattle.fmp_tasklang.specs.Trees.{BodyTree}
 use Rattle.fmp_code.specs.Instructions.{BodyTables}
 use Rattle.fmp_code.specs.Verify.{Verified}
 use Rattle.fmp_codegen.specs.Compiling.{compiled_body, compiled}
-use Rattle.fmp_codegen.specs.Depths.{body_depth}
-use Rattle.fmp_codegen.specs.DepthTables.{body_depths}
+use Rattle.fmp_scopes.specs.Depths.{body_depth}
+use Rattle.fmp_scopes.specs.DepthTables.{body_depths}
 use Rattle.fmp_codegen.specs.Laws as codegen
-use Rattle.fmp_image.specs.declared.heads.BodyHead.{BodyHead}
+use Rattle.fmp_image_parts.specs.declared.heads.BodyHead.{BodyHead}
 use Rattle.fmp_image.specs.Images.{image_tables, keys_of, KeepRules, IsImage}
-use Rattle.fmp_image.specs.Instructions.{HasWord}
-use Rattle.fmp_image.specs.Keys.{are_new}
-use Rattle.fmp_image.specs.Rows.{Frame, frame_of, row, task_form, cyclic_form, interrupt_form, semaphore_form, flag_form, data_queue_form, mailbox_form, message_form, shared_word_form, spin_lock_form}
+use Rattle.fmp_image_parts.specs.Instructions.{HasWord}
+use Rattle.fmp_image_parts.specs.Keys.{are_new}
+use Rattle.fmp_image_rows.specs.Rows.{Frame, frame_of, row, task_form, cyclic_form, interrupt_form, semaphore_form, flag_form, data_queue_form, mailbox_form, message_form, shared_word_form, spin_lock_form}
 use Rattle.fmp_build.specs.Building.{built_entry, built_task, built_cyclic, built_interrupt, built_tables, built_heads, built_image}
 use Rattle.fmp_build.proofs.Entering.{Enters, TaskEnters, CyclicEnters, InterruptEnters, EachEnters}
 use Rattle.fmp_build.proofs.BodyRules.{are_bodies}

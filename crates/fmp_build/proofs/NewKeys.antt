@@ -7,10 +7,10 @@ use Rattle.fmp_base.specs.declared.names.Name.{Name}
 use Rattle.fmp_base.specs.Systems.{SystemTables}
 use Rattle.fmp_cfgparse.specs.Tables.{same_name, object_names, interrupt_number, task_name, semaphore_name, flag_name, data_queue_name, mailbox_name, message_name, shared_word_name, spin_lock_name, cyclic_name, IsConfiguration}
 use Rattle.fmp_cfgparse.proofs.OneMore.{name_flip}
-use Rattle.fmp_image.specs.declared.keys.Key.{Key}
-use Rattle.fmp_image.specs.declared.keys.Key.TheVariants as key
+use Rattle.fmp_image_parts.specs.declared.keys.Key.{Key}
+use Rattle.fmp_image_parts.specs.declared.keys.Key.TheVariants as key
 use Rattle.fmp_image.specs.Images.{keys_of}
-use Rattle.fmp_image.specs.Keys.{same_key, is_taken, are_new}
+use Rattle.fmp_image_parts.specs.Keys.{same_key, is_taken, are_new}
 
 -- ---- keys that differ are new
 

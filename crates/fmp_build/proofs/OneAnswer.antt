@@ -20,10 +20,10 @@ use Rattle.fmp_tasklang.specs.Grammar.{Bodies}
 use Rattle.fmp_tasklang.specs.Trees.{BodyTree}
 use Rattle.fmp_tasklang.proofs.BodyPaths.{body_framed}
 use Rattle.fmp_tasklang.proofs.Single.{one_program}
-use Rattle.fmp_codegen.specs.declared.offences.Offence.{Offence}
+use Rattle.fmp_scopes.specs.declared.offences.Offence.{Offence}
 use Rattle.fmp_codegen.specs.Compiling.{bodies_offence}
-use Rattle.fmp_codegen.specs.Entries.{entries_offence}
-use Rattle.fmp_codegen.specs.Naming.{fault_in}
+use Rattle.fmp_scopes.specs.Entries.{entries_offence}
+use Rattle.fmp_scopes.specs.Naming.{fault_in}
 use Rattle.fmp_image.specs.Images.{ImageTables}
 use Rattle.fmp_build.specs.Building.{ReadTasks, built_image, Builds, IsBuildFault, of_memory, of_configuration, of_tasks, of_bodies, of_entries}
 use Rattle.fmp_build.specs.Entries.{entry_uses}

@@ -11,13 +11,14 @@ use Rattle.fmp_tasklang.specs.Trees.{BodyTree}
 use Rattle.fmp_tasklang.specs.Scopes.{Scope, object_names, object_number, exinf_name, scope_of}
 use Rattle.fmp_code.specs.declared.instructions.Instruction.TheVariants.{End}
 use Rattle.fmp_code.specs.Instructions.{BodyTables}
-use Rattle.fmp_codegen.specs.declared.offences.Offence.{Offence}
-use Rattle.fmp_codegen.specs.Compiling.{is_among, is_object, variables_offence, size_offence, body_offence, bodies_offence, compiled_body, compiled, IsAccepted}
-use Rattle.fmp_codegen.specs.DepthTables.{body_depths}
-use Rattle.fmp_codegen.specs.Naming.{first_offence, uses_offence, block_uses, reads}
+use Rattle.fmp_scopes.specs.declared.offences.Offence.{Offence}
+use Rattle.fmp_codegen.specs.Compiling.{is_among, variables_offence, size_offence, body_offence, bodies_offence, compiled_body, compiled, IsAccepted}
+use Rattle.fmp_scopes.specs.Scopes.{is_object}
+use Rattle.fmp_scopes.specs.DepthTables.{body_depths}
+use Rattle.fmp_scopes.specs.Naming.{first_offence, uses_offence, block_uses, reads}
 use Rattle.fmp_codegen.specs.Runs.{PrintsText}
-use Rattle.fmp_codegen.specs.Scheme.{block_code}
-use Rattle.fmp_codegen.specs.Sizes.{block_size}
+use Rattle.fmp_scopes.specs.Scheme.{block_code}
+use Rattle.fmp_scopes.specs.Sizes.{block_size}
 use Rattle.fmp_image.specs.Images.{ImageTables}
 use Rattle.fmp_build.specs.Building.{built_task, built_cyclic, built_tables, built_image}
 

@@ -17,10 +17,10 @@ use Rattle.fmp_cfgparse.specs.Values.{between, held, number_at, name_at}
 use Rattle.fmp_tasklang.specs.declared.trees.BodyKind.{BodyKind}
 use Rattle.fmp_tasklang.specs.declared.trees.BodyKind.TheVariants.{Task, Handler}
 use Rattle.fmp_tasklang.specs.Trees.{BodyTree}
-use Rattle.fmp_codegen.specs.declared.entries.EntryUse.{EntryUse}
-use Rattle.fmp_codegen.specs.declared.offences.Offence.{Offence}
-use Rattle.fmp_codegen.specs.Entries.{body_place, entry_fault, at_token, entries_offence}
-use Rattle.fmp_codegen.specs.Naming.{first_offence}
+use Rattle.fmp_scopes.specs.declared.entries.EntryUse.{EntryUse}
+use Rattle.fmp_scopes.specs.declared.offences.Offence.{Offence}
+use Rattle.fmp_scopes.specs.Entries.{body_place, entry_fault, at_token, entries_offence}
+use Rattle.fmp_scopes.specs.Naming.{first_offence}
 use Rattle.fmp_build.proofs.Entering.{wanted, EachEnters}
 use Rattle.fmp_build.specs.Entries.{entry_of, alone, api_uses, class_uses, entry_uses}
 

@@ -17,15 +17,15 @@ use Rattle.fmp_tasklang.specs.declared.trees.BodyKind as language
 use Rattle.fmp_tasklang.specs.declared.trees.BodyKind.TheVariants as written
 use Rattle.fmp_tasklang.specs.Grammar.{Bodies}
 use Rattle.fmp_tasklang.specs.Trees.{BodyTree}
-use Rattle.fmp_codegen.specs.declared.headings.Heading.{Heading}
-use Rattle.fmp_codegen.specs.declared.offences.Offence.{Offence}
+use Rattle.fmp_scopes.specs.declared.headings.Heading.{Heading}
+use Rattle.fmp_scopes.specs.declared.offences.Offence.{Offence}
 use Rattle.fmp_codegen.specs.Compiling.{bodies_offence, compiled, IsAccepted}
-use Rattle.fmp_codegen.specs.Depths.{body_depth}
-use Rattle.fmp_codegen.specs.Entries.{body_place, entries_offence}
-use Rattle.fmp_codegen.specs.Naming.{fault_in}
-use Rattle.fmp_image.specs.declared.heads.BodyHead.{BodyHead}
-use Rattle.fmp_image.specs.declared.heads.BodyKind.{BodyKind}
-use Rattle.fmp_image.specs.declared.heads.BodyKind.TheVariants as kind
+use Rattle.fmp_scopes.specs.Depths.{body_depth}
+use Rattle.fmp_scopes.specs.Entries.{body_place, entries_offence}
+use Rattle.fmp_scopes.specs.Naming.{fault_in}
+use Rattle.fmp_image_parts.specs.declared.heads.BodyHead.{BodyHead}
+use Rattle.fmp_image_parts.specs.declared.heads.BodyKind.{BodyKind}
+use Rattle.fmp_image_parts.specs.declared.heads.BodyKind.TheVariants as kind
 use Rattle.fmp_image.specs.Images.{ImageTables, image_tables}
 use Rattle.fmp_build.specs.Entries.{entry_uses}
 

@@ -6,7 +6,7 @@ use Rattle.fmp_lex.specs.declared.words.Api.TheVariants as api
 use Rattle.fmp_cfgparse.specs.Trees.{FieldTree, ApiTree, ClassTree, ConfigurationTree}
 use Rattle.fmp_cfgparse.specs.Values.{number_at, name_at, held}
 use Rattle.fmp_tasklang.specs.declared.trees.BodyKind.TheVariants.{Task, Handler}
-use Rattle.fmp_codegen.specs.declared.entries.EntryUse.{EntryUse}
+use Rattle.fmp_scopes.specs.declared.entries.EntryUse.{EntryUse}
 
 -- The entry of a static API with these fields, whose word is this token: CRE_TSK names a task's body and its stack,
 -- CRE_CYC and DEF_INH a handler's.

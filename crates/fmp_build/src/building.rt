@@ -5,7 +5,7 @@ ghost use Rattle.fmp_base.specs.Systems.{tables_of};
 ghost use Rattle.fmp_tasklang.specs.Trees.{BodyTree};
 ghost use Rattle.fmp_code.specs.Instructions.{code_tables};
 ghost use Rattle.fmp_codegen.specs.Compiling.{compiled};
-ghost use Rattle.fmp_codegen.specs.Headings.{AreHeadings};
+ghost use Rattle.fmp_scopes.specs.Headings.{AreHeadings};
 ghost use Rattle.fmp_image.specs.Images.{IsImage};
 ghost use Rattle.fmp_build.specs.Building.{Builds, IsBuildFault, built_image};
 

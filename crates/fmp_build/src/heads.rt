@@ -3,7 +3,7 @@
 ghost use Rattle.std.specs.Prelude.{◌≡◌, ◌≤◌, List, IfOk};
 ghost use Rattle.std.specs.List.{AllByRecursion};
 ghost use Rattle.fmp_tasklang.specs.Trees.{BodyTree};
-ghost use Rattle.fmp_codegen.specs.Headings.{AreHeadings};
+ghost use Rattle.fmp_scopes.specs.Headings.{AreHeadings};
 ghost use Rattle.fmp_build.specs.Building as spec;
 
 use fmp_codegen::Heading;

@@ -3,7 +3,7 @@
 ghost use Rattle.std.specs.Prelude.{◌≡◌, ◌≤◌, List, length, map};
 ghost use Rattle.fmp_base.specs.Systems.{tables_of};
 ghost use Rattle.fmp_tasklang.specs.Trees.{BodyTree};
-ghost use Rattle.fmp_codegen.specs.Headings.{AreHeadings};
+ghost use Rattle.fmp_scopes.specs.Headings.{AreHeadings};
 ghost use Rattle.fmp_build.specs.Building as spec;
 ghost use Rattle.fmp_build.specs.Building.{built_task, built_cyclic, built_interrupt, built_tables};
 

@@ -1,13 +1,9 @@
 pub mod Bodies
-pub mod CallsMade
 pub mod Conjunctions
 pub mod Fetching
 pub mod Filling
 pub mod Frames
-pub mod OperandLists
 pub mod Operations
 pub mod Places
-pub mod Requests
 pub mod Steps
-pub mod Stops
 pub mod Tables

@@ -1,9 +1,5 @@
-pub mod Hands
 pub mod Instructions
-pub mod Laws
 pub mod Longer
 pub mod Machine
 pub mod Registers
-pub mod Stretches
 pub mod Verify
-pub mod Vms

@@ -4,10 +4,10 @@ use Rattle.fmp_tasklang.specs.Trees.{ExpressionTree, Block, if_then, if_else, wh
 use Rattle.fmp_tasklang.specs.Scopes.{Scope}
 use Rattle.fmp_code.specs.declared.instructions.Instruction.{Instruction}
 use Rattle.fmp_code.specs.declared.instructions.Instruction.TheVariants.{Jump, JumpIfZero}
-use Rattle.fmp_codegen.specs.Chains.{test_code}
-use Rattle.fmp_codegen.specs.DepthTables.{expression_depths, statement_depths, block_depths}
-use Rattle.fmp_codegen.specs.Scheme.{expression_code, statement_code, block_code}
-use Rattle.fmp_codegen.specs.Sizes.{expression_size, block_size}
+use Rattle.fmp_scopes.specs.Chains.{test_code}
+use Rattle.fmp_scopes.specs.DepthTables.{expression_depths, statement_depths, block_depths}
+use Rattle.fmp_scopes.specs.Scheme.{expression_code, statement_code, block_code}
+use Rattle.fmp_scopes.specs.Sizes.{expression_size, block_size}
 
 -- a test and what stands behind it
 tested : {A : Type 0} (begun first : List A) (test : A) (rest : List A) → (begun ++ (first ++ test ∷ [])) ++ rest ≡ begun ++ (first ++ (test ∷ rest))

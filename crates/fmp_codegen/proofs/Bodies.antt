@@ -19,15 +19,15 @@ use Rattle.fmp_code.specs.Instructions.{BodyTables, found_instructions, instruct
 use Rattle.fmp_code.specs.Machine.{code_start, code_deliver, call_before, replied}
 use Rattle.fmp_codegen.specs.Compiling.{is_among, body_offence, bodies_offence, compiled, IsAccepted, variables_offence, size_offence}
 use Rattle.fmp_codegen.specs.Laws.{DoesText}
-use Rattle.fmp_codegen.specs.declared.offences.Offence.{Offence}
-use Rattle.fmp_codegen.specs.Naming.{first_offence, uses_offence, block_uses}
-use Rattle.fmp_codegen.specs.Scheme.{block_code, body_code}
-use Rattle.fmp_codegen.specs.Sizes.{block_size}
+use Rattle.fmp_scopes.specs.declared.offences.Offence.{Offence}
+use Rattle.fmp_scopes.specs.Naming.{first_offence, uses_offence, block_uses}
+use Rattle.fmp_scopes.specs.Scheme.{block_code, body_code}
+use Rattle.fmp_scopes.specs.Sizes.{block_size}
 use Rattle.fmp_codegen.specs.Tie.{HasAt, StandsSomehow, Reaches, ContextTied, CodeTied, longest}
 use Rattle.fmp_codegen.proofs.Behaves.{IsEnough, enough, one_is_enough, code_first, text_first}
 use Rattle.fmp_codegen.proofs.Expressions.{at_place}
 use Rattle.fmp_codegen.proofs.Lengths.{has_front, has_back, has_all, length-block_code}
-use Rattle.fmp_codegen.proofs.KnownNames.{none-first, none-second}
+use Rattle.fmp_scopes.proofs.KnownNames.{none-first, none-second}
 use Rattle.fmp_codegen.proofs.Statements.{Then, here, block_stands}
 
 -- ---- names

@@ -4,10 +4,10 @@ use Rattle.fmp_tasklang.specs.Trees.{ExpressionTree, StatementTree, Block, next}
 use Rattle.fmp_tasklang.specs.Scopes.{Scope}
 use Rattle.fmp_tasklang.specs.Views.{LinkTree}
 use Rattle.fmp_code.specs.declared.instructions.Instruction.{Instruction}
-use Rattle.fmp_codegen.specs.Chains.{link_size, operator_code, links_code, operator_depths, links_depths}
-use Rattle.fmp_codegen.specs.DepthTables.{expression_depths, arguments_depths, statement_depths, block_depths}
-use Rattle.fmp_codegen.specs.Scheme.{expression_code, arguments_code, statement_code, block_code}
-use Rattle.fmp_codegen.specs.Sizes.{expression_size, statement_size}
+use Rattle.fmp_scopes.specs.Chains.{link_size, operator_code, links_code, operator_depths, links_depths}
+use Rattle.fmp_scopes.specs.DepthTables.{expression_depths, arguments_depths, statement_depths, block_depths}
+use Rattle.fmp_scopes.specs.Scheme.{expression_code, arguments_code, statement_code, block_code}
+use Rattle.fmp_scopes.specs.Sizes.{expression_size, statement_size}
 
 -- what is emitted next comes off what is left
 pub next-emitted :

@@ -10,8 +10,8 @@ use Rattle.fmp_tasklang.specs.Values.{name_value, both_value, either_value, valu
 use Rattle.fmp_code.specs.declared.instructions.Instruction.{Instruction}
 use Rattle.fmp_code.specs.declared.instructions.Instruction.TheVariants.{Push, Load, Unary, Truth, Binary, Jump, JumpIfZero}
 use Rattle.fmp_code.specs.Machine.{at, gives, act, exec}
-use Rattle.fmp_codegen.specs.Scheme.{name_code, expression_code, arguments_code}
-use Rattle.fmp_codegen.specs.Sizes.{expression_size, arguments_size}
+use Rattle.fmp_scopes.specs.Scheme.{name_code, expression_code, arguments_code}
+use Rattle.fmp_scopes.specs.Sizes.{expression_size, arguments_size}
 use Rattle.fmp_codegen.specs.Tie.{HasAt}
 use Rattle.fmp_codegen.proofs.Lengths.{has_front, has_back, length-expression_code}
 

@@ -12,15 +12,16 @@ use Rattle.fmp_code.specs.declared.instructions.Instruction.{Instruction}
 use Rattle.fmp_code.specs.declared.instructions.Instruction.TheVariants.{Push, Load, Store, Unary, Truth, Binary, Jump, JumpIfZero, End}
 use Rattle.fmp_code.specs.Verify.{depth_is, entry_is, local_fits, is_same, places_fit, wants, fits}
 use Rattle.fmp_tasklang.specs.CallForms.{CallFits, StatementFits, BlockFits}
-use Rattle.fmp_codegen.specs.Depths.{expression_depth, arguments_depth, statement_depth, block_depth}
-use Rattle.fmp_codegen.specs.DepthTables.{expression_depths, arguments_depths, statement_depths, block_depths}
-use Rattle.fmp_codegen.specs.Naming.{Writes, use_offence, uses_offence, expression_uses, word_uses, call_uses, statement_uses, block_uses}
-use Rattle.fmp_codegen.specs.Scheme.{name_code, expression_code, arguments_code, target_place, call_instruction, statement_code, block_code}
-use Rattle.fmp_codegen.specs.Sizes.{expression_size, arguments_size, statement_size, block_size}
+use Rattle.fmp_scopes.specs.Depths.{expression_depth, arguments_depth, statement_depth, block_depth}
+use Rattle.fmp_scopes.specs.DepthTables.{expression_depths, arguments_depths, statement_depths, block_depths}
+use Rattle.fmp_scopes.specs.Naming.{Writes, use_offence, uses_offence, expression_uses, word_uses, call_uses, statement_uses, block_uses}
+use Rattle.fmp_scopes.specs.Scheme.{name_code, expression_code, arguments_code, target_place, call_instruction, statement_code, block_code}
+use Rattle.fmp_scopes.specs.Sizes.{expression_size, arguments_size, statement_size, block_size}
 use Rattle.fmp_codegen.specs.Tie.{HasAt}
 use Rattle.fmp_codegen.proofs.DepthLengths.{HasDepths, depths_front, depths_back, length-expression_depths, length-arguments_depths, length-statement_depths, length-block_depths}
 use Rattle.fmp_codegen.proofs.Lengths.{has_front, has_back, length-expression_code, length-arguments_code, length-statement_code, length-block_code}
-use Rattle.fmp_codegen.proofs.KnownNames.{none-first, uses_front, uses_back, target_is, call-named}
+use Rattle.fmp_scopes.proofs.LeastDepths.{one-le-expression_depth, arguments-le-depth}
+use Rattle.fmp_scopes.proofs.KnownNames.{none-first, uses_front, uses_back, target_is, call-named}
 use Rattle.fmp_codegen.proofs.Places.{variable-below}
 
 pub both_true : (a b : Bool) → a ≡ true → b ≡ true → (a && b) ≡ true
@@ -40,18 +41,6 @@ same_true true true h = refl
 same_true true false h = h
 same_true false true h = sym h
 same_true false false h = refl
-
-pub one-le-expression_depth : (e : ExpressionTree) → 1 ≤ expression_depth e
-one-le-expression_depth (number k) = omega arith
-one-le-expression_depth (named w) = omega arith
-one-le-expression_depth (unary op e) = one-le-expression_depth e
-one-le-expression_depth (binary op a b) = omega arith
-one-le-expression_depth (both a b) = omega (arith, one-le-expression_depth a)
-one-le-expression_depth (either a b) = omega (arith, one-le-expression_depth a)
-
-pub arguments-le-depth : (es : List ExpressionTree) → length es ≤ arguments_depth es
-arguments-le-depth [] = omega arith
-arguments-le-depth (e ∷ es) = omega (arith, arguments-le-depth es)
 
 module _ (scope : Scope) (code : List Instruction) (table : List ℕ) where
   abbrev locals : ℕ

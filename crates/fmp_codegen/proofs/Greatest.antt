@@ -1,10 +1,10 @@
 -- The greatest entry of a depth table is the depth of its tree.
 use Rattle.std.proofs.Common.{◌≡◌, ℕ, ◌+◌, max, List, [], ◌∷◌, ◌++◌, length, refl, arith}
 use Rattle.fmp_tasklang.specs.Trees.{ExpressionTree, number, named, unary, binary, both, either, StatementTree, assign, service_call, if_then, if_else, while, break, continue, return, Block, empty, next, BodyTree}
-use Rattle.fmp_codegen.specs.Depths.{expression_depth, arguments_depth, statement_depth, block_depth, body_depth}
-use Rattle.fmp_codegen.specs.DepthTables.{expression_depths, arguments_depths, statement_depths, block_depths, body_depths}
+use Rattle.fmp_scopes.specs.Depths.{expression_depth, arguments_depth, statement_depth, block_depth, body_depth}
+use Rattle.fmp_scopes.specs.DepthTables.{expression_depths, arguments_depths, statement_depths, block_depths, body_depths}
 use Rattle.fmp_codegen.specs.Laws.{greatest}
-use Rattle.fmp_codegen.proofs.Fits.{one-le-expression_depth}
+use Rattle.fmp_scopes.proofs.LeastDepths.{one-le-expression_depth}
 
 greatest-append : (a b : List ℕ) → greatest (a ++ b) ≡ max (greatest a) (greatest b)
 greatest-append [] b = omega arith

@@ -1,28 +1,24 @@
 -- Bodies and variables are judged one after another.
-use Rattle.std.proofs.Common.{◌≡◌, ℕ, zero, suc, ◌+◌, ◌<◌, ◌≤◌, List, [], ◌∷◌, ◌++◌, Option, Some, None, Err, length, slice_get, take, drop, get_or, map, refl, sym, ap, ◌∙◌, subst, arith, drop-cons, append_assoc}
+use Rattle.std.proofs.Common.{◌≡◌, ℕ, ◌+◌, ◌<◌, ◌≤◌, List, [], ◌∷◌, ◌++◌, Option, Some, None, Err, length, take, drop, get_or, map, refl, sym, ap, ◌∙◌, subst, append_assoc}
 use Rattle.std.proofs.lemmas.List.{take_more}
 use Rattle.fmp_base.specs.declared.names.Name.{Name}
 use Rattle.fmp_base.specs.Systems.{SystemTables}
 use Rattle.fmp_lex.specs.declared.fault.BuildFault.{BuildFault}
 use Rattle.fmp_lex.specs.declared.fault.BuildFault.TheVariants as build
-use Rattle.fmp_lex.specs.declared.fault.FaultKind.{FaultKind}
 use Rattle.fmp_lex.specs.declared.fault.TextFile.TheVariants as file
 use Rattle.fmp_lex.specs.declared.token.Token.{Token}
-use Rattle.fmp_lex.specs.Faults.{offence_fault}
 use Rattle.fmp_tasklang.specs.declared.trees.Body.{Body}
 use Rattle.fmp_tasklang.specs.Trees.{BodyTree}
 use Rattle.fmp_tasklang.specs.Views.{body_view}
 use Rattle.fmp_code.specs.Instructions.{BodyTables}
 use Rattle.fmp_code.specs.Verify.{Verified}
-use Rattle.fmp_codegen.specs.declared.offences.Offence.{Offence}
+use Rattle.fmp_scopes.specs.declared.offences.Offence.{Offence}
 use Rattle.fmp_tasklang.specs.CallForms.{CallsFit}
-use Rattle.fmp_codegen.specs.declared.entries.EntryUse.{EntryUse}
 use Rattle.fmp_codegen.specs.Compiling.{body_offence, bodies_offence, compiled, compiled_body, IsAccepted, IsCompiled}
-use Rattle.fmp_codegen.specs.Entries.{at_token, body_place, entry_fault, entries_offence, IsChecked}
 use Rattle.fmp_codegen.specs.Laws.{DoesText}
-use Rattle.fmp_codegen.specs.Naming.{fault_in, first_offence}
+use Rattle.fmp_scopes.specs.Naming.{fault_in, first_offence}
 use Rattle.fmp_codegen.proofs.Bodies.{does_text}
-use Rattle.fmp_codegen.proofs.Loops.{drop-all, map-step}
+use Rattle.fmp_scopes.proofs.Loops.{drop-all, map-step}
 use Rattle.fmp_codegen.proofs.VerifiedBodies.{is_verified}
 
 pub map-append : {A B : Type 0} (f : A → B) (xs ys : List A) → map f (xs ++ ys) ≡ map f xs ++ map f ys
@@ -82,29 +78,12 @@ pub code-verified :
     code ≡ compiled tables bodies → CallsFit bodies → Verified code
 code-verified tables bodies code accepted e fits = subst Verified (sym e) (is_verified tables bodies accepted fits)
 
--- the fault of a text, or that of an entry
+-- the fault of a text
 pub compiled-stopped :
     (tables : SystemTables) (ts : List Token) (bodies : List BodyTree) (o : Offence) (f : BuildFault) →
     f ≡ fault_in file.Source ts o → bodies_offence tables [] bodies ≡ Some o → IsCompiled tables ts bodies (Err f)
 compiled-stopped tables ts bodies o build.Memory is first = tt
 compiled-stopped tables ts bodies o (build.At f place why) is first = (o, first, is)
-
-pub checked-stopped :
-    (R : Type 0) (ts : List Token) (bodies : List BodyTree) (entries : List EntryUse) (at : ℕ) (why : FaultKind) (f : BuildFault) →
-    f ≡ offence_fault file.Configuration (slice_get ts at) why → entries_offence bodies entries ≡ Some (record { at = at; why = why }) →
-    IsChecked {R = R} ts bodies entries (Err f)
-checked-stopped R ts bodies entries at why build.Memory is first = tt
-checked-stopped R ts bodies entries at why (build.At f place kind) is first = (record { at = at; why = why }, first, is)
-
--- the first entry with a fault
-pub entry-here :
-    (bodies : List BodyTree) (es : List EntryUse) (k : ℕ) (d : EntryUse) (why : FaultKind) → k < length es →
-    Some why ≡ entry_fault bodies (get_or es k d) (body_place bodies (get_or es k d).name) →
-    entries_offence bodies (drop k es) ≡ entries_offence bodies es →
-    entries_offence bodies es ≡ Some (record { at = (get_or es k d).at; why = why })
-entry-here bodies es k d why lt h before =
-    sym before ∙ (ap (entries_offence bodies) (drop-cons es k d lt)
-    ∙ ap (λ f. first_offence (at_token (get_or es k d).at f) (entries_offence bodies (drop (suc k) es))) (sym h))
 
 append-nil : {A : Type 0} (xs : List A) → xs ++ [] ≡ xs
 append-nil [] = refl

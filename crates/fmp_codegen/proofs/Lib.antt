@@ -1,25 +1,19 @@
 mod Arms
 mod Behaves
 mod Bodies
-mod ChainTrees
 mod DepthLengths
 mod Emitted
-mod Entering
 mod Expressions
 mod Fits
 mod Greatest
-mod Headed
 mod Judging
-mod KnownNames
 mod Lengths
 pub mod Limits
-mod Loops
+mod LowHeadings
 mod Places
 mod Positions
 mod Printed
-mod RowNumbers
 mod Statements
 mod TextMaking
 mod Variables
 mod VerifiedBodies
-mod ViewTrees

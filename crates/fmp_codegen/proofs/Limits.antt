@@ -11,12 +11,12 @@ use Rattle.fmp_tasklang.specs.declared.trees.Body.{Body}
 use Rattle.fmp_tasklang.specs.Trees.{BodyTree}
 use Rattle.fmp_tasklang.specs.Scopes.{exinf_name, scope_of}
 use Rattle.fmp_tasklang.specs.Views.{body_view}
-use Rattle.fmp_codegen.specs.declared.offences.Offence.{Offence}
+use Rattle.fmp_scopes.specs.declared.offences.Offence.{Offence}
 use Rattle.fmp_codegen.specs.Compiling.{is_among, variables_offence, size_offence, body_offence, bodies_offence, IsAccepted}
-use Rattle.fmp_codegen.specs.Depths.{body_depth}
-use Rattle.fmp_codegen.specs.Naming.{first_offence, uses_offence, block_uses}
+use Rattle.fmp_scopes.specs.Depths.{body_depth}
+use Rattle.fmp_scopes.specs.Naming.{first_offence, uses_offence, block_uses}
 use Rattle.fmp_codegen.proofs.Bodies.{body-accepted}
-use Rattle.fmp_codegen.proofs.KnownNames.{none-first, none-second}
+use Rattle.fmp_scopes.proofs.KnownNames.{none-first, none-second}
 use Rattle.fmp_codegen.proofs.VerifiedBodies.{not-taken, is_small}
 
 -- a body without a fault is no 256th

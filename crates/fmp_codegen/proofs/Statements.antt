@@ -18,13 +18,13 @@ use Rattle.fmp_code.specs.declared.instructions.Instruction.{Instruction}
 use Rattle.fmp_code.specs.declared.instructions.Instruction.TheVariants.{Store, Jump, JumpIfZero, End}
 use Rattle.fmp_code.specs.declared.instructions.MachineContext.{MachineContext}
 use Rattle.fmp_code.specs.Machine.{at, unstacked, exec, call_before, replied}
-use Rattle.fmp_codegen.specs.Naming.{uses_offence, expression_uses, statement_uses, block_uses, use_offence, Writes}
-use Rattle.fmp_codegen.specs.Scheme.{expression_code, arguments_code, target_place, call_instruction, statement_code, block_code}
-use Rattle.fmp_codegen.specs.Sizes.{expression_size, arguments_size, statement_size, block_size}
+use Rattle.fmp_scopes.specs.Naming.{uses_offence, expression_uses, statement_uses, block_uses, use_offence, Writes}
+use Rattle.fmp_scopes.specs.Scheme.{expression_code, arguments_code, target_place, call_instruction, statement_code, block_code}
+use Rattle.fmp_scopes.specs.Sizes.{expression_size, arguments_size, statement_size, block_size}
 use Rattle.fmp_codegen.specs.Tie.{HasAt, Path, Reaches, Stands, StandsSomehow, ContextTied, SameLocals}
 use Rattle.fmp_codegen.proofs.Expressions.{Leads, Faults, Runs, stacked, one_step, leads_on, goes, jumps_to, renamed, expression_runs, arguments_run}
 use Rattle.fmp_codegen.proofs.Lengths.{has_front, has_back, length-expression_code, length-arguments_code, length-statement_code, length-block_code}
-use Rattle.fmp_codegen.proofs.KnownNames.{none-first, uses_front, uses_back, target_is}
+use Rattle.fmp_scopes.proofs.KnownNames.{none-first, uses_front, uses_back, target_is}
 
 -- ---- the weight falls
 

@@ -29,15 +29,16 @@ use Rattle.fmp_tasklang.proofs.BodyPaths.{ends_there}
 use Rattle.fmp_tasklang.specs.Trees.{BodyTree}
 use Rattle.fmp_code.specs.declared.instructions.BodyCode.{BodyCode}
 use Rattle.fmp_code.specs.Instructions.{BodyTables, body_tables}
-use Rattle.fmp_codegen.specs.declared.headings.Heading.{Heading}
-use Rattle.fmp_codegen.specs.declared.offences.Offence.{Offence}
+use Rattle.fmp_scopes.specs.declared.headings.Heading.{Heading}
+use Rattle.fmp_scopes.specs.declared.offences.Offence.{Offence}
 use Rattle.fmp_codegen.specs.declared.texts.CompiledText.{CompiledText}
 use Rattle.fmp_codegen.specs.declared.texts.Made.{Made}
 use Rattle.fmp_codegen.specs.Compiling.{body_offence, bodies_offence, compiled_body, compiled}
-use Rattle.fmp_codegen.specs.Headings.{heading_of, AreHeadings}
-use Rattle.fmp_codegen.specs.Naming.{first_offence}
+use Rattle.fmp_scopes.specs.Headings.{heading_of, AreHeadings}
+use Rattle.fmp_scopes.specs.Naming.{first_offence}
 use Rattle.fmp_codegen.specs.Texts.{AreMade, IsMadeUpTo, IsMadeOf, MadeText, IsTextCompiled}
-use Rattle.fmp_codegen.proofs.Headed.{names-of, length-headed, low-headed}
+use Rattle.fmp_scopes.proofs.Headed.{names-of, length-headed}
+use Rattle.fmp_codegen.proofs.LowHeadings.{low-headed}
 use Rattle.fmp_codegen.proofs.Limits.{few-bodies}
 
 first-none : (o : Option Offence) → first_offence o None ≡ o

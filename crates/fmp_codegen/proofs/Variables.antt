@@ -10,10 +10,11 @@ use Rattle.fmp_base.specs.Systems.{SystemTables}
 use Rattle.fmp_lex.specs.declared.fault.FaultKind.TheVariants as fault
 use Rattle.fmp_tasklang.specs.declared.trees.Word.{Word}
 use Rattle.fmp_tasklang.specs.Scopes.{exinf_name, place_of}
-use Rattle.fmp_codegen.specs.declared.offences.Offence.{Offence}
-use Rattle.fmp_codegen.specs.Compiling.{is_among, is_object, variables_offence}
+use Rattle.fmp_scopes.specs.declared.offences.Offence.{Offence}
+use Rattle.fmp_codegen.specs.Compiling.{is_among, variables_offence}
+use Rattle.fmp_scopes.specs.Scopes.{is_object}
 use Rattle.fmp_codegen.proofs.Judging.{take-step}
-use Rattle.fmp_codegen.proofs.Loops.{drop-step}
+use Rattle.fmp_scopes.proofs.Loops.{drop-step}
 use Rattle.fmp_codegen.proofs.Positions.{raised, place_of-cons}
 
 some-raised : (b : Bool) (o : Option ℕ) → is_some (cond b (Some 0) (raised o)) ≡ (b || is_some o)

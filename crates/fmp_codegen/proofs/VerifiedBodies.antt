@@ -14,18 +14,19 @@ use Rattle.fmp_code.specs.declared.instructions.Instruction.TheVariants.{End}
 use Rattle.fmp_code.specs.Instructions.{BodyTables}
 use Rattle.fmp_code.specs.Verify.{fits as fits_in, KeepsTable, VerifiedBody, Verified}
 use Rattle.fmp_tasklang.specs.CallForms.{BlockFits, CallsFit}
-use Rattle.fmp_codegen.specs.Compiling.{is_among, is_object, variables_offence, size_offence, body_offence, bodies_offence, compiled_body, compiled, IsAccepted}
-use Rattle.fmp_codegen.specs.Depths.{body_depth}
-use Rattle.fmp_codegen.specs.DepthTables.{block_depths, body_depths}
-use Rattle.fmp_codegen.specs.declared.offences.Offence.{Offence}
-use Rattle.fmp_codegen.specs.Scheme.{block_code, body_code}
-use Rattle.fmp_codegen.specs.Sizes.{block_size, body_size}
+use Rattle.fmp_codegen.specs.Compiling.{is_among, variables_offence, size_offence, body_offence, bodies_offence, compiled_body, compiled, IsAccepted}
+use Rattle.fmp_scopes.specs.Scopes.{is_object}
+use Rattle.fmp_scopes.specs.Depths.{body_depth}
+use Rattle.fmp_scopes.specs.DepthTables.{block_depths, body_depths}
+use Rattle.fmp_scopes.specs.declared.offences.Offence.{Offence}
+use Rattle.fmp_scopes.specs.Scheme.{block_code, body_code}
+use Rattle.fmp_scopes.specs.Sizes.{block_size, body_size}
 use Rattle.fmp_codegen.specs.Tie.{HasAt}
 use Rattle.fmp_codegen.proofs.Bodies.{skips, Accepted, body-accepted}
 use Rattle.fmp_codegen.proofs.DepthLengths.{HasDepths, depths_front, depths_back, depths_all, length-block_depths, length-body_depths}
 use Rattle.fmp_codegen.proofs.Fits.{fit_join, fit_at, block_first, block_fits}
 use Rattle.fmp_codegen.proofs.Lengths.{has_front, has_back, has_all, length-block_code, length-body_code}
-use Rattle.fmp_codegen.proofs.KnownNames.{none-first, none-second}
+use Rattle.fmp_scopes.proofs.KnownNames.{none-first, none-second}
 
 -- ---- limits
 

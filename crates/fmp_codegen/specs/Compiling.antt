@@ -10,22 +10,20 @@ use Rattle.fmp_lex.specs.declared.fault.TextFile.TheVariants as file
 use Rattle.fmp_lex.specs.declared.token.Token.{Token}
 use Rattle.fmp_tasklang.specs.declared.trees.Word.{Word}
 use Rattle.fmp_tasklang.specs.Trees.{BodyTree}
-use Rattle.fmp_tasklang.specs.Scopes.{place_of, object_number, object_names, exinf_name, scope_of}
+use Rattle.fmp_tasklang.specs.Scopes.{place_of, exinf_name, scope_of}
 use Rattle.fmp_code.specs.declared.instructions.Code as declared
 use Rattle.fmp_code.specs.Instructions.{BodyTables, code_tables}
-use Rattle.fmp_codegen.specs.Depths.{body_depth}
-use Rattle.fmp_codegen.specs.DepthTables.{body_depths}
-use Rattle.fmp_codegen.specs.declared.offences.Offence.{Offence}
-use Rattle.fmp_codegen.specs.Naming.{fault_in, first_offence, uses_offence, block_uses, reads}
-use Rattle.fmp_codegen.specs.Scheme.{body_code}
-use Rattle.fmp_codegen.specs.Sizes.{body_size}
+use Rattle.fmp_scopes.specs.Depths.{body_depth}
+use Rattle.fmp_scopes.specs.DepthTables.{body_depths}
+use Rattle.fmp_scopes.specs.declared.offences.Offence.{Offence}
+use Rattle.fmp_scopes.specs.Naming.{fault_in, first_offence, uses_offence, block_uses}
+use Rattle.fmp_scopes.specs.Scheme.{body_code}
+use Rattle.fmp_scopes.specs.Scopes.{is_object}
+use Rattle.fmp_scopes.specs.Sizes.{body_size}
 
 -- one of these names is the same
 abbrev pub is_among : Name → List Name → Bool
 is_among name names = is_some (place_of (name_text name) names)
-
-abbrev pub is_object : SystemTables → Name → Bool
-is_object tables name = reads (object_number (name_text name) (object_names tables))
 
 -- The first fault of declared variables, after locals of these names: the 65th local, or a name of another variable or
 -- of an object.

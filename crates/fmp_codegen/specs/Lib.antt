@@ -1,15 +1,5 @@
-pub mod Chains
 pub mod Compiling
-pub mod Depths
-pub mod DepthTables
-pub mod Entries
-pub mod Headings
 pub mod Laws
-pub mod Naming
-pub mod Numbers
 pub mod Runs
-pub mod Scheme
-pub mod Sizes
-pub mod Scopes
 pub mod Texts
 pub mod Tie

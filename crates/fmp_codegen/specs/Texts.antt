@@ -14,12 +14,12 @@ use Rattle.fmp_tasklang.specs.Grammar.{Bodies}
 use Rattle.fmp_tasklang.specs.Reading.{RightBodies}
 use Rattle.fmp_tasklang.specs.Trees.{BodyTree}
 use Rattle.fmp_code.specs.Instructions.{body_tables, code_tables}
-use Rattle.fmp_codegen.specs.declared.offences.Offence.{Offence}
+use Rattle.fmp_scopes.specs.declared.offences.Offence.{Offence}
 use Rattle.fmp_codegen.specs.declared.texts.CompiledText.{CompiledText}
 use Rattle.fmp_codegen.specs.declared.texts.Made.{Made}
 use Rattle.fmp_codegen.specs.Compiling.{bodies_offence, compiled, IsAccepted}
-use Rattle.fmp_codegen.specs.Headings.{AreHeadings}
-use Rattle.fmp_codegen.specs.Naming.{fault_in}
+use Rattle.fmp_scopes.specs.Headings.{AreHeadings}
+use Rattle.fmp_scopes.specs.Naming.{fault_in}
 
 -- after bodies that were read stands their first fault, or else their headings and their code
 pub record AreMade (tables : SystemTables) (made : Made) (bodies : List BodyTree) : Type 0 where

@@ -13,9 +13,9 @@ use Rattle.fmp_code.specs.declared.instructions.Instruction.TheVariants.{Jump, E
 use Rattle.fmp_code.specs.declared.instructions.MachineContext.{MachineContext}
 use Rattle.fmp_code.specs.Instructions.{BodyTables, instructions_at}
 use Rattle.fmp_code.specs.Machine.{call_before, replied}
-use Rattle.fmp_codegen.specs.Naming.{uses_offence, statement_uses}
-use Rattle.fmp_codegen.specs.Scheme.{statement_code}
-use Rattle.fmp_codegen.specs.Sizes.{statement_size}
+use Rattle.fmp_scopes.specs.Naming.{uses_offence, statement_uses}
+use Rattle.fmp_scopes.specs.Scheme.{statement_code}
+use Rattle.fmp_scopes.specs.Sizes.{statement_size}
 
 -- the instructions stand in the code from this place on
 abbrev pub HasAt : List Instruction → ℕ → List Instruction → Type 0

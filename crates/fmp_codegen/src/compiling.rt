@@ -11,20 +11,19 @@ ghost use Rattle.fmp_code.specs.Verify.{Verified};
 ghost use Rattle.fmp_tasklang.specs.CallForms.{CallsFit};
 ghost use Rattle.fmp_codegen.specs.Compiling as spec;
 ghost use Rattle.fmp_codegen.specs.Compiling.{compiled_body, IsCompiled};
-ghost use Rattle.fmp_codegen.specs.Depths.{body_depth};
+ghost use Rattle.fmp_scopes.specs.Depths.{body_depth};
 ghost use Rattle.fmp_codegen.specs.Laws.{DoesText};
-ghost use Rattle.fmp_codegen.specs.Scopes.{HoldsNumbers};
-ghost use Rattle.fmp_codegen.specs.Sizes.{block_size};
+ghost use Rattle.fmp_scopes.specs.Scopes.{HoldsNumbers};
+ghost use Rattle.fmp_scopes.specs.Sizes.{block_size};
 
 use crate::emission::{Output, emit_block, put};
-use crate::extents::{Extent, block_extent};
-use crate::names::{HasName, Names, Objects, is_exinf, is_object, place_in};
-use crate::numbers::number_objects;
-use crate::offences::{Offence, source_fault};
-use crate::uses::block_offence;
 use fmp_base::System;
 use fmp_code::{BodyCode, Code, Instruction};
 use fmp_lex::{BuildFault, FaultKind, Tokens};
+use fmp_scopes::{
+    Extent, HasName, Names, Objects, Offence, append, block_extent, block_offence, is_exinf,
+    is_object, number_objects, place_in, source_fault,
+};
 use fmp_tasklang::{Body, Program, Word};
 use std::alloc::{AllocError, Global};
 
@@ -36,14 +35,6 @@ const MOST_OPERANDS: usize = 64;
 const MOST_VARIABLES: usize = 63;
 /// The greatest number of bodies.
 const MOST_BODIES: usize = 255;
-
-/// Appends an item.
-pub fn append<T: Drop>(list: &mut Vec<T>, item: T) -> Result<(), AllocError>
-    ensures { OnOk result (list.new.items ≡ list.old.items ++ item ∷ []) }
-{
-    list.push(item)?;
-    Ok(())
-}
 
 /// The first fault of the declared variables of a body: the 65th local, or a name of another variable or of an object.
 fn variables_offence(objects: &Objects<'_>, variables: &[Word]) -> Option<Offence>

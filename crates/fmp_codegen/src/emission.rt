@@ -7,17 +7,16 @@ ghost use Rattle.fmp_tasklang.specs.declared.trees.Operator.TheVariants as opera
 ghost use Rattle.fmp_tasklang.specs.Scopes.{meaning_of};
 ghost use Rattle.fmp_tasklang.specs.Stretches.{word_place};
 ghost use Rattle.fmp_tasklang.specs.Views.{expression_view, link_view, call_view, statement_view, block_view};
-ghost use Rattle.fmp_codegen.specs.Chains.{link_size, links_size, link_depth, links_depth, operator_code, links_code, operator_depths, links_depths, test_code};
-ghost use Rattle.fmp_codegen.specs.Depths.{expression_depth, arguments_depth, statement_depth, block_depth};
-ghost use Rattle.fmp_codegen.specs.DepthTables.{expression_depths, arguments_depths, statement_depths, block_depths};
-ghost use Rattle.fmp_codegen.specs.Scheme.{name_code, expression_code, arguments_code, target_place, call_instruction, statement_code, block_code};
-ghost use Rattle.fmp_codegen.specs.Scopes.{IsHeld, meaning_view, scope_view};
-ghost use Rattle.fmp_codegen.specs.Sizes.{expression_size, arguments_size, statement_size, block_size};
+ghost use Rattle.fmp_scopes.specs.Chains.{link_size, links_size, link_depth, links_depth, operator_code, links_code, operator_depths, links_depths, test_code};
+ghost use Rattle.fmp_scopes.specs.Depths.{expression_depth, arguments_depth, statement_depth, block_depth};
+ghost use Rattle.fmp_scopes.specs.DepthTables.{expression_depths, arguments_depths, statement_depths, block_depths};
+ghost use Rattle.fmp_scopes.specs.Scheme.{name_code, expression_code, arguments_code, target_place, call_instruction, statement_code, block_code};
+ghost use Rattle.fmp_scopes.specs.Scopes.{IsHeld, meaning_view, scope_view};
+ghost use Rattle.fmp_scopes.specs.Sizes.{expression_size, arguments_size, statement_size, block_size};
 
-use crate::extents::{block_extent, expression_extent};
-use crate::names::{Meaning, Names, meaning_in};
 use fmp_base::BinaryOperator;
 use fmp_code::Instruction;
+use fmp_scopes::{Meaning, Names, block_extent, expression_extent, meaning_in};
 use fmp_tasklang::{Expression, Link, Operator, ServiceCall, Statement, Word};
 use std::alloc::AllocError;
 

@@ -7,8 +7,8 @@ ghost use Rattle.fmp_tasklang.specs.Trees.{BodyTree};
 ghost use Rattle.fmp_code.specs.Verify.{Verified};
 ghost use Rattle.fmp_tasklang.specs.CallForms.{CallsFit};
 ghost use Rattle.fmp_codegen.specs.Compiling.{IsAccepted, compiled};
-ghost use Rattle.fmp_codegen.specs.Depths.{body_depth};
-ghost use Rattle.fmp_codegen.specs.DepthTables.{body_depths};
+ghost use Rattle.fmp_scopes.specs.Depths.{body_depth};
+ghost use Rattle.fmp_scopes.specs.DepthTables.{body_depths};
 ghost use Rattle.fmp_codegen.specs.Laws.{DoesText, greatest};
 ghost use Rattle.fmp_codegen.specs.Runs.{PrintsText};
 

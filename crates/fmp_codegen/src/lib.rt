@@ -3,17 +3,9 @@
 
 mod compiling;
 mod emission;
-mod entries;
-mod extents;
-mod headings;
 pub mod laws;
-mod names;
-mod numbers;
-mod offences;
 mod texts;
-mod uses;
 
 pub use compiling::compile;
-pub use entries::{EntryUse, check_entries, check_headings};
-pub use headings::{Heading, body_place};
+pub use fmp_scopes::{EntryUse, Heading, body_place, check_entries, check_headings};
 pub use texts::{CompiledText, compile_text};

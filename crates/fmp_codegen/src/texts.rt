@@ -8,20 +8,17 @@ ghost use Rattle.fmp_base.specs.Systems.{tables_of};
 ghost use Rattle.fmp_lex.specs.Reading.{kinds_of};
 ghost use Rattle.fmp_tasklang.specs.Trees.{BodyTree};
 ghost use Rattle.fmp_tasklang.specs.Views.{body_view};
-ghost use Rattle.fmp_codegen.specs.Scopes.{HoldsNumbers};
+ghost use Rattle.fmp_scopes.specs.Scopes.{HoldsNumbers};
 ghost use Rattle.fmp_codegen.specs.Texts.{AreMade, IsMadeUpTo, IsMadeOf, IsTextCompiled, MadeText};
 
-use crate::compiling::{append, compile_body, judge_body};
-use crate::headings::{Heading, heading_with};
-use crate::names::Objects;
-use crate::numbers::number_objects;
-use crate::offences::{Offence, source_fault};
+use crate::compiling::{compile_body, judge_body};
 use fmp_base::System;
 use fmp_code::{BodyCode, Code};
 use fmp_lex::{
     BuildFault, FirstFault, GrammarFault, ReadError, TextFault, TextFile, Tokens, fault_at, tokens,
     too_long,
 };
+use fmp_scopes::{Heading, Objects, Offence, append, heading_with, number_objects, source_fault};
 use fmp_tasklang::{Body, body, body_kind_at};
 use std::alloc::{AllocError, Global};
 

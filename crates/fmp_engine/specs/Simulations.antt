@@ -7,7 +7,7 @@ use Rattle.fmp_base.specs.Setups.{setup}
 use Rattle.fmp_base.specs.Texts.{trace_text, whole_text}
 use Rattle.fmp_code.specs.Machine.{code_meaning}
 use Rattle.fmp_codegen.specs.Tie.{longest}
-use Rattle.fmp_image.specs.declared.fault.LoadFault.TheVariants as load
+use Rattle.fmp_image_parts.specs.declared.fault.LoadFault.TheVariants as load
 use Rattle.fmp_image.specs.Images.{ImageTables, Spells, image_at}
 use Rattle.fmp_tasklang.specs.Contexts.{TextContext}
 use Rattle.fmp_tasklang.specs.Texts.{text_meaning}

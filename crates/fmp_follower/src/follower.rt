@@ -10,8 +10,8 @@ ghost use Rattle.fmp_row.specs.Seats.{given};
 
 use fmp_base::{Effect, Event, System};
 use fmp_board::{Board, Seat, Site, kernel_of};
-use fmp_code::Vm;
 use fmp_kernel::Kernel;
+use fmp_machine::Vm;
 use fmp_trace::print;
 use std::alloc::{AllocError, Global};
 use std::marker::Model;

@@ -7,13 +7,13 @@ use Rattle.fmp_base.specs.declared.systems.TaskConfig.{TaskConfig}
 use Rattle.fmp_base.specs.declared.systems.CyclicConfig.{CyclicConfig}
 use Rattle.fmp_base.specs.declared.systems.InterruptConfig.{InterruptConfig}
 use Rattle.fmp_base.specs.Systems.{body_of}
-use Rattle.fmp_image.specs.declared.heads.BodyHead.{BodyHead}
-use Rattle.fmp_image.specs.Bodies.{IsBody}
+use Rattle.fmp_image_parts.specs.declared.heads.BodyHead.{BodyHead}
+use Rattle.fmp_image_parts.specs.Bodies.{IsBody}
 use Rattle.fmp_image.specs.Images.{ImageTables, IsImage}
-use Rattle.fmp_image.specs.Rows.{Frame, frame_of, row, is_task_body, is_handler_body, task_form, cyclic_form, interrupt_form}
+use Rattle.fmp_image_rows.specs.Rows.{Frame, frame_of, row, is_task_body, is_handler_body, task_form, cyclic_form, interrupt_form}
 use Rattle.fmp_image.proofs.InRange.{all_map}
-use Rattle.fmp_image.proofs.Names.{and_true}
-use Rattle.fmp_image.proofs.PairLists.{same_length}
+use Rattle.fmp_image_parts.proofs.Names.{and_true}
+use Rattle.fmp_image_parts.proofs.PairLists.{same_length}
 
 task_there : (heads : List BodyHead) (body stack : ℕ) (o : Option BodyHead) → slice_get heads body ≡ o → is_task_body o stack ≡ true → body < length heads
 task_there heads body stack None e h = absurd cc

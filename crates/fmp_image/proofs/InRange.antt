@@ -12,8 +12,9 @@ use Rattle.fmp_base.specs.declared.systems.CyclicConfig.{CyclicConfig}
 use Rattle.fmp_base.specs.declared.systems.InterruptConfig.{InterruptConfig}
 use Rattle.fmp_base.specs.Ranges.{Lies, IsTable, IsInRange, TaskInRange, SemaphoreInRange, FlagInRange, DataQueueInRange, MailboxInRange, MessageInRange, CyclicInRange, InterruptInRange}
 use Rattle.fmp_image.specs.Images.{ImageTables, KeepRules, IsImage}
-use Rattle.fmp_image.specs.Rows.{Frame, frame_of, RowForm, row, in_range, task_form, semaphore_form, flag_form, data_queue_form, mailbox_form, message_form, cyclic_form, interrupt_form}
-use Rattle.fmp_image.proofs.Names.{and_true}
+use Rattle.fmp_image_parts.specs.Fields.{in_range}
+use Rattle.fmp_image_rows.specs.Rows.{Frame, frame_of, RowForm, row, task_form, semaphore_form, flag_form, data_queue_form, mailbox_form, message_form, cyclic_form, interrupt_form}
+use Rattle.fmp_image_parts.proofs.Names.{and_true}
 
 lies : (low high n : ℕ) → in_range low high n ≡ true → Lies low high n
 lies low high n h = let p = and_true _ _ h in record { least = leb-true low n p.0; most = leb-true n high p.1 }

@@ -14,16 +14,17 @@ use Rattle.fmp_base.specs.declared.systems.CyclicConfig.{CyclicConfig}
 use Rattle.fmp_base.specs.declared.systems.InterruptConfig.{InterruptConfig}
 use Rattle.fmp_base.specs.Systems.{SystemTables}
 use Rattle.fmp_code.specs.Instructions.{BodyTables}
-use Rattle.fmp_image.specs.declared.fault.ImageFault.{ImageFault}
-use Rattle.fmp_image.specs.declared.fault.ImageFault.TheVariants as fault
-use Rattle.fmp_image.specs.declared.heads.BodyHead.{BodyHead}
-use Rattle.fmp_image.specs.declared.keys.Key.{Key}
-use Rattle.fmp_image.specs.Fields.{Field, ◌>>=◌, ◌⊗◌, byte, short, bytes_at, tested, chained}
-use Rattle.fmp_image.specs.Keys.{are_new}
-use Rattle.fmp_image.specs.Rows.{Frame, frame_of, RowForm, row, in_range, task_form, semaphore_form, flag_form, data_queue_form, mailbox_form, message_form, shared_word_form, spin_lock_form, cyclic_form, interrupt_form}
-use Rattle.fmp_image.specs.Tables.{table}
-use Rattle.fmp_image.specs.Bodies.{bodies, IsBody}
-use Rattle.fmp_image.specs.Pairs.{AllPairs}
+use Rattle.fmp_image_parts.specs.declared.fault.ImageFault.{ImageFault}
+use Rattle.fmp_image_parts.specs.declared.fault.ImageFault.TheVariants as fault
+use Rattle.fmp_image_parts.specs.declared.heads.BodyHead.{BodyHead}
+use Rattle.fmp_image_parts.specs.declared.keys.Key.{Key}
+use Rattle.fmp_image_parts.specs.Fields.{Field, ◌>>=◌, ◌⊗◌, byte, short, bytes_at, tested, chained}
+use Rattle.fmp_image_parts.specs.Keys.{are_new}
+use Rattle.fmp_image_parts.specs.Fields.{in_range}
+use Rattle.fmp_image_rows.specs.Rows.{Frame, frame_of, RowForm, row, task_form, semaphore_form, flag_form, data_queue_form, mailbox_form, message_form, shared_word_form, spin_lock_form, cyclic_form, interrupt_form}
+use Rattle.fmp_image_rows.specs.Tables.{table}
+use Rattle.fmp_image_parts.specs.Bodies.{bodies, IsBody}
+use Rattle.fmp_image_parts.specs.Pairs.{AllPairs}
 
 -- what an image holds, as data without memory: the tables of the system, and of each body what is said of it and its
 -- code

@@ -1,9 +1,1 @@
-pub mod Bodies
-pub mod Fields
 pub mod Images
-pub mod Instructions
-pub mod KeyLaws
-pub mod Keys
-pub mod Pairs
-pub mod Rows
-pub mod Tables

@@ -3,19 +3,18 @@
 ghost use Rattle.std.specs.Prelude.{◌≡◌, [], IfOk, Ok};
 ghost use Rattle.fmp_base.specs.Systems.{tables_of};
 ghost use Rattle.fmp_code.specs.Instructions.{code_tables};
-ghost use Rattle.fmp_image.specs.Fields.{Gives};
-ghost use Rattle.fmp_image.specs.Rows.{frame_of};
+ghost use Rattle.fmp_image_parts.specs.Fields.{Gives};
+ghost use Rattle.fmp_image_rows.specs.Rows.{frame_of};
 ghost use Rattle.fmp_image.specs.Images.{ImageTables, Spells, magic, is_magic, header, tables, tables_in, image_tables, image_at};
 
-use crate::bodies::read_bodies;
-use crate::fault::{ImageFault, LoadFault};
-use crate::fields::{byte_at, bytes_at, short_at};
-use crate::heads::BodyHead;
 use crate::image::Image;
-use crate::keys::TakenKeys;
-use crate::rows::{TABLE, in_range, read_table};
 use fmp_base::System;
 use fmp_code::Code;
+use fmp_image_parts::fault::{ImageFault, LoadFault, TABLE};
+use fmp_image_parts::fields::{byte_at, bytes_at, in_range, short_at};
+use fmp_image_parts::keys::TakenKeys;
+use fmp_image_parts::{BodyHead, read_bodies};
+use fmp_image_rows::read_table;
 use std::alloc::Global;
 
 fn is_magic(bytes: &[u8]) -> bool

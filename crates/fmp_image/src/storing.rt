@@ -2,14 +2,14 @@
 
 ghost use Rattle.std.specs.Prelude.{◌≡◌, ◌++◌, [], IfOk, OnOk};
 ghost use Rattle.fmp_base.specs.Systems.{tables_of};
-ghost use Rattle.fmp_image.specs.Rows.{frame_of};
+ghost use Rattle.fmp_image_rows.specs.Rows.{frame_of};
 ghost use Rattle.fmp_image.specs.Images.{CanPut, header, magic, tables, tables_in, spelling};
 
-use crate::bodies::put_bodies;
-use crate::fields::{put_byte, put_short};
 use crate::image::Image;
-use crate::rows::put_table;
 use fmp_base::System;
+use fmp_image_parts::fields::{put_byte, put_short};
+use fmp_image_parts::put_bodies;
+use fmp_image_rows::put_table;
 use std::alloc::{AllocError, Global};
 
 fn put_header(out: &mut Vec<u8>, processors: u8) -> Result<(), AllocError>

@@ -1,6 +1,6 @@
 use Rattle.std.proofs.Common.{◌≡◌, List, ◌++◌, map, take, drop}
 use Rattle.fmp_tasklang.specs.Trees.{BodyTree}
-use Rattle.fmp_codegen.specs.Headings.{AreHeadings}
+use Rattle.fmp_scopes.specs.Headings.{AreHeadings}
 use Rattle.fmp_build.specs.Building.{built_cyclic}
 use Rattle.fmp_build.proofs.tables.build_cyclics.Given as goal
 

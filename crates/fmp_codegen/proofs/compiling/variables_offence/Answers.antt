@@ -6,7 +6,8 @@ use Rattle.fmp_base.specs.Names.{name_text}
 use Rattle.fmp_base.specs.Systems.{tables_of}
 use Rattle.fmp_tasklang.specs.declared.trees.Word.{Word}
 use Rattle.fmp_tasklang.specs.Scopes.{exinf_name}
-use Rattle.fmp_codegen.specs.Compiling.{is_among, is_object, variables_offence}
+use Rattle.fmp_codegen.specs.Compiling.{is_among, variables_offence}
+use Rattle.fmp_scopes.specs.Scopes.{is_object}
 use Rattle.fmp_codegen.proofs.Variables.{no_word, variable-on}
 use Rattle.fmp_codegen.proofs.compiling.variables_offence.Goals as goal
 

@@ -1,11 +1,11 @@
 use Rattle.std.proofs.Common.{rules, map, ap, arith}
 use Rattle.fmp_tasklang.specs.declared.trees.Expression.{the_lemmas}
 use Rattle.fmp_tasklang.specs.Views.{expression_view, link_view}
-use Rattle.fmp_codegen.specs.Chains.{links_size, links_depth}
-use Rattle.fmp_codegen.specs.Depths.{expression_depth}
-use Rattle.fmp_codegen.specs.Scopes.{scope_view}
-use Rattle.fmp_codegen.specs.Sizes.{expression_size}
-use Rattle.fmp_codegen.proofs.ViewTrees.{size-Chain, depth-Chain, unary-emitted, unary-deep, chain-emitted, chain-deep}
+use Rattle.fmp_scopes.specs.Chains.{links_size, links_depth}
+use Rattle.fmp_scopes.specs.Depths.{expression_depth}
+use Rattle.fmp_scopes.specs.Scopes.{scope_view}
+use Rattle.fmp_scopes.specs.Sizes.{expression_size}
+use Rattle.fmp_scopes.proofs.ViewTrees.{size-Chain, depth-Chain, unary-emitted, unary-deep, chain-emitted, chain-deep}
 use Rattle.fmp_codegen.proofs.emission.+expression_emission.Goals as goal
 
 pub emit_expression-emit_expression-requires-in-Chain : goal.emit_expression-emit_expression-requires-in-Chain

@@ -1,13 +1,13 @@
 use Rattle.std.proofs.Common.{rules, ◌+◌, ◌++◌, length, refl, ap, sym, ◌∙◌, arith}
 use Rattle.fmp_tasklang.specs.declared.trees.Statement.{the_lemmas}
 use Rattle.fmp_tasklang.specs.Views.{expression_view, block_view}
-use Rattle.fmp_codegen.specs.Depths.{statement_depth}
-use Rattle.fmp_codegen.specs.DepthTables.{statement_depths}
-use Rattle.fmp_codegen.specs.Scheme.{statement_code}
-use Rattle.fmp_codegen.specs.Scopes.{scope_view}
-use Rattle.fmp_codegen.specs.Sizes.{statement_size, block_size}
+use Rattle.fmp_scopes.specs.Depths.{statement_depth}
+use Rattle.fmp_scopes.specs.DepthTables.{statement_depths}
+use Rattle.fmp_scopes.specs.Scheme.{statement_code}
+use Rattle.fmp_scopes.specs.Scopes.{scope_view}
+use Rattle.fmp_scopes.specs.Sizes.{statement_size, block_size}
 use Rattle.fmp_codegen.proofs.Arms.{if-emitted, while-emitted, else-emitted, if-deep, while-deep, else-deep}
-use Rattle.fmp_codegen.proofs.ViewTrees.{view-If, view-IfElse, view-While}
+use Rattle.fmp_scopes.proofs.ViewTrees.{view-If, view-IfElse, view-While}
 use Rattle.fmp_codegen.proofs.emission.+statement_emission.Goals as goal
 
 pub emit_statement-size_of_block-requires : goal.emit_statement-size_of_block-requires

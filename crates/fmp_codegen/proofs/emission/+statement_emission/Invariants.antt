@@ -1,10 +1,10 @@
 use Rattle.std.proofs.Common.{◌≡◌, ◌+◌, ◌≤◌, ◌++◌, length, drop}
 use Rattle.fmp_tasklang.specs.Views.{block_view}
-use Rattle.fmp_codegen.specs.Depths.{block_depth}
-use Rattle.fmp_codegen.specs.DepthTables.{block_depths}
-use Rattle.fmp_codegen.specs.Scheme.{block_code}
-use Rattle.fmp_codegen.specs.Scopes.{scope_view}
-use Rattle.fmp_codegen.specs.Sizes.{block_size}
+use Rattle.fmp_scopes.specs.Depths.{block_depth}
+use Rattle.fmp_scopes.specs.DepthTables.{block_depths}
+use Rattle.fmp_scopes.specs.Scheme.{block_code}
+use Rattle.fmp_scopes.specs.Scopes.{scope_view}
+use Rattle.fmp_scopes.specs.Sizes.{block_size}
 use Rattle.fmp_codegen.proofs.emission.+statement_emission.Given as goal
 
 abbrev pub invariant-emit_block-loop-s : goal.invariant-emit_block-loop-s

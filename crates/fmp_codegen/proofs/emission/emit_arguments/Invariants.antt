@@ -1,10 +1,10 @@
 use Rattle.std.proofs.Common.{◌≡◌, ◌+◌, ◌≤◌, ◌++◌, length, drop, map}
 use Rattle.fmp_tasklang.specs.Views.{expression_view}
-use Rattle.fmp_codegen.specs.Depths.{arguments_depth}
-use Rattle.fmp_codegen.specs.DepthTables.{arguments_depths}
-use Rattle.fmp_codegen.specs.Scheme.{arguments_code}
-use Rattle.fmp_codegen.specs.Scopes.{scope_view}
-use Rattle.fmp_codegen.specs.Sizes.{arguments_size}
+use Rattle.fmp_scopes.specs.Depths.{arguments_depth}
+use Rattle.fmp_scopes.specs.DepthTables.{arguments_depths}
+use Rattle.fmp_scopes.specs.Scheme.{arguments_code}
+use Rattle.fmp_scopes.specs.Scopes.{scope_view}
+use Rattle.fmp_scopes.specs.Sizes.{arguments_size}
 use Rattle.fmp_codegen.proofs.emission.emit_arguments.Given as goal
 
 abbrev pub invariant-loop-i : goal.invariant-loop-i

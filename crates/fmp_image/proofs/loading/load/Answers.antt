@@ -2,7 +2,7 @@ use Rattle.std.proofs.Common.{subst, sym, ◌∙◌, arith}
 use Rattle.std.proofs.lemmas.Result.{err_from_is_err_and}
 use Rattle.fmp_base.specs.Systems.{tables_of}
 use Rattle.fmp_code.specs.Instructions.{code_tables}
-use Rattle.fmp_image.specs.Fields.{Fails}
+use Rattle.fmp_image_parts.specs.Fields.{Fails}
 use Rattle.fmp_image.specs.Images.{ImageTables, image_tables}
 use Rattle.fmp_image.proofs.ImageLaws.{image_takes, image_again}
 use Rattle.fmp_image.proofs.loading.load.Goals as goal

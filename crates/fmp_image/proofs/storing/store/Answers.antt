@@ -1,8 +1,8 @@
 use Rattle.std.proofs.Common.{◌≡◌, ◌++◌, [], append_assoc, rules}
 use Rattle.fmp_base.specs.Systems.{tables_of}
 use Rattle.fmp_code.specs.Instructions.{code_tables}
-use Rattle.fmp_image.specs.Rows.{frame_of}
-use Rattle.fmp_image.specs.Bodies.{bodies}
+use Rattle.fmp_image_rows.specs.Rows.{frame_of}
+use Rattle.fmp_image_parts.specs.Bodies.{bodies}
 use Rattle.fmp_image.specs.Images.{header, magic, tables, tables_in, spelling}
 use Rattle.fmp_image.proofs.storing.store.Goals as goal
 

@@ -1,0 +1,11 @@
+pub mod Arguments
+pub mod BodyLaws
+pub mod FieldLaws
+pub mod InstructionLaws
+pub mod KeptCode
+pub mod Names
+pub mod PairLaws
+pub mod PairLists
+pub mod PairLoops
+pub mod StepReads
+pub mod Verification

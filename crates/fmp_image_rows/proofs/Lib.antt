@@ -1,0 +1,4 @@
+pub mod Chains
+pub mod RowLaws
+pub mod RowLoops
+pub mod TableLaws

@@ -1,0 +1,120 @@
+//! Rows and tables of any kind.
+
+ghost use Rattle.std.specs.Prelude.{◌≡◌, ◌++◌, ◌∷◌, [], ◌<◌, ◌≤◌, ℕ, List, length, map, OnOk, IfOk};
+ghost use Rattle.std.specs.List.{flat_map, AllByRecursion};
+ghost use Rattle.fmp_base.specs.Names.{name_text};
+ghost use Rattle.fmp_image_parts.specs.Fields.{Field, Gives, byte, text};
+ghost use Rattle.fmp_image_rows.specs.Rows.{Frame, frame_of, bit};
+ghost use Rattle.fmp_image_rows.specs.Tables.{rows_at, table};
+ghost use Rattle.fmp_image_parts.specs.declared.keys.Key as spec_key;
+
+use fmp_base::Name;
+use fmp_image_parts::fault::{LoadFault, TABLE};
+use fmp_image_parts::fields::{byte_at, put_byte, put_text};
+use fmp_image_parts::heads::BodyHead;
+use fmp_image_parts::keys::{Key, TakenKeys, is_taken, take};
+use std::alloc::{AllocError, Global};
+
+/// Appends a byte: a number that stands for true, or 0 for false. `AllocError` for want of memory.
+pub fn put_bit(out: &mut Vec<u8>, is_set: bool, number: u8) -> Result<(), AllocError>
+    ensures { OnOk result (out.new.items ≡ out.old.items ++ byte.spell (bit is_set number)) }
+{
+    put_byte(out, if is_set { number } else { 0 })
+}
+
+/// Appends a name behind its length. `AllocError` for want of memory.
+pub fn put_name(out: &mut Vec<u8>, name: &Name) -> Result<(), AllocError>
+    requires { length (name_text name.now) < 256 }
+    ensures { OnOk result (out.new.items ≡ out.old.items ++ text.spell (name_text name.now)) }
+{
+    put_text(out, name.as_bytes())
+}
+
+/// A row of a table.
+pub trait Row: Copy {
+    ghost field: { Frame → Field Self };
+
+    ghost key_of: { Self → spec_key.Key };
+
+    ghost spelled: { Self → List ℕ };
+
+    ghost can_put: { Self → Type 0 };
+
+    /// Reads a row from the front of the bytes, and gives the bytes behind it. The processors are how many the system
+    /// has, 1 to 8; the heads are those of its bodies, by place. `ImageFault::Short` where a field ends past the bytes,
+    /// `ImageFault::Table` where a value breaks a rule of the row.
+    fn read<'a>(
+        processors: u8,
+        heads: &[BodyHead],
+        bytes: &'a [u8],
+    ) -> Result<(Self, &'a [u8]), LoadFault>
+        ensures { Gives (λ x. (x.0, x.1.now)) result ((field (frame_of processors heads.now)).read bytes.now) };
+
+    /// What may stand only once in an image.
+    fn key(&self) -> Key
+        ensures { result ≡ key_of self.now };
+
+    /// Puts the row behind the bytes. `AllocError` for want of memory.
+    fn put(&self, out: &mut Vec<u8>) -> Result<(), AllocError>
+        requires { can_put self.now }
+        ensures { OnOk result (out.new.items ≡ out.old.items ++ spelled self.now) };
+}
+
+/// Reads so many rows, and enters their keys among those that are taken. The faults are those of a row,
+/// `ImageFault::Table` for a key that is taken, and `LoadFault::Memory` for want of memory.
+pub fn read_rows<'a, R: Row>(
+    alloc: Global,
+    processors: u8,
+    heads: &[BodyHead],
+    count: u8,
+    taken: &mut TakenKeys,
+    bytes: &'a [u8],
+) -> Result<(Vec<R>, &'a [u8]), LoadFault>
+    ensures read { Gives (λ x. (x.0.items, x.1.now)) result
+        (rows_at (R.field (frame_of processors heads.now)) R.key_of count taken.old.keys bytes.now) }
+    ensures taken { IfOk result (λ x. taken.new.keys ≡ taken.old.keys ++ map R.key_of x.0.items) }
+{
+    let mut rows = Vec::new(alloc);
+    let mut rest = bytes;
+    for _ in 0..count {
+        let (row, after) = R::read(processors, heads, rest)?;
+        let key = row.key();
+        if is_taken(&key, taken) {
+            return Err(TABLE);
+        }
+        take(key, taken)?;
+        rows.push(row)?;
+        rest = after;
+    }
+    Ok((rows, rest))
+}
+
+/// Reads a table: a count, and so many rows. Enters the keys of its rows among those that are taken. The faults are
+/// those of `read_rows`, and `ImageFault::Short` where there is no count.
+pub fn read_table<'a, R: Row>(
+    alloc: Global,
+    processors: u8,
+    heads: &[BodyHead],
+    taken: &mut TakenKeys,
+    bytes: &'a [u8],
+) -> Result<(Vec<R>, &'a [u8]), LoadFault>
+    ensures read { Gives (λ x. (x.0.items, x.1.now)) result
+        ((table (R.field (frame_of processors heads.now)) R.key_of taken.old.keys).read bytes.now) }
+    ensures taken { IfOk result (λ x. taken.new.keys ≡ taken.old.keys ++ map R.key_of x.0.items) }
+{
+    let (count, rest) = byte_at(bytes)?;
+    read_rows(alloc, processors, heads, count, taken, rest)
+}
+
+/// Puts a table of at most 255 rows behind the bytes. `AllocError` for want of memory.
+pub fn put_table<R: Row>(out: &mut Vec<u8>, rows: &[R]) -> Result<(), AllocError>
+    requires count { length rows.now < 256 }
+    requires rows { AllByRecursion R.can_put rows.now }
+    ensures { OnOk result (out.new.items ≡ out.old.items ++ length rows.now ∷ flat_map R.spelled rows.now) }
+{
+    put_byte(out, rows.len() as u8)?;
+    for row in rows {
+        row.put(out)?;
+    }
+    Ok(())
+}

@@ -1,0 +1,4 @@
+pub mod CallsMade
+pub mod OperandLists
+pub mod Requests
+pub mod Stops

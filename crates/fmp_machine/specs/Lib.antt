@@ -1,0 +1,4 @@
+pub mod Hands
+pub mod Laws
+pub mod Stretches
+pub mod Vms

@@ -1,0 +1,10 @@
+pub mod Chains
+pub mod Depths
+pub mod DepthTables
+pub mod Entries
+pub mod Headings
+pub mod Naming
+pub mod Numbers
+pub mod Scheme
+pub mod Scopes
+pub mod Sizes

@@ -1,0 +1,20 @@
+//! What the names of a task body mean, and how much room its code takes.
+#![tactic(auto)]
+
+mod entries;
+mod extents;
+mod headings;
+mod lists;
+mod names;
+mod numbers;
+mod offences;
+mod uses;
+
+pub use entries::{EntryUse, check_entries, check_headings};
+pub use extents::{Extent, block_extent, expression_extent};
+pub use headings::{Heading, body_place, heading_with};
+pub use lists::append;
+pub use names::{HasName, Meaning, Names, Objects, is_exinf, is_object, meaning_in, place_in};
+pub use numbers::{ObjectName, ObjectNumbers, number_objects};
+pub use offences::{Offence, source_fault};
+pub use uses::block_offence;
