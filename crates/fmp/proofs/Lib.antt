@@ -1,4 +1,8 @@
 mod Carried
+mod Entering
+mod Given
+mod Growing
 mod Printed
+mod Rows
 mod RunLemmas
 mod Simulated

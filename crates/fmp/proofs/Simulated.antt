@@ -1,8 +1,8 @@
 -- How a run ends that prints a simulation.
 use Rattle.std.proofs.Common.{◌≡◌, ℕ, refl, sym, subst, ◌∙◌, append-nil, Bool, IsTrue, List, [], Option}
 use Rattle.fmp_build.specs.Building.{Builds}
-use Rattle.fmp_command.specs.declared.asking.Cmd.{Cmd}
-use Rattle.fmp_command.specs.declared.asking.Cmd.TheVariants.{Check, Build, Sim, Host, Stored}
+use Rattle.fmp.specs.declared.asking.Cmd.{Cmd}
+use Rattle.fmp.specs.declared.asking.Cmd.TheVariants.{Check, Build, Sim, Host, Stored}
 use Rattle.fmp_engine.specs.Simulations.{PrintsTexts, Simulates}
 use Rattle.fmp_files.specs.Deeds.{Deed, Does, Says}
 use Rattle.fmp_files.specs.Outside.{Files}

@@ -1,8 +1,8 @@
 -- The files of a command.
 use Rattle.std.specs.Prelude.{ℕ, ◌≡◌, List, [], ◌∷◌, Option, None, Some, string_bytes, ⊤}
 use Rattle.fmp_lex.specs.Faults.{text_max}
-use Rattle.fmp_command.specs.declared.asking.Cmd.{Cmd}
-use Rattle.fmp_command.specs.declared.asking.Cmd.TheVariants.{Check, Build, Sim, Host, Stored}
+use Rattle.fmp.specs.declared.asking.Cmd.{Cmd}
+use Rattle.fmp.specs.declared.asking.Cmd.TheVariants.{Check, Build, Sim, Host, Stored}
 
 -- a command that starts no threads
 abbrev pub IsAlone : Cmd → Type 0

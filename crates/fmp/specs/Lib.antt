@@ -1,4 +1,7 @@
+pub mod Asked
+pub mod CommandRanges
 pub mod Commands
+pub mod Form
 pub mod Performed
 pub mod Printing
 pub mod Prints

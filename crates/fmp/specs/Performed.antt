@@ -9,8 +9,8 @@ use Rattle.fmp_engine.specs.Hosting.{Hosts, HostsTexts, IsWhyHost}
 use Rattle.fmp_engine.specs.Simulations.{IsWhySim, PrintsTexts, Simulates}
 use Rattle.fmp_image.specs.Images.{ImageTables, Spells}
 use Rattle.fmp_lex.specs.declared.fault.BuildFault.TheVariants as build
-use Rattle.fmp_command.specs.declared.asking.Cmd.{Cmd}
-use Rattle.fmp_command.specs.declared.asking.Cmd.TheVariants as cmd
+use Rattle.fmp.specs.declared.asking.Cmd.{Cmd}
+use Rattle.fmp.specs.declared.asking.Cmd.TheVariants as cmd
 use Rattle.fmp.specs.declared.perform.Exit.{Exit}
 use Rattle.fmp.specs.declared.perform.Exit.TheVariants.{Build, Sim, Host, File, Memory}
 use Rattle.fmp.specs.declared.perform.TheConstants.{STORED_CONFIG, STORED_TASKS, STORED_STEPS, STORED_BOUND}

@@ -1,7 +1,7 @@
 -- What a run of the program reads, writes, prints and says, and the status that it ends with.
 use Rattle.std.specs.Prelude.{ℕ, ◌≡◌, ◌≢◌, ◌⊎◌, ◌++◌, Bool, IsTrue, List, [], ◌∷◌, Option, None, Some, IfSome, IsSomeAnd, string_bytes, ⊤}
-use Rattle.fmp_command.specs.Asked.{AsksFor, IsRefused}
-use Rattle.fmp_command.specs.declared.asking.Cmd.{Cmd}
+use Rattle.fmp.specs.Asked.{AsksFor, IsRefused}
+use Rattle.fmp.specs.declared.asking.Cmd.{Cmd}
 use Rattle.fmp_files.specs.Deeds.{Begins, Deed, Does, Says, wrote}
 use Rattle.fmp_files.specs.Files.{front}
 use Rattle.fmp_files.specs.Outside.{Files}

@@ -1,14 +1,14 @@
 //! Carrying out a command over files: what it reads is judged, and then its file is written.
 ghost use Rattle.std.specs.Prelude.{◌≡◌, ◌∷◌, [], IfErr, IfOk, IfSome, OnErr, OnOk, length, map};
-ghost use Rattle.fmp_command.specs.Commands.{KeepsRanges};
+ghost use Rattle.fmp.specs.CommandRanges.{KeepsRanges};
 ghost use Rattle.fmp_files.specs.Deeds.{Does};
 ghost use Rattle.fmp_files.specs.Files.{front};
 ghost use Rattle.fmp.specs.Commands.{input_count, inputs_of, output_of};
 ghost use Rattle.fmp.specs.Performed.{CarriesOut, IsFor, IsWhyNot};
 ghost use Rattle.fmp.specs.Runs.{AreFronts, AreInputs, BeginsFile, CarriedOut, Fails, IsFailureAt, IsFailureOf, writes_to};
 
+use crate::asking::Cmd;
 use crate::perform::{Exit, perform};
-use fmp_command::Cmd;
 use fmp_files::{Outside, ReadFault, WriteFault};
 use std::alloc::{AllocError, Global};
 use std::sync::Wait;

@@ -7,13 +7,16 @@
 //! else at once, at the end.
 #![tactic(auto)]
 
+mod asking;
 mod carrying;
+mod form;
 mod perform;
 mod printing;
+mod reading;
 mod running;
 
+use asking::not_text;
 use clap::Error;
-use fmp_command::not_text;
 use fmp_files::Host;
 use running::{refuse, run};
 use std::alloc::AllocError;

@@ -3,11 +3,11 @@ ghost use Rattle.std.specs.Prelude.{◌≡◌, ◌++◌, ℕ, List, OnOk, OnErr,
 ghost use Rattle.fmp_build.specs.Building.{IsBuildFault};
 ghost use Rattle.fmp_engine.specs.Hosting.{IsWhyHost, IsWorkload};
 ghost use Rattle.fmp_engine.specs.Simulations.{IsWhySim};
-ghost use Rattle.fmp_command.specs.Commands.{IsBound, KeepsRanges};
+ghost use Rattle.fmp.specs.CommandRanges.{IsBound, KeepsRanges};
 ghost use Rattle.fmp.specs.Commands.{IsAlone, input_count};
 ghost use Rattle.fmp.specs.Performed.{BuildsFile, CarriesOut, Checks, HostsImage, IsWhyNoImage, IsWhyNoRun, IsWhyNot, IsWhyNotHosted, IsWhyNotRun, RunsImage, RunsTexts, status_of};
 
-use fmp_command::Cmd;
+use crate::asking::Cmd;
 use fmp_engine::{HostFault, SimFault, Workload, build_image, check, host, sim};
 use fmp_lex::BuildFault;
 use std::alloc::{AllocError, Global};

@@ -1,6 +1,6 @@
 //! Printing what a simulation prints, piece by piece.
 ghost use Rattle.std.specs.Prelude.{◌≡◌, [], List, ℕ, IfErr, IsTrue, OnOk};
-ghost use Rattle.fmp_command.specs.Commands.{IsBound};
+ghost use Rattle.fmp.specs.CommandRanges.{IsBound};
 ghost use Rattle.fmp.specs.Printing.{IsWhyNotPrinted, PrintsRun};
 
 use fmp_engine::{Outlet, SimCut, Stopped, sim_into};

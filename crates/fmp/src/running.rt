@@ -1,18 +1,18 @@
 //! A run of the program, from the words of its command line to its status.
 ghost use Rattle.std.specs.Prelude.{◌≡◌, ◌⊎◌, IsTrue, IsFalse, IfOk, length, map, string_bytes};
 ghost use Rattle.clap.specs.Words.{kind_of};
-ghost use Rattle.fmp_command.specs.Commands.{IsBound, KeepsRanges};
+ghost use Rattle.fmp.specs.CommandRanges.{IsBound, KeepsRanges};
 ghost use Rattle.fmp_files.specs.Deeds.{Says};
 ghost use Rattle.fmp.specs.Commands.{IsSimulation};
 ghost use Rattle.fmp.specs.Performed.{status_of};
 ghost use Rattle.fmp.specs.Runs.{AreInputs, CanBeOver, Ends, EndsCommand, EndsPrinting, EndsRefused, KeepsInputs};
 
+use crate::asking::{Cmd, command, image_over_text, journal_over_image};
 use crate::carrying::{carry_out, failed, read_inputs};
 use crate::perform::{Exit, no_run};
 use crate::printing::print_simulation;
 use clap::Error;
 use clap::error::ErrorKind;
-use fmp_command::{Cmd, command, image_over_text, journal_over_image};
 use fmp_engine::SimCut;
 use fmp_files::{Outside, WriteFault};
 use std::alloc::{AllocError, Global};

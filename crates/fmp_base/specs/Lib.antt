@@ -2,6 +2,7 @@ pub mod Arguments
 pub mod Calls
 pub mod Changes
 pub mod Codes
+pub mod Contexts
 pub mod DataQueueCalls
 pub mod Deliveries
 pub mod FinishLaws

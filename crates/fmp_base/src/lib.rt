@@ -1,24 +1,29 @@
 //! The words of the kernel: codes, service calls and their arguments, events, lines of the trace, the tables of a
-//! system and the records of its state. The definitions of what they mean stand in `specs/`.
+//! system, the records of its state, and the trait of the bodies that it runs. The definitions of what they mean stand
+//! in `specs/`.
 #![tactic(auto)]
 
 pub mod arguments;
 pub mod bodies;
+pub mod body;
 pub mod calls;
 pub mod codes;
 pub mod counted;
 pub mod events;
+pub mod laws;
 pub mod names;
 pub mod operators;
 pub mod permissions;
 pub mod requests;
 pub mod services;
 pub mod states;
+pub mod stop;
 pub mod systems;
 pub mod tally;
 pub mod ties;
 
 pub use bodies::{Fault, HandlerContext, HandlerStart, Held, Stretch};
+pub use body::Body;
 pub use calls::{Answer, Call, Reply};
 pub use codes::Er;
 pub use counted::{Counted, Steps};
@@ -31,6 +36,7 @@ pub use services::Service;
 pub use states::{
     Caller, FlagMode, Handler, Lock, Phase, Processor, TaskBlock, TimeLimit, WaitCause, WaitQueue,
 };
+pub use stop::Stop;
 pub use systems::{
     CyclicConfig, DataQueueConfig, Entry, FlagConfig, InterruptConfig, MailboxConfig,
     MessageConfig, QueueOrder, SemaphoreConfig, SharedWordConfig, SpinLockConfig, System,

@@ -1,6 +1,6 @@
 -- The limits of a row that was made for them.
 use Rattle.std.proofs.Common.{◌≡◌, ℕ, ◌^◌, ◌≤◌, sym, subst}
-use Rattle.fmp_row.specs.Seats.{RowId}
+use Rattle.fmp_journal.specs.Seats.{RowId}
 use Rattle.fmp_board.specs.Boards.{InRange, IsRoom}
 
 -- they are those of the row

@@ -3,9 +3,9 @@ use Rattle.std.proofs.Common.{◌≡◌, ℕ, ◌+◌, ◌<◌, ◌≤◌, ◌++
 use Rattle.std.specs.Prelude.{slice_get}
 use Rattle.std.proofs.lemmas.Option.{slice_get_within}
 use Rattle.fmp_base.specs.declared.events.Event.{Event}
-use Rattle.fmp_row.specs.declared.entry.JournalEntry.{JournalEntry}
-use Rattle.fmp_row.specs.Seats.{ScribeState, events}
-use Rattle.fmp_row.proofs.Rows.{given_more, past_of-none, prefix_self}
+use Rattle.fmp_journal.specs.declared.entry.JournalEntry.{JournalEntry}
+use Rattle.fmp_journal.specs.Seats.{ScribeState, events}
+use Rattle.fmp_journal.proofs.Rows.{given_more, past_of-none, prefix_self}
 
 -- one more is copied
 pub copied_more : (was now : ScribeState) (place : ℕ) (found : Option JournalEntry) (x : JournalEntry) (items more : List Event) → now ≡ was

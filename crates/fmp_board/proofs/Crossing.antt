@@ -7,7 +7,7 @@ use Rattle.std.proofs.Crossing.{crosses}
 use Rattle.fmp_base.proofs.events.Line.TheSendSync as line
 use Rattle.fmp_base.proofs.states.TaskBlock.TheSendSync as block
 use Rattle.fmp_base.proofs.systems.System.TheSendSync as system
-use Rattle.fmp_body.specs.declared.body.Body.{Ghosts}
+use Rattle.fmp_base.specs.declared.body.Body.{Ghosts}
 use Rattle.fmp_code.proofs.instructions.MachineContext.TheSendSync as context
 use Rattle.fmp_machine.proofs.vm.Vm.TheSendSync as vm
 use Rattle.fmp_image.proofs.image.Image.TheSendSync as image
@@ -18,8 +18,8 @@ use Rattle.fmp_kernel.specs.contracts.runner.Runner as Runner
 use Rattle.fmp_kernel.specs.contracts.runner.Runner.TheInside as runner
 use Rattle.fmp_ready.proofs.queues.ReadyQueues.TheSendSync as ready
 use Rattle.fmp_ring.proofs.rings.Rings.TheSendSync as rings
-use Rattle.fmp_row.proofs.row.Row.TheSendSync as row
-use Rattle.fmp_row.proofs.scribe.Scribe.TheSendSync as scribe
+use Rattle.fmp_journal.proofs.row.Row.TheSendSync as row
+use Rattle.fmp_journal.proofs.scribe.Scribe.TheSendSync as scribe
 use Rattle.fmp_spin.proofs.pending.PendingHandlers.TheSendSync as pending
 use Rattle.fmp_spin.proofs.processors.Processors.TheSendSync as processors
 use Rattle.fmp_tasks.proofs.words.Words.TheSendSync as words

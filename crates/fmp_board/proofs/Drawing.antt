@@ -16,8 +16,8 @@ use Rattle.fmp_code.specs.Machine.{code_meaning}
 use Rattle.fmp_image.specs.Images.{ImageTables}
 use Rattle.fmp_kernel.specs.declared.actors.Actor.{Actor}
 use Rattle.fmp_kernel.specs.KernelViews.{KernelView, actor_in, done_or, view_after, view_after_all, view_of_setup, with_stamp}
-use Rattle.fmp_row.specs.declared.entry.JournalEntry.{JournalEntry}
-use Rattle.fmp_row.specs.Seats.{events}
+use Rattle.fmp_journal.specs.declared.entry.JournalEntry.{JournalEntry}
+use Rattle.fmp_journal.specs.Seats.{events}
 use Rattle.fmp_worlds.specs.Stamps.{EndsSo, Going, actor_at, applied, stamp}
 use Rattle.fmp_worlds.proofs.SettledLaws.{run-settled, setup-settled}
 use Rattle.fmp_worlds.proofs.StampLaws.{applied-runs, equal_stamps}

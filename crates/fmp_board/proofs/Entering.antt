@@ -11,8 +11,8 @@ use Rattle.fmp_code.specs.Instructions.{BodyTables}
 use Rattle.fmp_code.specs.Machine.{code_meaning}
 use Rattle.fmp_image.specs.Images.{ImageTables}
 use Rattle.fmp_kernel.specs.KernelViews.{KernelView, view_after}
-use Rattle.fmp_row.specs.declared.entry.JournalEntry.{JournalEntry}
-use Rattle.fmp_row.specs.Seats.{events}
+use Rattle.fmp_journal.specs.declared.entry.JournalEntry.{JournalEntry}
+use Rattle.fmp_journal.specs.Seats.{events}
 use Rattle.fmp_board.specs.declared.receipt.Receipt.{Receipt}
 use Rattle.fmp_board.specs.Receipts.{call_reply, receipt_of}
 use Rattle.fmp_board.specs.Boards.{IsJournal, IsReplay}

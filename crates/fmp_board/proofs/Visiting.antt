@@ -6,9 +6,9 @@ use Rattle.std.proofs.lemmas.Bool.Decides.{nat_tests}
 use mathlib.Core.List.{IsPrefix}
 use Rattle.fmp_base.specs.Steps.{Reaction, Nothing, Did}
 use Rattle.fmp_image.specs.Images.{ImageTables}
-use Rattle.fmp_row.specs.declared.entry.JournalEntry.{JournalEntry}
-use Rattle.fmp_row.specs.Seats.{RowId, SeatState}
-use Rattle.fmp_row.specs.Views.{own, times, without}
+use Rattle.fmp_journal.specs.declared.entry.JournalEntry.{JournalEntry}
+use Rattle.fmp_journal.specs.Seats.{RowId, SeatState}
+use Rattle.fmp_journal.specs.Views.{own, times, without}
 use Rattle.fmp_board.specs.declared.fault.BoardFault.{BoardFault}
 use Rattle.fmp_board.specs.declared.receipt.Receipt.{Receipt}
 use Rattle.fmp_board.specs.Boards.{BookState, IsJournal}

@@ -6,8 +6,8 @@ use Rattle.fmp_code.specs.declared.instructions.MachineContext.{MachineContext}
 use Rattle.fmp_code.specs.Instructions.{BodyTables}
 use Rattle.fmp_image.specs.Images.{ImageTables}
 use Rattle.fmp_kernel.specs.KernelViews.{KernelView}
-use Rattle.fmp_row.specs.declared.entry.JournalEntry.{JournalEntry}
-use Rattle.fmp_row.specs.Seats.{RowId, SeatState, events}
+use Rattle.fmp_journal.specs.declared.entry.JournalEntry.{JournalEntry}
+use Rattle.fmp_journal.specs.Seats.{RowId, SeatState, events}
 use Rattle.fmp_board.specs.declared.fault.BoardFault.{BoardFault}
 use Rattle.fmp_board.specs.declared.fault.BoardFault.TheVariants as fault
 use Rattle.fmp_board.specs.Replays.{IsLegal, kernel_after}

@@ -4,10 +4,10 @@ use mathlib.Core.List.{IsPrefix}
 use Rattle.fmp_base.specs.declared.events.Event.{Event}
 use Rattle.fmp_base.specs.Steps.{Reaction}
 use Rattle.fmp_image.specs.Images.{ImageTables}
-use Rattle.fmp_row.specs.declared.entry.JournalEntry.{JournalEntry}
-use Rattle.fmp_row.specs.Seats.{RowId, SeatState, events}
-use Rattle.fmp_row.specs.Views.{own, times, without}
-use Rattle.fmp_row.specs.Words.{entry}
+use Rattle.fmp_journal.specs.declared.entry.JournalEntry.{JournalEntry}
+use Rattle.fmp_journal.specs.Seats.{RowId, SeatState, events}
+use Rattle.fmp_journal.specs.Views.{own, times, without}
+use Rattle.fmp_journal.specs.Words.{entry}
 use Rattle.fmp_board.specs.declared.fault.BoardFault.{BoardFault}
 use Rattle.fmp_board.specs.declared.fault.BoardFault.TheVariants as fault
 use Rattle.fmp_board.specs.declared.receipt.Receipt.{Receipt}

@@ -1,7 +1,7 @@
 //! A board that is not yet open.
 ghost use Rattle.std.specs.Prelude.{◌≡◌, ◌<◌, ◌≤◌, ◌^◌, [], IfOk, MatchResult, All, vec_capacity};
 ghost use Rattle.fmp_board.specs.Boards.{InRange, IsAt};
-ghost use Rattle.fmp_row.specs.Seats.{AreNew};
+ghost use Rattle.fmp_journal.specs.Seats.{AreNew};
 ghost use Rattle.fmp_board.specs.Replays.{kernel_after};
 
 use crate::board::Board;
@@ -10,9 +10,9 @@ use crate::fault::BoardFault;
 use crate::site::Site;
 use fmp_base::Event;
 use fmp_image::Image;
+use fmp_journal::{EmptyRow, Row, Scribe, Seat};
 use fmp_kernel::Kernel;
 use fmp_machine::Vm;
-use fmp_row::{EmptyRow, Row, Scribe, Seat};
 use std::alloc::{AllocError, Global};
 use std::marker::Model;
 
@@ -40,7 +40,7 @@ pub struct Blank<'a> {
 
 impl<'a> Model for Blank<'a> {
     ghost use Rattle.std.specs.Prelude.{◌≡◌, ◌≤◌, [], vec_capacity};
-    ghost use Rattle.fmp_row.specs.Seats.{new_scribe};
+    ghost use Rattle.fmp_journal.specs.Seats.{new_scribe};
     ghost use Rattle.fmp_board.specs.Boards.{BlankState, InRange, IsReplay, IsRoom};
 
     ghost Value = { BlankState };
@@ -69,7 +69,7 @@ pub fn kernel_of<'a>(alloc: Global, image: &'a Image, n: u64) -> Result<Kernel<V
 impl<'a> Blank<'a> {
     ghost use Rattle.std.specs.Prelude.{◌≡◌, ◌≤◌, [], IfOk, MatchResult, All, vec_capacity};
     ghost use Rattle.fmp_board.specs.Boards.{InRange, IsAt, IsReplay, IsRoom, blank};
-    ghost use Rattle.fmp_row.specs.Seats.{AreNew, RowId, new_scribe};
+    ghost use Rattle.fmp_journal.specs.Seats.{AreNew, RowId, new_scribe};
     ghost use Rattle.fmp_board.specs.declared.fault.BoardFault.TheVariants.{Memory, Limit};
 
     /// A blank of these parts.

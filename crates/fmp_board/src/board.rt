@@ -10,7 +10,7 @@ use crate::receipt::Receipt;
 use crate::site::Site;
 use fmp_base::Event;
 use fmp_image::Image;
-use fmp_row::{Row, Seat};
+use fmp_journal::{Row, Seat};
 use std::sync::{Mutex, Wait};
 
 /// A kernel that many threads share, with the journal of what they did on it. Both lie under one lock, as a
@@ -32,9 +32,9 @@ pub struct Board<'a, S: Site> {
 impl<'a, S: Site> Board<'a, S> {
     ghost use Rattle.std.specs.Prelude.{◌≡◌, ◌+◌, ◌^◌, ◌<◌, ◌≤◌, ◌⊎◌, ◌++◌, [], ◌∷◌, length, None, IfNone, IfSome, vec_capacity};
     ghost use mathlib.Core.List.{IsPrefix};
-    ghost use Rattle.fmp_row.specs.Seats.{events, given};
-    ghost use Rattle.fmp_row.specs.Views.{looked_at};
-    ghost use Rattle.fmp_row.specs.Words.{event_in};
+    ghost use Rattle.fmp_journal.specs.Seats.{events, given};
+    ghost use Rattle.fmp_journal.specs.Views.{looked_at};
+    ghost use Rattle.fmp_journal.specs.Words.{event_in};
     ghost use Rattle.fmp_board.specs.Boards.{IsAt, IsClosed};
     ghost use Rattle.fmp_board.specs.Outcomes.{Drew, IsDrawn, Submitted};
     ghost use Rattle.fmp_board.specs.Visits.{Fed, Visited, journaled};

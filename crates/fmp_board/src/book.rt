@@ -1,7 +1,7 @@
 //! What lies under the lock of a board: the kernel and its journal.
 ghost use Rattle.std.specs.Prelude.{◌≡◌, ◌<◌, ◌≤◌, [], length, vec_capacity};
 ghost use Rattle.fmp_board.specs.Boards.{IsReplay, IsRoom};
-ghost use Rattle.fmp_row.specs.Seats.{events};
+ghost use Rattle.fmp_journal.specs.Seats.{events};
 
 use crate::closed::Closed;
 use crate::fault::BoardFault;
@@ -9,9 +9,9 @@ use crate::receipt::{Receipt, call_reply};
 use crate::site::Site;
 use fmp_base::{Effect, Event};
 use fmp_image::Image;
+use fmp_journal::{JournalEntry, Scribe, Seat};
 use fmp_kernel::Kernel;
 use fmp_machine::Vm;
-use fmp_row::{JournalEntry, Scribe, Seat};
 use std::marker::{Model, PhantomData};
 
 /// The kernel of a board, and the journal of the events that did something on it. Its type keeps that the image and the
@@ -49,10 +49,10 @@ impl<'a, S: Site> Book<'a, S> {
     ghost use Rattle.fmp_board.specs.Receipts.{journal_after, marks_after, receipt_of};
     ghost use Rattle.fmp_board.specs.Replays.{kernel_after, reaction};
     ghost use Rattle.fmp_board.specs.Visits.{shown, unmarked};
-    ghost use Rattle.fmp_row.specs.Views.{own};
+    ghost use Rattle.fmp_journal.specs.Views.{own};
     ghost use mathlib.Core.List.{IsPrefix};
-    ghost use Rattle.fmp_row.specs.Seats.{events};
-    ghost use Rattle.fmp_row.specs.Words.{entry};
+    ghost use Rattle.fmp_journal.specs.Seats.{events};
+    ghost use Rattle.fmp_journal.specs.Words.{entry};
 
     pub(crate) fn new(
         image: &'a Image,

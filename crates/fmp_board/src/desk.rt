@@ -8,7 +8,7 @@ use crate::outcome::{Outcome, Ticket};
 use crate::receipt::Receipt;
 use crate::site::Site;
 use fmp_base::Event;
-use fmp_row::Seat;
+use fmp_journal::Seat;
 
 /// A book of whose journal each seat has counted its entries: who enters one is shown it before the lock is free. Its
 /// calls are those of the board.
@@ -20,7 +20,7 @@ pub(crate) struct Desk<'a, S: Site> {
 
 impl<'a, S: Site> Desk<'a, S> {
     ghost use Rattle.std.specs.Prelude.{◌≡◌, ◌+◌, ◌≤◌, [], IfSome, vec_capacity};
-    ghost use Rattle.fmp_row.specs.Seats.{events};
+    ghost use Rattle.fmp_journal.specs.Seats.{events};
     ghost use Rattle.fmp_board.specs.Boards.{IsAt, IsClosed};
     ghost use Rattle.fmp_board.specs.Outcomes.{Drew, IsDrawn, Submitted};
     ghost use Rattle.fmp_board.specs.Visits.{Fed, Visited, journaled};

@@ -17,7 +17,7 @@ pub use board::Board;
 pub use book::Book;
 pub use closed::Closed;
 pub use fault::BoardFault;
-pub use fmp_row::Seat;
+pub use fmp_journal::Seat;
 pub use outcome::{Outcome, Ticket};
 pub use receipt::Receipt;
 pub use site::Site;

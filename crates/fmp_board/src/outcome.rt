@@ -2,8 +2,7 @@
 ghost use Rattle.std.specs.Prelude.{◌≡◌};
 ghost use Rattle.fmp_board.specs.Outcomes.{IsTicket, ending_of};
 
-use fmp_base::Stretch;
-use fmp_body::Body;
+use fmp_base::{Body, Stretch};
 use fmp_code::MachineContext;
 use fmp_image::Image;
 use fmp_kernel::Actor;

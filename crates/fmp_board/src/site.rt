@@ -8,7 +8,7 @@ use std::marker::Brand;
 pub trait Site {
     ghost use Rattle.std.specs.Prelude.{ℕ};
     ghost use Rattle.fmp_image.specs.Images.{ImageTables};
-    ghost use Rattle.fmp_row.specs.Seats.{RowId};
+    ghost use Rattle.fmp_journal.specs.Seats.{RowId};
 
     ghost image: { ImageTables };
 

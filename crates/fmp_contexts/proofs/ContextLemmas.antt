@@ -10,7 +10,7 @@ use Rattle.fmp_base.specs.declared.states.Caller.TheVariants as caller
 use Rattle.fmp_base.specs.Meanings.{Contexts, task_body, context_at, context_in, body_in, context_of, caller_body, context_for, with_context}
 use Rattle.fmp_base.specs.Systems.{SystemTables}
 use Rattle.fmp_base.specs.Stretches.{Ending}
-use Rattle.fmp_body.specs.Contexts.{OfCall}
+use Rattle.fmp_base.specs.Contexts.{OfCall}
 use Rattle.fmp_contexts.specs.Contexts.{AllContexts, OfOption, OfHeld, HandlerFits, Fitting, Entered, IsThere, HasContext, HasPlaces, IsFor}
 use Rattle.fmp_calls.specs.Groups.{IsTaskOf}
 use Rattle.fmp_worlds.specs.Stamps.{going_from, going_by}

@@ -10,9 +10,9 @@ use Rattle.fmp_base.specs.Meanings.{Contexts, context_of, handler_start, task_bo
 use Rattle.fmp_base.specs.Stretches.{Ending}
 use Rattle.fmp_base.specs.Stretches as ends
 use Rattle.fmp_base.specs.Systems.{SystemTables}
-use Rattle.fmp_body.specs.Contexts.{OfCall}
-use Rattle.fmp_body.specs.declared.stop.Stop.{Stop}
-use Rattle.fmp_body.specs.declared.stop.Stop.TheVariants as stop
+use Rattle.fmp_base.specs.Contexts.{OfCall}
+use Rattle.fmp_base.specs.declared.stop.Stop.{Stop}
+use Rattle.fmp_base.specs.declared.stop.Stop.TheVariants as stop
 use Rattle.fmp_worlds.specs.Stamps.{Going}
 
 -- P i holds of what is at each place i, where something is

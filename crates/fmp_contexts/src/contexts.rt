@@ -7,8 +7,7 @@ ghost use Rattle.fmp_base.specs.Systems.{body_of};
 ghost use Rattle.fmp_contexts.specs.Contexts.{HasContext, IsThere, OfHeld, OfOption, going_context, held_by, kept_after, stop_of};
 
 use crate::kept::{self, Kept};
-use fmp_base::{Caller, Entry, Reply};
-use fmp_body::{Body, Stop};
+use fmp_base::{Body, Caller, Entry, Reply, Stop};
 use std::alloc::{AllocError, Global};
 use std::marker::Model;
 

@@ -5,8 +5,7 @@ ghost use Rattle.fmp_base.specs.Ranges.{IsInRange};
 ghost use Rattle.fmp_contexts.specs.Contexts.{Entered, Fitting, HasPlaces};
 
 use crate::contexts::{self, BodyContexts, body_number};
-use fmp_base::{Caller, Handler, HandlerStart, Line, Reply};
-use fmp_body::Body;
+use fmp_base::{Body, Caller, Handler, HandlerStart, Line, Reply};
 use fmp_tasks::Tables;
 
 /// How a handler begins, where the system has it.

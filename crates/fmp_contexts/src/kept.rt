@@ -6,8 +6,7 @@ ghost use Rattle.fmp_base.specs.declared.bodies.Held.TheVariants.{Awaits, Goes};
 ghost use Rattle.fmp_base.specs.Meanings.{told};
 ghost use Rattle.fmp_contexts.specs.Contexts.{OfHeld, going_context, held_by, kept_after, stop_of};
 
-use fmp_base::Reply;
-use fmp_body::{Body, Stop};
+use fmp_base::{Body, Reply, Stop};
 use std::marker::Model;
 
 /// A context, and whether it awaits the reply to the call of its body.

@@ -10,8 +10,8 @@ use Rattle.fmp_code.specs.Instructions.{BodyTables}
 use Rattle.fmp_code.specs.Machine.{code_meaning}
 use Rattle.fmp_image.specs.Images.{ImageTables}
 use Rattle.fmp_kernel.specs.KernelViews.{KernelView, view_after, view_of_setup}
-use Rattle.fmp_row.specs.declared.entry.JournalEntry.{JournalEntry}
-use Rattle.fmp_row.specs.Seats.{RowId, SeatState, events, given}
+use Rattle.fmp_journal.specs.declared.entry.JournalEntry.{JournalEntry}
+use Rattle.fmp_journal.specs.Seats.{RowId, SeatState, events, given}
 use Rattle.fmp_base.specs.Texts.{lines_text}
 use Rattle.fmp_board.specs.Boards.{IsAt}
 use Rattle.fmp_board.specs.Replays.{kernel_after}

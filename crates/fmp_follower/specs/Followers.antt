@@ -13,9 +13,9 @@ use Rattle.fmp_code.specs.Instructions.{BodyTables}
 use Rattle.fmp_code.specs.Machine.{code_meaning}
 use Rattle.fmp_image.specs.Images.{ImageTables}
 use Rattle.fmp_kernel.specs.KernelViews.{KernelView, view_after_all, view_of_setup}
-use Rattle.fmp_row.specs.Seats.{RowId, SeatState, given}
-use Rattle.fmp_row.specs.Views.{looked_at}
-use Rattle.fmp_row.specs.Words.{event_in}
+use Rattle.fmp_journal.specs.Seats.{RowId, SeatState, given}
+use Rattle.fmp_journal.specs.Views.{looked_at}
+use Rattle.fmp_journal.specs.Words.{event_in}
 use Rattle.fmp_board.specs.Boards.{IsAt}
 
 -- a follower, by the seat that it reads from

@@ -6,7 +6,7 @@ ghost use Rattle.fmp_code.specs.Machine.{code_meaning};
 ghost use Rattle.fmp_follower.specs.Followers.{Continues, FollowedTextIsFront, Follows, IsFollowing, followed_text, reaction_text};
 ghost use Rattle.fmp_board.specs.Replays.{kernel_after};
 ghost use Rattle.fmp_kernel.specs.KernelViews.{view_after};
-ghost use Rattle.fmp_row.specs.Seats.{given};
+ghost use Rattle.fmp_journal.specs.Seats.{given};
 
 use fmp_base::{Effect, Event, System};
 use fmp_board::{Board, Seat, Site, kernel_of};
@@ -106,7 +106,7 @@ fn advance<'a, S: Site>(
 
 impl<'a, 'b, S: Site> Follower<'a, 'b, S> {
     ghost use Rattle.std.specs.Prelude.{◌≡◌, ◌++◌, [], IfOk, OnOk, OnErr};
-    ghost use Rattle.fmp_row.specs.Seats.{given};
+    ghost use Rattle.fmp_journal.specs.Seats.{given};
     ghost use Rattle.fmp_board.specs.Boards.{IsAt};
     ghost use Rattle.fmp_follower.specs.Followers.{Continues, Follows, events_of, followed_text, kernel_over};
 

@@ -1,2 +1,4 @@
+pub mod Counting
 pub mod Frames
 pub mod Showing
+pub mod Values

@@ -1,11 +1,25 @@
-//! The frames of a run: what each event told, and the state after it.
+//! The frames of a run: what each event told, and the state after it; and two ways to show a run by them: a table of
+//! what each task did, and a value change dump.
 #![tactic(auto)]
 
+mod codes;
+mod counting;
+mod dump;
 mod frame;
+mod head;
 mod reading;
 mod showing;
+mod table;
 mod taking;
+mod tallies;
+mod text;
+mod values;
+mod variable;
 
+pub use counting::Tally;
+pub use dump::Waves;
 pub use frame::{Frame, last_frame};
 pub use showing::{Viewer, show_all};
 pub use taking::frames;
+pub use tallies::Tallies;
+pub use variable::{Object, Variable};

@@ -5,7 +5,7 @@ use Rattle.std.proofs.lemmas.List.Elements.{All-append, All-cons, All-nil, All-t
 use Rattle.std.specs.List.{All, AllZip}
 use Rattle.std.specs.Prelude.{IfErr, IfOk}
 use Rattle.fmp_image.specs.Images.{ImageTables}
-use Rattle.fmp_row.specs.Seats.{RowId, SeatState}
+use Rattle.fmp_journal.specs.Seats.{RowId, SeatState}
 use Rattle.fmp_board.specs.declared.fault.BoardFault.{BoardFault}
 use Rattle.fmp_board.specs.Boards.{IsAt, IsTurnFault}
 use Rattle.fmp_board.specs.Visits.{Kept}

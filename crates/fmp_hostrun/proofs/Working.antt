@@ -10,10 +10,10 @@ use Rattle.fmp_base.specs.declared.events.Event.{Event}
 use Rattle.fmp_base.specs.declared.events.Event.TheVariants.{Run}
 use Rattle.fmp_base.specs.Steps.{Reaction, Nothing, Did}
 use Rattle.fmp_image.specs.Images.{ImageTables}
-use Rattle.fmp_row.specs.declared.entry.JournalEntry.{JournalEntry}
-use Rattle.fmp_row.specs.Seats.{RowId, SeatState, events}
-use Rattle.fmp_row.specs.Views.{own}
-use Rattle.fmp_row.specs.Words.{entry}
+use Rattle.fmp_journal.specs.declared.entry.JournalEntry.{JournalEntry}
+use Rattle.fmp_journal.specs.Seats.{RowId, SeatState, events}
+use Rattle.fmp_journal.specs.Views.{own}
+use Rattle.fmp_journal.specs.Words.{entry}
 use Rattle.fmp_board.specs.declared.fault.BoardFault.{BoardFault}
 use Rattle.fmp_board.specs.declared.receipt.Receipt.{Receipt}
 use Rattle.fmp_board.specs.Outcomes.{AnsweredAfter, Submitted, TicketState}

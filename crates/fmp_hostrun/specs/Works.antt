@@ -4,9 +4,9 @@ use Rattle.std.specs.List.{AllZip}
 use Rattle.fmp_base.specs.declared.events.Event.{Event}
 use Rattle.fmp_base.specs.declared.events.Event.TheVariants.{Run, Tick}
 use Rattle.fmp_image.specs.Images.{ImageTables}
-use Rattle.fmp_row.specs.Seats.{RowId, SeatState}
-use Rattle.fmp_row.specs.Views.{own}
-use Rattle.fmp_row.specs.Words.{entry}
+use Rattle.fmp_journal.specs.Seats.{RowId, SeatState}
+use Rattle.fmp_journal.specs.Views.{own}
+use Rattle.fmp_journal.specs.Words.{entry}
 use Rattle.fmp_board.specs.declared.fault.BoardFault.{BoardFault}
 use Rattle.fmp_board.specs.declared.fault.BoardFault.TheVariants as fault
 use Rattle.fmp_hostrun.specs.declared.turns.Load.{Load}

@@ -7,11 +7,11 @@ ghost use Rattle.fmp_board.specs.Visits.{Visited, journaled};
 ghost use Rattle.fmp_hostrun.specs.Works.{Added};
 ghost use Rattle.fmp_board.specs.declared.fault.BoardFault.TheVariants.{Full, Stale};
 ghost use Rattle.fmp_image.specs.Images.{ImageTables};
-ghost use Rattle.fmp_row.specs.Seats.{RowId};
+ghost use Rattle.fmp_journal.specs.Seats.{RowId};
 
 use fmp_base::Event;
 use fmp_board::{Board, BoardFault, Outcome, Receipt, Site};
-use fmp_row::Seat;
+use fmp_journal::Seat;
 use std::sync::Wait;
 
 /// What takes events from many threads, as a board does.

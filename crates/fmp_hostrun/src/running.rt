@@ -9,7 +9,7 @@ ghost use Rattle.fmp_board.specs.declared.fault.BoardFault.TheVariants.{Limit};
 use crate::feed::Feed;
 use crate::turns::{Gate, Load, Part, run_part};
 use fmp_board::{Board, BoardFault, Site};
-use fmp_row::Seat;
+use fmp_journal::Seat;
 use std::alloc::{AllocError, Global};
 use std::marker::PhantomData;
 use std::snapshot::Snapshot;

@@ -8,7 +8,7 @@ ghost use Rattle.fmp_hostrun.specs.Works.{Added, GaveBack};
 use crate::feed::Feed;
 use fmp_base::Event;
 use fmp_board::BoardFault;
-use fmp_row::Seat;
+use fmp_journal::Seat;
 use std::sync::Wait;
 use std::thread;
 

@@ -10,8 +10,8 @@ use Rattle.fmp_base.specs.Meanings.{Contexts, Meaning, World}
 use Rattle.fmp_base.specs.States.{Progress}
 use Rattle.fmp_base.specs.Steps.{Done, Reaction, Nothing, Did, actor_ended, call_made, finished, step}
 use Rattle.fmp_base.specs.Systems.{SystemTables}
-use Rattle.fmp_body.specs.declared.stop.Stop.{Stop}
-use Rattle.fmp_body.specs.declared.stop.Stop.TheVariants as stop
+use Rattle.fmp_base.specs.declared.stop.Stop.{Stop}
+use Rattle.fmp_base.specs.declared.stop.Stop.TheVariants as stop
 use Rattle.fmp_kernel.specs.declared.actors.Actor.{Actor}
 use Rattle.fmp_kernel.specs.Stamps.{stamped}
 use Rattle.fmp_worlds.specs.Stamps.{Going, actor_at}

@@ -6,7 +6,7 @@ ghost use Rattle.fmp_base.specs.Meanings.{caller_body, context_of, with_context}
 ghost use Rattle.fmp_base.specs.States.{processor_at};
 ghost use Rattle.fmp_base.specs.Steps.{Did, actor_ended, actor_of, call_made, effect_of, finished, handler_ended as ended_handler, run_by, step, stretched};
 ghost use Rattle.fmp_base.specs.Stretches.{ending};
-ghost use Rattle.fmp_body.specs.Contexts.{OfCall};
+ghost use Rattle.fmp_base.specs.Contexts.{OfCall};
 ghost use Rattle.fmp_contexts.specs.Contexts.{HasContext, HasNoCall, IsFor, kept_after, stop_of};
 ghost use Rattle.fmp_calls.specs.Groups.{IsTaskOf};
 ghost use Rattle.fmp_kernel.specs.KernelViews.{SameBodies, done_of, done_or, kept_in, stopped_on, with_contexts};
@@ -16,8 +16,7 @@ ghost use Rattle.fmp_worlds.specs.Stamps.{actor_at, applied_by};
 use crate::actors::actor_on;
 use crate::runner::Runner;
 use crate::ticks::advance;
-use fmp_base::{Answer, Call, Caller, Effect, Event, Line, Processor, Stretch};
-use fmp_body::{Body, Stop};
+use fmp_base::{Answer, Body, Call, Caller, Effect, Event, Line, Processor, Stop, Stretch};
 use fmp_calls::call;
 use fmp_contexts::{entry_of, stretch};
 use fmp_migrate::end_itself;

@@ -14,5 +14,5 @@ mod starting;
 mod ticks;
 
 pub use actors::Actor;
-pub use fmp_body::Body;
+pub use fmp_base::Body;
 pub use kernel::{Kernel, KernelFault};

@@ -4,8 +4,7 @@ ghost use Rattle.std.specs.List.{AllByRecursion};
 ghost use Rattle.fmp_base.specs.Systems.{body_of, tables_of};
 ghost use Rattle.fmp_kernel_tests.specs.Scripts.{AreBodiesOf, IsBody, calls_of as list_of_calls};
 
-use fmp_base::{Call, Entry, Reply, Stretch, System, TaskConfig};
-use fmp_body::Body;
+use fmp_base::{Body, Call, Entry, Reply, Stretch, System, TaskConfig};
 use std::marker::Model;
 
 /// Bodies that are lists of service calls. Body n, from 0, makes the calls of list n, one after the other, whatever

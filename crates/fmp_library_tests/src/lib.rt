@@ -1,9 +1,18 @@
-//! The programs of docs/LIBRARY.md: a system that is built and run step by step, and bodies of one's own.
+//! The programs of docs/LIBRARY.md: a system that is built and run step by step, and bodies of one's own. Beside them
+//! stand the tests of rings, deadlines, the row of a journal, and files whose calls fail.
 #![tactic(auto)]
 
 mod pulse;
 
 pub use pulse::Pulse;
 
+#[cfg(test)]
+mod deadlines;
+#[cfg(test)]
+mod files;
+#[cfg(test)]
+mod journals;
+#[cfg(test)]
+mod rings;
 #[cfg(test)]
 mod tests;

@@ -1,8 +1,7 @@
 //! Bodies that no text gives.
 ghost use Rattle.std.specs.Prelude.{◌≡◌};
 
-use fmp_base::{Call, Reply, Stretch};
-use fmp_body::Body;
+use fmp_base::{Body, Call, Reply, Stretch};
 use std::marker::Model;
 
 /// Bodies that all do the same: so many delays of one tick, and the end.

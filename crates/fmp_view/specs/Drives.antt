@@ -3,8 +3,8 @@ use Rattle.std.specs.Prelude.{ℕ, List, []}
 use Rattle.fmp_code.specs.declared.instructions.MachineContext.{MachineContext}
 use Rattle.fmp_code.specs.Instructions.{BodyTables}
 use Rattle.fmp_code.specs.Machine.{code_meaning}
-use Rattle.fmp_driver.specs.Driving.{IsDriven}
-use Rattle.fmp_driver.specs.NextRuns.{AreNext}
+use Rattle.fmp_drive.specs.Driving.{IsDriven}
+use Rattle.fmp_drive.specs.NextRuns.{AreNext}
 use Rattle.fmp_board.specs.Replays.{kernel_after}
 use Rattle.fmp_image.specs.Images.{ImageTables}
 use Rattle.fmp_kernel.specs.KernelViews.{KernelView}

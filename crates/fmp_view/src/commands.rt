@@ -1,22 +1,20 @@
 //! What each command reads of bytes and makes of them.
 ghost use Rattle.std.specs.Prelude.{◌≡◌, ◌+◌, ◌≤◌, ◌^◌, IfOk, length};
-ghost use Rattle.fmp_stats.specs.Counting.{counts_of, first_counts};
+ghost use Rattle.fmp_frames.specs.Counting.{counts_of, first_counts};
 ghost use Rattle.fmp_view.specs.Shown.{WasShown};
-ghost use Rattle.fmp_waves.specs.Values.{values_of};
+ghost use Rattle.fmp_frames.specs.Values.{values_of};
 
 use crate::asking::{kept_bound, kept_events};
 use crate::driving::driven;
 use crate::opening::{events_of, fresh_kernel, image_of};
 use fmp_base::{Event, System};
-use fmp_driver::{NextRun, Stop};
+use fmp_diagnosis::{explain, topic_named};
+use fmp_drive::{NextRun, Stop};
 use fmp_engine::SimFault;
-use fmp_frames::{Viewer, last_frame, show_all};
-use fmp_glossary::{explain, topic_named};
+use fmp_frames::{Tallies, Viewer, Waves, last_frame, show_all};
 use fmp_image::Image;
 use fmp_kernel::{Body, Kernel};
-use fmp_stats::Tallies;
 use fmp_trace::print_steps;
-use fmp_waves::Waves;
 use std::alloc::{AllocError, Global};
 
 /// Want of memory, as a fault.

@@ -1,12 +1,12 @@
 //! Steps of an image that is driven.
 ghost use Rattle.std.specs.Prelude.{◌≡◌, ◌+◌, ◌≤◌, ◌^◌, [], IfOk, length};
-ghost use Rattle.fmp_driver.specs.Driving.{IsDriven};
+ghost use Rattle.fmp_drive.specs.Driving.{IsDriven};
 ghost use Rattle.fmp_board.specs.Replays.{kernel_after};
 ghost use Rattle.fmp_view.specs.Drives.{DrivesImage};
 
 use fmp_base::System;
 use fmp_board::kernel_of;
-use fmp_driver::{Driven, NextRun, Plan, drive, next_runs};
+use fmp_drive::{Driven, NextRun, Plan, drive, next_runs};
 use fmp_image::Image;
 use fmp_kernel::{Body, Kernel};
 use fmp_machine::Vm;

@@ -10,7 +10,7 @@ use clap::Error;
 use clap::error::ErrorKind;
 use fmp_base::Call;
 use fmp_diagnosis::{FileNames, Texts};
-use fmp_driver::{NextRun, Stop};
+use fmp_drive::{NextRun, Stop};
 use fmp_engine::SimFault;
 use fmp_files::{Outside, ReadFault, WriteFault};
 use std::alloc::{AllocError, Global};

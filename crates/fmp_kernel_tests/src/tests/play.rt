@@ -6,8 +6,7 @@ ghost use Rattle.fmp_kernel_tests.specs.Scripts.{AreBodiesOf};
 
 use crate::Script;
 use crate::tests::reading::{bind, read_scripts, steps_text};
-use fmp_base::{Effect, Event, System};
-use fmp_body::Body;
+use fmp_base::{Body, Effect, Event, System};
 use fmp_cfgparse::read_cfg;
 use fmp_kernel::Kernel;
 use fmp_trace::{print, print_states, read_steps};

@@ -1,7 +1,6 @@
 //! A system that two texts describe: built, loaded again, and run event by event.
-use fmp_base::{Effect, Event, System};
+use fmp_base::{Body, Effect, Event, System};
 use fmp_board::kernel_of;
-use fmp_body::Body;
 use fmp_build::build;
 use fmp_image::{Image, load, store};
 use fmp_kernel::Kernel;

@@ -1,6 +1,6 @@
 use Rattle.std.proofs.Common.{◌≡◌, ◌∙◌, ap, map, string_bytes, subst}
 use Rattle.clap.specs.Words.{kind_of}
-use Rattle.fmp_command.specs.Asked.{AsksFor, IsRefused}
+use Rattle.fmp.specs.Asked.{AsksFor, IsRefused}
 use Rattle.fmp.specs.Runs.{ran, refused}
 use Rattle.fmp.proofs.running.run.Goals as goal
 

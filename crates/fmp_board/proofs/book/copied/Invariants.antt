@@ -1,6 +1,6 @@
 -- The events so far are copied.
 use Rattle.std.proofs.Common.{◌≡◌, ◌≤◌, length, take, vec_capacity}
-use Rattle.fmp_row.specs.Seats.{events}
+use Rattle.fmp_journal.specs.Seats.{events}
 use Rattle.fmp_board.proofs.book.copied.Given as goal
 
 abbrev pub invariant-loop-place : goal.invariant-loop-place

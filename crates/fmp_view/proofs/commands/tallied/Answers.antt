@@ -1,7 +1,7 @@
 use Rattle.std.proofs.Common.{◌∙◌, ap}
 use Rattle.std.proofs.lemmas.Result.{err_from_is_err_and}
 use Rattle.fmp_frames.specs.Frames.{FrameTable}
-use Rattle.fmp_stats.specs.Counting.{first_counts}
+use Rattle.fmp_frames.specs.Counting.{first_counts}
 use Rattle.fmp_view.proofs.commands.tallied.Goals as goal
 
 pub show_all-requires : goal.show_all-requires

@@ -5,8 +5,8 @@ use Rattle.fmp_base.specs.Systems.{SystemTables}
 use Rattle.fmp_code.specs.declared.instructions.MachineContext.{MachineContext}
 use Rattle.fmp_code.specs.Instructions.{BodyTables}
 use Rattle.fmp_code.specs.Machine.{code_meaning}
-use Rattle.fmp_driver.specs.declared.driving.Stop.{Stop}
-use Rattle.fmp_driver.specs.Driving.{IsDriven}
+use Rattle.fmp_drive.specs.declared.driving.Stop.{Stop}
+use Rattle.fmp_drive.specs.Driving.{IsDriven}
 use Rattle.fmp_kernel.specs.KernelViews.{KernelView}
 use Rattle.fmp_view.proofs.Fresh.{room}
 use Rattle.fmp_view.proofs.driving.drive_on.Goals as goal

@@ -2,9 +2,9 @@ use Rattle.std.proofs.Common.{◌≡◌, ◌+◌, ◌<◌, List, length, sym, ap
 use Rattle.fmp_base.specs.Steps.{Did, step}
 use Rattle.fmp_code.specs.Machine.{code_meaning}
 use Rattle.fmp_kernel.specs.KernelViews.{view_after}
-use Rattle.fmp_row.specs.declared.entry.JournalEntry.{JournalEntry}
-use Rattle.fmp_row.specs.Seats.{events}
-use Rattle.fmp_row.specs.Words.{entry}
+use Rattle.fmp_journal.specs.declared.entry.JournalEntry.{JournalEntry}
+use Rattle.fmp_journal.specs.Seats.{events}
+use Rattle.fmp_journal.specs.Words.{entry}
 use Rattle.fmp_board.specs.Boards.{IsReplay}
 use Rattle.fmp_board.specs.Receipts.{call_reply, journal_after, marks_after}
 use Rattle.fmp_board.specs.Replays.{reaction}

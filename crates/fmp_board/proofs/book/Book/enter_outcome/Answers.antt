@@ -4,9 +4,9 @@ use Rattle.fmp_base.specs.Stretches.{ending}
 use Rattle.fmp_code.specs.Machine.{code_meaning}
 use Rattle.fmp_kernel.specs.KernelViews.{view_after}
 use Rattle.fmp_worlds.specs.Stamps.{applied}
-use Rattle.fmp_row.specs.declared.entry.JournalEntry.{JournalEntry}
-use Rattle.fmp_row.specs.Seats.{events}
-use Rattle.fmp_row.specs.Words.{entry}
+use Rattle.fmp_journal.specs.declared.entry.JournalEntry.{JournalEntry}
+use Rattle.fmp_journal.specs.Seats.{events}
+use Rattle.fmp_journal.specs.Words.{entry}
 use Rattle.fmp_board.specs.Boards.{IsReplay}
 use Rattle.fmp_board.specs.Outcomes.{actor_after}
 use Rattle.fmp_board.specs.Receipts.{call_reply, journal_after, marks_after}

@@ -1,0 +1,123 @@
+//! What the program is asked to do, and the words that say so.
+ghost use Rattle.std.specs.Prelude.{◌≡◌, ◌≢◌, ◌≤◌, ◌⊎◌, ◌↔◌, IfErr, IfOk, length, map};
+ghost use Rattle.clap.specs.Words.{kind_of};
+ghost use Rattle.fmp.specs.Asked.{AsksFor, IsRefused};
+ghost use Rattle.fmp.specs.CommandRanges.{KeepsRanges};
+
+use crate::form::{build_command, host_command, program};
+use crate::reading::{asked, entered};
+use clap::error::ErrorKind;
+use clap::{Command, Error};
+use std::alloc::{AllocError, Global};
+
+/// What is said of words that are no text.
+const NOT_TEXT: &str = "invalid UTF-8 was detected in one or more arguments";
+
+/// What is said of an image that would take the place of a text that it is built of.
+const IMAGE_OVER_TEXT: &str = "the file OUT is one of the two that are read";
+
+/// What is said of a journal that would take the place of the image that is run.
+const JOURNAL_OVER_IMAGE: &str = "the file JOURNAL is the image that is read";
+
+/// What the program is asked to do. Each word is the name of a file.
+#[derive(Drop)]
+pub enum Cmd {
+    /// Check that a configuration and the bodies of its tasks have no fault.
+    Check {
+        config: String,
+        tasks: String,
+    },
+    /// Build the image of a configuration and the bodies of its tasks.
+    Build {
+        config: String,
+        tasks: String,
+        image: String,
+    },
+    /// Run an image over the events of a steps text. `bound`, 1 to 2^48, limits how many instructions a body takes
+    /// between two service calls.
+    Sim {
+        image: String,
+        steps: String,
+        bound: u64,
+    },
+    /// Run an image by threads, one for each of its processors, and write what happened to the file `journal`, as a
+    /// steps text. Each processor has so many `turns` and the clock so many `ticks`, each 0 to 2^20. `bound`, 1 to
+    /// 2^48, limits how many instructions a body takes between two service calls.
+    Host {
+        image: String,
+        journal: String,
+        turns: u32,
+        ticks: u32,
+        bound: u64,
+    },
+    /// Build and run the texts that the program holds.
+    Stored,
+}
+
+/// The error for a mistake in the words of a command of this name, which has the status 2.
+fn mistake(
+    command: Result<Command<'_>, AllocError>,
+    name: &str,
+    text: &str,
+) -> Result<Error, AllocError>
+    ensures { IfOk result (λ e. kind_of e ≡ ErrorKind.ValueValidation) }
+{
+    command?
+        .bin_name(name)?
+        .error(ErrorKind::ValueValidation, text)
+}
+
+/// The error for words that are not UTF-8, which has the status 2.
+pub fn not_text(alloc: Global) -> Result<Error, AllocError>
+    ensures { IfOk result (λ e. kind_of e ≡ ErrorKind.ValueValidation) }
+{
+    mistake(program(alloc), "fmp", NOT_TEXT)
+}
+
+/// The error for an image that would take the place of a text that it is built of, which has the status 2.
+pub fn image_over_text(alloc: Global) -> Result<Error, AllocError>
+    ensures { IfOk result (λ e. kind_of e ≡ ErrorKind.ValueValidation) }
+{
+    mistake(build_command(alloc), "fmp build", IMAGE_OVER_TEXT)
+}
+
+/// The error for a journal that would take the place of the image that is run, which has the status 2.
+pub fn journal_over_image(alloc: Global) -> Result<Error, AllocError>
+    ensures { IfOk result (λ e. kind_of e ≡ ErrorKind.ValueValidation) }
+{
+    mistake(host_command(alloc), "fmp host", JOURNAL_OVER_IMAGE)
+}
+
+/// What the words of a command line ask for, of which the first is the program's name. With no more than that it is the
+/// run of the texts that the program holds. An error has the kind of the first fault of the words' form
+/// (`ValueValidation` for a bound that is no number from 1 to 2^48, or turns or ticks that are none from 0 to 2^20), or
+/// is `OutOfMemory`.
+pub fn command<'a>(alloc: Global, words: &'a [&'a str]) -> Result<Cmd, Error>
+    ensures asked { IfOk result (AsksFor (map (λ word. word.now) words.entry.now)) }
+    ensures refused { IfErr result (λ e. IsRefused (map (λ word. word.now) words.entry.now) (kind_of e)) }
+    ensures ranges { IfOk result KeepsRanges }
+    ensures stored { (result ≡ Ok Cmd.Stored) ↔ (length words.entry.now ≤ 1) }
+{
+    if words.len() <= 1 {
+        return Ok(Cmd::Stored);
+    }
+    let matches = program(alloc)?.try_get_matches_from(words)?;
+    let (name, words) = entered(&matches).unwrap();
+    Ok(asked(alloc, name, words)?)
+}
+
+/// The status that the program ends with after an error of the command line: 2 for a mistake, 0 where help or the
+/// version was asked for, and 3 for want of memory.
+pub fn status_of(error: &Error) -> u8
+    ensures memory { kind_of error.now ≡ ErrorKind.OutOfMemory → result ≡ 3 }
+    ensures shown { (kind_of error.now ≡ ErrorKind.DisplayHelp)
+        ⊎ (kind_of error.now ≡ ErrorKind.DisplayVersion) → result ≡ 0 }
+    ensures mistake { kind_of error.now ≢ ErrorKind.OutOfMemory → kind_of error.now ≢ ErrorKind.DisplayHelp
+        → kind_of error.now ≢ ErrorKind.DisplayVersion → result ≡ 2 }
+{
+    match error.kind() {
+        ErrorKind::OutOfMemory => 3,
+        ErrorKind::DisplayHelp | ErrorKind::DisplayVersion => 0,
+        _ => 2,
+    }
+}

@@ -1,4 +1,0 @@
-mod Entering
-mod Given
-mod Growing
-mod Rows

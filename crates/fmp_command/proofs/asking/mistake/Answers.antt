@@ -1,4 +1,0 @@
-use Rattle.fmp_command.proofs.asking.mistake.Goals as goal
-
-pub returns : goal.returns
-returns c = c.error.ensures.kind

@@ -1,0 +1,143 @@
+//! The codes that the programs print.
+ghost use Rattle.std.specs.Prelude.{◌≡◌, find};
+ghost use Rattle.std.specs.Str.{bytes_eq};
+ghost use Rattle.fmp_diagnosis.specs.Topics.{EveryTopicIsFound, topic_named, topic_word};
+
+use fmp_base::Er;
+
+/// A code that the programs print.
+#[derive(Clone, Copy, PartialEq, Eq)]
+pub enum Topic {
+    /// A main error code, as a call answers it and as a static API refuses with it.
+    Reply(Er),
+    /// F_OVF: a value does not fit 32 bits.
+    Overflow,
+    /// F_DIV: a divisor is 0.
+    Division,
+    /// B1.
+    Syntax,
+    /// B2.
+    TwiceNamed,
+    /// B3.
+    UnknownName,
+    /// B4: a static API refuses its values.
+    Refused,
+    /// B5.
+    Limit,
+    /// B6.
+    StackTooSmall,
+    /// B7.
+    WrongEntryKind,
+    /// L1.
+    ImageShort,
+    /// L2.
+    ImageMagic,
+    /// L3.
+    ImageVersion,
+    /// L4.
+    ImageTable,
+    /// L5.
+    ImageCode,
+    /// L6.
+    ImageTrailing,
+    /// S1.
+    StepForm,
+    /// S2.
+    StepRange,
+    /// S3.
+    TooManySteps,
+    /// H4.
+    HostWork,
+    /// H5.
+    HostThread,
+}
+
+/// All of them.
+pub const TOPICS: [Topic; 32] = [
+    Topic::Reply(Er::Ok),
+    Topic::Reply(Er::Sys),
+    Topic::Reply(Er::Nospt),
+    Topic::Reply(Er::Rsatr),
+    Topic::Reply(Er::Par),
+    Topic::Reply(Er::Id),
+    Topic::Reply(Er::Ctx),
+    Topic::Reply(Er::Iluse),
+    Topic::Reply(Er::Obj),
+    Topic::Reply(Er::Qovr),
+    Topic::Reply(Er::Rlwai),
+    Topic::Reply(Er::Tmout),
+    Topic::Overflow,
+    Topic::Division,
+    Topic::Syntax,
+    Topic::TwiceNamed,
+    Topic::UnknownName,
+    Topic::Refused,
+    Topic::Limit,
+    Topic::StackTooSmall,
+    Topic::WrongEntryKind,
+    Topic::ImageShort,
+    Topic::ImageMagic,
+    Topic::ImageVersion,
+    Topic::ImageTable,
+    Topic::ImageCode,
+    Topic::ImageTrailing,
+    Topic::StepForm,
+    Topic::StepRange,
+    Topic::TooManySteps,
+    Topic::HostWork,
+    Topic::HostThread,
+];
+
+impl Topic {
+    /// The code as it is printed.
+    pub fn word(self) -> &'static str
+        ensures { result.now ≡ topic_word self }
+    {
+        match self {
+            Topic::Reply(code) => code.name(),
+            Topic::Overflow => "F_OVF",
+            Topic::Division => "F_DIV",
+            Topic::Syntax => "B1",
+            Topic::TwiceNamed => "B2",
+            Topic::UnknownName => "B3",
+            Topic::Refused => "B4",
+            Topic::Limit => "B5",
+            Topic::StackTooSmall => "B6",
+            Topic::WrongEntryKind => "B7",
+            Topic::ImageShort => "L1",
+            Topic::ImageMagic => "L2",
+            Topic::ImageVersion => "L3",
+            Topic::ImageTable => "L4",
+            Topic::ImageCode => "L5",
+            Topic::ImageTrailing => "L6",
+            Topic::StepForm => "S1",
+            Topic::StepRange => "S2",
+            Topic::TooManySteps => "S3",
+            Topic::HostWork => "H4",
+            Topic::HostThread => "H5",
+        }
+    }
+}
+
+/// The topic of this word, among these.
+fn topic_among(topics: &[Topic], word: &[u8]) -> Option<Topic>
+    ensures { result ≡ find (λ topic. bytes_eq (topic_word topic) word.now) topics.now }
+{
+    topics
+        .iter()
+        .copied()
+        .find(|topic| topic.word().as_bytes() == word)
+}
+
+/// The topic of this word.
+#[tactic(auto, unfolding(crate::specs::Topics::topic_named))]
+pub fn topic_named(word: &[u8]) -> Option<Topic>
+    ensures { result ≡ topic_named word.now }
+{
+    topic_among(&TOPICS, word)
+}
+
+/// Each topic is found by its word.
+pub fn every_topic_is_found()
+    ensures { EveryTopicIsFound }
+{}

@@ -1,0 +1,66 @@
+-- What it is to drive a kernel: events, each of which does something.
+use Rattle.std.specs.Prelude.{ℕ, ◌≡◌, ◌+◌, ◌≤◌, ◌<◌, List, Some, length}
+use Rattle.std.specs.List.{AllByRecursion}
+use Rattle.fmp_base.specs.declared.events.Effect.TheVariants as effect
+use Rattle.fmp_base.specs.declared.events.Event.{Event}
+use Rattle.fmp_base.specs.declared.events.Event.TheVariants as event
+use Rattle.fmp_base.specs.Meanings.{Meaning}
+use Rattle.fmp_base.specs.Runs.{Trace, complete_run}
+use Rattle.fmp_base.specs.Steps.{Reaction, Nothing, effect_of, step}
+use Rattle.fmp_kernel.specs.KernelViews.{KernelView, view_after}
+use Rattle.fmp_trace.specs.StepsLaws.{IsStep}
+use Rattle.fmp_drive.specs.declared.driving.Stop.{Stop}
+use Rattle.fmp_drive.specs.declared.driving.Stop.TheVariants.{Quiet, Enough}
+use Rattle.fmp_drive.specs.declared.trying.Source.{Source}
+use Rattle.fmp_drive.specs.declared.trying.Source.TheVariants.{Processor, Interrupt}
+
+-- the event that a processor or an interrupt of this number makes
+abbrev pub event_of : Source → ℕ → Event
+event_of Processor number = event.Run number
+event_of Interrupt number = event.Int number
+
+-- what an event does to a kernel
+abbrev pub reaction : {B C : Type 0} → (B → Meaning C) → KernelView B C → Event → Reaction C
+reaction meaning k e = step k.system (meaning k.body) k.bound k.world e
+
+-- the kernel has done an event, which did something
+pub record HasDone {B C : Type 0} (meaning : B → Meaning C) (before after : KernelView B C) (e : Event) : Type 0 where
+  pub done : effect.Done ≡ effect_of (reaction meaning before e)
+  pub view : after ≡ view_after before (reaction meaning before e)
+
+-- the event is one of a source, by a number from the first one up to the end, which is left out
+pub record IsFrom (source : Source) (first end : ℕ) (e : Event) : Type 0 where
+  pub number : ℕ
+  pub first_on : first ≤ number
+  pub in_front : number < end
+  pub event : e ≡ event_of source number
+
+-- no event of a source by such a number does anything
+abbrev pub AllStand : {B C : Type 0} → (B → Meaning C) → KernelView B C → Source → (first end : ℕ) → Type 0
+AllStand meaning k source first end =
+    (number : ℕ) → first ≤ number → number < end → reaction meaning k (event_of source number) ≡ Nothing
+
+-- the kernel has done these events one after the other, and each of them did something
+pub record HasRun {B C : Type 0} (meaning : B → Meaning C) (before after : KernelView B C) (es : List Event) :
+    Type 0 where
+  pub trace : Trace C
+  pub complete : complete_run before.system (meaning before.body) before.bound before.world es ≡ Some trace
+  pub world : after.world ≡ trace.world
+  pub system : after.system ≡ before.system
+  pub body : after.body ≡ before.body
+  pub bound : after.bound ≡ before.bound
+  pub done : after.done ≡ before.done + length es
+
+-- why a drive has stopped: no processor can do anything, or so many events are done
+abbrev pub IsStop : {B C : Type 0} → (B → Meaning C) → KernelView B C → (processors most : ℕ) → List Event → Stop
+    → Type 0
+IsStop meaning after processors most es Quiet = AllStand meaning after Processor 1 (processors + 1)
+IsStop meaning after processors most es Enough = length es ≡ most
+
+-- the kernel was driven: it has done these events, each of which a steps text can hold, and then stopped
+pub record IsDriven {B C : Type 0} (meaning : B → Meaning C) (before after : KernelView B C) (processors most : ℕ)
+    (es : List Event) (stop : Stop) : Type 0 where
+  pub ran : HasRun meaning before after es
+  pub steps : AllByRecursion (IsStep processors) es
+  pub few : length es ≤ most
+  pub stopped : IsStop meaning after processors most es stop

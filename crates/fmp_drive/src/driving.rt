@@ -1,0 +1,140 @@
+//! Driving a kernel: events that each do something, until no processor goes on.
+ghost use Rattle.std.specs.Prelude.{◌≡◌, ◌+◌, ◌<◌, ◌≤◌, ◌^◌, length, IfOk, MatchOption};
+ghost use Rattle.fmp_trace.specs.StepsLaws.{IsStep};
+ghost use Rattle.fmp_drive.specs.Driving.{AllStand, HasDone, IsDriven};
+ghost use Rattle.fmp_drive.specs.declared.trying.Source.TheVariants as source;
+
+use crate::plan::{Plan, Wish};
+use crate::trying::{raise, run_one, tick};
+use fmp_base::Event;
+use fmp_kernel::{Body, Kernel};
+use std::alloc::{AllocError, Global};
+
+/// Why a drive has stopped.
+#[derive(Clone, Copy)]
+pub enum Stop {
+    /// No processor can do anything, and no wait ends by the clock.
+    Quiet,
+    /// As many events are done as were asked for.
+    Enough,
+}
+
+/// What a drive has done.
+#[derive(Drop)]
+pub struct Driven {
+    /// The events, each of which did something.
+    pub steps: Vec<Event>,
+    pub stop: Stop,
+}
+
+/// What comes from outside of the tasks, where it is wished: a tick, or an interrupt that does something.
+fn stir<B: Body>(kernel: &mut Kernel<B>, wish: Wish, processors: u8) -> Option<Event>
+    requires { kernel.old.done < 2 ^ 20 }
+    ensures { MatchOption result (kernel.new ≡ kernel.old)
+        (λ e. HasDone B.meaning kernel.old kernel.new e × IsStep processors e) }
+{
+    match wish {
+        Wish::Run(_) => None,
+        Wish::Tick => Some(tick(kernel, processors)),
+        Wish::Interrupt(first) => raise(kernel, first.max(1), processors),
+    }
+}
+
+/// The clock advances by one, if that can change something.
+fn tick_if_due<B: Body>(
+    kernel: &mut Kernel<B>,
+    plan: &Plan,
+    processors: u8,
+    tasks: u8,
+) -> Option<Event>
+    requires few { kernel.old.done < 2 ^ 20 }
+    requires tasks { tasks ≤ length kernel.old.system.tasks }
+    ensures { MatchOption result (kernel.new ≡ kernel.old)
+        (λ e. HasDone B.meaning kernel.old kernel.new e × IsStep processors e) }
+{
+    if plan.is_due(kernel, tasks) {
+        Some(tick(kernel, processors))
+    } else {
+        None
+    }
+}
+
+/// A processor does something, from the first of these on; else the clock, if that can change something.
+fn run_or_tick<B: Body>(
+    kernel: &mut Kernel<B>,
+    plan: &Plan,
+    first: u8,
+    processors: u8,
+    tasks: u8,
+) -> Option<Event>
+    requires few { kernel.old.done < 2 ^ 20 }
+    requires processors { processors ≤ 8 }
+    requires first { 1 ≤ first }
+    requires tasks { tasks ≤ length kernel.old.system.tasks }
+    ensures { MatchOption result
+        (AllStand B.meaning kernel.old source.Processor 1 (processors + 1) × (kernel.new ≡ kernel.old))
+        (λ e. HasDone B.meaning kernel.old kernel.new e × IsStep processors e) }
+{
+    match run_one(kernel, first, processors) {
+        Some(e) => Some(e),
+        None => tick_if_due(kernel, plan, processors, tasks),
+    }
+}
+
+/// The next event, which is done; none where no processor can do anything and the clock changes nothing.
+fn next<B: Body>(
+    kernel: &mut Kernel<B>,
+    plan: &mut Plan,
+    processors: u8,
+    tasks: u8,
+) -> Option<Event>
+    requires few { kernel.old.done < 2 ^ 20 }
+    requires processors { processors ≤ 8 }
+    requires tasks { tasks ≤ length kernel.old.system.tasks }
+    ensures { MatchOption result
+        (AllStand B.meaning kernel.old source.Processor 1 (processors + 1) × (kernel.new ≡ kernel.old))
+        (λ e. HasDone B.meaning kernel.old kernel.new e × IsStep processors e) }
+{
+    let wish = plan.wish();
+    match stir(kernel, wish, processors) {
+        Some(e) => Some(e),
+        None => run_or_tick(kernel, plan, wish.first(), processors, tasks),
+    }
+}
+
+/// Drives a kernel of so many processors and tasks: its processors in turn, or as the plan has it, and a tick where
+/// none of them can do anything; until nothing can happen any more, or so many events are done. `AllocError` for want
+/// of memory.
+pub fn drive<B: Body>(
+    alloc: Global,
+    kernel: &mut Kernel<B>,
+    plan: &mut Plan,
+    processors: u8,
+    tasks: u8,
+    most: u32,
+) -> Result<Driven, AllocError>
+    requires few { kernel.old.done + most ≤ 2 ^ 20 }
+    requires one { 1 ≤ processors }
+    requires eight { processors ≤ 8 }
+    requires tasks { tasks ≤ length kernel.old.system.tasks }
+    ensures { IfOk result (λ d. IsDriven B.meaning kernel.old kernel.new processors most d.steps.items d.stop) }
+{
+    let mut steps = Vec::new(alloc);
+    for _turn in 0..most {
+        let e = match next(kernel, plan, processors, tasks) {
+            Some(e) => e,
+            None => {
+                return Ok(Driven {
+                    steps,
+                    stop: Stop::Quiet,
+                });
+            }
+        };
+        steps.push(e)?;
+        plan.done(e, kernel.lines(), processors);
+    }
+    Ok(Driven {
+        steps,
+        stop: Stop::Enough,
+    })
+}

@@ -1,0 +1,60 @@
+//! Why a processor does not go on.
+ghost use Rattle.std.specs.Prelude.{◌≡◌};
+ghost use Rattle.fmp_base.specs.Stretches.{ending};
+ghost use Rattle.fmp_drive.specs.NextRuns.{AreNext, next_run as next_run_of, told_by as told};
+
+use fmp_base::{Call, Stretch};
+use fmp_kernel::{Body, Kernel};
+
+/// The greatest number of processors.
+const PROCESSORS: usize = 8;
+
+/// What the next run of a processor comes to, as far as the stretch of its actor tells it.
+#[derive(Clone, Copy)]
+pub enum NextRun {
+    /// The processor runs neither a task nor a handler, so its run does nothing.
+    NoActor,
+    /// The stretch needs more instructions than the bound, so the run does nothing.
+    OverBound,
+    /// The stretch comes to this call. Where that asks for a spin lock which is held, the run does nothing.
+    Calls(Call),
+    /// The stretch ends the task or the handler, or stops it with a fault.
+    Ends,
+}
+
+/// What a stretch tells of the run that makes it.
+fn told_by<C: Copy>(stretch: Stretch<C>) -> NextRun
+    ensures { result ≡ told (ending stretch) }
+{
+    match stretch {
+        Stretch::Call(_, call) => NextRun::Calls(call),
+        Stretch::End(_) | Stretch::Fault(..) => NextRun::Ends,
+        Stretch::Over => NextRun::OverBound,
+    }
+}
+
+/// What the next run of the processor of this number, from 1, comes to on a kernel over these bodies with this bound.
+fn next_run<B: Body>(kernel: &Kernel<B>, body: &B, n: u64, p: u8) -> NextRun
+    requires body { body.now ≡ kernel.now.body }
+    requires bound { n ≡ kernel.now.bound }
+    ensures { result ≡ next_run_of B.meaning kernel.now p }
+{
+    match kernel.actor(p) {
+        Some(actor) => told_by(body.stretch(actor.entry, n, actor.context)),
+        None => NextRun::NoActor,
+    }
+}
+
+/// What the next run of each processor comes to, by places from 0, on a kernel over these bodies with this bound.
+/// There is no actor behind the last processor.
+pub fn next_runs<B: Body>(kernel: &Kernel<B>, body: &B, n: u64) -> [NextRun; PROCESSORS]
+    requires body { body.now ≡ kernel.now.body }
+    requires bound { n ≡ kernel.now.bound }
+    ensures { AreNext B.meaning kernel.now result }
+{
+    let mut runs = [NextRun::NoActor; PROCESSORS];
+    for p in 0..PROCESSORS {
+        runs[p] = next_run(kernel, body, n, p as u8 + 1);
+    }
+    runs
+}

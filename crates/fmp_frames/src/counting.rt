@@ -1,0 +1,192 @@
+//! What is counted of a task.
+ghost use Rattle.std.specs.Prelude.{◌≡◌, length, slice_get};
+ghost use Rattle.std.specs.List.{filter};
+ghost use Rattle.fmp_frames.specs.Counting as spec;
+
+use fmp_base::{Caller, Er, Line, StateWord, TaskState};
+
+/// What a task did in a run. Each count ends at the greatest number that it can have.
+#[derive(Clone, Copy)]
+pub struct Tally {
+    /// How often it started.
+    pub starts: u32,
+    /// Its service calls.
+    pub calls: u32,
+    /// Those of them at which it began to wait.
+    pub waits: u32,
+    /// Waits that ended by their time limit.
+    pub time_outs: u32,
+    /// How often it was RUNNING before an event and READY after it.
+    pub preemptions: u32,
+    /// The events that it made: its calls, ends and faults.
+    pub events: u32,
+}
+
+/// A task that did nothing.
+pub const NOTHING: Tally = Tally {
+    starts: 0,
+    calls: 0,
+    waits: 0,
+    time_outs: 0,
+    preemptions: 0,
+    events: 0,
+};
+
+fn is_task(caller: Caller, task: usize) -> bool
+    ensures { result ≡ spec.is_task task caller }
+{
+    match caller {
+        Caller::Task(other) => usize::from(other) == task,
+        Caller::Handler(_) => false,
+    }
+}
+
+fn starts(line: Line, task: usize) -> bool
+    ensures { result ≡ spec.starts task line }
+{
+    match line {
+        Line::Starts { task: other, .. } => usize::from(other) == task,
+        _ => false,
+    }
+}
+
+fn calls(line: Line, task: usize) -> bool
+    ensures { result ≡ spec.calls task line }
+{
+    match line {
+        Line::Call { caller, .. } => is_task(caller, task),
+        _ => false,
+    }
+}
+
+fn waits(line: Line, task: usize) -> bool
+    ensures { result ≡ spec.waits task line }
+{
+    match line {
+        Line::Call {
+            caller,
+            reply: None,
+            ..
+        } => is_task(caller, task),
+        _ => false,
+    }
+}
+
+fn is_time_out(code: Er) -> bool
+    ensures { result ≡ spec.is_time_out code }
+{
+    match code {
+        Er::Tmout => true,
+        _ => false,
+    }
+}
+
+fn times_out(line: Line, task: usize) -> bool
+    ensures { result ≡ spec.times_out task line }
+{
+    match line {
+        Line::Gets {
+            task: other,
+            reply,
+            ..
+        } => usize::from(other) == task && is_time_out(reply.code),
+        _ => false,
+    }
+}
+
+fn acts(line: Line, task: usize) -> bool
+    ensures { result ≡ spec.acts task line }
+{
+    match line {
+        Line::Call { caller, .. } | Line::End { caller, .. } | Line::Fault { caller, .. } => {
+            is_task(caller, task)
+        }
+        _ => false,
+    }
+}
+
+/// The word for what is shown of a task.
+fn word_at(states: &[TaskState], task: usize) -> Option<StateWord>
+    ensures { result ≡ spec.word_of (slice_get states.now task) }
+{
+    match states.get(task) {
+        Some(shown) => Some(shown.word),
+        None => None,
+    }
+}
+
+fn is_preempted(was: Option<StateWord>, is: Option<StateWord>) -> bool
+    ensures { result ≡ spec.is_preempted was is }
+{
+    match (was, is) {
+        (Some(StateWord::Running), Some(StateWord::Ready)) => true,
+        _ => false,
+    }
+}
+
+fn one_if(holds: bool) -> usize
+    ensures { result ≡ spec.one_if holds }
+{
+    if holds { 1 } else { 0 }
+}
+
+/// So many more, up to the greatest number.
+pub fn more(count: u32, by: usize) -> u32
+    ensures { result ≡ spec.more count by }
+{
+    match u32::try_from(by) {
+        Ok(by) => count.saturating_add(by),
+        Err(_) => u32::MAX,
+    }
+}
+
+fn starts_in(lines: &[Line], task: usize) -> usize
+    ensures { result ≡ length (filter (spec.starts task) lines.now) }
+{
+    lines.iter().filter(|line| starts(**line, task)).count()
+}
+
+fn calls_in(lines: &[Line], task: usize) -> usize
+    ensures { result ≡ length (filter (spec.calls task) lines.now) }
+{
+    lines.iter().filter(|line| calls(**line, task)).count()
+}
+
+fn waits_in(lines: &[Line], task: usize) -> usize
+    ensures { result ≡ length (filter (spec.waits task) lines.now) }
+{
+    lines.iter().filter(|line| waits(**line, task)).count()
+}
+
+fn time_outs_in(lines: &[Line], task: usize) -> usize
+    ensures { result ≡ length (filter (spec.times_out task) lines.now) }
+{
+    lines.iter().filter(|line| times_out(**line, task)).count()
+}
+
+fn acts_in(lines: &[Line], task: usize) -> usize
+    ensures { result ≡ length (filter (spec.acts task) lines.now) }
+{
+    lines.iter().filter(|line| acts(**line, task)).count()
+}
+
+/// The counts of a task after an event that told these lines, from those before it on.
+pub fn counted(
+    tally: &Tally,
+    task: usize,
+    lines: &[Line],
+    was: &[TaskState],
+    is: &[TaskState],
+) -> Tally
+    ensures { result ≡ spec.counted task lines.now was.now is.now tally.now }
+{
+    let preempted = is_preempted(word_at(was, task), word_at(is, task));
+    Tally {
+        starts: more(tally.starts, starts_in(lines, task)),
+        calls: more(tally.calls, calls_in(lines, task)),
+        waits: more(tally.waits, waits_in(lines, task)),
+        time_outs: more(tally.time_outs, time_outs_in(lines, task)),
+        preemptions: more(tally.preemptions, one_if(preempted)),
+        events: more(tally.events, acts_in(lines, task)),
+    }
+}

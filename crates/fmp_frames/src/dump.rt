@@ -1,0 +1,92 @@
+//! The dump of a run, event by event.
+ghost use Rattle.std.specs.Prelude.{◌≡◌, IfOk};
+ghost use Rattle.fmp_frames.specs.Frames.{table_of};
+ghost use Rattle.fmp_frames.specs.Values as spec;
+
+use crate::head::Head;
+use crate::text::{append, append_time, append_value};
+use crate::values::values_of;
+use crate::variable::Variable;
+use crate::{Frame, Viewer};
+use fmp_base::System;
+use std::alloc::{AllocError, Global};
+
+/// The dump of a run so far. Where memory runs out, it has an unfinished end.
+#[derive(Drop)]
+pub struct Waves {
+    /// The variables, in the order of the head.
+    pub variables: Vec<Variable>,
+    /// Their values after the last event.
+    pub values: Vec<u64>,
+    /// How many events have been shown.
+    events: u32,
+    text: Vec<u8>,
+}
+
+/// The values of all variables.
+fn append_all(variables: &[Variable], values: &[u64], out: &mut Vec<u8>) -> Result<(), AllocError> {
+    for (place, (variable, value)) in variables.iter().zip(values).enumerate() {
+        append_value(place, variable.width(), *value, out)?;
+    }
+    Ok(())
+}
+
+/// The values that are other than before.
+fn append_changed(
+    variables: &[Variable],
+    before: &[u64],
+    values: &[u64],
+    out: &mut Vec<u8>,
+) -> Result<(), AllocError> {
+    let both = before.iter().zip(values);
+    for (place, (variable, (was, is))) in variables.iter().zip(both).enumerate() {
+        if was != is {
+            append_value(place, variable.width(), *is, out)?;
+        }
+    }
+    Ok(())
+}
+
+impl Waves {
+    /// The dump of a system after setup. `AllocError` for want of memory.
+    pub fn new(alloc: Global, sys: &System, setup: &Frame) -> Result<Waves, AllocError>
+        ensures { IfOk result
+            (λ waves. waves.values.items ≡ spec.values_of (table_of setup.now) waves.variables.items) }
+    {
+        let Head {
+            variables,
+            mut text,
+        } = Head::new(alloc, sys)?;
+        let values = values_of(alloc, setup, &variables)?;
+        append("#0\n$dumpvars\n", &mut text)?;
+        append_all(&variables, &values, &mut text)?;
+        append("$end\n", &mut text)?;
+        Ok(Waves {
+            variables,
+            values,
+            events: 0,
+            text,
+        })
+    }
+
+    /// The whole text: one unit of time more, so that the last state has a width. `AllocError` for want of memory.
+    pub fn finish(mut self) -> Result<Vec<u8>, AllocError> {
+        append_time(self.events.saturating_add(1), &mut self.text)?;
+        Ok(self.text)
+    }
+}
+
+impl Viewer for Waves {
+    ghost shown = { λ x f y.
+        (y.variables ≡ x.variables) × (y.values.items ≡ spec.values_of f x.variables.items) };
+
+    /// One event more: what is other after it than before.
+    fn show(&mut self, alloc: Global, frame: &Frame) -> Result<(), AllocError> {
+        let values = values_of(alloc, frame, &self.variables)?;
+        self.events = self.events.saturating_add(1);
+        append_time(self.events, &mut self.text)?;
+        append_changed(&self.variables, &self.values, &values, &mut self.text)?;
+        self.values = values;
+        Ok(())
+    }
+}

@@ -1,5 +1,0 @@
-use Rattle.fmp_glossary.proofs.Found.{found_topic}
-use Rattle.fmp_glossary.proofs.topics.every_topic_is_found.Goals as goal
-
-pub returns : goal.returns
-returns c = found_topic

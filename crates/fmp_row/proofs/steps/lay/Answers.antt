@@ -1,5 +1,0 @@
-use Rattle.fmp_row.proofs.Moves.{begins}
-use Rattle.fmp_row.proofs.steps.lay.Goals as goal
-
-pub of_words-requires : goal.of_words-requires
-of_words-requires c = begins _ _ _ c.requires
