@@ -1,7 +1,7 @@
 -- What a run of two texts means, and why it is refused, once their image is built.
 use Rattle.std.specs.Prelude.{ℕ, List, Result, Ok, Err, IfErr, OnOk}
-use Rattle.fmp_build.specs.Building.{Builds}
-use Rattle.fmp_image.specs.Images.{ImageTables, Spells}
+use Rattle.fmp_image.specs.Building.{Builds}
+use Rattle.fmp_image_bytes.specs.Images.{ImageTables, Spells}
 use Rattle.fmp.specs.declared.perform.Exit.{Exit}
 use Rattle.fmp.specs.Performed.{IsWhyNoRun, IsWhyNotRun, RunsImage, RunsTexts, no_run}
 

@@ -1,12 +1,12 @@
 -- How a run ends that prints a simulation.
 use Rattle.std.proofs.Common.{◌≡◌, ℕ, refl, sym, subst, ◌∙◌, append-nil, Bool, IsTrue, List, [], Option}
-use Rattle.fmp_build.specs.Building.{Builds}
+use Rattle.fmp_image.specs.Building.{Builds}
 use Rattle.fmp.specs.declared.asking.Cmd.{Cmd}
 use Rattle.fmp.specs.declared.asking.Cmd.TheVariants.{Check, Build, Sim, Host, Stored}
 use Rattle.fmp_engine.specs.Simulations.{PrintsTexts, Simulates}
 use Rattle.fmp_files.specs.Deeds.{Deed, Does, Says}
 use Rattle.fmp_files.specs.Outside.{Files}
-use Rattle.fmp_image.specs.Images.{ImageTables, Spells}
+use Rattle.fmp_image_bytes.specs.Images.{ImageTables, Spells}
 use Rattle.fmp.specs.Commands.{IsSimulation, inputs_of}
 use Rattle.fmp.specs.declared.perform.Exit.{Exit}
 use Rattle.fmp.specs.Performed.{IsWhyNoRun, RunsImage, input_at, status_of}

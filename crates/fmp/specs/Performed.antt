@@ -1,13 +1,13 @@
 -- What carrying out a command gives, or why it gives nothing.
 use Rattle.std.specs.Prelude.{ℕ, List, [], ◌≡◌, ◌++◌, ⊤, codes, decimal, length, slice_get, string_bytes, unwrap_or}
-use Rattle.fmp_build.specs.Building.{Builds, IsBuildFault}
+use Rattle.fmp_image.specs.Building.{Builds, IsBuildFault}
 use Rattle.fmp_engine.specs.Built.{CanBuild}
 use Rattle.fmp_engine.specs.declared.fault.SimFault.TheVariants as sim
 use Rattle.fmp_engine.specs.declared.hosting.HostFault.TheVariants as host
 use Rattle.fmp_engine.specs.declared.hosting.Workload.{Workload}
 use Rattle.fmp_engine.specs.Hosting.{Hosts, HostsTexts, IsWhyHost}
 use Rattle.fmp_engine.specs.Simulations.{IsWhySim, PrintsTexts, Simulates}
-use Rattle.fmp_image.specs.Images.{ImageTables, Spells}
+use Rattle.fmp_image_bytes.specs.Images.{ImageTables, Spells}
 use Rattle.fmp_lex.specs.declared.fault.BuildFault.TheVariants as build
 use Rattle.fmp.specs.declared.asking.Cmd.{Cmd}
 use Rattle.fmp.specs.declared.asking.Cmd.TheVariants as cmd

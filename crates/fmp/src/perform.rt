@@ -1,6 +1,6 @@
 //! Carrying out a command, from the bytes that were read to those that are to be written.
 ghost use Rattle.std.specs.Prelude.{◌≡◌, ◌++◌, ℕ, List, OnOk, OnErr, IfErr, codes, decimal, length, map};
-ghost use Rattle.fmp_build.specs.Building.{IsBuildFault};
+ghost use Rattle.fmp_image.specs.Building.{IsBuildFault};
 ghost use Rattle.fmp_engine.specs.Hosting.{IsWhyHost, IsWorkload};
 ghost use Rattle.fmp_engine.specs.Simulations.{IsWhySim};
 ghost use Rattle.fmp.specs.CommandRanges.{IsBound, KeepsRanges};

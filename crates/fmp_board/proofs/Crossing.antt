@@ -8,9 +8,9 @@ use Rattle.fmp_base.proofs.events.Line.TheSendSync as line
 use Rattle.fmp_base.proofs.states.TaskBlock.TheSendSync as block
 use Rattle.fmp_base.proofs.systems.System.TheSendSync as system
 use Rattle.fmp_base.specs.declared.body.Body.{Ghosts}
-use Rattle.fmp_code.proofs.instructions.MachineContext.TheSendSync as context
-use Rattle.fmp_machine.proofs.vm.Vm.TheSendSync as vm
-use Rattle.fmp_image.proofs.image.Image.TheSendSync as image
+use Rattle.fmp_instructions.proofs.instructions.MachineContext.TheSendSync as context
+use Rattle.fmp_code.proofs.vm.Vm.TheSendSync as vm
+use Rattle.fmp_image_bytes.proofs.image.Image.TheSendSync as image
 use Rattle.fmp_contexts.proofs.contexts.BodyContexts.TheSendSync as contexts
 use Rattle.fmp_kernel.specs.contracts.kernel.Kernel as Kernel
 use Rattle.fmp_kernel.specs.contracts.kernel.Kernel.TheInside as kernel

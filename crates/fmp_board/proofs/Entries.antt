@@ -9,9 +9,9 @@ use Rattle.fmp_base.specs.declared.systems.CyclicConfig.{CyclicConfig}
 use Rattle.fmp_base.specs.declared.systems.InterruptConfig.{InterruptConfig}
 use Rattle.fmp_base.specs.Meanings.{cyclic_start, interrupt_start, handler_start}
 use Rattle.fmp_base.specs.Systems.{body_of, defined_for, found}
-use Rattle.fmp_code.specs.Instructions.{BodyTables}
-use Rattle.fmp_image.specs.Images.{ImageTables, IsImage}
-use Rattle.fmp_image.proofs.Entries.{task_bodies, cyclic_bodies, interrupt_bodies}
+use Rattle.fmp_instructions.specs.Instructions.{BodyTables}
+use Rattle.fmp_image_bytes.specs.Images.{ImageTables, IsImage}
+use Rattle.fmp_image_bytes.proofs.Entries.{task_bodies, cyclic_bodies, interrupt_bodies}
 use Rattle.fmp_contexts.specs.Contexts.{BeginsIn, Entered}
 
 module _ (n : ℕ) where

@@ -4,10 +4,10 @@ use mathlib.Core.List.{IsPrefix}
 use Rattle.fmp_base.specs.declared.events.Event.TheVariants.{Run}
 use Rattle.fmp_base.specs.Stretches.{Ending}
 use Rattle.fmp_base.specs.Contexts.{OfCall}
-use Rattle.fmp_code.specs.declared.instructions.MachineContext.{MachineContext}
-use Rattle.fmp_code.specs.Machine.{code_meaning}
-use Rattle.fmp_machine.specs.Vms.{IsContext}
-use Rattle.fmp_image.specs.Images.{ImageTables}
+use Rattle.fmp_instructions.specs.declared.instructions.MachineContext.{MachineContext}
+use Rattle.fmp_instructions.specs.Machine.{code_meaning}
+use Rattle.fmp_code.specs.Vms.{IsContext}
+use Rattle.fmp_image_bytes.specs.Images.{ImageTables}
 use Rattle.fmp_kernel.specs.declared.actors.Actor.{Actor}
 use Rattle.fmp_kernel.specs.KernelViews.{actor_in}
 use Rattle.fmp_journal.specs.declared.entry.JournalEntry.{JournalEntry}

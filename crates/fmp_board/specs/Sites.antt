@@ -2,7 +2,7 @@
 use Rattle.std.specs.Prelude.{[]}
 use Rattle.atomic_table.specs.Seated.{TableId}
 use Rattle.fmp_base.specs.Systems.{without_objects}
-use Rattle.fmp_image.specs.Images.{ImageTables, image_tables}
+use Rattle.fmp_image_bytes.specs.Images.{ImageTables, image_tables}
 use Rattle.fmp_journal.specs.Seats.{RowId}
 
 abbrev pub no_image : ImageTables

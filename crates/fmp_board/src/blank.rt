@@ -9,10 +9,10 @@ use crate::book::Book;
 use crate::fault::BoardFault;
 use crate::site::Site;
 use fmp_base::Event;
-use fmp_image::Image;
+use fmp_code::Vm;
+use fmp_image_bytes::Image;
 use fmp_journal::{EmptyRow, Row, Scribe, Seat};
 use fmp_kernel::Kernel;
-use fmp_machine::Vm;
 use std::alloc::{AllocError, Global};
 use std::marker::Model;
 

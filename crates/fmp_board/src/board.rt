@@ -9,7 +9,7 @@ use crate::outcome::{Outcome, Ticket};
 use crate::receipt::Receipt;
 use crate::site::Site;
 use fmp_base::Event;
-use fmp_image::Image;
+use fmp_image_bytes::Image;
 use fmp_journal::{Row, Seat};
 use std::sync::{Mutex, Wait};
 

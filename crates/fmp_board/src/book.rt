@@ -8,10 +8,10 @@ use crate::fault::BoardFault;
 use crate::receipt::{Receipt, call_reply};
 use crate::site::Site;
 use fmp_base::{Effect, Event};
-use fmp_image::Image;
+use fmp_code::Vm;
+use fmp_image_bytes::Image;
 use fmp_journal::{JournalEntry, Scribe, Seat};
 use fmp_kernel::Kernel;
-use fmp_machine::Vm;
 use std::marker::{Model, PhantomData};
 
 /// The kernel of a board, and the journal of the events that did something on it. Its type keeps that the image and the

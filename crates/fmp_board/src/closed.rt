@@ -2,8 +2,8 @@
 ghost use Rattle.std.specs.Prelude.{◌≡◌, ◌<◌, ◌≤◌, ◌^◌, length, slice_get, Some};
 
 use fmp_base::Event;
+use fmp_code::Vm;
 use fmp_kernel::Kernel;
-use fmp_machine::Vm;
 use std::marker::Model;
 
 /// The kernel and the journal of a board that is closed.

@@ -3,8 +3,8 @@ ghost use Rattle.std.specs.Prelude.{◌≡◌};
 ghost use Rattle.fmp_board.specs.Outcomes.{IsTicket, ending_of};
 
 use fmp_base::{Body, Stretch};
-use fmp_code::MachineContext;
-use fmp_image::Image;
+use fmp_image_bytes::Image;
+use fmp_instructions::MachineContext;
 use fmp_kernel::Actor;
 use std::marker::Model;
 use std::snapshot::Snapshot;

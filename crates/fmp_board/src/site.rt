@@ -7,7 +7,7 @@ use std::marker::Brand;
 /// of std.
 pub trait Site {
     ghost use Rattle.std.specs.Prelude.{ℕ};
-    ghost use Rattle.fmp_image.specs.Images.{ImageTables};
+    ghost use Rattle.fmp_image_bytes.specs.Images.{ImageTables};
     ghost use Rattle.fmp_journal.specs.Seats.{RowId};
 
     ghost image: { ImageTables };

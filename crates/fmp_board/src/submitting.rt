@@ -14,9 +14,9 @@ use crate::outcome::{Outcome, Ticket};
 use crate::receipt::{Receipt, call_reply};
 use crate::site::Site;
 use fmp_base::{Effect, Event};
-use fmp_code::MachineContext;
+use fmp_code::Vm;
+use fmp_instructions::MachineContext;
 use fmp_kernel::laws::stamps_count_events;
-use fmp_machine::Vm;
 
 impl<'a, S: Site> Book<'a, S> {
     /// A ticket for the stretch that the actor of processor p makes next. None where there is no such processor, or it

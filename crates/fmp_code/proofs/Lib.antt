@@ -1,9 +1,4 @@
-pub mod Bodies
-pub mod Conjunctions
-pub mod Fetching
-pub mod Filling
-pub mod Frames
-pub mod Operations
-pub mod Places
-pub mod Steps
-pub mod Tables
+pub mod CallsMade
+pub mod OperandLists
+pub mod Requests
+pub mod Stops

@@ -1,5 +1,4 @@
-pub mod Instructions
-pub mod Longer
-pub mod Machine
-pub mod Registers
-pub mod Verify
+pub mod Hands
+pub mod Laws
+pub mod Stretches
+pub mod Vms

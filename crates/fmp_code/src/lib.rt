@@ -1,16 +1,18 @@
-//! Stack code, the verifier that says which code is fit to run, and the form in which the machine runs it.
+//! Stack code: its instructions, the verifier, and the machine that runs it. The instructions and the verifier stand in
+//! `fmp_instructions`, and are given out here too.
 #![tactic(auto)]
 
-mod decoder;
-pub mod frame;
-pub mod instructions;
-pub mod operators;
-pub mod registers;
-pub mod source;
-pub mod table;
-pub mod verified;
-mod verifier;
+mod decoded;
+mod delivery;
+mod holding;
+pub mod laws;
+mod machine;
+mod operands;
+mod vm;
 
-pub use instructions::{BodyCode, Code, Instruction, MachineContext};
-pub use operators::{apply_binary, apply_unary};
-pub use verifier::{is_fit, keeps_table, verify, verify_body};
+pub use delivery::{deliver, deliver_in_place};
+pub use fmp_instructions::{
+    BodyCode, Code, Instruction, MachineContext, keeps_table, verify, verify_body,
+};
+pub use machine::{start, stretch, stretch_in_place};
+pub use vm::Vm;

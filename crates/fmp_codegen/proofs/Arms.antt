@@ -2,8 +2,8 @@
 use Rattle.std.proofs.Common.{◌≡◌, ℕ, ◌+◌, List, [], ◌∷◌, ◌++◌, length, ap, ◌∙◌, arith, append_assoc}
 use Rattle.fmp_tasklang.specs.Trees.{ExpressionTree, Block, if_then, if_else, while}
 use Rattle.fmp_tasklang.specs.Scopes.{Scope}
-use Rattle.fmp_code.specs.declared.instructions.Instruction.{Instruction}
-use Rattle.fmp_code.specs.declared.instructions.Instruction.TheVariants.{Jump, JumpIfZero}
+use Rattle.fmp_instructions.specs.declared.instructions.Instruction.{Instruction}
+use Rattle.fmp_instructions.specs.declared.instructions.Instruction.TheVariants.{Jump, JumpIfZero}
 use Rattle.fmp_scopes.specs.Chains.{test_code}
 use Rattle.fmp_scopes.specs.DepthTables.{expression_depths, statement_depths, block_depths}
 use Rattle.fmp_scopes.specs.Scheme.{expression_code, statement_code, block_code}

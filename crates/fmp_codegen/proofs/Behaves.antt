@@ -6,11 +6,11 @@ use Rattle.fmp_base.specs.Ties.{StretchTied, over, call, end_, fault}
 use Rattle.fmp_tasklang.specs.Scopes.{Scope}
 use Rattle.fmp_tasklang.specs.Contexts.{TextContext}
 use Rattle.fmp_tasklang.specs.Stretches.{turns, stretch}
-use Rattle.fmp_code.specs.declared.instructions.Instruction.{Instruction}
-use Rattle.fmp_code.specs.declared.instructions.Instruction.TheVariants.{End}
-use Rattle.fmp_code.specs.declared.instructions.MachineContext.{MachineContext}
-use Rattle.fmp_code.specs.Longer.{exec-longer, exec-one_end}
-use Rattle.fmp_code.specs.Machine.{exec, code_stretch}
+use Rattle.fmp_instructions.specs.declared.instructions.Instruction.{Instruction}
+use Rattle.fmp_instructions.specs.declared.instructions.Instruction.TheVariants.{End}
+use Rattle.fmp_instructions.specs.declared.instructions.MachineContext.{MachineContext}
+use Rattle.fmp_instructions.specs.Longer.{exec-longer, exec-one_end}
+use Rattle.fmp_instructions.specs.Machine.{exec, code_stretch}
 use Rattle.fmp_codegen.specs.Tie.{ContextTied, SameLocals}
 use Rattle.fmp_codegen.proofs.Statements.{room, Comes, Match, Tied, SameLocalsBack, turns_follow}
 

@@ -12,11 +12,11 @@ use Rattle.fmp_tasklang.specs.Trees.{BodyTree}
 use Rattle.fmp_tasklang.specs.Scopes.{Scope, exinf_name, scope_of}
 use Rattle.fmp_tasklang.specs.Contexts.{TextContext, start, deliver}
 use Rattle.fmp_tasklang.specs.Texts.{body_at}
-use Rattle.fmp_code.specs.declared.instructions.Instruction.{Instruction}
-use Rattle.fmp_code.specs.declared.instructions.Instruction.TheVariants.{End}
-use Rattle.fmp_code.specs.declared.instructions.MachineContext.{MachineContext}
-use Rattle.fmp_code.specs.Instructions.{BodyTables, found_instructions, instructions_at}
-use Rattle.fmp_code.specs.Machine.{code_start, code_deliver, call_before, replied}
+use Rattle.fmp_instructions.specs.declared.instructions.Instruction.{Instruction}
+use Rattle.fmp_instructions.specs.declared.instructions.Instruction.TheVariants.{End}
+use Rattle.fmp_instructions.specs.declared.instructions.MachineContext.{MachineContext}
+use Rattle.fmp_instructions.specs.Instructions.{BodyTables, found_instructions, instructions_at}
+use Rattle.fmp_instructions.specs.Machine.{code_start, code_deliver, call_before, replied}
 use Rattle.fmp_codegen.specs.Compiling.{is_among, body_offence, bodies_offence, compiled, IsAccepted, variables_offence, size_offence}
 use Rattle.fmp_codegen.specs.Laws.{DoesText}
 use Rattle.fmp_scopes.specs.declared.offences.Offence.{Offence}

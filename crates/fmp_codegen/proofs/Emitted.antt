@@ -3,7 +3,7 @@ use Rattle.std.proofs.Common.{◌≡◌, ℕ, ◌+◌, List, ◌∷◌, ◌++◌
 use Rattle.fmp_tasklang.specs.Trees.{ExpressionTree, StatementTree, Block, next}
 use Rattle.fmp_tasklang.specs.Scopes.{Scope}
 use Rattle.fmp_tasklang.specs.Views.{LinkTree}
-use Rattle.fmp_code.specs.declared.instructions.Instruction.{Instruction}
+use Rattle.fmp_instructions.specs.declared.instructions.Instruction.{Instruction}
 use Rattle.fmp_scopes.specs.Chains.{link_size, operator_code, links_code, operator_depths, links_depths}
 use Rattle.fmp_scopes.specs.DepthTables.{expression_depths, arguments_depths, statement_depths, block_depths}
 use Rattle.fmp_scopes.specs.Scheme.{expression_code, arguments_code, statement_code, block_code}

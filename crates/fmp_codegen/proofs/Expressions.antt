@@ -7,9 +7,9 @@ use Rattle.fmp_base.specs.Operators.{Value, is_zero, truth_of, unary_value, bina
 use Rattle.fmp_tasklang.specs.Trees.{ExpressionTree, number, named, unary, binary, both, either}
 use Rattle.fmp_tasklang.specs.Scopes.{Scope, NameMeaning, Variable, Object, Unknown, meaning_of}
 use Rattle.fmp_tasklang.specs.Values.{name_value, both_value, either_value, value, values}
-use Rattle.fmp_code.specs.declared.instructions.Instruction.{Instruction}
-use Rattle.fmp_code.specs.declared.instructions.Instruction.TheVariants.{Push, Load, Unary, Truth, Binary, Jump, JumpIfZero}
-use Rattle.fmp_code.specs.Machine.{at, gives, act, exec}
+use Rattle.fmp_instructions.specs.declared.instructions.Instruction.{Instruction}
+use Rattle.fmp_instructions.specs.declared.instructions.Instruction.TheVariants.{Push, Load, Unary, Truth, Binary, Jump, JumpIfZero}
+use Rattle.fmp_instructions.specs.Machine.{at, gives, act, exec}
 use Rattle.fmp_scopes.specs.Scheme.{name_code, expression_code, arguments_code}
 use Rattle.fmp_scopes.specs.Sizes.{expression_size, arguments_size}
 use Rattle.fmp_codegen.specs.Tie.{HasAt}

@@ -8,9 +8,9 @@ use Rattle.fmp_tasklang.specs.declared.trees.Word.{Word}
 use Rattle.fmp_tasklang.specs.Trees.{ExpressionTree, number, named, unary, binary, both, either, CallTree, StatementTree, assign, service_call, if_then, if_else, while, break, continue, return, Block, empty, next}
 use Rattle.fmp_tasklang.specs.Scopes.{Scope, NameMeaning, Variable, Object, Unknown, meaning_of}
 use Rattle.fmp_tasklang.specs.Stretches.{variable_place, word_place}
-use Rattle.fmp_code.specs.declared.instructions.Instruction.{Instruction}
-use Rattle.fmp_code.specs.declared.instructions.Instruction.TheVariants.{Push, Load, Store, Unary, Truth, Binary, Jump, JumpIfZero, End}
-use Rattle.fmp_code.specs.Verify.{depth_is, entry_is, local_fits, is_same, places_fit, wants, fits}
+use Rattle.fmp_instructions.specs.declared.instructions.Instruction.{Instruction}
+use Rattle.fmp_instructions.specs.declared.instructions.Instruction.TheVariants.{Push, Load, Store, Unary, Truth, Binary, Jump, JumpIfZero, End}
+use Rattle.fmp_instructions.specs.Verify.{depth_is, entry_is, local_fits, is_same, places_fit, wants, fits}
 use Rattle.fmp_tasklang.specs.CallForms.{CallFits, StatementFits, BlockFits}
 use Rattle.fmp_scopes.specs.Depths.{expression_depth, arguments_depth, statement_depth, block_depth}
 use Rattle.fmp_scopes.specs.DepthTables.{expression_depths, arguments_depths, statement_depths, block_depths}

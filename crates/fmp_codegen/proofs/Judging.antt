@@ -10,8 +10,8 @@ use Rattle.fmp_lex.specs.declared.token.Token.{Token}
 use Rattle.fmp_tasklang.specs.declared.trees.Body.{Body}
 use Rattle.fmp_tasklang.specs.Trees.{BodyTree}
 use Rattle.fmp_tasklang.specs.Views.{body_view}
-use Rattle.fmp_code.specs.Instructions.{BodyTables}
-use Rattle.fmp_code.specs.Verify.{Verified}
+use Rattle.fmp_instructions.specs.Instructions.{BodyTables}
+use Rattle.fmp_instructions.specs.Verify.{Verified}
 use Rattle.fmp_scopes.specs.declared.offences.Offence.{Offence}
 use Rattle.fmp_tasklang.specs.CallForms.{CallsFit}
 use Rattle.fmp_codegen.specs.Compiling.{body_offence, bodies_offence, compiled, compiled_body, IsAccepted, IsCompiled}

@@ -14,10 +14,10 @@ use Rattle.fmp_tasklang.specs.Scopes.{Scope}
 use Rattle.fmp_tasklang.specs.Values.{value, values}
 use Rattle.fmp_tasklang.specs.Contexts.{Item, Do, Mark, TextContext, going, calling, items_before}
 use Rattle.fmp_tasklang.specs.Stretches.{Way, Next, Goes, Stops, word_place, places_of, with_value, after_mark, from_mark, after_statement, after_item, statement_weight, block_weight, weight, follow, out_of_turns, walk, turns}
-use Rattle.fmp_code.specs.declared.instructions.Instruction.{Instruction}
-use Rattle.fmp_code.specs.declared.instructions.Instruction.TheVariants.{Store, Jump, JumpIfZero, End}
-use Rattle.fmp_code.specs.declared.instructions.MachineContext.{MachineContext}
-use Rattle.fmp_code.specs.Machine.{at, unstacked, exec, call_before, replied}
+use Rattle.fmp_instructions.specs.declared.instructions.Instruction.{Instruction}
+use Rattle.fmp_instructions.specs.declared.instructions.Instruction.TheVariants.{Store, Jump, JumpIfZero, End}
+use Rattle.fmp_instructions.specs.declared.instructions.MachineContext.{MachineContext}
+use Rattle.fmp_instructions.specs.Machine.{at, unstacked, exec, call_before, replied}
 use Rattle.fmp_scopes.specs.Naming.{uses_offence, expression_uses, statement_uses, block_uses, use_offence, Writes}
 use Rattle.fmp_scopes.specs.Scheme.{expression_code, arguments_code, target_place, call_instruction, statement_code, block_code}
 use Rattle.fmp_scopes.specs.Sizes.{expression_size, arguments_size, statement_size, block_size}

@@ -27,8 +27,8 @@ use Rattle.fmp_tasklang.specs.Reading.{EndsBodies, RightBodies}
 use Rattle.fmp_tasklang.specs.Views.{body_view}
 use Rattle.fmp_tasklang.proofs.BodyPaths.{ends_there}
 use Rattle.fmp_tasklang.specs.Trees.{BodyTree}
-use Rattle.fmp_code.specs.declared.instructions.BodyCode.{BodyCode}
-use Rattle.fmp_code.specs.Instructions.{BodyTables, body_tables}
+use Rattle.fmp_instructions.specs.declared.instructions.BodyCode.{BodyCode}
+use Rattle.fmp_instructions.specs.Instructions.{BodyTables, body_tables}
 use Rattle.fmp_scopes.specs.declared.headings.Heading.{Heading}
 use Rattle.fmp_scopes.specs.declared.offences.Offence.{Offence}
 use Rattle.fmp_codegen.specs.declared.texts.CompiledText.{CompiledText}

@@ -10,9 +10,9 @@ use Rattle.fmp_lex.specs.declared.fault.FaultKind.TheVariants as fault
 use Rattle.fmp_tasklang.specs.declared.trees.Word.{Word}
 use Rattle.fmp_tasklang.specs.Trees.{BodyTree}
 use Rattle.fmp_tasklang.specs.Scopes.{exinf_name, scope_of}
-use Rattle.fmp_code.specs.declared.instructions.Instruction.TheVariants.{End}
-use Rattle.fmp_code.specs.Instructions.{BodyTables}
-use Rattle.fmp_code.specs.Verify.{fits as fits_in, KeepsTable, VerifiedBody, Verified}
+use Rattle.fmp_instructions.specs.declared.instructions.Instruction.TheVariants.{End}
+use Rattle.fmp_instructions.specs.Instructions.{BodyTables}
+use Rattle.fmp_instructions.specs.Verify.{fits as fits_in, KeepsTable, VerifiedBody, Verified}
 use Rattle.fmp_tasklang.specs.CallForms.{BlockFits, CallsFit}
 use Rattle.fmp_codegen.specs.Compiling.{is_among, variables_offence, size_offence, body_offence, bodies_offence, compiled_body, compiled, IsAccepted}
 use Rattle.fmp_scopes.specs.Scopes.{is_object}

@@ -11,8 +11,8 @@ use Rattle.fmp_lex.specs.declared.token.Token.{Token}
 use Rattle.fmp_tasklang.specs.declared.trees.Word.{Word}
 use Rattle.fmp_tasklang.specs.Trees.{BodyTree}
 use Rattle.fmp_tasklang.specs.Scopes.{place_of, exinf_name, scope_of}
-use Rattle.fmp_code.specs.declared.instructions.Code as declared
-use Rattle.fmp_code.specs.Instructions.{BodyTables, code_tables}
+use Rattle.fmp_instructions.specs.declared.instructions.Code as declared
+use Rattle.fmp_instructions.specs.Instructions.{BodyTables, code_tables}
 use Rattle.fmp_scopes.specs.Depths.{body_depth}
 use Rattle.fmp_scopes.specs.DepthTables.{body_depths}
 use Rattle.fmp_scopes.specs.declared.offences.Offence.{Offence}

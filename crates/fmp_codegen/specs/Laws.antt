@@ -7,9 +7,9 @@ use Rattle.fmp_base.specs.Systems.{SystemTables}
 use Rattle.fmp_tasklang.specs.Trees.{BodyTree}
 use Rattle.fmp_tasklang.specs.Contexts.{TextContext}
 use Rattle.fmp_tasklang.specs.Texts.{text_meaning}
-use Rattle.fmp_code.specs.declared.instructions.MachineContext.{MachineContext}
-use Rattle.fmp_code.specs.Instructions.{BodyTables}
-use Rattle.fmp_code.specs.Machine.{code_meaning}
+use Rattle.fmp_instructions.specs.declared.instructions.MachineContext.{MachineContext}
+use Rattle.fmp_instructions.specs.Instructions.{BodyTables}
+use Rattle.fmp_instructions.specs.Machine.{code_meaning}
 use Rattle.fmp_codegen.specs.Tie.{CodeTied, SameLocals, longest}
 
 -- Code does what the bodies of a text do. Start, stretch and deliver keep the tie: what the code finishes within n

@@ -9,8 +9,8 @@ use Rattle.fmp_base.specs.Texts.{trace_text, whole_text}
 use Rattle.fmp_tasklang.specs.Contexts.{TextContext}
 use Rattle.fmp_tasklang.specs.Texts.{text_meaning}
 use Rattle.fmp_tasklang.specs.Trees.{BodyTree}
-use Rattle.fmp_code.specs.Instructions.{BodyTables}
-use Rattle.fmp_code.specs.Machine.{code_meaning}
+use Rattle.fmp_instructions.specs.Instructions.{BodyTables}
+use Rattle.fmp_instructions.specs.Machine.{code_meaning}
 use Rattle.fmp_codegen.specs.Tie.{longest}
 
 -- The code, run over these events within n instructions a stretch, prints what the texts mean over the events that it

@@ -13,7 +13,7 @@ use Rattle.fmp_lex.specs.Reading.{found, stopped, IsWhole, IsFirstFault}
 use Rattle.fmp_tasklang.specs.Grammar.{Bodies}
 use Rattle.fmp_tasklang.specs.Reading.{RightBodies}
 use Rattle.fmp_tasklang.specs.Trees.{BodyTree}
-use Rattle.fmp_code.specs.Instructions.{body_tables, code_tables}
+use Rattle.fmp_instructions.specs.Instructions.{body_tables, code_tables}
 use Rattle.fmp_scopes.specs.declared.offences.Offence.{Offence}
 use Rattle.fmp_codegen.specs.declared.texts.CompiledText.{CompiledText}
 use Rattle.fmp_codegen.specs.declared.texts.Made.{Made}

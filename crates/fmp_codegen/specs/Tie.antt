@@ -8,11 +8,11 @@ use Rattle.fmp_tasklang.specs.Trees.{StatementTree, while, BodyTree}
 use Rattle.fmp_tasklang.specs.Scopes.{Scope, scope_of}
 use Rattle.fmp_tasklang.specs.Contexts.{Item, Do, Mark, TextContext, locals_after}
 use Rattle.fmp_tasklang.specs.Texts.{body_at}
-use Rattle.fmp_code.specs.declared.instructions.Instruction.{Instruction}
-use Rattle.fmp_code.specs.declared.instructions.Instruction.TheVariants.{Jump, End}
-use Rattle.fmp_code.specs.declared.instructions.MachineContext.{MachineContext}
-use Rattle.fmp_code.specs.Instructions.{BodyTables, instructions_at}
-use Rattle.fmp_code.specs.Machine.{call_before, replied}
+use Rattle.fmp_instructions.specs.declared.instructions.Instruction.{Instruction}
+use Rattle.fmp_instructions.specs.declared.instructions.Instruction.TheVariants.{Jump, End}
+use Rattle.fmp_instructions.specs.declared.instructions.MachineContext.{MachineContext}
+use Rattle.fmp_instructions.specs.Instructions.{BodyTables, instructions_at}
+use Rattle.fmp_instructions.specs.Machine.{call_before, replied}
 use Rattle.fmp_scopes.specs.Naming.{uses_offence, statement_uses}
 use Rattle.fmp_scopes.specs.Scheme.{statement_code}
 use Rattle.fmp_scopes.specs.Sizes.{statement_size}

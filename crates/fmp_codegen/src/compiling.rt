@@ -6,8 +6,8 @@ ghost use Rattle.fmp_base.specs.Ranges.{IsInRange};
 ghost use Rattle.fmp_base.specs.Systems.{tables_of};
 ghost use Rattle.fmp_tasklang.specs.Scopes.{exinf_name};
 ghost use Rattle.fmp_tasklang.specs.Views.{block_view, body_view, program_view};
-ghost use Rattle.fmp_code.specs.Instructions.{body_tables, code_tables};
-ghost use Rattle.fmp_code.specs.Verify.{Verified};
+ghost use Rattle.fmp_instructions.specs.Instructions.{body_tables, code_tables};
+ghost use Rattle.fmp_instructions.specs.Verify.{Verified};
 ghost use Rattle.fmp_tasklang.specs.CallForms.{CallsFit};
 ghost use Rattle.fmp_codegen.specs.Compiling as spec;
 ghost use Rattle.fmp_codegen.specs.Compiling.{compiled_body, IsCompiled};
@@ -18,7 +18,7 @@ ghost use Rattle.fmp_scopes.specs.Sizes.{block_size};
 
 use crate::emission::{Output, emit_block, put};
 use fmp_base::System;
-use fmp_code::{BodyCode, Code, Instruction};
+use fmp_instructions::{BodyCode, Code, Instruction};
 use fmp_lex::{BuildFault, FaultKind, Tokens};
 use fmp_scopes::{
     Extent, HasName, Names, Objects, Offence, append, block_extent, block_offence, is_exinf,

@@ -15,7 +15,7 @@ ghost use Rattle.fmp_scopes.specs.Scopes.{IsHeld, meaning_view, scope_view};
 ghost use Rattle.fmp_scopes.specs.Sizes.{expression_size, arguments_size, statement_size, block_size};
 
 use fmp_base::BinaryOperator;
-use fmp_code::Instruction;
+use fmp_instructions::Instruction;
 use fmp_scopes::{Meaning, Names, block_extent, expression_extent, meaning_in};
 use fmp_tasklang::{Expression, Link, Operator, ServiceCall, Statement, Word};
 use std::alloc::AllocError;

@@ -4,7 +4,7 @@ ghost use Rattle.std.specs.Prelude.{◌≡◌, ℕ, ◌≤◌, List};
 ghost use Rattle.fmp_base.specs.declared.events.Event.{Event};
 ghost use Rattle.fmp_base.specs.Systems.{SystemTables};
 ghost use Rattle.fmp_tasklang.specs.Trees.{BodyTree};
-ghost use Rattle.fmp_code.specs.Verify.{Verified};
+ghost use Rattle.fmp_instructions.specs.Verify.{Verified};
 ghost use Rattle.fmp_tasklang.specs.CallForms.{CallsFit};
 ghost use Rattle.fmp_codegen.specs.Compiling.{IsAccepted, compiled};
 ghost use Rattle.fmp_scopes.specs.Depths.{body_depth};

@@ -13,7 +13,7 @@ ghost use Rattle.fmp_codegen.specs.Texts.{AreMade, IsMadeUpTo, IsMadeOf, IsTextC
 
 use crate::compiling::{compile_body, judge_body};
 use fmp_base::System;
-use fmp_code::{BodyCode, Code};
+use fmp_instructions::{BodyCode, Code};
 use fmp_lex::{
     BuildFault, FirstFault, GrammarFault, ReadError, TextFault, TextFile, Tokens, fault_at, tokens,
     too_long,

@@ -4,7 +4,7 @@ use Rattle.fmp_engine.specs.Hosting.{FitsBoard, IsWhyNoBoard}
 use Rattle.fmp_engine.specs.declared.hosting.Workload.{Workload}
 use Rattle.fmp_board.specs.declared.fault.BoardFault.{BoardFault}
 use Rattle.fmp_board.specs.declared.fault.BoardFault.TheVariants as board
-use Rattle.fmp_image.specs.Images.{ImageTables}
+use Rattle.fmp_image_bytes.specs.Images.{ImageTables}
 
 pub why_no_board : (f : BoardFault) (i : ImageTables) (work : Workload) → f ≢ board.Memory
     → (f ≡ board.Limit → FitsBoard i work → ⊥) → IsWhyNoBoard f i work

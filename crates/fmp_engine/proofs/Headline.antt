@@ -2,10 +2,10 @@
 use Rattle.std.proofs.Common.{◌≡◌, ℕ, List, ◌++◌, Result, Ok, Err, OnOk, ap, subst, ◌∙◌}
 use Rattle.fmp_base.specs.declared.events.Event.{Event}
 use Rattle.fmp_base.specs.Texts.{whole_text}
-use Rattle.fmp_code.specs.Machine.{code_meaning}
+use Rattle.fmp_instructions.specs.Machine.{code_meaning}
 use Rattle.fmp_codegen.specs.Runs.{PrintsText}
-use Rattle.fmp_image.specs.Images.{ImageTables, Spells}
-use Rattle.fmp_image.proofs.ImageLaws.{one_image}
+use Rattle.fmp_image_bytes.specs.Images.{ImageTables, Spells}
+use Rattle.fmp_image_bytes.proofs.ImageLaws.{one_image}
 use Rattle.fmp_tasklang.specs.Trees.{BodyTree}
 use Rattle.fmp_steps.specs.Steps.{steps_of}
 use Rattle.fmp_engine.specs.declared.hosting.Workload.{Workload}

@@ -1,7 +1,7 @@
 -- What building two texts gives.
 use Rattle.std.specs.Prelude.{◌≡◌, ◌++◌, ℕ, List}
-use Rattle.fmp_image.specs.Images.{ImageTables, Spells}
-use Rattle.fmp_build.specs.Building.{Builds}
+use Rattle.fmp_image_bytes.specs.Images.{ImageTables, Spells}
+use Rattle.fmp_image.specs.Building.{Builds}
 
 -- two texts build an image
 pub record CanBuild (cfg src : List ℕ) : Type 0 where

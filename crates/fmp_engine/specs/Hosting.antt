@@ -5,13 +5,13 @@ use Rattle.fmp_base.specs.Finishes.{IsFinished}
 use Rattle.fmp_base.specs.Runs.{Trace}
 use Rattle.fmp_base.specs.Setups.{setup}
 use Rattle.fmp_base.specs.Texts.{trace_text, whole_text}
-use Rattle.fmp_code.specs.Machine.{code_meaning}
+use Rattle.fmp_instructions.specs.Machine.{code_meaning}
 use Rattle.fmp_codegen.specs.Tie.{longest}
 use Rattle.fmp_board.specs.declared.fault.BoardFault.{BoardFault}
 use Rattle.fmp_board.specs.declared.fault.BoardFault.TheVariants as board
 use Rattle.fmp_board.specs.Replays.{IsLegal}
 use Rattle.fmp_image_parts.specs.declared.fault.LoadFault.TheVariants as load
-use Rattle.fmp_image.specs.Images.{ImageTables, Spells, image_at}
+use Rattle.fmp_image_bytes.specs.Images.{ImageTables, Spells, image_at}
 use Rattle.fmp_tasklang.specs.Contexts.{TextContext}
 use Rattle.fmp_tasklang.specs.Texts.{text_meaning}
 use Rattle.fmp_tasklang.specs.Trees.{BodyTree}

@@ -1,11 +1,11 @@
 //! From the two texts of a system to the bytes of its image.
 
 ghost use Rattle.std.specs.Prelude.{◌≡◌, IfErr, IfOk, OnErr, OnOk};
-ghost use Rattle.fmp_build.specs.Building.{IsBuildFault};
+ghost use Rattle.fmp_image.specs.Building.{IsBuildFault};
 ghost use Rattle.fmp_engine.specs.Built.{AppendsImage, CanBuild};
 
-use fmp_build::build;
-use fmp_image::store;
+use fmp_image::build;
+use fmp_image_bytes::store;
 use fmp_lex::BuildFault;
 use std::alloc::Global;
 

@@ -1,5 +1,5 @@
 //! Why a simulation prints nothing, or not all.
-use fmp_image::LoadFault;
+use fmp_image_bytes::LoadFault;
 use fmp_trace::StepsFault;
 use thiserror::Error;
 

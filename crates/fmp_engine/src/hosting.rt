@@ -1,21 +1,21 @@
 //! A host: an image that is run by threads, one for each of its processors.
 ghost use Rattle.std.specs.Prelude.{◌≡◌, ◌≢◌, ◌<◌, ◌+◌, ◌++◌, ◌≤◌, ◌^◌, List, ℕ, All, IfErr, IfOk, OnErr, OnOk, length};
 ghost use Rattle.fmp_base.specs.Texts.{whole_text};
-ghost use Rattle.fmp_build.specs.Building.{Builds};
-ghost use Rattle.fmp_code.specs.Machine.{code_meaning};
+ghost use Rattle.fmp_image.specs.Building.{Builds};
+ghost use Rattle.fmp_instructions.specs.Machine.{code_meaning};
 ghost use Rattle.fmp_engine.specs.Hosting.{FitsBoard, Hosts, HostsTexts, IsHosted, IsWhyHost, IsWhyNoJournal, IsWorkload};
 ghost use Rattle.fmp_engine.specs.declared.hosting.HostFault.TheVariants as host_fault;
 ghost use Rattle.fmp_board.specs.Boards.{IsAt, IsClosed, blank as blank_of};
 ghost use Rattle.fmp_board.specs.declared.fault.BoardFault.TheVariants.{Limit};
-ghost use Rattle.fmp_image.specs.Images.{ImageTables, Spells};
+ghost use Rattle.fmp_image_bytes.specs.Images.{ImageTables, Spells};
 ghost use Rattle.fmp_steps.specs.Steps.{steps_text};
 
 use crate::events::Journal;
 use crate::play::play;
 use fmp_base::Event;
-use fmp_build::laws::built_image_prints_text;
 use fmp_hostrun::{Blank, Board, BoardFault, Closed, Gate, Seat, Site, run_all};
-use fmp_image::{Image, LoadFault, load};
+use fmp_image::laws::built_image_prints_text;
+use fmp_image_bytes::{Image, LoadFault, load};
 use fmp_trace::print_steps;
 use std::alloc::{AllocError, Global};
 use std::marker::Brand;

@@ -1,15 +1,15 @@
 //! A simulation: an image run on the kernel over the events of a steps text.
 
 ghost use Rattle.std.specs.Prelude.{◌≡◌, ◌≤◌, ◌^◌, ℕ, List, [], IfErr, OnErr, OnOk};
-ghost use Rattle.fmp_build.specs.Building.{Builds};
+ghost use Rattle.fmp_image.specs.Building.{Builds};
 ghost use Rattle.fmp_engine.specs.Simulations.{IsWhySim, IsWhySimCut, PrintsTexts, Simulates, SimulatesInto};
-ghost use Rattle.fmp_image.specs.Images.{ImageTables, Spells};
+ghost use Rattle.fmp_image_bytes.specs.Images.{ImageTables, Spells};
 
 use crate::fault::{Cut, SimCut, SimFault};
 use crate::outlet::Outlet;
 use crate::play::play_into;
-use fmp_build::laws::built_image_prints_text;
-use fmp_image::{Image, LoadFault, load};
+use fmp_image::laws::built_image_prints_text;
+use fmp_image_bytes::{Image, LoadFault, load};
 use fmp_trace::Steps;
 use std::alloc::Global;
 

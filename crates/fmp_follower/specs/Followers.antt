@@ -8,10 +8,10 @@ use Rattle.fmp_base.specs.Setups.{setup}
 use Rattle.fmp_base.specs.Steps.{Reaction, Nothing, Did}
 use Rattle.fmp_base.specs.Systems.{SystemTables}
 use Rattle.fmp_base.specs.Texts.{events_text, lines_text, states_text, whole_text}
-use Rattle.fmp_code.specs.declared.instructions.MachineContext.{MachineContext}
-use Rattle.fmp_code.specs.Instructions.{BodyTables}
-use Rattle.fmp_code.specs.Machine.{code_meaning}
-use Rattle.fmp_image.specs.Images.{ImageTables}
+use Rattle.fmp_instructions.specs.declared.instructions.MachineContext.{MachineContext}
+use Rattle.fmp_instructions.specs.Instructions.{BodyTables}
+use Rattle.fmp_instructions.specs.Machine.{code_meaning}
+use Rattle.fmp_image_bytes.specs.Images.{ImageTables}
 use Rattle.fmp_kernel.specs.KernelViews.{KernelView, view_after_all, view_of_setup}
 use Rattle.fmp_journal.specs.Seats.{RowId, SeatState, given}
 use Rattle.fmp_journal.specs.Views.{looked_at}

@@ -2,7 +2,7 @@
 ghost use Rattle.std.specs.Prelude.{◌≡◌, ◌+◌, ◌++◌, ◌<◌, ◌≤◌, [], ◌^◌, length, IfOk, OnOk, OnErr, vec_capacity, vec_len};
 ghost use Rattle.fmp_base.specs.Steps.{step};
 ghost use Rattle.fmp_base.specs.Systems.{tables_of};
-ghost use Rattle.fmp_code.specs.Machine.{code_meaning};
+ghost use Rattle.fmp_instructions.specs.Machine.{code_meaning};
 ghost use Rattle.fmp_follower.specs.Followers.{Continues, FollowedTextIsFront, Follows, IsFollowing, followed_text, reaction_text};
 ghost use Rattle.fmp_board.specs.Replays.{kernel_after};
 ghost use Rattle.fmp_kernel.specs.KernelViews.{view_after};
@@ -10,8 +10,8 @@ ghost use Rattle.fmp_journal.specs.Seats.{given};
 
 use fmp_base::{Effect, Event, System};
 use fmp_board::{Board, Seat, Site, kernel_of};
+use fmp_code::Vm;
 use fmp_kernel::Kernel;
-use fmp_machine::Vm;
 use fmp_trace::print;
 use std::alloc::{AllocError, Global};
 use std::marker::Model;

@@ -4,7 +4,7 @@ use Rattle.std.proofs.lemmas.List.{append-nil}
 use Rattle.std.proofs.lemmas.List.Elements.{All-append, All-cons, All-nil, All-tail, length_all_zip}
 use Rattle.std.specs.List.{All, AllZip}
 use Rattle.std.specs.Prelude.{IfErr, IfOk}
-use Rattle.fmp_image.specs.Images.{ImageTables}
+use Rattle.fmp_image_bytes.specs.Images.{ImageTables}
 use Rattle.fmp_journal.specs.Seats.{RowId, SeatState}
 use Rattle.fmp_board.specs.declared.fault.BoardFault.{BoardFault}
 use Rattle.fmp_board.specs.Boards.{IsAt, IsTurnFault}

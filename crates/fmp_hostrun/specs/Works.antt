@@ -3,7 +3,7 @@ use Rattle.std.specs.Prelude.{◌≡◌, ◌≢◌, ℕ, ◌+◌, ◌≤◌, nat
 use Rattle.std.specs.List.{AllZip}
 use Rattle.fmp_base.specs.declared.events.Event.{Event}
 use Rattle.fmp_base.specs.declared.events.Event.TheVariants.{Run, Tick}
-use Rattle.fmp_image.specs.Images.{ImageTables}
+use Rattle.fmp_image_bytes.specs.Images.{ImageTables}
 use Rattle.fmp_journal.specs.Seats.{RowId, SeatState}
 use Rattle.fmp_journal.specs.Views.{own}
 use Rattle.fmp_journal.specs.Words.{entry}

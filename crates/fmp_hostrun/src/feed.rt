@@ -6,7 +6,7 @@ ghost use Rattle.fmp_board.specs.Outcomes.{IsDrawn};
 ghost use Rattle.fmp_board.specs.Visits.{Visited, journaled};
 ghost use Rattle.fmp_hostrun.specs.Works.{Added};
 ghost use Rattle.fmp_board.specs.declared.fault.BoardFault.TheVariants.{Full, Stale};
-ghost use Rattle.fmp_image.specs.Images.{ImageTables};
+ghost use Rattle.fmp_image_bytes.specs.Images.{ImageTables};
 ghost use Rattle.fmp_journal.specs.Seats.{RowId};
 
 use fmp_base::Event;

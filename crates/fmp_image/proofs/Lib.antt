@@ -1,3 +1,17 @@
-pub mod Entries
-pub mod ImageLaws
-pub mod InRange
+mod BodyRules
+mod Built
+mod BuiltHeads
+mod CodeWords
+mod Entering
+mod EntryRules
+mod FittingBodies
+mod FittingRows
+mod Judged
+mod Lawful
+mod NamedRows
+mod NewKeys
+mod OneAnswer
+mod RowLoops
+mod SameNames
+mod TextNumbers
+mod Walks

@@ -1,1 +1,3 @@
-pub mod Images
+pub mod Building
+pub mod Entries
+pub mod Laws

@@ -1,11 +1,32 @@
-//! Laws of the spelling of images.
+//! Laws of building, each the contract of a function that does nothing.
 
-ghost use Rattle.std.specs.Prelude.{◌≡◌, ◌++◌, [], ℕ, List};
-ghost use Rattle.fmp_image.specs.Images.{ImageTables, Spells};
+ghost use Rattle.std.specs.Prelude.{ℕ, ◌≤◌, List};
+ghost use Rattle.fmp_base.specs.declared.events.Event.{Event};
+ghost use Rattle.fmp_codegen.specs.Runs.{PrintsText};
+ghost use Rattle.fmp_image_bytes.specs.Images.{ImageTables, IsImage};
+ghost use Rattle.fmp_image.specs.Building.{Builds};
+ghost use Rattle.fmp_image.specs.Laws.{HaveOneAnswer};
 
-/// A law: no two byte strings spell one image, none spells two images, and none begins another.
-pub fn one_spelling()
-    ensures text { (i : ImageTables) (a b : List ℕ) → Spells i a → Spells i b → a ≡ b }
-    ensures image { (i j : ImageTables) (a : List ℕ) → Spells i a → Spells j a → i ≡ j }
-    ensures front { (i j : ImageTables) (a b more : List ℕ) → Spells i a → Spells j b → b ≡ a ++ more → more ≡ [] }
+use fmp_codegen::laws::{compiled_code_is_verified, compiled_run, greatest_depth_is_needed};
+
+/// What two texts build keeps the rules of images.
+pub fn what_is_built_is_an_image()
+    ensures { (cfg src : List ℕ) (i : ImageTables) → Builds cfg src i → IsImage i }
+{
+    greatest_depth_is_needed();
+    compiled_code_is_verified();
+}
+
+/// Whatever the events, running the image of two texts prints what the texts mean.
+pub fn built_image_prints_text()
+    ensures { (cfg src : List ℕ) (i : ImageTables) (b : Builds cfg src i) (n : ℕ) (es : List Event) →
+        1 ≤ n → PrintsText i.system b.tasks.bodies i.code n es }
+{
+    compiled_run();
+}
+
+/// Two texts build at most one image or have at most one first fault beside want of memory, and never both. So what
+/// `build` answers, they answer.
+pub fn two_texts_have_one_answer()
+    ensures { (cfg src : List ℕ) → HaveOneAnswer cfg src }
 {}

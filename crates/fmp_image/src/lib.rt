@@ -1,13 +1,12 @@
-//! Images: a system and the code of its bodies as bytes, stored and loaded.
+//! Images: built from the two texts of a system, stored as bytes and loaded. What images are, and their bytes, stand in
+//! `fmp_image_bytes`, and are given out here too.
 #![tactic(auto)]
 
-pub mod image;
-mod laws;
-mod loading;
-mod storing;
+mod building;
+mod entries;
+mod heads;
+pub mod laws;
+mod tables;
 
-pub use fmp_image_parts::{BodyHead, BodyKind, ImageFault, LoadFault, fault, heads};
-pub use image::Image;
-pub use laws::one_spelling;
-pub use loading::load;
-pub use storing::store;
+pub use building::build;
+pub use fmp_image_bytes::{Image, LoadFault, load, one_spelling, store};

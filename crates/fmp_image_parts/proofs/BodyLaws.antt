@@ -8,10 +8,10 @@ use Rattle.std.proofs.lemmas.Int.{fits_signed_from_abs}
 use Rattle.std.proofs.lemmas.List.{length-append}
 use Rattle.fmp_base.specs.declared.operators.UnaryOperator.{UnaryOperator}
 use Rattle.fmp_base.specs.declared.operators.UnaryOperator.TheVariants as unary
-use Rattle.fmp_code.specs.declared.instructions.Instruction.{Instruction}
-use Rattle.fmp_code.specs.declared.instructions.Instruction.TheVariants.{Push, Load, Store, Unary, Truth, Binary, Jump, JumpIfZero, Call, End}
-use Rattle.fmp_code.specs.Instructions.{BodyTables}
-use Rattle.fmp_code.specs.Verify.{entry_is, local_fits, wants, fits, VerifiedBody, Verified}
+use Rattle.fmp_instructions.specs.declared.instructions.Instruction.{Instruction}
+use Rattle.fmp_instructions.specs.declared.instructions.Instruction.TheVariants.{Push, Load, Store, Unary, Truth, Binary, Jump, JumpIfZero, Call, End}
+use Rattle.fmp_instructions.specs.Instructions.{BodyTables}
+use Rattle.fmp_instructions.specs.Verify.{entry_is, local_fits, wants, fits, VerifiedBody, Verified}
 use Rattle.fmp_image_parts.specs.declared.fault.ImageFault.{ImageFault}
 use Rattle.fmp_image_parts.specs.declared.fault.ImageFault.TheVariants as fault
 use Rattle.fmp_image_parts.specs.declared.heads.BodyKind.{BodyKind}

@@ -5,8 +5,8 @@ use Rattle.std.specs.Int.{w32, cast_signed}
 use Rattle.std.proofs.lemmas.Bool.{leb-true, le-leb, eqb-true, eq-eqb}
 use Rattle.std.proofs.lemmas.List.{ext_get_or, get_or-drop, drop-drop, length-append, length-drop, length-take-le, take_all, take_more}
 use Rattle.byteorder.specs.Endian.{little_number}
-use Rattle.fmp_code.specs.declared.instructions.Instruction.{Instruction}
-use Rattle.fmp_code.specs.Verify.{AreLow, depth_is, fits, wants}
+use Rattle.fmp_instructions.specs.declared.instructions.Instruction.{Instruction}
+use Rattle.fmp_instructions.specs.Verify.{AreLow, depth_is, fits, wants}
 use Rattle.fmp_image_parts.specs.declared.fault.ImageFault.{ImageFault}
 use Rattle.fmp_image_parts.specs.declared.fault.ImageFault.TheVariants as fault
 use Rattle.fmp_image_parts.specs.declared.fault.LoadFault.TheVariants as load_fault

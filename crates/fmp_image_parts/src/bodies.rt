@@ -1,9 +1,9 @@
 //! The bodies of an image, read and put.
 
 ghost use Rattle.std.specs.Prelude.{◌≡◌, ◌++◌, ◌∷◌, [], ◌<◌, ◌≤◌, ◌+◌, ◌*◌, ℕ, List, Some, drop, get_or, length, map, slice_get, false, vec_len, vec_capacity, IfErr, IfOk, IsTrue, OnOk};
-ghost use Rattle.fmp_code.specs.declared.instructions.Instruction.{Instruction};
-ghost use Rattle.fmp_code.specs.Instructions.{body_tables};
-ghost use Rattle.fmp_code.specs.Verify.{AreLow, fits};
+ghost use Rattle.fmp_instructions.specs.declared.instructions.Instruction.{Instruction};
+ghost use Rattle.fmp_instructions.specs.Instructions.{body_tables};
+ghost use Rattle.fmp_instructions.specs.Verify.{AreLow, fits};
 ghost use Rattle.fmp_image_parts.specs.declared.fault.ImageFault.TheVariants.{Code};
 ghost use Rattle.fmp_image_parts.specs.declared.fault.LoadFault.TheVariants.{Memory};
 ghost use Rattle.fmp_image_parts.specs.Fields.{Gives, byte};
@@ -15,7 +15,7 @@ use crate::fields::{byte_at, in_range, put_byte, put_short, put_word, short_at};
 use crate::heads::{BodyHead, BodyKind};
 use crate::instructions::{argument_of, opcode_of, push_instruction};
 use byteorder::{ByteOrder, LittleEndian};
-use fmp_code::{BodyCode, Instruction};
+use fmp_instructions::{BodyCode, Instruction};
 use std::alloc::{AllocError, Global};
 
 const CODE: LoadFault = LoadFault::Image(ImageFault::Code);

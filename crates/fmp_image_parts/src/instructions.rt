@@ -1,11 +1,11 @@
 //! Instructions as opcodes and arguments.
 
 ghost use Rattle.std.specs.Prelude.{◌≡◌, ◌<◌, ◌≤◌, ◌+◌, ◌++◌, ◌∷◌, [], get_or, length, pos, true, false, vec_len, vec_capacity, MatchOption};
-ghost use Rattle.fmp_code.specs.Verify.{AreLow, fits};
+ghost use Rattle.fmp_instructions.specs.Verify.{AreLow, fits};
 ghost use Rattle.fmp_image_parts.specs.Instructions.{unary_number, binary_number, local_number, call_number, opcode_of, argument_of, local_of, service_of_number, unary_of, binary_operator_of, call_of, numbered, instruction_of};
 
 use fmp_base::{BinaryOperator, Service, UnaryOperator};
-use fmp_code::{Instruction, is_fit};
+use fmp_instructions::{Instruction, is_fit};
 use fmp_lex::words::SERVICES;
 
 /// The operators with one operand, in the order of their numbers.

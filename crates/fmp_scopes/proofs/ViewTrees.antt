@@ -3,8 +3,8 @@ use Rattle.std.proofs.Common.{◌≡◌, ℕ, ◌+◌, ◌<◌, max, List, [], �
 use Rattle.std.specs.declared.alloc.Global.{Global}
 use Rattle.std.specs.declared.vec.Vec.{Vec}
 use Rattle.fmp_base.specs.declared.operators.UnaryOperator.{UnaryOperator}
-use Rattle.fmp_code.specs.declared.instructions.Instruction.{Instruction}
-use Rattle.fmp_code.specs.declared.instructions.Instruction.TheVariants as instruction
+use Rattle.fmp_instructions.specs.declared.instructions.Instruction.{Instruction}
+use Rattle.fmp_instructions.specs.declared.instructions.Instruction.TheVariants as instruction
 use Rattle.fmp_tasklang.specs.declared.trees.Expression.{Expression, Unary, Chain}
 use Rattle.fmp_tasklang.specs.declared.trees.Link.{Link}
 use Rattle.fmp_tasklang.specs.Scopes.{Scope}

@@ -5,8 +5,8 @@ use Rattle.fmp_tasklang.specs.declared.trees.Operator.TheVariants as operator
 use Rattle.fmp_tasklang.specs.Trees.{ExpressionTree}
 use Rattle.fmp_tasklang.specs.Scopes.{Scope}
 use Rattle.fmp_tasklang.specs.Views.{LinkTree}
-use Rattle.fmp_code.specs.declared.instructions.Instruction.{Instruction}
-use Rattle.fmp_code.specs.declared.instructions.Instruction.TheVariants.{Push, Truth, Binary, Jump, JumpIfZero}
+use Rattle.fmp_instructions.specs.declared.instructions.Instruction.{Instruction}
+use Rattle.fmp_instructions.specs.declared.instructions.Instruction.TheVariants.{Push, Truth, Binary, Jump, JumpIfZero}
 use Rattle.fmp_scopes.specs.Depths.{expression_depth}
 use Rattle.fmp_scopes.specs.DepthTables.{expression_depths}
 use Rattle.fmp_scopes.specs.Naming.{NameUse, expression_uses}

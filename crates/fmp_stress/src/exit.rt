@@ -1,6 +1,6 @@
 //! Why the program ends with nothing printed.
 use fmp_hostrun::BoardFault;
-use fmp_image::LoadFault;
+use fmp_image_bytes::LoadFault;
 use std::alloc::{AllocError, Global};
 use std::fmt;
 

@@ -8,7 +8,7 @@ use crate::place::{Answers, Place, Record};
 use crate::threads::{Party, Team, Times, Worked, run};
 use fmp_base::Event;
 use fmp_hostrun::{Blank, Board, BoardFault, Closed, Seat, Site};
-use fmp_image::Image;
+use fmp_image_bytes::Image;
 use std::alloc::{AllocError, Global};
 use std::marker::Brand;
 use std::sync::Wait;

@@ -7,7 +7,7 @@ use clap::Error;
 use clap::error::ErrorKind;
 use fmp_base::Event;
 use fmp_files::{Outside, ReadFault, WriteFault};
-use fmp_image::{Image, load};
+use fmp_image_bytes::{Image, load};
 use fmp_trace::print_steps;
 use std::alloc::{AllocError, Global};
 use std::fmt;

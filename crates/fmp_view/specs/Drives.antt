@@ -1,12 +1,12 @@
 -- What it is to drive an image.
 use Rattle.std.specs.Prelude.{ℕ, List, []}
-use Rattle.fmp_code.specs.declared.instructions.MachineContext.{MachineContext}
-use Rattle.fmp_code.specs.Instructions.{BodyTables}
-use Rattle.fmp_code.specs.Machine.{code_meaning}
+use Rattle.fmp_instructions.specs.declared.instructions.MachineContext.{MachineContext}
+use Rattle.fmp_instructions.specs.Instructions.{BodyTables}
+use Rattle.fmp_instructions.specs.Machine.{code_meaning}
 use Rattle.fmp_drive.specs.Driving.{IsDriven}
 use Rattle.fmp_drive.specs.NextRuns.{AreNext}
 use Rattle.fmp_board.specs.Replays.{kernel_after}
-use Rattle.fmp_image.specs.Images.{ImageTables}
+use Rattle.fmp_image_bytes.specs.Images.{ImageTables}
 use Rattle.fmp_kernel.specs.KernelViews.{KernelView}
 use Rattle.fmp_view.specs.declared.driving.Drive.{Drive}
 

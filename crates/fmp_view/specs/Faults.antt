@@ -3,8 +3,8 @@ use Rattle.std.specs.Prelude.{ℕ, List, Option, Some, None}
 use Rattle.fmp_lex.specs.declared.fault.BuildFault.TheVariants as build
 use Rattle.fmp_lex.specs.declared.fault.TextFile.{TextFile}
 use Rattle.fmp_lex.specs.declared.fault.TextFile.TheVariants as file
-use Rattle.fmp_image.specs.Images.{ImageTables}
-use Rattle.fmp_build.specs.Building.{Builds, IsBuildFault}
+use Rattle.fmp_image_bytes.specs.Images.{ImageTables}
+use Rattle.fmp_image.specs.Building.{Builds, IsBuildFault}
 use Rattle.fmp_diagnosis.specs.declared.reports.FileNames.{FileNames}
 use Rattle.fmp_diagnosis.specs.declared.sentence.Texts.{Texts}
 use Rattle.fmp_diagnosis.specs.Reports.{IsReport, text_of}

@@ -12,7 +12,7 @@ use fmp_diagnosis::{explain, topic_named};
 use fmp_drive::{NextRun, Stop};
 use fmp_engine::SimFault;
 use fmp_frames::{Tallies, Viewer, Waves, last_frame, show_all};
-use fmp_image::Image;
+use fmp_image_bytes::Image;
 use fmp_kernel::{Body, Kernel};
 use fmp_trace::print_steps;
 use std::alloc::{AllocError, Global};

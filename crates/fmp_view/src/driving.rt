@@ -6,10 +6,10 @@ ghost use Rattle.fmp_view.specs.Drives.{DrivesImage};
 
 use fmp_base::System;
 use fmp_board::kernel_of;
+use fmp_code::Vm;
 use fmp_drive::{Driven, NextRun, Plan, drive, next_runs};
-use fmp_image::Image;
+use fmp_image_bytes::Image;
 use fmp_kernel::{Body, Kernel};
-use fmp_machine::Vm;
 use std::alloc::{AllocError, Global};
 
 /// How many tasks a kernel has.

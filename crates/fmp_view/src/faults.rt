@@ -3,8 +3,8 @@ ghost use Rattle.std.specs.Prelude.{◌≡◌, IfOk};
 ghost use Rattle.fmp_view.specs.Faults as spec;
 ghost use Rattle.fmp_view.specs.Faults.{HasFault, IsShown};
 
-use fmp_build::build;
 use fmp_diagnosis::{FileNames, Texts, report, warnings_of};
+use fmp_image::build;
 use fmp_lex::{BuildFault, FaultKind, Place, TextFile};
 use std::alloc::{AllocError, Global};
 

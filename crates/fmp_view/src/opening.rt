@@ -3,10 +3,10 @@ ghost use Rattle.std.specs.Prelude.{◌≡◌, ◌≤◌, ◌^◌, IfOk, length}
 
 use fmp_base::Event;
 use fmp_board::kernel_of;
+use fmp_code::Vm;
 use fmp_engine::SimFault;
-use fmp_image::{Image, LoadFault, load};
+use fmp_image_bytes::{Image, LoadFault, load};
 use fmp_kernel::Kernel;
-use fmp_machine::Vm;
 use fmp_trace::{StepsFault, read_steps};
 use std::alloc::{AllocError, Global};
 

@@ -12,7 +12,7 @@ use fmp_base::{Event, System};
 use fmp_drawing::{DrawFault, MOST_BYTES, draw};
 use fmp_engine::SimFault;
 use fmp_frames::{Viewer, last_frame, show_all};
-use fmp_image::Image;
+use fmp_image_bytes::Image;
 use fmp_kernel::{Body, Kernel};
 use fmp_timeline::{Page, Run};
 use std::alloc::{AllocError, Global};

@@ -5,7 +5,7 @@ ghost use Rattle.fmp_board.specs.Boards.{IsAt, blank as blank_of};
 use crate::SecondFirst;
 use crate::tests::showing::{BOUND, Seen, board_of, image_of, one};
 use fmp_hostrun::{Blank, Board, BoardFault, Closed, Seat, Site, run_all};
-use fmp_image::Image;
+use fmp_image_bytes::Image;
 use std::alloc::Global;
 use std::marker::Brand;
 use std::process::Abort;

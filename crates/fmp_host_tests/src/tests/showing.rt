@@ -3,10 +3,10 @@ ghost use Rattle.std.specs.Prelude.{◌≡◌, ◌+◌, ◌<◌, All, IfOk, IfSo
 ghost use Rattle.fmp_board.specs.Boards.{IsAt, blank as blank_of};
 
 use fmp_base::Event;
-use fmp_build::build;
 use fmp_engine::sim;
 use fmp_hostrun::{Blank, BoardFault, Closed, Seat, Site};
-use fmp_image::{Image, store};
+use fmp_image::build;
+use fmp_image_bytes::{Image, store};
 use fmp_trace::{print_states, print_steps};
 use std::alloc::Global;
 use std::test::Fail;

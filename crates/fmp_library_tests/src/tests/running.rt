@@ -1,8 +1,8 @@
 //! A system that two texts describe: built, loaded again, and run event by event.
 use fmp_base::{Body, Effect, Event, System};
 use fmp_board::kernel_of;
-use fmp_build::build;
-use fmp_image::{Image, load, store};
+use fmp_image::build;
+use fmp_image_bytes::{Image, load, store};
 use fmp_kernel::Kernel;
 use fmp_trace::print;
 use std::alloc::{AllocError, Global};

@@ -1,7 +1,7 @@
 use Rattle.std.proofs.Common.{◌≡◌, ◌++◌, [], drop, take, map}
 use Rattle.fmp_base.specs.Systems.{tables_of}
 use Rattle.fmp_tasklang.specs.Views.{body_view}
-use Rattle.fmp_code.specs.Instructions.{body_tables}
+use Rattle.fmp_instructions.specs.Instructions.{body_tables}
 use Rattle.fmp_codegen.specs.Compiling.{bodies_offence, compiled}
 use Rattle.fmp_codegen.proofs.compiling.compile.Given as goal
 

@@ -3,7 +3,7 @@ use Rattle.std.proofs.lemmas.List.{map-append}
 use Rattle.std.specs.Prelude.{is_some, IsTrue}
 use Rattle.fmp_base.specs.Systems.{tables_of}
 use Rattle.fmp_tasklang.specs.Views.{body_view}
-use Rattle.fmp_code.specs.Instructions.{body_tables}
+use Rattle.fmp_instructions.specs.Instructions.{body_tables}
 use Rattle.fmp_codegen.proofs.TextMaking.{made-stays, made-stops, made-more, code-more, some-there, none-there}
 use Rattle.fmp_codegen.proofs.texts.add_body.Goals as goal
 

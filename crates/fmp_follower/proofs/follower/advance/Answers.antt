@@ -1,5 +1,5 @@
 use Rattle.std.proofs.Common.{◌∙◌, ap, sym, Some, None, List, ℕ, ◌++◌, ◌+◌}
-use Rattle.fmp_image.specs.Images.{ImageTables}
+use Rattle.fmp_image_bytes.specs.Images.{ImageTables}
 use Rattle.fmp_follower.specs.Followers.{Follows, reaction_text}
 use Rattle.fmp_follower.proofs.Advancing.{early, goes_on, prints, prints_nothing, reaction_of, stays, system_of}
 use Rattle.fmp_follower.proofs.follower.advance.Goals as goal

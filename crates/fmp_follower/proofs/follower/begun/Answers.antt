@@ -2,7 +2,7 @@ use Rattle.std.proofs.Common.{◌∙◌, ap, List, ◌++◌}
 use Rattle.fmp_base.specs.declared.events.Line.{Line}
 use Rattle.fmp_base.specs.Systems.{tables_of}
 use Rattle.fmp_base.specs.Texts.{lines_text}
-use Rattle.fmp_image.specs.Images.{ImageTables}
+use Rattle.fmp_image_bytes.specs.Images.{ImageTables}
 use Rattle.fmp_follower.proofs.Advancing.{begins, made_at}
 use Rattle.fmp_follower.proofs.follower.begun.Goals as goal
 

@@ -1,6 +1,6 @@
 use Rattle.std.proofs.Common.{◌≡◌, false, Some, refl, sym, ap, ◌∙◌}
 use Rattle.std.proofs.lemmas.Bool.{leb-true}
-use Rattle.fmp_code.specs.Verify.{depth_is}
+use Rattle.fmp_instructions.specs.Verify.{depth_is}
 use Rattle.fmp_image_parts.proofs.KeptCode.{low_depths, too_deep, begins_otherwise}
 use Rattle.fmp_image_parts.proofs.bodies.is_depth_table.Goals as goal
 

@@ -3,7 +3,7 @@ use Rattle.std.specs.Int.{w32, cast_signed, cast_unsigned}
 use Rattle.byteorder.specs.Endian.{little_number}
 use Rattle.std.proofs.lemmas.Int.{to_z-of_z}
 use Rattle.std.proofs.lemmas.List.{take_rest}
-use Rattle.fmp_code.specs.Verify.{fits}
+use Rattle.fmp_instructions.specs.Verify.{fits}
 use Rattle.fmp_image_parts.specs.Bodies.{named, step_at}
 use Rattle.fmp_image_parts.specs.Fields.{◌>>=◌}
 use Rattle.fmp_image_parts.specs.Instructions.{instruction_of}

@@ -1,7 +1,7 @@
 use Rattle.std.proofs.Common.{◌≡◌, ◌<◌, ◌++◌, ◌∷◌, [], length, map, drop, get_or, sym, ◌∙◌, append_assoc, arith}
 use Rattle.std.proofs.lemmas.List.{append-nil, length-map}
 use Rattle.std.proofs.Math.ListN.{drop_of_length-le}
-use Rattle.fmp_code.specs.Instructions.{body_tables}
+use Rattle.fmp_instructions.specs.Instructions.{body_tables}
 use Rattle.fmp_image_parts.specs.declared.heads.BodyHead.{BodyHead}
 use Rattle.fmp_image_parts.specs.declared.heads.BodyKind.TheVariants as kind
 use Rattle.fmp_image_parts.specs.Bodies.{IsBody, body_spelled}

@@ -1,5 +1,5 @@
 use Rattle.std.proofs.Common.{◌≡◌, ◌++◌, ◌∷◌, [], length, map, drop}
-use Rattle.fmp_code.specs.Instructions.{body_tables}
+use Rattle.fmp_instructions.specs.Instructions.{body_tables}
 use Rattle.fmp_image_parts.specs.Bodies.{body_spelled}
 use Rattle.fmp_image_parts.specs.Pairs.{pairs_spelled}
 use Rattle.fmp_image_parts.proofs.bodies.put_bodies.Given as goal

@@ -1,7 +1,7 @@
 use Rattle.std.proofs.Common.{◌≡◌, ◌++◌, ◌∷◌, [], map}
 use Rattle.std.proofs.lemmas.List.{map_push}
 use Rattle.std.proofs.lemmas.Result.{err_from_is_err_and}
-use Rattle.fmp_code.specs.Instructions.{body_tables}
+use Rattle.fmp_instructions.specs.Instructions.{body_tables}
 use Rattle.fmp_image_parts.specs.Bodies.{body_at}
 use Rattle.fmp_image_parts.specs.Pairs.{pairs_at}
 use Rattle.fmp_image_parts.proofs.PairLoops.{goes_on, ends, is_done}

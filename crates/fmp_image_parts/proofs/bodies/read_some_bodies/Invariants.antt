@@ -1,5 +1,5 @@
 use Rattle.std.proofs.Common.{◌≡◌, ◌-◌, map}
-use Rattle.fmp_code.specs.Instructions.{body_tables}
+use Rattle.fmp_instructions.specs.Instructions.{body_tables}
 use Rattle.fmp_image_parts.specs.Bodies.{body_at}
 use Rattle.fmp_image_parts.specs.Pairs.{pairs_at}
 use Rattle.fmp_image_parts.proofs.PairLoops.{with_fronts}

@@ -1,6 +1,6 @@
 use Rattle.std.proofs.Common.{◌≡◌, ◌+◌, ◌<◌, List, length, sym, ap, ◌∙◌, subst, rules, length-append}
 use Rattle.fmp_base.specs.Steps.{Did, step}
-use Rattle.fmp_code.specs.Machine.{code_meaning}
+use Rattle.fmp_instructions.specs.Machine.{code_meaning}
 use Rattle.fmp_kernel.specs.KernelViews.{view_after}
 use Rattle.fmp_journal.specs.declared.entry.JournalEntry.{JournalEntry}
 use Rattle.fmp_journal.specs.Seats.{events}

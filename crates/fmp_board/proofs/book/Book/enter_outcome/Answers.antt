@@ -1,7 +1,7 @@
 use Rattle.std.proofs.Common.{◌≡◌, ◌+◌, ◌<◌, List, [], ◌∷◌, ◌++◌, ℕ, length, Some, sym, ap, ◌∙◌, subst, rules, length-append}
 use Rattle.fmp_base.specs.declared.events.Event.TheVariants.{Run}
 use Rattle.fmp_base.specs.Stretches.{ending}
-use Rattle.fmp_code.specs.Machine.{code_meaning}
+use Rattle.fmp_instructions.specs.Machine.{code_meaning}
 use Rattle.fmp_kernel.specs.KernelViews.{view_after}
 use Rattle.fmp_worlds.specs.Stamps.{applied}
 use Rattle.fmp_journal.specs.declared.entry.JournalEntry.{JournalEntry}

@@ -1,0 +1,92 @@
+-- Only the names of objects matter to the bodies of a text.
+use Rattle.std.proofs.Common.{◌≡◌, ℕ, ◌+◌, ◌||◌, nat_le, List, [], ◌∷◌, ◌++◌, Bool, length, Option, Some, map, refl, sym, ap, ap₂, ◌∙◌, subst}
+use Rattle.std.specs.Prelude.{if◌then◌else◌}
+use Rattle.fmp_base.specs.declared.events.Event.{Event}
+use Rattle.fmp_base.specs.declared.names.Name.{Name}
+use Rattle.fmp_base.specs.Names.{name_text}
+use Rattle.fmp_base.specs.Systems.{SystemTables}
+use Rattle.fmp_lex.specs.declared.fault.FaultKind.TheVariants as fault
+use Rattle.fmp_tasklang.specs.declared.trees.Word.{Word}
+use Rattle.fmp_tasklang.specs.Trees.{BodyTree}
+use Rattle.fmp_tasklang.specs.Scopes.{Scope, object_names, object_number, exinf_name, scope_of}
+use Rattle.fmp_instructions.specs.declared.instructions.Instruction.TheVariants.{End}
+use Rattle.fmp_instructions.specs.Instructions.{BodyTables}
+use Rattle.fmp_scopes.specs.declared.offences.Offence.{Offence}
+use Rattle.fmp_codegen.specs.Compiling.{is_among, variables_offence, size_offence, body_offence, bodies_offence, compiled_body, compiled, IsAccepted}
+use Rattle.fmp_scopes.specs.Scopes.{is_object}
+use Rattle.fmp_scopes.specs.DepthTables.{body_depths}
+use Rattle.fmp_scopes.specs.Naming.{first_offence, uses_offence, block_uses, reads}
+use Rattle.fmp_codegen.specs.Runs.{PrintsText}
+use Rattle.fmp_scopes.specs.Scheme.{block_code}
+use Rattle.fmp_scopes.specs.Sizes.{block_size}
+use Rattle.fmp_image_bytes.specs.Images.{ImageTables}
+use Rattle.fmp_image.specs.Building.{built_task, built_cyclic, built_tables, built_image}
+
+-- a change of rows that keeps what f sees of them
+pub kept : {A B : Type 0} (f : A → B) (change : A → A) (same : (a : A) → f (change a) ≡ f a) (rows : List A) → map f (map change rows) ≡ map f rows
+kept f change same [] = refl
+kept f change same (r ∷ rs) = ap₂ (λ b bs. b ∷ bs) (same r) (kept f change same rs)
+
+pub names_kept : (bodies : List BodyTree) (tables : SystemTables) → object_names (built_tables bodies tables) ≡ object_names tables
+names_kept bodies tables =
+    let tasks = kept (λ t. t.name) (built_task bodies) (λ t. refl) tables.tasks in
+    let cyclics = kept (λ c. c.name) (built_cyclic bodies) (λ c. refl) tables.cyclics in
+    cc
+
+module _ (a b : SystemTables) (same : object_names a ≡ object_names b) where
+  object_same : (name : Name) → is_object a name ≡ is_object b name
+  object_same name = ap (λ objects. reads (object_number (name_text name) objects)) same
+
+  variables_same : (names : List Name) (ws : List Word) → variables_offence a names ws ≡ variables_offence b names ws
+  variables_same names [] = refl
+  variables_same names (w ∷ ws) =
+      let limit : Offence = record { at = w.at; why = fault.Limit } in
+      let twice : Offence = record { at = w.at; why = fault.TwiceNamed } in
+      ap₂ (λ (object : Bool) (rest : Option Offence).
+      if nat_le 64 (length names) then Some limit else (if is_among w.name names || object then Some twice else rest))
+      (object_same w.name) (variables_same (names ++ w.name ∷ []) ws)
+
+  scope_same : (body : BodyTree) → scope_of a body ≡ scope_of b body
+  scope_same body =
+      let with_objects : List (List Name) → Scope = λ objects. record { objects = objects; variables = exinf_name ∷ map (λ w. w.name) body.variables } in
+      ap with_objects same
+
+  body_same : (names : List Name) (body : BodyTree) → body_offence a names body ≡ body_offence b names body
+  body_same names body =
+      let limit : Offence = record { at = body.at; why = fault.Limit } in
+      let twice : Offence = record { at = body.name.at; why = fault.TwiceNamed } in
+      ap₂ (λ (variables : Option Offence) (scope : Scope).
+      if nat_le 255 (length names) then Some limit
+      else (if is_among body.name.name names then Some twice
+      else first_offence variables (first_offence (uses_offence scope (block_uses body.statements)) (size_offence body))))
+      (variables_same (exinf_name ∷ []) body.variables) (scope_same body)
+
+  pub bodies_same : (names : List Name) (bodies : List BodyTree) → bodies_offence a names bodies ≡ bodies_offence b names bodies
+  bodies_same names [] = refl
+  bodies_same names (x ∷ xs) = ap₂ first_offence (body_same names x) (bodies_same (names ++ x.name.name ∷ []) xs)
+
+  compiled_body_same : (body : BodyTree) → compiled_body a body ≡ compiled_body b body
+  compiled_body_same body =
+      let with_scope : Scope → BodyTables = λ scope. record {
+        locals = length body.variables + 1;
+        instructions = block_code scope body.statements 0 (block_size body.statements) (block_size body.statements) ++ End ∷ [];
+        depths = body_depths body;
+      } in
+      ap with_scope (scope_same body)
+
+  pub compiled_same : (bodies : List BodyTree) → compiled a bodies ≡ compiled b bodies
+  compiled_same [] = refl
+  compiled_same (x ∷ xs) = ap₂ (λ y ys. y ∷ ys) (compiled_body_same x) (compiled_same xs)
+
+-- so running the code over the tables with numbers of bodies prints what the text means
+pub built_prints :
+    (tables : SystemTables) (bodies : List BodyTree) (i : ImageTables) (n : ℕ) (es : List Event) →
+    (IsAccepted (built_tables bodies tables) bodies →
+    PrintsText (built_tables bodies tables) bodies (compiled (built_tables bodies tables) bodies) n es) →
+    IsAccepted tables bodies → i ≡ built_image tables bodies → PrintsText i.system bodies i.code n es
+built_prints tables bodies i n es run accepted is =
+    let built = built_tables bodies tables in
+    let same = names_kept bodies tables in
+    let prints = run (bodies_same built tables same [] bodies ∙ accepted) in
+    subst (λ (j : ImageTables). PrintsText j.system bodies j.code n es) (sym is)
+    (subst (λ (code : List BodyTables). PrintsText built bodies code n es) (compiled_same built tables same bodies) prints)

@@ -1,8 +1,0 @@
-use Rattle.fmp_image.proofs.ImageLaws.{one_image, no_front}
-use Rattle.fmp_image.proofs.laws.one_spelling.Goals as goal
-
-pub returns-clause-image : goal.returns-clause-image
-returns-clause-image c = one_image
-
-pub returns-clause-front : goal.returns-clause-front
-returns-clause-front c = no_front

@@ -1,0 +1,26 @@
+use Rattle.std.proofs.Common.{subst, sym, ◌∙◌, arith}
+use Rattle.std.proofs.lemmas.Result.{err_from_is_err_and}
+use Rattle.fmp_base.specs.Systems.{tables_of}
+use Rattle.fmp_instructions.specs.Instructions.{code_tables}
+use Rattle.fmp_image_parts.specs.Fields.{Fails}
+use Rattle.fmp_image_bytes.specs.Images.{ImageTables, image_tables}
+use Rattle.fmp_image_bytes.proofs.ImageLaws.{image_takes, image_again}
+use Rattle.fmp_image_bytes.proofs.loading.load.Goals as goal
+
+pub returns-in_err-system-clause-only : goal.returns-in_err-system-clause-only
+returns-in_err-system-clause-only c =
+    let p = err_from_is_err_and c.from_residual.result c.from_residual.ensures.1 in
+    λ i spells. rw (p.1, p.2) (subst (λ reading. Fails c.in_err-system.field-0.0 reading) (image_again c.args.bytes.now i spells) c.in_err-system.ensures)
+
+pub new-requires : goal.new-requires
+new-requires c =
+    let image : ImageTables = image_tables (tables_of c.in_ok-system.system) c.in_ok-system.heads.items (code_tables c.in_ok-system.code) in
+    (image_takes c.args.bytes.now image (λ i. omega (arith, c.type_inv.bytes i)) c.in_ok-system.ensures).lawful
+
+pub returns-clause-found : goal.returns-clause-found
+returns-clause-found c =
+    let image : ImageTables = image_tables (tables_of c.in_ok-system.system) c.in_ok-system.heads.items (code_tables c.in_ok-system.code) in
+    rw c.new.ensures (image_takes c.args.bytes.now image (λ i. omega (arith, c.type_inv.bytes i)) c.in_ok-system.ensures)
+
+pub returns-clause-only : goal.returns-clause-only
+returns-clause-only c = λ i spells. rw c.new.ensures (sym (image_again c.args.bytes.now i spells) ∙ c.in_ok-system.ensures)

@@ -1,0 +1,13 @@
+//! The bytes of images: a system and the code of its bodies, stored and loaded.
+#![tactic(auto)]
+
+pub mod image;
+mod laws;
+mod loading;
+mod storing;
+
+pub use fmp_image_parts::{BodyHead, BodyKind, ImageFault, LoadFault, fault, heads};
+pub use image::Image;
+pub use laws::one_spelling;
+pub use loading::load;
+pub use storing::store;

@@ -1,0 +1,110 @@
+//! Loading: the image that bytes spell, or their first fault.
+
+ghost use Rattle.std.specs.Prelude.{◌≡◌, [], IfOk, Ok};
+ghost use Rattle.fmp_base.specs.Systems.{tables_of};
+ghost use Rattle.fmp_instructions.specs.Instructions.{code_tables};
+ghost use Rattle.fmp_image_parts.specs.Fields.{Gives};
+ghost use Rattle.fmp_image_rows.specs.Rows.{frame_of};
+ghost use Rattle.fmp_image_bytes.specs.Images.{ImageTables, Spells, magic, is_magic, header, tables, tables_in, image_tables, image_at};
+
+use crate::image::Image;
+use fmp_base::System;
+use fmp_image_parts::fault::{ImageFault, LoadFault, TABLE};
+use fmp_image_parts::fields::{byte_at, bytes_at, in_range, short_at};
+use fmp_image_parts::keys::TakenKeys;
+use fmp_image_parts::{BodyHead, read_bodies};
+use fmp_image_rows::read_table;
+use fmp_instructions::Code;
+use std::alloc::Global;
+
+fn is_magic(bytes: &[u8]) -> bool
+    ensures { result ≡ is_magic bytes.now }
+{
+    bytes == b"FMPI".as_slice()
+}
+
+/// Reads the header, and gives the number of processors.
+fn read_header(bytes: &[u8]) -> Result<(u8, &[u8]), LoadFault>
+    ensures { Gives (λ x. ((magic, (1, x.0)), x.1.now)) result (header.read bytes.now) }
+{
+    let (magic, rest) = bytes_at(bytes, 4)?;
+    if !is_magic(magic) {
+        return Err(LoadFault::Image(ImageFault::Magic));
+    }
+    let (version, rest) = short_at(rest)?;
+    if version != 1 {
+        return Err(LoadFault::Image(ImageFault::Version));
+    }
+    let (processors, rest) = byte_at(rest)?;
+    if !in_range(1, 8, processors as u32) {
+        return Err(TABLE);
+    }
+    Ok((processors, rest))
+}
+
+/// Reads all tables of a system.
+fn read_tables<'a>(
+    alloc: Global,
+    processors: u8,
+    heads: &[BodyHead],
+    bytes: &'a [u8],
+) -> Result<(System, &'a [u8]), LoadFault>
+    ensures read { Gives (λ x. (tables_in (tables_of x.0), x.1.now)) result
+        ((tables (frame_of processors heads.now) []).read bytes.now) }
+    ensures numbers { IfOk result (λ x. (x.0.processors ≡ processors) × (x.0.queue_limit ≡ 1)) }
+{
+    let mut taken = TakenKeys::new(alloc);
+    let (tasks, rest) = read_table(alloc, processors, heads, &mut taken, bytes)?;
+    let (semaphores, rest) = read_table(alloc, processors, heads, &mut taken, rest)?;
+    let (flags, rest) = read_table(alloc, processors, heads, &mut taken, rest)?;
+    let (data_queues, rest) = read_table(alloc, processors, heads, &mut taken, rest)?;
+    let (mailboxes, rest) = read_table(alloc, processors, heads, &mut taken, rest)?;
+    let (messages, rest) = read_table(alloc, processors, heads, &mut taken, rest)?;
+    let (shared_words, rest) = read_table(alloc, processors, heads, &mut taken, rest)?;
+    let (spin_locks, rest) = read_table(alloc, processors, heads, &mut taken, rest)?;
+    let (cyclics, rest) = read_table(alloc, processors, heads, &mut taken, rest)?;
+    let (interrupts, rest) = read_table(alloc, processors, heads, &mut taken, rest)?;
+    let system = System {
+        processors,
+        queue_limit: 1,
+        tasks,
+        semaphores,
+        flags,
+        data_queues,
+        mailboxes,
+        messages,
+        shared_words,
+        spin_locks,
+        cyclics,
+        interrupts,
+    };
+    Ok((system, rest))
+}
+
+/// Reads what an image holds, from all of the bytes.
+#[tactic(auto, unfolding(crate::specs::Images::image_at))]
+fn read_image(alloc: Global, bytes: &[u8]) -> Result<(System, Code, Vec<BodyHead>), LoadFault>
+    ensures { Gives (λ x. image_tables (tables_of x.0) x.2.items (code_tables x.1)) result (image_at bytes.now) }
+{
+    let (processors, rest) = read_header(bytes)?;
+    let ((heads, bodies), rest) = read_bodies(alloc, rest)?;
+    let (system, rest) = read_tables(alloc, processors, &heads, rest)?;
+    if !rest.is_empty() {
+        return Err(LoadFault::Image(ImageFault::Trailing));
+    }
+    Ok((system, Code { bodies }, heads))
+}
+
+/// The image that the bytes spell, all of the bytes; else the first fault, in the order of the fields. The rules of a
+/// row are judged once all of its fields are there; of a body its code (L5) is judged before its other values (L4).
+pub fn load(alloc: Global, bytes: &[u8]) -> Result<Image, LoadFault>
+    // What is loaded is spelled so.
+    ensures found { IfOk result (λ image. Spells image bytes.now) }
+    // What spells an image is loaded, unless memory runs out.
+    ensures only { (image : ImageTables) → Spells image bytes.now → Gives (λ x. x) result (Ok image) }
+    // Which fault it is.
+    ensures exact { Gives (λ x. x) result (image_at bytes.now) }
+{
+    let (system, code, heads) = read_image(alloc, bytes)?;
+    Ok(Image::new(system, code, heads))
+}

@@ -1,0 +1,9 @@
+pub mod Bodies
+pub mod Conjunctions
+pub mod Fetching
+pub mod Filling
+pub mod Frames
+pub mod Operations
+pub mod Places
+pub mod Steps
+pub mod Tables

@@ -1,0 +1,5 @@
+pub mod Instructions
+pub mod Longer
+pub mod Machine
+pub mod Registers
+pub mod Verify

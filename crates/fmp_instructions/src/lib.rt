@@ -1,0 +1,17 @@
+//! The instructions of stack code, the verifier that says which code is fit to run, and the form in which the machine
+//! runs it.
+#![tactic(auto)]
+
+mod decoder;
+pub mod frame;
+pub mod instructions;
+pub mod operators;
+pub mod registers;
+pub mod source;
+pub mod table;
+pub mod verified;
+mod verifier;
+
+pub use instructions::{BodyCode, Code, Instruction, MachineContext};
+pub use operators::{apply_binary, apply_unary};
+pub use verifier::{is_fit, keeps_table, verify, verify_body};

@@ -1,4 +1,0 @@
-pub mod CallsMade
-pub mod OperandLists
-pub mod Requests
-pub mod Stops

@@ -1,5 +1,0 @@
-use Rattle.fmp_machine.proofs.Stops.{last-stops}
-use Rattle.fmp_machine.proofs.laws.last_instructions_stop.Goals as goal
-
-pub returns : goal.returns
-returns c = last-stops

@@ -1,9 +1,0 @@
-use Rattle.std.proofs.Common.{[], refl}
-use Rattle.fmp_code.specs.Machine.{code_stretch}
-use Rattle.fmp_code.specs.Longer.{exec-longer}
-use Rattle.fmp_machine.proofs.laws.stretches_stay_at_greater_bounds.Goals as goal
-
-pub returns : goal.returns
-returns c =
-    λ code context low high below ended.
-    exec-longer code low high below context.pc [] context.locals (code_stretch code low context) ended refl

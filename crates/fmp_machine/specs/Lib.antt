@@ -1,4 +1,0 @@
-pub mod Hands
-pub mod Laws
-pub mod Stretches
-pub mod Vms
