@@ -7,6 +7,7 @@ pub mod arguments;
 pub mod bodies;
 pub mod body;
 pub mod calls;
+pub mod catalogue;
 pub mod codes;
 pub mod counted;
 pub mod events;
@@ -25,6 +26,7 @@ pub mod ties;
 pub use bodies::{Fault, HandlerContext, HandlerStart, Held, Stretch};
 pub use body::Body;
 pub use calls::{Answer, Call, Reply};
+pub use catalogue::{Action, ObjectKind, Parameter};
 pub use codes::Er;
 pub use counted::{Counted, Steps};
 pub use events::{Effect, Event, Line, StateWord, TaskState};
@@ -32,7 +34,7 @@ pub use names::Name;
 pub use operators::{BinaryOperator, UnaryOperator};
 pub use permissions::Permission;
 pub use requests::Arguments;
-pub use services::Service;
+pub use services::{SERVICES, Service};
 pub use states::{
     Caller, FlagMode, Handler, Lock, Phase, Processor, TaskBlock, TimeLimit, WaitCause, WaitQueue,
 };
