@@ -234,6 +234,7 @@ impl Service {
     }
 
     /// Among the parameters the place of `&` and a variable, from 0, if the call has one.
+    #[inline]
     pub fn out_place(self) -> Option<u8>
         ensures { result ≡ out_place_of self }
     {
@@ -253,6 +254,7 @@ impl Service {
     }
 
     /// Whether the variable before `=` receives the value in place of E_OK: the count of what was cancelled.
+    #[inline]
     pub fn gives_count(self) -> bool
         ensures { result ≡ does_give_count self }
     {

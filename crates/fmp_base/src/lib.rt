@@ -1,6 +1,6 @@
-//! The words of the kernel: codes, service calls and their arguments, events, lines of the trace, the tables of a
-//! system, the records of its state, and the trait of the bodies that it runs. The definitions of what they mean stand
-//! in `specs/`.
+//! The words of the kernel: codes, service calls and their arguments, the words of both texts, events, lines of the
+//! trace, the tables of a system, the records of its state, and the trait of the bodies that it runs. The definitions
+//! of what they mean stand in `specs/`.
 #![tactic(auto)]
 
 pub mod arguments;
@@ -11,6 +11,7 @@ pub mod catalogue;
 pub mod codes;
 pub mod counted;
 pub mod events;
+mod initials;
 pub mod laws;
 pub mod names;
 pub mod operators;
@@ -22,6 +23,7 @@ pub mod stop;
 pub mod systems;
 pub mod tally;
 pub mod ties;
+pub mod words;
 
 pub use bodies::{Fault, HandlerContext, HandlerStart, Held, Stretch};
 pub use body::Body;

@@ -11,7 +11,7 @@ use Rattle.fmp_base.specs.declared.codes.Er.TheVariants as er
 use Rattle.fmp_base.specs.declared.names.Name.{Name}
 use Rattle.fmp_lex.specs.declared.fault.FaultKind.{FaultKind}
 use Rattle.fmp_lex.specs.declared.fault.FaultKind.TheVariants as fault
-use Rattle.fmp_lex.specs.declared.words.Api.{Api}
+use Rattle.fmp_base.specs.declared.words.Api.{Api}
 use Rattle.fmp_cfgparse.specs.declared.places.ClassPlace.{ClassPlace}
 use Rattle.fmp_cfgparse.specs.Apis.{Making, class_of, class_name, only_name, is_used, count_of, gives_name, attribute_fits, parameters_fit, is_taken, refusal, api_fault, with_object, with_name, made}
 use Rattle.fmp_cfgparse.specs.Configuring.{Offence, unless, walk_apis, walk_class, and_then, walk_classes, nothing_made, configured}

@@ -4,7 +4,7 @@ ghost use Rattle.fmp_base.specs.Systems.{tables_of};
 ghost use Rattle.fmp_cfgparse.specs.Apis as spec;
 ghost use Rattle.fmp_cfgparse.specs.Apis.{with_object};
 ghost use Rattle.fmp_cfgparse.specs.Trees.{field_view};
-ghost use Rattle.fmp_lex.specs.declared.words.Api.TheVariants as api;
+ghost use Rattle.fmp_base.specs.declared.words.Api.TheVariants as api;
 ghost use Rattle.fmp_cfgparse.specs.declared.places.ClassPlace.{ClassPlace};
 ghost use Rattle.fmp_cfgparse.specs.declared.objects.Stop.TheVariants.{Memory};
 

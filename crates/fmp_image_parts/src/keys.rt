@@ -3,12 +3,12 @@
 ghost use Rattle.std.specs.Prelude.{◌≡◌, ◌++◌, ◌∷◌, [], true, false, MatchOption, OnOk};
 ghost use Rattle.std.specs.List.{list_all};
 ghost use Rattle.fmp_base.specs.Names.{name_text, name_from};
-ghost use Rattle.fmp_lex.specs.Scanning.{is_letter, is_word};
+ghost use Rattle.fmp_base.specs.Words.{is_letter, is_word};
 ghost use Rattle.fmp_image_parts.specs.Keys.{begins_and_goes_on, is_reserved, is_name, key_input, same_key, is_taken};
 ghost use Rattle.fmp_image_parts.specs.KeyLaws.{are_alike, are_partly_alike, hashed_alike};
 
 use fmp_base::Name;
-use fmp_lex::words::{find_api, find_constant, find_keyword, find_service};
+use fmp_base::words::{find_api, find_constant, find_keyword, find_service};
 use indexmap::IndexSet;
 use std::alloc::AllocFailed;
 use std::hash::{Hash, Hasher};

@@ -4,7 +4,7 @@ use Rattle.fmp_base.specs.Services.{service_name}
 use Rattle.fmp_lex.specs.declared.token.Token.{Token}
 use Rattle.fmp_lex.specs.declared.token.TokenKind.{TokenKind}
 use Rattle.fmp_lex.specs.declared.token.TokenKind.TheVariants as kind
-use Rattle.fmp_lex.specs.Words.{constant_name, api_name, keyword_name}
+use Rattle.fmp_base.specs.Words.{constant_name, api_name, keyword_name}
 use Rattle.fmp_lex.specs.Cutting.{word_kind, Cuts}
 
 -- the bytes are the name of this word

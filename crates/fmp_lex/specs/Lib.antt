@@ -6,4 +6,3 @@ pub mod Packing
 pub mod Places
 pub mod Reading
 pub mod Scanning
-pub mod Words

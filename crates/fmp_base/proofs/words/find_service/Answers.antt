@@ -3,10 +3,10 @@ use Rattle.std.specs.Prelude.{slice_get}
 use Rattle.std.specs.Str.{bytes_eq}
 use Rattle.fmp_base.specs.Services.{service_name}
 use Rattle.fmp_base.specs.declared.services.Service.{Service}
-use Rattle.fmp_lex.specs.declared.words.TheConstants.{SERVICES}
-use Rattle.fmp_lex.specs.Words.{service_named}
-use Rattle.fmp_lex.proofs.FirstBytes.{named_from_first, no_first}
-use Rattle.fmp_lex.proofs.words.find_service.Goals as goal
+use Rattle.fmp_base.specs.declared.services.TheConstants.{SERVICES}
+use Rattle.fmp_base.specs.Words.{service_named}
+use Rattle.fmp_base.proofs.FirstBytes.{named_from_first, no_first}
+use Rattle.fmp_base.proofs.words.find_service.Goals as goal
 
 pub returns : goal.returns
 unfolding service_named

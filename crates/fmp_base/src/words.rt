@@ -2,10 +2,11 @@
 ghost use Rattle.std.specs.Prelude.{◌≡◌, find};
 ghost use Rattle.std.specs.Str.{bytes_eq};
 ghost use Rattle.fmp_base.specs.Services.{service_name};
-ghost use Rattle.fmp_lex.specs.Words.{constant_name, constant_value, api_name, keyword_name, constant_named, api_named, service_named, keyword_named};
+ghost use Rattle.fmp_base.specs.Words.{constant_name, constant_value, api_name, keyword_name, constant_named, api_named, service_named, keyword_named};
 
+use crate::codes::Er;
 use crate::initials::{apis_from, constants_from, keywords_from, services_from};
-use fmp_base::{Er, Service};
+use crate::services::Service;
 
 /// A constant of the uITRON 4.0 specification that may stand in both texts.
 #[derive(Clone, Copy, PartialEq, Eq)]
@@ -126,68 +127,6 @@ pub const KEYWORDS: [Keyword; 12] = [
     Keyword::Break,
     Keyword::Continue,
     Keyword::Return,
-];
-
-/// The service calls, in order of their function codes.
-pub const SERVICES: [Service; 58] = [
-    Service::Put,
-    Service::LdShr,
-    Service::StShr,
-    Service::ActTsk,
-    Service::CanAct,
-    Service::ExtTsk,
-    Service::TerTsk,
-    Service::ChgPri,
-    Service::GetPri,
-    Service::MactTsk,
-    Service::MigTsk,
-    Service::SlpTsk,
-    Service::TslpTsk,
-    Service::WupTsk,
-    Service::CanWup,
-    Service::RelWai,
-    Service::SusTsk,
-    Service::RsmTsk,
-    Service::DlyTsk,
-    Service::SigSem,
-    Service::WaiSem,
-    Service::PolSem,
-    Service::TwaiSem,
-    Service::SetFlg,
-    Service::ClrFlg,
-    Service::WaiFlg,
-    Service::PolFlg,
-    Service::TwaiFlg,
-    Service::SndDtq,
-    Service::PsndDtq,
-    Service::TsndDtq,
-    Service::FsndDtq,
-    Service::RcvDtq,
-    Service::PrcvDtq,
-    Service::TrcvDtq,
-    Service::SndMbx,
-    Service::RcvMbx,
-    Service::PrcvMbx,
-    Service::TrcvMbx,
-    Service::StaCyc,
-    Service::StpCyc,
-    Service::RotRdq,
-    Service::GetTid,
-    Service::LocCpu,
-    Service::UnlCpu,
-    Service::DisDsp,
-    Service::EnaDsp,
-    Service::LocSpn,
-    Service::TrySpn,
-    Service::UnlSpn,
-    Service::IactTsk,
-    Service::IwupTsk,
-    Service::IrelWai,
-    Service::IsigSem,
-    Service::IsetFlg,
-    Service::IpsndDtq,
-    Service::IfsndDtq,
-    Service::IrotRdq,
 ];
 
 impl Constant {

@@ -1,11 +1,11 @@
 use Rattle.std.proofs.Common.{rules, ◌≡◌, List, Option, Some, None, find, ap, ◌∙◌, refl}
 use Rattle.std.specs.Prelude.{slice_get}
 use Rattle.std.specs.Str.{bytes_eq}
-use Rattle.fmp_lex.specs.declared.words.Constant.{Constant}
-use Rattle.fmp_lex.specs.declared.words.TheConstants.{CONSTANTS}
-use Rattle.fmp_lex.specs.Words.{constant_name, constant_named}
-use Rattle.fmp_lex.proofs.FirstBytes.{named_from_first, no_first}
-use Rattle.fmp_lex.proofs.words.find_constant.Goals as goal
+use Rattle.fmp_base.specs.declared.words.Constant.{Constant}
+use Rattle.fmp_base.specs.declared.words.TheConstants.{CONSTANTS}
+use Rattle.fmp_base.specs.Words.{constant_name, constant_named}
+use Rattle.fmp_base.proofs.FirstBytes.{named_from_first, no_first}
+use Rattle.fmp_base.proofs.words.find_constant.Goals as goal
 
 pub returns : goal.returns
 unfolding constant_named

@@ -5,7 +5,7 @@ use Rattle.std.specs.List.{filter}
 use Rattle.std.specs.Str.{bytes_eq}
 use Rattle.std.proofs.lemmas.Slice.Eq.{bytes_eq-Decides}
 use Rattle.std.proofs.lemmas.Bool.Decides.{nat_tests}
-use Rattle.fmp_lex.specs.Words.{begins_with}
+use Rattle.fmp_base.specs.Words.{begins_with}
 
 nat_eq-same : (b : ℕ) → nat_eq b b ≡ true
 nat_eq-same b = grind (arith, nat_tests)

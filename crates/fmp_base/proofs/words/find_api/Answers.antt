@@ -1,11 +1,11 @@
 use Rattle.std.proofs.Common.{rules, ◌≡◌, List, Option, Some, None, find, ap, ◌∙◌, refl}
 use Rattle.std.specs.Prelude.{slice_get}
 use Rattle.std.specs.Str.{bytes_eq}
-use Rattle.fmp_lex.specs.declared.words.Api.{Api}
-use Rattle.fmp_lex.specs.declared.words.TheConstants.{APIS}
-use Rattle.fmp_lex.specs.Words.{api_name, api_named}
-use Rattle.fmp_lex.proofs.FirstBytes.{named_from_first, no_first}
-use Rattle.fmp_lex.proofs.words.find_api.Goals as goal
+use Rattle.fmp_base.specs.declared.words.Api.{Api}
+use Rattle.fmp_base.specs.declared.words.TheConstants.{APIS}
+use Rattle.fmp_base.specs.Words.{api_name, api_named}
+use Rattle.fmp_base.proofs.FirstBytes.{named_from_first, no_first}
+use Rattle.fmp_base.proofs.words.find_api.Goals as goal
 
 pub returns : goal.returns
 unfolding api_named

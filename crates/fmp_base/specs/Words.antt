@@ -1,16 +1,29 @@
--- The words of both texts: constants, API names, service names and keywords.
-use Rattle.std.specs.Prelude.{ℤ, pos, negsuc, ℕ, Bool, false, nat_eq, List, [], ◌∷◌, Option, codes, find}
+-- The words of both texts: constants, API names, service names and keywords; and the bytes that words and names are made of.
+use Rattle.std.specs.Prelude.{ℤ, pos, negsuc, ℕ, Bool, false, ◌==◌, ◌&&◌, ◌||◌, nat_eq, nat_le, List, [], ◌∷◌, Option, codes, find}
 use Rattle.std.specs.Str.{bytes_eq}
 use Rattle.fmp_base.specs.declared.services.Service.{Service}
 use Rattle.fmp_base.specs.Codes.{code_of, code_name}
 use Rattle.fmp_base.specs.Services.{service_name}
-use Rattle.fmp_lex.specs.declared.words.Constant.{Constant}
-use Rattle.fmp_lex.specs.declared.words.Constant.TheVariants as constant
-use Rattle.fmp_lex.specs.declared.words.Api.{Api}
-use Rattle.fmp_lex.specs.declared.words.Api.TheVariants as api
-use Rattle.fmp_lex.specs.declared.words.Keyword.{Keyword}
-use Rattle.fmp_lex.specs.declared.words.Keyword.TheVariants as keyword
-use Rattle.fmp_lex.specs.declared.words.TheConstants.{CONSTANTS, APIS, SERVICES, KEYWORDS}
+use Rattle.fmp_base.specs.declared.words.Constant.{Constant}
+use Rattle.fmp_base.specs.declared.words.Constant.TheVariants as constant
+use Rattle.fmp_base.specs.declared.words.Api.{Api}
+use Rattle.fmp_base.specs.declared.words.Api.TheVariants as api
+use Rattle.fmp_base.specs.declared.words.Keyword.{Keyword}
+use Rattle.fmp_base.specs.declared.words.Keyword.TheVariants as keyword
+use Rattle.fmp_base.specs.declared.words.TheConstants.{CONSTANTS, APIS, KEYWORDS}
+use Rattle.fmp_base.specs.declared.services.TheConstants.{SERVICES}
+
+-- `0` to `9`
+abbrev pub is_digit : ℕ → Bool
+is_digit b = nat_le 48 b && nat_le b 57
+
+-- `A` to `Z`, `a` to `z`, `_`
+abbrev pub is_letter : ℕ → Bool
+is_letter b = (nat_le 65 b && nat_le b 90) || (nat_le 97 b && nat_le b 122) || (b == 95)
+
+-- a byte of a name behind its first one
+abbrev pub is_word : ℕ → Bool
+is_word b = is_letter b || is_digit b
 
 -- the number that a constant stands for: `negsuc n` is the number -(n + 1)
 abbrev pub constant_value : Constant → ℤ

@@ -2,11 +2,12 @@
 ghost use Rattle.std.specs.Prelude.{◌≡◌};
 ghost use Rattle.std.specs.List.{filter};
 ghost use Rattle.fmp_base.specs.Services.{service_name};
-ghost use Rattle.fmp_lex.specs.Words.{begins_with, constant_name, api_name, keyword_name};
-ghost use Rattle.fmp_lex.specs.declared.words.TheConstants.{CONSTANTS, APIS, SERVICES, KEYWORDS};
+ghost use Rattle.fmp_base.specs.Words.{begins_with, constant_name, api_name, keyword_name};
+ghost use Rattle.fmp_base.specs.declared.words.TheConstants.{CONSTANTS, APIS, KEYWORDS};
+ghost use Rattle.fmp_base.specs.declared.services.TheConstants.{SERVICES};
 
+use crate::services::Service;
 use crate::words::{APIS, Api, CONSTANTS, Constant, Keyword};
-use fmp_base::Service;
 
 /// The constants whose names begin with a byte: the error codes, or the others.
 pub(crate) fn constants_from(initial: u8) -> &'static [Constant]

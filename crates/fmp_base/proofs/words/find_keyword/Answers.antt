@@ -1,11 +1,11 @@
 use Rattle.std.proofs.Common.{rules, ◌≡◌, List, Option, Some, None, find, ap, ◌∙◌, refl}
 use Rattle.std.specs.Prelude.{slice_get}
 use Rattle.std.specs.Str.{bytes_eq}
-use Rattle.fmp_lex.specs.declared.words.Keyword.{Keyword}
-use Rattle.fmp_lex.specs.declared.words.TheConstants.{KEYWORDS}
-use Rattle.fmp_lex.specs.Words.{keyword_name, keyword_named}
-use Rattle.fmp_lex.proofs.FirstBytes.{named_from_first, no_first}
-use Rattle.fmp_lex.proofs.words.find_keyword.Goals as goal
+use Rattle.fmp_base.specs.declared.words.Keyword.{Keyword}
+use Rattle.fmp_base.specs.declared.words.TheConstants.{KEYWORDS}
+use Rattle.fmp_base.specs.Words.{keyword_name, keyword_named}
+use Rattle.fmp_base.proofs.FirstBytes.{named_from_first, no_first}
+use Rattle.fmp_base.proofs.words.find_keyword.Goals as goal
 
 pub returns : goal.returns
 unfolding keyword_named
