@@ -29,7 +29,9 @@ fn is_local(locals: u8, local: Option<u8>) -> bool
 fn has_places(locals: u8, service: Service, out: Option<u8>, receiver: Option<u8>) -> bool
     ensures { result ≡ places_fit locals service out receiver }
 {
-    service.out_place().is_some() == out.is_some() && is_local(locals, out) && is_local(locals, receiver)
+    service.out_place().is_some() == out.is_some()
+        && is_local(locals, out)
+        && is_local(locals, receiver)
 }
 
 /// Whether a body's code may have an instruction at a place before which so many operands stand: it finds its operands
