@@ -1,6 +1,6 @@
 """What each service call may answer a task and a handler: what random systems should have shown."""
 
-from services import FOR_ALL, FOR_HANDLERS, STOPPING_CALLS, UNDER_CPU_LOCK, WAITING_CALLS
+from model.services import FOR_ALL, FOR_HANDLERS, STOPPING_CALLS, UNDER_CPU_LOCK, WAITING_CALLS
 
 # The codes of each call, beside E_CTX.
 CODES = {

@@ -8,7 +8,7 @@ from collections import Counter
 from dataclasses import dataclass, field
 from enum import Enum, IntEnum, auto
 
-from bodies import Context
+from model.bodies import Context
 
 GREATEST_TIME = 1 << 30
 LEAST_URGENT = 16

@@ -1,7 +1,7 @@
 #!/usr/bin/env python3
 """Tries the program at every limit of its languages, its calls and its commands, and one past it.
 
-    checks/limits.py [--program PATH]
+    checks/program/limits.py [--program PATH]
 
 checks the texts of limit_texts.py, runs the systems of limit_runs.py and gives the command line numbers at the ends of
 their ranges. Every expected answer stands there, worked out by hand from the rules.
@@ -17,11 +17,12 @@ import tempfile
 import time
 from pathlib import Path
 
-sys.dont_write_bytecode = True  # the folder of the checks stays as it is
+sys.dont_write_bytecode = True  # the folders of the checks stay as they are
+sys.path[0] = str(Path(__file__).resolve().parents[1])  # the folder `checks`, whose folders are packages
 
-from limit_runs import all_runs, all_steps, BOUNDS  # noqa: E402
-from limit_texts import all_texts  # noqa: E402
-from program import PROGRAM, Program  # noqa: E402
+from common.program import PROGRAM, Program  # noqa: E402
+from program.limit_runs import all_runs, all_steps, BOUNDS  # noqa: E402
+from program.limit_texts import all_texts  # noqa: E402
 
 SHOWN = 400  # bytes of a text that are printed
 

@@ -1,7 +1,7 @@
 #!/usr/bin/env python3
 """Compares what the program makes of changed images with a reader of images that shares nothing with it.
 
-    checks/images.py [--program PATH] [--seed SEED] [--samples COUNT] [--least]
+    checks/images/images.py [--program PATH] [--seed SEED] [--samples COUNT] [--least]
 
 takes two images: that of the smallest system of one task, and one with a row in each table, whose fields stand at
 their limits. Each is cut to every length, gets one byte more, and has every byte set to every value; then come COUNT
@@ -29,14 +29,15 @@ from functools import partial
 from itertools import islice
 from pathlib import Path
 
-sys.dont_write_bytecode = True  # the folder of the checks stays as it is
+sys.dont_write_bytecode = True  # the folders of the checks stay as they are
+sys.path[0] = str(Path(__file__).resolve().parents[1])  # the folder `checks`, whose folders are packages
 
-from image_format import Fault, read, spell  # noqa: E402
-from image_limits import all_limits  # noqa: E402
-from image_runs import lone_task_lines, setup_lines, started_tasks, state_lines, text  # noqa: E402
-from image_samples import FILLED, FILLED_CONFIGURATION, FILLED_SOURCE, ONE_TASK  # noqa: E402
-from image_samples import ONE_TASK_CONFIGURATION, ONE_TASK_SOURCE  # noqa: E402
-from program import PROGRAM, Program  # noqa: E402
+from common.program import PROGRAM, Program  # noqa: E402
+from images.image_format import Fault, read, spell  # noqa: E402
+from images.image_limits import all_limits  # noqa: E402
+from images.image_runs import lone_task_lines, setup_lines, started_tasks, state_lines, text  # noqa: E402
+from images.image_samples import FILLED, FILLED_CONFIGURATION, FILLED_SOURCE, ONE_TASK  # noqa: E402
+from images.image_samples import ONE_TASK_CONFIGURATION, ONE_TASK_SOURCE  # noqa: E402
 
 PROCESSES = 2
 BATCH, AT_ONCE = 500, 20  # images that a process is given, and those that it runs at once

@@ -2,9 +2,9 @@
 
 from collections import Counter
 
-from bodies import Call, Stop, stretch
-from services import ENDS, WAITS, LockIsHeld, Refused, Services
-from world import FREE, Code, Handler, Reply, State, World
+from model.bodies import Call, Stop, stretch
+from model.services import ENDS, WAITS, LockIsHeld, Refused, Services
+from model.world import FREE, Code, Handler, Reply, State, World
 
 
 class Kernel:

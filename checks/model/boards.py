@@ -1,7 +1,7 @@
 #!/usr/bin/env python3
 """Has threads share boards by tickets, and plays what came out again.
 
-    checks/boards.py [COUNT] [SEED] [--program PATH] [--stress PATH]
+    checks/model/boards.py [COUNT] [SEED] [--program PATH] [--stress PATH]
 
 makes COUNT systems (300), one from each seed from SEED (1) on, of one to eight processors, and has `fmp_stress` host
 each of them by 1 to 64 seats, of which up to three follow the row while others take tickets, feed events and meet; the
@@ -29,11 +29,12 @@ from collections import Counter
 from dataclasses import dataclass
 from pathlib import Path
 
-sys.dont_write_bytecode = True  # the folder of the checks stays as it is
+sys.dont_write_bytecode = True  # the folders of the checks stay as they are
+sys.path[0] = str(Path(__file__).resolve().parents[1])  # the folder `checks`, whose folders are packages
 
-from compare import BOUND, PROGRAM  # noqa: E402
-from host import PROCESSORS, Wrong, build, expect_same, replayed, run  # noqa: E402
-from systems import Generator  # noqa: E402
+from model.compare import BOUND, PROGRAM  # noqa: E402
+from model.host import PROCESSORS, Wrong, build, expect_same, replayed, run  # noqa: E402
+from model.systems import Generator  # noqa: E402
 
 STRESS = PROGRAM.parents[2] / "fmp_stress/out/fmp_stress"
 

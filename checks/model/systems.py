@@ -3,8 +3,8 @@
 import random
 from dataclasses import dataclass
 
-from bodies import LOCALS, Assignment, Body, Call, Endless, Return, Statement
-from world import (
+from model.bodies import LOCALS, Assignment, Body, Call, Endless, Return, Statement
+from model.world import (
     GREATEST_TIME, CyclicHandler, DataQueue, EventFlag, InterruptHandler, Mailbox, Semaphore, System, Task, WaitQueue,
 )
 

@@ -1,7 +1,7 @@
 #!/usr/bin/env python3
 """Compares what `fmp_view fault` prints of faulty texts, and of texts with warnings, with what is written here.
 
-    checks/faults.py [PROGRAM]
+    checks/program/faults.py [PROGRAM]
 
 PROGRAM is crates/fmp_view/out/fmp_view where it is not given. Line, column, width and sentence of each row were worked
 out by hand from docs/LANGUAGE.md, never taken from the program. In a row `[N times: PIECE]` stands for so many pieces,
@@ -14,7 +14,7 @@ import sys
 import tempfile
 from pathlib import Path
 
-ROOT = Path(__file__).resolve().parent.parent
+ROOT = Path(__file__).resolve().parents[2]
 REPEAT = re.compile(r"\[(\d+) times: (.*?)\]", re.S)
 
 BODIES = "task m { } handler h { } task deep { put(1 + 2); }"
@@ -256,7 +256,7 @@ def main():
                 failed += 1
                 print(f"FAILED: {cfg[:200]!r} {src[:200]!r}: status {done.returncode}, {done.stderr.decode()}\n"
                       f"{printed[:600]}wanted:\n{wanted[:600]}")
-    print(f"checks/faults.py: {compared} texts compared, {failed} differ")
+    print(f"checks/program/faults.py: {compared} texts compared, {failed} differ")
     return 1 if failed else 0
 
 

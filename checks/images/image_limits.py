@@ -3,7 +3,7 @@
 Each has a name that says what it is. What it must answer is for image_format.py to say.
 """
 
-from image_format import ARGUMENT_COUNTS, LAYOUTS, NO_LOCAL, WORDS, spell
+from images.image_format import ARGUMENT_COUNTS, LAYOUTS, NO_LOCAL, WORDS, spell
 
 ENDING = (9, 0, 0)
 LEAST_ROWS = {

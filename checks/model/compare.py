@@ -1,7 +1,7 @@
 #!/usr/bin/env python3
 """Compares the program with a model of the kernel on random systems.
 
-    checks/compare.py [COUNT] [SEED] [--program PATH]
+    checks/model/compare.py [COUNT] [SEED] [--program PATH]
 
 makes COUNT systems (2000), one from each seed from SEED (1) on: a configuration of one to eight processors, the
 bodies of its tasks and handlers and a list of events. The program builds and runs each. Its whole trace and the
@@ -24,13 +24,14 @@ from collections import Counter
 from itertools import zip_longest
 from pathlib import Path
 
-sys.dont_write_bytecode = True  # the folder of the checks stays as it is
+sys.dont_write_bytecode = True  # the folders of the checks stay as they are
+sys.path[0] = str(Path(__file__).resolve().parents[1])  # the folder `checks`, whose folders are packages
 
-from model import Kernel  # noqa: E402
-from replies import CASES, SITUATIONS  # noqa: E402
-from systems import Generator  # noqa: E402
+from model.kernel import Kernel  # noqa: E402
+from model.replies import CASES, SITUATIONS  # noqa: E402
+from model.systems import Generator  # noqa: E402
 
-ROOT = Path(__file__).resolve().parent.parent
+ROOT = Path(__file__).resolve().parents[2]
 PROGRAM = ROOT / "crates" / "fmp" / "out" / "fmp"
 BOUND = 10000  # enough for every stretch of a random body that comes to a call
 

@@ -3,18 +3,18 @@
 # error and the files that it leaves, each to the byte. What is expected is written out here, worked out by hand from the
 # rules and the traces of the examples, never taken from the program.
 #
-#   checks/view.sh [PROGRAM [FMP]]
+#   checks/program/view.sh [PROGRAM [FMP]]
 #
 # PROGRAM is crates/fmp_view/out/fmp_view and FMP is crates/fmp/out/fmp where they are not given.
 set -u
-root=$(cd "$(dirname "$0")/.." && pwd)
+root=$(cd "$(dirname "$0")/../.." && pwd)
 view=${1:-$root/crates/fmp_view/out/fmp_view}
 fmp=${2:-$root/crates/fmp/out/fmp}
 case $view in /*) ;; *) view=$PWD/$view ;; esac
 case $fmp in /*) ;; *) fmp=$PWD/$fmp ;; esac
 for program in "$view" "$fmp"; do
     if [ ! -x "$program" ]; then
-        echo "checks/view.sh: there is no program $program" >&2
+        echo "checks/program/view.sh: there is no program $program" >&2
         exit 2
     fi
 done
@@ -671,5 +671,5 @@ for seed in 1 2 3 4 5 6 7 8; do
     done
 done
 
-echo "checks/view.sh: $passed passed, $failed failed"
+echo "checks/program/view.sh: $passed passed, $failed failed"
 [ $failed -eq 0 ]

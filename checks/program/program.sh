@@ -3,15 +3,15 @@
 # that it leaves, each to the byte. What is expected is written out here, or counted by the rules, never taken from the
 # program.
 #
-#   checks/program.sh [PROGRAM]
+#   checks/program/program.sh [PROGRAM]
 #
 # PROGRAM is crates/fmp/out/fmp where it is not given, as `rt ci` or `rt run` leaves it.
 set -u
-root=$(cd "$(dirname "$0")/.." && pwd)
+root=$(cd "$(dirname "$0")/../.." && pwd)
 fmp=${1:-$root/crates/fmp/out/fmp}
 case $fmp in /*) ;; *) fmp=$PWD/$fmp ;; esac
 if [ ! -x "$fmp" ]; then
-    echo "checks/program.sh: there is no program $fmp" >&2
+    echo "checks/program/program.sh: there is no program $fmp" >&2
     exit 2
 fi
 room=$(mktemp -d)
@@ -388,5 +388,5 @@ run '2^20 turns that do nothing' 0 none none host empty.img long.journal --turns
 same 'a journal of no events' none long.journal
 says 'one tick more' 1 'host: H4' host empty.img long.journal --turns 1048576 --ticks 1
 
-echo "checks/program.sh: $passed passed, $failed failed"
+echo "checks/program/program.sh: $passed passed, $failed failed"
 [ $failed -eq 0 ]

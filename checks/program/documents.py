@@ -1,7 +1,7 @@
 #!/usr/bin/env python3
 """Checks each code block of the documents against the proved program.
 
-    checks/documents.py [PROGRAM]
+    checks/program/documents.py [PROGRAM]
 
 PROGRAM is crates/fmp/out/fmp where it is not given, as `rt ci` or `rt run` leaves it. The first word behind the fence
 says what a block is, and how it is checked:
@@ -31,7 +31,7 @@ import sys
 import tempfile
 from pathlib import Path
 
-ROOT = Path(__file__).resolve().parent.parent
+ROOT = Path(__file__).resolve().parents[2]
 DOCUMENTS = ("README.md", "examples/README.md", "docs/LANGUAGE.md", "docs/LIBRARY.md")
 FENCE = re.compile(r"^```(\w*) *(.*)$")
 REPEAT = re.compile(r"\[(\d+) times: (.*?)\]")
@@ -185,7 +185,7 @@ class Checker:
         for line, name in named(self.document, r"\w+(::\w+)?"):
             self.verdict(line, f"the name {name}", True, name.split("::")[-1] in there)
         self.document = "docs/MAP.md"
-        folders = ["*", "checks/*", "bench/*", "docs/*", "examples/*"]
+        folders = ["*", "checks/**/*", "bench/*", "docs/*", "examples/*"]
         folders += ["crates/*/src/**/*", "crates/*/specs/*", "crates/*/proofs/*"]
         there = {path.name for folder in folders for path in ROOT.glob(folder)}
         for line, name in named(self.document, r"[\w./]+\.(rt|antt|py|sh|md)"):
@@ -335,7 +335,7 @@ class Checker:
 def main():
     program = Path(sys.argv[1] if len(sys.argv) > 1 else ROOT / "crates/fmp/out/fmp").resolve()
     if not os.access(program, os.X_OK):
-        sys.exit(f"checks/documents.py: there is no program {program}")
+        sys.exit(f"checks/program/documents.py: there is no program {program}")
     with tempfile.TemporaryDirectory() as room:
         checker = Checker(Program(program, Path(room)))
         for document in DOCUMENTS:
@@ -347,7 +347,7 @@ def main():
     checker.crates()
     checker.size()
     checker.verdict(0, f"at least {FAULTY_TEXTS} faulty texts", True, len(checker.faults) >= FAULTY_TEXTS)
-    print(f"checks/documents.py: {checker.passed} passed, {checker.failed} failed")
+    print(f"checks/program/documents.py: {checker.passed} passed, {checker.failed} failed")
     sys.exit(1 if checker.failed else 0)
 
 

@@ -3,7 +3,7 @@
 The first is given by its bytes, the second by its tables and its code, both worked out by hand from the rules.
 """
 
-from image_format import spell
+from images.image_format import spell
 
 ONE_TASK_CONFIGURATION = "NUM_PRC(1); CLASS(TCL_1) { CRE_TSK(T1,{TA_ACT,0,main,10,256,NULL}); }"
 ONE_TASK_SOURCE = "task main { put(7); }"

@@ -6,7 +6,7 @@ left when a call is refused is what stood before: every test comes before the fi
 
 from functools import partial
 
-from world import (
+from model.world import (
     ALL_BITS, ANY_BIT, CPU, FREE, GREATEST_PATTERN, GREATEST_TIME, LEAST_URGENT, Code, Handler, Reply, State, Wait,
 )
 

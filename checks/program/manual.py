@@ -2,7 +2,7 @@
 """Makes the manual page and the completions of shells from the command line's own description, and tells whether those
 that stand in docs/ are these.
 
-    checks/manual.py [--write] [--of NAME] [PROGRAM]
+    checks/program/manual.py [--write] [--of NAME] [PROGRAM]
 
 NAME is fmp, or fmp_view. PROGRAM is crates/NAME/out/NAME where it is not given, as `rt ci` or `rt run` leaves it. With
 `--write` the files are written: after each change of the command line or of its help. Without it they are compared, the
@@ -19,7 +19,7 @@ import tempfile
 from dataclasses import dataclass, field
 from pathlib import Path
 
-ROOT = Path(__file__).resolve().parent.parent
+ROOT = Path(__file__).resolve().parents[2]
 PROGRAMS = {"fmp": "PROGRAM", "fmp_view": "VIEW"}  # with the word of the Makefile for each
 SECTIONS = ("Commands", "Arguments", "Options")
 
@@ -170,7 +170,7 @@ def bash(manual):
     valued = "|".join(it.names()[-1] for options in manual.options().values() for it in options if it.takes())
     first = " ".join([*manual.commands, "help", *(it for item in manual.top.items["Options"] for it in item.names())])
     return "\n".join([
-        f"# Completion of {manual.name} for bash. Made by checks/manual.py from the program's help.",
+        f"# Completion of {manual.name} for bash. Made by checks/program/manual.py from the program's help.",
         f"_{manual.name}() {{",
         '    local word=${COMP_WORDS[COMP_CWORD]} before=${COMP_WORDS[COMP_CWORD-1]} words=""',
         "    COMPREPLY=()",
@@ -201,7 +201,7 @@ def zsh(manual):
         return quoted(text.replace("[", "\\[").replace("]", "\\]").replace(":", "\\:"))
 
     name = manual.name
-    lines = [f"#compdef {name}", f"# Completion of {name} for zsh. Made by checks/manual.py from the program's help."]
+    lines = [f"#compdef {name}", f"# Completion of {name} for zsh. Made by checks/program/manual.py from the program's help."]
     lines += [f"_{name}() {{", "    local -a commands", "    commands=("]
     lines += [f"        '{name}:{named(command.about)}'" for name, command in manual.commands.items()]
     lines += ["    )", "    if (( CURRENT == 2 )); then", "        _describe command commands", "        return"]
@@ -225,7 +225,7 @@ def fish(manual):
         value = " -x" if item.takes() else ""
         return f"complete -c {manual.name} -n '{condition}' {' '.join(words)}{value} -d '{quoted(item.text)}'"
 
-    lines = [f"# Completion of {manual.name} for fish. Made by checks/manual.py from the program's help."]
+    lines = [f"# Completion of {manual.name} for fish. Made by checks/program/manual.py from the program's help."]
     for name, command in manual.commands.items():
         lines.append(f"complete -c {manual.name} -f -n __fish_use_subcommand -a {name} -d '{quoted(command.about)}'")
     lines += [one("__fish_use_subcommand", item) for item in manual.top.items["Options"]]
@@ -288,7 +288,7 @@ def main():
     name = options.of
     program = (options.program or ROOT / f"crates/{name}/out/{name}").resolve()
     if not os.access(program, os.X_OK):
-        sys.exit(f"checks/manual.py: there is no program {program}")
+        sys.exit(f"checks/program/manual.py: there is no program {program}")
     manual, verdicts = described(name, program), Verdicts()
     verdicts.verdict("the help tells its commands", len(manual.commands) > 2)
     for file, make in files(name).items():
@@ -297,10 +297,10 @@ def main():
             path.parent.mkdir(exist_ok=True)
             path.write_text(text)
         stands = path.exists() and path.read_text() == text
-        verdicts.verdict(f"docs/{file} is not what the help tells: checks/manual.py --write makes it", stands)
+        verdicts.verdict(f"docs/{file} is not what the help tells: checks/program/manual.py --write makes it", stands)
     check_completion(verdicts, manual)
     check_install(verdicts, name, program)
-    print(f"checks/manual.py: {verdicts.passed} passed, {verdicts.failed} failed")
+    print(f"checks/program/manual.py: {verdicts.passed} passed, {verdicts.failed} failed")
     sys.exit(1 if verdicts.failed else 0)
 
 

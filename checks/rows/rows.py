@@ -2,7 +2,7 @@
 """Tries the program on the rows of its texts, images, steps and runs: the worked systems with what they print, each fault
 of the texts, and what is changed in images.
 
-    checks/rows.py [PROGRAM]
+    checks/rows/rows.py [PROGRAM]
 
 PROGRAM is crates/fmp/out/fmp where it is not given, as `rt ci` or `rt run` leaves it. The rows stand in row_texts.py,
 row_images.py and row_runs.py, and every expected answer is worked out by hand from the rules.
@@ -14,14 +14,15 @@ import sys
 import tempfile
 from pathlib import Path
 
-sys.dont_write_bytecode = True  # the folder of the checks stays as it is
+sys.dont_write_bytecode = True  # the folders of the checks stay as they are
+sys.path[0] = str(Path(__file__).resolve().parents[1])  # the folder `checks`, whose folders are packages
 
-from image_samples import ONE_TASK  # noqa: E402
-from program import PROGRAM, Program  # noqa: E402
-from row_images import JUMP, LOOP, LOOP_SETUP, OUT_OF_BODY, changed  # noqa: E402
-from row_images import faulty_steps, loaded_images, refused_images, sized  # noqa: E402
-from row_runs import ONE, SETUP, all_runs, all_values, runs  # noqa: E402
-from row_texts import all_texts  # noqa: E402
+from common.program import PROGRAM, Program  # noqa: E402
+from images.image_samples import ONE_TASK  # noqa: E402
+from rows.row_images import JUMP, LOOP, LOOP_SETUP, OUT_OF_BODY, changed  # noqa: E402
+from rows.row_images import faulty_steps, loaded_images, refused_images, sized  # noqa: E402
+from rows.row_runs import ONE, SETUP, all_runs, all_values, runs  # noqa: E402
+from rows.row_texts import all_texts  # noqa: E402
 
 SHOWN = 400  # characters of a name or an answer that are printed
 
@@ -91,7 +92,7 @@ def values(program):
 def main():
     path = Path(sys.argv[1] if len(sys.argv) > 1 else PROGRAM).resolve()
     if not path.is_file():
-        print(f"checks/rows.py: there is no program {path}", file=sys.stderr)
+        print(f"checks/rows/rows.py: there is no program {path}", file=sys.stderr)
         return 2
     passed = failed = 0
     with tempfile.TemporaryDirectory(prefix="fmp-rows-") as folder:
@@ -103,7 +104,7 @@ def main():
                 else:
                     failed += 1
                     print(f"FAILED: {shown(name)}\n  expected {shown(expected)}\n  answered {shown(answer)}")
-    print(f"checks/rows.py: {passed} passed, {failed} failed")
+    print(f"checks/rows/rows.py: {passed} passed, {failed} failed")
     return 1 if failed else 0
 
 

@@ -3,7 +3,7 @@
 trace has as many events as there are steps; and a drive that stops before so many events are done stops where no
 processor goes on, so that to run any of them once more does nothing.
 
-    checks/drives.py [COUNT [SEED]] [--view PATH] [--program PATH]
+    checks/model/drives.py [COUNT [SEED]] [--view PATH] [--program PATH]
 """
 
 import argparse
@@ -13,11 +13,12 @@ import sys
 import tempfile
 from pathlib import Path
 
-sys.dont_write_bytecode = True  # the folder of the checks stays as it is
+sys.dont_write_bytecode = True  # the folders of the checks stay as they are
+sys.path[0] = str(Path(__file__).resolve().parents[1])  # the folder `checks`, whose folders are packages
 
-from systems import Generator  # noqa: E402
+from model.systems import Generator  # noqa: E402
 
-ROOT = Path(__file__).resolve().parent.parent
+ROOT = Path(__file__).resolve().parents[2]
 PROGRAM = ROOT / "crates" / "fmp" / "out" / "fmp"
 VIEW = ROOT / "crates" / "fmp_view" / "out" / "fmp_view"
 BOUND = 10000  # enough for every stretch of a random body that comes to a call
@@ -86,7 +87,7 @@ def main():
     options = parser.parse_args()
     options.view, options.program = options.view.resolve(), options.program.resolve()
     folder = Path(tempfile.mkdtemp(prefix="fmp-drives-"))
-    print(f"checks/drives.py: {drive(options, folder)} drives of {options.count} systems are right")
+    print(f"checks/model/drives.py: {drive(options, folder)} drives of {options.count} systems are right")
     shutil.rmtree(folder)
 
 

@@ -2,15 +2,15 @@
 # Runs each example on the proved program: its texts are accepted, its image is built, and its run prints the trace that
 # stands beside it, to the byte. Each trace was worked out by hand from the rules.
 #
-#   checks/examples.sh [PROGRAM]
+#   checks/program/examples.sh [PROGRAM]
 #
 # PROGRAM is crates/fmp/out/fmp where it is not given, as `rt ci` or `rt run` leaves it.
 set -u
-root=$(cd "$(dirname "$0")/.." && pwd)
+root=$(cd "$(dirname "$0")/../.." && pwd)
 fmp=${1:-$root/crates/fmp/out/fmp}
 case $fmp in /*) ;; *) fmp=$PWD/$fmp ;; esac
 if [ ! -x "$fmp" ]; then
-    echo "checks/examples.sh: there is no program $fmp" >&2
+    echo "checks/program/examples.sh: there is no program $fmp" >&2
     exit 2
 fi
 room=$(mktemp -d)
@@ -63,5 +63,5 @@ for trace in *.trace; do
     esac
 done
 
-echo "checks/examples.sh: $passed passed, $failed failed"
+echo "checks/program/examples.sh: $passed passed, $failed failed"
 [ $failed -eq 0 ]

@@ -1,7 +1,7 @@
 #!/usr/bin/env python3
 """Runs systems by threads, a thread for each processor, and plays what came out again.
 
-    checks/host.py [COUNT] [SEED] [--program PATH]
+    checks/model/host.py [COUNT] [SEED] [--program PATH]
 
 makes COUNT systems (300), one from each seed from SEED (1) on, of one to eight processors, and has `fmp host` run each
 of them. Of the journal that it writes it must hold that:
@@ -26,11 +26,12 @@ import time
 from collections import Counter
 from pathlib import Path
 
-sys.dont_write_bytecode = True  # the folder of the checks stays as it is
+sys.dont_write_bytecode = True  # the folders of the checks stay as they are
+sys.path[0] = str(Path(__file__).resolve().parents[1])  # the folder `checks`, whose folders are packages
 
-from compare import BOUND, PROGRAM, first_difference  # noqa: E402
-from model import Kernel  # noqa: E402
-from systems import Generator  # noqa: E402
+from model.compare import BOUND, PROGRAM, first_difference  # noqa: E402
+from model.kernel import Kernel  # noqa: E402
+from model.systems import Generator  # noqa: E402
 
 LONG_TURNS = 100_000
 LONG_SECONDS = 60

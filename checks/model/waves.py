@@ -3,7 +3,7 @@
 that the model's state gives it. GTKWave's converters, where they are there, must take each dump, those of the examples,
 and one of 255 tasks over 10,000 events with nothing on standard error.
 
-    checks/waves.py [COUNT [SEED]] [--view PATH] [--program PATH]
+    checks/model/waves.py [COUNT [SEED]] [--view PATH] [--program PATH]
 """
 
 import argparse
@@ -13,13 +13,14 @@ import sys
 import tempfile
 from pathlib import Path
 
-sys.dont_write_bytecode = True  # the folder of the checks stays as it is
+sys.dont_write_bytecode = True  # the folders of the checks stay as they are
+sys.path[0] = str(Path(__file__).resolve().parents[1])  # the folder `checks`, whose folders are packages
 
-from model import Kernel  # noqa: E402
-from systems import Generator  # noqa: E402
-from world import CPU, FREE, CyclicHandler, State  # noqa: E402
+from model.kernel import Kernel  # noqa: E402
+from model.systems import Generator  # noqa: E402
+from model.world import CPU, FREE, CyclicHandler, State  # noqa: E402
 
-ROOT = Path(__file__).resolve().parent.parent
+ROOT = Path(__file__).resolve().parents[2]
 EXAMPLES = ROOT / "examples"
 PROGRAM = ROOT / "crates" / "fmp" / "out" / "fmp"
 VIEW = ROOT / "crates" / "fmp_view" / "out" / "fmp_view"
@@ -264,7 +265,7 @@ def main():
             sys.exit(f"seed {seed}: {problem}; the texts are in {folder}")
         events += count
     there = [name for name in CONVERTERS if shutil.which(name)]
-    print(f"checks/waves.py: the dumps of {options.count} systems, {events} events, are those of the model")
+    print(f"checks/model/waves.py: the dumps of {options.count} systems, {events} events, are those of the model")
     print(f"silent over these, the examples and 255 tasks: {', '.join(there) or 'no converter is there'}")
     shutil.rmtree(folder)
 

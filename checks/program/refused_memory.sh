@@ -6,12 +6,12 @@
 # counts the allocations of longer and longer runs: events take none, so only the growth of the text that is read is
 # seen.
 #
-#   checks/refused_memory.sh
+#   checks/program/refused_memory.sh
 #
 # It wants a C compiler and the GNU C library, and the program and the tests as `rt run` and `rt test` leave them in
 # crates/fmp/out and crates/fmp_host_tests/out.
 set -euo pipefail
-root=$(cd "$(dirname "$0")/.." && pwd)
+root=$(cd "$(dirname "$0")/../.." && pwd)
 fmp=$root/crates/fmp/out/fmp
 [ -x "$fmp" ] || (cd "$root/crates/fmp" && rt run > /dev/null)
 tests=$root/crates/fmp_host_tests/out/fmp_host_tests_tests
@@ -19,7 +19,7 @@ tests=$root/crates/fmp_host_tests/out/fmp_host_tests_tests
 room=$(mktemp -d)
 trap 'rm -rf "$room"' EXIT
 cd "$room"
-"${CC:-cc}" -O1 -shared -fPIC -o refuse.so "$root/checks/refuse_memory.c"
+"${CC:-cc}" -O1 -shared -fPIC -o refuse.so "$root/checks/program/refuse_memory.c"
 
 cat > system.cfg <<'TEXT'
 NUM_PRC(1);
