@@ -107,7 +107,7 @@ pub fn command<'a>(alloc: Global, words: &'a [&'a str]) -> Result<Cmd, Error>
 }
 
 /// The status that the program ends with after an error of the command line: 2 for a mistake, 0 where help or the
-/// version was asked for, and 3 for want of memory.
+/// version was asked for, and 3 if memory runs out.
 pub fn status_of(error: &Error) -> u8
     ensures memory { kind_of error.now ≡ ErrorKind.OutOfMemory → result ≡ 3 }
     ensures shown { (kind_of error.now ≡ ErrorKind.DisplayHelp)

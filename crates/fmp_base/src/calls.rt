@@ -277,7 +277,7 @@ pub enum Answer {
     Waits,
     /// The caller has ended.
     Ends,
-    /// The caller goes on asking for a spin lock that is held: nothing has happened.
+    /// The caller spins for a spin lock that is held: nothing has happened.
     Spins,
 }
 

@@ -66,7 +66,7 @@ pub fn body_number(entry: Entry) -> u8
 }
 
 impl<C: Copy> BodyContexts<C> {
-    /// Nothing kept yet, of so many tasks and processors. `AllocError` for want of memory.
+    /// Nothing kept yet, of so many tasks and processors. `AllocError` if memory runs out.
     pub fn new(alloc: Global, tasks: usize, processors: usize) -> Result<Self, AllocError>
         ensures { IfOk result
             (λ cs. cs ≡ record { tasks = replicate tasks None; handlers = replicate processors None }) }

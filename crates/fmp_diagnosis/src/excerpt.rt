@@ -181,8 +181,8 @@ fn marks(
     Ok(line)
 }
 
-/// The line of a text that holds the token from `at` up to `end`, with marks under the token. `AllocError` for want of
-/// memory.
+/// The line of a text that holds the token from `at` up to `end`, with marks under the token. `AllocError` if memory
+/// runs out.
 pub fn excerpt_at(alloc: Global, text: &[u8], at: usize, end: usize) -> Result<Excerpt, AllocError>
     requires { at ≤ length text.now }
     ensures { IfOk result (IsExcerpt text.now at end) }

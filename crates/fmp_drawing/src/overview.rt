@@ -153,7 +153,7 @@ fn put_strip_head(bins: &Bins, processor: u8, y: u32, out: &mut Canvas) {
     out.raw("/>\n");
 }
 
-/// The strip of a processor. `AllocError` for want of memory.
+/// The strip of a processor. `AllocError` if memory runs out.
 fn put_strip(
     scene: &Scene<'_>,
     bins: &Bins,
@@ -235,7 +235,7 @@ fn put_frames(scene: &Scene<'_>, bins: &Bins, ends: (u32, u32), out: &mut Canvas
     }
 }
 
-/// The overview from this height on, if there is one: the height below it. `AllocError` for want of memory.
+/// The overview from this height on, if there is one: the height below it. `AllocError` if memory runs out.
 pub fn put_overview(scene: &Scene<'_>, top: u32, out: &mut Canvas) -> Result<u32, AllocError> {
     if !scene.has_overview() {
         return Ok(top);

@@ -16,7 +16,7 @@ pub struct Scene<'a> {
 }
 
 impl<'a> Scene<'a> {
-    /// The scene of a run. `AllocError` for want of memory.
+    /// The scene of a run. `AllocError` if memory runs out.
     pub fn new(
         alloc: Global,
         sys: &'a System,

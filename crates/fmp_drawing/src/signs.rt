@@ -296,7 +296,7 @@ fn put_all_ticks(span: &Span, row: &Row, marks: &[Mark], out: &mut Canvas) {
     put_ticks(span, row, marks, "mk", out);
 }
 
-/// The marks of a lane. `AllocError` for want of memory.
+/// The marks of a lane. `AllocError` if memory runs out.
 pub fn put_marks(
     scene: &Scene<'_>,
     span: &Span,

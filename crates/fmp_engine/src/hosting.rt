@@ -37,11 +37,11 @@ pub struct Workload {
 /// Why a host writes and prints nothing.
 #[derive(Clone, Copy, Debug, PartialEq, Eq, Error)]
 pub enum HostFault {
-    /// The bytes spell no image. It is never want of memory.
+    /// The bytes spell no image. It is never out of memory.
     #[error("{0}")]
     Load(LoadFault),
-    /// The turns and ticks are no events or more than a board has room for, or a thread was refused. It is never want
-    /// of memory.
+    /// The turns and ticks are no events or more than a board has room for, or a thread was refused. It is never out of
+    /// memory.
     #[error("host: {0}")]
     Board(BoardFault),
     /// Memory ran out.

@@ -232,8 +232,8 @@ pub fn play_into<B: Body + Drop, E: Events, T: Outlet>(
     give_run(alloc, sys, body, n, events, &mut text, &mut states, outlet)
 }
 
-/// Runs a system over events within n units a stretch, and appends all that it prints. Want of memory is the only
-/// error; then nothing is appended.
+/// Runs a system over events within n units a stretch, and appends all that it prints. Running out of memory is the
+/// only error; then nothing is appended.
 pub fn play<B: Body + Drop, E: Events>(
     alloc: Global,
     sys: &System,

@@ -112,7 +112,7 @@ impl<'a, 'b, S: Site> Follower<'a, 'b, S> {
 
     /// A follower of a board from a seat of it that was given no event yet. The lines of setup are appended.
     ///
-    /// `AllocError` for want of memory; then nothing has been appended.
+    /// `AllocError` if memory runs out; then nothing has been appended.
     pub fn new(
         alloc: Global,
         board: &'b Board<'a, S>,

@@ -208,7 +208,7 @@ fn value_of(frame: &Frame, variable: Variable) -> u64
     }
 }
 
-/// The values of these variables in a frame, in order. `AllocError` for want of memory.
+/// The values of these variables in a frame, in order. `AllocError` if memory runs out.
 pub fn values_of(
     alloc: Global,
     frame: &Frame,

@@ -202,7 +202,7 @@ fn run_threads<B: Feed + Sync, G: Gate, R: Threads + Wait + Sync>(
 /// showed it. The answer is how many events were journaled by this call: by so much their own counts have risen
 /// together.
 ///
-/// `BoardFault::Limit`, exactly where the seats are not so many; `BoardFault::Memory`, for want of memory, before any
+/// `BoardFault::Limit`, exactly where the seats are not so many; `BoardFault::Memory`, if memory runs out, before any
 /// thread is started; `BoardFault::Thread` where a thread was refused: then no more are started, those that run are
 /// joined, and the seat of the refused one is lost. Else, where threads stopped at a fault, `BoardFault::Full` or
 /// `BoardFault::Held` (the gate said no 10,000 times), it is that of the least processor, or at last of the ticks. What

@@ -77,7 +77,7 @@ pub fn text_at(bytes: &[u8]) -> Result<(&[u8], &[u8]), LoadFault>
     bytes_at(rest, length as usize)
 }
 
-/// Appends a byte. `AllocError` for want of memory.
+/// Appends a byte. `AllocError` if memory runs out.
 pub fn put_byte(out: &mut Vec<u8>, number: u8) -> Result<(), AllocError>
     ensures { OnOk result (out.new.items ≡ out.old.items ++ byte.spell number) }
 {
@@ -85,7 +85,7 @@ pub fn put_byte(out: &mut Vec<u8>, number: u8) -> Result<(), AllocError>
     Ok(())
 }
 
-/// Appends a number of 16 bits in two bytes. `AllocError` for want of memory.
+/// Appends a number of 16 bits in two bytes. `AllocError` if memory runs out.
 pub fn put_short(out: &mut Vec<u8>, number: u16) -> Result<(), AllocError>
     ensures { OnOk result (out.new.items ≡ out.old.items ++ short.spell number) }
 {
@@ -94,7 +94,7 @@ pub fn put_short(out: &mut Vec<u8>, number: u16) -> Result<(), AllocError>
     out.extend_from_slice(&field)
 }
 
-/// Appends a number of 32 bits in four bytes. `AllocError` for want of memory.
+/// Appends a number of 32 bits in four bytes. `AllocError` if memory runs out.
 pub fn put_long(out: &mut Vec<u8>, number: u32) -> Result<(), AllocError>
     ensures { OnOk result (out.new.items ≡ out.old.items ++ long.spell number) }
 {
@@ -103,7 +103,7 @@ pub fn put_long(out: &mut Vec<u8>, number: u32) -> Result<(), AllocError>
     out.extend_from_slice(&field)
 }
 
-/// Appends a signed number of 32 bits in four bytes. `AllocError` for want of memory.
+/// Appends a signed number of 32 bits in four bytes. `AllocError` if memory runs out.
 pub fn put_word(out: &mut Vec<u8>, number: i32) -> Result<(), AllocError>
     ensures { OnOk result (out.new.items ≡ out.old.items ++ word.spell number) }
 {
@@ -112,7 +112,7 @@ pub fn put_word(out: &mut Vec<u8>, number: i32) -> Result<(), AllocError>
     out.extend_from_slice(&field)
 }
 
-/// Appends a text of at most 255 bytes behind its length. `AllocError` for want of memory.
+/// Appends a text of at most 255 bytes behind its length. `AllocError` if memory runs out.
 pub fn put_text(out: &mut Vec<u8>, bytes: &[u8]) -> Result<(), AllocError>
     requires { length bytes.now < 256 }
     ensures { OnOk result (out.new.items ≡ out.old.items ++ text.spell bytes.now) }

@@ -101,7 +101,7 @@ impl EmptyRow {
     ghost use Rattle.fmp_journal.specs.Seats.{new_scribe, AreNew};
 
     /// A row of so many words, at least one, with its scribe and so many seats, numbered from 0. All the memory that it
-    /// ever takes is taken here. `AllocError` for want of memory.
+    /// ever takes is taken here. `AllocError` if memory runs out.
     #[tactic(auto, using(crate::proofs::Rows::all_here))]
     pub fn new(alloc: Global, capacity: u32, seats: u8) -> Result<EmptyRow, AllocError>
         requires { 0 < capacity }

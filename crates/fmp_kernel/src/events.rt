@@ -56,7 +56,7 @@ impl<B: Body> Runner<B> {
         self.finish(own);
     }
 
-    /// The actor of processor p makes a call, and its context awaits the reply. Where it asks for a held spin lock it
+    /// The actor of processor p makes a call, and its context awaits the reply. Where it spins for a held spin lock it
     /// has done nothing, and goes on from the context from which it came to the call.
     fn make_call(&mut self, p: u8, who: Caller, made: &Call, first: &B::Ctx) -> Effect
         requires there { p < self.old.system.processors }

@@ -60,7 +60,7 @@ impl<B: Body> Model for Kernel<B> {
 impl<B: Body + Drop> Kernel<B> {
     /// A kernel after setup (uITRON 4.0, section 3.7): all objects are made, the tasks with TA_ACT are started, in
     /// order of number, and all processors settle. A stretch of a body takes at most n units, 1 to 2^48; a longer one
-    /// does nothing. `KernelFault::Memory` for want of memory: no call after this one takes any.
+    /// does nothing. `KernelFault::Memory` if memory runs out: no call after this one takes any.
     pub fn new(alloc: Global, body: B, sys: &System, n: u64) -> Result<Self, KernelFault>
         requires low { 1 ≤ n }
         requires high { n ≤ 2 ^ 48 }

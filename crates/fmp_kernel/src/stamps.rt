@@ -77,7 +77,7 @@ fn actors(alloc: Global, tables: &Tables) -> Result<Vec<Option<Caller>>, AllocEr
 }
 
 impl Stamps {
-    /// Stamps 0 of the processors, with the actors that they have. `AllocError` for want of memory.
+    /// Stamps 0 of the processors, with the actors that they have. `AllocError` if memory runs out.
     pub fn new(alloc: Global, tables: &Tables) -> Result<Stamps, AllocError>
         ensures counts { IfOk result (λ s. s.counts ≡ replicate tables.now.system.processors 0) }
         ensures actors { IfOk result (λ s. AreActors s.actors tables.now.system.processors tables.now.state) }

@@ -118,7 +118,7 @@ fn first_slot(words: &[u64], from: usize) -> Option<usize>
 }
 
 impl PendingHandlers {
-    /// The handlers of a system, none of them pending. `AllocError` for want of memory.
+    /// The handlers of a system, none of them pending. `AllocError` if memory runs out.
     pub fn new(alloc: Global, sys: &System) -> Result<PendingHandlers, AllocError>
         requires { IsInRange (tables_of sys.now) }
         ensures { IfOk result (λ h. h ≡ none_pending (tables_of sys.now)) }

@@ -24,7 +24,7 @@ impl Model for Words {
 }
 
 impl Words {
-    /// No word. `AllocError` for want of memory.
+    /// No word. `AllocError` if memory runs out.
     pub fn new(alloc: Global) -> Result<Words, AllocError>
         ensures { IfOk result (λ w. w ≡ []) }
     {

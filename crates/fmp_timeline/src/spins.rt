@@ -71,7 +71,7 @@ fn ends(spin: &Spin, moment: &Moment<'_>) -> bool {
 }
 
 impl Spins {
-    /// None so far, on so many processors. `AllocError` for want of memory, as of each call below.
+    /// None so far, on so many processors. `AllocError` if memory runs out, as of each call below.
     pub fn new(alloc: Global, processors: usize) -> Result<Spins, AllocError> {
         Ok(Spins {
             ended: Vec::new(alloc),

@@ -17,7 +17,7 @@ use fmp_kernel::{Body, Kernel};
 use fmp_trace::print_steps;
 use std::alloc::{AllocError, Global};
 
-/// Want of memory, as a fault.
+/// Out of memory, as a fault.
 pub fn made<T>(outcome: Result<T, AllocError>) -> Result<T, SimFault> {
     match outcome {
         Ok(x) => Ok(x),

@@ -30,7 +30,7 @@ pub fn events_of(alloc: Global, text: &[u8], processors: u8) -> Result<Vec<Event
     }
 }
 
-/// The kernel of an image after setup, on which nothing is done yet. `AllocError` for want of memory.
+/// The kernel of an image after setup, on which nothing is done yet. `AllocError` if memory runs out.
 #[tactic(none)]
 pub fn fresh_kernel<'a>(
     alloc: Global,

@@ -31,7 +31,7 @@ fn note(turns: &mut Vec<IdleTurn>, event: u32, e: Event) -> Result<(), AllocErro
 }
 
 /// The turns that do nothing in a run of a kernel over events, in order; of equal ones in succession the first.
-/// `AllocError` for want of memory.
+/// `AllocError` if memory runs out.
 pub fn idle_turns<B: Body>(
     alloc: Global,
     kernel: &mut Kernel<B>,

@@ -94,7 +94,7 @@ pub fn suspended_task_runs_on()
     ensures { SuspendedTaskRunsOn }
 {}
 
-/// A task that asks for a held spin lock does nothing until the lock is free.
+/// A task that spins for a held spin lock does nothing until the lock is free.
 pub fn spinning_does_nothing()
     ensures { SpinningDoesNothing }
 {}
