@@ -41,7 +41,7 @@ pub enum Cmd {
         bound: u64,
     },
     /// Run an image by threads, one for each of its processors, and write what happened to the file `journal`, as a
-    /// steps text. Each processor has so many `turns` and the clock so many `ticks`, each 0 to 2^20. `bound`, 1 to
+    /// steps text. Each processor has `turns` turns and the clock has `ticks` ticks, each 0 to 2^20. `bound`, 1 to
     /// 2^48, limits how many instructions a body takes between two service calls.
     Host {
         image: String,

@@ -53,7 +53,7 @@ task_at tasks t =
     })
     (slice_get tasks t)
 
--- the clock at which a time of so many ticks that begins now has passed
+-- the clock when a time of n ticks that begins now has passed
 abbrev pub clock_after : KernelState → ℕ → ℕ
 clock_after s ticks = s.clock + ticks + 1
 

@@ -52,7 +52,7 @@ impl<'a> Model for Blank<'a> {
         × IsRoom b.row b.capacity b.seats × (b.room.items ≡ []) × (b.row.capacity ≤ vec_capacity b.room) };
 }
 
-/// The kernel of an image after setup, for whoever runs an image without a board. A stretch of a body takes at most n
+/// The kernel of an image after setup, for running an image without a board. A stretch of a body takes at most n
 /// instructions, 1 to 2^48. `AllocError` if memory runs out: no call of the kernel takes any.
 pub fn kernel_of<'a>(alloc: Global, image: &'a Image, n: u64) -> Result<Kernel<Vm<'a>>, AllocError>
     requires low { 1 ≤ n }

@@ -44,7 +44,7 @@ impl<C: Copy> Model for BodyContexts<C> {
     ghost view = { λ a. record { tasks = a.tasks.items; handlers = a.handlers.items } };
 }
 
-/// So many places, with nothing kept.
+/// This many places, with nothing kept.
 fn empty_places<A>(alloc: Global, count: usize) -> Result<Vec<Option<A>>, AllocError>
     ensures { IfOk result (λ v. v.items ≡ replicate count None) }
 {
@@ -66,7 +66,7 @@ pub fn body_number(entry: Entry) -> u8
 }
 
 impl<C: Copy> BodyContexts<C> {
-    /// Nothing kept yet, of so many tasks and processors. `AllocError` if memory runs out.
+    /// Nothing kept yet, for this many tasks and processors. `AllocError` if memory runs out.
     pub fn new(alloc: Global, tasks: usize, processors: usize) -> Result<Self, AllocError>
         ensures { IfOk result
             (λ cs. cs ≡ record { tasks = replicate tasks None; handlers = replicate processors None }) }

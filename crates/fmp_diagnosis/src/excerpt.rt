@@ -128,7 +128,7 @@ fn append_blanks(bytes: &[u8], out: &mut Vec<u8>) -> Result<(), AllocError>
     Ok(())
 }
 
-/// Appends so many carets.
+/// Appends this many carets.
 fn append_carets(count: usize, out: &mut Vec<u8>) -> Result<(), AllocError>
     ensures { OnOk result (out.new.items ≡ out.old.items ++ replicate count 94) }
 {

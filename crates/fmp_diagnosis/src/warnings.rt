@@ -17,7 +17,7 @@ use fmp_base::{Name, Service};
 use fmp_lex::{Api, Constant, Keyword, Symbol, TokenKind, Tokens};
 use std::alloc::{AllocError, Global};
 
-/// Of so many calls and arguments is warned at most.
+/// The maximum number of warnings about calls and arguments.
 const CALLS: u32 = 100;
 
 /// A call that is walked over.

@@ -22,7 +22,7 @@ struct Bins {
     wide: u32,
 }
 
-/// So many of so many parts of a number.
+/// A number times a fraction.
 fn part(number: u32, count: u32, of: u32) -> u32 {
     let whole = u64::from(number).saturating_mul(u64::from(count));
     let part = whole.checked_div(u64::from(of)).unwrap_or(0);

@@ -104,7 +104,8 @@ pub fn fit_right(
     (!(x - need).is_below(least)).then_some(x)
 }
 
-/// How many letters of a name, at least so many, fit with three dots into this width; none where not even these do.
+/// How many letters of a name, at least the given number, fit with three dots into this width; none if not even these
+/// do.
 pub fn letters_that_fit(name: &[u8], least: usize, size: Tenths, room: Tenths) -> Option<usize> {
     let dots = width("…".as_bytes(), size);
     for count in (least..name.len()).rev() {

@@ -20,7 +20,7 @@ use fmp_kernel::Kernel;
 use fmp_trace::{Page, print, print_states};
 use std::alloc::{AllocError, Global};
 
-/// A text of so many bytes is a piece that the outlet is given.
+/// A text of this many bytes is a piece that the outlet is given.
 const PIECE: usize = 65_536;
 
 /// Room for a piece, for the lines of one more event and for those of the states at the end.

@@ -29,7 +29,7 @@ fn tally_at(tallies: &[Tally], task: usize) -> Tally
     }
 }
 
-/// The counts of so many tasks after an event that told these lines. `AllocError` if memory runs out.
+/// The counts of this many tasks after an event that told these lines. `AllocError` if memory runs out.
 fn all_counted(
     alloc: Global,
     count: usize,

@@ -66,7 +66,7 @@ fn put_body(out: &mut Vec<u8>, head: &BodyHead, body: &BodyCode) -> Result<(), A
     Ok(())
 }
 
-/// How many operands stand before each of so many instructions.
+/// How many operands stand before each of this many instructions.
 fn read_depths(alloc: Global, size: u16, bytes: &[u8]) -> Result<Vec<u8>, LoadFault>
     requires { 6 * size ≤ length bytes.now }
     ensures read { IfOk result (λ depths. AreDepths size bytes.now depths.items) }

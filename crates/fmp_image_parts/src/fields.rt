@@ -59,7 +59,7 @@ pub fn word_at(bytes: &[u8]) -> Result<(i32, &[u8]), LoadFault>
     Ok((LittleEndian::read_i32(bytes), &bytes[4..]))
 }
 
-/// So many bytes, and those behind them. `LoadFault::Image` where they are fewer.
+/// This many bytes, and those behind them. `LoadFault::Image` if there are fewer.
 pub fn bytes_at(bytes: &[u8], size: usize) -> Result<(&[u8], &[u8]), LoadFault>
     ensures { Gives (λ x. (x.0.now, x.1.now)) result (bytes_at size bytes.now) }
 {

@@ -60,7 +60,7 @@ pub trait Row: Copy {
         ensures { OnOk result (out.new.items ≡ out.old.items ++ spelled self.now) };
 }
 
-/// Reads so many rows, and enters their keys among those that are taken. The faults are those of a row,
+/// Reads this many rows, and enters their keys among those that are taken. The faults are those of a row,
 /// `ImageFault::Table` for a key that is taken, and `LoadFault::Memory` if memory runs out.
 pub fn read_rows<'a, R: Row>(
     alloc: Global,
@@ -89,7 +89,7 @@ pub fn read_rows<'a, R: Row>(
     Ok((rows, rest))
 }
 
-/// Reads a table: a count, and so many rows. Enters the keys of its rows among those that are taken. The faults are
+/// Reads a table: a count, and that many rows. Enters the keys of its rows among those that are taken. The faults are
 /// those of `read_rows`, and `ImageFault::Short` where there is no count.
 pub fn read_table<'a, R: Row>(
     alloc: Global,

@@ -28,7 +28,7 @@ looked_at l word found = record { reads = l.reads + 1; word = word; found = foun
 abbrev pub no_look : Look
 no_look = record { reads = 0; word = 0; found = 0 }
 
--- the pen of an empty row, of whose seats so many are made
+-- the pen of an empty row that has made this many of its seats
 abbrev pub new_pen : (capacity seats made : ℕ) → Pen
 new_pen capacity seats made = record { capacity = capacity; seats = seats; made = made; journal = []; marks = [] }
 

@@ -85,7 +85,7 @@ impl Write for Writer {
     }
 }
 
-/// Whether reading under a limit gives these bytes in so many calls, or ends with a fault at the call that fails.
+/// Whether reading under a limit gives these bytes in this many calls, or ends with a fault at the call that fails.
 fn reads_or_fails(
     alloc: Global,
     limit: Option<usize>,

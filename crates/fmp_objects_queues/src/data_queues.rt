@@ -117,7 +117,7 @@ pub fn tsnd_dtq(
     }
 }
 
-/// `ipsnd_dtq`, and what `psnd_dtq` does whoever calls it (uITRON 4.0, section 4.4.3): as `snd_dtq` with a poll, but
+/// `ipsnd_dtq`, and what `psnd_dtq` does for every caller (uITRON 4.0, section 4.4.3): as `snd_dtq` with a poll, but
 /// with no caller. E_ID where the number names no data queue, then E_TMOUT where no task waits to receive and there is
 /// no room; nothing changes then.
 pub fn psnd_dtq(tables: &mut Tables, lines: &mut Vec<Line>, queue: i32, word: i32) -> Answer

@@ -91,14 +91,14 @@ fn cyclic_processors(alloc: Global, configs: &[CyclicConfig]) -> Result<Vec<u8>,
     Ok(processors)
 }
 
-/// So many marks that are not set.
+/// This many marks, none of them set.
 fn clear_marks(alloc: Global, count: usize) -> Result<Vec<bool>, AllocError>
     ensures { IfOk result (λ v. v.items ≡ replicate count false) }
 {
     vec![in alloc; false; count]
 }
 
-/// So many words in which no bit is set.
+/// This many words in which no bit is set.
 fn clear_words(alloc: Global, count: usize) -> Result<Vec<u64>, AllocError>
     ensures { IfOk result (λ v. v.items ≡ replicate count 0) }
 {

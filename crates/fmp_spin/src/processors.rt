@@ -69,7 +69,7 @@ fn holds_any(table: &[Processor], l: u8) -> bool
 }
 
 impl Processors {
-    /// So many processors, all idle. Running out of memory is the only error.
+    /// This many processors, all idle. Running out of memory is the only error.
     pub fn new(alloc: Global, count: u8) -> Result<Self, AllocError>
         ensures { IfOk result (λ xs. xs ≡ replicate count idle_processor) }
     {

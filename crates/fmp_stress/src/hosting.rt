@@ -60,7 +60,7 @@ fn push_team<S: Site>(
     });
 }
 
-/// Gives a seat to its team: the first ones follow, each by itself, and the others call, so many in a team.
+/// Gives a seat to its team: the first ones follow, each by itself, and the others call, a fixed number in a team.
 fn seat_in<S: Site>(alloc: Global, teams: &mut Vec<Team<S>>, place: Place<S>, plan: &Plan) {
     let number = place.number();
     if number < plan.followers {

@@ -50,7 +50,7 @@ impl Canvas {
         width(&self.bytes, size)
     }
 
-    /// Keeps the first bytes, so many.
+    /// Keeps only this many bytes, the first.
     pub fn shorten(&mut self, count: usize) {
         self.bytes.truncate(count);
     }

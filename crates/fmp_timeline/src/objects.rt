@@ -178,7 +178,7 @@ impl Objects {
         Ok(())
     }
 
-    /// The objects of a system, or none where they are not wanted. `AllocError` if memory runs out.
+    /// The objects of a system, or none if they are not asked for. `AllocError` if memory runs out.
     pub fn new(alloc: Global, sys: &System, wanted: bool) -> Result<Objects, AllocError> {
         let waits = vec![in alloc; None; sys.tasks.len()]?;
         let mut objects = Objects {

@@ -66,7 +66,7 @@ fn place_of(caller: Caller) -> usize {
     }
 }
 
-/// Appends so many tracks with no states.
+/// Appends this many tracks with no states.
 fn add_tracks<S: Copy + PartialEq + Drop>(
     alloc: Global,
     count: usize,

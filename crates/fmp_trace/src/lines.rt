@@ -373,8 +373,8 @@ fn append_lines(
     append_line(&bytes, end, out)
 }
 
-/// Appends the lines of the event of this number, each ended by a line feed. Where memory runs out, the
-/// text stays as it was; it never does where the text has room for so many lines.
+/// Appends the lines of the event of this number, each ended by a line feed. Where memory runs out, the text stays as
+/// it was; it never does if the text has room for that many lines.
 pub fn print(sys: &System, number: u32, lines: &[Line], out: &mut Vec<u8>) -> Result<(), AllocError>
     ensures ok { OnOk result (out.new.items ≡ out.old.items ++ lines_text (tables_of sys.now) number lines.now) }
     ensures err { OnErr result (out.new.items ≡ out.old.items) }

@@ -16,7 +16,7 @@ pub const ROOM: usize = 1024;
 /// The bytes of a line. Those behind its end mean nothing.
 pub type LineBytes = [u8; ROOM];
 
-/// So many bytes are copied at once where a line is no longer.
+/// The number of bytes that are copied at once if a line is no longer.
 const SHORT: usize = 96;
 
 /// A text of any length.
@@ -42,7 +42,7 @@ pub fn append_array<const N: usize>(text: [u8; N], line: &mut LineBytes, end: us
     end + N
 }
 
-/// The first bytes of an array. All are copied, since so many bytes as are known are copied without a call.
+/// The first bytes of an array. All are copied, since a number of bytes that is known is copied without a call.
 #[inline(always)]
 pub fn append_front<const N: usize>(
     bytes: &[u8; N],

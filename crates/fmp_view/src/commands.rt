@@ -39,7 +39,7 @@ pub fn code(alloc: Global, word: &str) -> Result<Option<Vec<u8>>, AllocError> {
 #[derive(Clone, Copy)]
 pub struct Ending {
     pub stop: Stop,
-    /// What the next run of each processor comes to, by places from 0.
+    /// How the next run of each processor ends, by places from 0.
     pub next: [NextRun; 8],
     /// How many processors there are, at most 8.
     pub processors: u8,

@@ -64,7 +64,7 @@ pub fn urgent_message_first()
     ensures { UrgentMessageFirst }
 {}
 
-/// Delays that end at one tick end in order of task number, whoever began first.
+/// Delays that end at one tick end in order of task number, whichever began first.
 pub fn delays_end_in_task_order()
     ensures { DelaysEndInTaskOrder }
 {}
