@@ -76,6 +76,7 @@ dispatch_lines true p now = []
 dispatch_lines false p now = line.Runs p now ∷ []
 
 -- p, which is cpu, runs task t, or none
+-- A preempted task keeps its place: dispatching does not change the order.
 abbrev pub dispatched : Progress → ℕ → Processor → Option ℕ → Progress
 dispatched g p cpu t =
     record {
