@@ -47,7 +47,7 @@ pub record Progress : Type 0 where
 abbrev pub unchanged : KernelState → Progress
 unchanged s = record { state = s; lines = [] }
 
--- task t, or a dormant one where there is none
+-- task t, or a dormant one if there is none
 abbrev pub task_at : List TaskBlock → ℕ → TaskBlock
 task_at tasks t =
     found

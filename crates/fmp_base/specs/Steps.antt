@@ -58,7 +58,7 @@ actor_by None None = None
 abbrev pub actor_of : Processor → Option Caller
 actor_of cpu = actor_by cpu.handler cpu.run
 
--- the handler of p runs no more
+-- the handler of p no longer runs
 abbrev pub handler_ended : KernelState → ℕ → KernelState
 handler_ended s p = with_processor s p (record (processor_at s p) { handler = None })
 

@@ -129,8 +129,7 @@ impl<'a> Blank<'a> {
     /// A board of an image that is not yet open, and its seats, numbered from 0: stretches of bodies take at most n
     /// instructions, 1 to 2^48; there is room for k events, 1 to 2^20; and there are m seats, 1 to 64.
     ///
-    /// `BoardFault::Limit`, exactly where n, k or m is out of its range, and else `BoardFault::Memory` if memory runs
-    /// out.
+    /// `BoardFault::Limit`, exactly if n, k or m is out of its range, and else `BoardFault::Memory` if memory runs out.
     pub fn new(
         alloc: Global,
         image: &'a Image,

@@ -102,7 +102,7 @@ impl<C: Copy> BodyContexts<C> {
         }
     }
 
-    /// A task, where there is one, goes on from this context.
+    /// A task, if there is one, goes on from this context.
     pub fn begin_task(&mut self, t: u8, context: C)
         ensures { self.new ≡ record self.old { tasks = slice_set self.old.tasks t (Some (Goes context)) } }
     {
@@ -111,7 +111,7 @@ impl<C: Copy> BodyContexts<C> {
         }
     }
 
-    /// A handler of this body begins on a processor, where there is one, and goes on from this context.
+    /// A handler of this body begins on a processor, if there is one, and goes on from this context.
     pub fn begin_handler(&mut self, p: u8, body: u8, context: C)
         ensures { self.new
             ≡ with_handler_context self.old p (Some (record { body = body; context = Goes context })) }

@@ -12,7 +12,7 @@ pub struct Excerpt {
     pub column: usize,
     /// The line without its end; of a line of more than 100 bytes a part, with `...` where something is left out.
     pub line: Vec<u8>,
-    /// What stands under the line: `^` under each byte of the token, or one where it has none.
+    /// What stands under the line: `^` under each byte of the token, or one if it has none.
     pub marks: Vec<u8>,
 }
 

@@ -26,7 +26,7 @@ fn word_length(bytes: &[u8]) -> usize {
         .unwrap_or(bytes.len())
 }
 
-/// The first of these bytes, a space where there is none.
+/// The first of these bytes, a space if there is none.
 fn first_of(bytes: &[u8]) -> u8 {
     bytes.first().copied().unwrap_or(b' ')
 }

@@ -274,7 +274,7 @@ fn say_mistake(mistake: Mistake, out: &mut Vec<u8>) -> Result<(), AllocError>
 }
 
 impl Warnings {
-    /// Warns of a mistake at a call, where there is room.
+    /// Warns of a mistake at a call, if there is room.
     fn warn(
         &mut self,
         name: &str,
@@ -398,7 +398,7 @@ fn entries(alloc: Global, tokens: &Tokens<'_>) -> Result<Vec<Name>, AllocError> 
     Ok(names)
 }
 
-/// The name of the body whose first word stands at a place, where it is none of these.
+/// The name of the body whose first word stands at a place, if it is none of these.
 fn body_beside(tokens: &Tokens<'_>, at: usize, entries: &[Name]) -> Option<Name> {
     if !begins_body_at(tokens, at) {
         return None;

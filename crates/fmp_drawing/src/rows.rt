@@ -177,7 +177,7 @@ impl Rows {
         Ok(())
     }
 
-    /// The lane of a handler, where there are few tasks or something happens to it.
+    /// The lane of a handler, if there are few tasks or something happens to it.
     fn add_handler(
         &mut self,
         run: &Run,

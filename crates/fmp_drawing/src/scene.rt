@@ -32,7 +32,7 @@ impl<'a> Scene<'a> {
         })
     }
 
-    /// Whether there is an overview over the run: where there are three panels or more, or a part of the run is drawn.
+    /// Whether there is an overview over the run: if there are three panels or more, or a part of the run is drawn.
     pub fn has_overview(&self) -> bool {
         self.page.panels > 2 || self.page.first > 0 || self.page.last < self.last_event()
     }

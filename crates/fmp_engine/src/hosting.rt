@@ -154,7 +154,7 @@ fn journal_of<R: Threads + Wait + Sync>(
     taken_events(alloc, closed)
 }
 
-/// Appends a journal of an image as a steps text to a file, and all that the image prints over it to the output. Where
+/// Appends a journal of an image as a steps text to a file, and all that the image prints over it to the output. If
 /// memory runs out, both stay as they were.
 fn append_journal(
     alloc: Global,

@@ -57,7 +57,7 @@ fn read_more<S: Source>(
 }
 
 /// All the bytes that a source gives. With a limit it stops one byte past it, which is enough to refuse what is longer.
-/// `Device` comes exactly where a read failed.
+/// `Device` comes exactly if a read failed.
 pub fn read_in<S: Source>(
     alloc: Global,
     source: &mut S,

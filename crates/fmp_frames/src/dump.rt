@@ -11,7 +11,7 @@ use crate::{Frame, Viewer};
 use fmp_base::System;
 use std::alloc::{AllocError, Global};
 
-/// The dump of a run so far. Where memory runs out, it has an unfinished end.
+/// The dump of a run so far. If memory runs out, it has an unfinished end.
 #[derive(Drop)]
 pub struct Waves {
     /// The variables, in the order of the head.

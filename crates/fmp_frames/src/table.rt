@@ -85,8 +85,8 @@ fn append_tally(
 }
 
 impl Tallies {
-    /// Appends the table: a line a task, with its share of the events in tenths of a percent. `AllocError` if memory
-    /// runs out.
+    /// Appends the table: a line for each task, with its share of the events in tenths of a percent. `AllocError` if
+    /// memory runs out.
     pub fn append_table(
         &self,
         alloc: Global,

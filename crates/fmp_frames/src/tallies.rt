@@ -19,7 +19,7 @@ pub struct Tallies {
     pub events: u32,
 }
 
-/// The counts of a task so far; none where there is no such task.
+/// The counts of a task so far; none if there is no such task.
 fn tally_at(tallies: &[Tally], task: usize) -> Tally
     ensures { result ≡ get_or tallies.now task spec.nothing }
 {

@@ -203,7 +203,7 @@ fn run_threads<B: Feed + Sync, G: Gate, R: Threads + Wait + Sync>(
 /// together.
 ///
 /// `BoardFault::Limit`, exactly if the number of seats differs; `BoardFault::Memory`, if memory runs out, before any
-/// thread is started; `BoardFault::Thread` where a thread was refused: then no more are started, those that run are
+/// thread is started; `BoardFault::Thread` if a thread was refused: then no more are started, those that run are
 /// joined, and the seat of the refused one is lost. Else, where threads stopped at a fault, `BoardFault::Full` or
 /// `BoardFault::Held` (the gate said no 10,000 times), it is that of the least processor, or at last of the ticks. What
 /// was journaled before a fault stands.

@@ -34,7 +34,7 @@ step = byte ⊗ word ⊗ byte
 abbrev pub step_spelled : Instruction → ℕ → List ℕ
 step_spelled i d = step.spell (opcode_of i, (argument_of i, d))
 
--- an instruction, where there is one
+-- an instruction, if there is one
 abbrev pub named : Option Instruction → Result Instruction ImageFault
 named None = Err fault.Code
 named (Some i) = Ok i

@@ -16,7 +16,7 @@ pub fn in_range(least: u32, most: u32, number: u32) -> bool
     least <= number && number <= most
 }
 
-/// The first byte, and the bytes behind it. `LoadFault::Image` where there is none.
+/// The first byte, and the bytes behind it. `LoadFault::Image` if there is none.
 pub fn byte_at(bytes: &[u8]) -> Result<(u8, &[u8]), LoadFault>
     ensures { Gives (λ x. (x.0, x.1.now)) result (byte.read bytes.now) }
 {

@@ -90,7 +90,7 @@ pub fn read_rows<'a, R: Row>(
 }
 
 /// Reads a table: a count, and that many rows. Enters the keys of its rows among those that are taken. The faults are
-/// those of `read_rows`, and `ImageFault::Short` where there is no count.
+/// those of `read_rows`, and `ImageFault::Short` if there is no count.
 pub fn read_table<'a, R: Row>(
     alloc: Global,
     processors: u8,

@@ -87,7 +87,7 @@ impl Stamps {
         Ok(Stamps { actors, counts })
     }
 
-    /// The stamp of processor p, or 0 where there is none.
+    /// The stamp of processor p, or 0 if there is none.
     pub fn stamp(&self, p: u8) -> u32
         ensures { result ≡ get_or self.now.counts p 0 }
     {

@@ -1,5 +1,4 @@
-//! Reading and writing where the Nth call fails: the answer is a fault exactly where a call failed, and never other
-//! bytes.
+//! Reading and writing where the Nth call fails: the answer is a fault exactly if a call failed, and never other bytes.
 ghost use Rattle.std.specs.Prelude.{IfOk, ◌≤◌};
 
 use fmp_files::{Device, ReadFault, WriteFault, read_in, write_out};

@@ -162,7 +162,7 @@ impl PendingHandlers {
         self.cyclics[c as usize]
     }
 
-    /// The interrupt at a place is pending, or no more.
+    /// The interrupt at a place is pending, or no longer.
     fn mark_interrupt(&mut self, i: u8, pending: bool)
         requires { i < length self.old.interrupts }
         ensures { self.new ≡ record self.old { interrupts = slice_set self.old.interrupts i pending } }
@@ -172,7 +172,7 @@ impl PendingHandlers {
         set_slot(self.words.as_mut_slice(), processor, i as usize, pending);
     }
 
-    /// A cyclic handler is pending, or no more.
+    /// A cyclic handler is pending, or no longer.
     fn mark_cyclic(&mut self, c: u8, pending: bool)
         requires { c < length self.old.cyclics }
         ensures { self.new ≡ record self.old { cyclics = slice_set self.old.cyclics c pending } }
@@ -203,7 +203,7 @@ impl PendingHandlers {
         self.mark_cyclic(c, true);
     }
 
-    /// A handler is pending no more.
+    /// A handler is no longer pending.
     pub fn clear(&mut self, h: Handler)
         requires { HasMark self.old h }
         ensures { self.new ≡ without_mark self.old h }

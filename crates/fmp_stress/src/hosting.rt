@@ -44,7 +44,7 @@ fn last_of<S: Site>(alloc: Global, seats: &mut Vec<Seat>) -> Place<S>
     Place::new(alloc, seat)
 }
 
-/// A new team of a seat. It is dropped where there is no memory for it.
+/// A new team of a seat. It is dropped if there is no memory for it.
 fn push_team<S: Site>(
     alloc: Global,
     teams: &mut Vec<Team<S>>,

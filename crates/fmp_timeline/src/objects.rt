@@ -64,7 +64,7 @@ fn topic_of(cause: WaitCause) -> Option<Topic> {
     }
 }
 
-/// The object of which an accepted call that releases nobody queues one more, or one less.
+/// The object of which an accepted call that releases no task queues one more, or one less.
 fn level_change(call: Call) -> Option<(Topic, i32)> {
     let (place, queue, change) = match call {
         Call::SndDtq { queue, .. }

@@ -35,7 +35,7 @@ abbrev pub going_by : {C : Type 0} → SystemTables → Contexts (Held C) → �
 going_by sys cs p None = None
 going_by sys cs p (Some who) = going sys cs p who
 
--- the body and the context of the actor of the processor at place p, where it has one
+-- the body and the context of the actor of the processor at place p, if it has one
 abbrev pub actor_at : {C : Type 0} → SystemTables → World C → ℕ → Option (Going C)
 actor_at sys w p = going_by sys w.contexts p (actor_of (processor_at w.state p))
 
