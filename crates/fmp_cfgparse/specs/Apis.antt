@@ -23,7 +23,7 @@ class_name digit = codes "TCL_" ++ digit ∷ []
 abbrev pub only_name : ℕ → List ℕ
 only_name digit = codes "TCL_" ++ digit ∷ codes "_ONLY"
 
--- The class of a name, where there are so many processors. The digit 1 is the code 49.
+-- The class of a name, given the number of processors. The digit 1 is the code 49.
 abbrev pub class_of : ℕ → List ℕ → Option ClassPlace
 class_of processors text =
     if nat_le 49 (slice_index text 4) && nat_le (slice_index text 4) (48 + processors)

@@ -40,8 +40,8 @@ fn number_rows<T: HasName>(numbers: &mut ObjectNumbers, rows: &[T]) -> Result<()
     Ok(())
 }
 
-/// The numbers of the objects of a system. Where two tables have one name, its number is that of the first.
-/// The error is want of memory.
+/// The numbers of the objects of a system. Where two tables have one name, its number is that of the first. The error
+/// is out of memory.
 pub fn number_objects(alloc: Global, system: &System) -> Result<ObjectNumbers, AllocError>
     requires { IsInRange (tables_of system.now) }
     ensures { IfOk result (λ numbers. (name : base.Name) → number_of numbers name ≡
