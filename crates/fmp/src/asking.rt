@@ -41,7 +41,7 @@ pub enum Cmd {
         bound: u64,
     },
     /// Run an image by threads, one for each of its processors, and write what happened to the file `journal`, as a
-    /// steps text. Each processor has so many `turns` and the clock so many `ticks`, each 0 to 2^20. `bound`, 1 to
+    /// steps text. Each processor has `turns` turns and the clock has `ticks` ticks, each 0 to 2^20. `bound`, 1 to
     /// 2^48, limits how many instructions a body takes between two service calls.
     Host {
         image: String,
@@ -107,7 +107,7 @@ pub fn command<'a>(alloc: Global, words: &'a [&'a str]) -> Result<Cmd, Error>
 }
 
 /// The status that the program ends with after an error of the command line: 2 for a mistake, 0 where help or the
-/// version was asked for, and 3 for want of memory.
+/// version was asked for, and 3 if memory runs out.
 pub fn status_of(error: &Error) -> u8
     ensures memory { kind_of error.now ≡ ErrorKind.OutOfMemory → result ≡ 3 }
     ensures shown { (kind_of error.now ≡ ErrorKind.DisplayHelp)

@@ -49,8 +49,8 @@ pub enum Exit {
 }
 
 impl Exit {
-    /// The status that the program ends with: 1 for a fault of what was read or where there is no host for what
-    /// was asked, 3 for a file on which a call failed and for want of memory.
+    /// The status that the program ends with: 1 for a fault of what was read or if there is no host for what was asked,
+    /// 3 for a file on which a call failed, or if memory runs out.
     pub fn status(&self) -> u8
         ensures { result ≡ status_of self.now }
     {

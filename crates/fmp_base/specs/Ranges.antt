@@ -17,7 +17,7 @@ pub record Lies (low high n : ℕ) : Type 0 where
   pub least : low ≤ n
   pub most : n ≤ high
 
--- the ranges of an object of each kind, where there are so many processors
+-- the ranges of an object of each kind, given the number of processors
 pub record TaskInRange (processors : ℕ) (t : TaskConfig) : Type 0 where
   pub priority : Lies 1 16 t.priority
   pub stack : Lies 1 65536 t.stack

@@ -399,7 +399,7 @@ arguments_of (call.IpsndDtq queue word) = queue ∷ word ∷ []
 arguments_of (call.IfsndDtq queue word) = queue ∷ word ∷ []
 arguments_of (call.IrotRdq priority) = priority ∷ []
 
--- argument k of a list, 0 where there is none
+-- argument k of a list, 0 if there is none
 abbrev pub argument : List ℤ → ℕ → ℤ
 argument xs k = get_or xs k (pos 0)
 

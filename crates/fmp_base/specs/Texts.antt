@@ -52,7 +52,7 @@ abbrev pub value_text : Option ℤ → List ℕ
 value_text None = []
 value_text (Some v) = codes " " ++ signed_decimal v
 
--- the code's name, and the value where there is one
+-- the code's name, and the value if there is one
 abbrev pub reply_text : Reply → List ℕ
 reply_text r = code_name r.code ++ value_text r.value
 

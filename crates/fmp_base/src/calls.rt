@@ -268,7 +268,7 @@ pub struct Reply {
     pub value: Option<i32>,
 }
 
-/// What a service call comes to at once.
+/// The immediate effect of a service call.
 #[derive(Clone, Copy, Debug)]
 pub enum Answer {
     /// The caller is told this and goes on.
@@ -277,7 +277,7 @@ pub enum Answer {
     Waits,
     /// The caller has ended.
     Ends,
-    /// The caller goes on asking for a spin lock that is held: nothing has happened.
+    /// The caller spins for a spin lock that is held: nothing has happened.
     Spins,
 }
 

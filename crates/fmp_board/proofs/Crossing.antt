@@ -1,4 +1,4 @@
--- A kernel may go to another thread, and so many threads may share a board.
+-- A kernel may go to another thread, and therefore many threads may share a board.
 use denote.RattleType.{RattleType}
 use denote.Ref.{NamedLft}
 use denote.Struct.Declared.{shape}

@@ -21,7 +21,7 @@ use Rattle.fmp_board.specs.Receipts.{receipt_of}
 use Rattle.fmp_board.specs.Replays.{kernel_after, reaction, stamps_after}
 use Rattle.fmp_board.specs.Visits.{entered}
 
--- the actor of a processor, of an image of which stretches take at most so many instructions
+-- the actor of a processor, of an image whose stretches take at most n instructions
 pub record TicketState : Type 0 where
   pub image : ImageTables
   pub bound : ℕ
@@ -73,7 +73,7 @@ pub record IsDrawn (i : ImageTables) (n : ℕ) (journal : List JournalEntry) (t 
   pub begins : IsPrefix begin journal
   pub actor_is : actor_after i n begin t.processor ≡ Some t.actor
 
--- the answer to who wants a ticket for processor p, after a journal: its actor there, if it has one
+-- the answer to a request for a ticket for processor p, after a journal: its actor there, if it has one
 abbrev pub Drew : ImageTables → (n : ℕ) → List JournalEntry → (p : ℕ) → Option TicketState → Type 0
 Drew i n journal p result =
     MatchOption result (actor_after i n journal p ≡ None)

@@ -52,8 +52,8 @@ impl<'a> Model for Blank<'a> {
         × IsRoom b.row b.capacity b.seats × (b.room.items ≡ []) × (b.row.capacity ≤ vec_capacity b.room) };
 }
 
-/// The kernel of an image after setup, for whoever runs an image without a board. A stretch of a body takes at most n
-/// instructions, 1 to 2^48. `AllocError` for want of memory: no call of the kernel takes any.
+/// The kernel of an image after setup, for running an image without a board. A stretch of a body takes at most n
+/// instructions, 1 to 2^48. `AllocError` if memory runs out: no call of the kernel takes any.
 pub fn kernel_of<'a>(alloc: Global, image: &'a Image, n: u64) -> Result<Kernel<Vm<'a>>, AllocError>
     requires low { 1 ≤ n }
     requires high { n ≤ 2 ^ 48 }
@@ -129,8 +129,7 @@ impl<'a> Blank<'a> {
     /// A board of an image that is not yet open, and its seats, numbered from 0: stretches of bodies take at most n
     /// instructions, 1 to 2^48; there is room for k events, 1 to 2^20; and there are m seats, 1 to 64.
     ///
-    /// `BoardFault::Limit`, exactly where n, k or m is out of its range, and else `BoardFault::Memory` for want of
-    /// memory.
+    /// `BoardFault::Limit`, exactly if n, k or m is out of its range, and else `BoardFault::Memory` if memory runs out.
     pub fn new(
         alloc: Global,
         image: &'a Image,

@@ -131,7 +131,7 @@ impl<'a, S: Site> Book<'a, S> {
 
     /// Takes an event on the kernel, and journals it under the number of a seat if it does something.
     ///
-    /// `BoardFault::Full`, exactly where the journal has no room for one more event; then nothing has changed.
+    /// `BoardFault::Full`, exactly if the journal has no room for one more event; then nothing has changed.
     pub fn enter(&mut self, seat: u8, event: Event) -> Result<Receipt, BoardFault>
         requires { seat < S.row_id.seats }
         ensures full { MatchResult result (λ _. length self.old.journal < S.row_id.capacity)

@@ -74,7 +74,7 @@ impl<'a> Ticket<'a> {
 }
 
 /// How the stretch of a ticket's actor ended. Its type keeps that it is the stretch of just that actor's context, by
-/// the code of the image, of at most so many instructions.
+/// the code of the image, of at most n instructions.
 #[derive(Drop)]
 pub struct Outcome {
     image: Snapshot<Image>,

@@ -19,8 +19,8 @@ use fmp_instructions::MachineContext;
 use fmp_kernel::laws::stamps_count_events;
 
 impl<'a, S: Site> Book<'a, S> {
-    /// A ticket for the stretch that the actor of processor p makes next. None where there is no such processor, or it
-    /// has no actor.
+    /// A ticket for the stretch that the actor of processor p makes next. None if there is no such processor, or it has
+    /// no actor.
     pub fn ticket(&self, p: u8) -> Option<Ticket<'a>>
         ensures ticket { Drew S.image S.bound self.now.journal p result }
         ensures legal { IsJournal S.image S.bound S.row_id.capacity S.row_id.seats self.now.journal }
@@ -51,8 +51,8 @@ impl<'a, S: Site> Book<'a, S> {
     /// under the number of a seat if it does something. The outcome's ticket was drawn after a beginning of the
     /// journal.
     ///
-    /// `BoardFault::Stale`, exactly where the stamp of the processor is no more that of the ticket; else
-    /// `BoardFault::Full`, exactly where the journal has no room for one more event. Then nothing has changed.
+    /// `BoardFault::Stale`, exactly if the stamp of the processor is no longer that of the ticket; else
+    /// `BoardFault::Full`, exactly if the journal has no room for one more event. Then nothing has changed.
     pub fn enter_outcome(&mut self, seat: u8, outcome: Outcome) -> Result<Receipt, BoardFault>
         requires seat { seat < S.row_id.seats }
         requires drawn { IsDrawn S.image S.bound self.old.journal outcome.ticket }

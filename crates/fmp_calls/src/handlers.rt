@@ -14,7 +14,7 @@ use fmp_objects::{set_flg, sig_sem};
 use fmp_objects_queues::{fsnd_dtq, psnd_dtq};
 use fmp_tasks::Tables;
 
-/// A call for handlers, on processor p, whoever makes it.
+/// A call for handlers, on processor p, for every caller.
 pub fn handler_call(tables: &mut Tables, lines: &mut Vec<Line>, p: u8, made: &Call) -> Answer
     requires group { group_of (service_of made.now) ≡ ServiceGroup.Handlers }
     requires processor { p < tables.old.system.processors }

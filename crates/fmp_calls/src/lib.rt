@@ -106,7 +106,7 @@ fn permitted_call(
     }
 }
 
-/// What a call of this caller on processor p comes to. The lines of what it causes are added to those that are given.
+/// Carries out a call of this caller on processor p. The lines of its effects are added to those that are given.
 pub fn call(tables: &mut Tables, lines: &mut Vec<Line>, p: u8, who: Caller, made: &Call) -> Answer
     requires caller { IsTaskOf tables.old.system who }
     requires processor { p < tables.old.system.processors }

@@ -28,8 +28,8 @@ fn sta_cyc(tables: &mut Tables, cyclic: i32) -> Answer
     replied(Er::Ok)
 }
 
-/// `stp_cyc`: a cyclic handler is due no more; if it is pending it stays so. E_ID where the number names none; nothing
-/// changes then.
+/// `stp_cyc`: a cyclic handler is no longer due; if it is pending it stays so. E_ID where the number names none;
+/// nothing changes then.
 fn stp_cyc(tables: &mut Tables, cyclic: i32) -> Answer
     ensures outcome { outcome result tables.new [] ≡ calls.stp_cyc tables.old.state cyclic }
     ensures shape { SameShape tables.old tables.new }

@@ -22,7 +22,8 @@ use Rattle.fmp_cfgparse.proofs.KnownTrees.{IsKnownField, IsKnownApi, IsKnownClas
 use Rattle.fmp_cfgparse.proofs.MadeObjects.{ranges_more, processors_stay, queue_limit_stays, tasks_more, shared_words_more, cyclics_more, interrupts_more, numbers_more, names_more}
 use Rattle.fmp_cfgparse.proofs.OneMore.{held_lies, all_more, name_more, listed_named, listed_distinct}
 
--- what has been made keeps the rules of a configuration, where there are so many processors; the names are those of the tables
+-- what has been made keeps the rules of a configuration, given the number of processors; the names are those of the
+-- tables
 record IsMaking (processors : ℕ) (g : Making) : Type 0 where
   count : g.tables.processors ≡ processors
   ranges : IsInRange g.tables

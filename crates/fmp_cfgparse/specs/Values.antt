@@ -47,7 +47,7 @@ abbrev pub or_zero : Option ℤ → ℤ
 or_zero (Some x) = x
 or_zero None = pos 0
 
--- the number of a field; 0 where it has none
+-- the number of a field; 0 if it has none
 abbrev pub field_number : Option FieldTree → ℤ
 field_number (Some (value items)) = or_zero (number_of items)
 field_number (Some (name n)) = pos 0

@@ -99,7 +99,7 @@ fn size_of_block(statements: &[Statement]) -> usize
     block_extent(statements).size
 }
 
-/// The code of an expression before which so many operands stand.
+/// The code of an expression before which this many operands stand.
 #[cycle(expression_emission)]
 fn emit_expression(
     out: &mut Output,
@@ -306,7 +306,7 @@ fn emit_call(out: &mut Output, names: &Names<'_>, call: &ServiceCall) -> Result<
     Ok(())
 }
 
-/// The code of a condition, and a jump over so many instructions behind it where it is 0.
+/// The code of a condition, and a jump over this many instructions behind it if it is 0.
 fn emit_test(
     out: &mut Output,
     names: &Names<'_>,

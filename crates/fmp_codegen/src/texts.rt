@@ -37,7 +37,7 @@ pub struct Made {
     pub offence: Option<Offence>,
 }
 
-/// Judges a body that stands behind those before it, and compiles it where there is no fault.
+/// Judges a body that stands behind those before it, and compiles it if there is no fault.
 fn add_body(
     alloc: Global,
     objects: &Objects<'_>,

@@ -197,7 +197,7 @@ fn say_assignment(
     say_text(behind_name(tokens, begin, last), out)
 }
 
-/// What is to come behind a keyword at the head of a statement, of which so many tokens are there.
+/// What must follow a keyword at the head of a statement that has this many tokens so far.
 fn behind_keyword(keyword: Keyword, count: usize) -> &'static str
     ensures { 0 < length result.now }
 {

@@ -150,7 +150,7 @@ fn say_in_source(around: &Around<'_>, out: &mut Vec<u8>) -> Result<(), AllocErro
     }
 }
 
-/// Says which limit is passed at the place in a text of so many bytes.
+/// Says which limit is exceeded at the place in a text of this many bytes.
 pub fn say_limit(
     length: usize,
     file: TextFile,

@@ -26,7 +26,7 @@ fn word_length(bytes: &[u8]) -> usize {
         .unwrap_or(bytes.len())
 }
 
-/// The first of these bytes, a space where there is none.
+/// The first of these bytes, a space if there is none.
 fn first_of(bytes: &[u8]) -> u8 {
     bytes.first().copied().unwrap_or(b' ')
 }
@@ -56,7 +56,7 @@ fn say_no_token(bytes: &[u8], out: &mut Vec<u8>) -> Result<(), AllocError>
     )
 }
 
-/// Says that the number of so many bytes at the head of these is too great.
+/// Says that the number of this many bytes at the head of these is too great.
 fn say_great_number(bytes: &[u8], length: usize, out: &mut Vec<u8>) -> Result<(), AllocError>
     ensures { OnOk result (IsSaid out.old.items out.new.items) }
 {

@@ -17,7 +17,7 @@ use fmp_base::{Name, Service};
 use fmp_lex::{Api, Constant, Keyword, Symbol, TokenKind, Tokens};
 use std::alloc::{AllocError, Global};
 
-/// Of so many calls and arguments is warned at most.
+/// The maximum number of warnings about calls and arguments.
 const CALLS: u32 = 100;
 
 /// A call that is walked over.
@@ -274,7 +274,7 @@ fn say_mistake(mistake: Mistake, out: &mut Vec<u8>) -> Result<(), AllocError>
 }
 
 impl Warnings {
-    /// Warns of a mistake at a call, where there is room.
+    /// Warns of a mistake at a call, if there is room.
     fn warn(
         &mut self,
         name: &str,
@@ -398,7 +398,7 @@ fn entries(alloc: Global, tokens: &Tokens<'_>) -> Result<Vec<Name>, AllocError> 
     Ok(names)
 }
 
-/// The name of the body whose first word stands at a place, where it is none of these.
+/// The name of the body whose first word stands at a place, if it is none of these.
 fn body_beside(tokens: &Tokens<'_>, at: usize, entries: &[Name]) -> Option<Name> {
     if !begins_body_at(tokens, at) {
         return None;
@@ -523,9 +523,9 @@ fn warnings_on(
     Ok(out)
 }
 
-/// The warnings of two texts that have no fault, a line each: those of the task text in order of text, first of at
-/// most 100 of its calls and their arguments and then of its bodies, and those of the objects of the configuration.
-/// `AllocError` for want of memory.
+/// The warnings of two texts that have no fault, a line each: those of the task text in order of text, first of at most
+/// 100 of its calls and their arguments and then of its bodies, and those of the objects of the configuration.
+/// `AllocError` if memory runs out.
 pub fn warnings_of(
     alloc: Global,
     names: FileNames<'_>,

@@ -178,7 +178,7 @@ pub enum DrawFault {
 }
 
 /// A picture of a run of a system with these measures and this name as its title: an SVG without scripts, light and
-/// dark. `TooLarge` for more bytes than a picture may have, `Memory` for want of memory.
+/// dark. `TooLarge` for more bytes than a picture may have, `Memory` if memory runs out.
 pub fn draw(
     alloc: Global,
     sys: &System,

@@ -202,7 +202,7 @@ fn put_held_lock(
     put_bar_text("lct q", row, (text_left(span, stay), ends.1), label, out);
 }
 
-/// What a stretch over which an actor asks in vain says: words, and the name of the lock that it asks for.
+/// The text of a spinning span: words, and the name of the lock.
 fn spin_text<'a>(scene: &Scene<'a>, spin: &Spin) -> (&'static str, &'a [u8]) {
     match scene.run.lock_of(spin) {
         Some(lock) => ("spins for ", bytes_of(scene.sys, Topic::SpinLock(lock))),
@@ -231,7 +231,7 @@ fn put_spin_text<'a>(
     fits
 }
 
-/// A stretch over which a processor's actor asks in vain.
+/// A span in which a processor's actor spins.
 fn put_spin(scene: &Scene<'_>, span: &Span, row: &Row, stay: &Stay<Spin>, out: &mut Canvas) {
     let (left, right) = (span.box_left(stay), span.box_right(stay));
     let (words, name) = spin_text(scene, &stay.state);

@@ -65,12 +65,12 @@ impl Lane {
 }
 
 impl Row {
-    /// The top of the lane, lower by so many tenths.
+    /// The top of the lane, lowered by this many tenths.
     pub fn y(&self, lower: i32) -> Tenths {
         px(self.top) + Tenths(lower)
     }
 
-    /// The middle of the lane, lower by so many tenths.
+    /// The middle of the lane, lowered by this many tenths.
     pub fn middle(&self, lower: i32) -> Tenths {
         px(self.top) + px(self.height).half() + Tenths(lower)
     }
@@ -177,7 +177,7 @@ impl Rows {
         Ok(())
     }
 
-    /// The lane of a handler, where there are few tasks or something happens to it.
+    /// The lane of a handler, if there are few tasks or something happens to it.
     fn add_handler(
         &mut self,
         run: &Run,

@@ -11,7 +11,7 @@ use std::alloc::AllocError;
 /// The size of tags.
 const TAG: Tenths = Tenths(80);
 
-/// A mark at its place, with a tag where there is room for one.
+/// A mark at its place, with a tag if there is room for one.
 #[derive(Clone, Copy)]
 pub struct Placed {
     pub mark: Mark,
@@ -64,7 +64,7 @@ fn priority_tag(priority: u8) -> &'static str {
     PRIORITIES.get(place).copied().unwrap_or("")
 }
 
-/// The text of a mark's tag; empty where it has none.
+/// The text of a mark's tag; empty if it has none.
 fn tag_text(sign: Sign) -> &'static str {
     match sign {
         Sign::Refused(code) => code.name(),
@@ -296,7 +296,7 @@ fn put_all_ticks(span: &Span, row: &Row, marks: &[Mark], out: &mut Canvas) {
     put_ticks(span, row, marks, "mk", out);
 }
 
-/// The marks of a lane. `AllocError` for want of memory.
+/// The marks of a lane. `AllocError` if memory runs out.
 pub fn put_marks(
     scene: &Scene<'_>,
     span: &Span,

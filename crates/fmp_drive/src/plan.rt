@@ -46,8 +46,8 @@ pub struct Plan {
 }
 
 impl Plan {
-    /// The processors in turn; with a seed at random, and the clock and the interrupts between. `AllocError` for want
-    /// of memory.
+    /// The processors in turn; with a seed at random, and the clock and the interrupts between. `AllocError` if memory
+    /// runs out.
     pub fn new(alloc: Global, sys: &System, seed: Option<u64>) -> Result<Plan, AllocError> {
         let interrupts = seed.is_some() && !sys.interrupts.is_empty();
         let random = match seed {

@@ -65,7 +65,7 @@ pub record HostsTexts (i : ImageTables) (bodies : List BodyTree) (work : Workloa
       IsFinished i.system text work.bound (longest i.code) (setup i.system text).world journal journal trace
   pub text : out_after ≡ out ++ trace_text i.system (setup i.system (text_meaning i.system bodies)).lines trace
 
--- why a board of an image gives no journal, but for want of memory
+-- why a board of an image gives no journal, apart from running out of memory
 abbrev pub IsWhyNoBoard : BoardFault → ImageTables → Workload → Type 0
 IsWhyNoBoard board.Limit i work = FitsBoard i work → ⊥
 IsWhyNoBoard board.Memory i work = ⊥

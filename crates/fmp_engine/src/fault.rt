@@ -6,7 +6,7 @@ use thiserror::Error;
 /// Why a simulation prints nothing.
 #[derive(Clone, Copy, Debug, PartialEq, Eq, Error)]
 pub enum SimFault {
-    /// The bytes spell no image. It is never want of memory.
+    /// The bytes spell no image. It is never out of memory.
     #[error("{0}")]
     Load(LoadFault),
     /// A line of the steps is no event.

@@ -49,7 +49,7 @@ pub record Continues (i : ImageTables) (n : ℕ) (before after : List Event) (ou
   pub appended : out_after ≡ out ++ more
   pub goes_on : followed_text i n after ≡ followed_text i n before ++ more
 
--- what `follow` answers at a row of so many words: the next event by one read of its word, or none
+-- the answer of `follow` at a row of n words: the next event by one read of its word, or none
 pub record Follows (capacity : ℕ) (old new : SeatState) (result : Option Event) : Type 0 where
   pub same : new ≡ record old { seen = new.seen; place = new.place; look = new.look }
   pub grows : IsPrefix old.seen new.seen

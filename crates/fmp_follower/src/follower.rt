@@ -19,9 +19,9 @@ use std::marker::Model;
 /// Room for the lines of any event, in bytes: at most 519 lines of at most 128 bytes.
 const EVENT_ROOM: usize = 66_432;
 
-/// Reads the journal of a board from a seat, and prints it: it waits for nobody. The events that the seat is given run
-/// on a kernel of the follower's own, and their lines are printed as a simulation of them prints them. It is seen by
-/// the seat that it reads from.
+/// Reads the journal of a board from a seat, and prints it: it never waits. The events that the seat is given run on a
+/// kernel of the follower's own, and their lines are printed as a simulation of them prints them. It is seen by the
+/// seat that it reads from.
 #[derive(Drop)]
 pub struct Follower<'a, 'b, S: Site> {
     board: &'b Board<'a, S>,
@@ -112,7 +112,7 @@ impl<'a, 'b, S: Site> Follower<'a, 'b, S> {
 
     /// A follower of a board from a seat of it that was given no event yet. The lines of setup are appended.
     ///
-    /// `AllocError` for want of memory; then nothing has been appended.
+    /// `AllocError` if memory runs out; then nothing has been appended.
     pub fn new(
         alloc: Global,
         board: &'b Board<'a, S>,

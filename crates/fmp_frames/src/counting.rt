@@ -130,7 +130,7 @@ fn one_if(holds: bool) -> usize
     if holds { 1 } else { 0 }
 }
 
-/// So many more, up to the greatest number.
+/// This many more, up to the greatest number.
 pub fn more(count: u32, by: usize) -> u32
     ensures { result ≡ spec.more count by }
 {

@@ -64,8 +64,8 @@ abbrev pub mine_of : List SeatState → ℕ
 mine_of [] = 0
 mine_of (s ∷ seats) = s.mine + mine_of seats
 
--- what came back of seats, where a thread was refused: all but that thread's seat, those of the threads that ran as R
--- says of them, and the rest as they were
+-- what came back of seats, if a thread was refused: all but that thread's seat, those of the threads that ran as R says
+-- of them, and the rest as they were
 pub record AllButOne (R : (seats back : List SeatState) → Type 0) (seats back : List SeatState) : Type 0 where
   pub front : List SeatState
   pub lost : SeatState

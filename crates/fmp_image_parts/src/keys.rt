@@ -118,7 +118,7 @@ pub fn is_taken(key: &Key, taken: &TakenKeys) -> bool
 }
 
 #[tactic(auto, using(crate::specs::KeyLaws::put_last))]
-/// Enters a key that does not stand among these behind them. `AllocFailed` for want of memory.
+/// Enters a key that does not stand among these behind them. `AllocFailed` if memory runs out.
 pub fn take(key: Key, taken: &mut TakenKeys) -> Result<(), AllocFailed<Key>>
     requires { is_taken key taken.old.keys ≡ false }
     ensures { OnOk result (taken.new.keys ≡ taken.old.keys ++ key ∷ []) }

@@ -34,8 +34,8 @@ fn has_places(locals: u8, service: Service, out: Option<u8>, receiver: Option<u8
         && is_local(locals, receiver)
 }
 
-/// Whether a body's code may have an instruction at a place before which so many operands stand: it finds its operands
-/// and its locals, and the places where it goes on have the depths that it leaves. No depth is above 64.
+/// Whether a body's code may have an instruction at a place before which this many operands stand: it finds its
+/// operands and its locals, and the places where it goes on have the depths that it leaves. No depth is above 64.
 #[inline(always)]
 pub fn is_fit(
     locals: u8,

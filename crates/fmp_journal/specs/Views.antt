@@ -28,7 +28,7 @@ looked_at l word found = record { reads = l.reads + 1; word = word; found = foun
 abbrev pub no_look : Look
 no_look = record { reads = 0; word = 0; found = 0 }
 
--- the pen of an empty row, of whose seats so many are made
+-- the pen of an empty row that has made this many of its seats
 abbrev pub new_pen : (capacity seats made : ℕ) → Pen
 new_pen capacity seats made = record { capacity = capacity; seats = seats; made = made; journal = []; marks = [] }
 
@@ -101,7 +101,7 @@ shown v = record v { pen = pen_shown v.sight.number v.pen; sight = sight_shown v
 abbrev pub Wrote : Step (Unit {0}) → Me (Unit {0}) View → ℕ → Me (Unit {0}) View → Type 0
 Wrote s v n w = IfSome (entry_of n) (λ x. w ≡ (written v.0 x, v.1))
 
--- the word found is that of the entry at its place, or empty where there is none
+-- the word found is that of the entry at its place, or empty if there is none
 abbrev pub Read : Step (Unit {0}) → Me (Unit {0}) View → ℕ → Me (Unit {0}) View → Type 0
 Read s v n w = (w ≡ v) × (entry_of n ≡ slice_get v.0.pen.journal s.word)
 

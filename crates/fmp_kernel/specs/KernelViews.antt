@@ -74,7 +74,7 @@ pub record KernelView (B C : Type 0) : Type 0 where
   pub done : ℕ
   pub stamps : List ℕ
 
--- a kernel that has done so many events, with these stamps
+-- a kernel that has done this many events, with these stamps
 abbrev pub kernel_of : {B C : Type 0} → RunnerView B C → List ℕ → ℕ → KernelView B C
 kernel_of r stamps done =
     record {

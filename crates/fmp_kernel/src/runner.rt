@@ -89,7 +89,7 @@ fn state_word(phase: Phase, suspended: bool, runs: bool) -> StateWord
 }
 
 impl<B: Body + Drop> Runner<B> {
-    /// The bodies on a system whose objects have just been made. `AllocError` for want of memory: nothing else takes
+    /// The bodies on a system whose objects have just been made. `AllocError` if memory runs out: nothing else takes
     /// any.
     pub fn new(alloc: Global, body: B, sys: &System, n: u64) -> Result<Self, AllocError>
         requires entries { Entered B.has_entry body (tables_of sys.now) }
@@ -172,7 +172,7 @@ impl<B: Body> Runner<B> {
         })
     }
 
-    /// Stamps 0 of the processors, with the actors that they have. `AllocError` for want of memory.
+    /// Stamps 0 of the processors, with the actors that they have. `AllocError` if memory runs out.
     pub fn stamps(&self, alloc: Global) -> Result<Stamps, AllocError>
         ensures counts { IfOk result (λ s. s.counts ≡ replicate self.now.system.processors 0) }
         ensures actors { IfOk result (λ s. AreActors s.actors self.now.system.processors self.now.world.state) }

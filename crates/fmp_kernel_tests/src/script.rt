@@ -24,7 +24,7 @@ impl Model for Script {
     ghost view = { λ script. map (λ calls. calls.items) script.bodies.items };
 }
 
-/// Whether the body of an entry is one of so many.
+/// Whether the body of an entry is one of this many.
 fn is_there(entry: Entry, count: usize) -> bool
     ensures { IsTrue result ↔ (body_of entry < count) }
 {

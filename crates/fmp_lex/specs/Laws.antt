@@ -15,7 +15,7 @@ IsWord bytes (kind.Service s) = bytes ≡ service_name s
 IsWord bytes (kind.Keyword k) = bytes ≡ keyword_name k
 IsWord bytes _ = ⊥
 
--- bytes are read as a word exactly where they are its name
+-- bytes are read as a word exactly if they are its name
 abbrev pub ReadsWords : Type 0
 ReadsWords = (bytes : List ℕ) (k : TokenKind) → (word_kind bytes ≡ Some k) ↔ IsWord bytes k
 

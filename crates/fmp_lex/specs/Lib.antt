@@ -2,6 +2,7 @@ pub mod Cutting
 pub mod Faults
 pub mod Forms
 pub mod Laws
+pub mod ObjectNames
 pub mod Packing
 pub mod Places
 pub mod Reading

@@ -42,7 +42,7 @@ pub fn slp_tsk(tables: &mut Tables, me: u8) -> Answer
 }
 
 /// `tslp_tsk`: the caller takes a queued wakeup, or else waits for one within a limit: -1 (TMO_FEVR) is none, at 0
-/// (TMO_POL) it does not wait and is told E_TMOUT, else so many ticks, up to 2^30. E_PAR at another limit. What is
+/// (TMO_POL) it does not wait and is told E_TMOUT, else that many ticks, up to 2^30. E_PAR at another limit. What is
 /// refused changes nothing (uITRON 4.0, section 4.2).
 pub fn tslp_tsk(tables: &mut Tables, me: u8, limit: i32) -> Answer
     requires caller { me < length tables.old.system.tasks }

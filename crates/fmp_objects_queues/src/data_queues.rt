@@ -32,8 +32,8 @@ fn offered_word(phase: Phase) -> i32
     }
 }
 
-/// The first task that waits to receive gets the word, or the word is put last where there is room, or else task me
-/// waits with it within the limit.
+/// The first task that waits to receive gets the word, or the word is put last if there is room, or else task me waits
+/// with it within the limit.
 fn send(
     tables: &mut Tables,
     lines: &mut Vec<Line>,
@@ -65,7 +65,7 @@ fn send(
 }
 
 /// `snd_dtq` and `psnd_dtq` by task me (uITRON 4.0, section 4.4.3): releases the first task that waits to receive with
-/// E_OK and the word; with none puts the word last where there is room, and else waits with it at the end of the order
+/// E_OK and the word; with none puts the word last if there is room, and else waits with it at the end of the order
 /// within the limit. E_ID where the number names no data queue, then E_TMOUT where a poll would have to wait; nothing
 /// changes then.
 pub fn snd_dtq(
@@ -117,7 +117,7 @@ pub fn tsnd_dtq(
     }
 }
 
-/// `ipsnd_dtq`, and what `psnd_dtq` does whoever calls it (uITRON 4.0, section 4.4.3): as `snd_dtq` with a poll, but
+/// `ipsnd_dtq`, and what `psnd_dtq` does for every caller (uITRON 4.0, section 4.4.3): as `snd_dtq` with a poll, but
 /// with no caller. E_ID where the number names no data queue, then E_TMOUT where no task waits to receive and there is
 /// no room; nothing changes then.
 pub fn psnd_dtq(tables: &mut Tables, lines: &mut Vec<Line>, queue: i32, word: i32) -> Answer

@@ -38,7 +38,7 @@ fn head_of(p: u8, priority: u8) -> u16
 }
 
 impl ReadyQueues {
-    /// Empty queues for so many processors. `AllocError` for want of memory.
+    /// Empty queues for this many processors. `AllocError` if memory runs out.
     pub fn new(alloc: Global, processors: u8) -> Result<ReadyQueues, AllocError>
         ensures { IfOk result (λ r. r ≡ replicate processors 0) }
     {

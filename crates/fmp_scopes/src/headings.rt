@@ -22,7 +22,7 @@ pub struct Heading {
     pub depth: u32,
 }
 
-/// The heading of a body that needs so many operands.
+/// The heading of a body that needs this many operands.
 pub fn heading_with(body: &Body, depth: usize) -> Heading
     requires { depth ≡ min (body_depth (body_view body.now)) 1073741824 }
     ensures { result ≡ spec.heading_of (body_view body.now) }

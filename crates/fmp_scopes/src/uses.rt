@@ -67,7 +67,7 @@ fn word_offence(names: &Names<'_>, word: Option<Word>) -> Option<Offence>
     }
 }
 
-/// How many arguments stand before the out place of a service; 0 where it has none.
+/// How many arguments stand before the out place of a service; 0 if it has none.
 fn before_out(service: Service) -> usize
     ensures { result ≡ found 0 (out_place service) }
 {

@@ -69,7 +69,7 @@ fn holds_any(table: &[Processor], l: u8) -> bool
 }
 
 impl Processors {
-    /// So many processors, all idle. Want of memory is the only error.
+    /// This many processors, all idle. Running out of memory is the only error.
     pub fn new(alloc: Global, count: u8) -> Result<Self, AllocError>
         ensures { IfOk result (λ xs. xs ≡ replicate count idle_processor) }
     {
@@ -87,7 +87,7 @@ impl Processors {
         self.table.len()
     }
 
-    /// A processor, or an idle one where there is none.
+    /// A processor, or an idle one if there is none.
     pub fn processor(&self, p: u8) -> Processor
         ensures { result ≡ processor_in self.now p }
     {
@@ -97,7 +97,7 @@ impl Processors {
         }
     }
 
-    /// Changes a processor, where there is one.
+    /// Changes a processor, if there is one.
     pub fn set(&mut self, p: u8, x: Processor)
         ensures { self.new ≡ slice_set self.old p x }
     {

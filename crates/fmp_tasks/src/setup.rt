@@ -138,7 +138,7 @@ pub fn initial_values(
     Ok((semaphores, flags, shared_words))
 }
 
-/// So many data queues with no word.
+/// This many data queues with no word.
 fn empty_words(alloc: Global, queues: usize) -> Result<Vec<Words>, AllocError>
     ensures { IfOk result (λ v. v.items ≡ replicate queues []) }
 {

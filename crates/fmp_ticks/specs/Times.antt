@@ -20,7 +20,7 @@ abbrev pub lowered : ℕ → Option ℕ → ℕ
 lowered least None = least
 lowered least (Some time) = min time least
 
--- the least of these times, or the greatest number of 32 bits where there is none
+-- the least of these times, or the greatest number of 32 bits if there is none
 abbrev pub least_time : List (Option ℕ) → ℕ
 least_time [] = 2 ^ 32 - 1
 least_time (time ∷ times) = lowered (least_time times) time

@@ -31,7 +31,7 @@ impl Model for TickQueue {
 }
 
 impl TickQueue {
-    /// No deadline for any of so many tasks. `AllocError` for want of memory.
+    /// No deadline for any of this many tasks. `AllocError` if memory runs out.
     pub fn new(alloc: Global, tasks: u8) -> Result<TickQueue, AllocError>
         ensures { IfOk result (λ q. q ≡ replicate tasks None) }
     {

@@ -50,7 +50,7 @@ impl Canvas {
         width(&self.bytes, size)
     }
 
-    /// Keeps the first bytes, so many.
+    /// Keeps only this many bytes, the first.
     pub fn shorten(&mut self, count: usize) {
         self.bytes.truncate(count);
     }
@@ -87,7 +87,7 @@ impl Canvas {
         self.raw(behind);
     }
 
-    /// A number in decimal digits, with `-` in front where it is negative.
+    /// A number in decimal digits, with `-` in front if it is negative.
     pub fn signed(&mut self, number: i32) {
         let sign = if number < 0 { "-" } else { "" };
         self.numbered(sign, number.unsigned_abs(), "");

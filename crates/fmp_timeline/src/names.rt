@@ -16,7 +16,7 @@ pub enum Topic {
     Cyclic(u8),
 }
 
-/// The name of what a topic is, where there is one.
+/// The name of what a topic is, if there is one.
 fn name_of(sys: &System, topic: Topic) -> Option<&Name> {
     match topic {
         Topic::Task(place) => Some(&sys.tasks.get(usize::from(place))?.name),
@@ -38,7 +38,7 @@ fn object_name(sys: &System, topic: Topic) -> Option<&Name> {
     }
 }
 
-/// The bytes of the name of what a topic is; none where there is nothing.
+/// The bytes of the name of what a topic is; none if there is nothing.
 pub fn bytes_of(sys: &System, topic: Topic) -> &[u8] {
     match name_of(sys, topic) {
         Some(name) => name.as_bytes(),

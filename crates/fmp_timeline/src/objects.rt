@@ -64,7 +64,7 @@ fn topic_of(cause: WaitCause) -> Option<Topic> {
     }
 }
 
-/// The object of which an accepted call that releases nobody queues one more, or one less.
+/// The object of which an accepted call that releases no task queues one more, or one less.
 fn level_change(call: Call) -> Option<(Topic, i32)> {
     let (place, queue, change) = match call {
         Call::SndDtq { queue, .. }
@@ -178,7 +178,7 @@ impl Objects {
         Ok(())
     }
 
-    /// The objects of a system, or none where they are not wanted. `AllocError` for want of memory.
+    /// The objects of a system, or none if they are not asked for. `AllocError` if memory runs out.
     pub fn new(alloc: Global, sys: &System, wanted: bool) -> Result<Objects, AllocError> {
         let waits = vec![in alloc; None; sys.tasks.len()]?;
         let mut objects = Objects {
@@ -358,7 +358,7 @@ impl Objects {
         Ok(())
     }
 
-    /// One moment more. `AllocError` for want of memory.
+    /// One moment more. `AllocError` if memory runs out.
     pub fn show(
         &mut self,
         alloc: Global,

@@ -89,7 +89,7 @@ impl Run {
         Ok(())
     }
 
-    /// One moment more: setup, and then each event that did something. `AllocError` for want of memory.
+    /// One moment more: setup, and then each event that did something. `AllocError` if memory runs out.
     pub fn show(&mut self, alloc: Global, moment: &Moment<'_>) -> Result<(), AllocError> {
         let event = self.next_event();
         self.take_deeds(event, moment)?;

@@ -17,7 +17,7 @@ pub struct Spin {
     pub to: Option<u32>,
     /// The place of the processor.
     pub processor: u8,
-    /// Who asks in vain.
+    /// The actor that spins.
     pub actor: Caller,
 }
 
@@ -71,7 +71,7 @@ fn ends(spin: &Spin, moment: &Moment<'_>) -> bool {
 }
 
 impl Spins {
-    /// None so far, on so many processors. `AllocError` for want of memory, as of each call below.
+    /// None so far, on this many processors. `AllocError` if memory runs out, as of each call below.
     pub fn new(alloc: Global, processors: usize) -> Result<Spins, AllocError> {
         Ok(Spins {
             ended: Vec::new(alloc),
@@ -79,7 +79,7 @@ impl Spins {
         })
     }
 
-    /// A processor's actor asks in vain from this event on, if it does not yet.
+    /// A processor's actor spins from this event on, unless it does already.
     pub fn begin(&mut self, from: u32, processor: u8, actor: Caller) {
         if let Some(open) = self.open.get_mut(usize::from(processor))
             && open.is_none()

@@ -192,7 +192,7 @@ fn shown_at(
     )
 }
 
-/// What is shown of all tasks, in order of number. `AllocError` for want of memory.
+/// What is shown of all tasks, in order of number. `AllocError` if memory runs out.
 pub fn tasks_shown(
     alloc: Global,
     states: &[TaskState],

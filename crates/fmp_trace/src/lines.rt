@@ -311,7 +311,7 @@ fn append_all(line: &LineBytes, end: usize, out: &mut Vec<u8>) -> Result<(), All
     append_line(line, end, out)
 }
 
-/// Appends what is put together where there is no room for one more line, and gives the end of what is left.
+/// Appends what is put together if there is no room for one more line, and gives the end of what is left.
 #[inline(always)]
 fn make_room(line: &LineBytes, end: usize, out: &mut Vec<u8>) -> Result<usize, AllocError>
     requires { end ≤ ROOM }
@@ -329,8 +329,8 @@ fn make_room(line: &LineBytes, end: usize, out: &mut Vec<u8>) -> Result<usize, A
     Ok(0)
 }
 
-/// Puts the lines of the event of this number together behind what ends at this place, and gives their end. Where there
-/// is no room for one more line, what is put together is appended.
+/// Puts the lines of the event of this number together behind what ends at this place, and gives their end. If there is
+/// no room for one more line, what is put together is appended.
 #[inline(always)]
 pub fn put_lines(
     sys: &System,
@@ -373,8 +373,8 @@ fn append_lines(
     append_line(&bytes, end, out)
 }
 
-/// Appends the lines of the event of this number, each ended by a line feed. Where memory runs out, the
-/// text stays as it was; it never does where the text has room for so many lines.
+/// Appends the lines of the event of this number, each ended by a line feed. If memory runs out, the text stays as it
+/// was; it never does if the text has room for that many lines.
 pub fn print(sys: &System, number: u32, lines: &[Line], out: &mut Vec<u8>) -> Result<(), AllocError>
     ensures ok { OnOk result (out.new.items ≡ out.old.items ++ lines_text (tables_of sys.now) number lines.now) }
     ensures err { OnErr result (out.new.items ≡ out.old.items) }

@@ -10,7 +10,7 @@ use Rattle.fmp_image_bytes.specs.Images.{ImageTables}
 use Rattle.fmp_kernel.specs.KernelViews.{KernelView}
 use Rattle.fmp_view.specs.declared.driving.Drive.{Drive}
 
--- the kernel of an image was driven from setup on: it has done these events, at most so many, and then stopped; and the
+-- the kernel of an image was driven from setup on: it has done these events, at most `most`, and then stopped; and the
 -- next runs are those of the kernel that it is then
 pub record DrivesImage (i : ImageTables) (n most : ℕ) (d : Drive) : Type 0 where
   pub after : KernelView (List BodyTables) MachineContext

@@ -46,7 +46,7 @@ pub enum Cmd<'a> {
         cfg: &'a str,
         src: &'a str,
     },
-    /// Print steps of an image: at most so many, 0 to 2^20, in turn or at random.
+    /// Print steps of an image: at most `events`, 0 to 2^20, in turn or at random.
     Drive {
         image: &'a str,
         events: u32,

@@ -65,7 +65,7 @@ fn name_of<'a>(names: FileNames<'a>, file: TextFile) -> &'a str
     }
 }
 
-/// What is said of the first fault of two texts, or their warnings. `AllocError` for want of memory.
+/// What is said of the first fault of two texts, or their warnings. `AllocError` if memory runs out.
 pub fn shown_fault(
     alloc: Global,
     names: FileNames<'_>,

@@ -99,7 +99,7 @@ fn run_of(
     run_on(alloc, image.system(), &mut kernel, events, objects, &turns)
 }
 
-/// The picture of what is wanted of a run.
+/// The picture that is asked for of a run.
 fn picture_of(
     alloc: Global,
     sys: &System,

@@ -35,7 +35,7 @@ abbrev pub going_by : {C : Type 0} → SystemTables → Contexts (Held C) → �
 going_by sys cs p None = None
 going_by sys cs p (Some who) = going sys cs p who
 
--- the body and the context of the actor of the processor at place p, where it has one
+-- the body and the context of the actor of the processor at place p, if it has one
 abbrev pub actor_at : {C : Type 0} → SystemTables → World C → ℕ → Option (Going C)
 actor_at sys w p = going_by sys w.contexts p (actor_of (processor_at w.state p))
 
@@ -116,7 +116,7 @@ abbrev pub applied : {C : Type 0} → SystemTables → Meaning C → World C →
 applied sys M w zero x = Nothing
 applied sys M w (suc p) x = applied_by sys M w p (actor_of (processor_at w.state p)) x
 
--- a stretch of this actor, of at most so many units, ends so
+-- a stretch of this actor within the bound ends in this way
 abbrev pub EndsSo : {C : Type 0} → Meaning C → (bound : ℕ) → Ending C → Option (Going C) → Type 0
 EndsSo M bound x None = Unit {0}
 EndsSo M bound x (Some a) = x ≡ M.stretch a.entry bound a.context

@@ -26,7 +26,7 @@ pub enum Play<'e> {
     Feed(&'e [Event]),
     /// One seat feeds these events, and another follows them then.
     Follow(&'e [Event]),
-    /// The threads of two processors write the board, and a follower that was made before is given so many events.
+    /// The threads of two processors write the board, and a follower that was made before is given this many events.
     Watch(u32),
     /// The same stretch of processor 1 is made twice, then one seat feeds these events, and then submits both outcomes.
     /// Another meets it, and follows.

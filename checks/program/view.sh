@@ -1,0 +1,675 @@
+#!/bin/sh
+# Runs the proved program that looks at systems on the examples, and compares its status, its standard output, its standard
+# error and the files that it leaves, each to the byte. What is expected is written out here, worked out by hand from the
+# rules and the traces of the examples, never taken from the program.
+#
+#   checks/program/view.sh [PROGRAM [FMP]]
+#
+# PROGRAM is crates/fmp_view/out/fmp_view and FMP is crates/fmp/out/fmp where they are not given.
+set -u
+root=$(cd "$(dirname "$0")/../.." && pwd)
+view=${1:-$root/crates/fmp_view/out/fmp_view}
+fmp=${2:-$root/crates/fmp/out/fmp}
+case $view in /*) ;; *) view=$PWD/$view ;; esac
+case $fmp in /*) ;; *) fmp=$PWD/$fmp ;; esac
+for program in "$view" "$fmp"; do
+    if [ ! -x "$program" ]; then
+        echo "checks/program/view.sh: there is no program $program" >&2
+        exit 2
+    fi
+done
+room=$(mktemp -d)
+trap 'rm -rf "$room"' EXIT
+cd "$room" || exit 2
+LC_ALL=C
+export LC_ALL
+passed=0
+failed=0
+
+verdict() { # verdict NAME PROBLEM: the case passed where the problem is empty
+    if [ -z "$2" ]; then
+        passed=$((passed + 1))
+    else
+        failed=$((failed + 1))
+        echo "FAILED: $1: $2"
+    fi
+}
+
+# run NAME STATUS WORD..: the program on these words ends with this status, and prints the file 'wanted' and says the file
+# 'said', both to the byte; the two are empty before the next case.
+run() {
+    name=$1 wanted=$2
+    shift 2
+    "$view" "$@" > output 2> errors < /dev/null
+    status=$?
+    problem=
+    [ $status -eq "$wanted" ] || problem="status $status; "
+    cmp -s wanted output || problem="${problem}it prints other than it should; "
+    cmp -s said errors || problem="${problem}it says '$(head -c 200 errors)'"
+    verdict "$name" "$problem"
+    : > wanted
+    : > said
+}
+: > wanted
+: > said
+
+for system in queue watchdog interrupt; do
+    "$fmp" build "$root/examples/$system.cfg" "$root/examples/$system.src" $system.img > built || exit 2
+    cp "$root/examples/$system.steps" .
+done
+
+# What a code means.
+cat > wanted <<'END'
+E_TMOUT: polling failure or time-out
+  when: What was waited for was not there at once, or not within the time limit.
+  example: pol_sem(1) with count 0.
+END
+run 'code: E_TMOUT' 0 code E_TMOUT
+cat > wanted <<'END'
+L2: no image
+  when: The first four bytes are not FMPI.
+  example: A text in place of an image.
+END
+run 'code: L2' 0 code L2
+cat > wanted <<'END'
+E_PAR: parameter error
+  when: A value is out of its range: a priority, a time limit, a pattern, a mode, a size.
+  example: chg_pri(1, 17), since priorities end at 16.
+END
+run 'code: E_PAR' 0 code E_PAR
+cat > wanted <<'END'
+B7: entry of the other kind
+  when: A task names a handler as its entry, or a handler a task.
+  example: CRE_TSK whose entry is declared by 'handler'.
+END
+run 'code: B7' 0 code B7
+
+# Of one processor there is one order: two tasks that both end.
+printf 'run 1\nrun 1\nrun 1\nrun 1\nrun 1\nrun 1\n' > wanted
+printf 'quiet: no processor goes on, and the clock changes nothing\nprocessor 1: nothing runs there\n' > said
+run 'drive: queue' 0 drive queue.img
+printf 'run 1\nrun 1\n' > wanted
+printf 'as many events as were asked for are done\n' > said
+run 'drive: two events' 0 drive queue.img --events 2
+printf 'as many events as were asked for are done\n' > said
+run 'drive: no events' 0 drive queue.img --events=0
+
+# A holds the lock and calls no more; B asks for the lock; and nothing runs on the third processor.
+cat > stuck.cfg <<'END'
+NUM_PRC(3);
+CLASS(TCL_1) { CRE_TSK(A, { TA_ACT, 0, a, 10, 256, NULL }); CRE_SPN(L, { TA_NULL }); }
+CLASS(TCL_2) { CRE_TSK(B, { TA_ACT, 0, b, 10, 256, NULL }); }
+END
+echo 'task a { loc_spn(L); while (1) { } } task b { loc_spn(L); unl_spn(L); }' > stuck.src
+"$fmp" build stuck.cfg stuck.src stuck.img > built || exit 2
+echo 'run 1' > wanted
+cat > said <<'END'
+quiet: no processor goes on, and the clock changes nothing
+processor 1: what runs there reaches the bound before its next call
+processor 2: what runs there asks for spin lock 1, which is held
+processor 3: nothing runs there
+END
+run 'drive: stuck' 0 drive stuck.img
+echo 'run 1' > wanted
+cat > said <<'END'
+as many events as were asked for are done
+processor 1: what runs there reaches the bound before its next call
+END
+run 'drive: stuck, one event' 0 drive stuck.img --events 1
+
+# The trace of the queue: PRODUCER calls twice, is preempted at both calls and ends; CONSUMER waits once, and ends.
+cat > wanted <<'END'
+task      starts   calls   waits  time-outs  preemptions  events   share
+PRODUCER       1       2       0          0            2       3   50.0%
+CONSUMER       1       2       1          0            0       3   50.0%
+END
+run 'stats: queue' 0 stats queue.img queue.steps
+printf 'run 1\nrun 1\n' > two.steps
+cat > wanted <<'END'
+task      starts   calls   waits  time-outs  preemptions  events   share
+PRODUCER       1       1       0          0            1       1   50.0%
+CONSUMER       1       1       1          0            0       1   50.0%
+END
+run 'stats: two events' 0 stats queue.img two.steps
+
+# Of the 18 events of the watchdog 5 are ticks; a wait that ends by its limit is a time-out, and WORKER is preempted at
+# each call that wakes WATCHDOG.
+cat > wanted <<'END'
+task      starts   calls   waits  time-outs  preemptions  events   share
+WATCHDOG       1       7       4          1            0       7   38.8%
+WORKER         2       6       3          0            3       6   33.3%
+END
+run 'stats: watchdog' 0 stats watchdog.img watchdog.steps
+
+# Of the 15 events of the interrupts 2 are interrupts and 4 are the handler's, which wakes DRIVER and so preempts OTHER.
+cat > wanted <<'END'
+task    starts   calls   waits  time-outs  preemptions  events   share
+MAIN         1       3       0          0            0       4   26.6%
+DRIVER       1       4       2          0            0       4   26.6%
+OTHER        1       1       0          0            2       1    6.6%
+END
+run 'stats: interrupt' 0 stats interrupt.img interrupt.steps
+
+run 'waves: queue' 0 waves queue.img queue.steps queue.vcd
+cat > values <<'END'
+$enddefinitions $end
+#0
+$dumpvars
+b00000000000000000000000000000000 !
+b00000001 "
+b000000000 #
+b000000000 $
+1%
+b00 &
+b010 '
+1(
+b0001 )
+b01010 *
+b000 +
+b00000000 ,
+b000 -
+0.
+b0001 /
+b00101 0
+b000 1
+b00000000 2
+b00000000 3
+b00000000 4
+$end
+#1
+b00000010 "
+b001 '
+0(
+b010 -
+1.
+#2
+b00000001 "
+b010 '
+1(
+b011 -
+0.
+b110 1
+b00000001 2
+b00000001 4
+#3
+b00000010 "
+b001 '
+0(
+b010 -
+1.
+b000 1
+b00000000 2
+b00000000 4
+#4
+#5
+b00000001 "
+b010 '
+1(
+b000 -
+0.
+#6
+b00000000 "
+b000 '
+0(
+#7
+END
+sed -n '/^.enddefinitions/,$p' queue.vcd | cmp -s - values
+verdict 'waves: values' "$([ $? -eq 0 ] || echo 'they are other than they should be')"
+cat > names <<'END'
+$scope module fmp $end
+$var wire 32 ! clock $end
+$scope module p1 $end
+$var wire 8 " run $end
+$var wire 9 # handler $end
+$var wire 9 $ lock $end
+$var wire 1 % dispatch $end
+$var wire 2 & refused $end
+$upscope $end
+$scope module tasks $end
+$scope module PRODUCER $end
+$var wire 3 ' state $end
+$var wire 1 ( running $end
+$var wire 4 ) processor $end
+$var wire 5 * priority $end
+$var wire 3 + wait_kind $end
+$var wire 8 , wait_object $end
+$upscope $end
+$scope module CONSUMER $end
+$var wire 3 - state $end
+$var wire 1 . running $end
+$var wire 4 / processor $end
+$var wire 5 0 priority $end
+$var wire 3 1 wait_kind $end
+$var wire 8 2 wait_object $end
+$upscope $end
+$upscope $end
+$scope module objects $end
+$scope module QUEUE $end
+$var wire 8 3 words $end
+$var wire 8 4 waiting $end
+$upscope $end
+$upscope $end
+$upscope $end
+END
+sed -n '/^.scope module fmp/,/^.enddefinitions/p' queue.vcd | sed '$d' | cmp -s - names
+verdict 'waves: names' "$([ $? -eq 0 ] || echo 'they are other than they should be')"
+
+# A task that disables dispatching, takes of a semaphore, writes a word, is refused a priority, locks the processor, and
+# ends by a fault; between, an interrupt that pends until the processor is unlocked.
+cat > held.cfg <<'END'
+NUM_PRC(1);
+CLASS(TCL_1) {
+    CRE_TSK(A, { TA_ACT, 0, a, 10, 256, NULL });
+    CRE_SEM(S, { 0, 3, 9 });
+    CRE_SHR(W, { -1 });
+    DEF_INH(3, { 0, h });
+}
+END
+cat > held.src <<'END'
+task a { var x; dis_dsp(); pol_sem(S); st_shr(W, 1); chg_pri(A, 17); loc_cpu(); unl_cpu(); x = 1 / 0; }
+handler h { }
+END
+for step in 'run 1' 'run 1' 'run 1' 'run 1' 'run 1' 'int 3' 'run 1' 'run 1' 'run 1'; do echo "$step"; done > held.steps
+"$fmp" build held.cfg held.src held.img > built || exit 2
+run 'waves: held' 0 waves held.img held.steps held.vcd
+cat > values <<'END'
+$var wire 5 * priority $end
+$var wire 3 + wait_kind $end
+$var wire 8 , wait_object $end
+$upscope $end
+$upscope $end
+$scope module interrupt $end
+$scope module i3 $end
+$var wire 2 - handling $end
+$upscope $end
+$upscope $end
+$scope module objects $end
+$scope module S $end
+$var wire 16 . count $end
+$var wire 8 / waiting $end
+$upscope $end
+$scope module W $end
+$var integer 32 0 value $end
+$upscope $end
+$upscope $end
+$upscope $end
+$enddefinitions $end
+#0
+$dumpvars
+b00000000000000000000000000000000 !
+b00000001 "
+b000000000 #
+b000000000 $
+1%
+b00 &
+b010 '
+1(
+b0001 )
+b01010 *
+b000 +
+b00000000 ,
+b00 -
+b0000000000000011 .
+b00000000 /
+b11111111111111111111111111111111 0
+$end
+#1
+0%
+#2
+b0000000000000010 .
+#3
+b00000000000000000000000000000001 0
+#4
+b01 &
+#5
+b000000001 $
+b00 &
+#6
+b01 -
+#7
+b100000011 #
+b000000000 $
+b10 -
+#8
+b000000000 #
+b00 -
+#9
+b00000000 "
+1%
+b10 &
+b000 '
+0(
+#10
+END
+sed -n '/priority/,$p' held.vcd | cmp -s - values
+verdict 'waves: held, values' "$([ $? -eq 0 ] || echo 'they are other than they should be')"
+
+# A task that sends two words and takes one out, and sends a message and takes it out: what the queues hold then.
+cat > lengths.cfg <<'END'
+NUM_PRC(1);
+CLASS(TCL_1) {
+    CRE_TSK(A, { TA_ACT, 0, a, 10, 256, NULL });
+    CRE_DTQ(D, { 0, 2, NULL });
+    CRE_MBX(M, { 0, 1, NULL });
+    CRE_MSG(G, { 1 });
+}
+END
+cat > lengths.src <<'END'
+task a { var x; psnd_dtq(D, 5); psnd_dtq(D, 6); snd_mbx(M, G); prcv_dtq(D, &x); prcv_mbx(M, &x); }
+END
+for step in 1 2 3 4 5 6; do echo 'run 1'; done > lengths.steps
+"$fmp" build lengths.cfg lengths.src lengths.img > built || exit 2
+run 'waves: lengths' 0 waves lengths.img lengths.steps lengths.vcd
+cat > values <<'END'
+$scope module objects $end
+$scope module D $end
+$var wire 8 - words $end
+$var wire 8 . waiting $end
+$upscope $end
+$scope module M $end
+$var wire 8 / messages $end
+$var wire 8 0 waiting $end
+$upscope $end
+$upscope $end
+$upscope $end
+$enddefinitions $end
+#0
+$dumpvars
+b00000000000000000000000000000000 !
+b00000001 "
+b000000000 #
+b000000000 $
+1%
+b00 &
+b010 '
+1(
+b0001 )
+b01010 *
+b000 +
+b00000000 ,
+b00000000 -
+b00000000 .
+b00000000 /
+b00000000 0
+$end
+#1
+b00000001 -
+#2
+b00000010 -
+#3
+b00000001 /
+#4
+b00000001 -
+#5
+b00000000 /
+#6
+b00000000 "
+b000 '
+0(
+#7
+END
+sed -n '/module objects/,$p' lengths.vcd | cmp -s - values
+verdict 'waves: lengths, values' "$([ $? -eq 0 ] || echo 'they are other than they should be')"
+
+# The picture of the queue: its lanes in order, each with what its boxes and its calls say first. The urgent task stands
+# above the other.
+cat > lanes.py <<'END'
+import sys
+import xml.etree.ElementTree as tree
+
+KINDS = ("Processor ", "Task ", "Handler ", "semaphore ", "flag ", "data queue ", "mailbox ", "shared word ")
+for lane in tree.parse(sys.argv[1]).iter("{http://www.w3.org/2000/svg}g"):
+    label = lane.get("aria-label", "")
+    if label.startswith(KINDS):
+        print(label)
+        for title in lane.iter("{http://www.w3.org/2000/svg}title"):
+            print(" ", title.text.split("\n")[0])
+END
+lanes() { # lanes NAME: the lanes of the picture 'queue.svg' are those of the file 'wanted'
+    python3 lanes.py queue.svg > output 2> errors
+    status=$?
+    problem=
+    [ $status -eq 0 ] || problem="no XML: $(tail -1 errors); "
+    cmp -s wanted output || problem="${problem}they are other than they should be"
+    verdict "$1" "$problem"
+    : > wanted
+}
+run 'timeline: queue' 0 timeline queue.img queue.steps queue.svg --objects
+cat > wanted <<'END'
+Processor 1
+  p1: PRODUCER, events 0 to 1
+  p1: CONSUMER, events 1 to 2
+  p1: PRODUCER, events 2 to 3
+  p1: CONSUMER, events 3 to 5
+  p1: PRODUCER, events 5 to 6
+  p1: idle, from event 6 on
+Task CONSUMER on processor 1
+  CONSUMER DORMANT, p1, events 0 to 1
+  CONSUMER RUNNING, p1, events 1 to 2
+  CONSUMER WAITING ←QUEUE, p1, events 2 to 3
+  CONSUMER RUNNING, p1, events 3 to 5
+  CONSUMER DORMANT, p1, from event 5 on
+  2 p1 CONSUMER rcv_dtq(1) wait
+  4 p1 CONSUMER put(42) E_OK
+Task PRODUCER on processor 1
+  PRODUCER RUNNING, p1, events 0 to 1
+  PRODUCER READY, p1, events 1 to 2
+  PRODUCER RUNNING, p1, events 2 to 3
+  PRODUCER READY, p1, events 3 to 5
+  PRODUCER RUNNING, p1, events 5 to 6
+  PRODUCER DORMANT, p1, from event 6 on
+  1 p1 PRODUCER act_tsk(2) E_OK
+  3 p1 PRODUCER snd_dtq(1,42) E_OK
+data queue QUEUE
+  QUEUE = 0, events 0 to 2
+  QUEUE = 0, waiting: CONSUMER, events 2 to 3
+  QUEUE = 0, from event 3 on
+END
+lanes 'timeline: lanes'
+run 'timeline: two events' 0 timeline queue.img queue.steps queue.svg --from 2 --to 3
+cat > wanted <<'END'
+Processor 1
+  p1: PRODUCER, events 2 to 3
+  p1: CONSUMER, events 3 to 5
+Task CONSUMER on processor 1
+  CONSUMER WAITING ←QUEUE, p1, events 2 to 3
+  CONSUMER RUNNING, p1, events 3 to 5
+  2 p1 CONSUMER rcv_dtq(1) wait
+Task PRODUCER on processor 1
+  PRODUCER RUNNING, p1, events 2 to 3
+  PRODUCER READY, p1, events 3 to 5
+  3 p1 PRODUCER snd_dtq(1,42) E_OK
+END
+lanes 'timeline: lanes of two events'
+run 'timeline: up to the end and beyond' 0 timeline queue.img queue.steps late.svg --from 6 --to 1048576
+verdict 'timeline: the last event' "$(grep -q 'events 6–6 of 0–6' late.svg || echo 'it does not say so')"
+
+# Marks, lane by lane: what shape each has, and the first line of its event.
+cat > marks.py <<'END'
+import sys
+import xml.etree.ElementTree as tree
+
+SVG = "{http://www.w3.org/2000/svg}"
+for group in tree.parse(sys.argv[1]).iter(SVG + "g"):
+    shape, title = group.find(SVG + "use"), group.find(SVG + "title")
+    if shape is not None and title is not None:
+        print(shape.get("href"), title.text.split("\n")[0])
+END
+drawn() { # drawn SYSTEM WORD..: the picture 'SYSTEM.svg' of an example
+    system=$1
+    shift
+    "$fmp" build "$root/examples/$system.cfg" "$root/examples/$system.src" "$system.img" > built || exit 2
+    "$view" timeline "$system.img" "$root/examples/$system.steps" "$system.svg" "$@"
+}
+marks() { # marks SYSTEM: the marks of its picture are those of the file 'wanted'
+    drawn "$1" && python3 marks.py "$1.svg" > output 2> errors
+    [ $? -eq 0 ] && cmp -s wanted output
+    verdict "timeline: marks of $1" "$([ $? -eq 0 ] || echo 'they are other than they should be')"
+    : > wanted
+}
+cat > wanted <<'END'
+#act 0 p1 WATCHDOG starts
+#rel 2 p1 WORKER wup_tsk(1) E_OK
+#rel 7 p1 WORKER wup_tsk(1) E_OK
+#tmo 13 tick 5
+#rel 18 p1 WORKER wup_tsk(1) E_OK
+#act 0 p1 WATCHDOG starts
+#rel 6 tick 2
+#rel 11 tick 4
+#ter 15 p1 WATCHDOG ter_tsk(2) E_OK
+#act 16 p1 WATCHDOG act_tsk(2) E_OK
+END
+marks watchdog
+
+# A mark stands where the task is after the event; where it was before, if its call was refused or its body ended.
+cat > wanted <<'END'
+#act 0 p1 BALANCE starts
+#refused 1 p1 BALANCE mig_tsk(3,2) E_PAR
+#refused 3 p1 BALANCE mig_tsk(2,1) E_OBJ
+#act 0 p1 BALANCE starts
+#act 9 p2 JOB end
+#end 11 p1 JOB end
+#act 0 p1 BALANCE starts
+#end 13 p1 FIXED end
+#end 8 p2 BALANCE end
+#queued 4 p1 BALANCE mact_tsk(2,1) E_OK
+#end 9 p2 JOB end
+END
+marks migration
+cat > wanted <<'END'
+#int 3 int 3
+#end 7 p1 #3 end
+#int 11 int 3
+#end 13 p1 #3 end
+#act 0 p1 MAIN starts
+#end 14 p1 MAIN end
+#act 0 p1 MAIN starts
+#rel 6 p1 #3 iwup_tsk(2) E_OK
+#rel 12 p1 #3 iwup_tsk(2) E_OK
+#act 0 p1 MAIN starts
+END
+marks interrupt
+cmp -s "$root/docs/timeline.svg" interrupt.svg
+verdict 'timeline: the picture of the README' "$([ $? -eq 0 ] || echo 'it is not what the program draws')"
+
+# Who holds a lock, and who spins for it: up to the call that gets it.
+drawn pipeline
+sed -n 's/.*<title>\(p[12]: .*\(held\|spins for\).*\)$/\1/p' pipeline.svg > output
+cat > wanted <<'END'
+p1: spin lock LOCK held, events 2 to 5
+p1: spin lock LOCK held, events 7 to 10
+p2: spin lock LOCK held, events 11 to 15
+p2: spin lock LOCK held, events 19 to 22
+p2: spins for LOCK, events 7 to 11
+END
+cmp -s wanted output
+verdict 'timeline: locks of pipeline' "$([ $? -eq 0 ] || echo 'they are other than they should be')"
+: > wanted
+
+# Each example's picture is XML.
+for text in "$root"/examples/*.steps; do
+    system=$(basename "$text" .steps)
+    drawn "$system" --objects && python3 lanes.py "$system.svg" > output 2> errors
+    verdict "timeline: $system" "$([ $? -eq 0 ] || echo "no picture, or no XML: $(tail -1 errors)")"
+done
+
+# A long run of many tasks: within 64 MB of memory and 40 MB of picture.
+awk 'BEGIN {
+    print "NUM_PRC(8);"
+    for (p = 1; p <= 8; p++) {
+        print "CLASS(TCL_" p ") {"
+        for (i = p; i <= 255; i += 8)
+            printf "CRE_TSK(TASK_%d, { TA_ACT, %d, work, %d, 256, NULL });\n", i, i, i % 16 + 1
+        printf "CRE_SEM(SEM_%d, { TA_TFIFO, 1, 4 });\n", p
+        printf "DEF_INH(%d, { TA_NULL, knock });\n", p
+        printf "CRE_CYC(CYC_%d, { TA_STA, %d, beat, %d, 0 });\n", p, p, 20 + p
+        print "}"
+    } }' > many.cfg
+cat > many.src <<'END'
+task work {
+    while (1) {
+        sig_sem(exinf % 8 + 1);
+        dly_tsk(exinf % 5);
+        twai_sem(exinf * 3 % 8 + 1, exinf % 7);
+        act_tsk(exinf % 255 + 1);
+        mig_tsk(0, exinf * 5 % 8 + 1);
+        wup_tsk((exinf + 1) % 255 + 1);
+        tslp_tsk(exinf % 3);
+    }
+}
+handler knock { iwup_tsk(7); isig_sem(1); }
+handler beat { isig_sem(exinf); }
+END
+"$fmp" build many.cfg many.src many.img > built || exit 2
+"$view" drive many.img --events 10000 --seed 1 > many.steps 2> errors
+(ulimit -v 65536 && "$view" timeline many.img many.steps many.svg --objects) 2> errors
+verdict 'timeline: 255 tasks, 10,000 events' "$([ $? -eq 0 ] || echo "it fails: $(tail -1 errors)")"
+size=$(wc -c < many.svg)
+verdict 'timeline: the size of its picture' "$([ "$size" -gt 1000000 ] && [ "$size" -le 40000000 ] || echo "$size bytes")"
+python3 lanes.py many.svg > output 2> errors
+verdict 'timeline: a lane for each of its processors' "$([ "$(grep -c '^Processor ' output)" -eq 144 ] || tail -1 errors)"
+
+# Faults, as `fmp` has them.
+printf 'FMP' > short.img
+echo 'image: L1' > said
+run 'stats: a short image' 1 stats short.img queue.steps
+printf 'run 1\nrun one\n' > wrong.steps
+echo 'steps:2: S1' > said
+run 'waves: a wrong step' 1 waves queue.img wrong.steps none.vcd
+verdict 'waves: no file after a fault' "$([ ! -e none.vcd ] || echo 'there is one')"
+echo 'file: none.img' > said
+run 'drive: no image' 3 drive none.img
+cp queue.img same.img
+"$view" waves same.img queue.steps same.img > output 2> errors
+[ $? -eq 2 ] && grep -q 'the file OUT is one of the two that are read' errors && cmp -s queue.img same.img
+verdict 'waves: over the image' "$([ $? -eq 0 ] || echo 'it is not refused')"
+for code in B9 E_PA; do
+    "$view" code $code > output 2> errors
+    [ $? -eq 2 ] && grep -q 'no code is printed so' errors
+    verdict "code: $code" "$([ $? -eq 0 ] || echo 'it is not refused')"
+done
+"$view" timeline same.img queue.steps ./same.img > output 2> errors
+[ $? -eq 2 ] && grep -q 'the file OUT is one of the two that are read' errors && cmp -s queue.img same.img
+verdict 'timeline: over the image' "$([ $? -eq 0 ] || echo 'it is not refused')"
+cp queue.steps same.steps
+"$view" timeline queue.img same.steps ./same.steps > output 2> errors
+[ $? -eq 2 ] && grep -q 'the file OUT is one of the two that are read' errors && cmp -s queue.steps same.steps
+verdict 'timeline: over the steps' "$([ $? -eq 0 ] || echo 'it is not refused')"
+echo 'file: none/queue.svg' > said
+run 'timeline: in no folder' 3 timeline queue.img queue.steps none/queue.svg
+echo 'file: none.img' > said
+run 'timeline: no image' 3 timeline none.img queue.steps none.svg
+echo 'file: none.steps' > said
+run 'timeline: no steps' 3 timeline queue.img none.steps none.svg
+echo 'image: L1' > said
+run 'timeline: a short image' 1 timeline short.img queue.steps none.svg
+refused() { # refused NAME SAID WORD..: a picture with these words is refused with status 2, and there is no file of it
+    name=$1 message=$2
+    shift 2
+    "$view" timeline queue.img queue.steps none.svg "$@" > output 2> errors
+    [ $? -eq 2 ] && grep -q -e "$message" errors && [ ! -s output ] && [ ! -e none.svg ]
+    verdict "$name" "$([ $? -eq 0 ] || echo "it is not, but says '$(head -c 200 errors)'")"
+}
+refused 'timeline: from beyond the run' 'the run has no event so late: its last is 6' --from 7
+refused 'timeline: from later than to' '--from is later than --to' --from 4 --to 3
+refused 'timeline: to beyond 2^20' '1048577' --to 1048577
+refused 'timeline: from beyond 2^20' '1048577' --from 1048577
+refused 'timeline: one file more' 'more.svg' more.svg
+refused 'timeline: from that is no number' 'first' --from first
+echo 'steps:2: S1' > said
+run 'timeline: a wrong step' 1 timeline queue.img wrong.steps none.svg
+verdict 'timeline: no file after a fault' "$([ ! -e none.svg ] || echo 'there is one')"
+
+# Each step of a drive does something: a run of them has as many events.
+for seed in 1 2 3 4 5 6 7 8; do
+    for system in queue watchdog interrupt; do
+        "$view" drive $system.img --events 60 --seed $seed > driven 2> errors
+        "$fmp" sim $system.img driven > trace
+        steps=$(wc -l < driven)
+        events=$(grep '^[0-9]' trace | tail -1 | cut -d ' ' -f 1)
+        verdict "drive: $system by $seed" "$([ "$steps" -eq "$events" ] || echo "$steps steps, $events events")"
+    done
+done
+
+echo "checks/program/view.sh: $passed passed, $failed failed"
+[ $failed -eq 0 ]
