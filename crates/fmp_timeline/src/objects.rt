@@ -3,7 +3,9 @@ use crate::marks::task_named;
 use crate::names::Topic;
 use crate::states::Moment;
 use crate::tracks::Track;
-use fmp_base::{Call, Caller, Er, Line, Phase, QueueOrder, System, TaskBlock, WaitCause};
+use fmp_base::{
+    Action, Call, Caller, Er, Line, ObjectKind, Phase, QueueOrder, System, TaskBlock, WaitCause,
+};
 use std::alloc::{AllocError, Global};
 
 /// What the lane of an object shows.
@@ -64,30 +66,27 @@ fn topic_of(cause: WaitCause) -> Option<Topic> {
     }
 }
 
+/// The queue that a call names by this number, if it sends to one or receives from one.
+fn queue_named(kind: ObjectKind, number: i32) -> Option<Topic> {
+    let place = u8::try_from(number.checked_sub(1)?).ok()?;
+    match kind {
+        ObjectKind::DataQueue => Some(Topic::DataQueue(place)),
+        ObjectKind::Mailbox => Some(Topic::Mailbox(place)),
+        _ => None,
+    }
+}
+
 /// The object of which an accepted call that releases no task queues one more, or one less.
 fn level_change(call: Call) -> Option<(Topic, i32)> {
-    let (place, queue, change) = match call {
-        Call::SndDtq { queue, .. }
-        | Call::PsndDtq { queue, .. }
-        | Call::TsndDtq { queue, .. }
-        | Call::FsndDtq { queue, .. }
-        | Call::IpsndDtq { queue, .. }
-        | Call::IfsndDtq { queue, .. } => (queue, true, 1),
-        Call::RcvDtq { queue } | Call::PrcvDtq { queue } | Call::TrcvDtq { queue, .. } => {
-            (queue, true, -1)
-        }
-        Call::SndMbx { mailbox, .. } => (mailbox, false, 1),
-        Call::RcvMbx { mailbox } | Call::PrcvMbx { mailbox } | Call::TrcvMbx { mailbox, .. } => {
-            (mailbox, false, -1)
-        }
+    let service = call.service();
+    let change = match service.action()? {
+        Action::Gives => 1,
+        Action::Takes => -1,
         _ => return None,
     };
-    let place = u8::try_from(place.checked_sub(1)?).ok()?;
-    let topic = if queue {
-        Topic::DataQueue(place)
-    } else {
-        Topic::Mailbox(place)
-    };
+    let kind = service.parameters().first()?.object_kind()?;
+    let arguments = call.arguments();
+    let topic = queue_named(kind, *arguments.as_slice().first()?)?;
     Some((topic, change))
 }
 
