@@ -9,8 +9,8 @@ samples (5000) of two changed bytes of each, and as many of bytes changed, cut o
 come the images of image_limits.py: rows, names, instructions, calls and sizes at their limits and past them. For each,
 `fmp sim` over no steps must answer the first fault that image_format.py finds, status and text, or print what the
 tables imply: the lines of setup and the states. Where one task alone has started, so must its first runs, up to a
-call that is not `put`. And the tables that were read must spell the same bytes again. With --least only the bytes of the
-first image are set.
+call that is not `put`. And the tables that were read must spell the same bytes again. With --least only the bytes of
+the first image are set.
 
 It prints how many were compared and what they answered. At the first difference it prints the image and both
 answers, and its status is 1.

@@ -162,6 +162,10 @@ def page(manual):
 
 # The completions
 
+def made_for(shell, name):
+    return f"# Completion of {name} for {shell}. Made by checks/program/manual.py from the program's help."
+
+
 def bash(manual):
     cases = []
     for name, options in manual.options().items():
@@ -170,7 +174,7 @@ def bash(manual):
     valued = "|".join(it.names()[-1] for options in manual.options().values() for it in options if it.takes())
     first = " ".join([*manual.commands, "help", *(it for item in manual.top.items["Options"] for it in item.names())])
     return "\n".join([
-        f"# Completion of {manual.name} for bash. Made by checks/program/manual.py from the program's help.",
+        made_for("bash", manual.name),
         f"_{manual.name}() {{",
         '    local word=${COMP_WORDS[COMP_CWORD]} before=${COMP_WORDS[COMP_CWORD-1]} words=""',
         "    COMPREPLY=()",
@@ -201,8 +205,7 @@ def zsh(manual):
         return quoted(text.replace("[", "\\[").replace("]", "\\]").replace(":", "\\:"))
 
     name = manual.name
-    lines = [f"#compdef {name}", f"# Completion of {name} for zsh. Made by checks/program/manual.py from the program's help."]
-    lines += [f"_{name}() {{", "    local -a commands", "    commands=("]
+    lines = [f"#compdef {name}", made_for("zsh", name), f"_{name}() {{", "    local -a commands", "    commands=("]
     lines += [f"        '{name}:{named(command.about)}'" for name, command in manual.commands.items()]
     lines += ["    )", "    if (( CURRENT == 2 )); then", "        _describe command commands", "        return"]
     lines += ["    fi", "    case $words[2] in"]
@@ -225,7 +228,7 @@ def fish(manual):
         value = " -x" if item.takes() else ""
         return f"complete -c {manual.name} -n '{condition}' {' '.join(words)}{value} -d '{quoted(item.text)}'"
 
-    lines = [f"# Completion of {manual.name} for fish. Made by checks/program/manual.py from the program's help."]
+    lines = [made_for("fish", manual.name)]
     for name, command in manual.commands.items():
         lines.append(f"complete -c {manual.name} -f -n __fish_use_subcommand -a {name} -d '{quoted(command.about)}'")
     lines += [one("__fish_use_subcommand", item) for item in manual.top.items["Options"]]

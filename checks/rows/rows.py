@@ -1,6 +1,6 @@
 #!/usr/bin/env python3
-"""Tries the program on the rows of its texts, images, steps and runs: the worked systems with what they print, each fault
-of the texts, and what is changed in images.
+"""Tries the program on the rows of its texts, images, steps and runs: the worked systems with what they print, each
+fault of the texts, and what is changed in images.
 
     checks/rows/rows.py [PROGRAM]
 
