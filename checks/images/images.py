@@ -32,7 +32,7 @@ from pathlib import Path
 sys.dont_write_bytecode = True  # the folders of the checks stay as they are
 sys.path[0] = str(Path(__file__).resolve().parents[1])  # the folder `checks`, whose folders are packages
 
-from common.program import PROGRAM, Program  # noqa: E402
+from common.program import Program, located  # noqa: E402
 from images.image_format import Fault, read, spell  # noqa: E402
 from images.image_limits import all_limits  # noqa: E402
 from images.image_runs import lone_task_lines, setup_lines, started_tasks, state_lines, text  # noqa: E402
@@ -212,14 +212,12 @@ def compare_built(path):
 
 def main():
     parser = argparse.ArgumentParser(description="Compares what the program makes of changed images with the format.")
-    parser.add_argument("--program", metavar="PATH", type=Path, default=PROGRAM, help="the program to compare")
+    parser.add_argument("--program", metavar="PATH", type=Path, help="the program to compare")
     parser.add_argument("--seed", type=int, default=1, help="the seed of the samples (1)")
     parser.add_argument("--samples", metavar="COUNT", type=int, default=5000, help="samples of each kind (5000)")
     parser.add_argument("--least", action="store_true", help="only the image of one task, with one byte changed")
     options = parser.parse_args()
-    path = options.program.resolve()
-    if not path.is_file():
-        parser.error(f"no program {path}: `rt run` in crates/fmp makes it")
+    path = located("fmp", options.program)
     began, total = time.monotonic(), Counter()
     compare_built(path)
     with ProcessPoolExecutor(PROCESSES) as pool:
