@@ -1,10 +1,28 @@
-"""The program as the checks run it: started with least cost, since they start it very often."""
+"""Where the programs are, and how the checks run them: started with least cost, since they start very often."""
 
+import argparse
 import os
+import sys
 from pathlib import Path
 
 ROOT = Path(__file__).resolve().parents[2]
-PROGRAM = ROOT / "crates" / "fmp" / "out" / "fmp"
+
+
+def located(crate, path=None):
+    """Where the program of a crate is: at a path, or else where `rt ci` and `rt run` leave it. Where there is none, the
+    script ends with status 2."""
+    path = Path(path or ROOT / "crates" / crate / "out" / crate).resolve()
+    if not os.access(path, os.X_OK) or path.is_dir():
+        print(f"{sys.argv[0]}: there is no program {path}: `rt run` in crates/{crate} makes it", file=sys.stderr)
+        sys.exit(2)
+    return path
+
+
+def program_of_words(about, crate):
+    """The program of a script whose command line may name it, and has no other words."""
+    parser = argparse.ArgumentParser(description=about)
+    parser.add_argument("program", metavar="PROGRAM", nargs="?", type=Path, help=f"crates/{crate}/out/{crate}")
+    return located(crate, parser.parse_args().program)
 
 
 class Program:

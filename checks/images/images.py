@@ -9,8 +9,8 @@ samples (5000) of two changed bytes of each, and as many of bytes changed, cut o
 come the images of image_limits.py: rows, names, instructions, calls and sizes at their limits and past them. For each,
 `fmp sim` over no steps must answer the first fault that image_format.py finds, status and text, or print what the
 tables imply: the lines of setup and the states. Where one task alone has started, so must its first runs, up to a
-call that is not `put`. And the tables that were read must spell the same bytes again. With --least only the bytes of the
-first image are set.
+call that is not `put`. And the tables that were read must spell the same bytes again. With --least only the bytes of
+the first image are set.
 
 It prints how many were compared and what they answered. At the first difference it prints the image and both
 answers, and its status is 1.
@@ -32,7 +32,7 @@ from pathlib import Path
 sys.dont_write_bytecode = True  # the folders of the checks stay as they are
 sys.path[0] = str(Path(__file__).resolve().parents[1])  # the folder `checks`, whose folders are packages
 
-from common.program import PROGRAM, Program  # noqa: E402
+from common.program import Program, located  # noqa: E402
 from images.image_format import Fault, read, spell  # noqa: E402
 from images.image_limits import all_limits  # noqa: E402
 from images.image_runs import lone_task_lines, setup_lines, started_tasks, state_lines, text  # noqa: E402
@@ -212,14 +212,12 @@ def compare_built(path):
 
 def main():
     parser = argparse.ArgumentParser(description="Compares what the program makes of changed images with the format.")
-    parser.add_argument("--program", metavar="PATH", type=Path, default=PROGRAM, help="the program to compare")
+    parser.add_argument("--program", metavar="PATH", type=Path, help="the program to compare")
     parser.add_argument("--seed", type=int, default=1, help="the seed of the samples (1)")
     parser.add_argument("--samples", metavar="COUNT", type=int, default=5000, help="samples of each kind (5000)")
     parser.add_argument("--least", action="store_true", help="only the image of one task, with one byte changed")
     options = parser.parse_args()
-    path = options.program.resolve()
-    if not path.is_file():
-        parser.error(f"no program {path}: `rt run` in crates/fmp makes it")
+    path = located("fmp", options.program)
     began, total = time.monotonic(), Counter()
     compare_built(path)
     with ProcessPoolExecutor(PROCESSES) as pool:

@@ -6,31 +6,15 @@ processor goes on, so that to run any of them once more does nothing.
     checks/model/drives.py [COUNT [SEED]] [--view PATH] [--program PATH]
 """
 
-import argparse
-import shutil
-import subprocess
 import sys
-import tempfile
 from pathlib import Path
 
 sys.dont_write_bytecode = True  # the folders of the checks stay as they are
 sys.path[0] = str(Path(__file__).resolve().parents[1])  # the folder `checks`, whose folders are packages
 
-from model.systems import Generator  # noqa: E402
+from model.harness import BOUND, expect, main  # noqa: E402
 
-ROOT = Path(__file__).resolve().parents[2]
-PROGRAM = ROOT / "crates" / "fmp" / "out" / "fmp"
-VIEW = ROOT / "crates" / "fmp_view" / "out" / "fmp_view"
-BOUND = 10000  # enough for every stretch of a random body that comes to a call
 EVENTS = 80
-
-
-def run(words, folder):
-    """What a command prints and says."""
-    done = subprocess.run(words, cwd=folder, capture_output=True, text=True, check=False)
-    if done.returncode != 0:
-        sys.exit(f"{' '.join(str(word) for word in words)}: status {done.returncode}: {done.stderr}")
-    return done.stdout, done.stderr
 
 
 def events_of(trace):
@@ -39,57 +23,35 @@ def events_of(trace):
     return max(int(number) for number in numbers if number.isdigit())
 
 
-def simulated(options, text, folder):
+def simulated(trial, text):
     """The trace of the image over this steps text."""
-    (folder / "driven.steps").write_text(text)
-    return run([options.program, "sim", "system.img", "driven.steps", "--bound", str(BOUND)], folder)[0]
+    trial.write("driven.steps", text)
+    return trial.simulated("driven.steps")
 
 
-def fault(options, seed, processors, folder):
-    """What is wrong with the drive of the image by this seed (None: in turn), if anything is."""
-    order = [] if seed is None else ["--seed", str(seed)]
-    words = [options.view, "drive", "system.img", "--events", str(EVENTS), "--bound", str(BOUND), *order]
-    text, why = run(words, folder)
-    steps = text.count("\n")
-    trace = simulated(options, text, folder)
-    if events_of(trace) != steps:
-        return f"{steps} steps make {events_of(trace)} events"
-    if steps > EVENTS or (steps == EVENTS) != (not why.startswith("quiet")):
-        return f"{steps} steps, and it says {why!r}"
+def drive(trial, order, processors):
+    """Drives the image in an order, which is an option or nothing, and runs it over the steps."""
+    text, why = trial.run("fmp_view", f"drive system.img --events {EVENTS} --bound {BOUND} {order}")
+    steps, is_quiet = text.count("\n"), why.startswith("quiet")
+    trace = simulated(trial, text)
+    name = f"the drive {order or 'in turn'}"
+    expect(events_of(trace) == steps, f"{name}: {steps} steps make {events_of(trace)} events")
+    expect(steps <= EVENTS and (steps == EVENTS) != is_quiet, f"{name}: {steps} steps, and it says {why!r}")
     again = text + "".join(f"run {number}\n" for number in range(1, processors + 1))
-    if why.startswith("quiet") and simulated(options, again, folder) != trace:
-        return "a processor goes on where it says 'quiet'"
-    return None
+    expect(not is_quiet or simulated(trial, again) == trace, f"{name}: a processor goes on where it says 'quiet'")
 
 
-def drive(options, folder):
-    """How many drives are right."""
+def check(trial):
+    """Drives each system, with its processors in turn and in a random order."""
     count = 0
-    for current in range(options.seed, options.seed + options.count):
-        case = Generator(current).case()
-        (folder / "system.cfg").write_text(case.configuration)
-        (folder / "system.src").write_text(case.source)
-        run([options.program, "build", "system.cfg", "system.src", "system.img"], folder)
-        for seed in (None, current):
-            problem = fault(options, seed, case.system.processor_count, folder)
-            if problem:
-                sys.exit(f"seed {current}, order {seed}: {problem}; the texts are in {folder}")
+    for seed, generator in trial.systems():
+        case = generator.case()
+        trial.build(case.configuration, case.source)
+        for order in ("", f"--seed {seed}"):
+            drive(trial, order, case.system.processor_count)
             count += 1
-    return count
-
-
-def main():
-    parser = argparse.ArgumentParser(description="Drives random systems and runs them over the steps.")
-    parser.add_argument("count", metavar="COUNT", nargs="?", type=int, default=1000, help="systems (1000)")
-    parser.add_argument("seed", metavar="SEED", nargs="?", type=int, default=1, help="the first seed (1)")
-    parser.add_argument("--view", metavar="PATH", type=Path, default=VIEW, help="the program that drives")
-    parser.add_argument("--program", metavar="PATH", type=Path, default=PROGRAM, help="the program that runs")
-    options = parser.parse_args()
-    options.view, options.program = options.view.resolve(), options.program.resolve()
-    folder = Path(tempfile.mkdtemp(prefix="fmp-drives-"))
-    print(f"checks/model/drives.py: {drive(options, folder)} drives of {options.count} systems are right")
-    shutil.rmtree(folder)
+    print(f"checks/model/drives.py: {count} drives of {trial.count} systems are right")
 
 
 if __name__ == "__main__":
-    main()
+    sys.exit(main("Drives random systems and runs them over the steps.", 1000, ("fmp", "fmp_view"), check))

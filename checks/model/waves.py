@@ -6,35 +6,22 @@ and one of 255 tasks over 10,000 events with nothing on standard error.
     checks/model/waves.py [COUNT [SEED]] [--view PATH] [--program PATH]
 """
 
-import argparse
 import shutil
 import subprocess
 import sys
-import tempfile
 from pathlib import Path
 
 sys.dont_write_bytecode = True  # the folders of the checks stay as they are
 sys.path[0] = str(Path(__file__).resolve().parents[1])  # the folder `checks`, whose folders are packages
 
+from common.program import ROOT  # noqa: E402
+from model.harness import BOUND, Wrong, expect, main  # noqa: E402
 from model.kernel import Kernel  # noqa: E402
-from model.systems import Generator  # noqa: E402
 from model.world import CPU, FREE, CyclicHandler, State  # noqa: E402
 
-ROOT = Path(__file__).resolve().parents[2]
 EXAMPLES = ROOT / "examples"
-PROGRAM = ROOT / "crates" / "fmp" / "out" / "fmp"
-VIEW = ROOT / "crates" / "fmp_view" / "out" / "fmp_view"
-BOUND = 10000  # enough for every stretch of a random body that comes to a call
 CONVERTERS = ("vcd2fst", "vcd2lxt", "vcd2lxt2", "vcd2vzt")
 STATES = {"DORMANT": 0, "READY": 1, "RUNNING": 2, "WAITING": 3, "SUSPENDED": 4, "WAITING-SUSPENDED": 5}
-
-
-def run(words, folder):
-    """Runs a command that must end well; what it says on standard error."""
-    done = subprocess.run(words, cwd=folder, capture_output=True, text=True, check=False)
-    if done.returncode != 0:
-        sys.exit(f"{' '.join(str(word) for word in words)}: status {done.returncode}: {done.stderr}")
-    return done.stderr
 
 
 # What the model says
@@ -139,9 +126,9 @@ def variables_of(head):
     return names
 
 
-def dumped_values(path):
+def dumped_values(dump):
     """The values of all variables after setup and after each event; at last once more the last ones."""
-    lines = path.read_text().split("\n")
+    lines = dump.split("\n")
     end = lines.index("$enddefinitions $end")
     names = variables_of(lines[:end])
     values, states = {}, []
@@ -162,113 +149,85 @@ def dumped_values(path):
 # Both
 
 
-def converted(dump, folder):
-    """What the first converter that is not silent says, if one is."""
-    for converter in CONVERTERS:
-        if shutil.which(converter):
-            words = [converter, dump, "converted"]
-            done = subprocess.run(words, cwd=folder, capture_output=True, text=True, check=False)
-            if done.returncode != 0 or done.stderr:
-                return f"{converter}: status {done.returncode}: {done.stderr}"
-    return None
+def expect_converted(trial, dump):
+    """Each converter that is there takes the dump, and says nothing."""
+    for converter in filter(shutil.which, CONVERTERS):
+        done = subprocess.run([converter, dump, "converted"], cwd=trial.folder, capture_output=True, text=True,
+                              check=False)
+        expect(done.returncode == 0 and not done.stderr, f"{converter}: status {done.returncode}: {done.stderr}")
 
 
-def fault(wanted, dumped):
-    """What is wrong with the values of a dump, if anything is."""
-    if len(dumped) != len(wanted) + 1 or dumped[-1] != dumped[-2]:
-        return f"{len(dumped)} times for {len(wanted) - 1} events"
+def expect_values(dumped, wanted):
+    """A dump has the values that it should have after each event."""
+    expect(len(dumped) == len(wanted) + 1 and dumped[-1] == dumped[-2],
+           f"{len(dumped)} times for {len(wanted) - 1} events")
     for event, (values, said) in enumerate(zip(wanted, dumped)):
         if values != said:
-            names = sorted(name for name in values.keys() | said.keys() if values.get(name) != said.get(name))
-            return f"event {event}: {names[0]} is {said.get(names[0])}, and of the model {values.get(names[0])}"
-    return None
+            name = min(name for name in values.keys() | said.keys() if values.get(name) != said.get(name))
+            raise Wrong(f"event {event}: {name} is {said.get(name)}, and of the model {values.get(name)}")
 
 
-def random_fault(options, seed, folder):
-    """What is wrong with the dump of the system of a seed, if anything is, and how many events it has."""
-    generator = Generator(seed)
-    case = generator.case()
+def random_values(generator, case):
+    """The values of the model after setup and after each event, and the steps."""
     kernel = Kernel(case.system)
-    wanted, steps = [model_values(kernel, "")], []
+    values, steps = [model_values(kernel, "")], []
     for _ in range(case.event_count):
         steps.append(generator.event(kernel.world))
         before, told = kernel.world.event, len(kernel.world.lines)
         kernel.step(steps[-1])
         if kernel.world.event != before:
-            wanted.append(model_values(kernel, kernel.world.lines[told]))
-    (folder / "system.cfg").write_text(case.configuration)
-    (folder / "system.src").write_text(case.source)
-    (folder / "system.steps").write_text("".join(f"{step}\n" for step in steps))
-    run([options.program, "build", "system.cfg", "system.src", "system.img"], folder)
-    run([options.view, "waves", "system.img", "system.steps", "system.vcd", "--bound", str(BOUND)], folder)
-    problem = fault(wanted, dumped_values(folder / "system.vcd"))
-    return problem or converted("system.vcd", folder), kernel.world.event
+            values.append(model_values(kernel, kernel.world.lines[told]))
+    return values, steps
 
 
-def write_great(folder):
-    """A system of 255 tasks on 8 processors, with objects of each kind that they wait for."""
+def dump_one(trial, generator):
+    """Compares the dump of one random system: how many events it has."""
+    case = generator.case()
+    wanted, steps = random_values(generator, case)
+    trial.build(case.configuration, case.source)
+    trial.write("system.steps", "".join(f"{step}\n" for step in steps))
+    trial.run("fmp_view", f"waves system.img system.steps system.vcd --bound {BOUND}")
+    expect_values(dumped_values(trial.read("system.vcd")), wanted)
+    expect_converted(trial, "system.vcd")
+    return len(wanted) - 1
+
+
+def great():
+    """Two texts: 255 tasks on 8 processors, with objects of each kind that they wait for."""
     tasks = "".join(
         f"CLASS(TCL_{n % 8 + 1}) {{ CRE_TSK(T{n},{{TA_ACT,{n},t{n % 4},{n % 15 + 2},256,NULL}}); }}\n"
         for n in range(1, 256))
     objects = ("CRE_SEM(S,{TA_TPRI,3,255}); CRE_FLG(F,{TA_TPRI|TA_WMUL,0}); CRE_DTQ(D,{TA_TPRI,200,NULL}); "
                "CRE_MBX(M,{TA_TPRI|TA_MPRI,16,NULL}); "
                + " ".join(f"CRE_MSG(G{n},{{{n % 16 + 1}}});" for n in range(1, 256)))
-    (folder / "great.cfg").write_text(f"NUM_PRC(8);\nCLASS(TCL_1) {{ {objects} }}\n{tasks}")
-    (folder / "great.src").write_text(
+    source = (
         "task t0 { while (1) { twai_sem(S, 9); dly_tsk(1); sig_sem(S); } }\n"
         "task t1 { while (1) { tsnd_dtq(D, 7, 5); set_flg(F, 1); dly_tsk(2); } }\n"
         "task t2 { var w; while (1) { trcv_dtq(D, &w, 3); twai_flg(F, 1, TWF_ORW, &w, 4); clr_flg(F, 0); } }\n"
         "task t3 { var g; while (1) { snd_mbx(M, exinf); trcv_mbx(M, &g, 3); dly_tsk(3); } }\n")
+    return f"NUM_PRC(8);\nCLASS(TCL_1) {{ {objects} }}\n{tasks}", source
 
 
-def file_fault(options, name, folder, drive):
-    """What the converters say of the dump of the texts of a folder, if anything; it drives the system where asked."""
-    run([options.program, "build", f"{name}.cfg", f"{name}.src", f"{name}.img"], folder)
-    if drive:
-        done = subprocess.run([options.view, "drive", f"{name}.img", "--events", "10000", "--seed", "1"], cwd=folder,
-                              capture_output=True, text=True, check=True)
-        (folder / f"{name}.steps").write_text(done.stdout)
-    run([options.view, "waves", f"{name}.img", f"{name}.steps", f"{name}.vcd"], folder)
-    return converted(f"{name}.vcd", folder)
+def dump_file(trial, name, configuration, source, steps):
+    """Gives the dump of a system over a steps text, or over its drive where there is none, to the converters."""
+    trial.at = f"{name}: "
+    trial.build(configuration, source)
+    trial.write("system.steps", steps or trial.run("fmp_view", "drive system.img --events 10000 --seed 1")[0])
+    trial.run("fmp_view", "waves system.img system.steps system.vcd")
+    expect_converted(trial, "system.vcd")
 
 
-def files_fault(options, folder):
-    """What is wrong with the dump of an example, or of the great system, if anything is."""
-    names = sorted(path.stem for path in EXAMPLES.glob("*.steps"))
-    for name in names:
-        for kind in ("cfg", "src", "steps"):
-            shutil.copy(EXAMPLES / f"{name}.{kind}", folder)
-    write_great(folder)
-    for name in [*names, "great"]:
-        problem = file_fault(options, name, folder, name == "great")
-        if problem:
-            return f"{name}: {problem}"
-    return None
-
-
-def main():
-    parser = argparse.ArgumentParser(description="Compares dumps with a model, and gives them to converters.")
-    parser.add_argument("count", metavar="COUNT", nargs="?", type=int, default=500, help="systems (500)")
-    parser.add_argument("seed", metavar="SEED", nargs="?", type=int, default=1, help="the first seed (1)")
-    parser.add_argument("--view", metavar="PATH", type=Path, default=VIEW, help="the program that writes the dumps")
-    parser.add_argument("--program", metavar="PATH", type=Path, default=PROGRAM, help="the program that builds")
-    options = parser.parse_args()
-    options.view, options.program = options.view.resolve(), options.program.resolve()
-    folder = Path(tempfile.mkdtemp(prefix="fmp-waves-"))
-    problem = files_fault(options, folder)
-    if problem:
-        sys.exit(f"{problem}; the texts are in {folder}")
-    events = 0
-    for seed in range(options.seed, options.seed + options.count):
-        problem, count = random_fault(options, seed, folder)
-        if problem:
-            sys.exit(f"seed {seed}: {problem}; the texts are in {folder}")
-        events += count
+def check(trial):
+    """Dumps the examples, the great system and each random system."""
+    for path in sorted(EXAMPLES.glob("*.steps")):
+        dump_file(trial, path.stem, *(path.with_suffix(f".{kind}").read_text() for kind in ("cfg", "src", "steps")))
+    dump_file(trial, "255 tasks", *great(), "")
+    events = sum(dump_one(trial, generator) for _, generator in trial.systems())
     there = [name for name in CONVERTERS if shutil.which(name)]
-    print(f"checks/model/waves.py: the dumps of {options.count} systems, {events} events, are those of the model")
+    print(f"checks/model/waves.py: the dumps of {trial.count} systems, {events} events, are those of the model")
     print(f"silent over these, the examples and 255 tasks: {', '.join(there) or 'no converter is there'}")
-    shutil.rmtree(folder)
 
 
 if __name__ == "__main__":
-    main()
+    about = "Compares dumps with a model, and gives them to converters."
+    sys.exit(main(about, 500, ("fmp", "fmp_view"), check))

@@ -31,10 +31,15 @@ import sys
 import tempfile
 from pathlib import Path
 
-ROOT = Path(__file__).resolve().parents[2]
+sys.dont_write_bytecode = True  # the folders of the checks stay as they are
+sys.path[0] = str(Path(__file__).resolve().parents[1])  # the folder `checks`, whose folders are packages
+
+from common.program import ROOT, program_of_words  # noqa: E402
+from common.repeats import expanded  # noqa: E402
+from common.tally import Tally  # noqa: E402
+
 DOCUMENTS = ("README.md", "examples/README.md", "docs/LANGUAGE.md", "docs/LIBRARY.md")
 FENCE = re.compile(r"^```(\w*) *(.*)$")
-REPEAT = re.compile(r"\[(\d+) times: (.*?)\]")
 CALL = re.compile(r"^\| \d+ \| `(\w+)\((.*?)\)` \|")
 RUNS = 15
 FAULTY_TEXTS = 40
@@ -85,11 +90,9 @@ class Program:
         return self.sim(steps) if built.startswith("ok ") else built
 
 
-def expanded(text):
-    """A text of a row, with its pieces repeated and its line feeds."""
-    def repeated(match):
-        return "".join(match[2].replace("#", str(number)) for number in range(1, int(match[1]) + 1))
-    return REPEAT.sub(repeated, text).replace("\\n", "\n")
+def spelled(row):
+    """The text of a row, with its pieces repeated and its line feeds."""
+    return expanded(row).replace("\\n", "\n")
 
 
 def rows(block):
@@ -149,18 +152,14 @@ class Checker:
     """Checks blocks one after the other, and counts what holds."""
 
     def __init__(self, program):
-        self.program, self.passed, self.failed, self.faults = program, 0, 0, set()
+        self.program, self.tally, self.faults = program, Tally(), set()
         self.texts, self.bench = {}, {}
 
     def begin(self, document):
         self.document, self.texts = document, {}
 
     def verdict(self, line, what, wanted, got):
-        if wanted == got:
-            self.passed += 1
-            return
-        self.failed += 1
-        print(f"FAILED: {self.document}:{line}: {what}\n    wanted: {wanted!r}\n    got:    {got!r}")
+        self.tally.verdict(f"{self.document}:{line}: {what}", wanted, got)
 
     def crates(self):
         """Each crate has its place in the map and in what is proved."""
@@ -285,15 +284,15 @@ class Checker:
             self.faults.add((info, given))
 
     def fault_of_cfg(self, given):
-        return self.program.check(expanded(given), "task m { }\nhandler h { }\ntask deep { put(1 + 2); }\n")
+        return self.program.check(spelled(given), "task m { }\nhandler h { }\ntask deep { put(1 + 2); }\n")
 
     def fault_of_src(self, given):
         cfg = "NUM_PRC(1); CLASS(TCL_1) { CRE_SEM(SEM, { 0, 0, 1 }); }"
-        return self.program.check(cfg, expanded(given))
+        return self.program.check(cfg, spelled(given))
 
     def fault_of_steps(self, given):
         self.program.build("NUM_PRC(2);", "")
-        return self.program.sim(expanded(given))
+        return self.program.sim(spelled(given))
 
     def fault_of_image(self, given):
         """The fault of the image of the last system of blocks with an edit: `cut to N`, `N more`, or `N: BYTE ..`."""
@@ -333,9 +332,7 @@ class Checker:
 
 
 def main():
-    program = Path(sys.argv[1] if len(sys.argv) > 1 else ROOT / "crates/fmp/out/fmp").resolve()
-    if not os.access(program, os.X_OK):
-        sys.exit(f"checks/program/documents.py: there is no program {program}")
+    program = program_of_words("Checks each code block of the documents against the program.", "fmp")
     with tempfile.TemporaryDirectory() as room:
         checker = Checker(Program(program, Path(room)))
         for document in DOCUMENTS:
@@ -347,9 +344,9 @@ def main():
     checker.crates()
     checker.size()
     checker.verdict(0, f"at least {FAULTY_TEXTS} faulty texts", True, len(checker.faults) >= FAULTY_TEXTS)
-    print(f"checks/program/documents.py: {checker.passed} passed, {checker.failed} failed")
-    sys.exit(1 if checker.failed else 0)
+    print(f"checks/program/documents.py: {checker.tally}")
+    return checker.tally.status
 
 
 if __name__ == "__main__":
-    main()
+    sys.exit(main())

@@ -8,14 +8,17 @@ out by hand from docs/LANGUAGE.md, never taken from the program. In a row `[N ti
 with the numbers from 1 in place of `#`.
 """
 
-import re
 import subprocess
 import sys
 import tempfile
 from pathlib import Path
 
-ROOT = Path(__file__).resolve().parents[2]
-REPEAT = re.compile(r"\[(\d+) times: (.*?)\]", re.S)
+sys.dont_write_bytecode = True  # the folders of the checks stay as they are
+sys.path[0] = str(Path(__file__).resolve().parents[1])  # the folder `checks`, whose folders are packages
+
+from common.program import program_of_words  # noqa: E402
+from common.repeats import expanded  # noqa: E402
+from common.tally import Tally  # noqa: E402
 
 BODIES = "task m { } handler h { } task deep { put(1 + 2); }"
 ONE = "NUM_PRC(1); CLASS(TCL_1) { "
@@ -212,12 +215,6 @@ WARNINGS = [
 ]
 
 
-def written(row):
-    """The text that a row stands for."""
-    return REPEAT.sub(
-        lambda times: "".join(times[2].replace("#", str(n)) for n in range(1, int(times[1]) + 1)), row)
-
-
 def report(name, text, line, column, width, code, sentence):
     """What is printed of a fault: the head and the sentence, the line, and the marks under it."""
     shown = text.split("\n")[line - 1]
@@ -233,31 +230,31 @@ def report(name, text, line, column, width, code, sentence):
 def rows():
     """Each case: two texts, the status, and what is printed."""
     for row, *place in CONFIGURATIONS:
-        text = written(row)
+        text = expanded(row)
         yield text, BODIES, 1, report("t.cfg", text, *place)
     for row, *place in SOURCES:
-        text = written(row)
+        text = expanded(row)
         yield OBJECT, text, 1, report("t.src", text, *place)
     for cfg, src, warnings in WARNINGS:
         yield cfg, src, 0, warnings
 
 
+def answered(program, room):
+    """Each case with what the program answers, and what it should."""
+    for cfg, src, status, wanted in rows():
+        Path(room, "t.cfg").write_text(cfg, newline="")
+        Path(room, "t.src").write_text(src, newline="")
+        done = subprocess.run([program, "fault", "t.cfg", "t.src"], cwd=room, capture_output=True)
+        answer = done.returncode, done.stdout.decode(), done.stderr.decode()
+        yield f"{cfg[:200]!r} {src[:200]!r}", answer, (status, wanted, "")
+
+
 def main():
-    program = Path(sys.argv[1] if len(sys.argv) > 1 else ROOT / "crates/fmp_view/out/fmp_view").resolve()
-    compared = failed = 0
+    program, tally = program_of_words("Compares what `fmp_view fault` prints with rows.", "fmp_view"), Tally()
     with tempfile.TemporaryDirectory() as room:
-        for cfg, src, status, wanted in rows():
-            Path(room, "t.cfg").write_text(cfg, newline="")
-            Path(room, "t.src").write_text(src, newline="")
-            done = subprocess.run([program, "fault", "t.cfg", "t.src"], cwd=room, capture_output=True)
-            compared += 1
-            printed = done.stdout.decode()
-            if (done.returncode, printed, done.stderr.decode()) != (status, wanted, ""):
-                failed += 1
-                print(f"FAILED: {cfg[:200]!r} {src[:200]!r}: status {done.returncode}, {done.stderr.decode()}\n"
-                      f"{printed[:600]}wanted:\n{wanted[:600]}")
-    print(f"checks/program/faults.py: {compared} texts compared, {failed} differ")
-    return 1 if failed else 0
+        count, differ = tally.compare(answered(program, room))
+    print(f"checks/program/faults.py: {count} texts compared, {differ} differ")
+    return tally.status
 
 
 if __name__ == "__main__":

@@ -20,16 +20,10 @@ from pathlib import Path
 sys.dont_write_bytecode = True  # the folders of the checks stay as they are
 sys.path[0] = str(Path(__file__).resolve().parents[1])  # the folder `checks`, whose folders are packages
 
-from common.program import PROGRAM, Program  # noqa: E402
+from common.program import Program, located  # noqa: E402
+from common.tally import Tally  # noqa: E402
 from program.limit_runs import all_runs, all_steps, BOUNDS  # noqa: E402
 from program.limit_texts import all_texts  # noqa: E402
-
-SHOWN = 400  # bytes of a text that are printed
-
-
-def shown(text):
-    return text if len(text) <= SHOWN else f"{text[:SHOWN]}.. ({len(text)} bytes)"
-
 
 def refused(fault):
     return 1, "", f"{fault}\n"
@@ -75,32 +69,18 @@ def bounds(program):
         yield f"--bound {bound}", (answer[0], answer[1], bool(answer[2])), (status, "", status != 0)
 
 
-def compare(program, cases):
-    """How many cases there are, and how many differ."""
-    count = differing = 0
-    for name, answer, expected in cases:
-        count += 1
-        if answer != expected:
-            differing += 1
-            print(f"differs: {shown(name)}\n  expected {shown(repr(expected))}\n  printed  {shown(repr(answer))}")
-    return count, differing
-
-
 def main():
     parser = argparse.ArgumentParser(description="Tries the program at every limit and one past it.")
-    parser.add_argument("--program", metavar="PATH", type=Path, default=PROGRAM, help="the program to try")
-    path = parser.parse_args().program.resolve()
-    if not path.is_file():
-        parser.error(f"no program {path}: `rt run` in crates/fmp makes it")
-    began, differing = time.monotonic(), 0
+    parser.add_argument("--program", metavar="PATH", type=Path, help="the program to try")
+    path = located("fmp", parser.parse_args().program)
+    began, tally = time.monotonic(), Tally()
     with tempfile.TemporaryDirectory(prefix="fmp-limits-") as folder:
         program = Program(path, folder)
         for what, cases in (("texts", texts), ("runs", runs), ("steps", steps), ("bounds", bounds)):
-            count, differ = compare(program, cases(program))
-            differing += differ
+            count, differ = tally.compare(cases(program))
             print(f"{what}: {count} answers, {differ} differ", flush=True)
     print(f"{time.monotonic() - began:.0f} s")
-    return 1 if differing else 0
+    return tally.status
 
 
 if __name__ == "__main__":

@@ -19,7 +19,12 @@ import tempfile
 from dataclasses import dataclass, field
 from pathlib import Path
 
-ROOT = Path(__file__).resolve().parents[2]
+sys.dont_write_bytecode = True  # the folders of the checks stay as they are
+sys.path[0] = str(Path(__file__).resolve().parents[1])  # the folder `checks`, whose folders are packages
+
+from common.program import ROOT, located  # noqa: E402
+from common.tally import Tally  # noqa: E402
+
 PROGRAMS = {"fmp": "PROGRAM", "fmp_view": "VIEW"}  # with the word of the Makefile for each
 SECTIONS = ("Commands", "Arguments", "Options")
 
@@ -162,6 +167,10 @@ def page(manual):
 
 # The completions
 
+def made_for(shell, name):
+    return f"# Completion of {name} for {shell}. Made by checks/program/manual.py from the program's help."
+
+
 def bash(manual):
     cases = []
     for name, options in manual.options().items():
@@ -170,7 +179,7 @@ def bash(manual):
     valued = "|".join(it.names()[-1] for options in manual.options().values() for it in options if it.takes())
     first = " ".join([*manual.commands, "help", *(it for item in manual.top.items["Options"] for it in item.names())])
     return "\n".join([
-        f"# Completion of {manual.name} for bash. Made by checks/program/manual.py from the program's help.",
+        made_for("bash", manual.name),
         f"_{manual.name}() {{",
         '    local word=${COMP_WORDS[COMP_CWORD]} before=${COMP_WORDS[COMP_CWORD-1]} words=""',
         "    COMPREPLY=()",
@@ -201,8 +210,7 @@ def zsh(manual):
         return quoted(text.replace("[", "\\[").replace("]", "\\]").replace(":", "\\:"))
 
     name = manual.name
-    lines = [f"#compdef {name}", f"# Completion of {name} for zsh. Made by checks/program/manual.py from the program's help."]
-    lines += [f"_{name}() {{", "    local -a commands", "    commands=("]
+    lines = [f"#compdef {name}", made_for("zsh", name), f"_{name}() {{", "    local -a commands", "    commands=("]
     lines += [f"        '{name}:{named(command.about)}'" for name, command in manual.commands.items()]
     lines += ["    )", "    if (( CURRENT == 2 )); then", "        _describe command commands", "        return"]
     lines += ["    fi", "    case $words[2] in"]
@@ -225,7 +233,7 @@ def fish(manual):
         value = " -x" if item.takes() else ""
         return f"complete -c {manual.name} -n '{condition}' {' '.join(words)}{value} -d '{quoted(item.text)}'"
 
-    lines = [f"# Completion of {manual.name} for fish. Made by checks/program/manual.py from the program's help."]
+    lines = [made_for("fish", manual.name)]
     for name, command in manual.commands.items():
         lines.append(f"complete -c {manual.name} -f -n __fish_use_subcommand -a {name} -d '{quoted(command.about)}'")
     lines += [one("__fish_use_subcommand", item) for item in manual.top.items["Options"]]
@@ -236,19 +244,6 @@ def fish(manual):
 
 # The checks
 
-class Verdicts:
-    """How many held."""
-
-    def __init__(self):
-        self.passed = self.failed = 0
-
-    def verdict(self, what, holds):
-        self.passed += holds
-        self.failed += not holds
-        if not holds:
-            print(f"FAILED: {what}")
-
-
 def completed(name, *words):
     """What bash completes these words to, behind the program's name."""
     script, words = ROOT / f"docs/completions/{name}.bash", [name, *words]
@@ -257,26 +252,26 @@ def completed(name, *words):
     return subprocess.run(["bash", "-c", command], capture_output=True, cwd=ROOT / "docs").stdout.decode().split()
 
 
-def check_completion(verdicts, manual):
+def check_completion(tally, manual):
     of = manual.name
     for name, options in manual.options().items():
-        verdicts.verdict(f"bash completes {name}", name in completed(of, name[:2]))
+        tally.holds(f"bash completes {name}", name in completed(of, name[:2]))
         words = {word for option in options for word in option.names() if word.startswith("--")}
-        verdicts.verdict(f"bash completes the options of {name}", words <= set(completed(of, name, "--")))
-        verdicts.verdict(f"bash completes files of {name}", "LANGUAGE.md" in completed(of, name, "LANG"))
+        tally.holds(f"bash completes the options of {name}", words <= set(completed(of, name, "--")))
+        tally.holds(f"bash completes files of {name}", "LANGUAGE.md" in completed(of, name, "LANG"))
 
 
-def check_install(verdicts, name, program):
+def check_install(tally, name, program):
     with tempfile.TemporaryDirectory() as room:
         words = ["make", "-s", "-C", ROOT, "install", f"PREFIX={room}", f"{PROGRAMS[name]}={program}"]
         done = subprocess.run(words, capture_output=True)
         said = done.stdout.decode()
-        verdicts.verdict(f"make install: {done.stderr.decode()}", done.returncode == 0)
+        tally.holds(f"make install: {done.stderr.decode()}", done.returncode == 0)
         copies = {f"{room}/{target}": ROOT / "docs" / source for target, source in installed(name).items()}
         for target, source in {**copies, f"{room}/bin/{name}": program}.items():
             same = os.path.exists(target) and filecmp.cmp(target, source, shallow=False)
-            verdicts.verdict(f"make install copies {source}", same)
-            verdicts.verdict(f"make install says where it puts {source}", target in said)
+            tally.holds(f"make install copies {source}", same)
+            tally.holds(f"make install says where it puts {source}", target in said)
 
 
 def main():
@@ -286,23 +281,21 @@ def main():
     parser.add_argument("--write", action="store_true", help="write the files")
     options = parser.parse_args()
     name = options.of
-    program = (options.program or ROOT / f"crates/{name}/out/{name}").resolve()
-    if not os.access(program, os.X_OK):
-        sys.exit(f"checks/program/manual.py: there is no program {program}")
-    manual, verdicts = described(name, program), Verdicts()
-    verdicts.verdict("the help tells its commands", len(manual.commands) > 2)
+    program = located(name, options.program)
+    manual, tally = described(name, program), Tally()
+    tally.holds("the help tells its commands", len(manual.commands) > 2)
     for file, make in files(name).items():
         path, text = ROOT / "docs" / file, make(manual)
         if options.write:
             path.parent.mkdir(exist_ok=True)
             path.write_text(text)
         stands = path.exists() and path.read_text() == text
-        verdicts.verdict(f"docs/{file} is not what the help tells: checks/program/manual.py --write makes it", stands)
-    check_completion(verdicts, manual)
-    check_install(verdicts, name, program)
-    print(f"checks/program/manual.py: {verdicts.passed} passed, {verdicts.failed} failed")
-    sys.exit(1 if verdicts.failed else 0)
+        tally.holds(f"docs/{file} is not what the help tells: checks/program/manual.py --write makes it", stands)
+    check_completion(tally, manual)
+    check_install(tally, name, program)
+    print(f"checks/program/manual.py: {tally}")
+    return tally.status
 
 
 if __name__ == "__main__":
-    main()
+    sys.exit(main())

@@ -1,70 +1,36 @@
 #!/bin/sh
-# Runs the proved program over real files, and compares its status, its standard output, its standard error and the files
-# that it leaves, each to the byte. What is expected is written out here, or counted by the rules, never taken from the
-# program.
+# Runs the proved program over real files, and compares its status, its standard output, its standard error and the
+# files that it leaves, each to the byte. What is expected is written out here, or counted by the rules, and is never
+# taken from the program.
 #
 #   checks/program/program.sh [PROGRAM]
 #
 # PROGRAM is crates/fmp/out/fmp where it is not given, as `rt ci` or `rt run` leaves it.
-set -u
-root=$(cd "$(dirname "$0")/../.." && pwd)
-fmp=${1:-$root/crates/fmp/out/fmp}
-case $fmp in /*) ;; *) fmp=$PWD/$fmp ;; esac
-if [ ! -x "$fmp" ]; then
-    echo "checks/program/program.sh: there is no program $fmp" >&2
-    exit 2
-fi
-room=$(mktemp -d)
-trap 'rm -rf "$room"' EXIT
-cd "$room" || exit 2
-LC_ALL=C
-export LC_ALL
-passed=0
-failed=0
+set -eu
+# shellcheck source-path=SCRIPTDIR source=harness.sh
+. "$(dirname "$0")/harness.sh"
+subject=$(located fmp "${1:-}")
 
-verdict() { # verdict NAME PROBLEM: the case passed where the problem is empty
-    if [ -z "$2" ]; then
-        passed=$((passed + 1))
-    else
-        failed=$((failed + 1))
-        echo "FAILED: $1:$2"
-    fi
-}
-
-# run NAME STATUS OUTPUT ERRORS WORD..: the program on these words ends with this status and writes the bytes of the files
-# OUTPUT and ERRORS to standard output and standard error.
-run() {
-    name=$1 status=$2 output=$3 errors=$4
-    shift 4
-    "$fmp" "$@" > got.output 2> got.errors < /dev/null
-    got=$?
+# full NAME WORD..: the program finds no place on standard output, and so ends with status 3.
+full() {
+    name=$1
+    shift
+    status=0
+    "$subject" "$@" > /dev/full 2> errors || status=$?
+    printf 'file: -\n' > line
     problem=
-    [ $got -eq "$status" ] || problem=" status $got, not $status;"
-    cmp -s "$output" got.output || problem="$problem standard output differs;"
-    cmp -s "$errors" got.errors || problem="$problem standard error differs: '$(head -c 200 got.errors)';"
+    [ "$status" -eq 3 ] || problem="status $status; "
+    cmp -s line errors || problem="${problem}standard error '$(cat errors)'"
     verdict "$name" "$problem"
 }
 
-# says NAME STATUS LINE WORD..: the program prints nothing, and this one line on standard error.
-says() {
-    name=$1 status=$2
-    printf '%s\n' "$3" > line
-    shift 3
-    run "$name" "$status" none line "$@"
+# The tables of an image with one task: its row, and that there is nothing else.
+tables_of_one_task() {
+    printf '\001\002T1\002\000\000\000\000\000\012\000\001\000\000\001\000\000\000\000\000\000\000\000\000\000'
 }
 
-# same NAME WANTED FILE: the file has these bytes.
-same() {
-    if cmp -s "$2" "$3"; then verdict "$1" ''; else verdict "$1" " the file $3 differs;"; fi
-}
-
-# absent NAME FILE: there is no such file.
-absent() {
-    if [ -e "$2" ]; then verdict "$1" " there is a file $2;"; else verdict "$1" ''; fi
-}
-
-: > none
-printf 'ok\n' > ok
+# misused MESSAGE USAGE: what is said of a command line that is not as it should be.
+misused() { printf "error: %s\n\nUsage: %s\n\nFor more information, try '--help'.\n" "$1" "$2"; }
 
 # ---- two texts, their image and its run
 
@@ -73,8 +39,11 @@ printf 'task main { put(7); }\n' > b.src
 printf 'run 1\nrun 1\nrun 1\n' > c.steps
 cp a.cfg kept.cfg
 cp b.src kept.src
-printf 'FMPI\001\000\001\001\000\001\001\003\000\001\007\000\000\000\000\010\001\377\377\000\001\011\000\000\000\000\000' > a.want
-printf '\001\002T1\002\000\000\000\000\000\012\000\001\000\000\001\000\000\000\000\000\000\000\000\000\000' >> a.want
+{
+    printf 'FMPI\001\000\001\001\000\001\001\003\000'
+    printf '\001\007\000\000\000\000\010\001\377\377\000\001\011\000\000\000\000\000'
+    tables_of_one_task
+} > a.want
 printf '0 p1 T1 starts\n0 p1 > T1\n1 p1 T1 put(7) E_OK\n2 p1 T1 end\nT1 DORMANT p1 10\n' > a.trace
 printf '0 p1 T1 starts\n0 p1 > T1\nT1 RUNNING p1 10\n' > a.setup
 printf 'ok 57\n' > ok57
@@ -153,39 +122,18 @@ says 'OUT is a folder' 3 'file: folder' build a.cfg b.src folder
 if [ -w /dev/full ]; then
     says 'OUT on a full device' 3 'file: /dev/full' build a.cfg b.src /dev/full
     rm -f a.img
-    printf 'file: -\n' > line
-    "$fmp" build a.cfg b.src a.img > /dev/full 2> got.errors
-    got=$?
-    if [ $got -eq 3 ] && cmp -s line got.errors; then
-        verdict 'standard output is full' ''
-    else
-        verdict 'standard output is full' " status $got, standard error '$(cat got.errors)';"
-    fi
+    full 'standard output is full' build a.cfg b.src a.img
     same 'the image is written before anything is printed' a.want a.img
     says 'JOURNAL on a full device' 3 'file: /dev/full' host a.img /dev/full --turns 3 --ticks 0
     rm -f host.journal
-    printf 'file: -\n' > line
-    "$fmp" host a.img host.journal --turns 3 --ticks 0 > /dev/full 2> got.errors
-    got=$?
-    if [ $got -eq 3 ] && cmp -s line got.errors; then
-        verdict 'host, standard output is full' ''
-    else
-        verdict 'host, standard output is full' " status $got, standard error '$(cat got.errors)';"
-    fi
+    full 'host, standard output is full' host a.img host.journal --turns 3 --ticks 0
     same 'the journal is written before anything is printed' host.want host.journal
-    "$fmp" > /dev/full 2> got.errors
-    got=$?
-    if [ $got -eq 3 ] && cmp -s line got.errors; then
-        verdict 'the stored run, standard output is full' ''
-    else
-        verdict 'the stored run, standard output is full' " status $got, standard error '$(cat got.errors)';"
-    fi
+    full 'the stored run, standard output is full'
 fi
 
 # ---- an OUT that is one of the inputs
 
-refusal='the file OUT is one of the two that are read'
-printf 'error: %s\n\nUsage: fmp build <CFG> <SRC> <OUT>\n\nFor more information, try '"'--help'"'.\n' "$refusal" > refused
+misused 'the file OUT is one of the two that are read' 'fmp build <CFG> <SRC> <OUT>' > refused
 ln a.cfg hard.cfg
 ln -s b.src soft.src
 for out in a.cfg ./a.cfg folder/../a.cfg hard.cfg "$room/a.cfg" b.src ./b.src soft.src; do
@@ -195,13 +143,12 @@ run 'OUT is an input that is missing' 2 none refused build missing.cfg b.src mis
 same 'the configuration that was no OUT' kept.cfg a.cfg
 same 'the task text that was no OUT' kept.src b.src
 absent 'an input that was missing' missing.cfg
-refusal='the file JOURNAL is the image that is read'
-usage='fmp host [OPTIONS] --turns <T> --ticks <K> <IMAGE> <JOURNAL>'
-printf 'error: %s\n\nUsage: %s\n\nFor more information, try '"'--help'"'.\n' "$refusal" "$usage" > refused
+misused 'the file JOURNAL is the image that is read' \
+    'fmp host [OPTIONS] --turns <T> --ticks <K> <IMAGE> <JOURNAL>' > refused
 ln a.img hard.img
 ln -s a.img soft.img
 for journal in a.img ./a.img hard.img soft.img; do
-    run "JOURNAL is the image: $journal" 2 none refused host a.img $journal --turns 1 --ticks 1
+    run "JOURNAL is the image: $journal" 2 none refused host a.img "$journal" --turns 1 --ticks 1
 done
 same 'the image that was no JOURNAL' a.want a.img
 
@@ -210,44 +157,31 @@ same 'the image that was no JOURNAL' a.want a.img
 printf 'fmp 0.1.0\n' > version
 run 'the version' 0 version none --version
 for bound in 0 281474976710657; do
-    printf "error: invalid value '$bound' for '--bound <N>': $bound is not in 1..=281474976710656\n\nFor more information, try '--help'.\n" > bound
-    run "a bound of $bound" 2 none bound sim a.img c.steps --bound $bound
+    {
+        printf "error: invalid value '%s' for '--bound <N>': %s is not in 1..=281474976710656\n\n" "$bound" "$bound"
+        printf "For more information, try '--help'.\n"
+    } > bound
+    run "a bound of $bound" 2 none bound sim a.img c.steps --bound "$bound"
 done
 run 'a bound of 2^48' 0 a.trace none sim a.img c.steps --bound 281474976710656
-for words in run 'check a.cfg' 'build a.cfg b.src' 'sim a.img' 'check a.cfg b.src c.steps' '--frob' 'sim a.img c.steps --bound x' \
-    'host a.img' 'host a.img j' 'host a.img j --turns 1' 'host a.img j --ticks 1' 'host a.img --turns 1 --ticks 1' \
-    'host a.img j k --turns 1 --ticks 1' 'host a.img j --turns 1048577 --ticks 1' 'host a.img j --turns 1 --ticks 1048577' \
-    'host a.img j --turns x --ticks 1' 'host a.img j --turns 1 --ticks -1' 'host a.img j --turns 1 --ticks 1 --bound 0'; do
+for words in run 'check a.cfg' 'build a.cfg b.src' 'sim a.img' 'check a.cfg b.src c.steps' '--frob' \
+    'sim a.img c.steps --bound x' 'host a.img' 'host a.img j' 'host a.img j --turns 1' 'host a.img j --ticks 1' \
+    'host a.img --turns 1 --ticks 1' 'host a.img j k --turns 1 --ticks 1' 'host a.img j --turns 1048577 --ticks 1' \
+    'host a.img j --turns 1 --ticks 1048577' 'host a.img j --turns x --ticks 1' 'host a.img j --turns 1 --ticks -1' \
+    'host a.img j --turns 1 --ticks 1 --bound 0'; do
     # shellcheck disable=SC2086
-    "$fmp" $words > got.output 2> got.errors
-    got=$?
-    if [ $got -eq 2 ] && [ ! -s got.output ] && [ -s got.errors ]; then
-        verdict "words: $words" ''
-    else
-        verdict "words: $words" " status $got;"
-    fi
+    writes "words: $words" 2 errors $words
 done
 for words in --help 'check --help' 'build --help' 'sim --help' 'host --help'; do
     # shellcheck disable=SC2086
-    "$fmp" $words > got.output 2> got.errors
-    got=$?
-    if [ $got -eq 0 ] && [ -s got.output ] && [ ! -s got.errors ]; then
-        verdict "words: $words" ''
-    else
-        verdict "words: $words" " status $got;"
-    fi
-    verdict "no line of more than 100 columns: $words" "$(awk 'length > 100' got.output)"
-    for file in $(grep -o 'examples/[a-z.]*' got.output); do
-        if [ -f "$root/$file" ]; then verdict "$words: $file" ''; else verdict "$words: $file" ' no such file;'; fi
+    writes "words: $words" 0 output $words
+    verdict "no line of more than 100 columns: $words" "$(awk 'length > 100' output)"
+    # shellcheck disable=SC2013
+    for example in $(grep -o 'examples/[a-z.]*' output); do
+        holds "$words: $example" 'there is no such file' [ -f "$root/$example" ]
     done
 done
-"$fmp" check "$(printf '\377')" b.src > got.output 2> got.errors
-got=$?
-if [ $got -eq 2 ] && [ ! -s got.output ] && [ -s got.errors ]; then
-    verdict 'a word that is no text' ''
-else
-    verdict 'a word that is no text' " status $got;"
-fi
+writes 'a word that is no text' 2 errors check "$(printf '\377')" b.src
 
 # ---- texts at their limit, 1048576 bytes
 
@@ -278,10 +212,16 @@ printf 'run 1\r\nrun 1\r\n' > cr.steps
 says 'CR in steps' 1 'steps:1: S1' sim a.img cr.steps
 printf 'NUM_PRC(1);\r\nCLASS(TCL_1) {\r\nCRE_TSK(T1,{TA_ACT,0,main,10,256,NULL});\r\n}\r\n' > cr.cfg
 printf 'task main { put(2573); put(3338); }\r\n' > cr.src
-printf 'FMPI\001\000\001\001\000\001\001\005\000' > cr.want
-printf '\001\015\012\000\000\000\010\001\377\377\000\001\001\012\015\000\000\000\010\001\377\377\000\001\011\000\000\000\000\000' >> cr.want
-printf '\001\002T1\002\000\000\000\000\000\012\000\001\000\000\001\000\000\000\000\000\000\000\000\000\000' >> cr.want
-printf '0 p1 T1 starts\n0 p1 > T1\n1 p1 T1 put(2573) E_OK\n2 p1 T1 put(3338) E_OK\n3 p1 T1 end\nT1 DORMANT p1 10\n' > cr.trace
+{
+    printf 'FMPI\001\000\001\001\000\001\001\005\000'
+    printf '\001\015\012\000\000\000\010\001\377\377\000\001'
+    printf '\001\012\015\000\000\000\010\001\377\377\000\001\011\000\000\000\000\000'
+    tables_of_one_task
+} > cr.want
+{
+    printf '0 p1 T1 starts\n0 p1 > T1\n1 p1 T1 put(2573) E_OK\n2 p1 T1 put(3338) E_OK\n'
+    printf '3 p1 T1 end\nT1 DORMANT p1 10\n'
+} > cr.trace
 printf 'ok 69\n' > ok69
 run 'CR in both texts' 0 ok69 none build cr.cfg cr.src cr.img
 same 'CR and LF in an image' cr.want cr.img
@@ -301,7 +241,8 @@ done
 {
     printf 'FMPI\001\000\001\001\000\001\001\377\377'
     head -c $((12 * puts)) calls
-    printf '\011\000\000\000\000\000\001\002T1\002\000\000\000\000\000\012\000\001\000\000\001\000\000\000\000\000\000\000\000\000\000'
+    printf '\011\000\000\000\000\000'
+    tables_of_one_task
 } > large.want
 printf 'ok 393249\n' > ok_large
 run 'build a large image' 0 ok_large none build a.cfg large.src large.img
@@ -316,9 +257,9 @@ run 'run a large image' 0 large.trace none sim large.img large.steps
 if mkfifo pipe 2> /dev/null; then
     cat large.want > pipe &
     run 'a large image through a pipe' 0 large.trace none sim pipe large.steps
-    wait
-    "$fmp" sim large.img large.steps 2> got.errors | cat > got.output
-    same 'a large trace into a pipe' large.trace got.output
+    kill $! 2> /dev/null || true # where the program did not read it
+    "$subject" sim large.img large.steps 2> errors | cat > output
+    same 'a large trace into a pipe' large.trace output
 fi
 head -c 65536 large.want > cut.img
 says 'the first 65536 bytes of a large image' 1 'image: L1' sim cut.img c.steps
@@ -330,7 +271,8 @@ says 'one call more than a body may have' 1 'src:1: B5' check a.cfg larger.src
 awk 'BEGIN {
     print "NUM_PRC(1);\nCLASS(TCL_1) {"
     for (i = 1; i <= 255; i++) {
-        printf "CRE_TSK(T%d,{TA_ACT,0,d,1,256,NULL});\nCRE_SEM(S%d,{TA_TFIFO,1,1});\nCRE_FLG(F%d,{TA_WMUL,0});\n", i, i, i
+        printf "CRE_TSK(T%d,{TA_ACT,0,d,1,256,NULL});\n", i
+        printf "CRE_SEM(S%d,{TA_TFIFO,1,1});\nCRE_FLG(F%d,{TA_WMUL,0});\n", i, i
         printf "CRE_DTQ(Q%d,{TA_TFIFO,255,NULL});\nCRE_MBX(X%d,{TA_MFIFO,16,NULL});\nCRE_MSG(G%d,{1});\n", i, i, i
         printf "CRE_SHR(W%d,{%d});\nCRE_SPN(L%d,{0});\nCRE_CYC(C%d,{TA_NULL,0,h,1,0});\n", i, i, i, i
     }
@@ -362,13 +304,13 @@ says 'one task more' 1 "cfg:$line: B5" check too_many.cfg many.src
 
 # ---- want of memory: 12 MiB are enough for a short text, and not for the calls of a long one
 
-printf '#!/bin/sh\nulimit -v 12288\nexec "%s" "$@"\n' "$fmp" > scant
+printf '#!/bin/sh\nulimit -v 12288\nexec "%s" "$@"\n' "$subject" > scant
 chmod +x scant
-whole=$fmp fmp=./scant
+whole=$subject subject=./scant
 awk 'BEGIN { print "task main {"; for (i = 0; i < 130000; i++) print "put(7);"; print "}" }' > calls.src
 run 'little memory' 0 ok none check a.cfg b.src
 says 'too little memory' 3 'memory' check a.cfg calls.src
-fmp=$whole
+subject=$whole
 
 # ---- a trace of 2^20 events
 
@@ -388,5 +330,4 @@ run '2^20 turns that do nothing' 0 none none host empty.img long.journal --turns
 same 'a journal of no events' none long.journal
 says 'one tick more' 1 'host: H4' host empty.img long.journal --turns 1048576 --ticks 1
 
-echo "checks/program/program.sh: $passed passed, $failed failed"
-[ $failed -eq 0 ]
+finish

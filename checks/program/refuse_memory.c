@@ -1,6 +1,7 @@
 /* Stands in front of the C library's allocator and refuses one allocation: that whose number, from 1, REFUSE_AT gives;
-   or all from that on whose number REFUSE_FROM gives. At the end it writes how many were asked for into the file that REFUSE_LOG names. A program that can start threads ends
-   by `_exit`, which calls no destructors, so it stands in front of that, too. */
+   or all from that on whose number REFUSE_FROM gives. At the end it writes how many were asked for into the file that
+   REFUSE_LOG names. A program that can start threads ends by `_exit`, which calls no destructors, so it stands in front
+   of that, too. */
 #define _GNU_SOURCE
 #include <errno.h>
 #include <stddef.h>

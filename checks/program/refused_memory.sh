@@ -56,7 +56,7 @@ answer() {
     local at=$1 status=0
     shift
     rm -f made.img
-    REFUSE_AT=$at REFUSE_LOG=asked LD_PRELOAD=$room/refuse.so "$fmp" "$@" > output 2> errors || status=$?
+    REFUSE_AT=$at REFUSE_LOG=asked LD_PRELOAD="$room/refuse.so" "$fmp" "$@" > output 2> errors || status=$?
     echo "$status"
     cat output errors
     if [ -e made.img ]; then cksum < made.img; fi
@@ -72,7 +72,8 @@ each_refused() {
     local whole at=1 said
     whole=$(answer 0 "$@")
     while said=$(answer $at "$@"); [ "$at" -le "$(cat asked)" ]; do
-        if [ "$said" != "$memory" ] && [ "$said" != "$whole" ] && { [ "$1" != host ] || [ "$said" != "$thread" ]; }; then
+        if [ "$said" != "$memory" ] && [ "$said" != "$whole" ] &&
+            { [ "$1" != host ] || [ "$said" != "$thread" ]; }; then
             echo "fmp $*: allocation $at refused: $said"
             failed=1
         fi
@@ -99,7 +100,7 @@ each_refused host short.img made.img --turns 8 --ticks 0
 passes() {
     local status=0
     echo 0 > asked
-    env "$1" REFUSE_LOG=asked LD_PRELOAD=$room/refuse.so "$tests" "tests::$2" > output 2> errors || status=$?
+    env "$1" REFUSE_LOG=asked LD_PRELOAD="$room/refuse.so" "$tests" "tests::$2" > output 2> errors || status=$?
     [ "$status" -ne 0 ] || return 0
     if [ "$status" -ne 101 ] || ! grep -Eq '^error: .*(AllocError|AllocFailed|Memory)' errors; then
         echo "test $2, $1: status $status: $(cat errors)"

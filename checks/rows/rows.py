@@ -1,6 +1,6 @@
 #!/usr/bin/env python3
-"""Tries the program on the rows of its texts, images, steps and runs: the worked systems with what they print, each fault
-of the texts, and what is changed in images.
+"""Tries the program on the rows of its texts, images, steps and runs: the worked systems with what they print, each
+fault of the texts, and what is changed in images.
 
     checks/rows/rows.py [PROGRAM]
 
@@ -17,20 +17,13 @@ from pathlib import Path
 sys.dont_write_bytecode = True  # the folders of the checks stay as they are
 sys.path[0] = str(Path(__file__).resolve().parents[1])  # the folder `checks`, whose folders are packages
 
-from common.program import PROGRAM, Program  # noqa: E402
+from common.program import Program, program_of_words  # noqa: E402
+from common.tally import Tally  # noqa: E402
 from images.image_samples import ONE_TASK  # noqa: E402
 from rows.row_images import JUMP, LOOP, LOOP_SETUP, OUT_OF_BODY, changed  # noqa: E402
 from rows.row_images import faulty_steps, loaded_images, refused_images, sized  # noqa: E402
 from rows.row_runs import ONE, SETUP, all_runs, all_values, runs  # noqa: E402
 from rows.row_texts import all_texts  # noqa: E402
-
-SHOWN = 400  # characters of a name or an answer that are printed
-
-
-def shown(value):
-    text = value if isinstance(value, str) else repr(value)
-    return text if len(text) <= SHOWN else f"{text[:SHOWN]}.. ({len(text)} characters)"
-
 
 def printed(text):
     return 0, text.replace(" / ", "\n"), ""
@@ -43,7 +36,7 @@ def refused(fault):
 def texts(program):
     """What a check of each pair of texts answers, and what it must."""
     for configuration, source, answer in all_texts():
-        name = f"{configuration[:SHOWN // 2]} | {source[:SHOWN // 2]}"
+        name = f"{configuration[:200]} | {source[:200]}"
         expected = printed("ok\n") if answer == "ok" else refused(answer)
         yield name, program.check(configuration.encode(), source.encode()), expected
 
@@ -90,22 +83,14 @@ def values(program):
 
 
 def main():
-    path = Path(sys.argv[1] if len(sys.argv) > 1 else PROGRAM).resolve()
-    if not path.is_file():
-        print(f"checks/rows/rows.py: there is no program {path}", file=sys.stderr)
-        return 2
-    passed = failed = 0
+    path = program_of_words("Tries the program on the rows of its texts, images, steps and runs.", "fmp")
+    tally = Tally()
     with tempfile.TemporaryDirectory(prefix="fmp-rows-") as folder:
         program = Program(path, folder)
         for cases in (texts, images, steps, traces, values):
-            for name, answer, expected in cases(program):
-                if answer == expected:
-                    passed += 1
-                else:
-                    failed += 1
-                    print(f"FAILED: {shown(name)}\n  expected {shown(expected)}\n  answered {shown(answer)}")
-    print(f"checks/rows/rows.py: {passed} passed, {failed} failed")
-    return 1 if failed else 0
+            tally.compare(cases(program))
+    print(f"checks/rows/rows.py: {tally}")
+    return tally.status
 
 
 if __name__ == "__main__":
