@@ -88,10 +88,9 @@ pub fn journal_over_image(alloc: Global) -> Result<Error, AllocError>
     mistake(host_command(alloc), "fmp host", JOURNAL_OVER_IMAGE)
 }
 
-/// What the words of a command line ask for, of which the first is the program's name. With no more than that it is the
-/// run of the texts that the program holds. An error has the kind of the first fault of the words' form
-/// (`ValueValidation` for a bound that is no number from 1 to 2^48, or turns or ticks that are none from 0 to 2^20), or
-/// is `OutOfMemory`.
+/// What the words of a command line ask for, of which the first is the program's name. With nothing else it is the run
+/// of the texts that the program holds. An error has the kind of the first fault of the words' form (`ValueValidation`
+/// for a bound that is no number from 1 to 2^48, or turns or ticks that are none from 0 to 2^20), or is `OutOfMemory`.
 pub fn command<'a>(alloc: Global, words: &'a [&'a str]) -> Result<Cmd, Error>
     ensures asked { IfOk result (AsksFor (map (λ word. word.now) words.entry.now)) }
     ensures refused { IfErr result (λ e. IsRefused (map (λ word. word.now) words.entry.now) (kind_of e)) }
@@ -106,8 +105,8 @@ pub fn command<'a>(alloc: Global, words: &'a [&'a str]) -> Result<Cmd, Error>
     Ok(asked(alloc, name, words)?)
 }
 
-/// The status that the program ends with after an error of the command line: 2 for a mistake, 0 where help or the
-/// version was asked for, and 3 if memory runs out.
+/// The status that the program ends with after an error of the command line: 2 for a mistake, 0 if help or the version
+/// was asked for, and 3 if memory runs out.
 pub fn status_of(error: &Error) -> u8
     ensures memory { kind_of error.now ≡ ErrorKind.OutOfMemory → result ≡ 3 }
     ensures shown { (kind_of error.now ≡ ErrorKind.DisplayHelp)

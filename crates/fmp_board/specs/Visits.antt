@@ -49,7 +49,7 @@ abbrev pub journaled : Result Receipt BoardFault → ℕ
 journaled (Ok r) = if r.number == 0 then 0 else 1
 journaled (Err f) = 0
 
--- what an event is answered after a journal: its receipt there, or if there is no more room the refusal
+-- the answer to an event after a journal: its receipt there, or, if there is no more room, the refusal
 abbrev pub FedAfter : ImageTables → (n k : ℕ) → List JournalEntry → Event → Result Receipt BoardFault → Type 0
 FedAfter i n k before e result =
     MatchResult result (λ r. (length before < k) × (r ≡ receipt_of (length before) (reaction i n (events before) e)))

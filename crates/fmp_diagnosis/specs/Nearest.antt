@@ -21,7 +21,7 @@ pub record IsFirstLeast (ns : List ℕ) (k : ℕ) : Type 0 where
   pub before : (j : ℕ) → j < k → slice_index ns k < slice_index ns j
   pub least : (j : ℕ) → j < length ns → slice_index ns k ≤ slice_index ns j
 
--- the place of the nearest of the known names, the first one of several; none where none is near
+-- the place of the nearest of the known names, the first one of several; none if none is near
 abbrev pub IsNearest : Name → List Name → Option ℕ → Type 0
 IsNearest name known (Some k) =
     IsFirstLeast (distances name known) k × (is_near name (slice_index (distances name known) k) ≡ true)

@@ -13,7 +13,7 @@ pub enum Wanted {
 }
 
 impl Wanted {
-    /// What is wanted, with its article.
+    /// What is expected, with its article.
     pub fn called(self) -> &'static str {
         match self {
             Wanted::Object(api) => object_of(api),

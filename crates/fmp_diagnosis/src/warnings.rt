@@ -1,4 +1,4 @@
-//! What is legal in two texts, and mostly a mistake: a call that its body may never make; a number in place of an
+//! What is legal in two texts but usually a mistake: a call that its body may never make; a number in place of an
 //! object's name, or an object of another kind, as the argument of a call; bodies and objects that nothing uses;
 //! semaphores that nothing signals, flags that nothing sets.
 ghost use Rattle.std.specs.Prelude.{◌<◌, OnOk};
@@ -252,7 +252,7 @@ fn say_barred(barred: BarredCall, out: &mut Vec<u8>) -> Result<(), AllocError>
     }
 }
 
-/// What is mostly a mistake at a call.
+/// What is usually a mistake at a call.
 #[derive(Clone, Copy)]
 enum Mistake {
     /// Its body may never make it.

@@ -148,7 +148,7 @@ impl<'a, 'b, S: Site> Follower<'a, 'b, S> {
     /// given as the row has words, or where the next word was found empty. First 66,432 bytes are reserved, room for
     /// the lines of any event.
     ///
-    /// `AllocError` where that room is refused; then nothing has changed, and no event was taken.
+    /// `AllocError` if that room is refused; then nothing has changed, and no event was taken.
     pub fn pull(&mut self, out: &mut Vec<u8>) -> Result<Option<Event>, AllocError>
         ensures same_reference { self.new.seat.ghost_name ≡ self.old.seat.ghost_name }
         ensures at { IsAt S.row_id self.new.seat.now }

@@ -24,9 +24,9 @@ part_at load place =
 abbrev pub IsCounted : SeatState → Type 0
 IsCounted s = length (own s.number s.seen) ≡ s.mine
 
--- What calls of a board make of a seat that enter this event alone, at most so often: the seat has counted those that
--- were journaled, and has seen them behind the entries of its own that it had seen before. Where it counted one, it has
--- counted no more than a row has words.
+-- The effect on a seat of calls of a board that enter only this event, at most a given number of times: the seat has
+-- counted those that were journaled, and has seen them behind the entries of its own that it had seen before. If it
+-- counted one, it has counted at most as many as a row has words.
 pub record Added (i : ImageTables) (n : ℕ) (row : RowId) (e : Event) (most : ℕ) (was now : SeatState) : Type 0 where
   pub kept : Kept i n row was now
   pub count : ℕ
@@ -55,7 +55,7 @@ job_of part seat = record { part = part; seat = seat }
 abbrev pub seats_of : List Job → List SeatState
 seats_of jobs = map (λ j. j.seat) jobs
 
--- a thread has done no more than its part
+-- a thread has done at most its part
 abbrev pub IsDone : ImageTables → (n : ℕ) → RowId → Job → (back : SeatState) → Type 0
 IsDone i n row job back = Added i n row job.part.event job.part.times job.seat back
 

@@ -234,7 +234,7 @@ pub fn run_all<S: Site + Send + Sync, G: Gate, R: Threads + Wait + Sync>(
     let Ok(lists) = Lists::new(alloc, seats.len()) else {
         return (seats, Err(BoardFault::Memory));
     };
-    // It is at most 2^20, so the counts of all threads together are no more than a u32 holds.
+    // It is at most 2^20, so a u32 holds the sum of the counts of all threads.
     board.capacity();
     let load = Load {
         processors,

@@ -95,7 +95,7 @@ sight_shown s p = record s { seen = p.journal; mine = s.mine + times s.number p.
 abbrev pub shown : View → View
 shown v = record v { pen = pen_shown v.sight.number v.pen; sight = sight_shown v.sight v.pen }
 
--- what each step tells who makes it: of the step, the view before, the number stored or found, and the view after
+-- what each step tells its maker: of the step, the view before, the number stored or found, and the view after
 
 -- the entry of the stored word is written
 abbrev pub Wrote : Step (Unit {0}) → Me (Unit {0}) View → ℕ → Me (Unit {0}) View → Type 0

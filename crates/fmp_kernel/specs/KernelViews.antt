@@ -53,8 +53,8 @@ abbrev pub done_or : {C : Type 0} → Done C → Reaction C → Done C
 done_or d Nothing = d
 done_or d (Did e) = e
 
--- a stretch of the actor of p stopped so, in a world that has what is kept of it then: the call, end or fault is
--- carried out
+-- the effect of a stretch of the actor of p, given how it stopped, in a world that has what is kept of it then: the
+-- call, end or fault is carried out
 abbrev pub stopped_on : {C : Type 0} → SystemTables → Meaning C → World C → ℕ → Caller → Stop → Reaction C
 stopped_on sys M w p who (stop.Call made) = call_made sys M w.contexts p who made (called sys w.state p who made)
 stopped_on sys M w p who stop.End =

@@ -155,7 +155,7 @@ impl<B: Body> Runner<B> {
         }
     }
 
-    /// The actor of processor p, with this stamp: none where it has no actor, or one that awaits a reply.
+    /// The actor of processor p, with this stamp: none if it has no actor, or one that awaits a reply.
     #[tactic(auto, using(fmp_contexts::proofs::ContextLemmas::entry_of, fmp_contexts::proofs::ContextLemmas::goes_fits))]
     pub fn actor(&self, p: u8, stamp: u32) -> Option<Actor<B::Ctx>>
         ensures value { result ≡ with_stamp stamp (actor_at self.now.system self.now.world p) }

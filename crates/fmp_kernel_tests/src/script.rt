@@ -42,7 +42,7 @@ impl Script {
         Script { bodies }
     }
 
-    /// Whether the body of each task is there.
+    /// Whether the body of each task exists.
     fn has_bodies_of_tasks(&self, configs: &[TaskConfig]) -> bool
         ensures { IsTrue result ↔ AllByRecursion (λ config. IsBody self.now (body_of config.entry)) configs.now }
     {

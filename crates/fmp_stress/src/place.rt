@@ -22,7 +22,7 @@ pub struct Answers {
     pub journaled: u32,
     /// Events that did nothing.
     pub nothing: u32,
-    /// Tickets that were wanted of a processor without an actor.
+    /// Tickets that were asked for at a processor without an actor.
     pub idle: u32,
     /// Outcomes that were stale.
     pub stale: u32,
@@ -96,7 +96,7 @@ pub struct Place<S: Site> {
     ghost at: { IsAt S.row_id seat },
 }
 
-/// The outcome of the stretch that the actor of processor p makes next, made outside the board's lock. None where the
+/// The outcome of the stretch that the actor of processor p makes next, made outside the board's lock. None if the
 /// processor has no actor.
 fn drawn<S: Site, R: Wait>(rt: &R, board: &Board<'_, S>, seat: &mut Seat, p: u8) -> Option<Outcome>
     requires { IsAt S.row_id seat.old }

@@ -77,7 +77,7 @@ pub enum Bond {
     Changes,
 }
 
-/// A line from the one who did something to the task that it was done to.
+/// A line from an actor to the task on which it acted.
 #[derive(Clone, Copy)]
 pub struct Link {
     pub event: u32,

@@ -64,7 +64,7 @@ fn topic_of(cause: WaitCause) -> Option<Topic> {
     }
 }
 
-/// The object of which an accepted call that releases no task queues one more, or one less.
+/// The object in which an accepted call that releases no task queues one more, or one less.
 fn level_change(call: Call) -> Option<(Topic, i32)> {
     let (place, queue, change) = match call {
         Call::SndDtq { queue, .. }
@@ -91,7 +91,7 @@ fn level_change(call: Call) -> Option<(Topic, i32)> {
     Some((topic, change))
 }
 
-/// The call of an event that was accepted, and who made it.
+/// The call of an event that was accepted, and its caller.
 fn accepted(lines: &[Line]) -> Option<(Call, Caller)> {
     match lines.first()? {
         Line::Call {

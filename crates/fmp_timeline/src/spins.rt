@@ -181,7 +181,7 @@ impl Run {
     }
 
     /// The place of the spin lock that the actor of a stretch asks for: the one that it gets by its next call; where it
-    /// makes none, one that another processor holds. None where it asks for none, but makes no progress.
+    /// makes none, one that another processor holds. None if it asks for none, but makes no progress.
     pub fn lock_of(&self, spin: &Spin) -> Option<u8> {
         let deeds = self.deeds_of(spin.actor)?;
         let place = deeds.calls.partition_point(|made| made.event <= spin.from);

@@ -44,7 +44,7 @@ impl Shown {
     }
 }
 
-/// The first fault of two texts; none where they build an image.
+/// The first fault of two texts; none if they build an image.
 fn fault_of(alloc: Global, cfg: &[u8], src: &[u8]) -> Result<Option<Fault>, AllocError>
     ensures { IfOk result (HasFault cfg.now src.now) }
 {

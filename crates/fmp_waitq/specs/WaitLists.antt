@@ -22,7 +22,7 @@ place_of n (queue.Mailbox x) = n.semaphores + n.flags + n.data_queues + n.data_q
 abbrev pub head : WaitQueues → WaitQueue → ℕ
 head w q = w.processors * 16 + place_of w.counts q
 
--- a queue of an object that is there
+-- a queue of an object that exists
 abbrev pub IsThere : ObjectCounts → WaitQueue → Type 0
 IsThere n (queue.Semaphore s) = s < n.semaphores
 IsThere n (queue.Flag f) = f < n.flags
