@@ -10,13 +10,13 @@ use clap::error::ErrorKind;
 use clap::{Command, Error};
 use std::alloc::{AllocError, Global};
 
-/// What is said of words that are no text.
+/// The message for words that are not UTF-8.
 const NOT_TEXT: &str = "invalid UTF-8 was detected in one or more arguments";
 
-/// What is said of an image that would take the place of a text that it is built of.
+/// The message for an image that would replace a text from which it is built.
 const IMAGE_OVER_TEXT: &str = "the file OUT is one of the two that are read";
 
-/// What is said of a journal that would take the place of the image that is run.
+/// The message for a journal that would replace the image that is run.
 const JOURNAL_OVER_IMAGE: &str = "the file JOURNAL is the image that is read";
 
 /// What the program is asked to do. Each word is the name of a file.
@@ -74,14 +74,14 @@ pub fn not_text(alloc: Global) -> Result<Error, AllocError>
     mistake(program(alloc), "fmp", NOT_TEXT)
 }
 
-/// The error for an image that would take the place of a text that it is built of, which has the status 2.
+/// The error for an image that would replace a text from which it is built, which has the status 2.
 pub fn image_over_text(alloc: Global) -> Result<Error, AllocError>
     ensures { IfOk result (λ e. kind_of e ≡ ErrorKind.ValueValidation) }
 {
     mistake(build_command(alloc), "fmp build", IMAGE_OVER_TEXT)
 }
 
-/// The error for a journal that would take the place of the image that is run, which has the status 2.
+/// The error for a journal that would replace the image that is run, which has the status 2.
 pub fn journal_over_image(alloc: Global) -> Result<Error, AllocError>
     ensures { IfOk result (λ e. kind_of e ≡ ErrorKind.ValueValidation) }
 {

@@ -1,4 +1,4 @@
-//! What the kernel is told, and the lines that it answers with.
+//! Events, which are what the kernel is told, and the lines with which it answers.
 use crate::bodies::Fault;
 use crate::calls::{Call, Reply};
 use crate::states::{Caller, Handler};

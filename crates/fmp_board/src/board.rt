@@ -150,7 +150,7 @@ impl<'a, S: Site> Board<'a, S> {
         self.desk.lock(rt).feed(seat, event)
     }
 
-    /// Both seats have then seen the whole journal, so the same.
+    /// Both seats have then seen the whole journal, and therefore the same.
     pub fn meet<R: Wait>(&self, rt: &R, one: &mut Seat, other: &mut Seat)
         requires one { IsAt S.row_id one.old }
         requires other { IsAt S.row_id other.old }

@@ -1,4 +1,4 @@
--- What the threads of a board make of their seats.
+-- The effect of a board's threads on their seats.
 use Rattle.std.specs.Prelude.{◌≡◌, ◌≢◌, ℕ, ◌+◌, ◌≤◌, nat_lt, if◌then◌else◌, List, [], ◌∷◌, ◌++◌, length, map, replicate, Result, Ok, Err, IfErr, IfOk}
 use Rattle.std.specs.List.{AllZip}
 use Rattle.fmp_base.specs.declared.events.Event.{Event}
@@ -35,7 +35,7 @@ pub record Added (i : ImageTables) (n : ℕ) (row : RowId) (e : Event) (most : �
   pub room : count ≢ 0 → now.mine ≤ row.capacity
   pub added : IsCounted was → own now.number now.seen ≡ own was.number was.seen ++ replicate count (entry was.number e)
 
--- what the threads of a board make of their seats, the first of which is at this place
+-- the effect of a board's threads on their seats, the first of which is at this place
 abbrev pub AllAdded : ImageTables → (n : ℕ) → RowId → Load → (place : ℕ) → (seats back : List SeatState) → Type 0
 AllAdded i n row load place [] [] = Unit {0}
 AllAdded i n row load place (s ∷ seats) (b ∷ back) =
@@ -44,7 +44,7 @@ AllAdded i n row load place (s ∷ seats) (b ∷ back) =
 AllAdded i n row load place [] (b ∷ back) = ⊥
 AllAdded i n row load place (s ∷ seats) [] = ⊥
 
--- what a thread is started for: its part, and the seat that it does it with
+-- the job of a thread: its part, and the seat with which it does it
 pub record Job : Type 0 where
   pub part : Part
   pub seat : SeatState
@@ -59,7 +59,7 @@ seats_of jobs = map (λ j. j.seat) jobs
 abbrev pub IsDone : ImageTables → (n : ℕ) → RowId → Job → (back : SeatState) → Type 0
 IsDone i n row job back = Added i n row job.part.event job.part.times job.seat back
 
--- how many entries seats have counted together
+-- the sum of the counts of seats
 abbrev pub mine_of : List SeatState → ℕ
 mine_of [] = 0
 mine_of (s ∷ seats) = s.mine + mine_of seats
@@ -92,7 +92,7 @@ GaveBack i n row part was now result =
     Added i n row part.event part.times was now
     × IfOk result (λ count. (now.mine ≡ was.mine + count) × (count ≤ row.capacity)) × IfErr result IsTurnFault
 
--- two counts together, or the first fault
+-- the sum of two counts, or the first fault
 abbrev pub both : (journaled more : Result ℕ BoardFault) → Result ℕ BoardFault
 both (Ok count) (Ok more) = Ok (count + more)
 both (Ok count) (Err f) = Err f

@@ -80,11 +80,11 @@ pen_after p x = record p { journal = p.journal ++ x ∷ []; marks = p.marks ++ x
 abbrev pub written : View → JournalEntry → View
 written v x = record v { pen = pen_after v.pen x }
 
--- a word was read, and so much is now seen
+-- a word was read, and this is now seen
 abbrev pub looked : View → List JournalEntry → (word found : ℕ) → View
 looked v seen word found = record v { sight = record v.sight { seen = seen; look = looked_at v.sight.look word found } }
 
--- seat n is shown the journal: its marks are taken away
+-- seat n is shown the journal: its marks are cleared
 abbrev pub pen_shown : ℕ → Pen → Pen
 pen_shown n p = record p { marks = without n p.marks }
 

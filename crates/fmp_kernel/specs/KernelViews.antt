@@ -16,8 +16,8 @@ use Rattle.fmp_kernel.specs.declared.actors.Actor.{Actor}
 use Rattle.fmp_kernel.specs.Stamps.{stamped}
 use Rattle.fmp_worlds.specs.Stamps.{Going, actor_at}
 
--- what carries events out: the bodies and their bound, the tables of the system, the state with the bodies' contexts,
--- the lines of what the event has caused so far, and those of the last event that did something (or of setup)
+-- the runner of events: the bodies and their bound, the tables of the system, the state with the bodies' contexts, the
+-- lines of what the event has caused so far, and those of the last event that did something (or of setup)
 pub record RunnerView (B C : Type 0) : Type 0 where
   pub body : B
   pub bound : ℕ

@@ -1,4 +1,4 @@
-//! What carries events out: the bodies with their contexts over the tables, and room for the lines of an event.
+//! The runner of events: the bodies with their contexts over the tables, and room for the lines of an event.
 ghost use Rattle.std.specs.Prelude.{◌≡◌, ◌+◌, ◌≤◌, ◌<◌, ◌^◌, ◌++◌, ◌∷◌, ℕ, [], get_or, length, replicate, vec_len, vec_capacity, false, IfOk, IfSome, Some, None};
 ghost use Rattle.fmp_base.specs.Runs.{task_state, state_word as word_of_state};
 ghost use Rattle.fmp_base.specs.Ranges.{IsInRange};
