@@ -73,7 +73,7 @@ fn is_over_input<O: Outside>(outside: &O, cmd: &Cmd) -> bool
     }
 }
 
-/// Says that the file that a command writes would take the place of one that it reads.
+/// Says that the file that a command writes would replace one that it reads.
 fn refuse_over_input<O: Outside>(alloc: Global, outside: &mut O, cmd: &Cmd) -> u8
     ensures said { Says (O.done outside.old) (O.done outside.new) }
     ensures status { (result ≡ 2) ⊎ (result ≡ 3) }

@@ -20,7 +20,7 @@ use std::alloc::{AllocError, Global};
 /// The maximum number of warnings about calls and arguments.
 const CALLS: u32 = 100;
 
-/// A call that is walked over.
+/// The call of a walk.
 #[derive(Clone, Copy)]
 struct Walk {
     /// The kind of the body that it stands in.
@@ -79,7 +79,7 @@ impl Walk {
         }
     }
 
-    /// The argument that begins behind this token at a place, where it is not to be just any number.
+    /// The argument that begins behind this token at a place, if it should not be just any number.
     fn argument_behind(self, at: usize, kind: TokenKind) -> Option<Argument> {
         let service = match kind {
             TokenKind::Symbol(Symbol::LeftParen | Symbol::Comma) if self.open == 1 => self.service?,
@@ -149,7 +149,7 @@ struct Warnings {
     signals_any: bool,
     /// Whether some call sets a flag that is not given by its name.
     sets_any: bool,
-    /// Of how many calls and arguments more is warned.
+    /// The number of warnings about calls and arguments that are left.
     room: u32,
 }
 
@@ -320,7 +320,7 @@ impl Warnings {
         }
     }
 
-    /// A call has an argument that is not the name of such an object as it takes there.
+    /// A call has an argument that is not the name of an object of the kind that it takes there.
     fn note_argument(&mut self, service: Service, wanted: Wanted) {
         if let Wanted::Object(_) = wanted {
             self.note_any(service);
@@ -433,7 +433,7 @@ fn warn_of_bodies(
     Ok(())
 }
 
-/// Whether an object goes to work with no call: a task or a cyclic handler that is started at setup.
+/// Whether an object starts without a call: a task or a cyclic handler that is started at setup.
 fn is_started(cfg: &Tokens<'_>, object: &Object) -> bool {
     match object.api {
         Api::CreTsk | Api::CreCyc => value_of(cfg, object.at, object.api, Field::Attribute) == 2,

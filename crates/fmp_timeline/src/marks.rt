@@ -64,7 +64,7 @@ pub struct Made {
     pub reply: Option<Reply>,
 }
 
-/// What one did to another at an event.
+/// What an actor did to another task at an event.
 #[derive(Clone, Copy)]
 pub enum Bond {
     /// It started the other.

@@ -33,7 +33,7 @@ impl Shown {
         }
     }
 
-    /// What the program ends with where all of it is printed, as `fmp check`: 1 for texts with a fault, else 0.
+    /// The program's status if all of it is printed, as for `fmp check`: 1 for texts with a fault, else 0.
     pub fn status(&self) -> u8
         ensures { result ≡ spec.status self.now }
     {

@@ -2,7 +2,7 @@
 //! table, as a waveform or as a picture.
 //!
 //! It ends with the statuses of `fmp`: 0 if it did what it was asked, 1 for a fault of what it read, 2 for a mistake in
-//! the command line, and 3 where a file could not be read or written or memory ran out.
+//! the command line, and 3 if a file could not be read or written or memory ran out.
 #![tactic(auto)]
 
 mod asking;
