@@ -25,7 +25,7 @@ pub struct Object {
     /// The most words that it holds, of a data queue.
     most: i32,
     now: ObjectShown,
-    /// Whether its queue may be changed.
+    /// Whether its queue may have changed.
     moved: bool,
     pub track: Track<ObjectShown>,
 }
@@ -277,7 +277,7 @@ impl Objects {
         })
     }
 
-    /// Notes that the queue of an object may be changed.
+    /// Notes that the queue of an object may have changed.
     fn note_move(&mut self, wait: Option<Wait>) {
         let Some(wait) = wait else {
             return;
@@ -338,7 +338,7 @@ impl Objects {
         }
     }
 
-    /// The queues that are changed, of those that may be.
+    /// The queues that have changed, of those that may have.
     fn take_queues(&mut self, alloc: Global) -> Result<(), AllocError> {
         for object in self.all.iter_mut() {
             if object.moved {
