@@ -523,8 +523,8 @@ fn warnings_on(
     Ok(out)
 }
 
-/// The warnings of two texts that have no fault, a line each: those of the task text in order of text, first of at most
-/// 100 of its calls and their arguments and then of its bodies, and those of the objects of the configuration.
+/// The warnings of two texts that have no fault, one line each: those of the task text in order of text, first of at
+/// most 100 of its calls and their arguments and then of its bodies, and those of the objects of the configuration.
 /// `AllocError` if memory runs out.
 pub fn warnings_of(
     alloc: Global,

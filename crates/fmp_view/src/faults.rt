@@ -21,7 +21,7 @@ pub struct Fault {
 pub enum Shown {
     /// They have a fault: what is said of it.
     Faulty(Vec<u8>),
-    /// They have none: the warnings, a line each.
+    /// They have none: the warnings, one line each.
     Sound(Vec<u8>),
 }
 

@@ -1,5 +1,5 @@
--- The wait queues among lent lists: behind sixteen ready queues a processor, those of semaphores, eventflags, senders,
--- receivers and mailboxes.
+-- The wait queues among lent lists: behind sixteen ready queues for each processor, those of semaphores, eventflags,
+-- senders, receivers and mailboxes.
 use Rattle.std.specs.Prelude.{ℕ, ◌+◌, ◌*◌, ◌<◌, ◌≤◌, ◌^◌, List, length, slice_set}
 use Rattle.fmp_base.specs.declared.states.WaitQueue.{WaitQueue}
 use Rattle.fmp_base.specs.declared.states.WaitQueue.TheVariants as queue
