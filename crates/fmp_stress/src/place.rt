@@ -15,7 +15,7 @@ use std::thread;
 /// How often an outcome is made that is stale, one after the other.
 const MOST_TRIES: u32 = 1000;
 
-/// What the calls of a seat were answered, by count.
+/// The answers to the calls of a seat, by count.
 #[derive(Clone, Copy)]
 pub struct Answers {
     /// Events that were journaled.
@@ -35,7 +35,7 @@ pub struct Answers {
 }
 
 impl Answers {
-    /// What no call was answered.
+    /// No answers yet.
     pub fn none() -> Answers {
         Answers {
             journaled: 0,
@@ -61,7 +61,7 @@ impl Answers {
         }
     }
 
-    /// Counts what one event was answered.
+    /// Counts the answer to one event.
     fn count(&mut self, answer: Result<Receipt, BoardFault>) {
         let count = match answer {
             Ok(receipt) if receipt.number > 0 => &mut self.journaled,
@@ -80,7 +80,7 @@ pub struct Record {
     pub followed: Vec<Event>,
     /// What a follower printed of them, where it read by one.
     pub printed: Vec<u8>,
-    /// What its calls were answered.
+    /// The answers to its calls.
     pub answers: Answers,
 }
 
@@ -223,7 +223,7 @@ impl<S: Site> Place<S> {
         board.close(&mut self.seat)
     }
 
-    /// Counts what an event was answered.
+    /// Counts the answer to an event.
     fn note(&mut self, answer: Result<Receipt, BoardFault>) {
         if let Ok(receipt) = answer {
             self.seen = self.seen.max(receipt.number);
