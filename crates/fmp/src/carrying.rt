@@ -14,7 +14,7 @@ use std::alloc::{AllocError, Global};
 use std::sync::Wait;
 use std::thread::Threads;
 
-/// The limit of a text, in bytes. So much and one byte more is read of it.
+/// The limit of a text, in bytes. At most one byte more is read of it.
 const TEXT_MAX: usize = 1_048_576;
 
 /// The end of a program that could not read or write this file.

@@ -25,7 +25,7 @@ pub const STORED_TASKS: &str = "task main { put(7); }";
 /// Its events.
 pub const STORED_STEPS: &str = "run 1\nrun 1\nrun 1\n";
 
-/// Its bound, in instructions a stretch.
+/// Its bound, in instructions per stretch.
 pub const STORED_BOUND: u64 = 100_000;
 
 /// Why the program ends with nothing printed: its message is one line.
@@ -93,7 +93,7 @@ fn no_host(fault: HostFault) -> Exit
     }
 }
 
-/// Checks two texts, and appends `ok` where they build an image.
+/// Checks two texts, and appends `ok` if they build an image.
 fn checked(alloc: Global, cfg: &[u8], src: &[u8], out: &mut Vec<u8>) -> Result<(), Exit>
     ensures ok { OnOk result (Checks cfg.now src.now out.old.items out.new.items) }
     ensures refused { IfErr result (IsWhyNoImage cfg.now src.now) }

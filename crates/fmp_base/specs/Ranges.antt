@@ -1,5 +1,5 @@
--- The ranges of a system: what every accepted configuration and every image keeps, and all that the kernel asks of a
--- system.
+-- The ranges of a system: what every accepted configuration and every image keeps, and all that the kernel requires of
+-- a system.
 use Rattle.std.specs.Prelude.{ℕ, ◌<◌, ◌≤◌, ◌^◌, List, length}
 use Rattle.std.specs.List.{AllByRecursion}
 use Rattle.fmp_base.specs.declared.systems.TaskConfig.{TaskConfig}

@@ -1,4 +1,4 @@
-//! Service calls with their arguments, and what they come to at once.
+//! Service calls with their arguments, and their immediate effects.
 ghost use Rattle.std.specs.Prelude.{◌≡◌};
 ghost use Rattle.fmp_base.specs.Services.{service_of};
 

@@ -53,7 +53,7 @@ pub fn steps_are_ghost() -> bool
     true
 }
 
-/// A row of links, each from its own place to some place. Nothing else than `get` and `set` reads and writes them.
+/// A row of links, each from its own place to some place. Only `get` and `set` read and write them.
 #[derive(Drop)]
 pub struct Counted {
     links: Vec<u32>,

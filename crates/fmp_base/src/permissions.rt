@@ -10,7 +10,7 @@ pub enum Permission {
     LockedTasks,
     /// From tasks.
     Tasks,
-    /// From tasks; while dispatching is disabled not on the caller itself, whom it takes off its processor.
+    /// From tasks; while dispatching is disabled not on the caller itself, since it takes the caller off its processor.
     TasksOnOthers,
     /// From tasks while dispatching is enabled, since the caller may wait, whatever its time limit.
     WaitingTasks,

@@ -166,8 +166,8 @@ impl<'a, S: Site> Book<'a, S> {
         }
     }
 
-    /// The seat comes to have seen the whole journal, which begins with all that it had seen, and counts its entries;
-    /// its marks are taken away.
+    /// The seat has then seen the whole journal, which begins with all that it had seen, and has counted its entries;
+    /// its marks are cleared.
     pub(crate) fn show(&mut self, seat: &mut Seat)
         requires { IsAt S.row_id seat.old }
         ensures book { self.new ≡ unmarked self.old seat.old.number }

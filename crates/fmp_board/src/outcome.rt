@@ -1,4 +1,4 @@
-//! Stretches that are worked out outside the lock of a board.
+//! Stretches that are made outside the lock of a board.
 ghost use Rattle.std.specs.Prelude.{◌≡◌};
 ghost use Rattle.fmp_board.specs.Outcomes.{IsTicket, ending_of};
 
@@ -50,8 +50,8 @@ impl<'a> Ticket<'a> {
         }
     }
 
-    /// The stretch of the actor up to its next service call, its end or its fault. It needs no board, so others may go
-    /// on with theirs meanwhile.
+    /// The stretch of the actor up to its next service call, its end or its fault. It needs no board, so other
+    /// stretches may be made meanwhile.
     pub fn stretch(self) -> Outcome
         ensures ticket { result.ticket ≡ self.entry }
         ensures ending { result.ending ≡ ending_of self.entry }

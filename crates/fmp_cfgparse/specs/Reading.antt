@@ -1,4 +1,4 @@
--- When what the readers of the configuration answer is right.
+-- When the answers of the readers of the configuration are right.
 use Rattle.std.specs.Prelude.{◌≡◌, ℕ, ℤ, List, Option, Some, None, slice_get, option_and_then, Result, Ok, Err}
 use Rattle.fmp_base.specs.declared.names.Name.{Name}
 use Rattle.fmp_lex.specs.declared.token.Symbol.TheVariants as symbol

@@ -76,7 +76,7 @@ impl<C: Copy> BodyContexts<C> {
         Ok(BodyContexts { tasks, handlers })
     }
 
-    /// The number of the body of the handler that runs on a processor, or 0 where none does.
+    /// The number of the body of the handler that runs on a processor, or 0 if none does.
     pub fn handler_body(&self, p: u8) -> u8
         ensures { result ≡ body_in (context_at self.now.handlers p) }
     {

@@ -1,4 +1,4 @@
-//! What is said of a text that goes on as no well-formed text does.
+//! Sentences on a text that goes on as no well-formed text does.
 ghost use Rattle.std.specs.Prelude.{◌<◌, length, IfSome, OnOk};
 ghost use Rattle.fmp_diagnosis.specs.Words.{IsSaid, IsSaidFirst, MaySay, quoted};
 ghost use Rattle.fmp_base.specs.Names.{name_text};
@@ -11,7 +11,7 @@ use fmp_base::Name;
 use fmp_lex::{Keyword, LexFault, Symbol, TextFile, TokenKind};
 use std::alloc::{AllocError, Global};
 
-/// A number of more bytes is not repeated.
+/// A number of more bytes is not quoted.
 const SHOWN_MAX: usize = 40;
 
 /// What is said behind a number that is too great.

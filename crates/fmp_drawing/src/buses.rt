@@ -69,7 +69,7 @@ fn put_value_text(row: &Row, left: Tenths, text: &Canvas, out: &mut Canvas) {
     );
 }
 
-/// The value with those who wait behind it, or the value alone, where it fits.
+/// The value followed by the waiting tasks, or the value alone, if it fits.
 fn put_value(
     scene: &Scene<'_>,
     row: &Row,

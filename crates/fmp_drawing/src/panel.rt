@@ -118,7 +118,8 @@ fn put_asleep_names(
     }
 }
 
-/// How many tasks without a lane are in a state, with the names of the first four: whether there are any.
+/// Says how many tasks without a lane are in a state, with the names of the first four. The answer is whether there are
+/// any.
 fn put_asleep_in(
     scene: &Scene<'_>,
     span: &Span,

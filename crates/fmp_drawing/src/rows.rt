@@ -49,7 +49,7 @@ impl Lane {
         }
     }
 
-    /// The one whose lane it is.
+    /// The owner of the lane.
     pub fn actor(self) -> Option<Caller> {
         match self {
             Lane::Task(task, _) => Some(Caller::Task(task)),
@@ -326,7 +326,7 @@ impl Rows {
         self.of_lane(Lane::Task(task, processor))
     }
 
-    /// The lane of one who acts, with the task where it is after this event.
+    /// The lane of an actor; that of a task is where the task is after this event.
     pub fn of_actor(&self, run: &Run, actor: Caller, event: u32) -> Option<Row> {
         match actor {
             Caller::Task(task) => {

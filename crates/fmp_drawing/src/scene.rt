@@ -1,10 +1,10 @@
-//! What all parts of a picture are drawn from, and where a text can stand.
+//! The source of all parts of a picture, and where a text can stand.
 use crate::rows::{Lane, colours};
 use fmp_base::System;
 use fmp_timeline::{Deeds, Page, Run, Span, Tenths, px, width};
 use std::alloc::{AllocError, Global};
 
-/// What a picture is drawn from.
+/// The source of a picture.
 #[derive(Drop)]
 pub struct Scene<'a> {
     pub alloc: Global,
@@ -47,7 +47,7 @@ impl<'a> Scene<'a> {
         u32::from(self.colours.get(usize::from(task)).copied().unwrap_or(0))
     }
 
-    /// What the one whose lane this is did, and what came to it.
+    /// What the owner of this lane did, and what was done to it.
     pub fn deeds_in(&self, lane: Lane) -> Option<&'a Deeds> {
         self.run.deeds_of(lane.actor()?)
     }

@@ -81,7 +81,7 @@ fn run_or_tick<B: Body>(
     }
 }
 
-/// The next event, which is done; none where no processor can do anything and the clock changes nothing.
+/// The next event, which is done; none if no processor can do anything and the clock changes nothing.
 fn next<B: Body>(
     kernel: &mut Kernel<B>,
     plan: &mut Plan,

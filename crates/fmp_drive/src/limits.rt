@@ -15,7 +15,7 @@ fn has_end(call: Call) -> bool {
     }
 }
 
-/// Keeps of a task whether the wait that this line tells ends by the clock.
+/// Records whether the wait of a task that this line tells ends by the clock.
 fn note_wait(line: Line, ending: &mut [bool]) {
     let Line::Call {
         caller: Caller::Task(task),
@@ -31,7 +31,7 @@ fn note_wait(line: Line, ending: &mut [bool]) {
     }
 }
 
-/// Keeps of each task whether the wait that it began last ends by the clock.
+/// Records for each task whether the wait that it began last ends by the clock.
 pub fn note_waits(lines: &[Line], ending: &mut [bool]) {
     for line in lines {
         note_wait(*line, ending);

@@ -16,7 +16,7 @@ pub enum NextRun {
     NoActor,
     /// The stretch needs more instructions than the bound, so the run does nothing.
     OverBound,
-    /// The stretch comes to this call. Where that asks for a spin lock which is held, the run does nothing.
+    /// The stretch ends with this call. If it spins for a held spin lock, the run does nothing.
     Calls(Call),
     /// The stretch ends the task or the handler, or stops it with a fault.
     Ends,

@@ -41,7 +41,7 @@ pub struct Plan {
     random: Option<Pcg32>,
     /// Whether something comes from outside of the tasks: cyclic handlers, or interrupts at random.
     stirred: bool,
-    /// Of each task, whether the wait that it began last ends by the clock.
+    /// For each task, whether the wait that it began last ends by the clock.
     ending: Vec<bool>,
 }
 

@@ -17,7 +17,7 @@ pub enum SimFault {
     Memory,
 }
 
-/// Why a text that was to be given to an outlet was not given, or not to its end.
+/// Why an outlet was not given all of a text.
 #[derive(Clone, Copy)]
 pub enum Cut {
     /// Memory ran out before the first piece.

@@ -48,7 +48,7 @@ pub trait Outside {
         ensures device { OnErr result (IsTrue (output_can_fail self.old)) }
         ensures output { output_can_fail self.new ≡ output_can_fail self.old };
 
-    /// Writes a text to standard error, as far as that goes.
+    /// Writes a text to standard error, as far as that works.
     fn say<D: Display + Drop>(&mut self, text: D)
         ensures { Says (done self.old) (done self.new) };
 

@@ -17,7 +17,7 @@ pub enum ReadFault {
     Memory,
 }
 
-/// How many bytes are asked for at once.
+/// How many bytes to ask for at once.
 const CHUNK: usize = 65_536;
 
 /// How many bytes to ask for next, after this many: none if these go past the limit.

@@ -20,8 +20,8 @@ use std::marker::Model;
 const EVENT_ROOM: usize = 66_432;
 
 /// Reads the journal of a board from a seat, and prints it: it never waits. The events that the seat is given run on a
-/// kernel of the follower's own, and their lines are printed as a simulation of them prints them. It is seen by the
-/// seat that it reads from.
+/// kernel of the follower's own, and their lines are printed as a simulation of them prints them. Contracts see it as
+/// the seat from which it reads.
 #[derive(Drop)]
 pub struct Follower<'a, 'b, S: Site> {
     board: &'b Board<'a, S>,
@@ -144,11 +144,11 @@ impl<'a, 'b, S: Site> Follower<'a, 'b, S> {
         &self.kernel
     }
 
-    /// Follows one event and appends the text of its lines. None, and nothing is appended, where as many events were
-    /// given as the row has words, or where the next word was found empty. First 66,432 bytes are reserved, room for
-    /// the lines of any event.
+    /// Follows one event and appends the text of its lines. None, and nothing is appended, if as many events were given
+    /// as the row has words, or if the next word was found empty. First 66,432 bytes are reserved, room for the lines
+    /// of any event.
     ///
-    /// `AllocError` where that room is refused; then nothing has changed, and no event was taken.
+    /// `AllocError` if that room is refused; then nothing has changed, and no event was taken.
     pub fn pull(&mut self, out: &mut Vec<u8>) -> Result<Option<Event>, AllocError>
         ensures same_reference { self.new.seat.ghost_name ≡ self.old.seat.ghost_name }
         ensures at { IsAt S.row_id self.new.seat.now }

@@ -138,7 +138,7 @@ abbrev pub refused : ℕ → Option Line → ℕ
 refused p None = 0
 refused p (Some l) = refused_by p l
 
--- of a task that is not there
+-- of a missing task
 abbrev pub unknown : TaskState
 unknown = record { word = word.Dormant; processor = 0; priority = 0 }
 

@@ -31,7 +31,7 @@ fn append_all(variables: &[Variable], values: &[u64], out: &mut Vec<u8>) -> Resu
     Ok(())
 }
 
-/// The values that are other than before.
+/// The values that have changed.
 fn append_changed(
     variables: &[Variable],
     before: &[u64],
@@ -80,7 +80,7 @@ impl Viewer for Waves {
     ghost shown = { λ x f y.
         (y.variables ≡ x.variables) × (y.values.items ≡ spec.values_of f x.variables.items) };
 
-    /// One event more: what is other after it than before.
+    /// One event more: the values that it has changed.
     fn show(&mut self, alloc: Global, frame: &Frame) -> Result<(), AllocError> {
         let values = values_of(alloc, frame, &self.variables)?;
         self.events = self.events.saturating_add(1);

@@ -8,9 +8,9 @@ use fmp_base::{Effect, Event};
 use fmp_kernel::{Body, Kernel};
 use std::alloc::{AllocError, Global};
 
-/// What a run is shown to, frame by frame.
+/// A viewer, to which a run is shown frame by frame.
 pub trait Viewer {
-    /// What it becomes by a frame.
+    /// What a frame makes of it.
     ghost shown: { Self → FrameTable → Self → Type 0 };
 
     /// One frame more. `AllocError` if memory runs out.

@@ -1,10 +1,10 @@
-//! The table of a run as text: a row a task.
+//! The table of a run as text: one row for each task.
 use crate::counting::Tally;
 use crate::tallies::Tallies;
 use fmp_base::System;
 use std::alloc::{AllocError, Global};
 
-/// What stands above the columns.
+/// The heads of the columns.
 const HEADS: [&str; 7] = [
     "starts",
     "calls",

@@ -199,8 +199,8 @@ fn run_threads<B: Feed + Sync, G: Gate, R: Threads + Wait + Sync>(
 /// stretch outside the lock, asks the gate, submits the outcome and tells the gate; and one more feeds `ticks` ticks. A
 /// turn in which the processor has no actor is over, and so is one whose outcome is stale. The seats are one for each
 /// processor, in order, and one for the ticks; they come back in their order, each of which has seen what its calls
-/// showed it. The answer is how many events were journaled by this call: by so much their own counts have risen
-/// together.
+/// showed it. The answer is the number of events that this call journaled, which is the sum by which their own counts
+/// have risen.
 ///
 /// `BoardFault::Limit`, exactly if the number of seats differs; `BoardFault::Memory`, if memory runs out, before any
 /// thread is started; `BoardFault::Thread` if a thread was refused: then no more are started, those that run are
@@ -234,7 +234,7 @@ pub fn run_all<S: Site + Send + Sync, G: Gate, R: Threads + Wait + Sync>(
     let Ok(lists) = Lists::new(alloc, seats.len()) else {
         return (seats, Err(BoardFault::Memory));
     };
-    // It is at most 2^20, so the counts of all threads together are no more than a u32 holds.
+    // It is at most 2^20, so a u32 holds the sum of the counts of all threads.
     board.capacity();
     let load = Load {
         processors,

@@ -17,7 +17,8 @@ const MOST_ASKED: u32 = 10_000;
 
 /// Decides when the processors go on. Both calls come from the thread of the processor, and may wait.
 pub trait Gate: Sync {
-    /// Whether this turn of processor p, counted from 1, may go on. It is asked until it says so, 10,000 times at most.
+    /// Whether this turn of processor p, counted from 1, may go on. It is asked until it says yes, at most 10,000
+    /// times.
     fn may_submit(&self, p: u8, turn: u32) -> bool;
 
     /// The board has answered this turn of processor p, by a receipt or by a refusal.

@@ -241,8 +241,8 @@ fn read_some_bodies<'a>(
     Ok(((heads, bodies), rest))
 }
 
-/// Reads all bodies behind their number. `ImageFault::Short` where a field ends past the bytes, `ImageFault::Code`
-/// where the code of a body is not fit to run, `ImageFault::Table` where another value of a body breaks a rule, and
+/// Reads all bodies behind their number. `ImageFault::Short` if a field ends past the bytes, `ImageFault::Code` if the
+/// code of a body is not fit to run, `ImageFault::Table` if another value of a body breaks a rule, and
 /// `LoadFault::Memory` if memory runs out.
 pub fn read_bodies<'a>(
     alloc: Global,

@@ -26,8 +26,7 @@ pub fn byte_at(bytes: &[u8]) -> Result<(u8, &[u8]), LoadFault>
     }
 }
 
-/// The number of 16 bits that the first two bytes are, and the bytes behind them. `LoadFault::Image` where they are
-/// fewer.
+/// The number of 16 bits that the first two bytes are, and the bytes behind them. `LoadFault::Image` if they are fewer.
 pub fn short_at(bytes: &[u8]) -> Result<(u16, &[u8]), LoadFault>
     ensures { Gives (λ x. (x.0, x.1.now)) result (short.read bytes.now) }
 {
@@ -37,7 +36,7 @@ pub fn short_at(bytes: &[u8]) -> Result<(u16, &[u8]), LoadFault>
     Ok((LittleEndian::read_u16(bytes), &bytes[2..]))
 }
 
-/// The number of 32 bits that the first four bytes are, and the bytes behind them. `LoadFault::Image` where they are
+/// The number of 32 bits that the first four bytes are, and the bytes behind them. `LoadFault::Image` if they are
 /// fewer.
 pub fn long_at(bytes: &[u8]) -> Result<(u32, &[u8]), LoadFault>
     ensures { Gives (λ x. (x.0, x.1.now)) result (long.read bytes.now) }
@@ -48,7 +47,7 @@ pub fn long_at(bytes: &[u8]) -> Result<(u32, &[u8]), LoadFault>
     Ok((LittleEndian::read_u32(bytes), &bytes[4..]))
 }
 
-/// The signed number of 32 bits that the first four bytes are, and the bytes behind them. `LoadFault::Image` where they
+/// The signed number of 32 bits that the first four bytes are, and the bytes behind them. `LoadFault::Image` if they
 /// are fewer.
 pub fn word_at(bytes: &[u8]) -> Result<(i32, &[u8]), LoadFault>
     ensures { Gives (λ x. (x.0, x.1.now)) result (word.read bytes.now) }
@@ -69,7 +68,7 @@ pub fn bytes_at(bytes: &[u8], size: usize) -> Result<(&[u8], &[u8]), LoadFault>
     Ok(bytes.split_at(size))
 }
 
-/// The bytes whose number the first byte tells, and those behind them. `LoadFault::Image` where they are fewer.
+/// The bytes whose number the first byte tells, and those behind them. `LoadFault::Image` if they are fewer.
 pub fn text_at(bytes: &[u8]) -> Result<(&[u8], &[u8]), LoadFault>
     ensures { Gives (λ x. (x.0.now, x.1.now)) result (text.read bytes.now) }
 {

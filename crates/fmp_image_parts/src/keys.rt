@@ -66,7 +66,7 @@ pub fn is_name(text: &[u8]) -> bool
     text.len() <= 31 && begins_and_goes_on(text) && !is_reserved(text)
 }
 
-/// The name of this text, if an object can have it: `None` where `is_name` says no.
+/// The name of this text, if an object can have it: `None` if `is_name` says no.
 #[tactic(auto, using(crate::proofs::Names::name_fits))]
 pub fn name_of(text: &[u8]) -> Option<Name>
     ensures { MatchOption result (is_name text.now ≡ false)

@@ -41,8 +41,8 @@ pub trait Row: Copy {
     ghost can_put: { Self → Type 0 };
 
     /// Reads a row from the front of the bytes, and gives the bytes behind it. The processors are how many the system
-    /// has, 1 to 8; the heads are those of its bodies, by place. `ImageFault::Short` where a field ends past the bytes,
-    /// `ImageFault::Table` where a value breaks a rule of the row.
+    /// has, 1 to 8; the heads are those of its bodies, by place. `ImageFault::Short` if a field ends past the bytes,
+    /// `ImageFault::Table` if a value breaks a rule of the row.
     fn read<'a>(
         processors: u8,
         heads: &[BodyHead],

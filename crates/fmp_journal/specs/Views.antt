@@ -80,11 +80,11 @@ pen_after p x = record p { journal = p.journal ++ x ∷ []; marks = p.marks ++ x
 abbrev pub written : View → JournalEntry → View
 written v x = record v { pen = pen_after v.pen x }
 
--- a word was read, and so much is now seen
+-- a word was read, and this is now seen
 abbrev pub looked : View → List JournalEntry → (word found : ℕ) → View
 looked v seen word found = record v { sight = record v.sight { seen = seen; look = looked_at v.sight.look word found } }
 
--- seat n is shown the journal: its marks are taken away
+-- seat n is shown the journal: its marks are cleared
 abbrev pub pen_shown : ℕ → Pen → Pen
 pen_shown n p = record p { marks = without n p.marks }
 
@@ -95,7 +95,7 @@ sight_shown s p = record s { seen = p.journal; mine = s.mine + times s.number p.
 abbrev pub shown : View → View
 shown v = record v { pen = pen_shown v.sight.number v.pen; sight = sight_shown v.sight v.pen }
 
--- what each step tells who makes it: of the step, the view before, the number stored or found, and the view after
+-- what each step tells its maker: of the step, the view before, the number stored or found, and the view after
 
 -- the entry of the stored word is written
 abbrev pub Wrote : Step (Unit {0}) → Me (Unit {0}) View → ℕ → Me (Unit {0}) View → Type 0

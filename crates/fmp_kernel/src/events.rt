@@ -154,8 +154,8 @@ impl<B: Body> Runner<B> {
         }
     }
 
-    /// A stretch of the actor of processor p has stopped so, and left what is kept of it: the call, end or fault is
-    /// carried out. Where it was over its bound, nothing is.
+    /// Carries out the call, end or fault with which a stretch of the actor of processor p has stopped; what is kept of
+    /// it is in place. If it was over its bound, nothing happens.
     #[tactic(auto, using(fmp_contexts::proofs::HeldLemmas::context_back))]
     #[inline(always)]
     fn carry_out_stop(&mut self, p: u8, who: Caller, first: &B::Ctx, stop: &Stop) -> Effect

@@ -52,7 +52,7 @@ pub fn walk(tables: &mut Tables, lines: &mut Vec<Line>, f: u8, bits: u16)
     let clears = tables.flag_config(f).clears;
     let mut at = tables.first_waiting(WaitQueue::Flag(f));
     while let Some(t) = at {
-        // A release takes t out of the queue, so who follows it is read first.
+        // A release takes t out of the queue, so the task behind it is read first.
         at = tables.waiting_behind(WaitQueue::Flag(f), t);
         let x = tables.task(t);
         if !is_satisfied(x.phase, bits) {

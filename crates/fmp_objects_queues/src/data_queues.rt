@@ -22,7 +22,7 @@ fn data_queue_of(tables: &Tables, number: i32) -> Option<u8>
     numbered(tables.data_queue_count(), number)
 }
 
-/// The word with which a task of this phase waits; 0 where it waits with none.
+/// The word with which a task of this phase waits; 0 if it waits with none.
 fn offered_word(phase: Phase) -> i32
     ensures { result ≡ offered_word_case phase }
 {
@@ -66,8 +66,8 @@ fn send(
 
 /// `snd_dtq` and `psnd_dtq` by task me (uITRON 4.0, section 4.4.3): releases the first task that waits to receive with
 /// E_OK and the word; with none puts the word last if there is room, and else waits with it at the end of the order
-/// within the limit. E_ID where the number names no data queue, then E_TMOUT where a poll would have to wait; nothing
-/// changes then.
+/// within the limit. E_ID if the number names no data queue, then E_TMOUT if a poll would have to wait; nothing changes
+/// then.
 pub fn snd_dtq(
     tables: &mut Tables,
     lines: &mut Vec<Line>,
@@ -91,8 +91,8 @@ pub fn snd_dtq(
 }
 
 /// `tsnd_dtq` by task me (uITRON 4.0, section 4.4.3): as `snd_dtq`, with the time limit that a number states, in ticks:
-/// -1 is none, 0 polls, the greatest is 2^30. E_ID where the number names no data queue, then E_PAR where the limit is
-/// none of these, then E_TMOUT where a poll would have to wait; nothing changes then.
+/// -1 is none, 0 polls, the greatest is 2^30. E_ID if the number names no data queue, then E_PAR if the limit is none
+/// of these, then E_TMOUT if a poll would have to wait; nothing changes then.
 pub fn tsnd_dtq(
     tables: &mut Tables,
     lines: &mut Vec<Line>,
@@ -118,8 +118,8 @@ pub fn tsnd_dtq(
 }
 
 /// `ipsnd_dtq`, and what `psnd_dtq` does for every caller (uITRON 4.0, section 4.4.3): as `snd_dtq` with a poll, but
-/// with no caller. E_ID where the number names no data queue, then E_TMOUT where no task waits to receive and there is
-/// no room; nothing changes then.
+/// with no caller. E_ID if the number names no data queue, then E_TMOUT if no task waits to receive and there is no
+/// room; nothing changes then.
 pub fn psnd_dtq(tables: &mut Tables, lines: &mut Vec<Line>, queue: i32, word: i32) -> Answer
     requires empty { lines.old.items ≡ [] }
     requires room { 1 ≤ vec_capacity lines.old }
@@ -166,8 +166,8 @@ fn force(tables: &mut Tables, lines: &mut Vec<Line>, d: u8, word: i32) -> Answer
 }
 
 /// `fsnd_dtq` and `ifsnd_dtq` (uITRON 4.0, section 4.4.3): releases the first task that waits to receive with E_OK and
-/// the word; with none puts the word last, and a full queue drops its oldest word first. E_ID where the number names no
-/// data queue, then E_ILUSE where it can hold no word; nothing changes then.
+/// the word; with none puts the word last, and a full queue drops its oldest word first. E_ID if the number names no
+/// data queue, then E_ILUSE if it can hold no word; nothing changes then.
 pub fn fsnd_dtq(tables: &mut Tables, lines: &mut Vec<Line>, queue: i32, word: i32) -> Answer
     requires empty { lines.old.items ≡ [] }
     requires room { 1 ≤ vec_capacity lines.old }
@@ -232,8 +232,8 @@ fn receive(tables: &mut Tables, lines: &mut Vec<Line>, me: u8, limit: TimeLimit,
 
 /// `rcv_dtq` and `prcv_dtq` by task me (uITRON 4.0, section 4.4.3): gives the oldest word, then the word of the first
 /// task that waits to send is put last and that task is released with E_OK; of a queue that can hold no word gives the
-/// word of that task and releases it; else waits at the end of the order within the limit. E_ID where the number names
-/// no data queue, then E_TMOUT where a poll finds no word; nothing changes then.
+/// word of that task and releases it; else waits at the end of the order within the limit. E_ID if the number names no
+/// data queue, then E_TMOUT if a poll finds no word; nothing changes then.
 pub fn rcv_dtq(
     tables: &mut Tables,
     lines: &mut Vec<Line>,
@@ -256,8 +256,8 @@ pub fn rcv_dtq(
 }
 
 /// `trcv_dtq` by task me (uITRON 4.0, section 4.4.3): as `rcv_dtq`, with the time limit that a number states, in ticks:
-/// -1 is none, 0 polls, the greatest is 2^30. E_ID where the number names no data queue, then E_PAR where the limit is
-/// none of these, then E_TMOUT where a poll finds no word; nothing changes then.
+/// -1 is none, 0 polls, the greatest is 2^30. E_ID if the number names no data queue, then E_PAR if the limit is none
+/// of these, then E_TMOUT if a poll finds no word; nothing changes then.
 pub fn trcv_dtq(
     tables: &mut Tables,
     lines: &mut Vec<Line>,

@@ -20,7 +20,7 @@ abbrev pub Chain : ℕ → (ℕ → ℕ) → (ℕ → ℕ) → ℕ → List ℕ 
 Chain n next previous a [] z = (next a ≡ z) × (previous z ≡ a)
 Chain n next previous a (t ∷ ts) z = (t < n) × (next a ≡ t) × (previous t ≡ a) × Chain n next previous t ts z
 
--- the links are rings, one a list
+-- the links are rings, one for each list
 pub record AreChains (n : ℕ) (next previous : ℕ → ℕ) (lists : List (List ℕ)) : Type 0 where
   pub each : (h : ℕ) → h < length lists → Chain n next previous (n + h) (list_at lists h) (n + h)
 

@@ -1,4 +1,4 @@
-//! What the entries of static APIs ask of a body: its kind, its name, how many operands it needs.
+//! What the entries of static APIs require of a body: its kind, its name, how many operands it needs.
 
 ghost use Rattle.std.specs.Prelude.{◌≡◌, ◌<◌, List, length, min, IfSome};
 ghost use Rattle.fmp_tasklang.specs.Trees.{BodyTree};

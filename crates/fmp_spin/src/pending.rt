@@ -105,7 +105,7 @@ fn clear_words(alloc: Global, count: usize) -> Result<Vec<u64>, AllocError>
     vec![in alloc; 0; count]
 }
 
-/// The first slot of a row whose bit is set, if any. Mostly there is none, which is seen at once.
+/// The first slot of a row whose bit is set, if any. Usually there is none, which is seen at once.
 fn first_slot(words: &[u64], from: usize) -> Option<usize>
     requires inside { from + 5 ≤ length words.now }
     ensures { IsFirst (λ i. bit_in words.now (from * 64 + i)) 320 result }

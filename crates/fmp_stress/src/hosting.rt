@@ -22,7 +22,7 @@ pub struct Hosted {
     pub journal: Vec<Event>,
     /// What the seats of each team did, first of those that followed.
     pub teams: Vec<Vec<Record>>,
-    /// What all calls were answered.
+    /// The answers to all calls, by count.
     pub answers: Answers,
     /// How many seats there were.
     pub seats: u32,

@@ -1,4 +1,4 @@
--- When what the readers of a task text answer is right.
+-- When the answers of the readers of a task text are right.
 use Rattle.std.specs.Prelude.{◌≡◌, ℕ, ◌+◌, ◌≤◌, Bool, List, map, slice_get, Option, Some, None, option_and_then, Result, Ok, Err}
 use Rattle.std.specs.declared.vec.Vec.{Vec}
 use Rattle.std.specs.declared.alloc.Global.{Global}

@@ -24,7 +24,7 @@ from_mark [] = []
 from_mark (Do s ∷ rest) = from_mark rest
 from_mark (Mark e b ∷ rest) = Mark e b ∷ rest
 
--- the place of a variable that is written; none where the name is no variable
+-- the place of a variable that is written; none if the name is no variable
 abbrev pub variable_place : NameMeaning → Option ℕ
 variable_place (Variable place) = Some place
 variable_place (Object k) = None

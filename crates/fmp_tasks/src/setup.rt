@@ -95,7 +95,7 @@ pub fn wait_queues(sys: &System) -> WaitQueues
     }
 }
 
-/// How many lists tasks stand in: sixteen ready queues a processor, and the wait queues.
+/// How many lists tasks stand in: sixteen ready queues for each processor, and the wait queues.
 fn list_count(waits: WaitQueues) -> u16
     ensures { result ≡ waits.processors * 16 + count_of_lists waits.counts }
 {

@@ -24,7 +24,7 @@ pub enum Piece<'a> {
 /// The digits of hexadecimal numbers.
 const DIGITS: &[u8; 16] = b"0123456789ABCDEF";
 
-/// The text of a picture, or of a label in it. Once memory has run out it takes no more, which `finish` tells.
+/// The text of a picture, or of a label in it. Once memory has run out it takes no more, which `finish` reports.
 #[derive(Drop)]
 pub struct Canvas {
     bytes: Vec<u8>,

@@ -64,7 +64,7 @@ pub struct Made {
     pub reply: Option<Reply>,
 }
 
-/// What one did to another at an event.
+/// What an actor did to another task at an event.
 #[derive(Clone, Copy)]
 pub enum Bond {
     /// It started the other.
@@ -77,7 +77,7 @@ pub enum Bond {
     Changes,
 }
 
-/// A line from the one who did something to the task that it was done to.
+/// A line from an actor to the task on which it acted.
 #[derive(Clone, Copy)]
 pub struct Link {
     pub event: u32,

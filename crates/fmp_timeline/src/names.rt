@@ -27,7 +27,7 @@ fn name_of(sys: &System, topic: Topic) -> Option<&Name> {
     }
 }
 
-/// The name of an object that tasks wait for, where a topic is one and it is there.
+/// The name of an object that tasks wait for, if a topic is one and it exists.
 fn object_name(sys: &System, topic: Topic) -> Option<&Name> {
     match topic {
         Topic::Semaphore(place) => Some(&sys.semaphores.get(usize::from(place))?.name),

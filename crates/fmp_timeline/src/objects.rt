@@ -27,7 +27,7 @@ pub struct Object {
     /// The most words that it holds, of a data queue.
     most: i32,
     now: ObjectShown,
-    /// Whether its queue may be other than before.
+    /// Whether its queue may have changed.
     moved: bool,
     pub track: Track<ObjectShown>,
 }
@@ -76,7 +76,7 @@ fn queue_named(kind: ObjectKind, number: i32) -> Option<Topic> {
     }
 }
 
-/// The object of which an accepted call that releases no task queues one more, or one less.
+/// The object in which an accepted call that releases no task queues one more, or one less.
 fn level_change(call: Call) -> Option<(Topic, i32)> {
     let service = call.service();
     let change = match service.action()? {
@@ -90,7 +90,7 @@ fn level_change(call: Call) -> Option<(Topic, i32)> {
     Some((topic, change))
 }
 
-/// The call of an event that was accepted, and who made it.
+/// The call of an event that was accepted, and its caller.
 fn accepted(lines: &[Line]) -> Option<(Call, Caller)> {
     match lines.first()? {
         Line::Call {
@@ -276,7 +276,7 @@ impl Objects {
         })
     }
 
-    /// Notes that the queue of an object may be other than before.
+    /// Notes that the queue of an object may have changed.
     fn note_move(&mut self, wait: Option<Wait>) {
         let Some(wait) = wait else {
             return;
@@ -337,7 +337,7 @@ impl Objects {
         }
     }
 
-    /// The queues that are other than before, of those that may be.
+    /// The queues that have changed, of those that may have.
     fn take_queues(&mut self, alloc: Global) -> Result<(), AllocError> {
         for object in self.all.iter_mut() {
             if object.moved {

@@ -142,7 +142,7 @@ impl Run {
         }
     }
 
-    /// Whether a handler pends or runs after some event of a panel.
+    /// Whether a handler is pending or runs after some event of a panel.
     pub fn is_handling(&self, handler: Handler, span: &Span) -> bool {
         let Some(track) = self.handling(handler) else {
             return false;

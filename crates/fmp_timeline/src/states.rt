@@ -63,7 +63,7 @@ pub struct Occupant {
 }
 
 impl Occupant {
-    /// Who goes on when the processor does.
+    /// The actor that goes on when the processor does.
     pub fn actor(self) -> Option<Caller> {
         match (self.handler, self.task) {
             (Some(handler), _) => Some(Caller::Handler(handler)),

@@ -25,7 +25,7 @@ pub fn made<T>(outcome: Result<T, AllocError>) -> Result<T, SimFault> {
     }
 }
 
-/// What the code of this word means; none where no code is printed so.
+/// What the code of this word means; none if no code is printed so.
 pub fn code(alloc: Global, word: &str) -> Result<Option<Vec<u8>>, AllocError> {
     let Some(topic) = topic_named(word.as_bytes()) else {
         return Ok(None);

@@ -24,7 +24,7 @@ pub enum TimelineFault {
     /// There is no run.
     #[error("{0}")]
     Sim(SimFault),
-    /// The run ends before the first event that is wanted, with this one.
+    /// The run ends before the first event that is asked for, with this one.
     #[error("the run has no event so late: its last is {0}")]
     NoEvent(u32),
     /// The picture would be too large: half of its events are these.

@@ -100,7 +100,7 @@ abbrev pub stamp : {C : Type 0} → SystemTables → Meaning C → (bound : ℕ)
 stamp sys M bound w [] p = 0
 stamp sys M bound w (e ∷ es) p = stamp_on e w (step sys M bound w e) p (λ v. stamp sys M bound v es p)
 
--- the run of the processor at place p where the stretch of its actor ends so
+-- the run of the processor at place p, given how the stretch of its actor ends
 abbrev pub applied_in : {C : Type 0} → SystemTables → Meaning C → World C → ℕ → Caller → Option (Held C) → Ending C
     → Reaction C
 applied_in sys M w p who None x = Nothing
@@ -111,7 +111,7 @@ abbrev pub applied_by : {C : Type 0} → SystemTables → Meaning C → World C 
 applied_by sys M w p None x = Nothing
 applied_by sys M w p (Some who) x = applied_in sys M w p who (context_of w.contexts p who) x
 
--- what an event `Run` of this processor's number does where the stretch of its actor ends so
+-- the effect of an event `Run` of this processor's number, given how the stretch of its actor ends
 abbrev pub applied : {C : Type 0} → SystemTables → Meaning C → World C → ℕ → Ending C → Reaction C
 applied sys M w zero x = Nothing
 applied sys M w (suc p) x = applied_by sys M w p (actor_of (processor_at w.state p)) x

@@ -34,7 +34,7 @@ pub fn tasks_run_once<C>()
         RunOnce (run sys M n (setup sys M).world es).world.state }
 {}
 
-/// A call that finds its spin lock held, so that its caller goes on asking, has changed nothing and has no line.
+/// A call that finds its spin lock held, so that its caller spins, has changed nothing and has no line.
 pub fn spinning_changes_nothing()
     ensures { (sys : SystemTables) (s : KernelState) (p : ℕ) (who : Caller) (c : Call) →
         (called sys s p who c).answer ≡ Spins → (called sys s p who c).progress ≡ unchanged s }

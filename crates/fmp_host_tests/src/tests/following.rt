@@ -84,8 +84,8 @@ fn pulled<S: Site>(
     }))
 }
 
-/// What a follower prints of a board from a seat that was given no event, once it was given this many. None where the
-/// seat was given some.
+/// What a follower prints of a board from a seat that was given no event, once it was given this many. None if the seat
+/// was given some.
 fn followed<S: Site>(
     alloc: Global,
     board: &Board<'_, S>,
@@ -144,7 +144,7 @@ fn written_and_pulled<S: Site + Send + Sync, R: Threads + Wait + Sync>(
 }
 
 /// Makes a follower, has threads write the board by the other seats, and then pulls this many events: what the follower
-/// printed. None where its seat was given some before.
+/// printed. None if its seat was given some before.
 pub fn watch<S: Site + Send + Sync, R: Threads + Wait + Sync>(
     rt: &R,
     alloc: Global,
