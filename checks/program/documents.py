@@ -175,7 +175,7 @@ class Checker:
         self.document = "README.md"
         lines = (ROOT / self.document).read_text().splitlines()
         self.verdict(0, "at most 150 lines", True, len(lines) <= 150)
-        self.verdict(0, "at most 100 characters a line", [], [line for line in lines if len(line) > 100])
+        self.verdict(0, "at most 120 characters a line", [], [line for line in lines if len(line) > 120])
 
     def names(self):
         """Names of code and files that documents tell of are there."""
