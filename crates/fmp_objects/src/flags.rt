@@ -1,9 +1,10 @@
 //! The service calls on eventflags that set, clear or await bits (uITRON 4.0, section 4.4.2).
-ghost use Rattle.std.specs.Prelude.{◌≡◌, ◌<◌, ◌≤◌, [], length, vec_capacity, IfSome};
+ghost use Rattle.std.specs.Prelude.{◌≡◌, ◌<◌, [], length, IfSome};
 ghost use Rattle.fmp_base.specs.Arguments.{IsTimeLimit};
 ghost use Rattle.fmp_base.specs.FlagCalls.{mode_of as mode_from, awaited, set_flg as set_flg_case, clr_flg as clr_flg_case, wai_flg as wai_flg_case, twai_flg as twai_flg_case};
 ghost use Rattle.fmp_base.specs.Outcomes.{numbered as place_of};
 ghost use Rattle.fmp_base.specs.States.{task_at};
+ghost use Rattle.fmp_tasks.specs.Lines.{AreEmptyWithRoom};
 ghost use Rattle.fmp_tasks.specs.Tables.{outcome, SameShape, SameShapeAndRoom};
 
 use crate::walking::{satisfies, walk};
@@ -36,8 +37,7 @@ fn mode_of(number: i32) -> Option<FlagMode>
 /// task that it satisfies, in the order of the queue; with TA_CLR the first release clears all bits and is the last.
 /// E_ID if the number names no flag, then E_PAR if the bits are not 0 to 65535; nothing changes then.
 pub fn set_flg(tables: &mut Tables, lines: &mut Vec<Line>, flag: i32, bits: i32) -> Answer
-    requires empty { lines.old.items ≡ [] }
-    requires room { length tables.old.system.tasks ≤ vec_capacity lines.old }
+    requires lines { AreEmptyWithRoom (length tables.old.system.tasks) lines.old }
     ensures outcome { outcome result tables.new lines.new.items
         ≡ set_flg_case tables.old.system tables.old.state flag bits }
     ensures kept { SameShapeAndRoom tables.old tables.new lines.old lines.new }

@@ -1,9 +1,10 @@
 //! The service calls on semaphores (uITRON 4.0, section 4.4.1).
-ghost use Rattle.std.specs.Prelude.{◌≡◌, ◌<◌, ◌≤◌, [], length, vec_capacity, IfSome};
+ghost use Rattle.std.specs.Prelude.{◌≡◌, ◌<◌, [], length, IfSome};
 ghost use Rattle.fmp_base.specs.Arguments.{IsTimeLimit};
 ghost use Rattle.fmp_base.specs.Outcomes.{numbered as place_of};
 ghost use Rattle.fmp_base.specs.SemaphoreCalls.{signalled, acquired, sig_sem as sig_sem_case, wai_sem as wai_sem_case, twai_sem as twai_sem_case};
 ghost use Rattle.fmp_base.specs.States.{task_at};
+ghost use Rattle.fmp_tasks.specs.Lines.{AreEmptyWithRoom};
 ghost use Rattle.fmp_tasks.specs.Tables.{outcome, SameShape, SameShapeAndRoom};
 
 use fmp_base::arguments::{limit_of, numbered};
@@ -23,8 +24,7 @@ fn semaphore_of(tables: &Tables, number: i32) -> Option<u8>
 /// The first task that waits for semaphore s is released; with none the count rises, or E_QOVR if it is the greatest.
 fn signal(tables: &mut Tables, lines: &mut Vec<Line>, s: u8) -> Answer
     requires there { s < length tables.old.system.semaphores }
-    requires empty { lines.old.items ≡ [] }
-    requires room { 1 ≤ vec_capacity lines.old }
+    requires lines { AreEmptyWithRoom 1 lines.old }
     ensures outcome { outcome result tables.new lines.new.items ≡ signalled tables.old.system tables.old.state s }
     ensures kept { SameShapeAndRoom tables.old tables.new lines.old lines.new }
 {
@@ -46,8 +46,7 @@ fn signal(tables: &mut Tables, lines: &mut Vec<Line>, s: u8) -> Answer
 /// count rises by one. E_ID if the number names no semaphore, then E_QOVR if no task waits and the count is the
 /// greatest; nothing changes then.
 pub fn sig_sem(tables: &mut Tables, lines: &mut Vec<Line>, semaphore: i32) -> Answer
-    requires empty { lines.old.items ≡ [] }
-    requires room { 1 ≤ vec_capacity lines.old }
+    requires lines { AreEmptyWithRoom 1 lines.old }
     ensures outcome { outcome result tables.new lines.new.items
         ≡ sig_sem_case tables.old.system tables.old.state semaphore }
     ensures kept { SameShapeAndRoom tables.old tables.new lines.old lines.new }

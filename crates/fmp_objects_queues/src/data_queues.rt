@@ -1,11 +1,12 @@
 //! The service calls on data queues (uITRON 4.0, section 4.4.3).
-ghost use Rattle.std.specs.Prelude.{◌≡◌, ℕ, ◌<◌, ◌≤◌, [], length, vec_capacity, slice_get, Some, IfSome};
+ghost use Rattle.std.specs.Prelude.{◌≡◌, ℕ, ◌<◌, length, slice_get, Some, IfSome};
 ghost use Rattle.fmp_base.specs.Arguments.{IsTimeLimit};
 ghost use Rattle.fmp_base.specs.declared.states.TaskBlock.{TaskBlock};
 ghost use Rattle.fmp_base.specs.DataQueueCalls.{words_at, offered_word as offered_word_case, word_sent, forced_to, word_received, word_received_from, snd_dtq as snd_dtq_case, tsnd_dtq as tsnd_dtq_case, fsnd_dtq as fsnd_dtq_case, rcv_dtq as rcv_dtq_case, trcv_dtq as trcv_dtq_case};
 ghost use Rattle.fmp_base.specs.Outcomes.{numbered as place_of};
 ghost use Rattle.fmp_base.specs.Queues.{first_waiting};
 ghost use Rattle.fmp_base.specs.States.{task_at};
+ghost use Rattle.fmp_tasks.specs.Lines.{AreEmptyWithRoom};
 ghost use Rattle.fmp_tasks.specs.Tables.{outcome, SameShapeAndRoom};
 
 use fmp_base::arguments::{limit_of, numbered};
@@ -45,8 +46,7 @@ fn send(
     requires there { d < length tables.old.system.data_queues }
     requires me { me < length tables.old.system.tasks }
     requires limit { IsTimeLimit limit }
-    requires empty { lines.old.items ≡ [] }
-    requires room { 1 ≤ vec_capacity lines.old }
+    requires lines { AreEmptyWithRoom 1 lines.old }
     ensures outcome { outcome result tables.new lines.new.items
         ≡ word_sent tables.old.system tables.old.state me (task_at tables.old.state.tasks me) word limit d }
     ensures kept { SameShapeAndRoom tables.old tables.new lines.old lines.new }
@@ -78,8 +78,7 @@ pub fn snd_dtq(
 ) -> Answer
     requires me { me < length tables.old.system.tasks }
     requires limit { IsTimeLimit limit }
-    requires empty { lines.old.items ≡ [] }
-    requires room { 1 ≤ vec_capacity lines.old }
+    requires lines { AreEmptyWithRoom 1 lines.old }
     ensures outcome { outcome result tables.new lines.new.items
         ≡ snd_dtq_case tables.old.system tables.old.state me (task_at tables.old.state.tasks me) limit queue word }
     ensures kept { SameShapeAndRoom tables.old tables.new lines.old lines.new }
@@ -102,8 +101,7 @@ pub fn tsnd_dtq(
     limit: i32,
 ) -> Answer
     requires me { me < length tables.old.system.tasks }
-    requires empty { lines.old.items ≡ [] }
-    requires room { 1 ≤ vec_capacity lines.old }
+    requires lines { AreEmptyWithRoom 1 lines.old }
     ensures outcome { outcome result tables.new lines.new.items
         ≡ tsnd_dtq_case tables.old.system tables.old.state me (task_at tables.old.state.tasks me) queue word limit }
     ensures kept { SameShapeAndRoom tables.old tables.new lines.old lines.new }
@@ -121,8 +119,7 @@ pub fn tsnd_dtq(
 /// with no caller. E_ID if the number names no data queue, then E_TMOUT if no task waits to receive and there is no
 /// room; nothing changes then.
 pub fn psnd_dtq(tables: &mut Tables, lines: &mut Vec<Line>, queue: i32, word: i32) -> Answer
-    requires empty { lines.old.items ≡ [] }
-    requires room { 1 ≤ vec_capacity lines.old }
+    requires lines { AreEmptyWithRoom 1 lines.old }
     ensures outcome { (me : ℕ) (x : TaskBlock)
         → outcome result tables.new lines.new.items
         ≡ snd_dtq_case tables.old.system tables.old.state me x TimeLimit.Poll queue word }
@@ -147,8 +144,7 @@ pub fn psnd_dtq(tables: &mut Tables, lines: &mut Vec<Line>, queue: i32, word: i3
 /// The first task that waits to receive gets the word, or the word is put last, where a full queue drops its oldest.
 fn force(tables: &mut Tables, lines: &mut Vec<Line>, d: u8, word: i32) -> Answer
     requires there { d < length tables.old.system.data_queues }
-    requires empty { lines.old.items ≡ [] }
-    requires room { 1 ≤ vec_capacity lines.old }
+    requires lines { AreEmptyWithRoom 1 lines.old }
     ensures outcome { outcome result tables.new lines.new.items
         ≡ forced_to (first_waiting tables.old.system tables.old.state (WaitQueue.Receivers d)) tables.old.system
         tables.old.state d word }
@@ -169,8 +165,7 @@ fn force(tables: &mut Tables, lines: &mut Vec<Line>, d: u8, word: i32) -> Answer
 /// the word; with none puts the word last, and a full queue drops its oldest word first. E_ID if the number names no
 /// data queue, then E_ILUSE if it can hold no word; nothing changes then.
 pub fn fsnd_dtq(tables: &mut Tables, lines: &mut Vec<Line>, queue: i32, word: i32) -> Answer
-    requires empty { lines.old.items ≡ [] }
-    requires room { 1 ≤ vec_capacity lines.old }
+    requires lines { AreEmptyWithRoom 1 lines.old }
     ensures outcome { outcome result tables.new lines.new.items
         ≡ fsnd_dtq_case tables.old.system tables.old.state queue word }
     ensures kept { SameShapeAndRoom tables.old tables.new lines.old lines.new }
@@ -189,8 +184,7 @@ pub fn fsnd_dtq(tables: &mut Tables, lines: &mut Vec<Line>, queue: i32, word: i3
 fn take_oldest(tables: &mut Tables, lines: &mut Vec<Line>, d: u8, word: i32) -> Answer
     requires there { d < length tables.old.system.data_queues }
     requires oldest { slice_get (words_at tables.old.state d) 0 ≡ Some word }
-    requires empty { lines.old.items ≡ [] }
-    requires room { 1 ≤ vec_capacity lines.old }
+    requires lines { AreEmptyWithRoom 1 lines.old }
     ensures outcome { (me : ℕ) (x : TaskBlock) (limit : TimeLimit)
         → outcome result tables.new lines.new.items ≡ word_received tables.old.system tables.old.state me x limit d }
     ensures kept { SameShapeAndRoom tables.old tables.new lines.old lines.new }
@@ -212,8 +206,7 @@ fn receive(tables: &mut Tables, lines: &mut Vec<Line>, me: u8, limit: TimeLimit,
     requires there { d < length tables.old.system.data_queues }
     requires me { me < length tables.old.system.tasks }
     requires limit { IsTimeLimit limit }
-    requires empty { lines.old.items ≡ [] }
-    requires room { 1 ≤ vec_capacity lines.old }
+    requires lines { AreEmptyWithRoom 1 lines.old }
     ensures outcome { outcome result tables.new lines.new.items
         ≡ word_received tables.old.system tables.old.state me (task_at tables.old.state.tasks me) limit d }
     ensures kept { SameShapeAndRoom tables.old tables.new lines.old lines.new }
@@ -243,8 +236,7 @@ pub fn rcv_dtq(
 ) -> Answer
     requires me { me < length tables.old.system.tasks }
     requires limit { IsTimeLimit limit }
-    requires empty { lines.old.items ≡ [] }
-    requires room { 1 ≤ vec_capacity lines.old }
+    requires lines { AreEmptyWithRoom 1 lines.old }
     ensures outcome { outcome result tables.new lines.new.items
         ≡ rcv_dtq_case tables.old.system tables.old.state me (task_at tables.old.state.tasks me) limit queue }
     ensures kept { SameShapeAndRoom tables.old tables.new lines.old lines.new }
@@ -266,8 +258,7 @@ pub fn trcv_dtq(
     limit: i32,
 ) -> Answer
     requires me { me < length tables.old.system.tasks }
-    requires empty { lines.old.items ≡ [] }
-    requires room { 1 ≤ vec_capacity lines.old }
+    requires lines { AreEmptyWithRoom 1 lines.old }
     ensures outcome { outcome result tables.new lines.new.items
         ≡ trcv_dtq_case tables.old.system tables.old.state me (task_at tables.old.state.tasks me) queue limit }
     ensures kept { SameShapeAndRoom tables.old tables.new lines.old lines.new }

@@ -1,9 +1,10 @@
 //! The service calls on mailboxes (uITRON 4.0, section 4.4.4). A message is its number and its priority.
-ghost use Rattle.std.specs.Prelude.{◌≡◌, ◌<◌, ◌≤◌, [], length, vec_capacity, IfSome};
+ghost use Rattle.std.specs.Prelude.{◌≡◌, ◌<◌, [], length, IfSome};
 ghost use Rattle.fmp_base.specs.Arguments.{IsTimeLimit};
 ghost use Rattle.fmp_base.specs.MailboxCalls.{message_sent, message_received, snd_mbx as snd_mbx_case, rcv_mbx as rcv_mbx_case, trcv_mbx as trcv_mbx_case};
 ghost use Rattle.fmp_base.specs.Outcomes.{numbered as place_of};
 ghost use Rattle.fmp_base.specs.States.{task_at};
+ghost use Rattle.fmp_tasks.specs.Lines.{AreEmptyWithRoom};
 ghost use Rattle.fmp_tasks.specs.Tables.{outcome, SameShape, SameShapeAndRoom};
 
 use fmp_base::arguments::{limit_of, numbered};
@@ -33,8 +34,7 @@ fn message_of(tables: &Tables, number: i32) -> Option<u8>
 fn send(tables: &mut Tables, lines: &mut Vec<Line>, m: u8, g: u8) -> Answer
     requires mailbox { m < length tables.old.system.mailboxes }
     requires message { g < length tables.old.system.messages }
-    requires empty { lines.old.items ≡ [] }
-    requires room { 1 ≤ vec_capacity lines.old }
+    requires lines { AreEmptyWithRoom 1 lines.old }
     ensures outcome { outcome result tables.new lines.new.items ≡ message_sent tables.old.system tables.old.state m g }
     ensures kept { SameShapeAndRoom tables.old tables.new lines.old lines.new }
 {
@@ -61,8 +61,7 @@ fn send(tables: &mut Tables, lines: &mut Vec<Line>, m: u8, g: u8) -> Answer
 /// In this order: E_ID if a number names no mailbox or no message, E_PAR if, with TA_MPRI, the message's priority is
 /// above the mailbox's limit, E_OBJ if the message is queued in some mailbox; nothing changes then.
 pub fn snd_mbx(tables: &mut Tables, lines: &mut Vec<Line>, mailbox: i32, message: i32) -> Answer
-    requires empty { lines.old.items ≡ [] }
-    requires room { 1 ≤ vec_capacity lines.old }
+    requires lines { AreEmptyWithRoom 1 lines.old }
     ensures outcome { outcome result tables.new lines.new.items
         ≡ snd_mbx_case tables.old.system tables.old.state mailbox message }
     ensures kept { SameShapeAndRoom tables.old tables.new lines.old lines.new }
