@@ -1,5 +1,5 @@
 -- Lists of nodes, one for each head, as callers see them.
-use Rattle.std.specs.Prelude.{ℕ, List, [], ◌∷◌, ◌++◌, Option, Some, None, Bool, map, cond, nat_eq, slice_index_or}
+use Rattle.std.specs.Prelude.{◌≡◌, ℕ, List, [], ◌∷◌, ◌++◌, Option, Some, None, Bool, true, map, cond, nat_eq, slice_index_or}
 use Rattle.std.specs.List.{list_any, after_first}
 use Rattle.fmp_base.specs.Queues.{first_of}
 use Rattle.fmp_base.specs.States.{without}
@@ -19,6 +19,11 @@ is_in x l = list_any (nat_eq x) l
 -- whether a node stands in one of the lists
 abbrev pub is_linked : ℕ → List (List ℕ) → Bool
 is_linked x lists = list_any (is_in x) lists
+
+-- no node stands in two of the lists
+abbrev pub AreDisjoint : List (List ℕ) → Type 0
+AreDisjoint lists =
+    (x g h : ℕ) → is_in x (list_at lists g) ≡ true → is_in x (list_at lists h) ≡ true → g ≡ h
 
 -- the first, if any, goes to the end
 abbrev pub rotated : List ℕ → List ℕ

@@ -4,7 +4,7 @@ ghost use Rattle.fmp_base.specs.Links.{AddsAtMost};
 ghost use Rattle.fmp_base.specs.Queues.{first_of};
 ghost use Rattle.fmp_base.specs.States.{without};
 ghost use Rattle.fmp_ring.specs.Orders.{IsOrder};
-ghost use Rattle.fmp_ring.specs.RingLists.{list_at, is_in, is_linked, rotated, behind_first, follower, inserted_before, with_before, without_node};
+ghost use Rattle.fmp_ring.specs.RingLists.{AreDisjoint, list_at, is_in, is_linked, rotated, behind_first, follower, inserted_before, with_before, without_node};
 
 use fmp_base::{Counted, Steps};
 use std::alloc::{AllocError, Global};
@@ -60,6 +60,14 @@ impl Rings {
             next,
             previous,
         })
+    }
+
+    /// No node stands in two lists.
+    pub fn lists_are_disjoint(&self)
+        ensures { AreDisjoint self.now.lists }
+    {
+        // Only a look at a field tells the proof that the links are rings.
+        let _ = &self.nodes;
     }
 
     /// The first of the list of a head, if any. No node stands in that list twice. At most 1 step.
