@@ -21,6 +21,7 @@ says what a block is, and how it is checked:
 In a row `[N times: PIECE]` stands for so many pieces, with the numbers from 1 in place of `#`, and `\\n` for a line
 feed. The reference's table of contexts is tried with each call that its other tables tell, in each context. Each name
 of code in docs/PROVED.md, and each file in docs/MAP.md, is one that the repository has, and each crate is told in both.
+The kit that README.md and docs/PROVED.md name is what `rt version` prints, but for the letter of the kit.
 """
 
 import os
@@ -169,6 +170,15 @@ class Checker:
             told = " ".join(line for line in lines if line.startswith(("| `", "**`")))
             for crate in crates:
                 self.verdict(0, f"the crate {crate}", True, f"`{crate}`" in told)
+
+    def kit(self):
+        """The kit that documents name is that of the machine. They do not name its letter, in which machines differ."""
+        rt = shutil.which("rt")
+        printed = subprocess.run([rt, "version"], capture_output=True).stdout.decode().strip() if rt else "no rt"
+        without_letter = re.sub(r"^([\w-]*\d)[a-z] ", r"\1 ", printed)
+        for self.document in ("README.md", "docs/PROVED.md"):
+            kits = [name for _, name in named(self.document, r"rattle-kit.*")]
+            self.verdict(0, "the kit, as `rt version` has it without its letter", [without_letter], kits)
 
     def size(self):
         """The README is short."""
@@ -342,6 +352,7 @@ def main():
         checker.contexts()
     checker.names()
     checker.crates()
+    checker.kit()
     checker.size()
     checker.verdict(0, f"at least {FAULTY_TEXTS} faulty texts", True, len(checker.faults) >= FAULTY_TEXTS)
     print(f"checks/program/documents.py: {checker.tally}")
