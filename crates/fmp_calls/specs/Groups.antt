@@ -1,10 +1,6 @@
 -- The service calls in the groups in which they are carried out.
-use Rattle.std.specs.Prelude.{◌<◌, length}
-use Rattle.fmp_base.specs.declared.states.Caller.{Caller}
-use Rattle.fmp_base.specs.declared.states.Caller.TheVariants as caller
 use Rattle.fmp_base.specs.declared.services.Service.{Service}
 use Rattle.fmp_base.specs.declared.services.Service.TheVariants as service
-use Rattle.fmp_base.specs.Systems.{SystemTables}
 use Rattle.fmp_calls.specs.declared.groups.ServiceGroup.{ServiceGroup}
 use Rattle.fmp_calls.specs.declared.groups.ServiceGroup.TheVariants as group
 
@@ -67,11 +63,6 @@ group_of service.IsetFlg = group.Handlers
 group_of service.IpsndDtq = group.Handlers
 group_of service.IfsndDtq = group.Handlers
 group_of service.IrotRdq = group.Handlers
-
--- a task that calls is one of the system
-abbrev pub IsTaskOf : SystemTables → Caller → Type 0
-IsTaskOf sys (caller.Task t) = t < length sys.tasks
-IsTaskOf sys (caller.Handler h) = Unit {0}
 
 -- the groups from which a handler may call
 abbrev pub IsForHandlers : ServiceGroup → Type 0

@@ -9,7 +9,8 @@ ghost use Rattle.fmp_base.specs.Permissions.{permission, is_barred as barred};
 ghost use Rattle.fmp_base.specs.Ranges.{IsInRange};
 ghost use Rattle.fmp_base.specs.Services.{service_of};
 ghost use Rattle.fmp_base.specs.States.{processor_at, task_at};
-ghost use Rattle.fmp_calls.specs.Groups.{IsTaskOf, IsForHandlers, group_of};
+ghost use Rattle.fmp_calls.specs.Groups.{IsForHandlers, group_of};
+ghost use Rattle.fmp_tasks.specs.Callers.{IsTaskOf};
 ghost use Rattle.fmp_tasks.specs.Tables.{outcome, SameShape};
 
 use crate::context::is_barred;

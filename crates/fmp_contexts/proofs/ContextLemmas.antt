@@ -12,7 +12,7 @@ use Rattle.fmp_base.specs.Systems.{SystemTables}
 use Rattle.fmp_base.specs.Stretches.{Ending}
 use Rattle.fmp_base.specs.Contexts.{OfCall}
 use Rattle.fmp_contexts.specs.Contexts.{AllContexts, OfOption, OfHeld, HandlerFits, Fitting, Entered, IsThere, HasContext, HasPlaces, IsFor}
-use Rattle.fmp_calls.specs.Groups.{IsTaskOf}
+use Rattle.fmp_tasks.specs.Callers.{IsTaskOf}
 use Rattle.fmp_worlds.specs.Stamps.{going_from, going_by}
 
 AllContexts-set : {A : Type 0} (P : ℕ → A → Type 0) (cs : List (Option A)) (i : ℕ) (c : Option A)

@@ -1,9 +1,11 @@
 mod ActorLemmas
+pub mod Crossing
 mod CyclicLemmas
 mod FrontLemmas
 mod PlaceLemmas
 mod SettleLemmas
 mod StampLemmas
+pub mod StampLists
 mod StepLemmas
 mod StopLemmas
 mod TickLemmas

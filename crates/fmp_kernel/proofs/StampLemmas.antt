@@ -18,12 +18,12 @@ use Rattle.fmp_base.specs.Setups.{setup}
 use Rattle.fmp_base.specs.States.{KernelState, processor_at, places_from}
 use Rattle.fmp_base.specs.Steps.{Done, Reaction, Nothing, Did, effect_of, actor_of, step}
 use Rattle.fmp_base.specs.Systems.{SystemTables}
-use Rattle.fmp_worlds.specs.Stamps.{counts as counts_for, is_same_actor, is_same_caller, is_same_handler, one_if, place_run, run_place, stamp, stamp_on}
+use Rattle.fmp_worlds.specs.Stamps.{counts as counts_for, is_same_actor, is_same_caller, is_same_handler, one_if, place_run, run_place, counted, stamp, world_after}
 use Rattle.fmp_kernel.specs.KernelViews.{RunnerView, KernelView, SameBodies, done_of, done_or, kernel_of, view_after, view_after_all, view_of_setup}
 use Rattle.fmp_kernel.proofs.FrontLemmas.{Names, step_names}
 use Rattle.fmp_kernel.specs.Stamps.{StampRows, AreActors, AreCounted, AreStamps, IsLeft, IsSeen, Marked, given_by, is_given, noted, noted_by, run_noted, stamped}
 
-get-places : (f : ℕ → ℕ) (k n i : ℕ) → i < n → get_or (map f (places_from k n)) i 0 ≡ f (k + i)
+pub get-places : (f : ℕ → ℕ) (k n i : ℕ) → i < n → get_or (map f (places_from k n)) i 0 ≡ f (k + i)
 get-places f k zero i h = absurd (omega (arith, h))
 get-places f k (suc n) zero h = let e : k ≡ k + 0 = omega arith in ap f e
 get-places f k (suc n) (suc i) h =
@@ -35,7 +35,7 @@ get_or-same zero i k = refl
 get_or-same (suc n) zero k = refl
 get_or-same (suc n) (suc i) k = get_or-same n i k
 
-length-places : (f : ℕ → ℕ) (k n : ℕ) → length (map f (places_from k n)) ≡ n
+pub length-places : (f : ℕ → ℕ) (k n : ℕ) → length (map f (places_from k n)) ≡ n
 length-places f k zero = refl
 length-places f k (suc n) = let h = length-places f (k + 1) n in omega (arith, h)
 
@@ -378,8 +378,8 @@ more_counted : {B C : Type 0} (meaning : B → Meaning C) (k : KernelView B C) (
     → ((v : KernelView B C) → p < length v.stamps
     → get_or (view_after_all meaning v es).stamps p 0 ≡ get_or v.stamps p 0 + stamp v.system (meaning v.body) v.bound v.world es p)
     → get_or (view_after_all meaning (view_after k r) es).stamps p 0
-    ≡ get_or k.stamps p 0 + stamp_on e k.world r p (λ v. stamp k.system (meaning k.body) k.bound v es p)
-more_counted meaning k e es p Nothing h n ih = ih k h
+    ≡ get_or k.stamps p 0 + (counted e k.world r p + stamp k.system (meaning k.body) k.bound (world_after k.world r) es p)
+more_counted meaning k e es p Nothing h n ih = let same = ih k h in omega (arith, same)
 more_counted {B} {C} meaning k e es p (Did d) h n ih =
     let after : List ℕ = stamped d.lines k.world.state d.world.state k.stamps in
     let f : ℕ → ℕ = λ q. get_or k.stamps q 0 + one_if (counts_for (place_run d.lines) k.world.state d.world.state q) in

@@ -8,8 +8,8 @@ ghost use Rattle.fmp_base.specs.Steps.{Did, actor_ended, actor_of, call_made, ef
 ghost use Rattle.fmp_base.specs.Stretches.{ending};
 ghost use Rattle.fmp_base.specs.Contexts.{OfCall};
 ghost use Rattle.fmp_contexts.specs.Contexts.{HasContext, HasNoCall, IsFor, kept_after, stop_of};
-ghost use Rattle.fmp_calls.specs.Groups.{IsTaskOf};
 ghost use Rattle.fmp_kernel.specs.KernelViews.{SameBodies, done_of, done_or, kept_in, stopped_on, with_contexts};
+ghost use Rattle.fmp_tasks.specs.Callers.{IsTaskOf};
 ghost use Rattle.fmp_tasks.specs.Tables.{SameShape};
 ghost use Rattle.fmp_worlds.specs.Stamps.{actor_at, applied_by};
 

@@ -1,3 +1,4 @@
+pub mod Crossing
 pub mod NewLemmas
 pub mod OnceLemmas
 pub mod OrderedLemmas

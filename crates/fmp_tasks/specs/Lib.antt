@@ -1,3 +1,4 @@
+pub mod Callers
 pub mod Empties
 pub mod Homes
 pub mod Joining

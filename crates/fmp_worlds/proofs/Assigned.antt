@@ -1,5 +1,6 @@
 -- What a processor runs is assigned to it: how this comes through a change of a task or a processor.
 use Rattle.std.proofs.Common.{◌≡◌, ℕ, zero, suc, ◌<◌, List, [], ◌∷◌, length, Some, true, false, slice_get, slice_set, refl, sym, subst, ap, ◌∙◌, arith}
+use Rattle.fmp_base.specs.declared.states.Phase.TheVariants.{Ready}
 use Rattle.fmp_base.specs.declared.states.Processor.{Processor}
 use Rattle.fmp_base.specs.declared.states.TaskBlock.{TaskBlock}
 use Rattle.fmp_base.specs.States.{KernelState, task_at, idle}
@@ -32,7 +33,7 @@ Runs cpus q t = (found idle (slice_get cpus q)).run ≡ Some t
 -- a task that processor q may run
 pub record Fits (q : ℕ) (x : TaskBlock) : Type 0 where
   pub place : x.processor ≡ q
-  pub active : is_dormant x.phase ≡ false
+  pub ready : x.phase ≡ Ready
 
 pub record Assigned (tasks : List TaskBlock) (cpus : List Processor) : Type 0 where
   pub each : (q t : ℕ) → Runs cpus q t → Fits q (task_at tasks t)
@@ -61,9 +62,9 @@ assigned-processor tasks cpus p cpu a h = record { each = λ q t r. after q t r 
 -- a task that changes nothing of what fits
 pub assigned-alike : (tasks : List TaskBlock) (cpus : List Processor) (t : ℕ) (y : TaskBlock) → Assigned tasks cpus
     → y.processor ≡ (task_at tasks t).processor
-    → (is_dormant (task_at tasks t).phase ≡ false → is_dormant y.phase ≡ false) → Assigned (slice_set tasks t y) cpus
+    → ((task_at tasks t).phase ≡ Ready → y.phase ≡ Ready) → Assigned (slice_set tasks t y) cpus
 assigned-alike tasks cpus t y a e h =
-    assigned-task tasks cpus t y a (λ q r. let f = a.each q t r in record { place = e ∙ f.place; active = h f.active })
+    assigned-task tasks cpus t y a (λ q r. let f = a.each q t r in record { place = e ∙ f.place; ready = h f.ready })
 
 -- no processor runs task t
 abbrev pub IsRunNowhere : List Processor → ℕ → Type 0
@@ -75,7 +76,7 @@ assigned-unrun tasks cpus t y a h = assigned-task tasks cpus t y a (λ q r. absu
 
 pub dormant-unrun : (tasks : List TaskBlock) (cpus : List Processor) (t : ℕ) → Assigned tasks cpus
     → is_dormant (task_at tasks t).phase ≡ true → IsRunNowhere cpus t
-dormant-unrun tasks cpus t a d q r = let f = a.each q t r in let e = f.active in cc
+dormant-unrun tasks cpus t a d q r = let f = a.each q t r in let e = ap is_dormant f.ready in cc
 
 -- two processors that run the same task are one
 pub run-once : (tasks : List TaskBlock) (cpus : List Processor) (t p q : ℕ) → Assigned tasks cpus → Runs cpus p t

@@ -5,7 +5,7 @@ use Rattle.std.proofs.lemmas.Bool.Decides.{nat_tests}
 use Rattle.fmp_base.specs.declared.calls.Answer.TheVariants.{Ends}
 use Rattle.fmp_base.specs.declared.codes.Er.TheVariants as er
 use Rattle.fmp_base.specs.declared.states.TaskBlock.{TaskBlock}
-use Rattle.fmp_base.specs.Changes.{ended_itself}
+use Rattle.fmp_base.specs.Changes.{ended_itself, with_nothing_run}
 use Rattle.fmp_base.specs.Outcomes.{named}
 use Rattle.fmp_base.specs.Permissions.{is_caller}
 use Rattle.fmp_base.specs.ProcessorCalls.{is_cpu_locked}
@@ -18,7 +18,8 @@ use Rattle.fmp_worlds.proofs.Assigned.{Runs, Fits, Holds, IsRunNowhere, fits-tas
 use Rattle.fmp_worlds.proofs.Bools.{or-false, not-false}
 use Rattle.fmp_worlds.proofs.Changes.{SameActors, actors-moved, holds-ended, holds-ended_itself, actors-ended_by, actors-ended_itself, lines-ended_by, lines-ended_itself}
 use Rattle.fmp_worlds.proofs.Lines.{IsOwn}
-use Rattle.fmp_worlds.proofs.Outcomes.{Keeps, keeps-succeeds, keeps-tested, keeps-refused_if, keeps-on_task}
+use Rattle.fmp_worlds.proofs.Told.{IsReady, changed, ended-told, still, woken-ended, woken-ended_itself}
+use Rattle.fmp_worlds.proofs.Outcomes.{Keeps, MayWait, keeps-succeeds, keeps-tested, keeps-refused_if, keeps-on_task}
 use Rattle.fmp_worlds.proofs.Settling.{CanSettle, can_settle, Dispatches}
 
 -- task me is the actor of processor p, which has settled
@@ -48,7 +49,7 @@ on_processor x p e =
     eqb-true x.processor p (not-false (nat_eq x.processor p) parts.1)
 
 pub keeps-ter_tsk : (sys : SystemTables) (s : KernelState) (p me : ℕ) (t : ℤ)
-    → Keeps (Acts sys s p me) p sys s (ter_tsk sys s p me t)
+    → Keeps (Acts sys s p me) p (Some me) sys s (ter_tsk sys s p me t)
 keeps-ter_tsk sys s p me t = keeps-on_task sys s (by_number s t) _ (λ u o. by_block u) where
   unrun : (u : ℕ) → nat_eq u me ≡ false → (task_at s.tasks u).processor ≡ p → Acts sys s p me → Holds s
       → IsRunNowhere s.processors u
@@ -57,23 +58,27 @@ keeps-ter_tsk sys s p me t = keeps-on_task sys s (by_number s t) _ (λ u o. by_b
       let same : u ≡ me = c.caller in
       grind (arith, nat_tests, same, e)
 
-  by_block : (u : ℕ) → Keeps (Acts sys s p me) p sys s (terminated sys s p me u (task_at s.tasks u))
+  by_block : (u : ℕ) → Keeps (Acts sys s p me) p (Some me) sys s (terminated sys s p me u (task_at s.tasks u))
   by_block u =
       let x = task_at s.tasks u in
       keeps-refused_if sys s (nat_eq u me) er.Iluse _
       (λ e. keeps-refused_if sys s (is_dormant x.phase || not (nat_eq x.processor p)) er.Obj _
       (λ f. keeps-succeeds sys s _ (λ k a. holds-ended sys (unchanged s) u x (unrun u e (on_processor x p f) k a) a)
       (actors-ended_by x.activations sys (unchanged s) u _)
-      (λ k a. lines-ended_by x.activations sys s u _ (IsOwn s p) (λ q r h. absurd (unrun u e (on_processor x p f) k a r h)))))
+      (λ k a. lines-ended_by x.activations sys s u _ (IsOwn s p) (λ q r h. absurd (unrun u e (on_processor x p f) k a r h)))
+      (woken-ended x.activations sys s (unchanged s) u _ refl (still (λ t r. r)))))
 
 pub keeps-ext_tsk : (sys : SystemTables) (s : KernelState) (p me : ℕ)
-    → Keeps (Acts sys s p me) p sys s (record { answer = Ends; progress = ended_itself sys s p me (task_at s.tasks me) })
+    → Keeps (Acts sys s p me) p (Some me) sys s (record { answer = Ends; progress = ended_itself sys s p me (task_at s.tasks me) })
 keeps-ext_tsk sys s p me =
     record {
       settles = λ k a. can_settle sys _ (holds-ended_itself sys s p me (task_at s.tasks me) k.runs a);
       spins = λ h. cc;
+      waits = λ h. cc;
+      ends = λ h. ended-told (task_at s.tasks me).activations sys (unchanged (with_nothing_run s p)) me _ refl;
       actors = actors-ended_itself sys s p me (task_at s.tasks me);
       lines = λ k a. lines-ended_itself sys s p me (task_at s.tasks me) k.runs a;
+      woken = woken-ended_itself sys s p me (task_at s.tasks me);
     }
 
 -- a number that names the caller
@@ -130,16 +135,38 @@ actors-assigned : (b : Bool) (s : KernelState) (u : ℕ) (x : TaskBlock) (c : �
 actors-assigned true s u x c q = refl
 actors-assigned false s u x c q = actors-moved (is_ready x) s u (record x { processor = c }) q
 
+assigned-still : (b : Bool) (s : KernelState) (u c t : ℕ) → IsReady (assigned_by b s u (task_at s.tasks u) c) t → IsReady s t
+assigned-still true s u c t = λ r. r
+assigned-still false s u c t = by_order (is_ready (task_at s.tasks u)) where
+  by_order : (b : Bool) → IsReady (moved_by b s u (record (task_at s.tasks u) { processor = c })) t → IsReady s t
+  by_order true = changed s u _ refl t
+  by_order false = changed s u _ refl t
+
 pub keeps-mig_tsk : (sys : SystemTables) (s : KernelState) (p me : ℕ) (t c : ℤ) → MayLeave s p me t
-    → Keeps (Acts sys s p me) p sys s (mig_tsk sys s p me t c)
+    → Keeps (Acts sys s p me) p (Some me) sys s (mig_tsk sys s p me t c)
 keeps-mig_tsk sys s p me t c may =
     keeps-on_task sys s (self_or s me t) _ (λ u o. keeps-tested sys s er.Par (allowed_processor sys u c) _ (λ q. by_block u o q)) where
-      by_block : (u : ℕ) → self_or s me t ≡ Some u → (q : ℕ) → Keeps (Acts sys s p me) p sys s (migrated s p u (task_at s.tasks u) q)
+      by_block : (u : ℕ) → self_or s me t ≡ Some u → (q : ℕ) → Keeps (Acts sys s p me) p (Some me) sys s (migrated s p u (task_at s.tasks u) q)
       by_block u o q =
           let x = task_at s.tasks u in
           keeps-refused_if sys s (is_dormant x.phase || not (nat_eq x.processor p)) er.Obj _ (λ e. record {
             settles = λ k a. assigned-settles (nat_eq x.processor q) sys s u q a (moved-settles sys s p me u q t may o (on_processor x p e) k a (is_ready x));
             spins = λ h. cc;
+            waits = λ h. cc;
+            ends = λ h. cc;
             actors = λ v n. actors-assigned (nat_eq x.processor q) s u x q v;
             lines = λ k a. tt;
+            woken = still (assigned-still (nat_eq x.processor q) s u q);
           })
+
+-- where the context test lets a task wait, its processor dispatches
+pub may_wait : (sys : SystemTables) (s : KernelState) (p me : ℕ)
+    → (is_cpu_locked (processor_at s p) || (processor_at s p).dispatch_disabled) ≡ false
+    → MayWait (Acts sys s p me) p (Some me) sys s me
+may_wait sys s p me h =
+    let parts = or-false (is_cpu_locked (processor_at s p)) (processor_at s p).dispatch_disabled h in
+    record {
+      is = refl;
+      runs = λ k. k.runs;
+      dispatches = λ k. record { unhandled = k.unhandled; unlocked = parts.0; enabled = parts.1; nothing = k.nothing parts.0 };
+    }

@@ -9,11 +9,10 @@ use Rattle.fmp_base.specs.declared.states.Phase.{Phase}
 use Rattle.fmp_base.specs.declared.states.Phase.TheVariants.{Dormant, Ready, Waiting}
 use Rattle.fmp_base.specs.declared.states.Processor.{Processor}
 use Rattle.fmp_base.specs.declared.states.TaskBlock.{TaskBlock}
-use Rattle.fmp_base.specs.declared.states.WaitCause.{WaitCause}
 use Rattle.fmp_base.specs.Changes.{started, started_block, released, released_state, ended, ended_by, ended_block, ended_itself, with_nothing_run, suspended, suspended_by}
 use Rattle.fmp_base.specs.States.{KernelState, Progress, unchanged, task_at, processor_at, with_processor, idle}
 use Rattle.fmp_base.specs.Systems.{SystemTables}
-use Rattle.fmp_base.specs.TaskCalls.{is_dormant, moved_by}
+use Rattle.fmp_base.specs.TaskCalls.{moved_by}
 use Rattle.fmp_worlds.proofs.Assigned.{set_at, set_over, set_other, run-once, Runs, Assigned, Holds, IsRunNowhere, assigned-processor, assigned-alike, assigned-unrun}
 use Rattle.fmp_worlds.proofs.Lines.{IsOwn}
 
@@ -73,12 +72,7 @@ holds-suspended s t a =
 pub holds-changed : (s : KernelState) (t : ℕ) (y : TaskBlock) → y.processor ≡ (task_at s.tasks t).processor
     → y.phase ≡ (task_at s.tasks t).phase → Holds s → Assigned (slice_set s.tasks t y) s.processors
 holds-changed s t y e f a =
-    assigned-alike s.tasks s.processors t y a e (λ h. ap is_dormant f ∙ h)
-
--- a task waits
-pub holds-waits : (s : KernelState) (t : ℕ) (c : WaitCause) (deadline : Option ℕ) → Holds s
-    → Assigned (slice_set s.tasks t (record (task_at s.tasks t) { phase = Waiting c; deadline = deadline })) s.processors
-holds-waits s t c deadline a = assigned-alike s.tasks s.processors t _ a refl (λ h. refl)
+    assigned-alike s.tasks s.processors t y a e (λ h. f ∙ h)
 
 -- who may act on a processor: the handler that runs there, and the task that it runs
 abbrev pub acting : Processor → Option Handler × Option ℕ

@@ -1,4 +1,5 @@
 pub mod Assigned
+pub mod Awaiting
 pub mod Bools
 pub mod CalledLemmas
 pub mod CallerLemmas
@@ -16,4 +17,5 @@ pub mod StampLaws
 pub mod StepLemmas
 pub mod TaskCallLemmas
 pub mod TickLemmas
+pub mod Told
 pub mod Tops

@@ -211,7 +211,7 @@ settled-settles sys g h =
     let w = walk sys (length g.state.processors) 0 g (omega arith) h (λ q l. absurd (omega (arith, l))) in
     record {
       assigned = λ p t r. let f = fits w p t r in f.place;
-      started = λ p t r. let f = fits w p t r in f.active;
+      ready = λ p t r. let f = fits w p t r in f.ready;
       begun = λ p l a b. let o = w.rest p (omega (arith, l, w.count)) in o.begun a b;
     } where
       fits : Walked sys (0 + length g.state.processors) g.state (settled sys g).state → (p t : ℕ)

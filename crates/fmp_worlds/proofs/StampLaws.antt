@@ -19,7 +19,7 @@ use Rattle.fmp_base.specs.Steps.{Reaction, Done, Nothing, Did, actor_by, actor_o
 use Rattle.fmp_base.specs.Stretches.{Ending}
 use Rattle.fmp_base.specs.Systems.{SystemTables}
 use Rattle.fmp_worlds.specs.Settled.{IsSettled}
-use Rattle.fmp_worlds.specs.Stamps.{Going, going_from, going, going_by, actor_at, is_same_handler, is_same_caller, is_same_actor, run_place, counts, one_if, stamp_on, stamp, applied_in, applied_by, applied, EndsSo}
+use Rattle.fmp_worlds.specs.Stamps.{Going, going_from, going, going_by, actor_at, is_same_handler, is_same_caller, is_same_actor, run_place, counts, one_if, world_after, counted, stamp, applied_in, applied_by, applied, EndsSo}
 use Rattle.fmp_worlds.proofs.Bools.{or-false, not-false}
 use Rattle.fmp_worlds.proofs.Going.{GoesIn, IsGoing, ActsOn, LeavesGoing, step-going}
 use Rattle.fmp_worlds.proofs.SettledLaws.{step-settled}
@@ -151,9 +151,9 @@ module _ {C : Type 0} (sys : SystemTables) (M : Meaning C) (n : ℕ) where
   stamp-append w (e ∷ es) fs p = by_reaction (step sys M n w e) (λ v. stamp-append v es fs p) where
     by_reaction : (x : Reaction C)
         → ((v : World C) → stamp sys M n v (es ++ fs) p ≡ stamp sys M n v es p + stamp sys M n (run sys M n v es).world fs p)
-        → stamp_on e w x p (λ v. stamp sys M n v (es ++ fs) p)
-        ≡ stamp_on e w x p (λ v. stamp sys M n v es p) + stamp sys M n (run_on w x (λ v. run sys M n v es)).world fs p
-    by_reaction Nothing rest = rest w
+        → counted e w x p + stamp sys M n (world_after w x) (es ++ fs) p
+        ≡ counted e w x p + stamp sys M n (world_after w x) es p + stamp sys M n (run_on w x (λ v. run sys M n v es)).world fs p
+    by_reaction Nothing rest = let h = rest w in omega (arith, h)
     by_reaction (Did d) rest = let h = rest d.world in omega (arith, h)
 
   none_of : (b : Bool) (m : ℕ) → one_if b + m ≡ 0 → (b ≡ false) × (m ≡ 0)
@@ -166,10 +166,10 @@ module _ {C : Type 0} (sys : SystemTables) (M : Meaning C) (n : ℕ) where
   run-keeps_actor w [] p a s z h = h
   run-keeps_actor w (e ∷ es) p a s z h =
       by_reaction (step sys M n w e) refl z (λ v t y k. run-keeps_actor v es p a t y k) where
-        by_reaction : (x : Reaction C) → step sys M n w e ≡ x → stamp_on e w x p (λ v. stamp sys M n v es p) ≡ 0
+        by_reaction : (x : Reaction C) → step sys M n w e ≡ x → counted e w x p + stamp sys M n (world_after w x) es p ≡ 0
             → ((v : World C) → IsSettled sys v.state → stamp sys M n v es p ≡ 0 → actor_at sys v p ≡ Some a → actor_at sys (run sys M n v es).world p ≡ Some a)
             → actor_at sys (run_on w x (λ v. run sys M n v es)).world p ≡ Some a
-        by_reaction Nothing k y rest = rest w s y h
+        by_reaction Nothing k y rest = rest w s (omega (arith, y)) h
         by_reaction (Did d) k y rest =
             let parts = none_of (counts (run_place e) w.state d.world.state p) (stamp sys M n d.world es p) y in
             rest d.world (step-settled sys M n w e d s k) parts.1 (step-keeps_actor sys M n w e d p a s k parts.0 h)

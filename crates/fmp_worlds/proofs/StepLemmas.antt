@@ -30,7 +30,7 @@ use Rattle.fmp_worlds.proofs.Settling.{CanSettle, can_settle, settled-settles}
 use Rattle.fmp_worlds.proofs.TickLemmas.{holds-ticked}
 
 pub holds : (sys : SystemTables) (s : KernelState) → IsSettled sys s → Holds s
-holds sys s h = record { each = λ q t r. record { place = h.assigned q t r; active = h.started q t r } }
+holds sys s h = record { each = λ q t r. record { place = h.assigned q t r; ready = h.ready q t r } }
 
 -- what is done leaves a settled state
 abbrev pub LeavesSettled : {C : Type 0} → SystemTables → Reaction C → Type 0

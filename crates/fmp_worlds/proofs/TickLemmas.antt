@@ -9,6 +9,7 @@ use Rattle.fmp_base.specs.Ticks.{timeout_code, is_due, timed_out, timed_out_by, 
 use Rattle.fmp_worlds.proofs.Assigned.{Runs, Holds}
 use Rattle.fmp_worlds.proofs.Changes.{SameActors, holds-released, actors-released}
 use Rattle.fmp_worlds.proofs.Lines.{IsOwn, all-snoc}
+use Rattle.fmp_worlds.proofs.Told.{Woken, still, woken-line, woken-released}
 
 timed_out_from : (b : Bool) (g : Progress) (t : ℕ) → Holds g.state
     → Holds (timed_out_by b g t (task_at g.state.tasks t)).state
@@ -111,3 +112,31 @@ all_started-runs_nothing sys g (t ∷ ts) h =
 pub holds-all_started : (sys : SystemTables) (ts : List ℕ) → Holds (all_started sys (unchanged (created_state sys)) ts).state
 holds-all_started sys ts =
     record { each = λ q t r. absurd (all_started-runs_nothing sys (unchanged (created_state sys)) ts (λ q t r. idle-runs_nothing sys.processors q t r) q t r) }
+
+-- a task that the clock makes ready is told
+woken-timed_out : (b : Bool) (s : KernelState) (g : Progress) (t : ℕ) → Woken s g → Woken s (timed_out_by b g t (task_at g.state.tasks t))
+woken-timed_out true s g t w = woken-released s g t (task_at g.state.tasks t) (code (timeout_code (task_at g.state.tasks t).phase)) w
+woken-timed_out false s g t w = w
+
+woken-all_timed_out : (s : KernelState) (g : Progress) (ts : List ℕ) → Woken s g → Woken s (all_timed_out g ts)
+woken-all_timed_out s g [] w = w
+woken-all_timed_out s g (t ∷ ts) w =
+    let x = task_at g.state.tasks t in
+    woken-all_timed_out s (timed_out g t x) ts (woken-timed_out (is_due g.state.clock x.deadline) s g t w)
+
+woken-pended : (b : Bool) (sys : SystemTables) (s : KernelState) (g : Progress) (c : ℕ) → Woken s g → Woken s (pended_by b sys g c)
+woken-pended true sys s g c w = w
+woken-pended false sys s g c w = woken-line s _ refl w
+
+woken-cycled : (b : Bool) (sys : SystemTables) (s : KernelState) (g : Progress) (c : ℕ) → Woken s g → Woken s (cycled_by b sys g c)
+woken-cycled true sys s g c w = let h = woken-pended (is_pending g.state.pending_cyclics c) sys s g c w in record { each = λ t r. h.each t r }
+woken-cycled false sys s g c w = w
+
+woken-all_cycled : (sys : SystemTables) (s : KernelState) (g : Progress) (cs : List ℕ) → Woken s g → Woken s (all_cycled sys g cs)
+woken-all_cycled sys s g [] w = w
+woken-all_cycled sys s g (c ∷ cs) w = woken-all_cycled sys s (cycled sys g c) cs (woken-cycled _ sys s g c w)
+
+pub woken-ticked : (sys : SystemTables) (s : KernelState) → Woken s (ticked sys s)
+woken-ticked sys s =
+    woken-all_cycled sys s _ (places_from 0 (length s.due_times))
+    (woken-all_timed_out s (unchanged (with_clock_advanced s)) (places_from 0 (length s.tasks)) (still (λ t r. r)))

@@ -7,7 +7,6 @@ use Rattle.fmp_base.specs.declared.states.Phase.TheVariants.{Dormant, Ready, Wai
 use Rattle.fmp_base.specs.declared.states.TaskBlock.{TaskBlock}
 use Rattle.fmp_base.specs.Queues.{top, first_urgent, more_urgent, is_ready_on, is_ready, is_ready_phase, priority_in}
 use Rattle.fmp_base.specs.States.{KernelState, task_at}
-use Rattle.fmp_base.specs.TaskCalls.{is_dormant}
 use Rattle.fmp_worlds.proofs.Assigned.{Fits}
 use Rattle.fmp_worlds.proofs.Bools.{and-true}
 
@@ -34,10 +33,10 @@ first_urgent-passes tasks on (u ∷ ts) t h = by_test (on u) refl h (first_urgen
         | inr other ↦ rest other
       ]
 
-active : (phase : Phase) → is_ready_phase phase ≡ true → is_dormant phase ≡ false
-active Dormant h = cc
-active Ready h = refl
-active (Waiting c) h = refl
+passes : (phase : Phase) → is_ready_phase phase ≡ true → phase ≡ Ready
+passes Dormant h = cc
+passes Ready h = refl
+passes (Waiting c) h = cc
 
 pub fits-top : (s : KernelState) (q t : ℕ) → top s q ≡ Some t → Fits q (task_at s.tasks t)
 fits-top s q t h =
@@ -45,4 +44,4 @@ fits-top s q t h =
     let on : is_ready_on q x ≡ true = first_urgent-passes s.tasks (λ u. is_ready_on q (task_at s.tasks u)) s.order t h in
     let parts = and-true (is_ready x) (nat_eq x.processor q) on in
     let ready = and-true (is_ready_phase x.phase) (not x.suspended) parts.0 in
-    record { place = eqb-true x.processor q parts.1; active = active x.phase ready.0 }
+    record { place = eqb-true x.processor q parts.1; ready = passes x.phase ready.0 }

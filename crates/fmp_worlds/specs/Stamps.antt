@@ -91,14 +91,21 @@ abbrev pub one_if : Bool → ℕ
 one_if true = 1
 one_if false = 0
 
-abbrev pub stamp_on : {C : Type 0} → Event → World C → Reaction C → ℕ → (World C → ℕ) → ℕ
-stamp_on e w Nothing p rest = rest w
-stamp_on e w (Did d) p rest = one_if (counts (run_place e) w.state d.world.state p) + rest d.world
+-- the world after an event, by what it did
+abbrev pub world_after : {C : Type 0} → World C → Reaction C → World C
+world_after w Nothing = w
+world_after w (Did d) = d.world
+
+-- 1 where an event that did this in w counts for the processor at place p, else 0
+abbrev pub counted : {C : Type 0} → Event → World C → Reaction C → (p : ℕ) → ℕ
+counted e w Nothing p = 0
+counted e w (Did d) p = one_if (counts (run_place e) w.state d.world.state p)
 
 -- the stamp of the processor at place p after a run: how many of the done events counted for it
-abbrev pub stamp : {C : Type 0} → SystemTables → Meaning C → (bound : ℕ) → World C → List Event → ℕ → ℕ
+abbrev pub stamp : {C : Type 0} → SystemTables → Meaning C → (bound : ℕ) → World C → List Event → (p : ℕ) → ℕ
 stamp sys M bound w [] p = 0
-stamp sys M bound w (e ∷ es) p = stamp_on e w (step sys M bound w e) p (λ v. stamp sys M bound v es p)
+stamp sys M bound w (e ∷ es) p =
+    counted e w (step sys M bound w e) p + stamp sys M bound (world_after w (step sys M bound w e)) es p
 
 -- the run of the processor at place p where the stretch of its actor ends so
 abbrev pub applied_in : {C : Type 0} → SystemTables → Meaning C → World C → ℕ → Caller → Option (Held C) → Ending C

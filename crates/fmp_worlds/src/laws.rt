@@ -1,16 +1,17 @@
 //! The laws, each the contract of a function that does nothing. `C` is the type of the contexts of bodies.
 ghost use Rattle.std.specs.Prelude.{◌≡◌, ◌≤◌, ◌+◌, ◌++◌, ℕ, List, Some};
+ghost use Rattle.fmp_base.specs.declared.bodies.Held.TheVariants.{Awaits};
 ghost use Rattle.fmp_base.specs.declared.calls.Answer.TheVariants.{Spins};
 ghost use Rattle.fmp_base.specs.declared.calls.Call.{Call};
 ghost use Rattle.fmp_base.specs.declared.events.Event.{Event};
 ghost use Rattle.fmp_base.specs.declared.events.Event.TheVariants.{Run};
 ghost use Rattle.fmp_base.specs.declared.states.Caller.{Caller};
 ghost use Rattle.fmp_base.specs.Calls.{called};
-ghost use Rattle.fmp_base.specs.Meanings.{Meaning, World};
+ghost use Rattle.fmp_base.specs.Meanings.{Meaning, World, context_of};
 ghost use Rattle.fmp_base.specs.Runs.{run};
 ghost use Rattle.fmp_base.specs.Setups.{setup};
-ghost use Rattle.fmp_base.specs.States.{KernelState, unchanged};
-ghost use Rattle.fmp_base.specs.Steps.{Done, Did, step};
+ghost use Rattle.fmp_base.specs.States.{KernelState, processor_at, unchanged};
+ghost use Rattle.fmp_base.specs.Steps.{Done, Did, actor_of, step};
 ghost use Rattle.fmp_base.specs.Stretches.{Ending};
 ghost use Rattle.fmp_base.specs.Systems.{SystemTables};
 ghost use Rattle.fmp_worlds.specs.Settled.{RunOnce, IsSettled};
@@ -32,6 +33,13 @@ pub fn settled_states_run_once()
 pub fn tasks_run_once<C>()
     ensures { (sys : SystemTables) (M : Meaning C) (n : ℕ) (es : List Event) →
         RunOnce (run sys M n (setup sys M).world es).world.state }
+{}
+
+/// In no world that setup and events reach does the actor of a processor await a reply.
+pub fn actors_await_nothing<C>()
+    ensures { (sys : SystemTables) (M : Meaning C) (n : ℕ) (es : List Event) (p : ℕ) (who : Caller) (c : C) →
+        actor_of (processor_at (run sys M n (setup sys M).world es).world.state p) ≡ Some who →
+        context_of (run sys M n (setup sys M).world es).world.contexts p who ≡ Some (Awaits c) → ⊥ }
 {}
 
 /// A call that finds its spin lock held, so that its caller goes on asking, has changed nothing and has no line.
