@@ -18,7 +18,7 @@ use Rattle.fmp_board.specs.declared.fault.BoardFault.TheVariants as fault
 use Rattle.fmp_board.specs.declared.receipt.Receipt.{Receipt}
 use Rattle.fmp_board.specs.Boards.{IsJournal}
 use Rattle.fmp_board.specs.Receipts.{receipt_of}
-use Rattle.fmp_board.specs.Replays.{kernel_after, reaction, stamps_after}
+use Rattle.fmp_replay.specs.Replays.{kernel_after, reaction, stamps_after}
 use Rattle.fmp_board.specs.Visits.{entered}
 
 -- the actor of a processor, of an image whose stretches take at most n instructions

@@ -13,7 +13,7 @@ use Rattle.fmp_board.specs.declared.fault.BoardFault.TheVariants as fault
 use Rattle.fmp_board.specs.declared.receipt.Receipt.{Receipt}
 use Rattle.fmp_board.specs.Boards.{BookState, IsJournal}
 use Rattle.fmp_board.specs.Receipts.{journal_after, receipt_of}
-use Rattle.fmp_board.specs.Replays.{reaction}
+use Rattle.fmp_replay.specs.Replays.{reaction}
 
 -- a seat that is shown the journal of a book has seen all of it, and counted the entries that the marks name
 abbrev pub shown : SeatState → BookState → SeatState

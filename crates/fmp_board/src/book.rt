@@ -47,7 +47,7 @@ impl<'a, S: Site> Book<'a, S> {
     ghost use Rattle.fmp_board.specs.declared.fault.BoardFault.TheVariants.{Full};
     ghost use Rattle.fmp_board.specs.Boards.{IsAt, IsJournal, IsReplay, IsRoom};
     ghost use Rattle.fmp_board.specs.Receipts.{journal_after, marks_after, receipt_of};
-    ghost use Rattle.fmp_board.specs.Replays.{kernel_after, reaction};
+    ghost use Rattle.fmp_replay.specs.Replays.{kernel_after, reaction};
     ghost use Rattle.fmp_board.specs.Visits.{shown, unmarked};
     ghost use Rattle.fmp_journal.specs.Views.{own};
     ghost use mathlib.Core.List.{IsPrefix};

@@ -6,7 +6,7 @@ ghost use Rattle.fmp_journal.specs.Words.{entry};
 ghost use Rattle.fmp_board.specs.Boards.{IsJournal};
 ghost use Rattle.fmp_board.specs.Outcomes.{AnsweredAfter, Drew, IsDrawn, IsTicketOf, IsWhyRefused, actor_after, stamp_after};
 ghost use Rattle.fmp_board.specs.Receipts.{journal_after, marks_after, receipt_of};
-ghost use Rattle.fmp_board.specs.Replays.{reaction};
+ghost use Rattle.fmp_replay.specs.Replays.{reaction};
 
 use crate::book::Book;
 use crate::fault::BoardFault;
@@ -14,9 +14,6 @@ use crate::outcome::{Outcome, Ticket};
 use crate::receipt::{Receipt, call_reply};
 use crate::site::Site;
 use fmp_base::{Effect, Event};
-use fmp_code::Vm;
-use fmp_instructions::MachineContext;
-use fmp_kernel::laws::stamps_count_events;
 
 impl<'a, S: Site> Book<'a, S> {
     /// A ticket for the stretch that the actor of processor p makes next. None if there is no such processor, or it has
@@ -40,7 +37,6 @@ impl<'a, S: Site> Book<'a, S> {
             (stamp_after S.image S.bound self.now.journal outcome.now.ticket.processor
             ≢ outcome.now.ticket.actor.stamp) }
     {
-        stamps_count_events::<Vm<'_>, MachineContext>();
         match self.kernel.actor(outcome.processor()) {
             Some(actor) => actor.stamp == outcome.actor().stamp,
             None => false,

@@ -9,7 +9,7 @@ use Rattle.fmp_instructions.specs.Machine.{code_meaning}
 use Rattle.fmp_codegen.specs.Tie.{longest}
 use Rattle.fmp_board.specs.declared.fault.BoardFault.{BoardFault}
 use Rattle.fmp_board.specs.declared.fault.BoardFault.TheVariants as board
-use Rattle.fmp_board.specs.Replays.{IsLegal}
+use Rattle.fmp_replay.specs.Replays.{IsLegal}
 use Rattle.fmp_image_parts.specs.declared.fault.LoadFault.TheVariants as load
 use Rattle.fmp_image_bytes.specs.Images.{ImageTables, Spells, image_at}
 use Rattle.fmp_tasklang.specs.Contexts.{TextContext}

@@ -1,5 +1,5 @@
 -- What a follower of a board is given, what it prints of that, and what contracts see of it.
-use Rattle.std.specs.Prelude.{◌≡◌, ℕ, ◌+◌, ◌<◌, ◌≤◌, ◌^◌, List, [], ◌∷◌, ◌++◌, length, Option, None, IfNone, IfSome}
+use Rattle.std.specs.Prelude.{◌≡◌, ◌⊎◌, ℕ, ◌+◌, ◌<◌, ◌≤◌, ◌^◌, List, [], ◌∷◌, ◌++◌, length, Option, None, IfNone, IfSome}
 use Rattle.std.specs.Borrow.{MutBor}
 use mathlib.Core.List.{IsPrefix}
 use Rattle.fmp_base.specs.declared.events.Event.{Event}
@@ -59,6 +59,7 @@ pub record Follows (capacity : ℕ) (old new : SeatState) (result : Option Event
   pub end : old.place ≡ capacity → (new ≡ old) × (result ≡ None)
   pub some : IfSome result (λ event. (new.place ≡ old.place + 1) × (given new ≡ given old ++ event ∷ []))
   pub none : IfNone result ((new.place ≡ old.place) × (new.seen ≡ old.seen) × (length old.seen ≤ old.place))
+  pub empty : IfNone result ((old.place ≡ capacity) ⊎ (new.look ≡ looked_at old.look old.place 0))
 
 -- a seat of a board with a kernel that took just the events that the seat was given
 pub record IsFollowing (i : ImageTables) (n : ℕ) (row : RowId) (seat : SeatState)

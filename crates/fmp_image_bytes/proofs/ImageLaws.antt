@@ -11,7 +11,7 @@ use Rattle.fmp_image_parts.specs.Fields.{in_range}
 use Rattle.fmp_image_rows.specs.Rows.{Frame, frame_of, RowForm, row, task_form, semaphore_form, flag_form, data_queue_form, mailbox_form, message_form, shared_word_form, spin_lock_form, cyclic_form, interrupt_form}
 use Rattle.fmp_image_rows.specs.Tables.{AreRows}
 use Rattle.fmp_image_parts.specs.Bodies.{bodies}
-use Rattle.fmp_image_bytes.specs.Images.{ImageTables, plain, magic, is_magic, header, table_of, also, tables, Parts, layout, parts_of, image_of, spelling, all_read, image_at, KeepRules, IsImage, Spells}
+use Rattle.fmp_image_bytes.specs.Images.{◌▹◌, ImageTables, plain, magic, is_magic, header, table_of, also, tables, Parts, layout, parts_of, image_of, spelling, all_read, image_at, KeepRules, IsImage, Spells}
 use Rattle.fmp_image_parts.proofs.FieldLaws.{IsBytes, Exact, bind_ok, pair_is, byte_exact, short_exact, bytes_take, bytes_again, tested_exact, both_exact, chained_exact}
 use Rattle.fmp_image_rows.proofs.RowLaws.{GoesBack, row_exact, task_back, semaphore_back, flag_back_row, data_queue_back, mailbox_back_row, message_back, shared_word_back, spin_lock_back, cyclic_back, interrupt_back}
 use Rattle.fmp_image_rows.proofs.TableLaws.{table_exact, new_append}
@@ -116,7 +116,7 @@ image_back i h =
     ap with_limit (sym h.queue_limit)
 
 image_fits : (p : Parts) → layout.fits p → IsImage (image_of p) × (parts_of (image_of p) ≡ p)
-image_fits ((m, (version, processors)), ((heads, code), (tasks, (semaphores, (flags, (data_queues, (mailboxes, (messages, (shared_words, (spin_locks, (cyclics, interrupts))))))))))) f =
+image_fits ((m ▹ version ▹ processors) ▹ (heads ▹ code) ▹ tasks ▹ semaphores ▹ flags ▹ data_queues ▹ mailboxes ▹ messages ▹ shared_words ▹ spin_locks ▹ cyclics ▹ interrupts) f =
     let frame = frame_of processors heads in
     let k1 = [] ++ map task_form.key_of tasks in
     let k2 = k1 ++ map semaphore_form.key_of semaphores in

@@ -26,6 +26,7 @@ use Rattle.fmp_image_rows.specs.Tables.{table}
 use Rattle.fmp_image_parts.specs.Bodies.{bodies, IsBody}
 use Rattle.fmp_image_parts.specs.Pairs.{AllPairs}
 
+infixr 4 ◌▹◌
 -- what an image holds, as data without memory: the tables of the system, and of each body what is said of it and its
 -- code
 pub record ImageTables : Type 0 where
@@ -81,71 +82,42 @@ Parts = (List ℕ × (ℕ × ℕ)) × ((List BodyHead × List BodyTables) × The
 abbrev pub layout : Field Parts
 layout = chained header (λ h. chained bodies (λ b. tables (frame_of h.1.1 b.0) []))
 
+-- a pair, in a chain of parts that stand one behind the other
+pattern abbrev pub ◌▹◌ : {A B : Type 0} → A → B → A × B
+a ▹ b = (a, b)
+
 abbrev pub tables_in : SystemTables → TheTables
-tables_in s = (
-  s.tasks,
-  (
-    s.semaphores,
-    (
-      s.flags,
-      (
-        s.data_queues,
-        (
-          s.mailboxes,
-          (s.messages, (s.shared_words, (s.spin_locks, (s.cyclics, s.interrupts)))),
-        ),
-      ),
-    ),
-  ),
-)
+tables_in s =
+    s.tasks ▹ s.semaphores ▹ s.flags ▹ s.data_queues ▹ s.mailboxes ▹ s.messages ▹ s.shared_words ▹ s.spin_locks
+    ▹ s.cyclics ▹ s.interrupts
 
 abbrev pub parts_of : ImageTables → Parts
-parts_of i = ((magic, (1, i.system.processors)), ((i.heads, i.code), tables_in i.system))
+parts_of i = (magic ▹ 1 ▹ i.system.processors) ▹ (i.heads ▹ i.code) ▹ tables_in i.system
 
--- the image of parts: each queue of activations and of wakeups of a task holds one
+-- a system of so many processors with these tables: each queue of activations and of wakeups of a task holds one
+abbrev pub system_of : (processors : ℕ) → TheTables → SystemTables
+system_of processors
+    (tasks ▹ semaphores ▹ flags ▹ data_queues ▹ mailboxes ▹ messages ▹ shared_words ▹ spin_locks ▹ cyclics
+    ▹ interrupts) =
+    record {
+      processors = processors;
+      queue_limit = 1;
+      tasks = tasks;
+      semaphores = semaphores;
+      flags = flags;
+      data_queues = data_queues;
+      mailboxes = mailboxes;
+      messages = messages;
+      shared_words = shared_words;
+      spin_locks = spin_locks;
+      cyclics = cyclics;
+      interrupts = interrupts;
+    }
+
+-- the image of parts
 abbrev pub image_of : Parts → ImageTables
-image_of (
-  (m, (version, processors)),
-  (
-    (heads, code),
-    (
-      tasks,
-      (
-        semaphores,
-        (
-          flags,
-          (
-            data_queues,
-            (
-              mailboxes,
-              (
-                messages,
-                (shared_words, (spin_locks, (cyclics, interrupts))),
-              ),
-            ),
-          ),
-        ),
-      ),
-    ),
-  ),
-) = record {
-  system = record {
-    processors = processors;
-    queue_limit = 1;
-    tasks = tasks;
-    semaphores = semaphores;
-    flags = flags;
-    data_queues = data_queues;
-    mailboxes = mailboxes;
-    messages = messages;
-    shared_words = shared_words;
-    spin_locks = spin_locks;
-    cyclics = cyclics;
-    interrupts = interrupts;
-  };
-  heads = heads;
-  code = code;
-}
+image_of ((m ▹ version ▹ processors) ▹ (heads ▹ code) ▹ tables) =
+    image_tables (system_of processors tables) heads code
 
 -- the bytes of an image
 unfoldable pub spelling : ImageTables → List ℕ

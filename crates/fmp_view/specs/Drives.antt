@@ -5,7 +5,7 @@ use Rattle.fmp_instructions.specs.Instructions.{BodyTables}
 use Rattle.fmp_instructions.specs.Machine.{code_meaning}
 use Rattle.fmp_drive.specs.Driving.{IsDriven}
 use Rattle.fmp_drive.specs.NextRuns.{AreNext}
-use Rattle.fmp_board.specs.Replays.{kernel_after}
+use Rattle.fmp_replay.specs.Replays.{kernel_after}
 use Rattle.fmp_image_bytes.specs.Images.{ImageTables}
 use Rattle.fmp_kernel.specs.KernelViews.{KernelView}
 use Rattle.fmp_view.specs.declared.driving.Drive.{Drive}

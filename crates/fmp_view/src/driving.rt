@@ -1,11 +1,11 @@
 //! Steps of an image that is driven.
 ghost use Rattle.std.specs.Prelude.{◌≡◌, ◌+◌, ◌≤◌, ◌^◌, [], IfOk, length};
 ghost use Rattle.fmp_drive.specs.Driving.{IsDriven};
-ghost use Rattle.fmp_board.specs.Replays.{kernel_after};
+ghost use Rattle.fmp_replay.specs.Replays.{kernel_after};
 ghost use Rattle.fmp_view.specs.Drives.{DrivesImage};
 
 use fmp_base::System;
-use fmp_board::kernel_of;
+use fmp_replay::kernel_of;
 use fmp_code::Vm;
 use fmp_drive::{Driven, NextRun, Plan, drive, next_runs};
 use fmp_image_bytes::Image;

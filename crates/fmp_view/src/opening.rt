@@ -2,7 +2,7 @@
 ghost use Rattle.std.specs.Prelude.{◌≡◌, ◌≤◌, ◌^◌, IfOk, length};
 
 use fmp_base::Event;
-use fmp_board::kernel_of;
+use fmp_replay::kernel_of;
 use fmp_code::Vm;
 use fmp_engine::SimFault;
 use fmp_image_bytes::{Image, LoadFault, load};
