@@ -1,16 +1,15 @@
 //! Which waits end by the clock.
-use fmp_base::{Call, Caller, Line};
+use fmp_base::{Call, Caller, Line, Parameter};
 
-/// Whether a wait that begins with this call ends by the clock.
+/// Whether a wait that begins with this call ends by the clock. A delay or a time limit is the last argument.
 fn has_end(call: Call) -> bool {
-    match call {
-        Call::DlyTsk { .. } => true,
-        Call::TslpTsk { limit } => limit > 0,
-        Call::TwaiSem { limit, .. } => limit > 0,
-        Call::TwaiFlg { limit, .. } => limit > 0,
-        Call::TsndDtq { limit, .. } => limit > 0,
-        Call::TrcvDtq { limit, .. } => limit > 0,
-        Call::TrcvMbx { limit, .. } => limit > 0,
+    let arguments = call.arguments();
+    match (
+        call.service().parameters().last(),
+        arguments.as_slice().last(),
+    ) {
+        (Some(Parameter::Delay), _) => true,
+        (Some(Parameter::Limit), Some(limit)) => *limit > 0,
         _ => false,
     }
 }
