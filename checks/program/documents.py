@@ -21,7 +21,8 @@ says what a block is, and how it is checked:
 In a row `[N times: PIECE]` stands for so many pieces, with the numbers from 1 in place of `#`, and `\\n` for a line
 feed. The reference's table of contexts is tried with each call that its other tables tell, in each context. Each name
 of code in docs/PROVED.md, and each file in docs/MAP.md, is one that the repository has, and each crate is told in both.
-The kit that README.md and docs/PROVED.md name is what `rt version` prints, but for the letter of the kit.
+The kit that README.md and docs/PROVED.md name is what `rt version` prints, but for the letter of the kit. Each file of
+the checks is told in checks/README.md, and each file that is told there is one.
 """
 
 import os
@@ -170,6 +171,16 @@ class Checker:
             told = " ".join(line for line in lines if line.startswith(("| `", "**`")))
             for crate in crates:
                 self.verdict(0, f"the crate {crate}", True, f"`{crate}`" in told)
+
+    def scripts(self):
+        """The page of the checks tells each of their files, and no other."""
+        self.document = "checks/README.md"
+        pattern = r"[\w./]+\.(py|sh|c)"
+        told = {Path(re.match(pattern, name)[0]).name for _, name in named(self.document, rf"{pattern}\b.*")}
+        there = {path.name for path in ROOT.glob("checks/*/*") if path.is_file()}
+        shared = {path.name for path in ROOT.glob("checks/common/*")}
+        self.verdict(0, "files that are not told", set(), there - shared - told)
+        self.verdict(0, "files that are told and not there", set(), told - there)
 
     def kit(self):
         """The kit that documents name is that of the machine. They do not name its letter, in which machines differ."""
@@ -353,6 +364,7 @@ def main():
     checker.names()
     checker.crates()
     checker.kit()
+    checker.scripts()
     checker.size()
     checker.verdict(0, f"at least {FAULTY_TEXTS} faulty texts", True, len(checker.faults) >= FAULTY_TEXTS)
     print(f"checks/program/documents.py: {checker.tally}")
