@@ -1,7 +1,7 @@
 #!/bin/sh
 # Runs the proved program that looks at systems on the examples, and compares its status, its standard output, its
-# standard error and the files that it leaves, each to the byte. What is expected is written out here, worked out by
-# hand from the rules and the traces of the examples, and is never taken from the program.
+# standard error and the files that it leaves, each to the byte. What is expected is written out here, and of dumps in
+# the folder dumps: worked out by hand from the rules and the traces of the examples, never taken from the program.
 #
 #   checks/program/view.sh [PROGRAM [FMP]]
 #
@@ -14,6 +14,7 @@ set -eu
 subject=$(located fmp_view "${1:-}")
 fmp=$(located fmp "${2:-}")
 pictures=$root/checks/program/pictures.py
+dumps=$root/checks/program/dumps
 
 # built NAME: the image of the two texts of this name.
 built() { "$fmp" build "$1.cfg" "$1.src" "$1.img" > /dev/null; }
@@ -157,105 +158,9 @@ END
 shows 'stats: interrupt' 0 stats interrupt.img interrupt.steps
 
 shows 'waves: queue' 0 waves queue.img queue.steps queue.vcd
-cat > wanted <<'END'
-$enddefinitions $end
-#0
-$dumpvars
-b00000000000000000000000000000000 !
-b00000001 "
-b000000000 #
-b000000000 $
-1%
-b00 &
-b010 '
-1(
-b0001 )
-b01010 *
-b000 +
-b00000000 ,
-b000 -
-0.
-b0001 /
-b00101 0
-b000 1
-b00000000 2
-b00000000 3
-b00000000 4
-$end
-#1
-b00000010 "
-b001 '
-0(
-b010 -
-1.
-#2
-b00000001 "
-b010 '
-1(
-b011 -
-0.
-b110 1
-b00000001 2
-b00000001 4
-#3
-b00000010 "
-b001 '
-0(
-b010 -
-1.
-b000 1
-b00000000 2
-b00000000 4
-#4
-#5
-b00000001 "
-b010 '
-1(
-b000 -
-0.
-#6
-b00000000 "
-b000 '
-0(
-#7
-END
+cp "$dumps/queue.values" wanted
 gives 'waves: values' sed -n '/^.enddefinitions/,$p' queue.vcd
-cat > wanted <<'END'
-$scope module fmp $end
-$var wire 32 ! clock $end
-$scope module p1 $end
-$var wire 8 " run $end
-$var wire 9 # handler $end
-$var wire 9 $ lock $end
-$var wire 1 % dispatch $end
-$var wire 2 & refused $end
-$upscope $end
-$scope module tasks $end
-$scope module PRODUCER $end
-$var wire 3 ' state $end
-$var wire 1 ( running $end
-$var wire 4 ) processor $end
-$var wire 5 * priority $end
-$var wire 3 + wait_kind $end
-$var wire 8 , wait_object $end
-$upscope $end
-$scope module CONSUMER $end
-$var wire 3 - state $end
-$var wire 1 . running $end
-$var wire 4 / processor $end
-$var wire 5 0 priority $end
-$var wire 3 1 wait_kind $end
-$var wire 8 2 wait_object $end
-$upscope $end
-$upscope $end
-$scope module objects $end
-$scope module QUEUE $end
-$var wire 8 3 words $end
-$var wire 8 4 waiting $end
-$upscope $end
-$upscope $end
-$upscope $end
-END
+cp "$dumps/queue.names" wanted
 gives 'waves: names' sed -n '/^.enddefinitions/q; /^.scope module fmp/,$p' queue.vcd
 
 # A task that disables dispatching, takes of a semaphore, writes a word, is refused a priority, locks the processor, and
@@ -276,75 +181,7 @@ END
 for step in 'run 1' 'run 1' 'run 1' 'run 1' 'run 1' 'int 3' 'run 1' 'run 1' 'run 1'; do echo "$step"; done > held.steps
 built held
 shows 'waves: held' 0 waves held.img held.steps held.vcd
-cat > wanted <<'END'
-$var wire 5 * priority $end
-$var wire 3 + wait_kind $end
-$var wire 8 , wait_object $end
-$upscope $end
-$upscope $end
-$scope module interrupt $end
-$scope module i3 $end
-$var wire 2 - handling $end
-$upscope $end
-$upscope $end
-$scope module objects $end
-$scope module S $end
-$var wire 16 . count $end
-$var wire 8 / waiting $end
-$upscope $end
-$scope module W $end
-$var integer 32 0 value $end
-$upscope $end
-$upscope $end
-$upscope $end
-$enddefinitions $end
-#0
-$dumpvars
-b00000000000000000000000000000000 !
-b00000001 "
-b000000000 #
-b000000000 $
-1%
-b00 &
-b010 '
-1(
-b0001 )
-b01010 *
-b000 +
-b00000000 ,
-b00 -
-b0000000000000011 .
-b00000000 /
-b11111111111111111111111111111111 0
-$end
-#1
-0%
-#2
-b0000000000000010 .
-#3
-b00000000000000000000000000000001 0
-#4
-b01 &
-#5
-b000000001 $
-b00 &
-#6
-b01 -
-#7
-b100000011 #
-b000000000 $
-b10 -
-#8
-b000000000 #
-b00 -
-#9
-b00000000 "
-1%
-b10 &
-b000 '
-0(
-#10
-END
+cp "$dumps/held.values" wanted
 gives 'waves: held, values' sed -n '/priority/,$p' held.vcd
 
 # A task that sends two words and takes one out, and sends a message and takes it out: what the queues hold then.
@@ -363,54 +200,7 @@ END
 for step in 1 2 3 4 5 6; do echo 'run 1'; done > lengths.steps
 built lengths
 shows 'waves: lengths' 0 waves lengths.img lengths.steps lengths.vcd
-cat > wanted <<'END'
-$scope module objects $end
-$scope module D $end
-$var wire 8 - words $end
-$var wire 8 . waiting $end
-$upscope $end
-$scope module M $end
-$var wire 8 / messages $end
-$var wire 8 0 waiting $end
-$upscope $end
-$upscope $end
-$upscope $end
-$enddefinitions $end
-#0
-$dumpvars
-b00000000000000000000000000000000 !
-b00000001 "
-b000000000 #
-b000000000 $
-1%
-b00 &
-b010 '
-1(
-b0001 )
-b01010 *
-b000 +
-b00000000 ,
-b00000000 -
-b00000000 .
-b00000000 /
-b00000000 0
-$end
-#1
-b00000001 -
-#2
-b00000010 -
-#3
-b00000001 /
-#4
-b00000001 -
-#5
-b00000000 /
-#6
-b00000000 "
-b000 '
-0(
-#7
-END
+cp "$dumps/lengths.values" wanted
 gives 'waves: lengths, values' sed -n '/module objects/,$p' lengths.vcd
 
 # The picture of the queue: its lanes in order, each with what its boxes and its calls say first. The urgent task stands
