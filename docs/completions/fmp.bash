@@ -1,4 +1,4 @@
-# Completion of fmp for bash. Made by checks/manual.py from the program's help.
+# Completion of fmp for bash. Made by checks/program/manual.py from the program's help.
 _fmp() {
     local word=${COMP_WORDS[COMP_CWORD]} before=${COMP_WORDS[COMP_CWORD-1]} words=""
     COMPREPLY=()

@@ -1,4 +1,4 @@
-# Completion of fmp for fish. Made by checks/manual.py from the program's help.
+# Completion of fmp for fish. Made by checks/program/manual.py from the program's help.
 complete -c fmp -f -n __fish_use_subcommand -a check -d 'Checks the two texts of a system: prints '\''ok'\'', or the first fault with its line'
 complete -c fmp -f -n __fish_use_subcommand -a build -d 'Compiles the two texts of a system into an image: prints '\''ok'\'' and its number of bytes'
 complete -c fmp -f -n __fish_use_subcommand -a sim -d 'Runs an image over a list of events: prints what happens, and how the tasks stand then'

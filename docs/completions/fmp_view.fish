@@ -1,4 +1,4 @@
-# Completion of fmp_view for fish. Made by checks/manual.py from the program's help.
+# Completion of fmp_view for fish. Made by checks/program/manual.py from the program's help.
 complete -c fmp_view -f -n __fish_use_subcommand -a code -d 'Says what a code means, when it comes, and an example'
 complete -c fmp_view -f -n __fish_use_subcommand -a fault -d 'Shows the fault of two texts and what was expected there; else their warnings, if any'
 complete -c fmp_view -f -n __fish_use_subcommand -a drive -d 'Prints a steps text that runs a system until it is quiet, or so many events are done'

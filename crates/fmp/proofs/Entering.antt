@@ -35,7 +35,7 @@ number_read gives None read n none some is = absurd (some≢none n (sym is ∙ n
 number_read gives (Some t) None n none some is = absurd (some≢none n (sym is))
 number_read gives (Some t) (Some m) n none some is = (t, refl, subst (λ (k : ℕ). gives t (Ok k)) (some-same is) (some t refl))
 
--- a text that spells a number of a range is read as one of so many bits, where the range goes no further
+-- a text that spells a number of a range is read as one of n bits, if the range fits into these
 pub number_given : {E : Type 0} (bits least most : ℕ) (gives : List ℕ → Result ℕ E → Type 0) (text : Option (List ℕ)) (read : Option ℕ)
     → most < 2 ^ bits → IsSomeAnd text (IsUnsignedIn least most) → ((t : List ℕ) → text ≡ Some t → ReadsOne {T = ℕ} {E = E} gives t read)
     → ((t : List ℕ) (r : Result ℕ E) → gives t r → ParsesUnsigned bits 10 t r) → is_some read ≡ true

@@ -68,6 +68,6 @@ pub record HasWords (name : Text) (rows : List Row) : Type 0 where
       → IsGiven rows (codes "IMAGE") × IsGiven rows (codes "JOURNAL") × IsGivenCount rows (codes "turns")
       × IsGivenCount rows (codes "ticks") × IsGivenBound rows (codes "bound")
 
--- why words are refused: want of memory, or a fault of their form
+-- why words are refused: out of memory, or a fault of their form
 abbrev pub IsRefused : List Text → ErrorKind → Type 0
 IsRefused words kind = (kind ≡ OutOfMemory) ⊎ IsAmong kind (fault_of fmp words)

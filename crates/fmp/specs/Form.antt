@@ -7,7 +7,7 @@ use Rattle.clap.specs.declared.builder.value_parser.ValueParser.TheVariants.{Uns
 abbrev pub file : Text → Rule
 file id = record (new_rule id) { required = true }
 
--- `--bound N`: a number from 1 to 2^48, and 100000 where it is not given
+-- `--bound N`: a number from 1 to 2^48, and 100000 if it is not given
 abbrev pub bound : Rule
 bound = record (new_rule (codes "bound")) {
   long = Some (codes "bound");

@@ -15,7 +15,7 @@ use Rattle.fmp.specs.declared.perform.Exit.{Exit}
 use Rattle.fmp.specs.declared.perform.Exit.TheVariants.{Build, Sim, Host, File, Memory}
 use Rattle.fmp.specs.declared.perform.TheConstants.{STORED_CONFIG, STORED_TASKS, STORED_STEPS, STORED_BOUND}
 
--- the status of an end: 1 for a fault of what was read, 3 for a file and for want of memory
+-- the status of an end: 1 for a fault of what was read, 3 for a file, or if memory runs out
 abbrev pub status_of : Exit → ℕ
 status_of (Build _) = 1
 status_of (Sim _) = 1

@@ -14,7 +14,7 @@ abbrev pub IsEmpty : List ℕ → Type 0
 IsEmpty [] = ⊤
 IsEmpty (byte ∷ bytes) = ⊥
 
--- bytes were printed so, and where there are none, nothing was done
+-- bytes were printed so, and if there are none, nothing was done
 pub record PrintsPieces (before : Option (List Deed)) (bytes : List ℕ) (after : Option (List Deed)) : Type 0 where
   pub prints : Prints before bytes after
   pub nothing : IsEmpty bytes → Does before [] after

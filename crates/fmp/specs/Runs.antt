@@ -122,7 +122,7 @@ pub data EndsCommand (files : Files) (can_fail : Bool) (cmd : Cmd) (before after
   -- it was not carried out, and why is said
   failed : (exit : Exit) (between : Option (List Deed)) → KeepsInputs cmd → Fails files cmd before between exit
       → Says between after → status ≡ status_of exit → EndsCommand files can_fail cmd before after status
-  -- its file would take the place of one that it reads
+  -- its file would replace one that it reads
   over_input : CanBeOver files cmd → Says before after → (status ≡ 2) ⊎ (status ≡ 3)
       → EndsCommand files can_fail cmd before after status
 

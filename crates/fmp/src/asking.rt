@@ -10,13 +10,13 @@ use clap::error::ErrorKind;
 use clap::{Command, Error};
 use std::alloc::{AllocError, Global};
 
-/// What is said of words that are no text.
+/// The message for words that are not UTF-8.
 const NOT_TEXT: &str = "invalid UTF-8 was detected in one or more arguments";
 
-/// What is said of an image that would take the place of a text that it is built of.
+/// The message for an image that would replace a text from which it is built.
 const IMAGE_OVER_TEXT: &str = "the file OUT is one of the two that are read";
 
-/// What is said of a journal that would take the place of the image that is run.
+/// The message for a journal that would replace the image that is run.
 const JOURNAL_OVER_IMAGE: &str = "the file JOURNAL is the image that is read";
 
 /// What the program is asked to do. Each word is the name of a file.
@@ -41,7 +41,7 @@ pub enum Cmd {
         bound: u64,
     },
     /// Run an image by threads, one for each of its processors, and write what happened to the file `journal`, as a
-    /// steps text. Each processor has so many `turns` and the clock so many `ticks`, each 0 to 2^20. `bound`, 1 to
+    /// steps text. Each processor has `turns` turns and the clock has `ticks` ticks, each 0 to 2^20. `bound`, 1 to
     /// 2^48, limits how many instructions a body takes between two service calls.
     Host {
         image: String,
@@ -74,24 +74,23 @@ pub fn not_text(alloc: Global) -> Result<Error, AllocError>
     mistake(program(alloc), "fmp", NOT_TEXT)
 }
 
-/// The error for an image that would take the place of a text that it is built of, which has the status 2.
+/// The error for an image that would replace a text from which it is built, which has the status 2.
 pub fn image_over_text(alloc: Global) -> Result<Error, AllocError>
     ensures { IfOk result (λ e. kind_of e ≡ ErrorKind.ValueValidation) }
 {
     mistake(build_command(alloc), "fmp build", IMAGE_OVER_TEXT)
 }
 
-/// The error for a journal that would take the place of the image that is run, which has the status 2.
+/// The error for a journal that would replace the image that is run, which has the status 2.
 pub fn journal_over_image(alloc: Global) -> Result<Error, AllocError>
     ensures { IfOk result (λ e. kind_of e ≡ ErrorKind.ValueValidation) }
 {
     mistake(host_command(alloc), "fmp host", JOURNAL_OVER_IMAGE)
 }
 
-/// What the words of a command line ask for, of which the first is the program's name. With no more than that it is the
-/// run of the texts that the program holds. An error has the kind of the first fault of the words' form
-/// (`ValueValidation` for a bound that is no number from 1 to 2^48, or turns or ticks that are none from 0 to 2^20), or
-/// is `OutOfMemory`.
+/// What the words of a command line ask for, of which the first is the program's name. With nothing else it is the run
+/// of the texts that the program holds. An error has the kind of the first fault of the words' form (`ValueValidation`
+/// for a bound that is no number from 1 to 2^48, or turns or ticks that are none from 0 to 2^20), or is `OutOfMemory`.
 pub fn command<'a>(alloc: Global, words: &'a [&'a str]) -> Result<Cmd, Error>
     ensures asked { IfOk result (AsksFor (map (λ word. word.now) words.entry.now)) }
     ensures refused { IfErr result (λ e. IsRefused (map (λ word. word.now) words.entry.now) (kind_of e)) }
@@ -106,8 +105,8 @@ pub fn command<'a>(alloc: Global, words: &'a [&'a str]) -> Result<Cmd, Error>
     Ok(asked(alloc, name, words)?)
 }
 
-/// The status that the program ends with after an error of the command line: 2 for a mistake, 0 where help or the
-/// version was asked for, and 3 for want of memory.
+/// The status that the program ends with after an error of the command line: 2 for a mistake, 0 if help or the version
+/// was asked for, and 3 if memory runs out.
 pub fn status_of(error: &Error) -> u8
     ensures memory { kind_of error.now ≡ ErrorKind.OutOfMemory → result ≡ 3 }
     ensures shown { (kind_of error.now ≡ ErrorKind.DisplayHelp)

@@ -14,7 +14,7 @@ use std::alloc::{AllocError, Global};
 use std::sync::Wait;
 use std::thread::Threads;
 
-/// The limit of a text, in bytes. So much and one byte more is read of it.
+/// The limit of a text, in bytes. At most one byte more is read of it.
 const TEXT_MAX: usize = 1_048_576;
 
 /// The end of a program that could not read or write this file.
@@ -80,7 +80,7 @@ fn read_two<O: Outside>(
 }
 
 /// Reads the files that a command names, in order of its words: of a text up to one byte past its limit, of an image or
-/// steps all. An error names one of the files, on which a call failed, or is want of memory.
+/// steps all. An error names one of the files, on which a call failed, or is out of memory.
 pub fn read_inputs<O: Outside>(alloc: Global, outside: &O, cmd: &Cmd) -> Result<Vec<Vec<u8>>, Exit>
     ensures texts { IfOk result (λ texts. AreInputs (O.files outside.now) cmd.now (map (λ t. t.items) texts.items)) }
     ensures failure { IfErr result (IsFailureOf (O.files outside.now) (inputs_of cmd.now)) }
@@ -131,7 +131,7 @@ fn performed<R: Threads + Wait + Sync>(
     }
 }
 
-/// Writes the file that a command names for it, if it names one. After an error, which names that file or is want of
+/// Writes the file that a command names for it, if it names one. After an error, which names that file or is out of
 /// memory, the file may have a beginning of the bytes.
 pub fn write_output<O: Outside>(
     alloc: Global,
@@ -154,8 +154,8 @@ pub fn write_output<O: Outside>(
     }
 }
 
-/// Reads the files of a command, carries it out, writes its file, and gives what is to be printed.
-/// An error is why what was read is refused, a file on which a call failed, or want of memory.
+/// Reads the files of a command, carries it out, writes its file, and gives what is to be printed. An error is why what
+/// was read is refused, a file on which a call failed, or out of memory.
 pub fn carry_out<O: Outside, R: Threads + Wait + Sync>(
     rt: &R,
     alloc: Global,

@@ -25,7 +25,7 @@ pub const STORED_TASKS: &str = "task main { put(7); }";
 /// Its events.
 pub const STORED_STEPS: &str = "run 1\nrun 1\nrun 1\n";
 
-/// Its bound, in instructions a stretch.
+/// Its bound, in instructions per stretch.
 pub const STORED_BOUND: u64 = 100_000;
 
 /// Why the program ends with nothing printed: its message is one line.
@@ -49,8 +49,8 @@ pub enum Exit {
 }
 
 impl Exit {
-    /// The status that the program ends with: 1 for a fault of what was read or where there is no host for what
-    /// was asked, 3 for a file on which a call failed and for want of memory.
+    /// The status that the program ends with: 1 for a fault of what was read or if there is no host for what was asked,
+    /// 3 for a file on which a call failed, or if memory runs out.
     pub fn status(&self) -> u8
         ensures { result ≡ status_of self.now }
     {
@@ -93,7 +93,7 @@ fn no_host(fault: HostFault) -> Exit
     }
 }
 
-/// Checks two texts, and appends `ok` where they build an image.
+/// Checks two texts, and appends `ok` if they build an image.
 fn checked(alloc: Global, cfg: &[u8], src: &[u8], out: &mut Vec<u8>) -> Result<(), Exit>
     ensures ok { OnOk result (Checks cfg.now src.now out.old.items out.new.items) }
     ensures refused { IfErr result (IsWhyNoImage cfg.now src.now) }

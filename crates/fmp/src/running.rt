@@ -73,7 +73,7 @@ fn is_over_input<O: Outside>(outside: &O, cmd: &Cmd) -> bool
     }
 }
 
-/// Says that the file that a command writes would take the place of one that it reads.
+/// Says that the file that a command writes would replace one that it reads.
 fn refuse_over_input<O: Outside>(alloc: Global, outside: &mut O, cmd: &Cmd) -> u8
     ensures said { Says (O.done outside.old) (O.done outside.new) }
     ensures status { (result ≡ 2) ⊎ (result ≡ 3) }
@@ -160,9 +160,9 @@ fn borrowed<'a>(alloc: Global, words: &'a [String]) -> Result<Vec<&'a str>, Allo
     Ok(texts)
 }
 
-/// Does what the words of a command line ask for, of which the first is the program's name, and gives the status: 0
-/// where it is done, 1 for a fault of what was read or where there is no host for what was asked, 2 for a mistake in
-/// the words, 3 for a file on which a call failed and for want of memory.
+/// Does what the words of a command line ask for, of which the first is the program's name, and gives the status: 0 if
+/// it is done, 1 for a fault of what was read or if there is no host for what was asked, 2 for a mistake in the words,
+/// 3 for a file on which a call failed, or if memory runs out.
 pub fn run<O: Outside, R: Threads + Wait + Sync>(
     rt: &R,
     alloc: Global,

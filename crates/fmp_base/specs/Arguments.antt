@@ -3,7 +3,7 @@ use Rattle.std.specs.Prelude.{◌≤◌, ◌^◌}
 use Rattle.fmp_base.specs.declared.states.TimeLimit.{TimeLimit}
 use Rattle.fmp_base.specs.declared.states.TimeLimit.TheVariants.{Forever, Poll, Ticks}
 
--- so many ticks are 2^30 at most
+-- this many ticks are at most 2^30
 abbrev pub IsTimeLimit : TimeLimit → Type 0
 IsTimeLimit Forever = Unit {0}
 IsTimeLimit Poll = Unit {0}

@@ -21,7 +21,7 @@ use Rattle.fmp_base.specs.DataQueueCalls.{snd_dtq, tsnd_dtq, fsnd_dtq, rcv_dtq, 
 use Rattle.fmp_base.specs.MailboxCalls.{snd_mbx, rcv_mbx, trcv_mbx}
 use Rattle.fmp_base.specs.ProcessorCalls.{sta_cyc, stp_cyc, loc_cpu, unl_cpu, dispatch_set, loc_spn, try_spn, unl_spn}
 
--- what a call comes to where it may be made: by task me, whose block is x, or by a handler, on processor p
+-- the effect of a call that may be made: by task me, whose block is x, or by a handler, on processor p
 abbrev pub case_of : SystemTables → KernelState → (p me : ℕ) → TaskBlock → Call → Outcome
 case_of sys s p me x (call.Put value) = succeeds_in s
 case_of sys s p me x (call.LdShr word) = ld_shr s word
@@ -82,13 +82,13 @@ case_of sys s p me x (call.IpsndDtq queue word) = snd_dtq sys s me x Poll queue 
 case_of sys s p me x (call.IfsndDtq queue word) = fsnd_dtq sys s queue word
 case_of sys s p me x (call.IrotRdq priority) = irot_rdq s p priority
 
--- what a call of this caller on processor p comes to where it may be made; a handler is no task, and no call that it
--- may make looks at one that calls
+-- the effect of a call of this caller on processor p that may be made; a handler is no task, and no call that it may
+-- make looks at one that calls
 abbrev pub case_by : SystemTables → KernelState → ℕ → Caller → Call → Outcome
 case_by sys s p (caller.Task me) c = case_of sys s p me (task_at s.tasks me) c
 case_by sys s p (caller.Handler h) c = case_of sys s p 0 (task_at [] 0) c
 
--- what a call of the actor of processor p comes to
+-- the effect of a call of the actor of processor p
 abbrev pub called : SystemTables → KernelState → ℕ → Caller → Call → Outcome
 called sys s p who c =
     refused_if (is_barred (permission (service_of c)) (processor_at s p) who c) s er.Ctx (case_by sys s p who c)

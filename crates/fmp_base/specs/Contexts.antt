@@ -12,7 +12,7 @@ OfCall P (ends.End c) = Unit {0}
 OfCall P (ends.Fault c fault) = Unit {0}
 OfCall P (ends.Over kept) = Unit {0}
 
--- how a stretch ends that stops so and leaves this context; over its bound it hands over nothing
+-- the ending of a stretch, given how it stops and the context that it leaves; over its bound it hands over nothing
 abbrev pub stopped : {C : Type 0} → Stop → C → Ending C
 stopped (stop.Call made) c = ends.Call c made
 stopped stop.End c = ends.End c

@@ -27,7 +27,7 @@ has_room sys s d = nat_lt (length (words_at s d)) (data_queue_config sys d).capa
 abbrev pub appended : KernelState → ℕ → ℤ → KernelState
 appended s d v = with_words s d (words_at s d ++ v ∷ [])
 
--- with no receiver: the word is appended where there is room, else the caller waits with it
+-- with no receiver: the word is appended if there is room, else the caller waits with it
 abbrev pub queued_by : Bool → KernelState → ℕ → TaskBlock → TimeLimit → ℕ → ℤ → Outcome
 queued_by true s me x limit d v = succeeds_in (appended s d v)
 queued_by false s me x limit d v = waits_within limit s me x (cause.Sending d v)

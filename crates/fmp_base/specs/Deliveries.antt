@@ -13,7 +13,7 @@ pub record Places : Type 0 where
   pub out : Option ℕ
   pub result : Option ℕ
 
--- the value of a reply, 0 where it has none
+-- the value of a reply, 0 if it has none
 abbrev pub value_or_zero : Option ℤ → ℤ
 value_or_zero (Some v) = v
 value_or_zero None = pos 0

@@ -33,3 +33,4 @@ pub mod Texts
 pub mod Ticks
 pub mod TieLaws
 pub mod Ties
+pub mod Words

@@ -17,8 +17,8 @@ use Rattle.fmp_base.specs.States.{KernelState}
 use Rattle.fmp_base.specs.Stretches.{Ending}
 use Rattle.fmp_base.specs.Systems.{SystemTables, found, body_of, task_config, interrupt_config}
 
--- a meaning of bodies with contexts C: the context at a start, a stretch of at most so many units, and the context
--- after a reply to the call that ended a stretch
+-- a meaning of bodies with contexts C: the context at a start, a stretch within a bound, and the context after a reply
+-- to the call that ended a stretch
 pub record Meaning (C : Type 0) : Type 0 where
   pub start : (body : ℕ) (exinf : ℤ) → C
   pub stretch : (body bound : ℕ) (context : C) → Ending C

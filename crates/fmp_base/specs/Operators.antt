@@ -26,7 +26,7 @@ abbrev pub truth : Bool → ℤ
 truth true = pos 1
 truth false = pos 0
 
--- 1 where it is not 0, else 0
+-- 1 if it is not 0, else 0
 abbrev pub truth_of : ℤ → ℤ
 truth_of x = truth (not (is_zero x))
 

@@ -11,7 +11,7 @@ use Rattle.fmp_base.specs.declared.states.Processor.{Processor}
 use Rattle.fmp_base.specs.ProcessorCalls.{is_cpu_locked}
 use Rattle.fmp_base.specs.Services.{argument, arguments_of}
 
--- one clause a service, so that none is called from anywhere before its clause stands here
+-- one clause for each service, so that none is called from anywhere before its clause stands here
 abbrev pub permission : Service → Permission
 permission service.Put = Anywhere
 permission service.LdShr = Anywhere

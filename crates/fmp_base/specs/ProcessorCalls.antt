@@ -68,7 +68,7 @@ abbrev pub is_held : ℕ → List Processor → Bool
 is_held l [] = false
 is_held l (cpu ∷ cpus) = is_spin l cpu.lock || is_held l cpus
 
--- a free lock is taken; for a held one the caller goes on asking
+-- a free lock is taken; for a held one the caller spins
 abbrev pub spin_lock_taken : Bool → KernelState → ℕ → ℕ → Outcome
 spin_lock_taken true s p l = record { answer = Spins; progress = unchanged s }
 spin_lock_taken false s p l = succeeds_in (with_lock s p (Spin l))

@@ -1,5 +1,5 @@
--- The ranges of a system: what every accepted configuration and every image keeps, and all that the kernel asks of a
--- system.
+-- The ranges of a system: what every accepted configuration and every image keeps, and all that the kernel requires of
+-- a system.
 use Rattle.std.specs.Prelude.{ℕ, ◌<◌, ◌≤◌, ◌^◌, List, length}
 use Rattle.std.specs.List.{AllByRecursion}
 use Rattle.fmp_base.specs.declared.systems.TaskConfig.{TaskConfig}
@@ -17,7 +17,7 @@ pub record Lies (low high n : ℕ) : Type 0 where
   pub least : low ≤ n
   pub most : n ≤ high
 
--- the ranges of an object of each kind, where there are so many processors
+-- the ranges of an object of each kind, given the number of processors
 pub record TaskInRange (processors : ℕ) (t : TaskConfig) : Type 0 where
   pub priority : Lies 1 16 t.priority
   pub stack : Lies 1 65536 t.stack

@@ -1,7 +1,14 @@
--- The service calls: function codes, names, arguments, and what is given back.
-use Rattle.std.specs.Prelude.{ℕ, ℤ, pos, List, [], ◌∷◌, Option, Some, None, Bool, true, false, codes, get_or}
+-- The service calls: function codes, names, parameters, arguments, and what they do.
+use Rattle.std.specs.Prelude.{ℕ, ℤ, pos, List, [], ◌∷◌, length, Option, Some, None, Bool, true, false, not, codes, get_or}
+use Rattle.std.specs.List.{filter, position}
 use Rattle.fmp_base.specs.declared.services.Service.{Service}
 use Rattle.fmp_base.specs.declared.services.Service.TheVariants as service
+use Rattle.fmp_base.specs.declared.catalogue.Action.{Action}
+use Rattle.fmp_base.specs.declared.catalogue.Action.TheVariants.{Activates, WakesUp, Migrates, Changes, Gives, Takes}
+use Rattle.fmp_base.specs.declared.catalogue.ObjectKind.{ObjectKind}
+use Rattle.fmp_base.specs.declared.catalogue.ObjectKind.TheVariants.{Task, Semaphore, Flag, DataQueue, Mailbox, Message, SharedWord, SpinLock, Cyclic}
+use Rattle.fmp_base.specs.declared.catalogue.Parameter.{Parameter}
+use Rattle.fmp_base.specs.declared.catalogue.Parameter.TheVariants.{Object, TaskOrCaller, Processor, Priority, Pattern, Mode, Number, Delay, Limit, Out}
 use Rattle.fmp_base.specs.declared.calls.Call.{Call}
 use Rattle.fmp_base.specs.declared.calls.Call.TheVariants as call
 
@@ -127,88 +134,148 @@ service_name service.IpsndDtq = codes "ipsnd_dtq"
 service_name service.IfsndDtq = codes "ifsnd_dtq"
 service_name service.IrotRdq = codes "irot_rdq"
 
+-- what a text writes between the parentheses of a call
+abbrev pub parameters : Service → List Parameter
+parameters service.Put = Number ∷ []
+parameters service.LdShr = Object SharedWord ∷ Out ∷ []
+parameters service.StShr = Object SharedWord ∷ Number ∷ []
+parameters service.ActTsk = TaskOrCaller ∷ []
+parameters service.CanAct = TaskOrCaller ∷ []
+parameters service.ExtTsk = []
+parameters service.TerTsk = Object Task ∷ []
+parameters service.ChgPri = TaskOrCaller ∷ Priority ∷ []
+parameters service.GetPri = TaskOrCaller ∷ Out ∷ []
+parameters service.MactTsk = TaskOrCaller ∷ Processor ∷ []
+parameters service.MigTsk = TaskOrCaller ∷ Processor ∷ []
+parameters service.SlpTsk = []
+parameters service.TslpTsk = Limit ∷ []
+parameters service.WupTsk = TaskOrCaller ∷ []
+parameters service.CanWup = TaskOrCaller ∷ []
+parameters service.RelWai = Object Task ∷ []
+parameters service.SusTsk = TaskOrCaller ∷ []
+parameters service.RsmTsk = Object Task ∷ []
+parameters service.DlyTsk = Delay ∷ []
+parameters service.SigSem = Object Semaphore ∷ []
+parameters service.WaiSem = Object Semaphore ∷ []
+parameters service.PolSem = Object Semaphore ∷ []
+parameters service.TwaiSem = Object Semaphore ∷ Limit ∷ []
+parameters service.SetFlg = Object Flag ∷ Pattern ∷ []
+parameters service.ClrFlg = Object Flag ∷ Pattern ∷ []
+parameters service.WaiFlg = Object Flag ∷ Pattern ∷ Mode ∷ Out ∷ []
+parameters service.PolFlg = Object Flag ∷ Pattern ∷ Mode ∷ Out ∷ []
+parameters service.TwaiFlg = Object Flag ∷ Pattern ∷ Mode ∷ Out ∷ Limit ∷ []
+parameters service.SndDtq = Object DataQueue ∷ Number ∷ []
+parameters service.PsndDtq = Object DataQueue ∷ Number ∷ []
+parameters service.TsndDtq = Object DataQueue ∷ Number ∷ Limit ∷ []
+parameters service.FsndDtq = Object DataQueue ∷ Number ∷ []
+parameters service.RcvDtq = Object DataQueue ∷ Out ∷ []
+parameters service.PrcvDtq = Object DataQueue ∷ Out ∷ []
+parameters service.TrcvDtq = Object DataQueue ∷ Out ∷ Limit ∷ []
+parameters service.SndMbx = Object Mailbox ∷ Object Message ∷ []
+parameters service.RcvMbx = Object Mailbox ∷ Out ∷ []
+parameters service.PrcvMbx = Object Mailbox ∷ Out ∷ []
+parameters service.TrcvMbx = Object Mailbox ∷ Out ∷ Limit ∷ []
+parameters service.StaCyc = Object Cyclic ∷ []
+parameters service.StpCyc = Object Cyclic ∷ []
+parameters service.RotRdq = Priority ∷ []
+parameters service.GetTid = Out ∷ []
+parameters service.LocCpu = []
+parameters service.UnlCpu = []
+parameters service.DisDsp = []
+parameters service.EnaDsp = []
+parameters service.LocSpn = Object SpinLock ∷ []
+parameters service.TrySpn = Object SpinLock ∷ []
+parameters service.UnlSpn = Object SpinLock ∷ []
+parameters service.IactTsk = Object Task ∷ []
+parameters service.IwupTsk = Object Task ∷ []
+parameters service.IrelWai = Object Task ∷ []
+parameters service.IsigSem = Object Semaphore ∷ []
+parameters service.IsetFlg = Object Flag ∷ Pattern ∷ []
+parameters service.IpsndDtq = Object DataQueue ∷ Number ∷ []
+parameters service.IfsndDtq = Object DataQueue ∷ Number ∷ []
+parameters service.IrotRdq = Priority ∷ []
+
+-- whether a parameter is an argument that the kernel is passed
+abbrev pub is_argument : Parameter → Bool
+is_argument Out = false
+is_argument _ = true
+
 -- how many arguments the kernel is passed
 abbrev pub arity : Service → ℕ
-arity service.Put = 1
-arity service.LdShr = 1
-arity service.StShr = 2
-arity service.ActTsk = 1
-arity service.CanAct = 1
-arity service.ExtTsk = 0
-arity service.TerTsk = 1
-arity service.ChgPri = 2
-arity service.GetPri = 1
-arity service.MactTsk = 2
-arity service.MigTsk = 2
-arity service.SlpTsk = 0
-arity service.TslpTsk = 1
-arity service.WupTsk = 1
-arity service.CanWup = 1
-arity service.RelWai = 1
-arity service.SusTsk = 1
-arity service.RsmTsk = 1
-arity service.DlyTsk = 1
-arity service.SigSem = 1
-arity service.WaiSem = 1
-arity service.PolSem = 1
-arity service.TwaiSem = 2
-arity service.SetFlg = 2
-arity service.ClrFlg = 2
-arity service.WaiFlg = 3
-arity service.PolFlg = 3
-arity service.TwaiFlg = 4
-arity service.SndDtq = 2
-arity service.PsndDtq = 2
-arity service.TsndDtq = 3
-arity service.FsndDtq = 2
-arity service.RcvDtq = 1
-arity service.PrcvDtq = 1
-arity service.TrcvDtq = 2
-arity service.SndMbx = 2
-arity service.RcvMbx = 1
-arity service.PrcvMbx = 1
-arity service.TrcvMbx = 2
-arity service.StaCyc = 1
-arity service.StpCyc = 1
-arity service.RotRdq = 1
-arity service.GetTid = 0
-arity service.LocCpu = 0
-arity service.UnlCpu = 0
-arity service.DisDsp = 0
-arity service.EnaDsp = 0
-arity service.LocSpn = 1
-arity service.TrySpn = 1
-arity service.UnlSpn = 1
-arity service.IactTsk = 1
-arity service.IwupTsk = 1
-arity service.IrelWai = 1
-arity service.IsigSem = 1
-arity service.IsetFlg = 2
-arity service.IpsndDtq = 2
-arity service.IfsndDtq = 2
-arity service.IrotRdq = 1
+arity s = length (filter is_argument (parameters s))
 
 -- the place of the out variable among what a text writes between the parentheses, if the call has one
 abbrev pub out_place : Service → Option ℕ
-out_place service.LdShr = Some 1
-out_place service.GetPri = Some 1
-out_place service.WaiFlg = Some 3
-out_place service.PolFlg = Some 3
-out_place service.TwaiFlg = Some 3
-out_place service.RcvDtq = Some 1
-out_place service.PrcvDtq = Some 1
-out_place service.TrcvDtq = Some 1
-out_place service.RcvMbx = Some 1
-out_place service.PrcvMbx = Some 1
-out_place service.TrcvMbx = Some 1
-out_place service.GetTid = Some 0
-out_place _ = None
+out_place s = position (λ p. not (is_argument p)) (parameters s)
+
+-- the kind of the objects of which a parameter names one
+abbrev pub object_kind : Parameter → Option ObjectKind
+object_kind (Object kind) = Some kind
+object_kind TaskOrCaller = Some Task
+object_kind _ = None
 
 -- whether the variable before `=` receives the value in place of E_OK: the count of what was cancelled
 abbrev pub gives_count : Service → Bool
 gives_count service.CanAct = true
 gives_count service.CanWup = true
 gives_count _ = false
+
+-- what a call does to what its first argument names
+abbrev pub action : Service → Option Action
+action service.ActTsk = Some Activates
+action service.TerTsk = Some Changes
+action service.ChgPri = Some Changes
+action service.MactTsk = Some Activates
+action service.MigTsk = Some Migrates
+action service.WupTsk = Some WakesUp
+action service.SusTsk = Some Changes
+action service.RsmTsk = Some Changes
+action service.SigSem = Some Gives
+action service.WaiSem = Some Takes
+action service.PolSem = Some Takes
+action service.TwaiSem = Some Takes
+action service.SetFlg = Some Gives
+action service.WaiFlg = Some Takes
+action service.PolFlg = Some Takes
+action service.TwaiFlg = Some Takes
+action service.SndDtq = Some Gives
+action service.PsndDtq = Some Gives
+action service.TsndDtq = Some Gives
+action service.FsndDtq = Some Gives
+action service.RcvDtq = Some Takes
+action service.PrcvDtq = Some Takes
+action service.TrcvDtq = Some Takes
+action service.SndMbx = Some Gives
+action service.RcvMbx = Some Takes
+action service.PrcvMbx = Some Takes
+action service.TrcvMbx = Some Takes
+action service.IactTsk = Some Activates
+action service.IwupTsk = Some WakesUp
+action service.IsigSem = Some Gives
+action service.IsetFlg = Some Gives
+action service.IpsndDtq = Some Gives
+action service.IfsndDtq = Some Gives
+action _ = None
+
+-- the call that does the same from handlers, or from tasks, where a call is for the others
+abbrev pub counterpart : Service → Option Service
+counterpart service.ActTsk = Some service.IactTsk
+counterpart service.WupTsk = Some service.IwupTsk
+counterpart service.RelWai = Some service.IrelWai
+counterpart service.SigSem = Some service.IsigSem
+counterpart service.SetFlg = Some service.IsetFlg
+counterpart service.PsndDtq = Some service.IpsndDtq
+counterpart service.FsndDtq = Some service.IfsndDtq
+counterpart service.RotRdq = Some service.IrotRdq
+counterpart service.IactTsk = Some service.ActTsk
+counterpart service.IwupTsk = Some service.WupTsk
+counterpart service.IrelWai = Some service.RelWai
+counterpart service.IsigSem = Some service.SigSem
+counterpart service.IsetFlg = Some service.SetFlg
+counterpart service.IpsndDtq = Some service.PsndDtq
+counterpart service.IfsndDtq = Some service.FsndDtq
+counterpart service.IrotRdq = Some service.RotRdq
+counterpart _ = None
 
 -- the service of a call
 abbrev pub service_of : Call → Service
@@ -332,7 +399,7 @@ arguments_of (call.IpsndDtq queue word) = queue ∷ word ∷ []
 arguments_of (call.IfsndDtq queue word) = queue ∷ word ∷ []
 arguments_of (call.IrotRdq priority) = priority ∷ []
 
--- argument k of a list, 0 where there is none
+-- argument k of a list, 0 if there is none
 abbrev pub argument : List ℤ → ℕ → ℤ
 argument xs k = get_or xs k (pos 0)
 

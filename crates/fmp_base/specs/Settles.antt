@@ -47,7 +47,7 @@ pending_handler sys s p =
     interrupt_or (first_pending (interrupts_on sys p) 0 s.pending_interrupts)
     (cyclic_handler (first_pending (cycles_on sys p) 0 s.pending_cyclics))
 
--- a handler is pending no more
+-- a handler is no longer pending
 abbrev pub without_pending : KernelState → Handler → KernelState
 without_pending s (handler.Interrupt i) = record s { pending_interrupts = slice_set s.pending_interrupts i false }
 without_pending s (handler.Cyclic c) = record s { pending_cyclics = slice_set s.pending_cyclics c false }
@@ -76,6 +76,7 @@ dispatch_lines true p now = []
 dispatch_lines false p now = line.Runs p now ∷ []
 
 -- p, which is cpu, runs task t, or none
+-- A preempted task keeps its place: dispatching does not change the order.
 abbrev pub dispatched : Progress → ℕ → Processor → Option ℕ → Progress
 dispatched g p cpu t =
     record {

@@ -1,4 +1,14 @@
 -- The state of the kernel, without the contexts of bodies, and the ways in which its parts change.
+--
+-- The short names in the definitions of this crate:
+-- sys: the tables of the system (SystemTables)
+-- s: a state of the kernel (KernelState)
+-- p: a processor, by its place
+-- me: the task that makes a call, by its place
+-- x: the block of task me (TaskBlock); of an operator, its first operand
+-- g: a state with the lines so far (Progress)
+-- M: a meaning of bodies (Meaning)
+-- w: a world, which is a state with the contexts of bodies (World); of a data queue, a word
 use Rattle.std.specs.Prelude.{ℕ, zero, suc, ◌+◌, ℤ, List, [], ◌∷◌, ◌++◌, Option, None, Bool, false, slice_get, slice_set, filter, not, nat_eq}
 use Rattle.fmp_base.specs.declared.events.Line.{Line}
 use Rattle.fmp_base.specs.declared.states.Lock.TheVariants.{Free}
@@ -37,7 +47,7 @@ pub record Progress : Type 0 where
 abbrev pub unchanged : KernelState → Progress
 unchanged s = record { state = s; lines = [] }
 
--- task t, or a dormant one where there is none
+-- task t, or a dormant one if there is none
 abbrev pub task_at : List TaskBlock → ℕ → TaskBlock
 task_at tasks t =
     found
@@ -53,7 +63,7 @@ task_at tasks t =
     })
     (slice_get tasks t)
 
--- the clock at which a time of so many ticks that begins now has passed
+-- the clock when a time of n ticks that begins now has passed
 abbrev pub clock_after : KernelState → ℕ → ℕ
 clock_after s ticks = s.clock + ticks + 1
 

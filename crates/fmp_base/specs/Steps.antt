@@ -58,7 +58,7 @@ actor_by None None = None
 abbrev pub actor_of : Processor → Option Caller
 actor_of cpu = actor_by cpu.handler cpu.run
 
--- the handler of p runs no more
+-- the handler of p no longer runs
 abbrev pub handler_ended : KernelState → ℕ → KernelState
 handler_ended s p = with_processor s p (record (processor_at s p) { handler = None })
 
@@ -67,7 +67,7 @@ abbrev pub actor_ended : SystemTables → KernelState → ℕ → Caller → Pro
 actor_ended sys s p (caller.Task t) = ended_itself sys s p t (task_at s.tasks t)
 actor_ended sys s p (caller.Handler h) = unchanged (handler_ended s p)
 
--- what a call comes to, where this was its answer; a caller that asks for a held spin lock has done nothing
+-- the effect of a call, given its answer; a caller that spins for a held spin lock has done nothing
 abbrev pub answered : {C : Type 0} → Answer → SystemTables → Meaning C → Contexts (Held C) → ℕ → Caller → Call
     → Progress → Reaction C
 answered (Replies reply) sys M cs p who c g = Did (finished sys M cs (line.Call p who c (Some reply) ∷ []) g)

@@ -49,7 +49,7 @@ tables_of s =
       interrupts = s.interrupts.items;
     }
 
--- so many processors and no object yet; activations and wakeups are queued once at most
+-- n processors and no object yet; activations and wakeups are queued at most once
 abbrev pub without_objects : ℕ → SystemTables
 without_objects processors =
     record {

@@ -52,7 +52,7 @@ abbrev pub value_text : Option ℤ → List ℕ
 value_text None = []
 value_text (Some v) = codes " " ++ signed_decimal v
 
--- the code's name, and the value where there is one
+-- the code's name, and the value if there is one
 abbrev pub reply_text : Reply → List ℕ
 reply_text r = code_name r.code ++ value_text r.value
 
@@ -64,7 +64,7 @@ abbrev pub fault_text : Fault → List ℕ
 fault_text Overflow = codes "F_OVF"
 fault_text Division = codes "F_DIV"
 
--- the number of the processor at place p, with the blanks round it
+-- the number of the processor at place p, with the blanks around it
 abbrev pub processor_text : ℕ → List ℕ
 processor_text p = codes " p" ++ (decimal (p + 1) ++ codes " ")
 
@@ -117,7 +117,7 @@ abbrev pub states_of : SystemTables → KernelState → List ℕ → List ℕ
 states_of sys s [] = []
 states_of sys s (t ∷ ts) = state_text sys t (task_state s t) ++ states_of sys s ts
 
--- one line a task, in order of number
+-- one line for each task, in order of number
 abbrev pub states_text : SystemTables → KernelState → List ℕ
 states_text sys s = states_of sys s (places_from 0 (length sys.tasks))
 

@@ -75,7 +75,7 @@ all_cycled sys g (c ∷ cs) = all_cycled sys (cycled sys g c) cs
 abbrev pub with_clock_advanced : KernelState → KernelState
 with_clock_advanced s = record s { clock = s.clock + 1 }
 
--- the clock advances; then waits end, in order of task number; then cyclic handlers pend, in order of number
+-- the clock advances; then waits end, in order of task number; then cyclic handlers become pending, in order of number
 abbrev pub ticked : SystemTables → KernelState → Progress
 ticked sys s =
     let g = all_timed_out (unchanged (with_clock_advanced s)) (places_from 0 (length s.tasks)) in

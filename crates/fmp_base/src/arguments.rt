@@ -47,7 +47,7 @@ pub fn ranged(low: u16, high: u16, number: i32) -> Option<u16>
     }
 }
 
-/// The time limit that a number states: -1 (TMO_FEVR) is none, 0 (TMO_POL) polls, else so many ticks, up to 2^30.
+/// The time limit that a number states: -1 (TMO_FEVR) is none, 0 (TMO_POL) polls, else that many ticks, up to 2^30.
 pub fn limit_of(number: i32) -> Option<TimeLimit>
     ensures value { result ≡ limit_from number }
     ensures range { IfSome result IsTimeLimit }

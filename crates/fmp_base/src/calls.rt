@@ -1,4 +1,4 @@
-//! Service calls with their arguments, and what they come to at once.
+//! Service calls with their arguments, and their immediate effects.
 ghost use Rattle.std.specs.Prelude.{◌≡◌};
 ghost use Rattle.fmp_base.specs.Services.{service_of};
 
@@ -268,7 +268,7 @@ pub struct Reply {
     pub value: Option<i32>,
 }
 
-/// What a service call comes to at once.
+/// The immediate effect of a service call.
 #[derive(Clone, Copy, Debug)]
 pub enum Answer {
     /// The caller is told this and goes on.
@@ -277,7 +277,7 @@ pub enum Answer {
     Waits,
     /// The caller has ended.
     Ends,
-    /// The caller goes on asking for a spin lock that is held: nothing has happened.
+    /// The caller spins for a spin lock that is held: nothing has happened.
     Spins,
 }
 

@@ -53,7 +53,7 @@ pub fn steps_are_ghost() -> bool
     true
 }
 
-/// A row of links, each from its own place to some place. Nothing else than `get` and `set` reads and writes them.
+/// A row of links, each from its own place to some place. Only `get` and `set` read and write them.
 #[derive(Drop)]
 pub struct Counted {
     links: Vec<u32>,
@@ -68,7 +68,7 @@ impl Model for Counted {
 }
 
 impl Counted {
-    /// A row of so many links, each to its own place. `AllocError` for want of memory.
+    /// A row of this many links, each to its own place. `AllocError` if memory runs out.
     pub fn new(alloc: Global, length: u32) -> Result<Counted, AllocError>
         ensures { IfOk result (λ c. c ≡ range_with_len 0 length) }
     {

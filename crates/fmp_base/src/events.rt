@@ -1,4 +1,4 @@
-//! What the kernel is told, and the lines that it answers with.
+//! Events, which are what the kernel is told, and the lines with which it answers.
 use crate::bodies::Fault;
 use crate::calls::{Call, Reply};
 use crate::states::{Caller, Handler};
@@ -30,7 +30,7 @@ pub enum Line {
     Tick(u32),
     /// The interrupt at this place was requested.
     Int(u8),
-    /// A service call, with its reply, or none where the caller waits.
+    /// A service call, with its reply, or none if the caller waits.
     Call {
         processor: u8,
         caller: Caller,

@@ -1,15 +1,17 @@
-//! The words of the kernel: codes, service calls and their arguments, events, lines of the trace, the tables of a
-//! system, the records of its state, and the trait of the bodies that it runs. The definitions of what they mean stand
-//! in `specs/`.
+//! The words of the kernel: codes, service calls and their arguments, the words of both texts, events, lines of the
+//! trace, the tables of a system, the records of its state, and the trait of the bodies that it runs. The definitions
+//! of what they mean stand in `specs/`.
 #![tactic(auto)]
 
 pub mod arguments;
 pub mod bodies;
 pub mod body;
 pub mod calls;
+pub mod catalogue;
 pub mod codes;
 pub mod counted;
 pub mod events;
+mod initials;
 pub mod laws;
 pub mod names;
 pub mod operators;
@@ -21,10 +23,12 @@ pub mod stop;
 pub mod systems;
 pub mod tally;
 pub mod ties;
+pub mod words;
 
 pub use bodies::{Fault, HandlerContext, HandlerStart, Held, Stretch};
 pub use body::Body;
 pub use calls::{Answer, Call, Reply};
+pub use catalogue::{Action, ObjectKind, Parameter};
 pub use codes::Er;
 pub use counted::{Counted, Steps};
 pub use events::{Effect, Event, Line, StateWord, TaskState};
@@ -32,7 +36,7 @@ pub use names::Name;
 pub use operators::{BinaryOperator, UnaryOperator};
 pub use permissions::Permission;
 pub use requests::Arguments;
-pub use services::Service;
+pub use services::{SERVICES, Service};
 pub use states::{
     Caller, FlagMode, Handler, Lock, Phase, Processor, TaskBlock, TimeLimit, WaitCause, WaitQueue,
 };

@@ -15,7 +15,7 @@ impl Name {
     /// The greatest number of bytes of a name.
     pub const MAX: usize = 31;
 
-    /// The name of these bytes; none where there are 0 or more than 31.
+    /// The name of these bytes; none if there are 0 or more than 31.
     pub fn new(text: &[u8]) -> Option<Name>
         ensures fits { IsSome result ↔ ((0 < length text.now) × (length text.now ≤ 31)) }
         ensures value { IfSome result (λ name. name ≡ name_from text.now) }

@@ -29,7 +29,7 @@ pub enum BinaryOperator {
     Or,
     /// `^`, bit by bit.
     ExclusiveOr,
-    /// `==`: 1 where it holds, else 0, as the five below.
+    /// `==`: 1 if it holds, else 0, as the five below.
     Equal,
     /// `!=`
     NotEqual,

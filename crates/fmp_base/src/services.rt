@@ -1,6 +1,6 @@
-//! The service calls by name: function codes, names and numbers of arguments.
+//! The service calls: function codes and names.
 ghost use Rattle.std.specs.Prelude.{◌≡◌, codes};
-ghost use Rattle.fmp_base.specs.Services.{service_number, service_name, arity};
+ghost use Rattle.fmp_base.specs.Services.{service_number, service_name};
 
 /// A service call without its arguments: its function code.
 ///
@@ -125,6 +125,68 @@ pub enum Service {
     /// `irot_rdq`.
     IrotRdq,
 }
+
+/// The service calls, in order of their function codes.
+pub const SERVICES: [Service; 58] = [
+    Service::Put,
+    Service::LdShr,
+    Service::StShr,
+    Service::ActTsk,
+    Service::CanAct,
+    Service::ExtTsk,
+    Service::TerTsk,
+    Service::ChgPri,
+    Service::GetPri,
+    Service::MactTsk,
+    Service::MigTsk,
+    Service::SlpTsk,
+    Service::TslpTsk,
+    Service::WupTsk,
+    Service::CanWup,
+    Service::RelWai,
+    Service::SusTsk,
+    Service::RsmTsk,
+    Service::DlyTsk,
+    Service::SigSem,
+    Service::WaiSem,
+    Service::PolSem,
+    Service::TwaiSem,
+    Service::SetFlg,
+    Service::ClrFlg,
+    Service::WaiFlg,
+    Service::PolFlg,
+    Service::TwaiFlg,
+    Service::SndDtq,
+    Service::PsndDtq,
+    Service::TsndDtq,
+    Service::FsndDtq,
+    Service::RcvDtq,
+    Service::PrcvDtq,
+    Service::TrcvDtq,
+    Service::SndMbx,
+    Service::RcvMbx,
+    Service::PrcvMbx,
+    Service::TrcvMbx,
+    Service::StaCyc,
+    Service::StpCyc,
+    Service::RotRdq,
+    Service::GetTid,
+    Service::LocCpu,
+    Service::UnlCpu,
+    Service::DisDsp,
+    Service::EnaDsp,
+    Service::LocSpn,
+    Service::TrySpn,
+    Service::UnlSpn,
+    Service::IactTsk,
+    Service::IwupTsk,
+    Service::IrelWai,
+    Service::IsigSem,
+    Service::IsetFlg,
+    Service::IpsndDtq,
+    Service::IfsndDtq,
+    Service::IrotRdq,
+];
 
 impl Service {
     /// The function code, 1 to 58.
@@ -256,70 +318,6 @@ impl Service {
             Service::IpsndDtq => "ipsnd_dtq",
             Service::IfsndDtq => "ifsnd_dtq",
             Service::IrotRdq => "irot_rdq",
-        }
-    }
-
-    /// How many arguments the call passes to the kernel, 0 to 4; an out place is none.
-    pub fn arity(self) -> u8
-        ensures { result ≡ arity self }
-    {
-        match self {
-            Service::ExtTsk
-            | Service::SlpTsk
-            | Service::GetTid
-            | Service::LocCpu
-            | Service::UnlCpu
-            | Service::DisDsp
-            | Service::EnaDsp => 0,
-            Service::Put
-            | Service::LdShr
-            | Service::ActTsk
-            | Service::CanAct
-            | Service::TerTsk
-            | Service::GetPri
-            | Service::TslpTsk
-            | Service::WupTsk
-            | Service::CanWup
-            | Service::RelWai
-            | Service::SusTsk
-            | Service::RsmTsk
-            | Service::DlyTsk
-            | Service::SigSem
-            | Service::WaiSem
-            | Service::PolSem
-            | Service::RcvDtq
-            | Service::PrcvDtq
-            | Service::RcvMbx
-            | Service::PrcvMbx
-            | Service::StaCyc
-            | Service::StpCyc
-            | Service::RotRdq
-            | Service::LocSpn
-            | Service::TrySpn
-            | Service::UnlSpn
-            | Service::IactTsk
-            | Service::IwupTsk
-            | Service::IrelWai
-            | Service::IsigSem
-            | Service::IrotRdq => 1,
-            Service::StShr
-            | Service::ChgPri
-            | Service::MactTsk
-            | Service::MigTsk
-            | Service::TwaiSem
-            | Service::SetFlg
-            | Service::ClrFlg
-            | Service::SndDtq
-            | Service::PsndDtq
-            | Service::FsndDtq
-            | Service::TrcvDtq
-            | Service::SndMbx
-            | Service::TrcvMbx
-            | Service::IsetFlg
-            | Service::IpsndDtq
-            | Service::IfsndDtq => 2,
-            Service::WaiFlg | Service::PolFlg | Service::TsndDtq => 3,
-            Service::TwaiFlg => 4,
         }
     }
 }

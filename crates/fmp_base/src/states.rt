@@ -112,7 +112,7 @@ pub enum Handler {
     Cyclic(u8),
 }
 
-/// Who makes a call, ends or faults: a task, by its place, or a handler.
+/// The actor that makes a call, ends or faults: a task, by its place, or a handler.
 #[derive(Clone, Copy, Debug, PartialEq, Eq)]
 pub enum Caller {
     /// A task.

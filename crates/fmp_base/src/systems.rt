@@ -181,7 +181,7 @@ pub struct System {
 }
 
 impl System {
-    /// A system of so many processors, 1 to 8, without objects. Activations and wakeups are queued once at most.
+    /// A system of this many processors, 1 to 8, without objects. Activations and wakeups are queued once at most.
     pub fn empty(alloc: Global, processors: u8) -> System
         ensures { tables_of result ≡ without_objects processors }
     {

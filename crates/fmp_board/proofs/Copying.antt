@@ -22,6 +22,6 @@ none_past was now place found same e is lt =
     let past = past_of-none was.journal place (ap (λ (s : ScribeState). slice_get s.journal place) (sym same) ∙ sym e ∙ is) in
     omega (arith, past, lt)
 
--- so many are copied then
+-- this many are copied then
 pub one_longer : (items more : List Event) (x : Event) (n : ℕ) → more ≡ items ++ x ∷ [] → length items ≡ n → length more ≡ n + 1
 one_longer items more x n m count = ap length m ∙ length-append items (x ∷ []) ∙ ap (λ (k : ℕ). k + 1) count

@@ -4,18 +4,16 @@ use Rattle.std.proofs.lemmas.Bool.{eqb-true}
 use Rattle.std.proofs.lemmas.Bool.Decides.{nat_tests}
 use Rattle.fmp_base.specs.declared.events.Event.{Event}
 use Rattle.fmp_base.specs.declared.events.Event.TheVariants.{Run}
-use Rattle.fmp_base.specs.Meanings.{Meaning}
-use Rattle.fmp_base.specs.Runs.{run, run_on}
+use Rattle.fmp_base.specs.Runs.{run}
 use Rattle.fmp_base.specs.Setups.{setup}
-use Rattle.fmp_base.specs.Steps.{Done, Reaction, Nothing, Did, step}
+use Rattle.fmp_base.specs.Steps.{step}
 use Rattle.fmp_base.specs.Stretches.{Ending}
-use Rattle.fmp_base.specs.Systems.{SystemTables}
 use Rattle.fmp_instructions.specs.declared.instructions.MachineContext.{MachineContext}
 use Rattle.fmp_instructions.specs.Instructions.{BodyTables}
 use Rattle.fmp_instructions.specs.Machine.{code_meaning}
 use Rattle.fmp_image_bytes.specs.Images.{ImageTables}
 use Rattle.fmp_kernel.specs.declared.actors.Actor.{Actor}
-use Rattle.fmp_kernel.specs.KernelViews.{KernelView, actor_in, done_or, view_after, view_after_all, view_of_setup, with_stamp}
+use Rattle.fmp_kernel.specs.KernelViews.{KernelView, actor_in, with_stamp}
 use Rattle.fmp_journal.specs.declared.entry.JournalEntry.{JournalEntry}
 use Rattle.fmp_journal.specs.Seats.{events}
 use Rattle.fmp_worlds.specs.Stamps.{EndsSo, Going, actor_at, applied, stamp}
@@ -23,8 +21,8 @@ use Rattle.fmp_worlds.proofs.SettledLaws.{run-settled, setup-settled}
 use Rattle.fmp_worlds.proofs.StampLaws.{applied-runs, equal_stamps}
 use Rattle.fmp_board.specs.Boards.{IsReplay}
 use Rattle.fmp_board.specs.Outcomes.{TicketState, IsDrawn, IsTicketOf, OutcomeState, IsOutcome, actor_after, stamp_after, stamp_at}
-use Rattle.fmp_board.specs.Replays.{done_after, kernel_after, reaction, replay, stamps_after, stamps_on, stamps_or}
-use Rattle.fmp_board.proofs.Replaying.{step_of_replay}
+use Rattle.fmp_replay.specs.Replays.{kernel_after, reaction, replay, stamps_after}
+use Rattle.fmp_replay.proofs.Replaying.{stamp_of, step_of_replay, world_of}
 
 abbrev Kernels : Type 0
 Kernels = KernelView (List BodyTables) MachineContext
@@ -80,36 +78,6 @@ outcome_runs i n k m kernel journal o r is of here =
     applied_runs kernel o.ticket.processor o.ticket.actor o.ending (actor_there i n k m kernel journal o.ticket.processor r ∙ here) ends
     ∙ step_of_replay i n (events journal) (Run o.ticket.processor) kernel r.kernel_is
 
--- runs
-
-module _ {C : Type 0} (sys : SystemTables) (M : Meaning C) (bound : ℕ) where
-  world_after : (d : Done C) (es : List Event) → (done_after sys M bound d es).world ≡ (run sys M bound d.world es).world
-  world_after d [] = refl
-  world_after d (e ∷ es) = by_reaction (step sys M bound d.world e) (λ n. world_after n es) where
-    by_reaction : (x : Reaction C) → ((n : Done C) → (done_after sys M bound n es).world ≡ (run sys M bound n.world es).world)
-        → (done_after sys M bound (done_or d x) es).world ≡ (run_on d.world x (λ v. run sys M bound v es)).world
-    by_reaction Nothing rest = rest d
-    by_reaction (Did n) rest = rest n
-
-abbrev last_of : Kernels → Done MachineContext
-last_of k = record { world = k.world; lines = k.lines }
-
-stamps_of_all : (k : Kernels) (es : List Event)
-    → (view_after_all code_meaning k es).stamps ≡ stamps_on k.system (code_meaning k.body) k.bound (last_of k) k.stamps es
-stamps_of_all k [] = refl
-stamps_of_all k (e ∷ es) = by_reaction (step k.system (code_meaning k.body) k.bound k.world e) (λ v. stamps_of_all v es) where
-  by_reaction : (x : Reaction MachineContext)
-      → ((v : Kernels) → (view_after_all code_meaning v es).stamps ≡ stamps_on v.system (code_meaning v.body) v.bound (last_of v) v.stamps es)
-      → (view_after_all code_meaning (view_after k x) es).stamps
-      ≡ stamps_on k.system (code_meaning k.body) k.bound (done_or (last_of k) x) (stamps_or (last_of k) x k.stamps) es
-  by_reaction Nothing rest = rest k
-  by_reaction (Did d) rest = rest (view_after k (Did d))
-
-world_of : (i : ImageTables) (n : ℕ) (es : List Event)
-    → (replay i n es).world ≡ (run i.system (code_meaning i.code) n (setup i.system (code_meaning i.code)).world es).world
-unfolding replay
-world_of i n es = world_after i.system (code_meaning i.code) n (setup i.system (code_meaning i.code)) es
-
 -- the stamp of an actor is that of its processor
 pub stamp_of_actor : (i : ImageTables) (n : ℕ) (journal : List JournalEntry) (p : ℕ) (a : Actor MachineContext) → actor_after i n journal p ≡ Some a
     → stamp_after i n journal p ≡ a.stamp
@@ -118,72 +86,57 @@ stamp_of_actor i n journal (suc q) a h =
     let s = is_stamped (get_or (stamps_after i n (events journal)) q 0) (actor_at i.system (replay i n (events journal)).world q) a h in
     s.stamp_is
 
--- the stamps of a kernel count events: the law of kernels
-abbrev StampsCount : Type 0
-StampsCount =
-    (meaning : List BodyTables → Meaning MachineContext) (body : List BodyTables) (n : ℕ) (sys : SystemTables) (es : List Event) (p : ℕ) → p < sys.processors
-    → get_or (view_after_all meaning (view_of_setup body n sys (setup sys (meaning body))) es).stamps p 0 ≡ stamp sys (meaning body) n (setup sys (meaning body)).world es p
+-- where the stamp of the processor at place q is that of an actor that was drawn before, it still has this actor
+same_place : (i : ImageTables) (n : ℕ) (es fs : List Event) (q : ℕ) (a : Actor MachineContext) → q < i.system.processors
+    → actor_in (kernel_after i n es) (suc q) ≡ Some a → get_or (stamps_after i n (es ++ fs)) q 0 ≡ a.stamp
+    → actor_in (kernel_after i n (es ++ fs)) (suc q) ≡ Some a
+same_place i n es fs q a lt was same =
+    let sys = i.system in
+    let M = code_meaning i.code in
+    let w = (setup sys M).world in
+    let s = is_stamped (get_or (stamps_after i n es) q 0) (actor_at sys (replay i n es).world q) a was in
+    let then : actor_at sys (run sys M n w es).world q ≡ Some (going_of a) =
+    sym (ap (λ v. actor_at sys v q) (world_of i n es)) ∙ s.goes in
+    let counts : stamp sys M n w (es ++ fs) q ≡ stamp sys M n w es q =
+    sym (stamp_of i n (es ++ fs) q lt) ∙ same ∙ sym s.stamp_is ∙ stamp_of i n es q lt in
+    let now : actor_at sys (replay i n (es ++ fs)).world q ≡ Some (going_of a) =
+    ap (λ v. actor_at sys v q) (world_of i n (es ++ fs))
+    ∙ equal_stamps sys M n w es fs q (going_of a) (run-settled sys M n w es (setup-settled sys M)) counts then in
+    ap (λ (o : Option (Going MachineContext)). with_stamp (get_or (stamps_after i n (es ++ fs)) q 0) o) now
+    ∙ ap (λ (k : ℕ). with_stamp k (Some (going_of a))) same
 
-module _ (law : StampsCount) where
-  -- the stamp of a processor after a replay counts its events
-  stamp_counts : (i : ImageTables) (n : ℕ) (es : List Event) (p : ℕ) → p < i.system.processors
-      → get_or (stamps_after i n es) p 0 ≡ stamp i.system (code_meaning i.code) n (setup i.system (code_meaning i.code)).world es p
-  unfolding stamps_after
-  stamp_counts i n es p lt =
-      let first : Kernels = view_of_setup i.code n i.system (setup i.system (code_meaning i.code)) in
-      sym (ap (λ (xs : List ℕ). get_or xs p 0) (stamps_of_all first es)) ∙ law code_meaning i.code n i.system es p lt
+by_number : (i : ImageTables) (n : ℕ) (es fs : List Event) (p : ℕ) (a : Actor MachineContext) → p ≤ i.system.processors
+    → actor_in (kernel_after i n es) p ≡ Some a → stamp_at p (stamps_after i n (es ++ fs)) ≡ a.stamp
+    → actor_in (kernel_after i n (es ++ fs)) p ≡ Some a
+by_number i n es fs zero a le was same = absurd (cc)
+by_number i n es fs (suc q) a le was same = same_place i n es fs q a (omega (arith, le)) was same
 
-  -- where the stamp of the processor at place q is that of an actor that was drawn before, it still has this actor
-  same_place : (i : ImageTables) (n : ℕ) (es fs : List Event) (q : ℕ) (a : Actor MachineContext) → q < i.system.processors
-      → actor_in (kernel_after i n es) (suc q) ≡ Some a → get_or (stamps_after i n (es ++ fs)) q 0 ≡ a.stamp
-      → actor_in (kernel_after i n (es ++ fs)) (suc q) ≡ Some a
-  same_place i n es fs q a lt was same =
-      let sys = i.system in
-      let M = code_meaning i.code in
-      let w = (setup sys M).world in
-      let s = is_stamped (get_or (stamps_after i n es) q 0) (actor_at sys (replay i n es).world q) a was in
-      let then : actor_at sys (run sys M n w es).world q ≡ Some (going_of a) =
-      sym (ap (λ v. actor_at sys v q) (world_of i n es)) ∙ s.goes in
-      let counts : stamp sys M n w (es ++ fs) q ≡ stamp sys M n w es q =
-      sym (stamp_counts i n (es ++ fs) q lt) ∙ same ∙ sym s.stamp_is ∙ stamp_counts i n es q lt in
-      let now : actor_at sys (replay i n (es ++ fs)).world q ≡ Some (going_of a) =
-      ap (λ v. actor_at sys v q) (world_of i n (es ++ fs))
-      ∙ equal_stamps sys M n w es fs q (going_of a) (run-settled sys M n w es (setup-settled sys M)) counts then in
-      ap (λ (o : Option (Going MachineContext)). with_stamp (get_or (stamps_after i n (es ++ fs)) q 0) o) now
-      ∙ ap (λ (k : ℕ). with_stamp k (Some (going_of a))) same
+-- an actor that was drawn is the present one where its stamp is
+drawn_now : (i : ImageTables) (n : ℕ) (journal : List JournalEntry) (t : TicketState) → IsDrawn i n journal t
+    → stamp_after i n journal t.processor ≡ t.actor.stamp → actor_after i n journal t.processor ≡ Some t.actor
+drawn_now i n journal t d same =
+    let rest = d.begins.0 in
+    let all : events journal ≡ events d.begin ++ events rest = sym (ap events d.begins.1) ∙ events-append d.begin rest in
+    ap (λ (es : List Event). actor_in (kernel_after i n es) t.processor) all
+    ∙ by_number i n (events d.begin) (events rest) t.processor t.actor d.is_of.is_processor d.actor_is
+    (sym (ap (λ (es : List Event). stamp_at t.processor (stamps_after i n es)) all) ∙ same)
 
-  by_number : (i : ImageTables) (n : ℕ) (es fs : List Event) (p : ℕ) (a : Actor MachineContext) → p ≤ i.system.processors
-      → actor_in (kernel_after i n es) p ≡ Some a → stamp_at p (stamps_after i n (es ++ fs)) ≡ a.stamp
-      → actor_in (kernel_after i n (es ++ fs)) p ≡ Some a
-  by_number i n es fs zero a le was same = absurd (cc)
-  by_number i n es fs (suc q) a le was same = same_place i n es fs q a (omega (arith, le)) was same
+-- whether a processor has the stamp of an actor that was drawn before, by its present actor
+pub stamp_test : (i : ImageTables) (n k m : ℕ) (kernel : Kernels) (journal : List JournalEntry) (t : TicketState) (a : Actor MachineContext) → IsReplay i n k m kernel journal
+    → IsDrawn i n journal t → actor_in kernel t.processor ≡ Some a
+    → MatchBool (nat_eq a.stamp t.actor.stamp) (actor_after i n journal t.processor ≡ Some t.actor) (stamp_after i n journal t.processor ≢ t.actor.stamp)
+stamp_test i n k m kernel journal t a r d h = by_test (nat_eq a.stamp t.actor.stamp) refl where
+  now : stamp_after i n journal t.processor ≡ a.stamp
+  now = stamp_of_actor i n journal t.processor a (sym (actor_there i n k m kernel journal t.processor r) ∙ h)
 
-  -- an actor that was drawn is the present one where its stamp is
-  drawn_now : (i : ImageTables) (n : ℕ) (journal : List JournalEntry) (t : TicketState) → IsDrawn i n journal t
-      → stamp_after i n journal t.processor ≡ t.actor.stamp → actor_after i n journal t.processor ≡ Some t.actor
-  drawn_now i n journal t d same =
-      let rest = d.begins.0 in
-      let all : events journal ≡ events d.begin ++ events rest = sym (ap events d.begins.1) ∙ events-append d.begin rest in
-      ap (λ (es : List Event). actor_in (kernel_after i n es) t.processor) all
-      ∙ by_number i n (events d.begin) (events rest) t.processor t.actor d.is_of.is_processor d.actor_is
-      (sym (ap (λ (es : List Event). stamp_at t.processor (stamps_after i n es)) all) ∙ same)
+  by_test : (b : Bool) → nat_eq a.stamp t.actor.stamp ≡ b
+      → MatchBool b (actor_after i n journal t.processor ≡ Some t.actor) (stamp_after i n journal t.processor ≢ t.actor.stamp)
+  by_test true e = drawn_now i n journal t d (now ∙ eqb-true a.stamp t.actor.stamp e)
+  by_test false e = λ same. absurd (let other : a.stamp ≡ t.actor.stamp = sym now ∙ same in grind (arith, nat_tests, other, e))
 
-  -- whether a processor has the stamp of an actor that was drawn before, by its present actor
-  pub stamp_test : (i : ImageTables) (n k m : ℕ) (kernel : Kernels) (journal : List JournalEntry) (t : TicketState) (a : Actor MachineContext) → IsReplay i n k m kernel journal
-      → IsDrawn i n journal t → actor_in kernel t.processor ≡ Some a
-      → MatchBool (nat_eq a.stamp t.actor.stamp) (actor_after i n journal t.processor ≡ Some t.actor) (stamp_after i n journal t.processor ≢ t.actor.stamp)
-  stamp_test i n k m kernel journal t a r d h = by_test (nat_eq a.stamp t.actor.stamp) refl where
-    now : stamp_after i n journal t.processor ≡ a.stamp
-    now = stamp_of_actor i n journal t.processor a (sym (actor_there i n k m kernel journal t.processor r) ∙ h)
-
-    by_test : (b : Bool) → nat_eq a.stamp t.actor.stamp ≡ b
-        → MatchBool b (actor_after i n journal t.processor ≡ Some t.actor) (stamp_after i n journal t.processor ≢ t.actor.stamp)
-    by_test true e = drawn_now i n journal t d (now ∙ eqb-true a.stamp t.actor.stamp e)
-    by_test false e = λ same. absurd (let other : a.stamp ≡ t.actor.stamp = sym now ∙ same in grind (arith, nat_tests, other, e))
-
-  -- a processor without an actor has none of its stamps
-  pub none_test : (i : ImageTables) (n k m : ℕ) (kernel : Kernels) (journal : List JournalEntry) (t : TicketState) → IsReplay i n k m kernel journal
-      → IsDrawn i n journal t → actor_in kernel t.processor ≡ None → stamp_after i n journal t.processor ≢ t.actor.stamp
-  none_test i n k m kernel journal t r d h = λ same.
-      let there : Some t.actor ≡ None = sym (drawn_now i n journal t d same) ∙ sym (actor_there i n k m kernel journal t.processor r) ∙ h in
-      absurd (cc)
+-- a processor without an actor has none of its stamps
+pub none_test : (i : ImageTables) (n k m : ℕ) (kernel : Kernels) (journal : List JournalEntry) (t : TicketState) → IsReplay i n k m kernel journal
+    → IsDrawn i n journal t → actor_in kernel t.processor ≡ None → stamp_after i n journal t.processor ≢ t.actor.stamp
+none_test i n k m kernel journal t r d h = λ same.
+    let there : Some t.actor ≡ None = sym (drawn_now i n journal t d same) ∙ sym (actor_there i n k m kernel journal t.processor r) ∙ h in
+    absurd (cc)

@@ -16,8 +16,8 @@ use Rattle.fmp_journal.specs.Seats.{events}
 use Rattle.fmp_board.specs.declared.receipt.Receipt.{Receipt}
 use Rattle.fmp_board.specs.Receipts.{call_reply, receipt_of}
 use Rattle.fmp_board.specs.Boards.{IsJournal, IsReplay}
-use Rattle.fmp_board.specs.Replays.{IsLegal, kernel_after, reaction}
-use Rattle.fmp_board.proofs.Replaying.{step_of_replay, legal_last, kernel_last, none_legal}
+use Rattle.fmp_replay.specs.Replays.{IsLegal, kernel_after, reaction}
+use Rattle.fmp_replay.proofs.Replaying.{step_of_replay, legal_last, kernel_last, none_legal}
 
 pub events-last : (xs : List JournalEntry) (x : JournalEntry) → events (xs ++ x ∷ []) ≡ events xs ++ x.event ∷ []
 events-last [] x = refl

@@ -3,6 +3,4 @@ pub mod Copying
 pub mod Crossing
 pub mod Drawing
 pub mod Entering
-pub mod Entries
-pub mod Replaying
 pub mod Visiting

@@ -10,9 +10,10 @@ use Rattle.fmp_journal.specs.declared.entry.JournalEntry.{JournalEntry}
 use Rattle.fmp_journal.specs.Seats.{RowId, SeatState, events}
 use Rattle.fmp_board.specs.declared.fault.BoardFault.{BoardFault}
 use Rattle.fmp_board.specs.declared.fault.BoardFault.TheVariants as fault
-use Rattle.fmp_board.specs.Replays.{IsLegal, kernel_after}
+use Rattle.fmp_replay.specs.Replays.{IsLegal, kernel_after}
 
--- what contracts see of a book: its journal, and the seats that have not counted an entry of theirs, one mark for each
+-- what contracts see of a book: its journal, and the seats that have not counted one of their entries, one mark for
+-- each
 pub record BookState : Type 0 where
   pub journal : List JournalEntry
   pub marks : List ℕ

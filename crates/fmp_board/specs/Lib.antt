@@ -1,6 +1,5 @@
 pub mod Boards
 pub mod Outcomes
 pub mod Receipts
-pub mod Replays
 pub mod Sites
 pub mod Visits

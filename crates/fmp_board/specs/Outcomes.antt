@@ -1,4 +1,4 @@
--- Tickets, the outcomes of their stretches, and what is answered to an outcome.
+-- Tickets, the outcomes of their stretches, and the answers to outcomes.
 use Rattle.std.specs.Prelude.{◌≡◌, ◌≢◌, ℕ, zero, suc, ◌<◌, ◌≤◌, List, Some, None, Option, Result, get_or, length, MatchOption, MatchResult}
 use mathlib.Core.List.{IsPrefix}
 use Rattle.fmp_base.specs.declared.events.Event.TheVariants.{Run}
@@ -18,10 +18,10 @@ use Rattle.fmp_board.specs.declared.fault.BoardFault.TheVariants as fault
 use Rattle.fmp_board.specs.declared.receipt.Receipt.{Receipt}
 use Rattle.fmp_board.specs.Boards.{IsJournal}
 use Rattle.fmp_board.specs.Receipts.{receipt_of}
-use Rattle.fmp_board.specs.Replays.{kernel_after, reaction, stamps_after}
+use Rattle.fmp_replay.specs.Replays.{kernel_after, reaction, stamps_after}
 use Rattle.fmp_board.specs.Visits.{entered}
 
--- the actor of a processor, of an image of which stretches take at most so many instructions
+-- the actor of a processor, of an image whose stretches take at most n instructions
 pub record TicketState : Type 0 where
   pub image : ImageTables
   pub bound : ℕ
@@ -37,17 +37,17 @@ pub record OutcomeState : Type 0 where
 abbrev pub ending_of : TicketState → Ending MachineContext
 ending_of t = (code_meaning t.image.code).stretch t.actor.entry t.bound t.actor.context
 
--- the body of a ticket's actor is there, and gave the context
+-- the body of a ticket's actor exists, and gave the context
 pub record IsTicket (t : TicketState) : Type 0 where
   pub entry : t.actor.entry < length t.image.code
   pub context : IsContext t.image.code t.actor.entry t.actor.context
 
--- the stretch of a ticket's actor ended so
+-- the stretch of a ticket's actor ended in this way
 pub record IsOutcome (o : OutcomeState) : Type 0 where
   pub ending_is : o.ending ≡ ending_of o.ticket
   pub context : OfCall (IsContext o.ticket.image.code o.ticket.actor.entry) o.ending
 
--- a ticket of an image, of which stretches take at most n instructions, for one of its processors
+-- a ticket of an image whose stretches take at most n instructions, for one of its processors
 pub record IsTicketOf (i : ImageTables) (n : ℕ) (t : TicketState) : Type 0 where
   pub image_is : t.image ≡ i
   pub bound_is : t.bound ≡ n
@@ -73,7 +73,7 @@ pub record IsDrawn (i : ImageTables) (n : ℕ) (journal : List JournalEntry) (t 
   pub begins : IsPrefix begin journal
   pub actor_is : actor_after i n begin t.processor ≡ Some t.actor
 
--- the answer to who wants a ticket for processor p, after a journal: its actor there, if it has one
+-- the answer to a request for a ticket for processor p, after a journal: its actor there, if it has one
 abbrev pub Drew : ImageTables → (n : ℕ) → List JournalEntry → (p : ℕ) → Option TicketState → Type 0
 Drew i n journal p result =
     MatchOption result (actor_after i n journal p ≡ None)
@@ -85,7 +85,7 @@ pub record IsWhyRefused (i : ImageTables) (n k : ℕ) (journal : List JournalEnt
   pub stale : stamp_after i n journal t.processor ≢ t.actor.stamp → f ≡ fault.Stale
   pub full : stamp_after i n journal t.processor ≡ t.actor.stamp → (f ≡ fault.Full) × (length journal ≡ k)
 
--- what an outcome is answered after a journal
+-- the answer to an outcome after a journal
 abbrev pub AnsweredAfter : ImageTables → (n k : ℕ) → List JournalEntry → TicketState → Result Receipt BoardFault
     → Type 0
 AnsweredAfter i n k before t result =
@@ -94,8 +94,8 @@ AnsweredAfter i n k before t result =
     × (r ≡ receipt_of (length before) (reaction i n (events before) (Run t.processor))))
     (IsWhyRefused i n k before t)
 
--- The answer to an outcome of a seat: there was a journal, which begins with all that the seat had seen; this is what
--- the outcome is answered after it, and the seat has then seen it, with the event, if one was entered.
+-- The answer to an outcome of a seat: there was a journal, which begins with all that the seat had seen; this is the
+-- answer to the outcome after it, and the seat has then seen it, with the event, if one was entered.
 abbrev pub Submitted : ImageTables → (n : ℕ) → RowId → TicketState → (was now : SeatState) → Result Receipt BoardFault
     → Type 0
 Submitted i n row t was now result =

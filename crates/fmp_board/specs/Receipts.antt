@@ -26,7 +26,7 @@ abbrev pub call_reply : List Line → Option Reply
 call_reply [] = None
 call_reply (l ∷ ls) = reply_in l
 
--- the receipt of an event before which so many were journaled, by what the event does then
+-- the receipt of an event before which n were journaled, by what the event does then
 abbrev pub receipt_of : {C : Type 0} → (before : ℕ) → Reaction C → Receipt
 receipt_of before Nothing = record { number = 0; effect = effect.Nothing; reply = None }
 receipt_of before (Did d) = record { number = before + 1; effect = effect.Done; reply = call_reply d.lines }

@@ -2,7 +2,6 @@
 ghost use Rattle.std.specs.Prelude.{◌≡◌, ◌<◌, ◌≤◌, ◌^◌, [], IfOk, MatchResult, All, vec_capacity};
 ghost use Rattle.fmp_board.specs.Boards.{InRange, IsAt};
 ghost use Rattle.fmp_journal.specs.Seats.{AreNew};
-ghost use Rattle.fmp_board.specs.Replays.{kernel_after};
 
 use crate::board::Board;
 use crate::book::Book;
@@ -13,6 +12,7 @@ use fmp_code::Vm;
 use fmp_image_bytes::Image;
 use fmp_journal::{EmptyRow, Row, Scribe, Seat};
 use fmp_kernel::Kernel;
+use fmp_replay::kernel_of;
 use std::alloc::{AllocError, Global};
 use std::marker::Model;
 
@@ -50,20 +50,6 @@ impl<'a> Model for Blank<'a> {
     ghost invariant = { λ b. InRange b.bound b.row.capacity b.row.seats
         × IsReplay b.image.now b.bound b.row.capacity b.row.seats b.kernel [] × (b.scribe ≡ new_scribe b.row)
         × IsRoom b.row b.capacity b.seats × (b.room.items ≡ []) × (b.row.capacity ≤ vec_capacity b.room) };
-}
-
-/// The kernel of an image after setup, for whoever runs an image without a board. A stretch of a body takes at most n
-/// instructions, 1 to 2^48. `AllocError` for want of memory: no call of the kernel takes any.
-pub fn kernel_of<'a>(alloc: Global, image: &'a Image, n: u64) -> Result<Kernel<Vm<'a>>, AllocError>
-    requires low { 1 ≤ n }
-    requires high { n ≤ 2 ^ 48 }
-    ensures { IfOk result (λ kernel. kernel ≡ kernel_after image.now n []) }
-{
-    image.keeps_rules();
-    match Kernel::new(alloc, image.vm(), image.system(), n) {
-        Ok(kernel) => Ok(kernel),
-        Err(_) => Err(AllocError),
-    }
 }
 
 impl<'a> Blank<'a> {

@@ -93,8 +93,8 @@ impl<'a, S: Site> Board<'a, S> {
         self.row.capacity()
     }
 
-    /// A ticket for the stretch that the actor of processor p makes next. None where there is no such processor, or it
-    /// has no actor. The seat has then seen the whole journal.
+    /// A ticket for the stretch that the actor of processor p makes next. None if there is no such processor, or it has
+    /// no actor. The seat has then seen the whole journal.
     pub fn ticket<R: Wait>(&self, rt: &R, seat: &mut Seat, p: u8) -> Option<Ticket<'a>>
         requires at { IsAt S.row_id seat.old }
         ensures at { IsAt S.row_id seat.new }
@@ -107,12 +107,12 @@ impl<'a, S: Site> Board<'a, S> {
     }
 
     /// Takes the run of an outcome's processor on the kernel, by the stretch that was made outside the lock, and
-    /// journals it under the number of the seat if it does something. It wants the seat that drew the ticket. The seat
-    /// has then seen the whole journal, its own event included.
+    /// journals it under the number of the seat if it does something. It requires the seat that drew the ticket. The
+    /// seat has then seen the whole journal, its own event included.
     ///
-    /// `BoardFault::Stale`, exactly where the stamp of the processor is no more that of the ticket; else
-    /// `BoardFault::Full`, exactly where the journal has no room for one more event. Then nothing has changed but what
-    /// the seat has seen.
+    /// `BoardFault::Stale`, exactly if the stamp of the processor is no longer that of the ticket; else
+    /// `BoardFault::Full`, exactly if the journal has no room for one more event. Then nothing has changed but what the
+    /// seat has seen.
     pub fn submit<R: Wait>(
         &self,
         rt: &R,
@@ -133,8 +133,8 @@ impl<'a, S: Site> Board<'a, S> {
     /// out its stretch under the lock, for which the call waits. The seat has then seen the whole journal, its own
     /// event included.
     ///
-    /// `BoardFault::Full`, exactly where the journal has no room for one more event; then nothing has changed but what
-    /// the seat has seen.
+    /// `BoardFault::Full`, exactly if the journal has no room for one more event; then nothing has changed but what the
+    /// seat has seen.
     pub fn feed<R: Wait>(
         &self,
         rt: &R,
@@ -150,7 +150,7 @@ impl<'a, S: Site> Board<'a, S> {
         self.desk.lock(rt).feed(seat, event)
     }
 
-    /// Both seats have then seen the whole journal, so the same.
+    /// Both seats have then seen the whole journal, and therefore the same.
     pub fn meet<R: Wait>(&self, rt: &R, one: &mut Seat, other: &mut Seat)
         requires one { IsAt S.row_id one.old }
         requires other { IsAt S.row_id other.old }
@@ -166,9 +166,9 @@ impl<'a, S: Site> Board<'a, S> {
         desk.show(other);
     }
 
-    /// The next event of the row after those that this seat's `follow` gave, by one read of its word. None where as
-    /// many events were given as the row has words, or where the word was found empty; never while the seat has seen
-    /// more events than were given. It waits for nobody.
+    /// The next event of the row after those that this seat's `follow` gave, by one read of its word. None if as many
+    /// events were given as the row has words, or if the word was found empty; never while the seat has seen more
+    /// events than were given. It never waits.
     pub fn follow(&self, seat: &mut Seat) -> Option<Event>
         requires at { IsAt S.row_id seat.old }
         ensures at { IsAt S.row_id seat.new }
@@ -189,7 +189,7 @@ impl<'a, S: Site> Board<'a, S> {
         seat.follow(&self.row)
     }
 
-    /// Ends the board. The seat has then seen its journal. It waits for nobody, and takes no memory.
+    /// Ends the board. The seat has then seen its journal. It never waits, and takes no memory.
     pub fn close(self, seat: &mut Seat) -> Closed<'a>
         requires at { IsAt S.row_id seat.old }
         ensures at { IsAt S.row_id seat.new }

@@ -47,7 +47,7 @@ impl<'a, S: Site> Book<'a, S> {
     ghost use Rattle.fmp_board.specs.declared.fault.BoardFault.TheVariants.{Full};
     ghost use Rattle.fmp_board.specs.Boards.{IsAt, IsJournal, IsReplay, IsRoom};
     ghost use Rattle.fmp_board.specs.Receipts.{journal_after, marks_after, receipt_of};
-    ghost use Rattle.fmp_board.specs.Replays.{kernel_after, reaction};
+    ghost use Rattle.fmp_replay.specs.Replays.{kernel_after, reaction};
     ghost use Rattle.fmp_board.specs.Visits.{shown, unmarked};
     ghost use Rattle.fmp_journal.specs.Views.{own};
     ghost use mathlib.Core.List.{IsPrefix};
@@ -131,7 +131,7 @@ impl<'a, S: Site> Book<'a, S> {
 
     /// Takes an event on the kernel, and journals it under the number of a seat if it does something.
     ///
-    /// `BoardFault::Full`, exactly where the journal has no room for one more event; then nothing has changed.
+    /// `BoardFault::Full`, exactly if the journal has no room for one more event; then nothing has changed.
     pub fn enter(&mut self, seat: u8, event: Event) -> Result<Receipt, BoardFault>
         requires { seat < S.row_id.seats }
         ensures full { MatchResult result (λ _. length self.old.journal < S.row_id.capacity)
@@ -166,8 +166,8 @@ impl<'a, S: Site> Book<'a, S> {
         }
     }
 
-    /// The seat comes to have seen the whole journal, which begins with all that it had seen, and counts its entries;
-    /// its marks are taken away.
+    /// The seat has then seen the whole journal, which begins with all that it had seen, and has counted its entries;
+    /// its marks are cleared.
     pub(crate) fn show(&mut self, seat: &mut Seat)
         requires { IsAt S.row_id seat.old }
         ensures book { self.new ≡ unmarked self.old seat.old.number }

@@ -10,8 +10,8 @@ use crate::site::Site;
 use fmp_base::Event;
 use fmp_journal::Seat;
 
-/// A book of whose journal each seat has counted its entries: who enters one is shown it before the lock is free. Its
-/// calls are those of the board.
+/// A book in whose journal each seat has counted its entries: a seat that enters one is shown it before the lock is
+/// free. Its calls are those of the board.
 #[derive(Drop)]
 pub(crate) struct Desk<'a, S: Site> {
     book: Book<'a, S>,

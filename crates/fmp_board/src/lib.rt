@@ -12,7 +12,7 @@ mod receipt;
 mod site;
 mod submitting;
 
-pub use blank::{Blank, kernel_of};
+pub use blank::Blank;
 pub use board::Board;
 pub use book::Book;
 pub use closed::Closed;

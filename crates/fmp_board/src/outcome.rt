@@ -1,4 +1,4 @@
-//! Stretches that are worked out outside the lock of a board.
+//! Stretches that are made outside the lock of a board.
 ghost use Rattle.std.specs.Prelude.{◌≡◌};
 ghost use Rattle.fmp_board.specs.Outcomes.{IsTicket, ending_of};
 
@@ -50,8 +50,8 @@ impl<'a> Ticket<'a> {
         }
     }
 
-    /// The stretch of the actor up to its next service call, its end or its fault. It needs no board, so others may go
-    /// on with theirs meanwhile.
+    /// The stretch of the actor up to its next service call, its end or its fault. It needs no board, so other
+    /// stretches may be made meanwhile.
     pub fn stretch(self) -> Outcome
         ensures ticket { result.ticket ≡ self.entry }
         ensures ending { result.ending ≡ ending_of self.entry }
@@ -74,7 +74,7 @@ impl<'a> Ticket<'a> {
 }
 
 /// How the stretch of a ticket's actor ended. Its type keeps that it is the stretch of just that actor's context, by
-/// the code of the image, of at most so many instructions.
+/// the code of the image, of at most n instructions.
 #[derive(Drop)]
 pub struct Outcome {
     image: Snapshot<Image>,

@@ -1,13 +1,13 @@
-//! What is answered to an event.
+//! The answer to an event.
 ghost use Rattle.std.specs.Prelude.{◌≡◌};
 ghost use Rattle.fmp_board.specs.Receipts.{call_reply as reply_of_call};
 
 use fmp_base::{Effect, Line, Reply};
 
-/// What is answered to an event.
+/// The answer to an event.
 #[derive(Clone, Copy, Debug, PartialEq, Eq)]
 pub struct Receipt {
-    /// The event's place in the journal, from 1, or 0 where it did nothing and is not journaled.
+    /// The event's place in the journal, from 1, or 0 if it did nothing and is not journaled.
     pub number: u32,
     /// Whether the event did something.
     pub effect: Effect,

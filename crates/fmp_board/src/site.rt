@@ -2,9 +2,8 @@
 use std::marker::Brand;
 
 /// Stands for one board, so that what lies under its lock is known by its type: the image that it runs, how many
-/// instructions a stretch of a body may take, and its row, with how many events it has room for, and how many seats.
-/// Whoever hosts a board writes a function generic over `S: Site`, and calls it, outside of any closure, with `Brand`
-/// of std.
+/// instructions a stretch of a body may take, and its row, with how many events it has room for, and how many seats. A
+/// host of a board writes a function generic over `S: Site`, and calls it, outside of any closure, with `Brand` of std.
 pub trait Site {
     ghost use Rattle.std.specs.Prelude.{ℕ};
     ghost use Rattle.fmp_image_bytes.specs.Images.{ImageTables};

@@ -6,7 +6,7 @@ ghost use Rattle.fmp_journal.specs.Words.{entry};
 ghost use Rattle.fmp_board.specs.Boards.{IsJournal};
 ghost use Rattle.fmp_board.specs.Outcomes.{AnsweredAfter, Drew, IsDrawn, IsTicketOf, IsWhyRefused, actor_after, stamp_after};
 ghost use Rattle.fmp_board.specs.Receipts.{journal_after, marks_after, receipt_of};
-ghost use Rattle.fmp_board.specs.Replays.{reaction};
+ghost use Rattle.fmp_replay.specs.Replays.{reaction};
 
 use crate::book::Book;
 use crate::fault::BoardFault;
@@ -14,13 +14,10 @@ use crate::outcome::{Outcome, Ticket};
 use crate::receipt::{Receipt, call_reply};
 use crate::site::Site;
 use fmp_base::{Effect, Event};
-use fmp_code::Vm;
-use fmp_instructions::MachineContext;
-use fmp_kernel::laws::stamps_count_events;
 
 impl<'a, S: Site> Book<'a, S> {
-    /// A ticket for the stretch that the actor of processor p makes next. None where there is no such processor, or it
-    /// has no actor.
+    /// A ticket for the stretch that the actor of processor p makes next. None if there is no such processor, or it has
+    /// no actor.
     pub fn ticket(&self, p: u8) -> Option<Ticket<'a>>
         ensures ticket { Drew S.image S.bound self.now.journal p result }
         ensures legal { IsJournal S.image S.bound S.row_id.capacity S.row_id.seats self.now.journal }
@@ -40,7 +37,6 @@ impl<'a, S: Site> Book<'a, S> {
             (stamp_after S.image S.bound self.now.journal outcome.now.ticket.processor
             ≢ outcome.now.ticket.actor.stamp) }
     {
-        stamps_count_events::<Vm<'_>, MachineContext>();
         match self.kernel.actor(outcome.processor()) {
             Some(actor) => actor.stamp == outcome.actor().stamp,
             None => false,
@@ -51,8 +47,8 @@ impl<'a, S: Site> Book<'a, S> {
     /// under the number of a seat if it does something. The outcome's ticket was drawn after a beginning of the
     /// journal.
     ///
-    /// `BoardFault::Stale`, exactly where the stamp of the processor is no more that of the ticket; else
-    /// `BoardFault::Full`, exactly where the journal has no room for one more event. Then nothing has changed.
+    /// `BoardFault::Stale`, exactly if the stamp of the processor is no longer that of the ticket; else
+    /// `BoardFault::Full`, exactly if the journal has no room for one more event. Then nothing has changed.
     pub fn enter_outcome(&mut self, seat: u8, outcome: Outcome) -> Result<Receipt, BoardFault>
         requires seat { seat < S.row_id.seats }
         requires drawn { IsDrawn S.image S.bound self.old.journal outcome.ticket }

@@ -1,10 +1,11 @@
 //! The calls for handlers (uITRON 4.0, sections 4.1 to 4.4 and 4.8).
-ghost use Rattle.std.specs.Prelude.{◌≡◌, ℕ, ◌<◌, ◌≤◌, [], vec_capacity};
+ghost use Rattle.std.specs.Prelude.{◌≡◌, ℕ, ◌<◌, vec_capacity};
 ghost use Rattle.fmp_base.specs.declared.states.TaskBlock.{TaskBlock};
 ghost use Rattle.fmp_base.specs.Calls.{case_of};
 ghost use Rattle.fmp_base.specs.Ranges.{IsInRange};
 ghost use Rattle.fmp_base.specs.Services.{service_of};
 ghost use Rattle.fmp_calls.specs.Groups.{group_of};
+ghost use Rattle.fmp_tasks.specs.Lines.{AreEmptyWithRoom};
 ghost use Rattle.fmp_tasks.specs.Tables.{outcome, SameShape};
 
 use crate::groups::ServiceGroup;
@@ -14,13 +15,12 @@ use fmp_objects::{set_flg, sig_sem};
 use fmp_objects_queues::{fsnd_dtq, psnd_dtq};
 use fmp_tasks::Tables;
 
-/// A call for handlers, on processor p, whoever makes it.
+/// A call for handlers, on processor p, for every caller.
 pub fn handler_call(tables: &mut Tables, lines: &mut Vec<Line>, p: u8, made: &Call) -> Answer
     requires group { group_of (service_of made.now) ≡ ServiceGroup.Handlers }
     requires processor { p < tables.old.system.processors }
     requires range { IsInRange tables.old.system }
-    requires empty { lines.old.items ≡ [] }
-    requires room { 255 ≤ vec_capacity lines.old }
+    requires lines { AreEmptyWithRoom 255 lines.old }
     ensures outcome { (me : ℕ) (x : TaskBlock)
         → outcome result tables.new lines.new.items ≡ case_of tables.old.system tables.old.state p me x made.now }
     ensures shape { SameShape tables.old tables.new }

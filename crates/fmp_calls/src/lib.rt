@@ -2,7 +2,7 @@
 //! standard profile and of the FMP kernel that this kernel has is one, from tasks and from handlers.
 #![tactic(auto)]
 
-ghost use Rattle.std.specs.Prelude.{◌≡◌, ◌<◌, ◌≤◌, [], length, vec_capacity, false};
+ghost use Rattle.std.specs.Prelude.{◌≡◌, ◌<◌, [], length, vec_capacity, false};
 ghost use Rattle.fmp_base.specs.declared.states.Handler.{Handler};
 ghost use Rattle.fmp_base.specs.Calls.{called, case_by, case_of};
 ghost use Rattle.fmp_base.specs.Permissions.{permission, is_barred as barred};
@@ -11,6 +11,7 @@ ghost use Rattle.fmp_base.specs.Services.{service_of};
 ghost use Rattle.fmp_base.specs.States.{processor_at, task_at};
 ghost use Rattle.fmp_calls.specs.Groups.{IsForHandlers, group_of};
 ghost use Rattle.fmp_tasks.specs.Callers.{IsTaskOf};
+ghost use Rattle.fmp_tasks.specs.Lines.{AreEmptyWithRoom};
 ghost use Rattle.fmp_tasks.specs.Tables.{outcome, SameShape};
 
 use crate::context::is_barred;
@@ -43,8 +44,7 @@ fn case_of_task(tables: &mut Tables, lines: &mut Vec<Line>, p: u8, me: u8, made:
     requires caller { me < length tables.old.system.tasks }
     requires processor { p < tables.old.system.processors }
     requires range { IsInRange tables.old.system }
-    requires empty { lines.old.items ≡ [] }
-    requires room { 255 ≤ vec_capacity lines.old }
+    requires lines { AreEmptyWithRoom 255 lines.old }
     ensures outcome { outcome result tables.new lines.new.items
         ≡ case_of tables.old.system tables.old.state p me (task_at tables.old.state.tasks me) made.now }
     ensures shape { SameShape tables.old tables.new }
@@ -66,8 +66,7 @@ fn case_of_handler(tables: &mut Tables, lines: &mut Vec<Line>, p: u8, made: &Cal
     requires group { IsForHandlers (group_of (service_of made.now)) }
     requires processor { p < tables.old.system.processors }
     requires range { IsInRange tables.old.system }
-    requires empty { lines.old.items ≡ [] }
-    requires room { 255 ≤ vec_capacity lines.old }
+    requires lines { AreEmptyWithRoom 255 lines.old }
     ensures outcome { outcome result tables.new lines.new.items
         ≡ case_of tables.old.system tables.old.state p 0 (task_at [] 0) made.now }
     ensures shape { SameShape tables.old tables.new }
@@ -94,8 +93,7 @@ fn permitted_call(
     requires caller { IsTaskOf tables.old.system who }
     requires processor { p < tables.old.system.processors }
     requires range { IsInRange tables.old.system }
-    requires empty { lines.old.items ≡ [] }
-    requires room { 255 ≤ vec_capacity lines.old }
+    requires lines { AreEmptyWithRoom 255 lines.old }
     ensures outcome { outcome result tables.new lines.new.items
         ≡ case_by tables.old.system tables.old.state p who made.now }
     ensures shape { SameShape tables.old tables.new }
@@ -107,13 +105,12 @@ fn permitted_call(
     }
 }
 
-/// What a call of this caller on processor p comes to. The lines of what it causes are added to those that are given.
+/// Carries out a call of this caller on processor p. The lines of its effects are added to those that are given.
 pub fn call(tables: &mut Tables, lines: &mut Vec<Line>, p: u8, who: Caller, made: &Call) -> Answer
     requires caller { IsTaskOf tables.old.system who }
     requires processor { p < tables.old.system.processors }
     requires range { IsInRange tables.old.system }
-    requires empty { lines.old.items ≡ [] }
-    requires room { 255 ≤ vec_capacity lines.old }
+    requires lines { AreEmptyWithRoom 255 lines.old }
     ensures outcome { outcome result tables.new lines.new.items
         ≡ called tables.old.system tables.old.state p who made.now }
     ensures shape { SameShape tables.old tables.new }

@@ -1,9 +1,10 @@
 //! The calls that manage tasks (uITRON 4.0, sections 4.1 and 4.8; FMP kernel, task management).
-ghost use Rattle.std.specs.Prelude.{◌≡◌, ◌<◌, ◌≤◌, [], length, vec_capacity};
+ghost use Rattle.std.specs.Prelude.{◌≡◌, ◌<◌, ◌≤◌, length, vec_capacity};
 ghost use Rattle.fmp_base.specs.Calls.{case_of};
 ghost use Rattle.fmp_base.specs.Services.{service_of};
 ghost use Rattle.fmp_base.specs.States.{task_at};
 ghost use Rattle.fmp_calls.specs.Groups.{group_of};
+ghost use Rattle.fmp_tasks.specs.Lines.{AreEmptyWithRoom};
 ghost use Rattle.fmp_tasks.specs.Tables.{outcome, SameShape};
 
 use crate::groups::ServiceGroup;
@@ -25,8 +26,7 @@ pub fn management_call(
     requires caller { me < length tables.old.system.tasks }
     requires few { length tables.old.system.tasks ≤ 255 }
     requires processor { p < tables.old.system.processors }
-    requires empty { lines.old.items ≡ [] }
-    requires room { 1 ≤ vec_capacity lines.old }
+    requires lines { AreEmptyWithRoom 1 lines.old }
     ensures outcome { outcome result tables.new lines.new.items
         ≡ case_of tables.old.system tables.old.state p me (task_at tables.old.state.tasks me) made.now }
     ensures shape { SameShape tables.old tables.new }

@@ -1,9 +1,10 @@
 //! The calls on semaphores and eventflags (uITRON 4.0, section 4.4).
-ghost use Rattle.std.specs.Prelude.{◌≡◌, ℕ, ◌<◌, ◌≤◌, [], length, vec_capacity};
+ghost use Rattle.std.specs.Prelude.{◌≡◌, ℕ, ◌<◌, ◌≤◌, length, vec_capacity};
 ghost use Rattle.fmp_base.specs.Calls.{case_of};
 ghost use Rattle.fmp_base.specs.Services.{service_of};
 ghost use Rattle.fmp_base.specs.States.{task_at};
 ghost use Rattle.fmp_calls.specs.Groups.{group_of};
+ghost use Rattle.fmp_tasks.specs.Lines.{AreEmptyWithRoom};
 ghost use Rattle.fmp_tasks.specs.Tables.{outcome, SameShape};
 
 use crate::groups::ServiceGroup;
@@ -15,8 +16,7 @@ use fmp_tasks::Tables;
 pub fn object_call(tables: &mut Tables, lines: &mut Vec<Line>, me: u8, made: &Call) -> Answer
     requires group { group_of (service_of made.now) ≡ ServiceGroup.Objects }
     requires caller { me < length tables.old.system.tasks }
-    requires empty { lines.old.items ≡ [] }
-    requires room { 1 ≤ vec_capacity lines.old }
+    requires lines { AreEmptyWithRoom 1 lines.old }
     requires room_for_all { length tables.old.system.tasks ≤ vec_capacity lines.old }
     ensures outcome { (p : ℕ)
         → outcome result tables.new lines.new.items

@@ -14,7 +14,7 @@ use fmp_base::{Answer, Call, Er};
 use fmp_tasks::Tables;
 use fmp_tasks::answers::replied;
 
-/// `sta_cyc`: a cyclic handler is due anew, one period and a tick from now. E_ID where the number names none; nothing
+/// `sta_cyc`: a cyclic handler is due anew, one period and a tick from now. E_ID if the number names none; nothing
 /// changes then.
 fn sta_cyc(tables: &mut Tables, cyclic: i32) -> Answer
     ensures outcome { outcome result tables.new [] ≡ calls.sta_cyc tables.old.system tables.old.state cyclic }
@@ -28,7 +28,7 @@ fn sta_cyc(tables: &mut Tables, cyclic: i32) -> Answer
     replied(Er::Ok)
 }
 
-/// `stp_cyc`: a cyclic handler is due no more; if it is pending it stays so. E_ID where the number names none; nothing
+/// `stp_cyc`: a cyclic handler is no longer due; if it is pending it stays so. E_ID if the number names none; nothing
 /// changes then.
 fn stp_cyc(tables: &mut Tables, cyclic: i32) -> Answer
     ensures outcome { outcome result tables.new [] ≡ calls.stp_cyc tables.old.state cyclic }

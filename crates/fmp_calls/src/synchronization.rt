@@ -1,9 +1,10 @@
 //! The calls for sleep, wakeup, suspension and delay of tasks (uITRON 4.0, section 4.2).
-ghost use Rattle.std.specs.Prelude.{◌≡◌, ℕ, ◌<◌, ◌≤◌, [], length, vec_capacity};
+ghost use Rattle.std.specs.Prelude.{◌≡◌, ℕ, ◌<◌, length, vec_capacity};
 ghost use Rattle.fmp_base.specs.Calls.{case_of};
 ghost use Rattle.fmp_base.specs.Services.{service_of};
 ghost use Rattle.fmp_base.specs.States.{task_at};
 ghost use Rattle.fmp_calls.specs.Groups.{group_of};
+ghost use Rattle.fmp_tasks.specs.Lines.{AreEmptyWithRoom};
 ghost use Rattle.fmp_tasks.specs.Tables.{outcome, SameShape};
 
 use crate::groups::ServiceGroup;
@@ -20,8 +21,7 @@ pub fn synchronization_call(
 ) -> Answer
     requires group { group_of (service_of made.now) ≡ ServiceGroup.Synchronization }
     requires caller { me < length tables.old.system.tasks }
-    requires empty { lines.old.items ≡ [] }
-    requires room { 1 ≤ vec_capacity lines.old }
+    requires lines { AreEmptyWithRoom 1 lines.old }
     ensures outcome { (p : ℕ)
         → outcome result tables.new lines.new.items
         ≡ case_of tables.old.system tables.old.state p me (task_at tables.old.state.tasks me) made.now }

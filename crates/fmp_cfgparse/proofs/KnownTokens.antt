@@ -15,7 +15,8 @@ use Rattle.fmp_lex.specs.declared.cutting.Start.{Start}
 use Rattle.fmp_lex.specs.declared.cutting.Start.TheVariants as start
 use Rattle.fmp_lex.specs.Cutting.{Piece}
 use Rattle.fmp_lex.specs.Cutting.{Skip, Whole, Fault}
-use Rattle.fmp_lex.specs.Scanning.{is_space, is_letter, is_digit, is_word, in_class, value_from, IsRun, greatest}
+use Rattle.fmp_base.specs.Words.{is_letter, is_digit, is_word}
+use Rattle.fmp_lex.specs.Scanning.{is_space, in_class, value_from, IsRun, greatest}
 use Rattle.fmp_lex.specs.Cutting.{long_symbol, short_symbol, is_followed, number_piece, hex_piece, word_kind, word_or_name, long_piece, start_of, IsPieceOf, IsPiece, Cuts, ended, skipped, token, faulty}
 use Rattle.fmp_lex.specs.Laws.{IsWord}
 use Rattle.fmp_lex.specs.Reading.{kinds_of}

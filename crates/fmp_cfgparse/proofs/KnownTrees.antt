@@ -8,12 +8,12 @@ use Rattle.fmp_base.specs.declared.codes.Er.TheVariants as er
 use Rattle.fmp_base.specs.declared.names.Name.{Name}
 use Rattle.fmp_lex.specs.declared.token.TokenKind.{TokenKind}
 use Rattle.fmp_lex.specs.declared.token.TokenKind.TheVariants as kind
-use Rattle.fmp_lex.specs.declared.words.Api.{Api}
-use Rattle.fmp_lex.specs.declared.words.Api.TheVariants as api
-use Rattle.fmp_lex.specs.declared.words.Constant.{Constant}
-use Rattle.fmp_lex.specs.declared.words.Constant.TheVariants as constant
+use Rattle.fmp_base.specs.declared.words.Api.{Api}
+use Rattle.fmp_base.specs.declared.words.Api.TheVariants as api
+use Rattle.fmp_base.specs.declared.words.Constant.{Constant}
+use Rattle.fmp_base.specs.declared.words.Constant.TheVariants as constant
 use Rattle.fmp_lex.specs.Reading.{Star, IsWhole}
-use Rattle.fmp_lex.specs.Words.{constant_value}
+use Rattle.fmp_base.specs.Words.{constant_value}
 use Rattle.fmp_lex.specs.Forms.{put}
 use Rattle.fmp_lex.specs.declared.marks.Mark.{Mark}
 use Rattle.fmp_lex.specs.declared.marks.Mark.TheVariants as mark

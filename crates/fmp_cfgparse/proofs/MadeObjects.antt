@@ -6,8 +6,8 @@ use Rattle.std.specs.List.Sorted.{IsPermutation}
 use Rattle.fmp_base.specs.declared.names.Name.{Name}
 use Rattle.fmp_base.specs.Ranges.{IsInRange, TaskInRange, SemaphoreInRange, FlagInRange, DataQueueInRange, MailboxInRange, MessageInRange, CyclicInRange, InterruptInRange}
 use Rattle.fmp_base.specs.Systems.{SystemTables}
-use Rattle.fmp_lex.specs.declared.words.Api.{Api}
-use Rattle.fmp_lex.specs.declared.words.Api.TheVariants as api
+use Rattle.fmp_base.specs.declared.words.Api.{Api}
+use Rattle.fmp_base.specs.declared.words.Api.TheVariants as api
 use Rattle.fmp_cfgparse.specs.declared.places.ClassPlace.{ClassPlace}
 use Rattle.fmp_cfgparse.specs.Apis.{count_of, gives_name, parameters_fit, is_taken, with_object, with_name}
 use Rattle.fmp_cfgparse.specs.Tables.{TaskConfigured, SharedWordConfigured, CyclicConfigured, InterruptConfigured, object_names, interrupt_number, task_name, semaphore_name, flag_name, data_queue_name, mailbox_name, message_name, shared_word_name, spin_lock_name, cyclic_name}

@@ -6,13 +6,9 @@ use Rattle.std.specs.List.{list_any}
 use Rattle.indexmap.specs.IndexSet.{insert_key}
 use Rattle.fmp_base.specs.declared.names.Name.{Name}
 use Rattle.fmp_base.specs.Names.{name_text}
-use Rattle.fmp_cfgparse.specs.declared.used_names.ObjectName.{ObjectName}
+use Rattle.fmp_lex.specs.declared.object_name.ObjectName.{ObjectName}
+use Rattle.fmp_lex.specs.ObjectNames.{name_of, same_bytes}
 use Rattle.fmp_cfgparse.specs.Apis.{is_used}
-use Rattle.fmp_cfgparse.specs.UsedNames.{name_of}
-
--- two keys are equal
-abbrev pub same_bytes : ObjectName → ObjectName → Bool
-same_bytes a b = bytes_eq (name_text a.name) (name_text b.name)
 
 pub used_any : (name : Name) (keys : List ObjectName) →
     is_used (map name_of keys) name ≡ list_any (λ k. bytes_eq (name_text name) (name_text k.name)) keys

@@ -11,7 +11,7 @@ use Rattle.fmp_base.specs.declared.codes.Er.TheVariants as er
 use Rattle.fmp_base.specs.declared.names.Name.{Name}
 use Rattle.fmp_lex.specs.declared.fault.FaultKind.{FaultKind}
 use Rattle.fmp_lex.specs.declared.fault.FaultKind.TheVariants as fault
-use Rattle.fmp_lex.specs.declared.words.Api.{Api}
+use Rattle.fmp_base.specs.declared.words.Api.{Api}
 use Rattle.fmp_cfgparse.specs.declared.places.ClassPlace.{ClassPlace}
 use Rattle.fmp_cfgparse.specs.Apis.{Making, class_of, class_name, only_name, is_used, count_of, gives_name, attribute_fits, parameters_fit, is_taken, refusal, api_fault, with_object, with_name, made}
 use Rattle.fmp_cfgparse.specs.Configuring.{Offence, unless, walk_apis, walk_class, and_then, walk_classes, nothing_made, configured}
@@ -22,7 +22,8 @@ use Rattle.fmp_cfgparse.proofs.KnownTrees.{IsKnownField, IsKnownApi, IsKnownClas
 use Rattle.fmp_cfgparse.proofs.MadeObjects.{ranges_more, processors_stay, queue_limit_stays, tasks_more, shared_words_more, cyclics_more, interrupts_more, numbers_more, names_more}
 use Rattle.fmp_cfgparse.proofs.OneMore.{held_lies, all_more, name_more, listed_named, listed_distinct}
 
--- what has been made keeps the rules of a configuration, where there are so many processors; the names are those of the tables
+-- what has been made keeps the rules of a configuration, given the number of processors; the names are those of the
+-- tables
 record IsMaking (processors : ℕ) (g : Making) : Type 0 where
   count : g.tables.processors ≡ processors
   ranges : IsInRange g.tables

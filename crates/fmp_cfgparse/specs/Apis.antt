@@ -4,17 +4,15 @@ use Rattle.std.specs.Prelude.{ℕ, ◌+◌, ◌-◌, ◌%◌, ◌/◌, ℤ, List
 use Rattle.std.specs.Str.{bytes_eq}
 use Rattle.fmp_base.specs.declared.codes.Er.TheVariants as er
 use Rattle.fmp_base.specs.declared.names.Name.{Name}
-use Rattle.fmp_base.specs.declared.systems.Entry.TheVariants as entry
 use Rattle.fmp_base.specs.declared.systems.InterruptConfig.{InterruptConfig}
-use Rattle.fmp_base.specs.declared.systems.QueueOrder.{QueueOrder}
-use Rattle.fmp_base.specs.declared.systems.QueueOrder.TheVariants.{Fifo, Priority}
 use Rattle.fmp_base.specs.Names.{name_text}
 use Rattle.fmp_base.specs.Systems.{SystemTables}
-use Rattle.fmp_lex.specs.declared.words.Api.{Api}
-use Rattle.fmp_lex.specs.declared.words.Api.TheVariants as api
+use Rattle.fmp_base.specs.declared.words.Api.{Api}
+use Rattle.fmp_base.specs.declared.words.Api.TheVariants as api
 use Rattle.fmp_cfgparse.specs.declared.places.ClassPlace.{ClassPlace}
 use Rattle.fmp_lex.specs.declared.fault.FaultKind.{FaultKind}
 use Rattle.fmp_lex.specs.declared.fault.FaultKind.TheVariants as fault
+use Rattle.fmp_cfgparse.specs.Objects.{task, semaphore, flag, data_queue, mailbox, message, shared_word, spin_lock, cyclic, interrupt}
 use Rattle.fmp_cfgparse.specs.Trees.{FieldTree, ApiTree}
 use Rattle.fmp_cfgparse.specs.Values.{number_at, name_at, all_known, between, held}
 
@@ -25,7 +23,7 @@ class_name digit = codes "TCL_" ++ digit ∷ []
 abbrev pub only_name : ℕ → List ℕ
 only_name digit = codes "TCL_" ++ digit ∷ codes "_ONLY"
 
--- The class of a name, where there are so many processors. The digit 1 is the code 49.
+-- The class of a name, given the number of processors. The digit 1 is the code 49.
 abbrev pub class_of : ℕ → List ℕ → Option ClassPlace
 class_of processors text =
     if nat_le 49 (slice_index text 4) && nat_le (slice_index text 4) (48 + processors)
@@ -113,90 +111,18 @@ api_fault a g =
     else (if gives_name a.kind && is_used g.names (name_at a.fields 0) then Some fault.TwiceNamed
     else (if not (all_known a.fields) then Some fault.UnknownName else refusal a.kind a.fields g.tables))
 
--- an attribute has this bit
-abbrev pub has_bit : ℕ → ℤ → Bool
-has_bit bit a = nat_eq ((held 255 a / bit) % 2) 1
-
-abbrev pub order_by : Bool → QueueOrder
-order_by true = Priority
-order_by false = Fifo
-
 -- the tables with the object that an API of a class makes
 abbrev pub with_object : ClassPlace → Api → List FieldTree → SystemTables → SystemTables
-with_object c api.CreTsk f t =
-    record t {
-      tasks = t.tasks ++ record {
-        name = name_at f 0;
-        activated = has_bit 2 (number_at f 1);
-        exinf = number_at f 2;
-        entry = entry.Named (name_at f 3);
-        priority = held 255 (number_at f 4);
-        stack = held 4294967295 (number_at f 5);
-        processor = c.processor;
-        only = c.only;
-      } ∷ [];
-    }
-with_object c api.CreSem f t =
-    record t {
-      semaphores = t.semaphores ++ record {
-        name = name_at f 0;
-        order = order_by (has_bit 1 (number_at f 1));
-        initial = held 65535 (number_at f 2);
-        most = held 65535 (number_at f 3);
-      } ∷ [];
-    }
-with_object c api.CreFlg f t =
-    record t {
-      flags = t.flags ++ record {
-        name = name_at f 0;
-        order = order_by (has_bit 1 (number_at f 1));
-        multiple = has_bit 2 (number_at f 1);
-        clears = has_bit 4 (number_at f 1);
-        initial = held 65535 (number_at f 2);
-      } ∷ [];
-    }
-with_object c api.CreDtq f t =
-    record t {
-      data_queues = t.data_queues ++ record {
-        name = name_at f 0;
-        order = order_by (has_bit 1 (number_at f 1));
-        capacity = held 255 (number_at f 2);
-      } ∷ [];
-    }
-with_object c api.CreMbx f t =
-    record t {
-      mailboxes = t.mailboxes ++ record {
-        name = name_at f 0;
-        order = order_by (has_bit 1 (number_at f 1));
-        message_order = order_by (has_bit 2 (number_at f 1));
-        most = held 255 (number_at f 2);
-      } ∷ [];
-    }
-with_object c api.CreMsg f t =
-    record t { messages = t.messages ++ record { name = name_at f 0; priority = held 255 (number_at f 1) } ∷ [] }
-with_object c api.CreShr f t =
-    record t { shared_words = t.shared_words ++ record { name = name_at f 0; initial = number_at f 1 } ∷ [] }
-with_object c api.CreSpn f t = record t { spin_locks = t.spin_locks ++ record { name = name_at f 0 } ∷ [] }
-with_object c api.CreCyc f t =
-    record t {
-      cyclics = t.cyclics ++ record {
-        name = name_at f 0;
-        started = has_bit 2 (number_at f 1);
-        exinf = number_at f 2;
-        entry = entry.Named (name_at f 3);
-        period = held 4294967295 (number_at f 4);
-        phase = held 4294967295 (number_at f 5);
-        processor = c.processor;
-      } ∷ [];
-    }
-with_object c api.DefInh f t =
-    record t {
-      interrupts = t.interrupts ++ record {
-        number = held 255 (number_at f 0);
-        entry = entry.Named (name_at f 2);
-        processor = c.processor;
-      } ∷ [];
-    }
+with_object c api.CreTsk f t = record t { tasks = t.tasks ++ task c f ∷ [] }
+with_object c api.CreSem f t = record t { semaphores = t.semaphores ++ semaphore f ∷ [] }
+with_object c api.CreFlg f t = record t { flags = t.flags ++ flag f ∷ [] }
+with_object c api.CreDtq f t = record t { data_queues = t.data_queues ++ data_queue f ∷ [] }
+with_object c api.CreMbx f t = record t { mailboxes = t.mailboxes ++ mailbox f ∷ [] }
+with_object c api.CreMsg f t = record t { messages = t.messages ++ message f ∷ [] }
+with_object c api.CreShr f t = record t { shared_words = t.shared_words ++ shared_word f ∷ [] }
+with_object c api.CreSpn f t = record t { spin_locks = t.spin_locks ++ spin_lock f ∷ [] }
+with_object c api.CreCyc f t = record t { cyclics = t.cyclics ++ cyclic c f ∷ [] }
+with_object c api.DefInh f t = record t { interrupts = t.interrupts ++ interrupt c f ∷ [] }
 
 -- the names with that of the object, if the API gives one
 abbrev pub with_name : Bool → Name → List Name → List Name

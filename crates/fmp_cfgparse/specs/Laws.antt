@@ -14,7 +14,7 @@ use Rattle.fmp_cfgparse.specs.Trees.{ConfigurationTree}
 abbrev pub SpellsOneTree : Type 0
 SpellsOneTree = (ts : List TokenKind) (a b : ConfigurationTree) → IsWhole Config ts a → IsWhole Config ts b → b ≡ a
 
--- a text describes one system at most, or has one first fault at most, and never both
+-- a text describes at most one system, or has at most one first fault, and never both
 pub record HasOneAnswer (text : List ℕ) : Type 0 where
   pub one_system : (a b : System) → Describes text a → Describes text b → tables_of a ≡ tables_of b
   pub one_fault : (f g : BuildFault) → IsFault text f → IsFault text g → f ≡ g

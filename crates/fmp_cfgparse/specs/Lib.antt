@@ -5,6 +5,7 @@ pub mod Configuring
 pub mod Grammar
 pub mod Laws
 pub mod Making
+pub mod Objects
 pub mod Parsing
 pub mod Reading
 pub mod Tables

@@ -1,10 +1,10 @@
--- When what the readers of the configuration answer is right.
+-- When the answers of the readers of the configuration are right.
 use Rattle.std.specs.Prelude.{◌≡◌, ℕ, ℤ, List, Option, Some, None, slice_get, option_and_then, Result, Ok, Err}
 use Rattle.fmp_base.specs.declared.names.Name.{Name}
 use Rattle.fmp_lex.specs.declared.token.Symbol.TheVariants as symbol
 use Rattle.fmp_lex.specs.declared.token.TokenKind.{TokenKind}
 use Rattle.fmp_lex.specs.declared.token.TokenKind.TheVariants as kind
-use Rattle.fmp_lex.specs.declared.words.Keyword.TheVariants as keyword
+use Rattle.fmp_base.specs.declared.words.Keyword.TheVariants as keyword
 use Rattle.fmp_lex.specs.declared.reading.ReadError.{ReadError}
 use Rattle.fmp_lex.specs.declared.reading.ReadError.TheVariants as errors
 use Rattle.fmp_lex.specs.Reading.{At, Item, Outcome, Right, Anywhere, IsWhole, IsFirstFault, Star}

@@ -20,7 +20,7 @@ use Rattle.fmp_base.specs.Names.{name_text, name_from}
 use Rattle.fmp_base.specs.Ranges.{IsInRange}
 use Rattle.fmp_base.specs.Systems.{SystemTables}
 use Rattle.fmp_lex.specs.Cutting.{word_kind}
-use Rattle.fmp_lex.specs.Scanning.{is_letter, is_word}
+use Rattle.fmp_base.specs.Words.{is_letter, is_word}
 
 -- a letter or `_`, then letters, digits and `_`
 abbrev pub is_identifier : List ℕ → Bool

@@ -3,7 +3,7 @@ use Rattle.std.specs.Prelude.{ℕ, ℤ, List, map, Option, Some, None}
 use Rattle.std.specs.declared.vec.Vec.{Vec}
 use Rattle.std.specs.declared.alloc.Global.{Global}
 use Rattle.fmp_base.specs.declared.names.Name.{Name}
-use Rattle.fmp_lex.specs.declared.words.Api.{Api}
+use Rattle.fmp_base.specs.declared.words.Api.{Api}
 use Rattle.fmp_cfgparse.specs.declared.tree.Item.{Item}
 use Rattle.fmp_cfgparse.specs.declared.tree.Field.{Field}
 use Rattle.fmp_cfgparse.specs.declared.tree.Field.TheVariants as field

@@ -2,10 +2,9 @@
 use Rattle.std.specs.Prelude.{List, map}
 use Rattle.std.specs.HashSet.{HashSet}
 use Rattle.fmp_base.specs.declared.names.Name.{Name}
-use Rattle.fmp_cfgparse.specs.declared.used_names.ObjectName.{ObjectName}
+use Rattle.fmp_lex.specs.declared.object_name.ObjectName.{ObjectName}
+use Rattle.fmp_lex.specs.ObjectNames.{name_of}
 
-abbrev pub name_of : ObjectName → Name
-name_of key = key.name
-
+-- in order of text
 abbrev pub names_of : {S : Type 0} → HashSet ObjectName S → List Name
 names_of set = map name_of set.keys

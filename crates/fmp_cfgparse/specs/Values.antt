@@ -3,7 +3,7 @@ use Rattle.std.specs.Prelude.{ℕ, ℤ, pos, negsuc, List, [], ◌∷◌, slice_
 use Rattle.std.specs.Int.{w32, int_bit_or, int_wrapping_neg}
 use Rattle.fmp_base.specs.declared.names.Name.{Name}
 use Rattle.fmp_base.specs.Systems.{no_name}
-use Rattle.fmp_lex.specs.Words.{constant_value}
+use Rattle.fmp_base.specs.Words.{constant_value}
 use Rattle.fmp_cfgparse.specs.declared.tree.Item.{Item}
 use Rattle.fmp_cfgparse.specs.declared.tree.Item.TheVariants as item
 use Rattle.fmp_cfgparse.specs.Trees.{FieldTree, value, name}
@@ -47,7 +47,7 @@ abbrev pub or_zero : Option ℤ → ℤ
 or_zero (Some x) = x
 or_zero None = pos 0
 
--- the number of a field; 0 where it has none
+-- the number of a field; 0 if it has none
 abbrev pub field_number : Option FieldTree → ℤ
 field_number (Some (value items)) = or_zero (number_of items)
 field_number (Some (name n)) = pos 0

@@ -65,7 +65,7 @@ fn start(alloc: Global, processors: u8) -> Making
 }
 
 /// What the static APIs of a configuration make, carried out in order of text, or the first fault with the place of its
-/// token. `Memory` where an allocation is refused.
+/// token. `Memory` if an allocation is refused.
 pub fn configure(alloc: Global, tree: &Configuration) -> Result<Making, Stop>
     ensures { IsConfigured (configured (configuration_view tree.now)) result }
 {

@@ -2,6 +2,7 @@
 ghost use Rattle.std.specs.Prelude.{◌≡◌};
 ghost use Rattle.fmp_cfgparse.specs.Grammar.{api_parts};
 
+use Part::{Name, Value};
 use fmp_lex::{Api, Mark};
 
 /// A part of the form of a static API.
@@ -12,126 +13,46 @@ pub enum Part {
     Value,
 }
 
+const OPEN: Part = Part::Mark(Mark::LeftParen);
+
+const CLOSE: Part = Part::Mark(Mark::RightParen);
+
+const BEGIN: Part = Part::Mark(Mark::LeftBrace);
+
+const END: Part = Part::Mark(Mark::RightBrace);
+
+const COMMA: Part = Part::Mark(Mark::Comma);
+
+const SEMICOLON: Part = Part::Mark(Mark::Semicolon);
+
+const NULL: Part = Part::Mark(Mark::Null);
+
 const TASK_PARTS: [Part; 18] = [
-    Part::Mark(Mark::LeftParen),
-    Part::Name,
-    Part::Mark(Mark::Comma),
-    Part::Mark(Mark::LeftBrace),
-    Part::Value,
-    Part::Mark(Mark::Comma),
-    Part::Value,
-    Part::Mark(Mark::Comma),
-    Part::Name,
-    Part::Mark(Mark::Comma),
-    Part::Value,
-    Part::Mark(Mark::Comma),
-    Part::Value,
-    Part::Mark(Mark::Comma),
-    Part::Mark(Mark::Null),
-    Part::Mark(Mark::RightBrace),
-    Part::Mark(Mark::RightParen),
-    Part::Mark(Mark::Semicolon),
+    OPEN, Name, COMMA, BEGIN, Value, COMMA, Value, COMMA, Name, COMMA, Value, COMMA, Value, COMMA,
+    NULL, END, CLOSE, SEMICOLON,
 ];
 
 const SEMAPHORE_PARTS: [Part; 12] = [
-    Part::Mark(Mark::LeftParen),
-    Part::Name,
-    Part::Mark(Mark::Comma),
-    Part::Mark(Mark::LeftBrace),
-    Part::Value,
-    Part::Mark(Mark::Comma),
-    Part::Value,
-    Part::Mark(Mark::Comma),
-    Part::Value,
-    Part::Mark(Mark::RightBrace),
-    Part::Mark(Mark::RightParen),
-    Part::Mark(Mark::Semicolon),
+    OPEN, Name, COMMA, BEGIN, Value, COMMA, Value, COMMA, Value, END, CLOSE, SEMICOLON,
 ];
 
 const FLAG_PARTS: [Part; 10] = [
-    Part::Mark(Mark::LeftParen),
-    Part::Name,
-    Part::Mark(Mark::Comma),
-    Part::Mark(Mark::LeftBrace),
-    Part::Value,
-    Part::Mark(Mark::Comma),
-    Part::Value,
-    Part::Mark(Mark::RightBrace),
-    Part::Mark(Mark::RightParen),
-    Part::Mark(Mark::Semicolon),
+    OPEN, Name, COMMA, BEGIN, Value, COMMA, Value, END, CLOSE, SEMICOLON,
 ];
 
-const DATA_QUEUE_PARTS: [Part; 12] = [
-    Part::Mark(Mark::LeftParen),
-    Part::Name,
-    Part::Mark(Mark::Comma),
-    Part::Mark(Mark::LeftBrace),
-    Part::Value,
-    Part::Mark(Mark::Comma),
-    Part::Value,
-    Part::Mark(Mark::Comma),
-    Part::Mark(Mark::Null),
-    Part::Mark(Mark::RightBrace),
-    Part::Mark(Mark::RightParen),
-    Part::Mark(Mark::Semicolon),
+const QUEUE_PARTS: [Part; 12] = [
+    OPEN, Name, COMMA, BEGIN, Value, COMMA, Value, COMMA, NULL, END, CLOSE, SEMICOLON,
 ];
 
-const MAILBOX_PARTS: [Part; 12] = [
-    Part::Mark(Mark::LeftParen),
-    Part::Name,
-    Part::Mark(Mark::Comma),
-    Part::Mark(Mark::LeftBrace),
-    Part::Value,
-    Part::Mark(Mark::Comma),
-    Part::Value,
-    Part::Mark(Mark::Comma),
-    Part::Mark(Mark::Null),
-    Part::Mark(Mark::RightBrace),
-    Part::Mark(Mark::RightParen),
-    Part::Mark(Mark::Semicolon),
-];
-
-const MESSAGE_PARTS: [Part; 8] = [
-    Part::Mark(Mark::LeftParen),
-    Part::Name,
-    Part::Mark(Mark::Comma),
-    Part::Mark(Mark::LeftBrace),
-    Part::Value,
-    Part::Mark(Mark::RightBrace),
-    Part::Mark(Mark::RightParen),
-    Part::Mark(Mark::Semicolon),
-];
+const MESSAGE_PARTS: [Part; 8] = [OPEN, Name, COMMA, BEGIN, Value, END, CLOSE, SEMICOLON];
 
 const CYCLIC_PARTS: [Part; 16] = [
-    Part::Mark(Mark::LeftParen),
-    Part::Name,
-    Part::Mark(Mark::Comma),
-    Part::Mark(Mark::LeftBrace),
-    Part::Value,
-    Part::Mark(Mark::Comma),
-    Part::Value,
-    Part::Mark(Mark::Comma),
-    Part::Name,
-    Part::Mark(Mark::Comma),
-    Part::Value,
-    Part::Mark(Mark::Comma),
-    Part::Value,
-    Part::Mark(Mark::RightBrace),
-    Part::Mark(Mark::RightParen),
-    Part::Mark(Mark::Semicolon),
+    OPEN, Name, COMMA, BEGIN, Value, COMMA, Value, COMMA, Name, COMMA, Value, COMMA, Value, END,
+    CLOSE, SEMICOLON,
 ];
 
 const INTERRUPT_PARTS: [Part; 10] = [
-    Part::Mark(Mark::LeftParen),
-    Part::Value,
-    Part::Mark(Mark::Comma),
-    Part::Mark(Mark::LeftBrace),
-    Part::Value,
-    Part::Mark(Mark::Comma),
-    Part::Name,
-    Part::Mark(Mark::RightBrace),
-    Part::Mark(Mark::RightParen),
-    Part::Mark(Mark::Semicolon),
+    OPEN, Value, COMMA, BEGIN, Value, COMMA, Name, END, CLOSE, SEMICOLON,
 ];
 
 /// The form of a static API, behind its word.
@@ -142,8 +63,7 @@ pub(crate) fn parts_of(api: Api) -> &'static [Part]
         Api::CreTsk => &TASK_PARTS,
         Api::CreSem => &SEMAPHORE_PARTS,
         Api::CreFlg => &FLAG_PARTS,
-        Api::CreDtq => &DATA_QUEUE_PARTS,
-        Api::CreMbx => &MAILBOX_PARTS,
+        Api::CreDtq | Api::CreMbx => &QUEUE_PARTS,
         Api::CreMsg | Api::CreShr | Api::CreSpn => &MESSAGE_PARTS,
         Api::CreCyc => &CYCLIC_PARTS,
         Api::DefInh => &INTERRUPT_PARTS,

@@ -7,8 +7,8 @@ pub fn tokens_spell_one_tree()
     ensures { SpellsOneTree }
 {}
 
-/// A text describes at most one system or has at most one first fault, and never both: so what is read of it
-/// is read exactly where it is so.
+/// A text describes at most one system or has at most one first fault, and never both: so the answer of reading it is
+/// the only right one.
 pub fn a_text_has_one_answer()
     ensures { (text : List ℕ) → HasOneAnswer text }
 {}

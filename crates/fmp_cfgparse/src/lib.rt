@@ -16,10 +16,10 @@ mod used_names;
 mod values;
 
 pub use configuring::configure;
+pub use fmp_lex::ObjectName;
 pub use making::Making;
 pub use objects::Stop;
 pub use parsing::{Parsed, parse};
 pub use reading::{Configured, read_cfg, read_configuration};
 pub use tree::{Class, Configuration, Field, Item, StaticApi};
-pub use used_names::ObjectName;
 pub use values::{name_at, number_at, word_of};

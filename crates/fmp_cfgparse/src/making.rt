@@ -7,10 +7,10 @@ ghost use Rattle.fmp_cfgparse.specs.Making.{making_of};
 ghost use Rattle.fmp_cfgparse.specs.Trees.{field_view, api_view};
 
 use crate::tree::{Field, StaticApi};
-use crate::used_names::{ObjectName, is_used};
+use crate::used_names::is_used;
 use crate::values::{all_known, between, byte_of, half_of, name_at, number_at};
 use fmp_base::{Er, InterruptConfig, System};
-use fmp_lex::{Api, FaultKind};
+use fmp_lex::{Api, FaultKind, ObjectName};
 use indexmap::IndexSet;
 
 /// What has been made so far: the tables, and the names of all objects.

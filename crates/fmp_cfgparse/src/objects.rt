@@ -1,11 +1,9 @@
 //! Each static API makes its object.
-ghost use Rattle.std.specs.Prelude.{◌≡◌, ◌<◌, map, IfOk, IfErr};
+ghost use Rattle.std.specs.Prelude.{◌≡◌, ◌<◌, ◌++◌, ◌∷◌, [], map, IfOk, OnOk, IfErr};
 ghost use Rattle.fmp_base.specs.Systems.{tables_of};
-ghost use Rattle.fmp_cfgparse.specs.Apis as spec;
 ghost use Rattle.fmp_cfgparse.specs.Apis.{with_object};
+ghost use Rattle.fmp_cfgparse.specs.Objects as spec;
 ghost use Rattle.fmp_cfgparse.specs.Trees.{field_view};
-ghost use Rattle.fmp_lex.specs.declared.words.Api.TheVariants as api;
-ghost use Rattle.fmp_cfgparse.specs.declared.places.ClassPlace.{ClassPlace};
 ghost use Rattle.fmp_cfgparse.specs.declared.objects.Stop.TheVariants.{Memory};
 
 use crate::places::ClassPlace;
@@ -53,12 +51,10 @@ fn order_by(priority: bool) -> QueueOrder
     }
 }
 
-fn create_task(system: &mut System, class: ClassPlace, fields: &[Field]) -> Result<(), Stop>
-    ensures made { IfOk result (λ _. tables_of system.new
-        ≡ with_object class api.CreTsk (map field_view fields.now) (tables_of system.old)) }
-    ensures memory { IfErr result (λ e. e ≡ Memory) }
+fn task(class: ClassPlace, fields: &[Field]) -> TaskConfig
+    ensures { result ≡ spec.task class (map field_view fields.now) }
 {
-    system.tasks.push(TaskConfig {
+    TaskConfig {
         name: name_at(fields, 0),
         activated: has_bit(2, number_at(fields, 1)),
         exinf: number_at(fields, 2),
@@ -67,114 +63,83 @@ fn create_task(system: &mut System, class: ClassPlace, fields: &[Field]) -> Resu
         stack: word_of(number_at(fields, 5)),
         processor: class.processor,
         only: class.only,
-    })?;
-    Ok(())
+    }
 }
 
-fn create_semaphore(system: &mut System, fields: &[Field]) -> Result<(), Stop>
-    ensures made { (c : ClassPlace)
-        → IfOk result (λ _. tables_of system.new
-        ≡ with_object c api.CreSem (map field_view fields.now) (tables_of system.old)) }
-    ensures memory { IfErr result (λ e. e ≡ Memory) }
+fn semaphore(fields: &[Field]) -> SemaphoreConfig
+    ensures { result ≡ spec.semaphore (map field_view fields.now) }
 {
-    system.semaphores.push(SemaphoreConfig {
+    SemaphoreConfig {
         name: name_at(fields, 0),
         order: order_by(has_bit(1, number_at(fields, 1))),
         initial: half_of(number_at(fields, 2)),
         most: half_of(number_at(fields, 3)),
-    })?;
-    Ok(())
+    }
 }
 
-fn create_flag(system: &mut System, fields: &[Field]) -> Result<(), Stop>
-    ensures made { (c : ClassPlace)
-        → IfOk result (λ _. tables_of system.new
-        ≡ with_object c api.CreFlg (map field_view fields.now) (tables_of system.old)) }
-    ensures memory { IfErr result (λ e. e ≡ Memory) }
+fn flag(fields: &[Field]) -> FlagConfig
+    ensures { result ≡ spec.flag (map field_view fields.now) }
 {
-    system.flags.push(FlagConfig {
+    FlagConfig {
         name: name_at(fields, 0),
         order: order_by(has_bit(1, number_at(fields, 1))),
         multiple: has_bit(2, number_at(fields, 1)),
         clears: has_bit(4, number_at(fields, 1)),
         initial: half_of(number_at(fields, 2)),
-    })?;
-    Ok(())
+    }
 }
 
-fn create_data_queue(system: &mut System, fields: &[Field]) -> Result<(), Stop>
-    ensures made { (c : ClassPlace)
-        → IfOk result (λ _. tables_of system.new
-        ≡ with_object c api.CreDtq (map field_view fields.now) (tables_of system.old)) }
-    ensures memory { IfErr result (λ e. e ≡ Memory) }
+fn data_queue(fields: &[Field]) -> DataQueueConfig
+    ensures { result ≡ spec.data_queue (map field_view fields.now) }
 {
-    system.data_queues.push(DataQueueConfig {
+    DataQueueConfig {
         name: name_at(fields, 0),
         order: order_by(has_bit(1, number_at(fields, 1))),
         capacity: byte_of(number_at(fields, 2)),
-    })?;
-    Ok(())
+    }
 }
 
-fn create_mailbox(system: &mut System, fields: &[Field]) -> Result<(), Stop>
-    ensures made { (c : ClassPlace)
-        → IfOk result (λ _. tables_of system.new
-        ≡ with_object c api.CreMbx (map field_view fields.now) (tables_of system.old)) }
-    ensures memory { IfErr result (λ e. e ≡ Memory) }
+fn mailbox(fields: &[Field]) -> MailboxConfig
+    ensures { result ≡ spec.mailbox (map field_view fields.now) }
 {
-    system.mailboxes.push(MailboxConfig {
+    MailboxConfig {
         name: name_at(fields, 0),
         order: order_by(has_bit(1, number_at(fields, 1))),
         message_order: order_by(has_bit(2, number_at(fields, 1))),
         most: byte_of(number_at(fields, 2)),
-    })?;
-    Ok(())
+    }
 }
 
-fn create_message(system: &mut System, fields: &[Field]) -> Result<(), Stop>
-    ensures made { (c : ClassPlace)
-        → IfOk result (λ _. tables_of system.new
-        ≡ with_object c api.CreMsg (map field_view fields.now) (tables_of system.old)) }
-    ensures memory { IfErr result (λ e. e ≡ Memory) }
+fn message(fields: &[Field]) -> MessageConfig
+    ensures { result ≡ spec.message (map field_view fields.now) }
 {
-    system.messages.push(MessageConfig {
+    MessageConfig {
         name: name_at(fields, 0),
         priority: byte_of(number_at(fields, 1)),
-    })?;
-    Ok(())
+    }
 }
 
-fn create_shared_word(system: &mut System, fields: &[Field]) -> Result<(), Stop>
-    ensures made { (c : ClassPlace)
-        → IfOk result (λ _. tables_of system.new
-        ≡ with_object c api.CreShr (map field_view fields.now) (tables_of system.old)) }
-    ensures memory { IfErr result (λ e. e ≡ Memory) }
+fn shared_word(fields: &[Field]) -> SharedWordConfig
+    ensures { result ≡ spec.shared_word (map field_view fields.now) }
 {
-    system.shared_words.push(SharedWordConfig {
+    SharedWordConfig {
         name: name_at(fields, 0),
         initial: number_at(fields, 1),
-    })?;
-    Ok(())
+    }
 }
 
-fn create_spin_lock(system: &mut System, fields: &[Field]) -> Result<(), Stop>
-    ensures made { (c : ClassPlace)
-        → IfOk result (λ _. tables_of system.new
-        ≡ with_object c api.CreSpn (map field_view fields.now) (tables_of system.old)) }
-    ensures memory { IfErr result (λ e. e ≡ Memory) }
+fn spin_lock(fields: &[Field]) -> SpinLockConfig
+    ensures { result ≡ spec.spin_lock (map field_view fields.now) }
 {
-    system.spin_locks.push(SpinLockConfig {
+    SpinLockConfig {
         name: name_at(fields, 0),
-    })?;
-    Ok(())
+    }
 }
 
-fn create_cyclic(system: &mut System, class: ClassPlace, fields: &[Field]) -> Result<(), Stop>
-    ensures made { IfOk result (λ _. tables_of system.new
-        ≡ with_object class api.CreCyc (map field_view fields.now) (tables_of system.old)) }
-    ensures memory { IfErr result (λ e. e ≡ Memory) }
+fn cyclic(class: ClassPlace, fields: &[Field]) -> CyclicConfig
+    ensures { result ≡ spec.cyclic class (map field_view fields.now) }
 {
-    system.cyclics.push(CyclicConfig {
+    CyclicConfig {
         name: name_at(fields, 0),
         started: has_bit(2, number_at(fields, 1)),
         exinf: number_at(fields, 2),
@@ -182,20 +147,25 @@ fn create_cyclic(system: &mut System, class: ClassPlace, fields: &[Field]) -> Re
         period: word_of(number_at(fields, 4)),
         phase: word_of(number_at(fields, 5)),
         processor: class.processor,
-    })?;
-    Ok(())
+    }
 }
 
-fn create_interrupt(system: &mut System, class: ClassPlace, fields: &[Field]) -> Result<(), Stop>
-    ensures made { IfOk result (λ _. tables_of system.new
-        ≡ with_object class api.DefInh (map field_view fields.now) (tables_of system.old)) }
-    ensures memory { IfErr result (λ e. e ≡ Memory) }
+fn interrupt(class: ClassPlace, fields: &[Field]) -> InterruptConfig
+    ensures { result ≡ spec.interrupt class (map field_view fields.now) }
 {
-    system.interrupts.push(InterruptConfig {
+    InterruptConfig {
         number: byte_of(number_at(fields, 0)),
         entry: Entry::Named(name_at(fields, 2)),
         processor: class.processor,
-    })?;
+    }
+}
+
+/// Adds a row to a table.
+fn add<T: Drop>(rows: &mut Vec<T>, row: T) -> Result<(), Stop>
+    ensures added { OnOk result (rows.new.items ≡ rows.old.items ++ row ∷ []) }
+    ensures memory { IfErr result (λ e. e ≡ Memory) }
+{
+    rows.push(row)?;
     Ok(())
 }
 
@@ -211,15 +181,15 @@ pub(crate) fn create(
     ensures memory { IfErr result (λ e. e ≡ Memory) }
 {
     match api {
-        Api::CreTsk => create_task(system, class, fields),
-        Api::CreSem => create_semaphore(system, fields),
-        Api::CreFlg => create_flag(system, fields),
-        Api::CreDtq => create_data_queue(system, fields),
-        Api::CreMbx => create_mailbox(system, fields),
-        Api::CreMsg => create_message(system, fields),
-        Api::CreShr => create_shared_word(system, fields),
-        Api::CreSpn => create_spin_lock(system, fields),
-        Api::CreCyc => create_cyclic(system, class, fields),
-        Api::DefInh => create_interrupt(system, class, fields),
+        Api::CreTsk => add(&mut system.tasks, task(class, fields)),
+        Api::CreSem => add(&mut system.semaphores, semaphore(fields)),
+        Api::CreFlg => add(&mut system.flags, flag(fields)),
+        Api::CreDtq => add(&mut system.data_queues, data_queue(fields)),
+        Api::CreMbx => add(&mut system.mailboxes, mailbox(fields)),
+        Api::CreMsg => add(&mut system.messages, message(fields)),
+        Api::CreShr => add(&mut system.shared_words, shared_word(fields)),
+        Api::CreSpn => add(&mut system.spin_locks, spin_lock(fields)),
+        Api::CreCyc => add(&mut system.cyclics, cyclic(class, fields)),
+        Api::DefInh => add(&mut system.interrupts, interrupt(class, fields)),
     }
 }

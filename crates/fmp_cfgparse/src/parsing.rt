@@ -14,7 +14,7 @@ pub struct Parsed<'a> {
 }
 
 /// The syntax tree of a configuration with its tokens, or the first fault of its syntax: B5 for a text of more than
-/// 1,048,576 bytes, a name of more than 31 bytes or a number above 2147483647, else B1. `Memory` where an allocation is
+/// 1,048,576 bytes, a name of more than 31 bytes or a number above 2147483647, else B1. `Memory` if an allocation is
 /// refused.
 pub fn parse<'a>(alloc: Global, text: &'a [u8]) -> Result<Parsed<'a>, BuildFault>
     ensures { IsParse text.now result }

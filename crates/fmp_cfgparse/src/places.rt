@@ -10,7 +10,7 @@ pub struct ClassPlace {
     pub only: bool,
 }
 
-/// The class of a name, where there are so many processors.
+/// The class of a name, given the number of processors.
 pub(crate) fn find_class(processors: u8, name: &[u8]) -> Option<ClassPlace>
     requires { processors ≤ 8 }
     ensures { result ≡ class_of processors name.now }

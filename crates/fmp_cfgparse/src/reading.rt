@@ -24,8 +24,8 @@ pub struct Configured<'a> {
 /// The text has at most 1,048,576 bytes. Faults of syntax come first: B1 or B5 at the first token that no configuration
 /// has in its place, or B1 at the end of the text. Then, in order of text, B5 for a number of processors other than 1
 /// to 8, B3 for an unknown class, and at each static API, with the place of its word, B5 for the 256th of its kind, B2
-/// for a name that is used, B3 for an unknown constant, and B4 with the code that it answers. `Memory` where an
-/// allocation is refused. The tables of the system are in range, and no name and no interrupt number stands twice.
+/// for a name that is used, B3 for an unknown constant, and B4 with the code that it answers. `Memory` if an allocation
+/// is refused. The tables of the system are in range, and no name and no interrupt number stands twice.
 pub fn read_configuration<'a>(alloc: Global, text: &'a [u8]) -> Result<Configured<'a>, BuildFault>
     ensures reads { IfOk result (Reads text.now) }
     ensures rules { IfOk result (λ c. IsConfiguration (tables_of c.system)) }

@@ -2,7 +2,7 @@
 use fmp_base::Name;
 use fmp_lex::{Api, Constant};
 
-/// A part of a value. Whether it has an unknown constant is judged when the value is worked out.
+/// A part of a value. Whether it has an unknown constant is judged when the value is computed.
 #[derive(Clone, Copy)]
 pub enum Item {
     /// A number, 0 to 2147483647.

@@ -80,7 +80,7 @@ fn field_name(field: &Field) -> Name
     }
 }
 
-/// The number of the field at a place; 0 where it has none.
+/// The number of the field at a place; 0 if it has none.
 pub fn number_at(fields: &[Field], at: usize) -> i32
     ensures { result ≡ spec.number_at (map field_view fields.now) at }
 {

@@ -1,4 +1,5 @@
 pub mod CallsMade
+pub mod HandLemmas
 pub mod OperandLists
 pub mod Requests
 pub mod Stops

@@ -1,22 +1,12 @@
 //! A body is told the reply to its call.
 ghost use Rattle.std.specs.Prelude.{◌≡◌, ◌≤◌, true, slice_get};
 ghost use Rattle.fmp_base.specs.Deliveries.{delivered, written};
-ghost use Rattle.fmp_base.specs.Services.{gives_count};
 ghost use Rattle.fmp_instructions.specs.Instructions.{body_tables};
 ghost use Rattle.fmp_instructions.specs.Machine.{call_before, code_deliver};
 ghost use Rattle.fmp_instructions.specs.Verify.{VerifiedBody, local_fits};
 
 use fmp_base::{Er, Reply, Service};
 use fmp_instructions::{BodyCode, Instruction, MachineContext};
-
-fn counts(service: Service) -> bool
-    ensures { result ≡ gives_count service }
-{
-    match service {
-        Service::CanAct | Service::CanWup => true,
-        _ => false,
-    }
-}
 
 fn write(locals: &mut [i32; 64], local: Option<u8>, value: i32)
     requires { local_fits 64 local ≡ true }
@@ -42,7 +32,7 @@ fn give_reply(
     match reply.code {
         Er::Ok => {
             write(locals, out, value);
-            let received = if counts(service) { value } else { 0 };
+            let received = if service.gives_count() { value } else { 0 };
             write(locals, receiver, received);
         }
         code => write(locals, receiver, code.code()),

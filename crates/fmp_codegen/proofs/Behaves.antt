@@ -1,4 +1,4 @@
--- The code of a body does what the body does, within so many instructions.
+-- The code of a body does what the body does, within n instructions.
 use Rattle.std.proofs.Common.{◌≡◌, ℕ, zero, suc, ◌+◌, ◌*◌, ◌≤◌, true, false, List, [], ◌∷◌, length, refl, sym, ap, ◌∙◌, subst, arith, ℤ}
 use Rattle.fmp_base.specs.Stretches.{Ending, is_over}
 use Rattle.fmp_base.specs.Stretches as ends
@@ -18,7 +18,7 @@ pub room-is : (code : List Instruction) (t : ℕ) → room code t ≡ (t + 1) * 
 room-is code zero = omega arith
 room-is code (suc t) = grind (arith, room-is code t)
 
--- so many instructions are enough for every run that ends within the room of t turns
+-- this many instructions are enough for every run that ends within the room of t turns
 abbrev pub IsEnough : List Instruction → (t n p : ℕ) → List ℤ → Type 0
 IsEnough code t n p l =
     (s : ℕ) → p + s ≤ room code t → is_over (exec code s p [] l) ≡ false → exec code n p [] l ≡ exec code s p [] l
@@ -102,7 +102,7 @@ module _ (scope : Scope) (code : List Instruction) where
       StretchTied CodeTied SameLocals (code_stretch code n d) (stretch scope n c)
   code_first n d c h = machine_first n d.pc d.locals (stretch scope n c) (code_stretch code n d) refl (matched n d c h)
 
-  -- what the text finishes within t turns the code finishes within so many instructions
+  -- what the text finishes within t turns the code finishes within this many instructions
   pub text_first :
       (t n : ℕ) (d : MachineContext) (c : TextContext) → CodeTied d c → IsEnough code t n d.pc d.locals →
       StretchTied (Tied scope code) SameLocalsBack (stretch scope t c) (code_stretch code n d)

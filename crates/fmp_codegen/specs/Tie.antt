@@ -22,7 +22,7 @@ abbrev pub HasAt : List Instruction → ℕ → List Instruction → Type 0
 HasAt code at [] = Unit {0}
 HasAt code at (i ∷ is) = (slice_get code at ≡ Some i) × HasAt code (at + 1) is
 
--- so many jumps forward lead from p to q
+-- n jumps forward lead from p to q
 abbrev pub Path : List Instruction → ℕ → ℕ → ℕ → Type 0
 Path code zero p q = p ≡ q
 Path code (suc n) p q = (a : ℕ) × (slice_get code p ≡ Some (Jump a)) × (p < a) × Path code n a q

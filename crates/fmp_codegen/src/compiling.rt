@@ -125,7 +125,7 @@ pub fn judge_body<T: HasName>(
     extent_of_body(body)
 }
 
-/// The code of a body that has no fault and whose statements take so many instructions.
+/// The code of a body that has no fault and whose statements take `size` instructions.
 pub fn compile_body(
     alloc: Global,
     objects: &Objects<'_>,

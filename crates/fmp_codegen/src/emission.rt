@@ -3,18 +3,16 @@
 
 ghost use Rattle.std.specs.Prelude.{◌≡◌, ◌+◌, ◌<◌, ◌≤◌, ◌++◌, ◌∷◌, [], ℕ, map, length, Some, IfSome, OnOk, IfOk};
 ghost use Rattle.fmp_base.specs.Systems.{tables_of};
-ghost use Rattle.fmp_tasklang.specs.declared.trees.Operator.TheVariants as operator;
 ghost use Rattle.fmp_tasklang.specs.Scopes.{meaning_of};
 ghost use Rattle.fmp_tasklang.specs.Stretches.{word_place};
 ghost use Rattle.fmp_tasklang.specs.Views.{expression_view, link_view, call_view, statement_view, block_view};
-ghost use Rattle.fmp_scopes.specs.Chains.{link_size, links_size, link_depth, links_depth, operator_code, links_code, operator_depths, links_depths, test_code};
+ghost use Rattle.fmp_scopes.specs.Chains.{links_size, links_depth, operator_size, operator_rise, operator_code, links_code, operator_depths, links_depths, test_code};
 ghost use Rattle.fmp_scopes.specs.Depths.{expression_depth, arguments_depth, statement_depth, block_depth};
 ghost use Rattle.fmp_scopes.specs.DepthTables.{expression_depths, arguments_depths, statement_depths, block_depths};
 ghost use Rattle.fmp_scopes.specs.Scheme.{name_code, expression_code, arguments_code, target_place, call_instruction, statement_code, block_code};
 ghost use Rattle.fmp_scopes.specs.Scopes.{IsHeld, meaning_view, scope_view};
 ghost use Rattle.fmp_scopes.specs.Sizes.{expression_size, arguments_size, statement_size, block_size};
 
-use fmp_base::BinaryOperator;
 use fmp_instructions::Instruction;
 use fmp_scopes::{Meaning, Names, block_extent, expression_extent, meaning_in};
 use fmp_tasklang::{Expression, Link, Operator, ServiceCall, Statement, Word};
@@ -99,7 +97,7 @@ fn size_of_block(statements: &[Statement]) -> usize
     block_extent(statements).size
 }
 
-/// The code of an expression before which so many operands stand.
+/// The code of an expression before which this many operands stand.
 #[cycle(expression_emission)]
 fn emit_expression(
     out: &mut Output,
@@ -160,98 +158,52 @@ fn emit_links(
         out.old.depths.items ++ links_depths (map link_view links.now) depth) }
 {
     for link in links {
-        match link.operator {
-            Operator::Binary(op) => emit_binary(out, names, op, &link.operand, depth)?,
-            Operator::Both => emit_both(out, names, &link.operand, depth)?,
-            Operator::Either => emit_either(out, names, &link.operand, depth)?,
-        }
+        emit_link(out, names, link, depth)?;
     }
     Ok(())
 }
 
-/// An operator but `&&` and `||`.
+/// A further operand of a chain, with its operator: of `&&` and `||` the operand is passed over where the first one
+/// decides.
 #[cycle(expression_emission)]
-fn emit_binary(
-    out: &mut Output,
-    names: &Names<'_>,
-    op: BinaryOperator,
-    operand: &Expression,
-    depth: u8,
-) -> Result<(), AllocError>
+fn emit_link(out: &mut Output, names: &Names<'_>, link: &Link, depth: u8) -> Result<(), AllocError>
     requires held { IsHeld names.now }
-    requires room { length out.old.instructions.items + expression_size (expression_view operand.now) + 1 ≤ 65535 }
-    requires low { depth + expression_depth (expression_view operand.now) + 1 ≤ 64 }
+    requires room { length out.old.instructions.items + expression_size (expression_view link.now.operand) +
+        operator_size link.now.operator ≤ 65535 }
+    requires low { depth + expression_depth (expression_view link.now.operand) + operator_rise link.now.operator ≤ 64 }
     ensures code { OnOk result (out.new.instructions.items ≡ out.old.instructions.items ++
-        operator_code (scope_view names.now) (operator.Binary op) (expression_view operand.now)
+        operator_code (scope_view names.now) link.now.operator (expression_view link.now.operand)
         (length out.old.instructions.items)) }
     ensures len { OnOk result (length out.new.instructions.items ≡
-        length out.old.instructions.items + expression_size (expression_view operand.now) + 1) }
+        length out.old.instructions.items + expression_size (expression_view link.now.operand) +
+        operator_size link.now.operator) }
     ensures depths { OnOk result (out.new.depths.items ≡
-        out.old.depths.items ++ operator_depths (operator.Binary op) (expression_view operand.now) depth) }
+        out.old.depths.items ++ operator_depths link.now.operator (expression_view link.now.operand) depth) }
 {
-    emit_expression(out, names, operand, depth + 1)?;
-    put(out, Instruction::Binary(op), depth + 2)?;
-    Ok(())
-}
-
-/// `&&`
-#[cycle(expression_emission)]
-fn emit_both(
-    out: &mut Output,
-    names: &Names<'_>,
-    operand: &Expression,
-    depth: u8,
-) -> Result<(), AllocError>
-    requires held { IsHeld names.now }
-    requires room { length out.old.instructions.items + expression_size (expression_view operand.now) + 4 ≤ 65535 }
-    requires low { depth + expression_depth (expression_view operand.now) ≤ 64 }
-    ensures code { OnOk result (out.new.instructions.items ≡ out.old.instructions.items ++
-        operator_code (scope_view names.now) operator.Both (expression_view operand.now)
-        (length out.old.instructions.items)) }
-    ensures len { OnOk result (length out.new.instructions.items ≡
-        length out.old.instructions.items + expression_size (expression_view operand.now) + 4) }
-    ensures depths { OnOk result (out.new.depths.items ≡
-        out.old.depths.items ++ operator_depths operator.Both (expression_view operand.now) depth) }
-{
-    let no = out.instructions.len() + 1 + size_of(operand) + 2;
-    put(out, Instruction::JumpIfZero(place(no)), depth + 1)?;
-    emit_expression(out, names, operand, depth)?;
-    put(out, Instruction::Truth, depth + 1)?;
-    put(out, Instruction::Jump(place(no + 1)), depth + 1)?;
-    put(out, Instruction::Push(0), depth)?;
-    Ok(())
-}
-
-/// `||`
-#[cycle(expression_emission)]
-fn emit_either(
-    out: &mut Output,
-    names: &Names<'_>,
-    operand: &Expression,
-    depth: u8,
-) -> Result<(), AllocError>
-    requires held { IsHeld names.now }
-    requires room { length out.old.instructions.items + expression_size (expression_view operand.now) + 4 ≤ 65535 }
-    requires low { depth + expression_depth (expression_view operand.now) ≤ 64 }
-    ensures code { OnOk result (out.new.instructions.items ≡ out.old.instructions.items ++
-        operator_code (scope_view names.now) operator.Either (expression_view operand.now)
-        (length out.old.instructions.items)) }
-    ensures len { OnOk result (length out.new.instructions.items ≡
-        length out.old.instructions.items + expression_size (expression_view operand.now) + 4) }
-    ensures depths { OnOk result (out.new.depths.items ≡
-        out.old.depths.items ++ operator_depths operator.Either (expression_view operand.now) depth) }
-{
-    let second = out.instructions.len() + 3;
-    put(out, Instruction::JumpIfZero(place(second)), depth + 1)?;
-    put(out, Instruction::Push(1), depth)?;
-    put(
-        out,
-        Instruction::Jump(place(second + size_of(operand) + 1)),
-        depth + 1,
-    )?;
-    emit_expression(out, names, operand, depth)?;
-    put(out, Instruction::Truth, depth + 1)?;
-    Ok(())
+    let operand = &link.operand;
+    match link.operator {
+        Operator::Binary(op) => {
+            emit_expression(out, names, operand, depth + 1)?;
+            put(out, Instruction::Binary(op), depth + 2)
+        }
+        Operator::Both => {
+            let no = out.instructions.len() + 1 + size_of(operand) + 2;
+            put(out, Instruction::JumpIfZero(place(no)), depth + 1)?;
+            emit_expression(out, names, operand, depth)?;
+            put(out, Instruction::Truth, depth + 1)?;
+            put(out, Instruction::Jump(place(no + 1)), depth + 1)?;
+            put(out, Instruction::Push(0), depth)
+        }
+        Operator::Either => {
+            let second = out.instructions.len() + 3;
+            let end = second + size_of(operand) + 1;
+            put(out, Instruction::JumpIfZero(place(second)), depth + 1)?;
+            put(out, Instruction::Push(1), depth)?;
+            put(out, Instruction::Jump(place(end)), depth + 1)?;
+            emit_expression(out, names, operand, depth)?;
+            put(out, Instruction::Truth, depth + 1)
+        }
+    }
 }
 
 /// The code of the arguments of a call, one upon another.
@@ -306,7 +258,7 @@ fn emit_call(out: &mut Output, names: &Names<'_>, call: &ServiceCall) -> Result<
     Ok(())
 }
 
-/// The code of a condition, and a jump over so many instructions behind it where it is 0.
+/// The code of a condition, and a jump over this many instructions behind it if it is 0.
 fn emit_test(
     out: &mut Output,
     names: &Names<'_>,

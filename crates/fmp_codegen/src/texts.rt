@@ -1,5 +1,5 @@
 //! From a task text to the code of its bodies. Each body is read, judged and compiled before the next one is read, so
-//! that no more than one syntax tree is held at once.
+//! that at most one syntax tree is held at once.
 
 ghost use Rattle.std.specs.Prelude.{◌≡◌, ◌≤◌, ◌++◌, ◌∷◌, [], List, length, IfOk, OnOk};
 ghost use Rattle.std.specs.List.{AllByRecursion};
@@ -37,7 +37,7 @@ pub struct Made {
     pub offence: Option<Offence>,
 }
 
-/// Judges a body that stands behind those before it, and compiles it where there is no fault.
+/// Judges a body that stands behind those before it, and compiles it if there is no fault.
 fn add_body(
     alloc: Global,
     objects: &Objects<'_>,

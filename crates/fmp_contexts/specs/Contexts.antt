@@ -42,12 +42,12 @@ pub record Fitting {B C : Type 0} (has_entry : B → ℕ → Type 0) (is_context
   pub tasks : AllContexts (λ t. OfHeld (is_context body (task_body sys t))) cs.tasks
   pub handlers : AllContexts (λ p. HandlerFits has_entry is_context body) cs.handlers
 
--- the body with which a handler begins is there
+-- the body with which a handler begins exists
 abbrev pub BeginsIn : (ℕ → Type 0) → Option HandlerStart → Type 0
 BeginsIn P None = Unit {0}
 BeginsIn P (Some h) = P h.body
 
--- the body of each task and of each handler is there
+-- the body of each task and of each handler exists
 pub record Entered {B : Type 0} (has_entry : B → ℕ → Type 0) (body : B) (sys : SystemTables) : Type 0 where
   pub tasks : (t : ℕ) → t < length sys.tasks → has_entry body (task_body sys t)
   pub handlers : (h : Handler) → BeginsIn (has_entry body) (handler_start sys h)
@@ -97,7 +97,8 @@ kept_after first (ends.End c) = Goes first
 kept_after first (ends.Fault c fault) = Goes first
 kept_after first (ends.Over kept) = Goes first
 
--- a stretch that ends so may be one of this actor: the context with which it makes a call is one of the actor's body
+-- a stretch with this ending can be one of this actor: the context with which it makes a call is one of the actor's
+-- body
 abbrev pub IsFor : {B C : Type 0} → (B → ℕ → C → Type 0) → B → Ending C → Option (Going C) → Type 0
 IsFor is_context body x None = Unit {0}
 IsFor is_context body x (Some a) = OfCall (is_context body a.entry) x

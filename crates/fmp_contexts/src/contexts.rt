@@ -44,7 +44,7 @@ impl<C: Copy> Model for BodyContexts<C> {
     ghost view = { λ a. record { tasks = a.tasks.items; handlers = a.handlers.items } };
 }
 
-/// So many places, with nothing kept.
+/// This many places, with nothing kept.
 fn empty_places<A>(alloc: Global, count: usize) -> Result<Vec<Option<A>>, AllocError>
     ensures { IfOk result (λ v. v.items ≡ replicate count None) }
 {
@@ -66,7 +66,7 @@ pub fn body_number(entry: Entry) -> u8
 }
 
 impl<C: Copy> BodyContexts<C> {
-    /// Nothing kept yet, of so many tasks and processors. `AllocError` for want of memory.
+    /// Nothing kept yet, for this many tasks and processors. `AllocError` if memory runs out.
     pub fn new(alloc: Global, tasks: usize, processors: usize) -> Result<Self, AllocError>
         ensures { IfOk result
             (λ cs. cs ≡ record { tasks = replicate tasks None; handlers = replicate processors None }) }
@@ -76,7 +76,7 @@ impl<C: Copy> BodyContexts<C> {
         Ok(BodyContexts { tasks, handlers })
     }
 
-    /// The number of the body of the handler that runs on a processor, or 0 where none does.
+    /// The number of the body of the handler that runs on a processor, or 0 if none does.
     pub fn handler_body(&self, p: u8) -> u8
         ensures { result ≡ body_in (context_at self.now.handlers p) }
     {
@@ -102,7 +102,7 @@ impl<C: Copy> BodyContexts<C> {
         }
     }
 
-    /// A task, where there is one, goes on from this context.
+    /// A task, if there is one, goes on from this context.
     pub fn begin_task(&mut self, t: u8, context: C)
         ensures { self.new ≡ record self.old { tasks = slice_set self.old.tasks t (Some (Goes context)) } }
     {
@@ -111,7 +111,7 @@ impl<C: Copy> BodyContexts<C> {
         }
     }
 
-    /// A handler of this body begins on a processor, where there is one, and goes on from this context.
+    /// A handler of this body begins on a processor, if there is one, and goes on from this context.
     pub fn begin_handler(&mut self, p: u8, body: u8, context: C)
         ensures { self.new
             ≡ with_handler_context self.old p (Some (record { body = body; context = Goes context })) }

@@ -11,7 +11,7 @@ distance from to = levenshtein_row nat_eq (name_text from) (name_text to) (lengt
 abbrev pub distances : Name → List Name → List ℕ
 distances name known = map (distance name) known
 
--- so far a name may lie from another to be taken for it: at most 2, and less than half of its length
+-- the distance at which a name is taken for another: at most 2, and less than half of its length
 abbrev pub is_near : Name → ℕ → Bool
 is_near name d = nat_le d 2 && nat_lt (2 * d) (length (name_text name))
 
@@ -21,7 +21,7 @@ pub record IsFirstLeast (ns : List ℕ) (k : ℕ) : Type 0 where
   pub before : (j : ℕ) → j < k → slice_index ns k < slice_index ns j
   pub least : (j : ℕ) → j < length ns → slice_index ns k ≤ slice_index ns j
 
--- the place of the nearest of the known names, the first one of several; none where none is near
+-- the place of the nearest of the known names, the first one of several; none if none is near
 abbrev pub IsNearest : Name → List Name → Option ℕ → Type 0
 IsNearest name known (Some k) =
     IsFirstLeast (distances name known) k × (is_near name (slice_index (distances name known) k) ≡ true)

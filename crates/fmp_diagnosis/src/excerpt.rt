@@ -12,7 +12,7 @@ pub struct Excerpt {
     pub column: usize,
     /// The line without its end; of a line of more than 100 bytes a part, with `...` where something is left out.
     pub line: Vec<u8>,
-    /// What stands under the line: `^` under each byte of the token, or one where it has none.
+    /// What stands under the line: `^` under each byte of the token, or one if it has none.
     pub marks: Vec<u8>,
 }
 
@@ -128,7 +128,7 @@ fn append_blanks(bytes: &[u8], out: &mut Vec<u8>) -> Result<(), AllocError>
     Ok(())
 }
 
-/// Appends so many carets.
+/// Appends this many carets.
 fn append_carets(count: usize, out: &mut Vec<u8>) -> Result<(), AllocError>
     ensures { OnOk result (out.new.items ≡ out.old.items ++ replicate count 94) }
 {
@@ -181,8 +181,8 @@ fn marks(
     Ok(line)
 }
 
-/// The line of a text that holds the token from `at` up to `end`, with marks under the token. `AllocError` for want of
-/// memory.
+/// The line of a text that holds the token from `at` up to `end`, with marks under the token. `AllocError` if memory
+/// runs out.
 pub fn excerpt_at(alloc: Global, text: &[u8], at: usize, end: usize) -> Result<Excerpt, AllocError>
     requires { at ≤ length text.now }
     ensures { IfOk result (IsExcerpt text.now at end) }

@@ -47,7 +47,7 @@ fn commas_behind(tokens: &Tokens<'_>, at: usize) -> usize {
     count
 }
 
-/// What is to come in a head of this many tokens: `NUM_PRC ( number ) ;`.
+/// What is expected in a head of this many tokens: `NUM_PRC ( number ) ;`.
 fn behind_processors(count: usize) -> &'static str
     ensures { 0 < length result.now }
 {
@@ -74,7 +74,7 @@ fn behind_class(count: usize) -> &'static str
     }
 }
 
-/// What is to come in place of a field that begins.
+/// What is expected in place of a field that begins.
 fn say_field(api: Api, field: usize, out: &mut Vec<u8>) -> Result<(), AllocError>
     ensures { OnOk result (IsSaid out.old.items out.new.items) }
 {
@@ -91,7 +91,7 @@ fn say_field(api: Api, field: usize, out: &mut Vec<u8>) -> Result<(), AllocError
     say(&[what, Word::Text(" of "), Word::Quoted(api.name())], out)
 }
 
-/// What is to come behind a field.
+/// What is expected behind a field.
 fn say_behind_field(api: Api, field: usize, out: &mut Vec<u8>) -> Result<(), AllocError>
     ensures { OnOk result (IsSaid out.old.items out.new.items) }
 {
@@ -109,7 +109,7 @@ fn say_behind_field(api: Api, field: usize, out: &mut Vec<u8>) -> Result<(), All
     say_field(api, next, out)
 }
 
-/// What is to come within the API at a place, behind its last token.
+/// What is expected within the API at a place, behind its last token.
 fn say_in_api(
     tokens: &Tokens<'_>,
     at: usize,
@@ -134,7 +134,7 @@ fn say_in_api(
     }
 }
 
-/// What is to come behind the API at a place, whose last token stands at `last`.
+/// What is expected behind the API at a place, whose last token stands at `last`.
 fn say_from_api(
     tokens: &Tokens<'_>,
     at: usize,

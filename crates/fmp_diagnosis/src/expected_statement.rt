@@ -9,7 +9,7 @@ use fmp_base::{Name, Service};
 use fmp_lex::{Keyword, Symbol, TokenKind, Tokens};
 use std::alloc::AllocError;
 
-/// What is said where an operand is to come.
+/// What is said where an operand is expected.
 const OPERAND: &str = "an operand: a number, a constant, a name or `(`";
 
 /// The place behind the last token that ends a statement or begins a block.
@@ -60,7 +60,7 @@ fn ends_operand(kind: TokenKind) -> bool {
     )
 }
 
-/// What is to come behind the tokens of an expression, where this closes it.
+/// What is expected behind the tokens of an expression, where this closes it.
 fn in_expression(last: TokenKind, closing: &'static str) -> &'static str
     requires { 0 < length closing.now }
     ensures { 0 < length result.now }
@@ -68,7 +68,7 @@ fn in_expression(last: TokenKind, closing: &'static str) -> &'static str
     if ends_operand(last) { closing } else { OPERAND }
 }
 
-/// What is to come where an argument of a call begins.
+/// What is expected where an argument of a call begins.
 fn say_argument(service: Service, place: usize, out: &mut Vec<u8>) -> Result<(), AllocError>
     ensures { OnOk result (IsSaid out.old.items out.new.items) }
 {
@@ -102,7 +102,7 @@ fn say_argument(service: Service, place: usize, out: &mut Vec<u8>) -> Result<(),
     )
 }
 
-/// What is to come behind an argument of a call.
+/// What is expected behind an argument of a call.
 fn say_behind_argument(service: Service, place: usize, out: &mut Vec<u8>) -> Result<(), AllocError>
     ensures { OnOk result (IsSaid out.old.items out.new.items) }
 {
@@ -130,7 +130,7 @@ fn say_behind_argument(service: Service, place: usize, out: &mut Vec<u8>) -> Res
     )
 }
 
-/// What is to come within a call whose name stands at a place.
+/// What is expected within a call whose name stands at a place.
 fn say_in_call(
     tokens: &Tokens<'_>,
     at: usize,
@@ -155,7 +155,7 @@ fn say_in_call(
     }
 }
 
-/// What is to come behind `if` or `while` at a place.
+/// What is expected behind `if` or `while` at a place.
 fn in_condition(tokens: &Tokens<'_>, at: usize, last: TokenKind) -> &'static str
     ensures { 0 < length result.now }
 {
@@ -169,7 +169,7 @@ fn in_condition(tokens: &Tokens<'_>, at: usize, last: TokenKind) -> &'static str
     }
 }
 
-/// What is to come behind a name at the head of a statement, where no call is assigned to it.
+/// What is expected behind a name at the head of a statement, where no call is assigned to it.
 fn behind_name(tokens: &Tokens<'_>, begin: usize, last: TokenKind) -> &'static str
     ensures { 0 < length result.now }
 {
@@ -181,7 +181,7 @@ fn behind_name(tokens: &Tokens<'_>, begin: usize, last: TokenKind) -> &'static s
     }
 }
 
-/// What is to come behind a name at the head of a statement.
+/// What is expected behind a name at the head of a statement.
 fn say_assignment(
     tokens: &Tokens<'_>,
     begin: usize,
@@ -197,7 +197,7 @@ fn say_assignment(
     say_text(behind_name(tokens, begin, last), out)
 }
 
-/// What is to come behind a keyword at the head of a statement, of which so many tokens are there.
+/// What must follow a keyword at the head of a statement that has this many tokens so far.
 fn behind_keyword(keyword: Keyword, count: usize) -> &'static str
     ensures { 0 < length result.now }
 {
@@ -210,7 +210,7 @@ fn behind_keyword(keyword: Keyword, count: usize) -> &'static str
     }
 }
 
-/// What is to come behind a statement that begins with a keyword.
+/// What is expected behind a statement that begins with a keyword.
 fn within_keyword(
     tokens: &Tokens<'_>,
     begin: usize,
@@ -227,7 +227,7 @@ fn within_keyword(
     }
 }
 
-/// What is to come where a statement begins.
+/// What is expected where a statement begins.
 fn at_begin(tokens: &Tokens<'_>) -> &'static str
     ensures { 0 < length result.now }
 {

@@ -149,7 +149,7 @@ fn append_parts(topic: Topic, out: &mut Vec<u8>) -> Result<(), AllocError> {
     append_line(&["  example: ", topic.example()], out)
 }
 
-/// Appends what a code means, when it comes and an example, a line each. Where memory runs out, nothing is appended.
+/// Appends what a code means, when it comes and an example, one line each. If memory runs out, nothing is appended.
 pub fn explain(alloc: Global, topic: Topic, out: &mut Vec<u8>) -> Result<(), AllocError>
     ensures err { OnErr result (out.new.items ≡ out.old.items) }
 {

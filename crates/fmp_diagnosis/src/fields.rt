@@ -24,7 +24,7 @@ pub enum Field {
 }
 
 impl Field {
-    /// What the field is called in a sentence.
+    /// The name of the field in a sentence.
     pub fn called(self) -> &'static str {
         match self {
             Field::Name => "name",

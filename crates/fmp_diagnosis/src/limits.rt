@@ -1,4 +1,4 @@
-//! What is said of a limit that is passed.
+//! Sentences on a limit that is exceeded.
 ghost use Rattle.std.specs.Prelude.{◌<◌, length, OnOk};
 ghost use Rattle.fmp_diagnosis.specs.Words.{IsSaid, IsSaidFirst, quoted};
 ghost use Rattle.fmp_base.specs.Names.{name_text};
@@ -73,7 +73,7 @@ fn say_in_configuration(around: &Around<'_>, out: &mut Vec<u8>) -> Result<(), Al
     }
 }
 
-/// What is said of a body that is too long, or needs too many operands, by the tokens from its first word on.
+/// The sentence on a body that is too long, or needs too many operands, by the tokens from its first word on.
 ///
 /// A token is compiled to at most 4 instructions. Within k open parentheses an expression needs at most 1 + 7 * (k + 1)
 /// operands at once, since there are 7 levels of operators that keep one while the right side is worked out, and the
@@ -150,7 +150,7 @@ fn say_in_source(around: &Around<'_>, out: &mut Vec<u8>) -> Result<(), AllocErro
     }
 }
 
-/// Says which limit is passed at the place in a text of so many bytes.
+/// Says which limit is exceeded at the place in a text of this many bytes.
 pub fn say_limit(
     length: usize,
     file: TextFile,

@@ -1,4 +1,4 @@
-//! What is said of a name that is used twice, and of one that nothing has.
+//! Sentences on a name that is used twice, and on one that nothing has.
 ghost use Rattle.std.specs.Prelude.{OnOk};
 ghost use Rattle.fmp_diagnosis.specs.Words.{IsSaid, IsSaidFirst, quoted};
 ghost use Rattle.fmp_base.specs.Names.{name_text};
@@ -12,10 +12,10 @@ use fmp_base::Name;
 use fmp_lex::{Api, Keyword, Symbol, TextFile, TokenKind, Tokens};
 use std::alloc::{AllocError, Global};
 
-/// What is said where no name is found that is used twice.
+/// The sentence if no name is found that is used twice.
 const TWICE: &str = "a name is used twice";
 
-/// What is said where no name is found that nothing has.
+/// The sentence if no name is found that nothing has.
 const UNKNOWN: &str = "nothing has this name";
 
 /// Where the first object of this name is made, by its line.
@@ -77,7 +77,7 @@ fn line_in(alloc: Global, cfg: &[u8], name: &Name) -> Result<Option<u32>, AllocE
     Ok(line_of_object(&list.tokens, name))
 }
 
-/// What is said of a name of a task text that is used twice.
+/// The sentence on a name of a task text that is used twice.
 fn say_twice_in_source(
     alloc: Global,
     cfg: &[u8],

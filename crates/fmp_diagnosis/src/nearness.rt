@@ -55,8 +55,8 @@ pub fn other_case(name: &Name, known: &[Name]) -> Option<usize> {
 }
 
 /// The place of the known name that is nearest to a name, the first one of several, by the bytes that have to be put
-/// in, left out or changed. None where each takes more than 2 of them, or half of the name or more. `AllocError` for
-/// want of memory.
+/// in, left out or changed. None if each takes more than 2 of them, or half of the name or more. `AllocError` if memory
+/// runs out.
 pub fn nearest(alloc: Global, name: &Name, known: &[Name]) -> Result<Option<usize>, AllocError>
     ensures { IfOk result (IsNearest name.now known.now) }
 {

@@ -39,7 +39,7 @@ fn operands_or_fault(
 }
 
 /// How many operands stand at once in the body of a name, if there is such a body and no fault comes before those of
-/// the entries. `AllocError` for want of memory.
+/// the entries. `AllocError` if memory runs out.
 pub fn operands_of(
     alloc: Global,
     texts: Texts<'_>,

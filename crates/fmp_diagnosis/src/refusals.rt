@@ -1,4 +1,4 @@
-//! What is said of a static API that refuses its values, or whose entry does not fit.
+//! Sentences on a static API that refuses its values, or whose entry does not fit.
 ghost use Rattle.std.specs.Prelude.{◌≡◌, true, IfSome, OnOk};
 ghost use Rattle.fmp_diagnosis.specs.Excesses as spec;
 ghost use Rattle.fmp_diagnosis.specs.Words.{IsSaid};

@@ -130,8 +130,8 @@ fn joined(
 }
 
 /// What is shown of a fault of one of two texts, which stands at this place of it: the name of the file, the line, the
-/// column in bytes from 1, the code, a sentence, and the line with marks under the token. `AllocError` for want of
-/// memory.
+/// column in bytes from 1, the code, a sentence, and the line with marks under the token. `AllocError` if memory runs
+/// out.
 pub fn report(
     alloc: Global,
     name: &str,

@@ -1,4 +1,4 @@
-//! What is said of a text that goes on as no well-formed text does.
+//! Sentences on a text that goes on as no well-formed text does.
 ghost use Rattle.std.specs.Prelude.{◌<◌, length, IfSome, OnOk};
 ghost use Rattle.fmp_diagnosis.specs.Words.{IsSaid, IsSaidFirst, MaySay, quoted};
 ghost use Rattle.fmp_base.specs.Names.{name_text};
@@ -11,7 +11,7 @@ use fmp_base::Name;
 use fmp_lex::{Keyword, LexFault, Symbol, TextFile, TokenKind};
 use std::alloc::{AllocError, Global};
 
-/// A number of more bytes is not repeated.
+/// A number of more bytes is not quoted.
 const SHOWN_MAX: usize = 40;
 
 /// What is said behind a number that is too great.
@@ -26,7 +26,7 @@ fn word_length(bytes: &[u8]) -> usize {
         .unwrap_or(bytes.len())
 }
 
-/// The first of these bytes, a space where there is none.
+/// The first of these bytes, a space if there is none.
 fn first_of(bytes: &[u8]) -> u8 {
     bytes.first().copied().unwrap_or(b' ')
 }
@@ -56,7 +56,7 @@ fn say_no_token(bytes: &[u8], out: &mut Vec<u8>) -> Result<(), AllocError>
     )
 }
 
-/// Says that the number of so many bytes at the head of these is too great.
+/// Says that the number of this many bytes at the head of these is too great.
 fn say_great_number(bytes: &[u8], length: usize, out: &mut Vec<u8>) -> Result<(), AllocError>
     ensures { OnOk result (IsSaid out.old.items out.new.items) }
 {

@@ -3,7 +3,7 @@ use crate::fields::object_of;
 use fmp_base::Service;
 use fmp_lex::Api;
 
-/// What an argument of a call is to be, where it is not just any number.
+/// What an argument of a call should be, if not just any number.
 #[derive(Clone, Copy)]
 pub enum Wanted {
     /// An object that this static API makes.
@@ -13,7 +13,7 @@ pub enum Wanted {
 }
 
 impl Wanted {
-    /// What is wanted, with its article.
+    /// What is expected, with its article.
     pub fn called(self) -> &'static str {
         match self {
             Wanted::Object(api) => object_of(api),
@@ -22,7 +22,7 @@ impl Wanted {
     }
 }
 
-/// What the argument of a call at a place, from 0, is to be.
+/// What the argument of a call at a place, from 0, should be.
 pub fn wanted_at(service: Service, place: usize) -> Option<Wanted> {
     match object_wanted(service, place) {
         Some(api) => Some(Wanted::Object(api)),
@@ -30,7 +30,7 @@ pub fn wanted_at(service: Service, place: usize) -> Option<Wanted> {
     }
 }
 
-/// What the number means that an argument of a call at a place is to be, where it is not just any number.
+/// The meaning of the number that an argument of a call at a place should be, if it is not just any number.
 fn number_wanted(service: Service, place: usize) -> Option<&'static str> {
     match (service, place) {
         (Service::ChgPri, 1) | (Service::RotRdq | Service::IrotRdq, 0) => Some("a priority"),
@@ -63,7 +63,7 @@ pub fn takes_caller(service: Service) -> bool {
     )
 }
 
-/// What kind of object the argument of a call at a place is to be, if it is one.
+/// The kind of object that the argument of a call at a place should be, if it is one.
 fn object_wanted(service: Service, place: usize) -> Option<Api> {
     if place == 1 {
         return if service == Service::SndMbx {

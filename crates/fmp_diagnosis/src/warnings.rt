@@ -1,4 +1,4 @@
-//! What is legal in two texts, and mostly a mistake: a call that its body may never make; a number in place of an
+//! What is legal in two texts but usually a mistake: a call that its body may never make; a number in place of an
 //! object's name, or an object of another kind, as the argument of a call; bodies and objects that nothing uses;
 //! semaphores that nothing signals, flags that nothing sets.
 ghost use Rattle.std.specs.Prelude.{◌<◌, OnOk};
@@ -17,10 +17,10 @@ use fmp_base::{Name, Service};
 use fmp_lex::{Api, Constant, Keyword, Symbol, TokenKind, Tokens};
 use std::alloc::{AllocError, Global};
 
-/// Of so many calls and arguments is warned at most.
+/// The maximum number of warnings about calls and arguments.
 const CALLS: u32 = 100;
 
-/// A call that is walked over.
+/// The call of a walk.
 #[derive(Clone, Copy)]
 struct Walk {
     /// The kind of the body that it stands in.
@@ -79,7 +79,7 @@ impl Walk {
         }
     }
 
-    /// The argument that begins behind this token at a place, where it is not to be just any number.
+    /// The argument that begins behind this token at a place, if it should not be just any number.
     fn argument_behind(self, at: usize, kind: TokenKind) -> Option<Argument> {
         let service = match kind {
             TokenKind::Symbol(Symbol::LeftParen | Symbol::Comma) if self.open == 1 => self.service?,
@@ -149,7 +149,7 @@ struct Warnings {
     signals_any: bool,
     /// Whether some call sets a flag that is not given by its name.
     sets_any: bool,
-    /// Of how many calls and arguments more is warned.
+    /// The number of warnings about calls and arguments that are left.
     room: u32,
 }
 
@@ -252,7 +252,7 @@ fn say_barred(barred: BarredCall, out: &mut Vec<u8>) -> Result<(), AllocError>
     }
 }
 
-/// What is mostly a mistake at a call.
+/// What is usually a mistake at a call.
 #[derive(Clone, Copy)]
 enum Mistake {
     /// Its body may never make it.
@@ -274,7 +274,7 @@ fn say_mistake(mistake: Mistake, out: &mut Vec<u8>) -> Result<(), AllocError>
 }
 
 impl Warnings {
-    /// Warns of a mistake at a call, where there is room.
+    /// Warns of a mistake at a call, if there is room.
     fn warn(
         &mut self,
         name: &str,
@@ -320,7 +320,7 @@ impl Warnings {
         }
     }
 
-    /// A call has an argument that is not the name of such an object as it takes there.
+    /// A call has an argument that is not the name of an object of the kind that it takes there.
     fn note_argument(&mut self, service: Service, wanted: Wanted) {
         if let Wanted::Object(_) = wanted {
             self.note_any(service);
@@ -398,7 +398,7 @@ fn entries(alloc: Global, tokens: &Tokens<'_>) -> Result<Vec<Name>, AllocError> 
     Ok(names)
 }
 
-/// The name of the body whose first word stands at a place, where it is none of these.
+/// The name of the body whose first word stands at a place, if it is none of these.
 fn body_beside(tokens: &Tokens<'_>, at: usize, entries: &[Name]) -> Option<Name> {
     if !begins_body_at(tokens, at) {
         return None;
@@ -433,7 +433,7 @@ fn warn_of_bodies(
     Ok(())
 }
 
-/// Whether an object goes to work with no call: a task or a cyclic handler that is started at setup.
+/// Whether an object starts without a call: a task or a cyclic handler that is started at setup.
 fn is_started(cfg: &Tokens<'_>, object: &Object) -> bool {
     match object.api {
         Api::CreTsk | Api::CreCyc => value_of(cfg, object.at, object.api, Field::Attribute) == 2,
@@ -523,9 +523,9 @@ fn warnings_on(
     Ok(out)
 }
 
-/// The warnings of two texts that have no fault, a line each: those of the task text in order of text, first of at
+/// The warnings of two texts that have no fault, one line each: those of the task text in order of text, first of at
 /// most 100 of its calls and their arguments and then of its bodies, and those of the objects of the configuration.
-/// `AllocError` for want of memory.
+/// `AllocError` if memory runs out.
 pub fn warnings_of(
     alloc: Global,
     names: FileNames<'_>,

@@ -41,7 +41,7 @@ fn append_shown(topic: Topic, value: i32, text: &mut Canvas) {
     }
 }
 
-/// Appends these words and the names of the tasks that wait, with commas between, where there are any.
+/// Appends these words and the names of the tasks that wait, with commas between, if there are any.
 fn append_waiting(scene: &Scene<'_>, shown: &ObjectShown, words: &str, text: &mut Canvas) {
     let mut before = words;
     for task in scene.run.objects.waiting_for(shown) {
@@ -69,7 +69,7 @@ fn put_value_text(row: &Row, left: Tenths, text: &Canvas, out: &mut Canvas) {
     );
 }
 
-/// The value with those who wait behind it, or the value alone, where it fits.
+/// The value followed by the waiting tasks, or the value alone, if it fits.
 fn put_value(
     scene: &Scene<'_>,
     row: &Row,

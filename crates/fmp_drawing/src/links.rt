@@ -1,4 +1,4 @@
-//! Lines from those who did something to those it was done to, and migrations.
+//! Lines from an actor to the task on which it acted, and migrations.
 use crate::rows::{Row, Rows};
 use crate::scene::Scene;
 use fmp_base::Caller;

@@ -22,7 +22,7 @@ struct Bins {
     wide: u32,
 }
 
-/// So many of so many parts of a number.
+/// A number times a fraction.
 fn part(number: u32, count: u32, of: u32) -> u32 {
     let whole = u64::from(number).saturating_mul(u64::from(count));
     let part = whole.checked_div(u64::from(of)).unwrap_or(0);
@@ -153,7 +153,7 @@ fn put_strip_head(bins: &Bins, processor: u8, y: u32, out: &mut Canvas) {
     out.raw("/>\n");
 }
 
-/// The strip of a processor. `AllocError` for want of memory.
+/// The strip of a processor. `AllocError` if memory runs out.
 fn put_strip(
     scene: &Scene<'_>,
     bins: &Bins,
@@ -235,7 +235,7 @@ fn put_frames(scene: &Scene<'_>, bins: &Bins, ends: (u32, u32), out: &mut Canvas
     }
 }
 
-/// The overview from this height on, if there is one: the height below it. `AllocError` for want of memory.
+/// The overview from this height on, if there is one: the height below it. `AllocError` if memory runs out.
 pub fn put_overview(scene: &Scene<'_>, top: u32, out: &mut Canvas) -> Result<u32, AllocError> {
     if !scene.has_overview() {
         return Ok(top);

@@ -48,7 +48,7 @@ fn put_lane_beside(scene: &Scene<'_>, span: &Span, row: &Row, taken: &[Taken], o
     }
 }
 
-/// A lane with its boxes and texts. `AllocError` for want of memory.
+/// A lane with its boxes and texts. `AllocError` if memory runs out.
 fn put_lane(scene: &Scene<'_>, span: &Span, row: &Row, out: &mut Canvas) -> Result<(), AllocError> {
     let taken = taken_in(scene, span, row.lane)?;
     put_lane_beside(scene, span, row, &taken, out);
@@ -118,7 +118,8 @@ fn put_asleep_names(
     }
 }
 
-/// How many tasks without a lane are in a state, with the names of the first four: whether there are any.
+/// Says how many tasks without a lane are in a state, with the names of the first four. The answer is whether there are
+/// any.
 fn put_asleep_in(
     scene: &Scene<'_>,
     span: &Span,
@@ -159,7 +160,7 @@ fn put_asleep(scene: &Scene<'_>, span: &Span, rows: &Rows, out: &mut Canvas) {
     out.raw("</text>\n");
 }
 
-/// The lanes of a panel, until they are too large. `AllocError` for want of memory.
+/// The lanes of a panel, until they are too large. `AllocError` if memory runs out.
 fn put_lanes(
     scene: &Scene<'_>,
     span: &Span,
@@ -174,7 +175,7 @@ fn put_lanes(
     Ok(())
 }
 
-/// The marks of all lanes. `AllocError` for want of memory.
+/// The marks of all lanes. `AllocError` if memory runs out.
 fn put_all_marks(
     scene: &Scene<'_>,
     span: &Span,
@@ -187,8 +188,8 @@ fn put_all_marks(
     Ok(())
 }
 
-/// A panel with these lanes that begins at this height, or a beginning of it that is too large. `AllocError` for want
-/// of memory.
+/// A panel with these lanes that begins at this height, or a beginning of it that is too large. `AllocError` if memory
+/// runs out.
 fn put_rows(
     scene: &Scene<'_>,
     span: &Span,

@@ -38,7 +38,7 @@ fn task_count(scene: &Scene<'_>) -> u32 {
     u32::try_from(scene.sys.tasks.len()).unwrap_or(u32::MAX)
 }
 
-/// The title and the description of the picture, for those who hear it read.
+/// The title and the description of the picture, for screen readers.
 fn put_description(scene: &Scene<'_>, name: &[u8], out: &mut Canvas) {
     let (first, last) = (Number(scene.page.first), Number(scene.page.last));
     out.put(
@@ -178,7 +178,7 @@ pub enum DrawFault {
 }
 
 /// A picture of a run of a system with these measures and this name as its title: an SVG without scripts, light and
-/// dark. `TooLarge` for more bytes than a picture may have, `Memory` for want of memory.
+/// dark. `TooLarge` for more bytes than a picture may have, `Memory` if memory runs out.
 pub fn draw(
     alloc: Global,
     sys: &System,

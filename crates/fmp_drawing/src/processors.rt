@@ -165,7 +165,7 @@ fn put_bar(class: &str, row: &Row, (left, right): (Tenths, Tenths), out: &mut Ca
     put_box(Raw(class), (left, row.y(0)), size, out);
 }
 
-/// The text of a bar, where it fits: whether it does.
+/// Puts the text of a bar in place, if it fits, and says whether it does.
 fn put_bar_text(
     class: &str,
     row: &Row,
@@ -202,7 +202,7 @@ fn put_held_lock(
     put_bar_text("lct q", row, (text_left(span, stay), ends.1), label, out);
 }
 
-/// What a stretch over which an actor asks in vain says: words, and the name of the lock that it asks for.
+/// The text of a spinning span: words, and the name of the lock.
 fn spin_text<'a>(scene: &Scene<'a>, spin: &Spin) -> (&'static str, &'a [u8]) {
     match scene.run.lock_of(spin) {
         Some(lock) => ("spins for ", bytes_of(scene.sys, Topic::SpinLock(lock))),
@@ -210,7 +210,7 @@ fn spin_text<'a>(scene: &Scene<'a>, spin: &Spin) -> (&'static str, &'a [u8]) {
     }
 }
 
-/// The text of such a stretch between two places, where it fits: whether it does.
+/// Puts the text of such a span between two places, if it fits, and says whether it does.
 fn put_spin_text<'a>(
     row: &Row,
     (left, right): (Tenths, Tenths),
@@ -231,7 +231,7 @@ fn put_spin_text<'a>(
     fits
 }
 
-/// A stretch over which a processor's actor asks in vain.
+/// A span in which a processor's actor spins.
 fn put_spin(scene: &Scene<'_>, span: &Span, row: &Row, stay: &Stay<Spin>, out: &mut Canvas) {
     let (left, right) = (span.box_left(stay), span.box_right(stay));
     let (words, name) = spin_text(scene, &stay.state);
@@ -246,7 +246,7 @@ fn put_spin(scene: &Scene<'_>, span: &Span, row: &Row, stay: &Stay<Spin>, out: &
     }
 }
 
-/// The stretches of a processor over which it spins but holds no lock.
+/// The spans in which a processor spins but holds no lock.
 fn put_spins(
     scene: &Scene<'_>,
     span: &Span,
@@ -277,7 +277,7 @@ pub fn put_lock(scene: &Scene<'_>, span: &Span, row: &Row, processor: u8, out: &
     }
 }
 
-/// A stretch over which a processor does not dispatch.
+/// A span in which a processor does not dispatch.
 fn put_no_dispatch(
     scene: &Scene<'_>,
     span: &Span,
@@ -342,7 +342,7 @@ fn words_of(handling: Handling) -> Option<&'static str> {
     }
 }
 
-/// A stretch over which a handler runs or pends.
+/// A span in which a handler runs or is pending.
 fn put_handling(
     scene: &Scene<'_>,
     span: &Span,

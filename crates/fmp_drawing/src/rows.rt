@@ -49,7 +49,7 @@ impl Lane {
         }
     }
 
-    /// The one whose lane it is.
+    /// The owner of the lane.
     pub fn actor(self) -> Option<Caller> {
         match self {
             Lane::Task(task, _) => Some(Caller::Task(task)),
@@ -65,12 +65,12 @@ impl Lane {
 }
 
 impl Row {
-    /// The top of the lane, lower by so many tenths.
+    /// The top of the lane, lowered by this many tenths.
     pub fn y(&self, lower: i32) -> Tenths {
         px(self.top) + Tenths(lower)
     }
 
-    /// The middle of the lane, lower by so many tenths.
+    /// The middle of the lane, lowered by this many tenths.
     pub fn middle(&self, lower: i32) -> Tenths {
         px(self.top) + px(self.height).half() + Tenths(lower)
     }
@@ -177,7 +177,7 @@ impl Rows {
         Ok(())
     }
 
-    /// The lane of a handler, where there are few tasks or something happens to it.
+    /// The lane of a handler, if there are few tasks or something happens to it.
     fn add_handler(
         &mut self,
         run: &Run,
@@ -326,7 +326,7 @@ impl Rows {
         self.of_lane(Lane::Task(task, processor))
     }
 
-    /// The lane of one who acts, with the task where it is after this event.
+    /// The lane of an actor; that of a task is where the task is after this event.
     pub fn of_actor(&self, run: &Run, actor: Caller, event: u32) -> Option<Row> {
         match actor {
             Caller::Task(task) => {

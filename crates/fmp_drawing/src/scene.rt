@@ -1,10 +1,10 @@
-//! What all parts of a picture are drawn from, and where a text can stand.
+//! The source of all parts of a picture, and where a text can stand.
 use crate::rows::{Lane, colours};
 use fmp_base::System;
 use fmp_timeline::{Deeds, Page, Run, Span, Tenths, px, width};
 use std::alloc::{AllocError, Global};
 
-/// What a picture is drawn from.
+/// The source of a picture.
 #[derive(Drop)]
 pub struct Scene<'a> {
     pub alloc: Global,
@@ -16,7 +16,7 @@ pub struct Scene<'a> {
 }
 
 impl<'a> Scene<'a> {
-    /// The scene of a run. `AllocError` for want of memory.
+    /// The scene of a run. `AllocError` if memory runs out.
     pub fn new(
         alloc: Global,
         sys: &'a System,
@@ -32,7 +32,7 @@ impl<'a> Scene<'a> {
         })
     }
 
-    /// Whether there is an overview over the run: where there are three panels or more, or a part of the run is drawn.
+    /// Whether there is an overview over the run: if there are three panels or more, or a part of the run is drawn.
     pub fn has_overview(&self) -> bool {
         self.page.panels > 2 || self.page.first > 0 || self.page.last < self.last_event()
     }
@@ -47,7 +47,7 @@ impl<'a> Scene<'a> {
         u32::from(self.colours.get(usize::from(task)).copied().unwrap_or(0))
     }
 
-    /// What the one whose lane this is did, and what came to it.
+    /// What the owner of this lane did, and what was done to it.
     pub fn deeds_in(&self, lane: Lane) -> Option<&'a Deeds> {
         self.run.deeds_of(lane.actor()?)
     }
@@ -104,7 +104,8 @@ pub fn fit_right(
     (!(x - need).is_below(least)).then_some(x)
 }
 
-/// How many letters of a name, at least so many, fit with three dots into this width; none where not even these do.
+/// How many letters of a name, at least the given number, fit with three dots into this width; none if not even these
+/// do.
 pub fn letters_that_fit(name: &[u8], least: usize, size: Tenths, room: Tenths) -> Option<usize> {
     let dots = width("…".as_bytes(), size);
     for count in (least..name.len()).rev() {

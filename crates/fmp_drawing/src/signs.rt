@@ -11,7 +11,7 @@ use std::alloc::AllocError;
 /// The size of tags.
 const TAG: Tenths = Tenths(80);
 
-/// A mark at its place, with a tag where there is room for one.
+/// A mark at its place, with a tag if there is room for one.
 #[derive(Clone, Copy)]
 pub struct Placed {
     pub mark: Mark,
@@ -64,7 +64,7 @@ fn priority_tag(priority: u8) -> &'static str {
     PRIORITIES.get(place).copied().unwrap_or("")
 }
 
-/// The text of a mark's tag; empty where it has none.
+/// The text of a mark's tag; empty if it has none.
 fn tag_text(sign: Sign) -> &'static str {
     match sign {
         Sign::Refused(code) => code.name(),
@@ -90,7 +90,7 @@ fn stands_on(run: &Run, task: u8, processor: u8, mark: &Mark) -> bool {
     true
 }
 
-/// Whether a mark of the one whose lane this is stands in this lane.
+/// Whether a mark of this lane's owner stands in this lane.
 fn stands_in(run: &Run, lane: Lane, mark: &Mark) -> bool {
     match lane {
         Lane::Task(task, processor) => stands_on(run, task, processor, mark),
@@ -98,7 +98,7 @@ fn stands_in(run: &Run, lane: Lane, mark: &Mark) -> bool {
     }
 }
 
-/// The marks of the one whose lane this is, from an event on.
+/// The marks of this lane's owner, from an event on.
 fn marks_from<'a>(scene: &Scene<'a>, lane: Lane, first: u32) -> &'a [Mark] {
     let Some(deeds) = scene.deeds_in(lane) else {
         return &[];
@@ -192,7 +192,7 @@ fn placed_mark(span: &Span, mark: &Mark, all: &[Mark], later: &[Mark]) -> Placed
     }
 }
 
-/// The marks of a lane at their places. None where columns are narrow.
+/// The marks of a lane at their places. None if columns are narrow.
 fn placed_marks(scene: &Scene<'_>, span: &Span, lane: Lane) -> Result<Vec<Placed>, AllocError> {
     let mut placed = Vec::new(scene.alloc);
     if span.is_narrow() {
@@ -262,7 +262,7 @@ fn put_mark(run: &Run, row: &Row, placed: &Placed, out: &mut Canvas) {
     }
 }
 
-/// The class of a mark's tick where columns are narrow; none where it has no tick.
+/// The class of a mark's tick where columns are narrow; none if it has no tick.
 fn tick_class(sign: Sign) -> Option<&'static str> {
     match sign {
         Sign::Refused(_) | Sign::Faulted(_) => Some("er"),
@@ -296,7 +296,7 @@ fn put_all_ticks(span: &Span, row: &Row, marks: &[Mark], out: &mut Canvas) {
     put_ticks(span, row, marks, "mk", out);
 }
 
-/// The marks of a lane. `AllocError` for want of memory.
+/// The marks of a lane. `AllocError` if memory runs out.
 pub fn put_marks(
     scene: &Scene<'_>,
     span: &Span,

@@ -41,7 +41,7 @@ a text{text-decoration:underline}.cut{stroke-opacity:.55;fill:none;stroke:#fff}
 .c7{fill:#a3a9ff;stroke:#6a70d0}.d7{fill:#000}.g7{fill:none;stroke:#000}
 .f{stroke:none}.o{fill:none}"##;
 
-/// What is other on a dark screen.
+/// What differs on a dark screen.
 pub const DARK: &str = r##"svg{background:#14181c}
 text{fill:#e4e9ee}.h2,.m{fill:#9aa7b4}.band{fill:#1b2026}.pband{fill:#272e36}.grid{stroke:#2a3139}
 .tk{stroke:#6b7783}

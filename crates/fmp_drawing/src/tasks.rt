@@ -108,7 +108,7 @@ pub fn put_side(scene: &Scene<'_>, row: &Row, side: Piece<'_>, out: &mut Canvas)
     put_text(Raw("m e"), place, side, out);
 }
 
-/// Appends what a wait is for, and until when: of a name only so many letters, if it is not whole.
+/// Appends what a wait is for, and until when: of a name only this many letters, if it is not whole.
 fn append_wait(
     scene: &Scene<'_>,
     shown: &TaskShown,
@@ -132,7 +132,7 @@ fn append_wait(
     }
 }
 
-/// Whether the name in the text of a wait can be cut to so many letters.
+/// Whether the name in the text of a wait can be cut to this many letters.
 fn can_be_cut(scene: &Scene<'_>, shown: &TaskShown, count: usize) -> bool {
     match shown.wait {
         Some(cause) => {
@@ -207,7 +207,7 @@ fn put_task_title(scene: &Scene<'_>, task: u8, stay: &Stay<TaskShown>, out: &mut
     put_title(scene.run, "{}, p{}", &values, stay, out);
 }
 
-/// The text of a wait between two places of its lane, lower by so many tenths, where it fits.
+/// The text of a wait between two places of its lane, lowered by this many tenths, if it fits.
 fn put_wait_text(
     scene: &Scene<'_>,
     span: &Span,
@@ -314,7 +314,7 @@ fn put_state(
     }
 }
 
-/// The zigzags over one stretch along the foot of a task that asks in vain.
+/// The zigzags of one span along the foot of a task that spins.
 fn put_zigzags(span: &Span, row: &Row, colour: u32, spin: &Stay<Spin>, out: &mut Canvas) {
     let (left, right) = (span.box_left(spin), span.box_right(spin));
     let count = u32::try_from((right - left - px(2)).0).unwrap_or(0) / 40;
@@ -327,7 +327,7 @@ fn put_zigzags(span: &Span, row: &Row, colour: u32, spin: &Stay<Spin>, out: &mut
     out.raw("\"/>\n");
 }
 
-/// The zigzags along the foot of a task that asks in vain.
+/// The zigzags along the foot of a task that spins.
 fn put_spins(
     scene: &Scene<'_>,
     span: &Span,

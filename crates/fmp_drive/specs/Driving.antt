@@ -51,7 +51,7 @@ pub record HasRun {B C : Type 0} (meaning : B → Meaning C) (before after : Ker
   pub bound : after.bound ≡ before.bound
   pub done : after.done ≡ before.done + length es
 
--- why a drive has stopped: no processor can do anything, or so many events are done
+-- why a drive has stopped: no processor can do anything, or the number of events is done
 abbrev pub IsStop : {B C : Type 0} → (B → Meaning C) → KernelView B C → (processors most : ℕ) → List Event → Stop
     → Type 0
 IsStop meaning after processors most es Quiet = AllStand meaning after Processor 1 (processors + 1)

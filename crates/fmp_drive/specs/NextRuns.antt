@@ -1,4 +1,4 @@
--- What the next run of a processor comes to, as far as the stretch of its actor tells it.
+-- How the next run of a processor ends, as far as the stretch of its actor tells it.
 use Rattle.std.specs.Prelude.{ℕ, ◌≡◌, ◌+◌, ◌<◌, List, Option, Some, None, get_or, length}
 use Rattle.fmp_base.specs.Meanings.{Meaning}
 use Rattle.fmp_base.specs.Stretches.{Ending}
@@ -15,12 +15,12 @@ told_by (ending.End c) = next.Ends
 told_by (ending.Fault c fault) = next.Ends
 told_by (ending.Over kept) = next.OverBound
 
--- what the run of an actor comes to, if there is one
+-- how the run of an actor ends, if there is one
 abbrev pub next_of : {B C : Type 0} → (B → Meaning C) → KernelView B C → Option (Actor C) → NextRun
 next_of meaning k None = next.NoActor
 next_of meaning k (Some a) = told_by ((meaning k.body).stretch a.entry k.bound a.context)
 
--- what the next run of the processor of this number comes to
+-- how the next run of the processor of this number ends
 abbrev pub next_run : {B C : Type 0} → (B → Meaning C) → KernelView B C → ℕ → NextRun
 next_run meaning k p = next_of meaning k (actor_in k p)
 

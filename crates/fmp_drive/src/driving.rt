@@ -81,7 +81,7 @@ fn run_or_tick<B: Body>(
     }
 }
 
-/// The next event, which is done; none where no processor can do anything and the clock changes nothing.
+/// The next event, which is done; none if no processor can do anything and the clock changes nothing.
 fn next<B: Body>(
     kernel: &mut Kernel<B>,
     plan: &mut Plan,
@@ -102,9 +102,9 @@ fn next<B: Body>(
     }
 }
 
-/// Drives a kernel of so many processors and tasks: its processors in turn, or as the plan has it, and a tick where
-/// none of them can do anything; until nothing can happen any more, or so many events are done. `AllocError` for want
-/// of memory.
+/// Drives a kernel of this many processors and tasks: its processors in turn, or as the plan has it, and a tick when
+/// none of them can do anything; until nothing can happen any more, or `most` events are done. `AllocError` if memory
+/// runs out.
 pub fn drive<B: Body>(
     alloc: Global,
     kernel: &mut Kernel<B>,

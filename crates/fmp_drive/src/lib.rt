@@ -1,4 +1,4 @@
-//! Steps for a system that has none: its processors in turn, and the clock where none of them goes on.
+//! Steps for a system that has none: its processors in turn, and the clock when none of them goes on.
 #![tactic(auto)]
 
 mod driving;

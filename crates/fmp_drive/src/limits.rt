@@ -1,21 +1,20 @@
 //! Which waits end by the clock.
-use fmp_base::{Call, Caller, Line};
+use fmp_base::{Call, Caller, Line, Parameter};
 
-/// Whether a wait that begins with this call ends by the clock.
+/// Whether a wait that begins with this call ends by the clock. A delay or a time limit is the last argument.
 fn has_end(call: Call) -> bool {
-    match call {
-        Call::DlyTsk { .. } => true,
-        Call::TslpTsk { limit } => limit > 0,
-        Call::TwaiSem { limit, .. } => limit > 0,
-        Call::TwaiFlg { limit, .. } => limit > 0,
-        Call::TsndDtq { limit, .. } => limit > 0,
-        Call::TrcvDtq { limit, .. } => limit > 0,
-        Call::TrcvMbx { limit, .. } => limit > 0,
+    let arguments = call.arguments();
+    match (
+        call.service().parameters().last(),
+        arguments.as_slice().last(),
+    ) {
+        (Some(Parameter::Delay), _) => true,
+        (Some(Parameter::Limit), Some(limit)) => *limit > 0,
         _ => false,
     }
 }
 
-/// Keeps of a task whether the wait that this line tells ends by the clock.
+/// Records whether the wait of a task that this line tells ends by the clock.
 fn note_wait(line: Line, ending: &mut [bool]) {
     let Line::Call {
         caller: Caller::Task(task),
@@ -31,7 +30,7 @@ fn note_wait(line: Line, ending: &mut [bool]) {
     }
 }
 
-/// Keeps of each task whether the wait that it began last ends by the clock.
+/// Records for each task whether the wait that it began last ends by the clock.
 pub fn note_waits(lines: &[Line], ending: &mut [bool]) {
     for line in lines {
         note_wait(*line, ending);

@@ -9,14 +9,14 @@ use fmp_kernel::{Body, Kernel};
 /// The greatest number of processors.
 const PROCESSORS: usize = 8;
 
-/// What the next run of a processor comes to, as far as the stretch of its actor tells it.
+/// How the next run of a processor ends, as far as the stretch of its actor tells it.
 #[derive(Clone, Copy)]
 pub enum NextRun {
     /// The processor runs neither a task nor a handler, so its run does nothing.
     NoActor,
     /// The stretch needs more instructions than the bound, so the run does nothing.
     OverBound,
-    /// The stretch comes to this call. Where that asks for a spin lock which is held, the run does nothing.
+    /// The stretch ends with this call. If it spins for a held spin lock, the run does nothing.
     Calls(Call),
     /// The stretch ends the task or the handler, or stops it with a fault.
     Ends,
@@ -33,7 +33,7 @@ fn told_by<C: Copy>(stretch: Stretch<C>) -> NextRun
     }
 }
 
-/// What the next run of the processor of this number, from 1, comes to on a kernel over these bodies with this bound.
+/// How the next run of the processor of this number, from 1, ends on a kernel over these bodies with this bound.
 fn next_run<B: Body>(kernel: &Kernel<B>, body: &B, n: u64, p: u8) -> NextRun
     requires body { body.now ≡ kernel.now.body }
     requires bound { n ≡ kernel.now.bound }
@@ -45,8 +45,8 @@ fn next_run<B: Body>(kernel: &Kernel<B>, body: &B, n: u64, p: u8) -> NextRun
     }
 }
 
-/// What the next run of each processor comes to, by places from 0, on a kernel over these bodies with this bound.
-/// There is no actor behind the last processor.
+/// How the next run of each processor ends, by places from 0, on a kernel over these bodies with this bound. There is
+/// no actor behind the last processor.
 pub fn next_runs<B: Body>(kernel: &Kernel<B>, body: &B, n: u64) -> [NextRun; PROCESSORS]
     requires body { body.now ≡ kernel.now.body }
     requires bound { n ≡ kernel.now.bound }

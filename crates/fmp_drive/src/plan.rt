@@ -41,13 +41,13 @@ pub struct Plan {
     random: Option<Pcg32>,
     /// Whether something comes from outside of the tasks: cyclic handlers, or interrupts at random.
     stirred: bool,
-    /// Of each task, whether the wait that it began last ends by the clock.
+    /// For each task, whether the wait that it began last ends by the clock.
     ending: Vec<bool>,
 }
 
 impl Plan {
-    /// The processors in turn; with a seed at random, and the clock and the interrupts between. `AllocError` for want
-    /// of memory.
+    /// The processors in turn; with a seed at random, and the clock and the interrupts between. `AllocError` if memory
+    /// runs out.
     pub fn new(alloc: Global, sys: &System, seed: Option<u64>) -> Result<Plan, AllocError> {
         let interrupts = seed.is_some() && !sys.interrupts.is_empty();
         let random = match seed {

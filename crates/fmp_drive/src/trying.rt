@@ -30,7 +30,7 @@ fn event_of(source: Source, number: u8) -> Event
 }
 
 /// Tries the events of a source by number, from the first up to the end, which is left out. Gives the first that does
-/// something, which is then done; none where none does, and nothing has changed then.
+/// something, which is then done; none if none does, and nothing has changed then.
 pub fn first_done<B: Body>(
     kernel: &mut Kernel<B>,
     source: Source,

@@ -9,7 +9,7 @@ use Rattle.fmp_instructions.specs.Machine.{code_meaning}
 use Rattle.fmp_codegen.specs.Tie.{longest}
 use Rattle.fmp_board.specs.declared.fault.BoardFault.{BoardFault}
 use Rattle.fmp_board.specs.declared.fault.BoardFault.TheVariants as board
-use Rattle.fmp_board.specs.Replays.{IsLegal}
+use Rattle.fmp_replay.specs.Replays.{IsLegal}
 use Rattle.fmp_image_parts.specs.declared.fault.LoadFault.TheVariants as load
 use Rattle.fmp_image_bytes.specs.Images.{ImageTables, Spells, image_at}
 use Rattle.fmp_tasklang.specs.Contexts.{TextContext}
@@ -65,7 +65,7 @@ pub record HostsTexts (i : ImageTables) (bodies : List BodyTree) (work : Workloa
       IsFinished i.system text work.bound (longest i.code) (setup i.system text).world journal journal trace
   pub text : out_after ≡ out ++ trace_text i.system (setup i.system (text_meaning i.system bodies)).lines trace
 
--- why a board of an image gives no journal, but for want of memory
+-- why a board of an image gives no journal, apart from running out of memory
 abbrev pub IsWhyNoBoard : BoardFault → ImageTables → Workload → Type 0
 IsWhyNoBoard board.Limit i work = FitsBoard i work → ⊥
 IsWhyNoBoard board.Memory i work = ⊥

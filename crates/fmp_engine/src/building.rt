@@ -9,8 +9,8 @@ use fmp_image_bytes::store;
 use fmp_lex::BuildFault;
 use std::alloc::Global;
 
-/// Checks that two texts, a configuration and the bodies of its tasks and handlers, build an image. An
-/// error is the first fault of the texts, or want of memory.
+/// Checks that two texts, a configuration and the bodies of its tasks and handlers, build an image. An error is the
+/// first fault of the texts, or out of memory.
 pub fn check(alloc: Global, cfg: &[u8], src: &[u8]) -> Result<(), BuildFault>
     ensures builds { IfOk result (λ _. CanBuild cfg.now src.now) }
     ensures refuses { IfErr result (IsBuildFault cfg.now src.now) }
@@ -24,8 +24,8 @@ pub fn check(alloc: Global, cfg: &[u8], src: &[u8]) -> Result<(), BuildFault>
     }
 }
 
-/// Builds the image of two texts, a configuration and the bodies of its tasks and handlers, and appends its bytes.
-/// An error is the first fault of the texts, or want of memory; then nothing has been appended.
+/// Builds the image of two texts, a configuration and the bodies of its tasks and handlers, and appends its bytes. An
+/// error is the first fault of the texts, or out of memory; then nothing has been appended.
 pub fn build_image(
     alloc: Global,
     cfg: &[u8],

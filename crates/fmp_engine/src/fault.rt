@@ -6,7 +6,7 @@ use thiserror::Error;
 /// Why a simulation prints nothing.
 #[derive(Clone, Copy, Debug, PartialEq, Eq, Error)]
 pub enum SimFault {
-    /// The bytes spell no image. It is never want of memory.
+    /// The bytes spell no image. It is never out of memory.
     #[error("{0}")]
     Load(LoadFault),
     /// A line of the steps is no event.
@@ -17,7 +17,7 @@ pub enum SimFault {
     Memory,
 }
 
-/// Why a text that was to be given to an outlet was not given, or not to its end.
+/// Why an outlet was not given all of a text.
 #[derive(Clone, Copy)]
 pub enum Cut {
     /// Memory ran out before the first piece.

@@ -37,11 +37,11 @@ pub struct Workload {
 /// Why a host writes and prints nothing.
 #[derive(Clone, Copy, Debug, PartialEq, Eq, Error)]
 pub enum HostFault {
-    /// The bytes spell no image. It is never want of memory.
+    /// The bytes spell no image. It is never out of memory.
     #[error("{0}")]
     Load(LoadFault),
-    /// The turns and ticks are no events or more than a board has room for, or a thread was refused. It is never want
-    /// of memory.
+    /// The turns and ticks are no events or more than a board has room for, or a thread was refused. It is never out of
+    /// memory.
     #[error("host: {0}")]
     Board(BoardFault),
     /// Memory ran out.
@@ -154,7 +154,7 @@ fn journal_of<R: Threads + Wait + Sync>(
     taken_events(alloc, closed)
 }
 
-/// Appends a journal of an image as a steps text to a file, and all that the image prints over it to the output. Where
+/// Appends a journal of an image as a steps text to a file, and all that the image prints over it to the output. If
 /// memory runs out, both stay as they were.
 fn append_journal(
     alloc: Global,

@@ -1,4 +1,4 @@
-//! Where a text goes that is made piece by piece.
+//! The destination of a text that is made piece by piece.
 ghost use Rattle.std.specs.Prelude.{◌≡◌, ◌++◌, [], ℕ, List, OnErr, OnOk};
 ghost use Rattle.fmp_engine.specs.Outlets.{GivenFront};
 ghost use Rattle.fmp_engine.specs.Outlets.{appended_nothing, appended_twice};
@@ -7,7 +7,7 @@ ghost use Rattle.fmp_engine.specs.Outlets.{appended_nothing, appended_twice};
 #[derive(Clone, Copy)]
 pub struct Stopped;
 
-/// Where a text goes, piece by piece.
+/// The destination of a text, piece by piece.
 pub trait Outlet {
     // Between two of its states it was given these bytes, one after the other.
     ghost gave: { Self → Self → List ℕ → Type 0 };

@@ -20,7 +20,7 @@ use fmp_kernel::Kernel;
 use fmp_trace::{Page, print, print_states};
 use std::alloc::{AllocError, Global};
 
-/// A text of so many bytes is a piece that the outlet is given.
+/// A text of this many bytes is a piece that the outlet is given.
 const PIECE: usize = 65_536;
 
 /// Room for a piece, for the lines of one more event and for those of the states at the end.
@@ -232,8 +232,8 @@ pub fn play_into<B: Body + Drop, E: Events, T: Outlet>(
     give_run(alloc, sys, body, n, events, &mut text, &mut states, outlet)
 }
 
-/// Runs a system over events within n units a stretch, and appends all that it prints. Want of memory is the only
-/// error; then nothing is appended.
+/// Runs a system over events within n units a stretch, and appends all that it prints. Running out of memory is the
+/// only error; then nothing is appended.
 pub fn play<B: Body + Drop, E: Events>(
     alloc: Global,
     sys: &System,

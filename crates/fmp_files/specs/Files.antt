@@ -21,12 +21,12 @@ abbrev pub front : Option ℕ → List ℕ → List ℕ
 front None bytes = bytes
 front (Some limit) bytes = take (limit + 1) bytes
 
--- so many bytes go no further than one past the limit
+-- this many bytes go at most one past the limit
 abbrev pub IsWithin : Option ℕ → ℕ → Type 0
 IsWithin None count = ⊤
 IsWithin (Some limit) count = count ≤ limit + 1
 
--- so many bytes go past the limit
+-- this many bytes go past the limit
 abbrev pub IsPast : Option ℕ → ℕ → Type 0
 IsPast None count = ⊥
 IsPast (Some limit) count = limit < count
@@ -45,7 +45,7 @@ pub record ReadsMore (most : ℕ) (left left_after : Option (List ℕ)) (bytes b
   pub taken : Consumes left left_after more
   pub end : count ≡ 0 → IsAtEnd left_after
 
--- what is known to be left has lost a beginning of at most so many bytes
+-- what is known to be left has lost a beginning of at most `most` bytes
 abbrev pub LosesAtMost : ℕ → (old new : Option (List ℕ)) → Type 0
 LosesAtMost most old new = (bytes : List ℕ) × Consumes old new bytes × (length bytes ≤ most)
 

@@ -1,5 +1,5 @@
 //! Reading and writing whole files, and whatever else gives or takes bytes: to the last byte or not at all, with a
-//! fault exactly where a call of the system failed.
+//! fault exactly if a call of the system failed.
 #![tactic(auto)]
 
 mod device;

@@ -26,7 +26,7 @@ pub trait Outside {
     ghost done: { Self → Option (List Deed) };
 
     /// The bytes of a file, or with a limit the first of them, up to one past it. `Device` comes only for a name on
-    /// which a call can fail, and `Memory` for want of memory.
+    /// which a call can fail, and `Memory` if memory runs out.
     fn read(&self, alloc: Global, name: &str, limit: Option<usize>) -> Result<Vec<u8>, ReadFault>
         ensures bytes { IfOk result (λ bytes.
             IfSome ((files self.now).bytes name.now) (λ all. bytes.items ≡ front limit all)) }
@@ -48,7 +48,7 @@ pub trait Outside {
         ensures device { OnErr result (IsTrue (output_can_fail self.old)) }
         ensures output { output_can_fail self.new ≡ output_can_fail self.old };
 
-    /// Writes a text to standard error, as far as that goes.
+    /// Writes a text to standard error, as far as that works.
     fn say<D: Display + Drop>(&mut self, text: D)
         ensures { Says (done self.old) (done self.new) };
 

@@ -17,10 +17,10 @@ pub enum ReadFault {
     Memory,
 }
 
-/// How many bytes are asked for at once.
+/// How many bytes to ask for at once.
 const CHUNK: usize = 65_536;
 
-/// How many bytes are asked for next, after so many: none where these go past the limit.
+/// How many bytes to ask for next, after this many: none if these go past the limit.
 fn room_after(limit: Option<usize>, count: usize) -> usize
     requires { IsWithin limit count }
     ensures most { result ≤ CHUNK }
@@ -57,7 +57,7 @@ fn read_more<S: Source>(
 }
 
 /// All the bytes that a source gives. With a limit it stops one byte past it, which is enough to refuse what is longer.
-/// `Device` comes exactly where a read failed.
+/// `Device` comes exactly if a read failed.
 pub fn read_in<S: Source>(
     alloc: Global,
     source: &mut S,

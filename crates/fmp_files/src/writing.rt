@@ -14,8 +14,8 @@ pub enum WriteFault {
     Device,
 }
 
-/// Writes all the bytes, in order. `Device` comes exactly where a write failed or took no byte, and then what was
-/// written is a beginning of the bytes.
+/// Writes all the bytes, in order. `Device` comes exactly if a write failed or took no byte, and then what was written
+/// is a beginning of the bytes.
 pub fn write_out<W: Sink>(sink: &mut W, bytes: &[u8]) -> Result<(), WriteFault>
     ensures ok { OnOk result (Appends (W.written sink.old) (W.written sink.new) bytes.now) }
     ensures err { OnErr result (GainsBeginning (W.written sink.old) (W.written sink.new) bytes.now) }

@@ -14,8 +14,8 @@ use Rattle.fmp_journal.specs.declared.entry.JournalEntry.{JournalEntry}
 use Rattle.fmp_journal.specs.Seats.{RowId, SeatState, events, given}
 use Rattle.fmp_base.specs.Texts.{lines_text}
 use Rattle.fmp_board.specs.Boards.{IsAt}
-use Rattle.fmp_board.specs.Replays.{kernel_after}
-use Rattle.fmp_board.proofs.Replaying.{setup_replays}
+use Rattle.fmp_replay.specs.Replays.{kernel_after}
+use Rattle.fmp_replay.proofs.Replaying.{setup_replays}
 use Rattle.fmp_follower.specs.Followers.{Continues, Follows, IsFollowing, followed_text, kernel_over, reaction_text}
 use Rattle.fmp_follower.proofs.Following.{SameRun, done_few, followed_last, followed_none, nothing_behind, same_run, view_last}
 

@@ -1,5 +1,5 @@
 -- What a follower of a board is given, what it prints of that, and what contracts see of it.
-use Rattle.std.specs.Prelude.{◌≡◌, ℕ, ◌+◌, ◌<◌, ◌≤◌, ◌^◌, List, [], ◌∷◌, ◌++◌, length, Option, None, IfNone, IfSome}
+use Rattle.std.specs.Prelude.{◌≡◌, ◌⊎◌, ℕ, ◌+◌, ◌<◌, ◌≤◌, ◌^◌, List, [], ◌∷◌, ◌++◌, length, Option, None, IfNone, IfSome}
 use Rattle.std.specs.Borrow.{MutBor}
 use mathlib.Core.List.{IsPrefix}
 use Rattle.fmp_base.specs.declared.events.Event.{Event}
@@ -49,7 +49,7 @@ pub record Continues (i : ImageTables) (n : ℕ) (before after : List Event) (ou
   pub appended : out_after ≡ out ++ more
   pub goes_on : followed_text i n after ≡ followed_text i n before ++ more
 
--- what `follow` answers at a row of so many words: the next event by one read of its word, or none
+-- the answer of `follow` at a row of n words: the next event by one read of its word, or none
 pub record Follows (capacity : ℕ) (old new : SeatState) (result : Option Event) : Type 0 where
   pub same : new ≡ record old { seen = new.seen; place = new.place; look = new.look }
   pub grows : IsPrefix old.seen new.seen
@@ -59,6 +59,7 @@ pub record Follows (capacity : ℕ) (old new : SeatState) (result : Option Event
   pub end : old.place ≡ capacity → (new ≡ old) × (result ≡ None)
   pub some : IfSome result (λ event. (new.place ≡ old.place + 1) × (given new ≡ given old ++ event ∷ []))
   pub none : IfNone result ((new.place ≡ old.place) × (new.seen ≡ old.seen) × (length old.seen ≤ old.place))
+  pub empty : IfNone result ((old.place ≡ capacity) ⊎ (new.look ≡ looked_at old.look old.place 0))
 
 -- a seat of a board with a kernel that took just the events that the seat was given
 pub record IsFollowing (i : ImageTables) (n : ℕ) (row : RowId) (seat : SeatState)

@@ -4,14 +4,15 @@ ghost use Rattle.fmp_base.specs.Steps.{step};
 ghost use Rattle.fmp_base.specs.Systems.{tables_of};
 ghost use Rattle.fmp_instructions.specs.Machine.{code_meaning};
 ghost use Rattle.fmp_follower.specs.Followers.{Continues, FollowedTextIsFront, Follows, IsFollowing, followed_text, reaction_text};
-ghost use Rattle.fmp_board.specs.Replays.{kernel_after};
+ghost use Rattle.fmp_replay.specs.Replays.{kernel_after};
 ghost use Rattle.fmp_kernel.specs.KernelViews.{view_after};
 ghost use Rattle.fmp_journal.specs.Seats.{given};
 
 use fmp_base::{Effect, Event, System};
-use fmp_board::{Board, Seat, Site, kernel_of};
+use fmp_board::{Board, Seat, Site};
 use fmp_code::Vm;
 use fmp_kernel::Kernel;
+use fmp_replay::kernel_of;
 use fmp_trace::print;
 use std::alloc::{AllocError, Global};
 use std::marker::Model;
@@ -106,13 +107,15 @@ fn advance<'a, S: Site>(
 
 impl<'a, 'b, S: Site> Follower<'a, 'b, S> {
     ghost use Rattle.std.specs.Prelude.{◌≡◌, ◌++◌, [], IfOk, OnOk, OnErr};
+    ghost use Rattle.std.specs.Borrow.{sem, RestsIfErr};
     ghost use Rattle.fmp_journal.specs.Seats.{given};
+    ghost use Rattle.fmp_journal.specs.contracts.seat.Seat.{the_row as seat_row};
     ghost use Rattle.fmp_board.specs.Boards.{IsAt};
     ghost use Rattle.fmp_follower.specs.Followers.{Continues, Follows, events_of, followed_text, kernel_over};
 
     /// A follower of a board from a seat of it that was given no event yet. The lines of setup are appended.
     ///
-    /// `AllocError` for want of memory; then nothing has been appended.
+    /// `AllocError` where memory runs out; then nothing has been appended, and the seat is as before.
     pub fn new(
         alloc: Global,
         board: &'b Board<'a, S>,
@@ -121,6 +124,7 @@ impl<'a, 'b, S: Site> Follower<'a, 'b, S> {
     ) -> Result<Follower<'a, 'b, S>, AllocError>
         requires at { IsAt S.row_id seat.old }
         requires place { seat.old.place ≡ 0 }
+        ensures* untouched { sem 𝓛 (RestsIfErr seat_row seat.entry (λ f. f.seat.ghost_name) result (λ s. s ≡ seat.old)) }
         ensures same_reference { IfOk result (λ f. f.seat.ghost_name ≡ seat.entry.ghost_name) }
         ensures seat { IfOk result (λ f. f.seat.now ≡ seat.old) }
         ensures text { OnOk result (out.new.items ≡ out.old.items ++ followed_text S.image S.bound []) }
@@ -158,6 +162,19 @@ impl<'a, 'b, S: Site> Follower<'a, 'b, S> {
         ensures err { OnErr result ((self.new ≡ self.old) × (out.new.items ≡ out.old.items)) }
     {
         advance(self.board, self.seat, &mut self.kernel, out)
+    }
+
+    /// Ends the following, and gives the seat back as the last event left it.
+    pub fn end(self) -> &'b mut Seat
+        ensures same_reference { result.ghost_name ≡ self.entry.seat.ghost_name }
+        ensures seat { result.now ≡ self.entry.seat.now }
+    {
+        let Follower {
+            board: _,
+            seat,
+            kernel: _,
+        } = self;
+        seat
     }
 }
 

@@ -1,4 +1,4 @@
-//! A reader of a board's journal: it waits for nobody, runs the events on a kernel of its own, and prints them.
+//! A reader of a board's journal: it never waits, runs the events on a kernel of its own, and prints them.
 #![tactic(auto)]
 
 mod follower;

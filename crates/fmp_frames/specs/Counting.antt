@@ -62,7 +62,7 @@ abbrev pub one_if : Bool → ℕ
 one_if true = 1
 one_if false = 0
 
--- so many more, up to the greatest number of 32 bits
+-- n more, up to the greatest number of 32 bits
 abbrev pub more : ℕ → ℕ → ℕ
 more n k = min (n + k) (2 ^ 32 - 1)
 

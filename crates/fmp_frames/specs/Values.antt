@@ -119,7 +119,7 @@ runs_cyclic i x = is_cyclic i x.handler
 abbrev pub runs_interrupt : ℕ → Processor → Bool
 runs_interrupt i x = is_interrupt i x.handler
 
--- of a handler that so many processors run: 0 idle, 1 pending, 2 runs, 3 runs and is pending again
+-- of a handler, given how many processors run it: 0 idle, 1 pending, 2 runs, 3 runs and is pending again
 abbrev pub handling : (running : ℕ) (is_pending : Bool) → ℕ
 handling running is_pending = 2 * one_if (nat_lt 0 running) + one_if is_pending
 
@@ -138,7 +138,7 @@ abbrev pub refused : ℕ → Option Line → ℕ
 refused p None = 0
 refused p (Some l) = refused_by p l
 
--- of a task that is not there
+-- of a missing task
 abbrev pub unknown : TaskState
 unknown = record { word = word.Dormant; processor = 0; priority = 0 }
 

@@ -5,7 +5,7 @@ ghost use Rattle.fmp_frames.specs.Counting as spec;
 
 use fmp_base::{Caller, Er, Line, StateWord, TaskState};
 
-/// What a task did in a run. Each count ends at the greatest number that it can have.
+/// What a task did in a run. Each count stops at the greatest number that it can have.
 #[derive(Clone, Copy)]
 pub struct Tally {
     /// How often it started.
@@ -130,7 +130,7 @@ fn one_if(holds: bool) -> usize
     if holds { 1 } else { 0 }
 }
 
-/// So many more, up to the greatest number.
+/// This many more, up to the greatest number.
 pub fn more(count: u32, by: usize) -> u32
     ensures { result ≡ spec.more count by }
 {

@@ -11,7 +11,7 @@ use crate::{Frame, Viewer};
 use fmp_base::System;
 use std::alloc::{AllocError, Global};
 
-/// The dump of a run so far. Where memory runs out, it has an unfinished end.
+/// The dump of a run so far. If memory runs out, it has an unfinished end.
 #[derive(Drop)]
 pub struct Waves {
     /// The variables, in the order of the head.
@@ -31,7 +31,7 @@ fn append_all(variables: &[Variable], values: &[u64], out: &mut Vec<u8>) -> Resu
     Ok(())
 }
 
-/// The values that are other than before.
+/// The values that have changed.
 fn append_changed(
     variables: &[Variable],
     before: &[u64],
@@ -48,7 +48,7 @@ fn append_changed(
 }
 
 impl Waves {
-    /// The dump of a system after setup. `AllocError` for want of memory.
+    /// The dump of a system after setup. `AllocError` if memory runs out.
     pub fn new(alloc: Global, sys: &System, setup: &Frame) -> Result<Waves, AllocError>
         ensures { IfOk result
             (λ waves. waves.values.items ≡ spec.values_of (table_of setup.now) waves.variables.items) }
@@ -69,7 +69,7 @@ impl Waves {
         })
     }
 
-    /// The whole text: one unit of time more, so that the last state has a width. `AllocError` for want of memory.
+    /// The whole text: one unit of time more, so that the last state has a width. `AllocError` if memory runs out.
     pub fn finish(mut self) -> Result<Vec<u8>, AllocError> {
         append_time(self.events.saturating_add(1), &mut self.text)?;
         Ok(self.text)
@@ -80,7 +80,7 @@ impl Viewer for Waves {
     ghost shown = { λ x f y.
         (y.variables ≡ x.variables) × (y.values.items ≡ spec.values_of f x.variables.items) };
 
-    /// One event more: what is other after it than before.
+    /// One event more: the values that it has changed.
     fn show(&mut self, alloc: Global, frame: &Frame) -> Result<(), AllocError> {
         let values = values_of(alloc, frame, &self.variables)?;
         self.events = self.events.saturating_add(1);

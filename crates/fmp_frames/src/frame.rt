@@ -39,7 +39,7 @@ pub struct Frame {
     pub pending_interrupts: Vec<bool>,
 }
 
-/// The frame of setup, or of the last event that did something. `AllocError` for want of memory.
+/// The frame of setup, or of the last event that did something. `AllocError` if memory runs out.
 pub fn last_frame<B: Body>(alloc: Global, kernel: &Kernel<B>) -> Result<Frame, AllocError>
     ensures { IfOk result (λ f. table_of f
         ≡ frame_of kernel.now.system kernel.now.world.state kernel.now.lines) }

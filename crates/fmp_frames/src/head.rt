@@ -169,7 +169,7 @@ impl Head {
         self.close()
     }
 
-    /// The head of the dump of a system. `AllocError` for want of memory.
+    /// The head of the dump of a system. `AllocError` if memory runs out.
     pub fn new(alloc: Global, sys: &System) -> Result<Head, AllocError> {
         let mut head = Head {
             variables: Vec::new(alloc),

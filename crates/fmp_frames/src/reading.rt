@@ -14,7 +14,7 @@ use std::alloc::{AllocError, Global};
 /// The numbers of interrupts end here.
 const INTERRUPTS: u8 = 32;
 
-/// What is shown of all tasks of a kernel, in order of number. `AllocError` for want of memory, as of each call below.
+/// What is shown of all tasks of a kernel, in order of number. `AllocError` if memory runs out, as of each call below.
 pub fn states<B: Body>(alloc: Global, kernel: &Kernel<B>) -> Result<Vec<TaskState>, AllocError>
     ensures { IfOk result (λ xs. xs.items
         ≡ each (task_state kernel.now.world.state) (length kernel.now.system.tasks)) }

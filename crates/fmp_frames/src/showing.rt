@@ -8,12 +8,12 @@ use fmp_base::{Effect, Event};
 use fmp_kernel::{Body, Kernel};
 use std::alloc::{AllocError, Global};
 
-/// What a run is shown to, frame by frame.
+/// A viewer, to which a run is shown frame by frame.
 pub trait Viewer {
-    /// What it becomes by a frame.
+    /// What a frame makes of it.
     ghost shown: { Self → FrameTable → Self → Type 0 };
 
-    /// One frame more. `AllocError` for want of memory.
+    /// One frame more. `AllocError` if memory runs out.
     fn show(&mut self, alloc: Global, frame: &Frame) -> Result<(), AllocError>
         ensures { OnOk result (shown self.old (table_of frame.now) self.new) };
 }
@@ -31,7 +31,7 @@ fn show_last<B: Body, V: Viewer>(
     viewer.show(alloc, &frame)
 }
 
-/// Takes events on a kernel, and shows the frame of each that did something, in order. `AllocError` for want of memory.
+/// Takes events on a kernel, and shows the frame of each that did something, in order. `AllocError` if memory runs out.
 pub fn show_all<B: Body, V: Viewer>(
     alloc: Global,
     kernel: &mut Kernel<B>,

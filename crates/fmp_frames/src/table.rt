@@ -1,10 +1,10 @@
-//! The table of a run as text: a row a task.
+//! The table of a run as text: one row for each task.
 use crate::counting::Tally;
 use crate::tallies::Tallies;
 use fmp_base::System;
 use std::alloc::{AllocError, Global};
 
-/// What stands above the columns.
+/// The heads of the columns.
 const HEADS: [&str; 7] = [
     "starts",
     "calls",
@@ -18,7 +18,7 @@ const HEADS: [&str; 7] = [
 /// The narrowest that a column of numbers is, with the spaces before it.
 const COLUMN: usize = 8;
 
-/// So many spaces.
+/// This many spaces.
 fn append_spaces(count: usize, out: &mut Vec<u8>) -> Result<(), AllocError> {
     for _space in 0..count {
         out.push(b' ')?;
@@ -58,7 +58,7 @@ fn name_width(sys: &System) -> usize {
     width
 }
 
-/// The row of a task of this name, of so many events in all.
+/// The row of a task of this name, given the number of all events.
 fn append_tally(
     alloc: Global,
     name: &[u8],
@@ -85,8 +85,8 @@ fn append_tally(
 }
 
 impl Tallies {
-    /// Appends the table: a line a task, with its share of the events in tenths of a percent. `AllocError` for want of
-    /// memory.
+    /// Appends the table: a line for each task, with its share of the events in tenths of a percent. `AllocError` if
+    /// memory runs out.
     pub fn append_table(
         &self,
         alloc: Global,

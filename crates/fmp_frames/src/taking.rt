@@ -23,7 +23,7 @@ fn append_last<B: Body>(
     Ok(())
 }
 
-/// Takes events on a kernel, and gives the frame of each that did something, in order. `AllocError` for want of memory.
+/// Takes events on a kernel, and gives the frame of each that did something, in order. `AllocError` if memory runs out.
 pub fn frames<B: Body>(
     alloc: Global,
     kernel: &mut Kernel<B>,

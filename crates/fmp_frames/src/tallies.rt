@@ -19,7 +19,7 @@ pub struct Tallies {
     pub events: u32,
 }
 
-/// The counts of a task so far; none where there is no such task.
+/// The counts of a task so far; none if there is no such task.
 fn tally_at(tallies: &[Tally], task: usize) -> Tally
     ensures { result ≡ get_or tallies.now task spec.nothing }
 {
@@ -29,7 +29,7 @@ fn tally_at(tallies: &[Tally], task: usize) -> Tally
     }
 }
 
-/// The counts of so many tasks after an event that told these lines. `AllocError` for want of memory.
+/// The counts of this many tasks after an event that told these lines. `AllocError` if memory runs out.
 fn all_counted(
     alloc: Global,
     count: usize,
@@ -59,7 +59,7 @@ fn copied(alloc: Global, states: &[TaskState]) -> Result<Vec<TaskState>, AllocEr
 }
 
 impl Tallies {
-    /// What the tasks did in setup. `AllocError` for want of memory.
+    /// What the tasks did in setup. `AllocError` if memory runs out.
     pub fn new(alloc: Global, setup: &Frame) -> Result<Tallies, AllocError>
         ensures { IfOk result (λ made. spec.counts_of made ≡ spec.first_counts (table_of setup.now)) }
     {

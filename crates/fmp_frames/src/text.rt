@@ -1,4 +1,4 @@
-//! Pieces of a dump at the end of a text. Where memory runs out, the text has an unfinished end.
+//! Pieces of a dump at the end of a text. If memory runs out, the text has an unfinished end.
 use itoa::Buffer;
 use std::alloc::AllocError;
 

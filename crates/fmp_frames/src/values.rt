@@ -14,7 +14,7 @@ use crate::variable::{Object, Variable};
 use fmp_base::{Handler, Line, Lock, Phase, Processor, StateWord, TaskBlock, TaskState, WaitCause};
 use std::alloc::{AllocError, Global};
 
-/// A processor; one on which nothing runs and that nothing holds where there is none at the place.
+/// A processor; one on which nothing runs and that nothing holds if there is none at the place.
 fn processor_at(processors: &[Processor], place: usize) -> Processor
     ensures { result ≡ get_or processors.now place idle }
 {
@@ -208,7 +208,7 @@ fn value_of(frame: &Frame, variable: Variable) -> u64
     }
 }
 
-/// The values of these variables in a frame, in order. `AllocError` for want of memory.
+/// The values of these variables in a frame, in order. `AllocError` if memory runs out.
 pub fn values_of(
     alloc: Global,
     frame: &Frame,

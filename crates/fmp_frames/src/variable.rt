@@ -38,7 +38,7 @@ pub enum Variable {
     WaitObject(usize),
     /// A cyclic handler: 0 idle, 1 pending, 2 runs, 3 runs and is pending again.
     Cyclic(usize),
-    /// The handler of an interrupt, so too.
+    /// The handler of an interrupt, likewise.
     Interrupt(usize),
     /// The count of a semaphore.
     Count(usize),

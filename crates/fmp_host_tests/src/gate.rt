@@ -7,8 +7,8 @@ use std::thread;
 const MOST_YIELDS: u32 = 10_000_000;
 
 /// A gate that holds the first turn of processor 2 until the first turn of processor 1 is asked for, and that one until
-/// the board has answered so many turns of processor 2. It waits inside its questions, and says no for good once one
-/// waited in vain.
+/// the board has answered a number of turns of processor 2. It waits inside its questions, and says no for good once
+/// one has waited too long.
 #[derive(Drop)]
 pub struct SecondFirst {
     turns: u32,
@@ -18,7 +18,7 @@ pub struct SecondFirst {
 }
 
 impl SecondFirst {
-    /// A gate of which nothing was asked, and that holds processor 1 for so many turns of processor 2, at least one.
+    /// A gate that was asked nothing yet, and holds processor 1 for this many turns of processor 2, at least one.
     pub fn new(turns: u32) -> SecondFirst {
         SecondFirst {
             turns,

@@ -60,7 +60,7 @@ pub seats_last : (jobs : List Job) (j : Job) → seats_of (jobs ++ j ∷ []) ≡
 seats_last [] j = refl
 seats_last (x ∷ jobs) j = ap (λ (xs : List SeatState). x.seat ∷ xs) (seats_last jobs j)
 
--- what so many threads journaled: by so much the counts of their seats have risen, each by no more than a row has words
+-- what n threads journaled: the sum by which the counts of their seats have risen, each by at most the words of a row
 abbrev pub IsCount : (threads : ℕ) → List Job → (back : List SeatState) → (count : ℕ) → Type 0
 IsCount threads jobs back count = (mine_of back ≡ mine_of (seats_of jobs) + count) × (count ≤ threads * 1048576)
 

@@ -18,7 +18,7 @@ use Rattle.fmp_board.specs.declared.fault.BoardFault.{BoardFault}
 use Rattle.fmp_board.specs.declared.receipt.Receipt.{Receipt}
 use Rattle.fmp_board.specs.Outcomes.{AnsweredAfter, Submitted, TicketState}
 use Rattle.fmp_board.specs.Receipts.{receipt_of}
-use Rattle.fmp_board.specs.Replays.{reaction}
+use Rattle.fmp_replay.specs.Replays.{reaction}
 use Rattle.fmp_board.specs.Visits.{FedAfter, Fed, Kept, Visited, entered, journaled}
 use Rattle.fmp_hostrun.specs.Works.{Added, IsCounted}
 use Rattle.fmp_board.proofs.Visiting.{kept_none, kept_more, kept_on}

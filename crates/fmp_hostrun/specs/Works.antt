@@ -1,4 +1,4 @@
--- What the threads of a board make of their seats.
+-- The effect of a board's threads on their seats.
 use Rattle.std.specs.Prelude.{◌≡◌, ◌≢◌, ℕ, ◌+◌, ◌≤◌, nat_lt, if◌then◌else◌, List, [], ◌∷◌, ◌++◌, length, map, replicate, Result, Ok, Err, IfErr, IfOk}
 use Rattle.std.specs.List.{AllZip}
 use Rattle.fmp_base.specs.declared.events.Event.{Event}
@@ -24,9 +24,9 @@ part_at load place =
 abbrev pub IsCounted : SeatState → Type 0
 IsCounted s = length (own s.number s.seen) ≡ s.mine
 
--- What calls of a board make of a seat that enter this event alone, at most so often: the seat has counted those that
--- were journaled, and has seen them behind the entries of its own that it had seen before. Where it counted one, it has
--- counted no more than a row has words.
+-- The effect on a seat of calls of a board that enter only this event, at most a given number of times: the seat has
+-- counted those that were journaled, and has seen them behind the entries of its own that it had seen before. If it
+-- counted one, it has counted at most as many as a row has words.
 pub record Added (i : ImageTables) (n : ℕ) (row : RowId) (e : Event) (most : ℕ) (was now : SeatState) : Type 0 where
   pub kept : Kept i n row was now
   pub count : ℕ
@@ -35,7 +35,7 @@ pub record Added (i : ImageTables) (n : ℕ) (row : RowId) (e : Event) (most : �
   pub room : count ≢ 0 → now.mine ≤ row.capacity
   pub added : IsCounted was → own now.number now.seen ≡ own was.number was.seen ++ replicate count (entry was.number e)
 
--- what the threads of a board make of their seats, the first of which is at this place
+-- the effect of a board's threads on their seats, the first of which is at this place
 abbrev pub AllAdded : ImageTables → (n : ℕ) → RowId → Load → (place : ℕ) → (seats back : List SeatState) → Type 0
 AllAdded i n row load place [] [] = Unit {0}
 AllAdded i n row load place (s ∷ seats) (b ∷ back) =
@@ -44,7 +44,7 @@ AllAdded i n row load place (s ∷ seats) (b ∷ back) =
 AllAdded i n row load place [] (b ∷ back) = ⊥
 AllAdded i n row load place (s ∷ seats) [] = ⊥
 
--- what a thread is started for: its part, and the seat that it does it with
+-- the job of a thread: its part, and the seat with which it does it
 pub record Job : Type 0 where
   pub part : Part
   pub seat : SeatState
@@ -55,17 +55,17 @@ job_of part seat = record { part = part; seat = seat }
 abbrev pub seats_of : List Job → List SeatState
 seats_of jobs = map (λ j. j.seat) jobs
 
--- a thread has done no more than its part
+-- a thread has done at most its part
 abbrev pub IsDone : ImageTables → (n : ℕ) → RowId → Job → (back : SeatState) → Type 0
 IsDone i n row job back = Added i n row job.part.event job.part.times job.seat back
 
--- how many entries seats have counted together
+-- the sum of the counts of seats
 abbrev pub mine_of : List SeatState → ℕ
 mine_of [] = 0
 mine_of (s ∷ seats) = s.mine + mine_of seats
 
--- what came back of seats, where a thread was refused: all but that thread's seat, those of the threads that ran as R
--- says of them, and the rest as they were
+-- what came back of seats, if a thread was refused: all but that thread's seat, those of the threads that ran as R says
+-- of them, and the rest as they were
 pub record AllButOne (R : (seats back : List SeatState) → Type 0) (seats back : List SeatState) : Type 0 where
   pub front : List SeatState
   pub lost : SeatState
@@ -92,7 +92,7 @@ GaveBack i n row part was now result =
     Added i n row part.event part.times was now
     × IfOk result (λ count. (now.mine ≡ was.mine + count) × (count ≤ row.capacity)) × IfErr result IsTurnFault
 
--- two counts together, or the first fault
+-- the sum of two counts, or the first fault
 abbrev pub both : (journaled more : Result ℕ BoardFault) → Result ℕ BoardFault
 both (Ok count) (Ok more) = Ok (count + more)
 both (Ok count) (Err f) = Err f

@@ -1,4 +1,4 @@
-//! What takes events from many threads.
+//! A taker of events from many threads.
 ghost use Rattle.std.specs.Prelude.{◌≡◌, ◌+◌, ◌⊎◌, ℕ, IfErr, IfSome};
 ghost use Rattle.fmp_base.specs.declared.events.Event.TheVariants.{Run};
 ghost use Rattle.fmp_board.specs.Boards.{IsAt};
@@ -14,7 +14,7 @@ use fmp_board::{Board, BoardFault, Outcome, Receipt, Site};
 use fmp_journal::Seat;
 use std::sync::Wait;
 
-/// What takes events from many threads, as a board does.
+/// Takes events from many threads, as a board does.
 pub(crate) trait Feed {
     /// The image that it runs.
     ghost image: { ImageTables };

@@ -6,7 +6,7 @@ mod running;
 mod turns;
 
 pub use fmp_board::{
-    Blank, Board, BoardFault, Book, Closed, Outcome, Receipt, Seat, Site, Ticket, kernel_of,
+    Blank, Board, BoardFault, Book, Closed, Outcome, Receipt, Seat, Site, Ticket,
 };
 pub use running::run_all;
 pub use turns::Gate;

@@ -195,15 +195,15 @@ fn run_threads<B: Feed + Sync, G: Gate, R: Threads + Wait + Sync>(
     )
 }
 
-/// Runs a board by threads: one for each processor makes so many turns, in each of which it draws a ticket, makes its
-/// stretch outside the lock, asks the gate, submits the outcome and tells the gate; and one more feeds so many ticks. A
+/// Runs a board by threads: one for each processor makes `turns` turns, in each of which it draws a ticket, makes its
+/// stretch outside the lock, asks the gate, submits the outcome and tells the gate; and one more feeds `ticks` ticks. A
 /// turn in which the processor has no actor is over, and so is one whose outcome is stale. The seats are one for each
 /// processor, in order, and one for the ticks; they come back in their order, each of which has seen what its calls
-/// showed it. The answer is how many events were journaled by this call: by so much their own counts have risen
-/// together.
+/// showed it. The answer is the number of events that this call journaled, which is the sum by which their own counts
+/// have risen.
 ///
-/// `BoardFault::Limit`, exactly where the seats are not so many; `BoardFault::Memory`, for want of memory, before any
-/// thread is started; `BoardFault::Thread` where a thread was refused: then no more are started, those that run are
+/// `BoardFault::Limit`, exactly if the number of seats differs; `BoardFault::Memory`, if memory runs out, before any
+/// thread is started; `BoardFault::Thread` if a thread was refused: then no more are started, those that run are
 /// joined, and the seat of the refused one is lost. Else, where threads stopped at a fault, `BoardFault::Full` or
 /// `BoardFault::Held` (the gate said no 10,000 times), it is that of the least processor, or at last of the ticks. What
 /// was journaled before a fault stands.
@@ -219,7 +219,7 @@ pub fn run_all<S: Site + Send + Sync, G: Gate, R: Threads + Wait + Sync>(
     requires { All (IsAt S.row_id) seats.items }
     ensures limit { (result.1 ≡ Err Limit) ↔ (length seats.items ≢ S.image.system.processors + 1) }
     ensures seats { CameBack (Kept S.image S.bound S.row_id) seats.items result.0.items result.1 }
-    // What the p-th seat has added are runs of processor p, at most so many, and what the last one has are ticks.
+    // What the p-th seat has added are runs of processor p, at most `turns`, and what the last one has are ticks.
     ensures added { CameBackAs (AllAdded S.image S.bound S.row_id
         (record { processors = S.image.system.processors; turns = turns; ticks = ticks }) 0)
         seats.items result.0.items result.1 }
@@ -234,7 +234,7 @@ pub fn run_all<S: Site + Send + Sync, G: Gate, R: Threads + Wait + Sync>(
     let Ok(lists) = Lists::new(alloc, seats.len()) else {
         return (seats, Err(BoardFault::Memory));
     };
-    // It is at most 2^20, so the counts of all threads together are no more than a u32 holds.
+    // It is at most 2^20, so a u32 holds the sum of the counts of all threads.
     board.capacity();
     let load = Load {
         processors,

@@ -15,16 +15,17 @@ use std::thread;
 /// How often a gate is asked of one turn.
 const MOST_ASKED: u32 = 10_000;
 
-/// Whoever decides when the processors go on. Both calls come from the thread of the processor, and may wait.
+/// Decides when the processors go on. Both calls come from the thread of the processor, and may wait.
 pub trait Gate: Sync {
-    /// Whether this turn of processor p, counted from 1, may go on. It is asked until it says so, 10,000 times at most.
+    /// Whether this turn of processor p, counted from 1, may go on. It is asked until it says yes, at most 10,000
+    /// times.
     fn may_submit(&self, p: u8, turn: u32) -> bool;
 
     /// The board has answered this turn of processor p, by a receipt or by a refusal.
     fn answered(&self, p: u8, turn: u32);
 }
 
-/// What a thread of a board does: a processor's runs, each a turn, or it feeds other events, so many times.
+/// The part of a thread of a board: a processor's runs, each a turn, or other events to feed; and how many times.
 #[derive(Clone, Copy)]
 pub(crate) struct Part {
     pub event: Event,
@@ -129,7 +130,7 @@ fn run_turns<B: Feed, G: Gate, R: Wait>(
     Ok(journaled)
 }
 
-/// Feeds an event so many times: how many times it was journaled.
+/// Feeds an event this many times. The answer is how many times it was journaled.
 #[tactic(auto, using(crate::proofs::Working::added_begin, crate::proofs::Working::added_more, crate::proofs::Working::added_last, crate::proofs::Working::added_enough))]
 fn feed_all<B: Feed, R: Wait>(
     rt: &R,

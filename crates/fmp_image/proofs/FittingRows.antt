@@ -16,11 +16,11 @@ use Rattle.fmp_base.specs.declared.systems.MailboxConfig.{MailboxConfig}
 use Rattle.fmp_base.specs.declared.systems.MessageConfig.{MessageConfig}
 use Rattle.fmp_base.specs.declared.systems.SharedWordConfig.{SharedWordConfig}
 use Rattle.fmp_base.specs.declared.systems.SpinLockConfig.{SpinLockConfig}
-use Rattle.fmp_lex.specs.Words.{constant_named, api_named, service_named, keyword_named}
+use Rattle.fmp_base.specs.Words.{constant_named, api_named, service_named, keyword_named}
 use Rattle.fmp_lex.specs.declared.token.TokenKind.TheVariants as kind
-use Rattle.fmp_lex.specs.declared.words.Api.{Api}
-use Rattle.fmp_lex.specs.declared.words.Constant.{Constant}
-use Rattle.fmp_lex.specs.declared.words.Keyword.{Keyword}
+use Rattle.fmp_base.specs.declared.words.Api.{Api}
+use Rattle.fmp_base.specs.declared.words.Constant.{Constant}
+use Rattle.fmp_base.specs.declared.words.Keyword.{Keyword}
 use Rattle.fmp_cfgparse.specs.Tables.{is_identifier, IsObjectName, SharedWordConfigured}
 use Rattle.fmp_image_bytes.specs.Images.{KeepRules}
 use Rattle.fmp_image_parts.specs.Keys.{begins_and_goes_on, is_reserved, is_name}

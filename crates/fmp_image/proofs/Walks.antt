@@ -6,8 +6,8 @@ use Rattle.fmp_base.specs.declared.names.Name.{Name}
 use Rattle.fmp_base.specs.Names.{name_text}
 use Rattle.fmp_base.specs.Systems.{SystemTables}
 use Rattle.fmp_lex.specs.declared.fault.FaultKind.{FaultKind}
-use Rattle.fmp_lex.specs.declared.words.Api.{Api}
-use Rattle.fmp_lex.specs.declared.words.Api.TheVariants as api
+use Rattle.fmp_base.specs.declared.words.Api.{Api}
+use Rattle.fmp_base.specs.declared.words.Api.TheVariants as api
 use Rattle.fmp_cfgparse.specs.declared.places.ClassPlace.{ClassPlace}
 use Rattle.fmp_cfgparse.specs.Apis.{Making, class_of, api_fault, with_object, made}
 use Rattle.fmp_cfgparse.specs.Configuring as walk

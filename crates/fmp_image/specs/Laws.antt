@@ -5,7 +5,7 @@ use Rattle.fmp_lex.specs.declared.fault.BuildFault.TheVariants.{Memory}
 use Rattle.fmp_image_bytes.specs.Images.{ImageTables}
 use Rattle.fmp_image.specs.Building.{Builds, IsBuildFault}
 
--- two texts build one image at most, or have one first fault at most beside want of memory, and never both
+-- two texts build at most one image, or have at most one first fault apart from running out of memory, and never both
 pub record HaveOneAnswer (cfg src : List ℕ) : Type 0 where
   pub one_image : (i j : ImageTables) → Builds cfg src i → Builds cfg src j → i ≡ j
   pub one_fault :

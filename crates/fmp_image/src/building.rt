@@ -37,7 +37,7 @@ fn image_of(alloc: Global, system: System, text: CompiledText) -> Result<Image, 
 
 /// The image of the system that a configuration describes, its bodies given by a task text; or the first fault of the
 /// texts: of the syntax of the configuration and of what it makes, then of the syntax of the task text, then of its
-/// bodies, then of the entries that the static APIs name. `Memory` where an allocation is refused.
+/// bodies, then of the entries that the static APIs name. `Memory` if an allocation is refused.
 pub fn build(alloc: Global, cfg: &[u8], src: &[u8]) -> Result<Image, BuildFault>
     ensures builds { IfOk result (λ image. Builds cfg.now src.now image) }
     ensures refuses { IfErr result (IsBuildFault cfg.now src.now) }

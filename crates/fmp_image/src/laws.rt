@@ -25,8 +25,8 @@ pub fn built_image_prints_text()
     compiled_run();
 }
 
-/// Two texts build at most one image or have at most one first fault beside want of memory, and never both. So what
-/// `build` answers, they answer.
+/// Two texts build at most one image or have at most one first fault apart from running out of memory, and never both.
+/// So what `build` answers, they answer.
 pub fn two_texts_have_one_answer()
     ensures { (cfg src : List ℕ) → HaveOneAnswer cfg src }
 {}

@@ -37,7 +37,7 @@ pub record ImageTables : Type 0 where
 abbrev pub image_tables : SystemTables → List BodyHead → List BodyTables → ImageTables
 image_tables system heads code = record { system = system; heads = heads; code = code }
 
--- so many bytes as they are
+-- n bytes as they are
 abbrev pub plain : ℕ → Field (List ℕ)
 plain size = record { fits = λ t. length t ≡ size; spell = λ t. t; read = bytes_at size }
 

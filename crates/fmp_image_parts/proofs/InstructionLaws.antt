@@ -13,7 +13,7 @@ use Rattle.fmp_base.specs.declared.operators.BinaryOperator.TheVariants as binar
 use Rattle.fmp_base.specs.Services.{service_number}
 use Rattle.fmp_instructions.specs.declared.instructions.Instruction.{Instruction}
 use Rattle.fmp_instructions.specs.declared.instructions.Instruction.TheVariants.{Push, Load, Store, Unary, Truth, Binary, Jump, JumpIfZero, Call, End}
-use Rattle.fmp_lex.specs.declared.words.TheConstants.{SERVICES}
+use Rattle.fmp_base.specs.declared.services.TheConstants.{SERVICES}
 use Rattle.fmp_image_parts.specs.declared.instructions.TheConstants.{UNARY_OPERATORS, BINARY_OPERATORS}
 use Rattle.fmp_image_parts.specs.Instructions.{unary_number, binary_number, local_number, call_number, opcode_of, argument_of, local_of, service_of_number, unary_of, binary_operator_of, call_of, below, numbered, instruction_of, HasRoom}
 use Rattle.fmp_image_parts.proofs.Names.{and_true}

@@ -170,7 +170,7 @@ Reads bytes depths place rest code ds =
 abbrev Passes : ℕ → List ℕ → List Instruction → List ℕ → Type 0
 Passes locals depths code ds = pairs_pass (λ place i d. fits locals depths place d i) 0 code ds ≡ true
 
--- so many instructions are read, and each of them is fit
+-- n instructions are read, and each of them is fit
 pub record SoFar (locals : ℕ) (bytes depths : List ℕ) (place : ℕ) (code : List Instruction) : Type 0 where
   pub reading : Reads bytes depths place (drop (6 * place) bytes) code (take place depths)
   pub kept : Passes locals depths code (take place depths)

@@ -4,7 +4,7 @@ use Rattle.fmp_image_parts.specs.Fields.{Field, ◌>>=◌}
 use Rattle.fmp_image_parts.specs.Pairs.{pairs_at, pairs_spelled, AllPairs}
 use Rattle.fmp_image_parts.proofs.FieldLaws.{IsBytes, Exact, bind_ok, ok_is, rest_is_bytes}
 
--- what so many pairs took
+-- what n pairs took
 pub record PairsTaken {A B : Type 0} (pair : Field (A × B)) (n : ℕ) (bytes : List ℕ) (xs : List A) (ys : List B) (rest : List ℕ) : Type 0 where
   pub count : length ys ≡ n
   pub each : AllPairs (λ a b. pair.fits (a, b)) xs ys

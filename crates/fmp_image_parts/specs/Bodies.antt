@@ -34,7 +34,7 @@ step = byte ⊗ word ⊗ byte
 abbrev pub step_spelled : Instruction → ℕ → List ℕ
 step_spelled i d = step.spell (opcode_of i, (argument_of i, d))
 
--- an instruction, where there is one
+-- an instruction, if there is one
 abbrev pub named : Option Instruction → Result Instruction ImageFault
 named None = Err fault.Code
 named (Some i) = Ok i
@@ -49,7 +49,7 @@ step_at bytes = do
 abbrev pub code_at : ℕ → List ℕ → Result ((List Instruction × List ℕ) × List ℕ) ImageFault
 code_at size bytes = if nat_lt (length bytes) (6 * size) then Err fault.Short else pairs_at step_at size bytes
 
--- how many operands stand before each of so many instructions: the last of its six bytes
+-- how many operands stand before each of n instructions: the last of its six bytes
 abbrev pub AreDepths : ℕ → List ℕ → List ℕ → Type 0
 AreDepths size bytes depths =
     (length depths ≡ size)

@@ -1,4 +1,5 @@
--- Keys are alike as their bytes or their numbers are; alike keys are hashed alike, and one that is new goes last.
+-- Keys are alike exactly as their bytes or their numbers are; alike keys are hashed alike, and one that is new goes
+-- last.
 use Rattle.std.proofs.Common.{◌≡◌, List, [], ◌∷◌, ◌++◌, true, false, refl, ap}
 use Rattle.std.specs.Cmp.{IsPartialEquivalence, IsEquivalence, partial_equiv_from_equiv}
 use Rattle.std.proofs.lemmas.Bool.Decides.{Decides-eqb}

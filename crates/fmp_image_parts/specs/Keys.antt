@@ -4,8 +4,8 @@ use Rattle.std.specs.List.{list_all, list_any}
 use Rattle.std.specs.Str.{bytes_eq}
 use Rattle.std.specs.Hash as fed
 use Rattle.fmp_base.specs.Names.{name_text}
-use Rattle.fmp_lex.specs.Scanning.{is_letter, is_word}
-use Rattle.fmp_lex.specs.Words.{constant_named, api_named, service_named, keyword_named}
+use Rattle.fmp_base.specs.Words.{is_letter, is_word}
+use Rattle.fmp_base.specs.Words.{constant_named, api_named, service_named, keyword_named}
 use Rattle.fmp_image_parts.specs.declared.keys.Key.{Key}
 use Rattle.fmp_image_parts.specs.declared.keys.Key.TheVariants as key
 

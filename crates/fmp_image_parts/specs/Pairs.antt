@@ -3,7 +3,7 @@ use Rattle.std.specs.Prelude.{ℕ, zero, suc, ◌+◌, List, [], ◌∷◌, ◌+
 use Rattle.fmp_image_parts.specs.declared.fault.ImageFault.{ImageFault}
 use Rattle.fmp_image_parts.specs.Fields.{◌>>=◌}
 
--- so many pairs from the front of bytes
+-- n pairs from the front of bytes
 unfoldable pub pairs_at : {A B : Type 0} → (List ℕ → Result ((A × B) × List ℕ) ImageFault) → ℕ → List ℕ
     → Result ((List A × List B) × List ℕ) ImageFault
 pairs_at pair_at zero bytes = Ok (([], []), bytes)

@@ -66,7 +66,7 @@ fn put_body(out: &mut Vec<u8>, head: &BodyHead, body: &BodyCode) -> Result<(), A
     Ok(())
 }
 
-/// How many operands stand before each of so many instructions.
+/// How many operands stand before each of this many instructions.
 fn read_depths(alloc: Global, size: u16, bytes: &[u8]) -> Result<Vec<u8>, LoadFault>
     requires { 6 * size ≤ length bytes.now }
     ensures read { IfOk result (λ depths. AreDepths size bytes.now depths.items) }
@@ -241,9 +241,9 @@ fn read_some_bodies<'a>(
     Ok(((heads, bodies), rest))
 }
 
-/// Reads all bodies behind their number. `ImageFault::Short` where a field ends past the bytes, `ImageFault::Code`
-/// where the code of a body is not fit to run, `ImageFault::Table` where another value of a body breaks a rule, and
-/// `LoadFault::Memory` for want of memory.
+/// Reads all bodies behind their number. `ImageFault::Short` if a field ends past the bytes, `ImageFault::Code` if the
+/// code of a body is not fit to run, `ImageFault::Table` if another value of a body breaks a rule, and
+/// `LoadFault::Memory` if memory runs out.
 pub fn read_bodies<'a>(
     alloc: Global,
     bytes: &'a [u8],
@@ -254,7 +254,7 @@ pub fn read_bodies<'a>(
     read_some_bodies(alloc, count, rest)
 }
 
-/// Puts all bodies, at most 255, behind their number. `AllocError` for want of memory.
+/// Puts all bodies, at most 255, behind their number. `AllocError` if memory runs out.
 pub fn put_bodies(
     out: &mut Vec<u8>,
     heads: &[BodyHead],

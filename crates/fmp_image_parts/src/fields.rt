@@ -16,7 +16,7 @@ pub fn in_range(least: u32, most: u32, number: u32) -> bool
     least <= number && number <= most
 }
 
-/// The first byte, and the bytes behind it. `LoadFault::Image` where there is none.
+/// The first byte, and the bytes behind it. `LoadFault::Image` if there is none.
 pub fn byte_at(bytes: &[u8]) -> Result<(u8, &[u8]), LoadFault>
     ensures { Gives (λ x. (x.0, x.1.now)) result (byte.read bytes.now) }
 {
@@ -26,8 +26,7 @@ pub fn byte_at(bytes: &[u8]) -> Result<(u8, &[u8]), LoadFault>
     }
 }
 
-/// The number of 16 bits that the first two bytes are, and the bytes behind them. `LoadFault::Image` where they are
-/// fewer.
+/// The number of 16 bits that the first two bytes are, and the bytes behind them. `LoadFault::Image` if they are fewer.
 pub fn short_at(bytes: &[u8]) -> Result<(u16, &[u8]), LoadFault>
     ensures { Gives (λ x. (x.0, x.1.now)) result (short.read bytes.now) }
 {
@@ -37,7 +36,7 @@ pub fn short_at(bytes: &[u8]) -> Result<(u16, &[u8]), LoadFault>
     Ok((LittleEndian::read_u16(bytes), &bytes[2..]))
 }
 
-/// The number of 32 bits that the first four bytes are, and the bytes behind them. `LoadFault::Image` where they are
+/// The number of 32 bits that the first four bytes are, and the bytes behind them. `LoadFault::Image` if they are
 /// fewer.
 pub fn long_at(bytes: &[u8]) -> Result<(u32, &[u8]), LoadFault>
     ensures { Gives (λ x. (x.0, x.1.now)) result (long.read bytes.now) }
@@ -48,7 +47,7 @@ pub fn long_at(bytes: &[u8]) -> Result<(u32, &[u8]), LoadFault>
     Ok((LittleEndian::read_u32(bytes), &bytes[4..]))
 }
 
-/// The signed number of 32 bits that the first four bytes are, and the bytes behind them. `LoadFault::Image` where they
+/// The signed number of 32 bits that the first four bytes are, and the bytes behind them. `LoadFault::Image` if they
 /// are fewer.
 pub fn word_at(bytes: &[u8]) -> Result<(i32, &[u8]), LoadFault>
     ensures { Gives (λ x. (x.0, x.1.now)) result (word.read bytes.now) }
@@ -59,7 +58,7 @@ pub fn word_at(bytes: &[u8]) -> Result<(i32, &[u8]), LoadFault>
     Ok((LittleEndian::read_i32(bytes), &bytes[4..]))
 }
 
-/// So many bytes, and those behind them. `LoadFault::Image` where they are fewer.
+/// This many bytes, and those behind them. `LoadFault::Image` if there are fewer.
 pub fn bytes_at(bytes: &[u8], size: usize) -> Result<(&[u8], &[u8]), LoadFault>
     ensures { Gives (λ x. (x.0.now, x.1.now)) result (bytes_at size bytes.now) }
 {
@@ -69,7 +68,7 @@ pub fn bytes_at(bytes: &[u8], size: usize) -> Result<(&[u8], &[u8]), LoadFault>
     Ok(bytes.split_at(size))
 }
 
-/// The bytes whose number the first byte tells, and those behind them. `LoadFault::Image` where they are fewer.
+/// The bytes whose number the first byte tells, and those behind them. `LoadFault::Image` if they are fewer.
 pub fn text_at(bytes: &[u8]) -> Result<(&[u8], &[u8]), LoadFault>
     ensures { Gives (λ x. (x.0.now, x.1.now)) result (text.read bytes.now) }
 {
@@ -77,7 +76,7 @@ pub fn text_at(bytes: &[u8]) -> Result<(&[u8], &[u8]), LoadFault>
     bytes_at(rest, length as usize)
 }
 
-/// Appends a byte. `AllocError` for want of memory.
+/// Appends a byte. `AllocError` if memory runs out.
 pub fn put_byte(out: &mut Vec<u8>, number: u8) -> Result<(), AllocError>
     ensures { OnOk result (out.new.items ≡ out.old.items ++ byte.spell number) }
 {
@@ -85,7 +84,7 @@ pub fn put_byte(out: &mut Vec<u8>, number: u8) -> Result<(), AllocError>
     Ok(())
 }
 
-/// Appends a number of 16 bits in two bytes. `AllocError` for want of memory.
+/// Appends a number of 16 bits in two bytes. `AllocError` if memory runs out.
 pub fn put_short(out: &mut Vec<u8>, number: u16) -> Result<(), AllocError>
     ensures { OnOk result (out.new.items ≡ out.old.items ++ short.spell number) }
 {
@@ -94,7 +93,7 @@ pub fn put_short(out: &mut Vec<u8>, number: u16) -> Result<(), AllocError>
     out.extend_from_slice(&field)
 }
 
-/// Appends a number of 32 bits in four bytes. `AllocError` for want of memory.
+/// Appends a number of 32 bits in four bytes. `AllocError` if memory runs out.
 pub fn put_long(out: &mut Vec<u8>, number: u32) -> Result<(), AllocError>
     ensures { OnOk result (out.new.items ≡ out.old.items ++ long.spell number) }
 {
@@ -103,7 +102,7 @@ pub fn put_long(out: &mut Vec<u8>, number: u32) -> Result<(), AllocError>
     out.extend_from_slice(&field)
 }
 
-/// Appends a signed number of 32 bits in four bytes. `AllocError` for want of memory.
+/// Appends a signed number of 32 bits in four bytes. `AllocError` if memory runs out.
 pub fn put_word(out: &mut Vec<u8>, number: i32) -> Result<(), AllocError>
     ensures { OnOk result (out.new.items ≡ out.old.items ++ word.spell number) }
 {
@@ -112,7 +111,7 @@ pub fn put_word(out: &mut Vec<u8>, number: i32) -> Result<(), AllocError>
     out.extend_from_slice(&field)
 }
 
-/// Appends a text of at most 255 bytes behind its length. `AllocError` for want of memory.
+/// Appends a text of at most 255 bytes behind its length. `AllocError` if memory runs out.
 pub fn put_text(out: &mut Vec<u8>, bytes: &[u8]) -> Result<(), AllocError>
     requires { length bytes.now < 256 }
     ensures { OnOk result (out.new.items ≡ out.old.items ++ text.spell bytes.now) }

@@ -1,6 +1,6 @@
 //! What the tables of an image say of a body beside its code.
 
-/// What a body is the body of.
+/// The kind of a body: of a task or of a handler.
 #[derive(Clone, Copy)]
 pub enum BodyKind {
     Task,

@@ -4,9 +4,8 @@ ghost use Rattle.std.specs.Prelude.{◌≡◌, ◌<◌, ◌≤◌, ◌+◌, ◌+
 ghost use Rattle.fmp_instructions.specs.Verify.{AreLow, fits};
 ghost use Rattle.fmp_image_parts.specs.Instructions.{unary_number, binary_number, local_number, call_number, opcode_of, argument_of, local_of, service_of_number, unary_of, binary_operator_of, call_of, numbered, instruction_of};
 
-use fmp_base::{BinaryOperator, Service, UnaryOperator};
+use fmp_base::{BinaryOperator, SERVICES, Service, UnaryOperator};
 use fmp_instructions::{Instruction, is_fit};
-use fmp_lex::words::SERVICES;
 
 /// The operators with one operand, in the order of their numbers.
 pub const UNARY_OPERATORS: [UnaryOperator; 3] = [

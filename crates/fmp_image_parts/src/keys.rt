@@ -3,12 +3,12 @@
 ghost use Rattle.std.specs.Prelude.{◌≡◌, ◌++◌, ◌∷◌, [], true, false, MatchOption, OnOk};
 ghost use Rattle.std.specs.List.{list_all};
 ghost use Rattle.fmp_base.specs.Names.{name_text, name_from};
-ghost use Rattle.fmp_lex.specs.Scanning.{is_letter, is_word};
+ghost use Rattle.fmp_base.specs.Words.{is_letter, is_word};
 ghost use Rattle.fmp_image_parts.specs.Keys.{begins_and_goes_on, is_reserved, is_name, key_input, same_key, is_taken};
 ghost use Rattle.fmp_image_parts.specs.KeyLaws.{are_alike, are_partly_alike, hashed_alike};
 
 use fmp_base::Name;
-use fmp_lex::words::{find_api, find_constant, find_keyword, find_service};
+use fmp_base::words::{find_api, find_constant, find_keyword, find_service};
 use indexmap::IndexSet;
 use std::alloc::AllocFailed;
 use std::hash::{Hash, Hasher};
@@ -66,7 +66,7 @@ pub fn is_name(text: &[u8]) -> bool
     text.len() <= 31 && begins_and_goes_on(text) && !is_reserved(text)
 }
 
-/// The name of this text, if an object can have it: `None` where `is_name` says no.
+/// The name of this text, if an object can have it: `None` if `is_name` says no.
 #[tactic(auto, using(crate::proofs::Names::name_fits))]
 pub fn name_of(text: &[u8]) -> Option<Name>
     ensures { MatchOption result (is_name text.now ≡ false)
@@ -118,7 +118,7 @@ pub fn is_taken(key: &Key, taken: &TakenKeys) -> bool
 }
 
 #[tactic(auto, using(crate::specs::KeyLaws::put_last))]
-/// Enters a key that does not stand among these behind them. `AllocFailed` for want of memory.
+/// Enters a key that does not stand among these behind them. `AllocFailed` if memory runs out.
 pub fn take(key: Key, taken: &mut TakenKeys) -> Result<(), AllocFailed<Key>>
     requires { is_taken key taken.old.keys ≡ false }
     ensures { OnOk result (taken.new.keys ≡ taken.old.keys ++ key ∷ []) }

@@ -12,7 +12,7 @@ use Rattle.fmp_image_parts.proofs.FieldLaws.{IsBytes, Exact, bind_ok, ok_is, byt
 use Rattle.fmp_image_parts.proofs.Names.{and_true}
 use Rattle.fmp_image_parts.proofs.Verification.{both_true}
 
--- what so many rows took
+-- what n rows took
 record Taken {A : Type 0} (row : Field A) (key_of : A → Key) (n : ℕ) (taken : List Key) (bytes : List ℕ) (rows : List A) (rest : List ℕ) : Type 0 where
   count : length rows ≡ n
   each : AllByRecursion row.fits rows

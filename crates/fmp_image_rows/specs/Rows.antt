@@ -89,7 +89,7 @@ is_handler_body (Some head) = is_handler head.kind
 abbrev pub is_start_bit : ℕ → Bool
 is_start_bit attributes = (attributes == 0) || (attributes == 2)
 
--- name, attributes, exinf, body, priority, stack, processor from 1, and 1 where that is the only one allowed
+-- name, attributes, exinf, body, priority, stack, processor from 1, and 1 if that is the only one allowed
 abbrev pub TaskFields : Type 0
 TaskFields = List ℕ × (ℕ × (ℤ × (ℕ × (ℕ × (ℕ × (ℕ × ℕ))))))
 

@@ -11,7 +11,7 @@ use Rattle.fmp_image_parts.specs.Keys.{is_taken, are_new}
 abbrev pub new_row : {A : Type 0} → Field A → (A → Key) → List Key → Field A
 new_row row key_of taken = tested (λ a. not (is_taken (key_of a) taken)) fault.Table row
 
--- so many rows from the front of bytes
+-- n rows from the front of bytes
 unfoldable pub rows_at : {A : Type 0} → Field A → (A → Key) → ℕ → List Key → List ℕ
     → Result (List A × List ℕ) ImageFault
 rows_at row key_of zero taken bytes = Ok ([], bytes)

@@ -15,14 +15,14 @@ use fmp_image_parts::heads::BodyHead;
 use fmp_image_parts::keys::{Key, TakenKeys, is_taken, take};
 use std::alloc::{AllocError, Global};
 
-/// Appends a byte: a number that stands for true, or 0 for false. `AllocError` for want of memory.
+/// Appends a byte: a number that stands for true, or 0 for false. `AllocError` if memory runs out.
 pub fn put_bit(out: &mut Vec<u8>, is_set: bool, number: u8) -> Result<(), AllocError>
     ensures { OnOk result (out.new.items ≡ out.old.items ++ byte.spell (bit is_set number)) }
 {
     put_byte(out, if is_set { number } else { 0 })
 }
 
-/// Appends a name behind its length. `AllocError` for want of memory.
+/// Appends a name behind its length. `AllocError` if memory runs out.
 pub fn put_name(out: &mut Vec<u8>, name: &Name) -> Result<(), AllocError>
     requires { length (name_text name.now) < 256 }
     ensures { OnOk result (out.new.items ≡ out.old.items ++ text.spell (name_text name.now)) }
@@ -41,8 +41,8 @@ pub trait Row: Copy {
     ghost can_put: { Self → Type 0 };
 
     /// Reads a row from the front of the bytes, and gives the bytes behind it. The processors are how many the system
-    /// has, 1 to 8; the heads are those of its bodies, by place. `ImageFault::Short` where a field ends past the bytes,
-    /// `ImageFault::Table` where a value breaks a rule of the row.
+    /// has, 1 to 8; the heads are those of its bodies, by place. `ImageFault::Short` if a field ends past the bytes,
+    /// `ImageFault::Table` if a value breaks a rule of the row.
     fn read<'a>(
         processors: u8,
         heads: &[BodyHead],
@@ -54,14 +54,14 @@ pub trait Row: Copy {
     fn key(&self) -> Key
         ensures { result ≡ key_of self.now };
 
-    /// Puts the row behind the bytes. `AllocError` for want of memory.
+    /// Puts the row behind the bytes. `AllocError` if memory runs out.
     fn put(&self, out: &mut Vec<u8>) -> Result<(), AllocError>
         requires { can_put self.now }
         ensures { OnOk result (out.new.items ≡ out.old.items ++ spelled self.now) };
 }
 
-/// Reads so many rows, and enters their keys among those that are taken. The faults are those of a row,
-/// `ImageFault::Table` for a key that is taken, and `LoadFault::Memory` for want of memory.
+/// Reads this many rows, and enters their keys among those that are taken. The faults are those of a row,
+/// `ImageFault::Table` for a key that is taken, and `LoadFault::Memory` if memory runs out.
 pub fn read_rows<'a, R: Row>(
     alloc: Global,
     processors: u8,
@@ -89,8 +89,8 @@ pub fn read_rows<'a, R: Row>(
     Ok((rows, rest))
 }
 
-/// Reads a table: a count, and so many rows. Enters the keys of its rows among those that are taken. The faults are
-/// those of `read_rows`, and `ImageFault::Short` where there is no count.
+/// Reads a table: a count, and that many rows. Enters the keys of its rows among those that are taken. The faults are
+/// those of `read_rows`, and `ImageFault::Short` if there is no count.
 pub fn read_table<'a, R: Row>(
     alloc: Global,
     processors: u8,
@@ -106,7 +106,7 @@ pub fn read_table<'a, R: Row>(
     read_rows(alloc, processors, heads, count, taken, rest)
 }
 
-/// Puts a table of at most 255 rows behind the bytes. `AllocError` for want of memory.
+/// Puts a table of at most 255 rows behind the bytes. `AllocError` if memory runs out.
 pub fn put_table<R: Row>(out: &mut Vec<u8>, rows: &[R]) -> Result<(), AllocError>
     requires count { length rows.now < 256 }
     requires rows { AllByRecursion R.can_put rows.now }

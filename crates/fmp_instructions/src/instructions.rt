@@ -18,7 +18,7 @@ pub enum Instruction {
     Binary(BinaryOperator),
     /// Goes on at this place.
     Jump(u16),
-    /// Pops an operand, and goes on at this place where it is 0.
+    /// Pops an operand, and goes on at this place if it is 0.
     JumpIfZero(u16),
     /// Makes a service call with all operands as its arguments.
     Call {

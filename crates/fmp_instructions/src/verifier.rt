@@ -1,6 +1,5 @@
 //! Code is verified before it runs: depths, locals and jumps.
-ghost use Rattle.std.specs.Prelude.{◌≡◌, ◌+◌, ◌<◌, ◌≤◌, ◌↔◌, ◌^◌, IsTrue, Some, is_some, length, slice_get};
-ghost use Rattle.fmp_base.specs.Services.{out_place};
+ghost use Rattle.std.specs.Prelude.{◌≡◌, ◌+◌, ◌<◌, ◌≤◌, ◌↔◌, ◌^◌, IsTrue, Some, length, slice_get};
 ghost use Rattle.fmp_instructions.specs.Instructions.{body_tables, code_tables};
 ghost use Rattle.fmp_instructions.specs.Verify.{AreLow, entry_is, local_fits, places_fit, fits, EachFits, KeepsTable, VerifiedBody, Verified};
 
@@ -18,26 +17,6 @@ fn is_entry(depths: &[u8], place: usize, depth: usize) -> bool
     }
 }
 
-fn takes_out(service: Service) -> bool
-    ensures { result ≡ is_some (out_place service) }
-{
-    match service {
-        Service::LdShr
-        | Service::GetPri
-        | Service::WaiFlg
-        | Service::PolFlg
-        | Service::TwaiFlg
-        | Service::RcvDtq
-        | Service::PrcvDtq
-        | Service::TrcvDtq
-        | Service::RcvMbx
-        | Service::PrcvMbx
-        | Service::TrcvMbx
-        | Service::GetTid => true,
-        _ => false,
-    }
-}
-
 fn is_local(locals: u8, local: Option<u8>) -> bool
     ensures { result ≡ local_fits locals local }
 {
@@ -50,11 +29,13 @@ fn is_local(locals: u8, local: Option<u8>) -> bool
 fn has_places(locals: u8, service: Service, out: Option<u8>, receiver: Option<u8>) -> bool
     ensures { result ≡ places_fit locals service out receiver }
 {
-    takes_out(service) == out.is_some() && is_local(locals, out) && is_local(locals, receiver)
+    service.out_place().is_some() == out.is_some()
+        && is_local(locals, out)
+        && is_local(locals, receiver)
 }
 
-/// Whether a body's code may have an instruction at a place before which so many operands stand: it finds its operands
-/// and its locals, and the places where it goes on have the depths that it leaves. No depth is above 64.
+/// Whether a body's code may have an instruction at a place before which this many operands stand: it finds its
+/// operands and its locals, and the places where it goes on have the depths that it leaves. No depth is above 64.
 #[inline(always)]
 pub fn is_fit(
     locals: u8,

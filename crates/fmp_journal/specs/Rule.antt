@@ -20,7 +20,7 @@ pub record Whole : Type 0 where
   pub scribe : ℕ
   pub seat : ℕ → ℕ
 
--- an entry of one of so many seats
+-- an entry of one of n seats
 abbrev pub IsEntryOf : (seats : ℕ) → JournalEntry → Type 0
 IsEntryOf seats x = (x.seat < seats) × IsEntry x
 
@@ -39,7 +39,8 @@ pub record PenFits (capacity : ℕ) (h : Whole) (id : ℕ) (p : Pen) : Type 0 wh
   pub journal_is : p.journal ≡ h.journal
   pub marks_are : p.marks ≡ h.marks
 
--- a seat has seen a beginning of the journal, which has just so many entries of it as it counted and as marks name it
+-- a seat has seen a beginning of the journal, whose entries of this seat are those that it counted and those that marks
+-- name
 pub record SightFits (capacity : ℕ) (h : Whole) (id : ℕ) (s : Sight) : Type 0 where
   pub here : id ≡ h.seat s.number
   pub capacity_is : s.capacity ≡ capacity

@@ -16,7 +16,7 @@ pub record RowId : Type 0 where
   pub capacity : ℕ
   pub seats : ℕ
 
--- the journal, and the seats that have not counted an entry of theirs, one mark for each entry
+-- the journal, and the seats that have not counted one of their entries, one mark for each such entry
 pub record ScribeState : Type 0 where
   pub row : RowId
   pub journal : List JournalEntry
@@ -52,7 +52,7 @@ new_scribe row = record { row = row; journal = []; marks = [] }
 abbrev pub scribe_after : ScribeState → (seat : ℕ) → Event → ScribeState
 scribe_after s seat event = record s { journal = s.journal ++ entry seat event ∷ []; marks = s.marks ++ seat ∷ [] }
 
--- the marks of seat n are taken away
+-- the marks of seat n are cleared
 abbrev pub scribe_unmarked : ScribeState → (n : ℕ) → ScribeState
 scribe_unmarked s n = record s { marks = without n s.marks }
 

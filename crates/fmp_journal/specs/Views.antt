@@ -28,7 +28,7 @@ looked_at l word found = record { reads = l.reads + 1; word = word; found = foun
 abbrev pub no_look : Look
 no_look = record { reads = 0; word = 0; found = 0 }
 
--- the pen of an empty row, of whose seats so many are made
+-- the pen of an empty row that has made this many of its seats
 abbrev pub new_pen : (capacity seats made : ℕ) → Pen
 new_pen capacity seats made = record { capacity = capacity; seats = seats; made = made; journal = []; marks = [] }
 
@@ -80,11 +80,11 @@ pen_after p x = record p { journal = p.journal ++ x ∷ []; marks = p.marks ++ x
 abbrev pub written : View → JournalEntry → View
 written v x = record v { pen = pen_after v.pen x }
 
--- a word was read, and so much is now seen
+-- a word was read, and this is now seen
 abbrev pub looked : View → List JournalEntry → (word found : ℕ) → View
 looked v seen word found = record v { sight = record v.sight { seen = seen; look = looked_at v.sight.look word found } }
 
--- seat n is shown the journal: its marks are taken away
+-- seat n is shown the journal: its marks are cleared
 abbrev pub pen_shown : ℕ → Pen → Pen
 pen_shown n p = record p { marks = without n p.marks }
 
@@ -95,13 +95,13 @@ sight_shown s p = record s { seen = p.journal; mine = s.mine + times s.number p.
 abbrev pub shown : View → View
 shown v = record v { pen = pen_shown v.sight.number v.pen; sight = sight_shown v.sight v.pen }
 
--- what each step tells who makes it: of the step, the view before, the number stored or found, and the view after
+-- what each step tells its maker: of the step, the view before, the number stored or found, and the view after
 
 -- the entry of the stored word is written
 abbrev pub Wrote : Step (Unit {0}) → Me (Unit {0}) View → ℕ → Me (Unit {0}) View → Type 0
 Wrote s v n w = IfSome (entry_of n) (λ x. w ≡ (written v.0 x, v.1))
 
--- the word found is that of the entry at its place, or empty where there is none
+-- the word found is that of the entry at its place, or empty if there is none
 abbrev pub Read : Step (Unit {0}) → Me (Unit {0}) View → ℕ → Me (Unit {0}) View → Type 0
 Read s v n w = (w ≡ v) × (entry_of n ≡ slice_get v.0.pen.journal s.word)
 

@@ -11,7 +11,7 @@ use std::alloc::{AllocError, Global};
 use std::marker::Model;
 use std::sync::Arc;
 
-/// A row of words, which the scribe writes one after another, and whoever has a seat reads. It is seen as its name:
+/// A row of words, which the scribe writes one after another, and each owner of a seat reads. It is seen as its name:
 /// which table it is, its capacity in words, and its number of seats.
 #[derive(Drop)]
 pub struct Row {
@@ -100,8 +100,8 @@ impl EmptyRow {
     ghost use Rattle.std.specs.Prelude.{◌≡◌, ◌<◌, IfOk, All};
     ghost use Rattle.fmp_journal.specs.Seats.{new_scribe, AreNew};
 
-    /// A row of so many words, at least one, with its scribe and so many seats, numbered from 0. All the memory that it
-    /// ever takes is taken here. `AllocError` for want of memory.
+    /// A row of `capacity` words, at least one, with its scribe and `seats` seats, numbered from 0. All the memory that
+    /// it ever takes is taken here. `AllocError` if memory runs out.
     #[tactic(auto, using(crate::proofs::Rows::all_here))]
     pub fn new(alloc: Global, capacity: u32, seats: u8) -> Result<EmptyRow, AllocError>
         requires { 0 < capacity }

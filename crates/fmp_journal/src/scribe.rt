@@ -1,4 +1,4 @@
-//! The one who writes a row.
+//! The writer of a row.
 ghost use Rattle.std.specs.Prelude.{◌≡◌, ◌<◌, ◌≤◌, ◌↔◌, [], length, slice_get, IsTrue, MatchBool};
 ghost use mathlib.Core.List.{IsPrefix};
 ghost use Rattle.fmp_journal.specs.Views.{own, new_pen, scribe_view};
@@ -14,8 +14,8 @@ use fmp_base::Event;
 use std::marker::Model;
 use std::mem;
 
-/// The one who writes the row. It is seen as the journal and its marks: the seats that have not counted an entry of
-/// theirs yet.
+/// The writer of the row. It is seen as the journal and its marks: the seats that have not counted one of their entries
+/// yet.
 #[derive(Drop)]
 pub struct Scribe {
     row: Row,
@@ -82,8 +82,8 @@ impl Scribe {
         self.written += 1;
     }
 
-    /// The seat comes to have seen the whole journal, which begins with all that it had seen, and counts its entries;
-    /// its marks are taken away.
+    /// The seat has then seen the whole journal, which begins with all that it had seen, and has counted its entries;
+    /// its marks are cleared.
     pub fn show(&mut self, seat: &mut Seat)
         requires { seat.old.row ≡ self.old.row }
         ensures seat { seat.new ≡ seat_shown seat.old self.old }

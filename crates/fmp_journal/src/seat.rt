@@ -63,9 +63,9 @@ impl Seat {
         self.place
     }
 
-    /// The next event of the row after those that this seat's `follow` gave, by one read of its word. None where as
-    /// many events were given as the row has words, or where the word was found empty; never while the seat has seen
-    /// more events than were given. It waits for nobody.
+    /// The next event of the row after those that this seat's `follow` gave, by one read of its word. None if as many
+    /// events were given as the row has words, or if the word was found empty; never while the seat has seen more
+    /// events than were given. It never waits.
     #[tactic(auto, using(crate::proofs::Rows::given_more))]
     pub fn follow(&mut self, row: &Row) -> Option<Event>
         requires { self.old.row ≡ row.now }

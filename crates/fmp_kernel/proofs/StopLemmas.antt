@@ -1,4 +1,4 @@
--- What a stretch that stops comes to.
+-- The effect of a stretch, given how it stopped.
 use Rattle.std.proofs.Common.{◌≡◌, ℕ, [], ◌∷◌, Some, refl, ap}
 use Rattle.fmp_base.specs.declared.bodies.Held.{Held}
 use Rattle.fmp_base.specs.declared.bodies.Held.TheVariants.{Goes}

@@ -16,8 +16,8 @@ use Rattle.fmp_kernel.specs.declared.actors.Actor.{Actor}
 use Rattle.fmp_kernel.specs.Stamps.{stamped}
 use Rattle.fmp_worlds.specs.Stamps.{Going, actor_at}
 
--- what carries events out: the bodies and their bound, the tables of the system, the state with the bodies' contexts,
--- the lines of what the event has caused so far, and those of the last event that did something (or of setup)
+-- the runner of events: the bodies and their bound, the tables of the system, the state with the bodies' contexts, the
+-- lines of what the event has caused so far, and those of the last event that did something (or of setup)
 pub record RunnerView (B C : Type 0) : Type 0 where
   pub body : B
   pub bound : ℕ
@@ -53,8 +53,8 @@ abbrev pub done_or : {C : Type 0} → Done C → Reaction C → Done C
 done_or d Nothing = d
 done_or d (Did e) = e
 
--- a stretch of the actor of p stopped so, in a world that has what is kept of it then: the call, end or fault is
--- carried out
+-- the effect of a stretch of the actor of p, given how it stopped, in a world that has what is kept of it then: the
+-- call, end or fault is carried out
 abbrev pub stopped_on : {C : Type 0} → SystemTables → Meaning C → World C → ℕ → Caller → Stop → Reaction C
 stopped_on sys M w p who (stop.Call made) = call_made sys M w.contexts p who made (called sys w.state p who made)
 stopped_on sys M w p who stop.End =
@@ -74,7 +74,7 @@ pub record KernelView (B C : Type 0) : Type 0 where
   pub done : ℕ
   pub stamps : List ℕ
 
--- a kernel that has done so many events, with these stamps
+-- a kernel that has done this many events, with these stamps
 abbrev pub kernel_of : {B C : Type 0} → RunnerView B C → List ℕ → ℕ → KernelView B C
 kernel_of r stamps done =
     record {

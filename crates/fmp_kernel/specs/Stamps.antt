@@ -43,7 +43,7 @@ abbrev pub is_given : ℕ → List Line → Bool
 is_given p [] = false
 is_given p (l ∷ ls) = is_same_task (given_by l) (Some p) || is_given p ls
 
--- the actors of so many processors in a state
+-- the actors of the first n processors in a state
 pub record AreActors (actors : List (Option Caller)) (processors : ℕ) (s : KernelState) : Type 0 where
   pub long : length actors ≡ processors
   pub each : (p : ℕ) → p < processors → get_or actors p None ≡ actor_of (processor_at s p)

@@ -1,4 +1,4 @@
-//! Who acts on a processor: its running handler, else the task that it runs.
+//! The actor of a processor: its running handler, else the task that it runs.
 ghost use Rattle.std.specs.Prelude.{◌≡◌, ◌<◌, OnSome};
 ghost use Rattle.fmp_base.specs.States.{processor_at};
 ghost use Rattle.fmp_base.specs.Steps.{actor_of};
@@ -16,7 +16,7 @@ pub struct Actor<C> {
     pub stamp: u32,
 }
 
-/// Who acts on a processor, if anyone.
+/// The actor of a processor, if any.
 pub fn acting_on(cpu: &Processor) -> Option<Caller>
     ensures { result ≡ actor_of cpu.now }
 {
@@ -50,7 +50,7 @@ fn is_same_handler(a: Handler, b: Handler) -> bool
     }
 }
 
-/// Whether this one, if any, acts on a processor, or this is none and no one does.
+/// Whether this is the actor of a processor, or none if the processor has none.
 pub fn acts_on(actor: Option<Caller>, cpu: &Processor) -> bool
     ensures { result ≡ is_same actor (actor_of cpu.now) }
 {

@@ -22,7 +22,7 @@ use fmp_contexts::{entry_of, stretch};
 use fmp_migrate::end_itself;
 use fmp_tasks::Tables;
 
-/// The handler of processor p runs no more.
+/// The handler of processor p no longer runs.
 fn end_handler(tables: &mut Tables, p: u8)
     requires { p < tables.old.system.processors }
     ensures { tables.new ≡ record tables.old { state = ended_handler tables.old.state p } }
@@ -56,7 +56,7 @@ impl<B: Body> Runner<B> {
         self.finish(own);
     }
 
-    /// The actor of processor p makes a call, and its context awaits the reply. Where it asks for a held spin lock it
+    /// The actor of processor p makes a call, and its context awaits the reply. Where it spins for a held spin lock it
     /// has done nothing, and goes on from the context from which it came to the call.
     fn make_call(&mut self, p: u8, who: Caller, made: &Call, first: &B::Ctx) -> Effect
         requires there { p < self.old.system.processors }
@@ -154,8 +154,8 @@ impl<B: Body> Runner<B> {
         }
     }
 
-    /// A stretch of the actor of processor p has stopped so, and left what is kept of it: the call, end or fault is
-    /// carried out. Where it was over its bound, nothing is.
+    /// Carries out the call, end or fault with which a stretch of the actor of processor p has stopped; what is kept of
+    /// it is in place. If it was over its bound, nothing happens.
     #[tactic(auto, using(fmp_contexts::proofs::HeldLemmas::context_back))]
     #[inline(always)]
     fn carry_out_stop(&mut self, p: u8, who: Caller, first: &B::Ctx, stop: &Stop) -> Effect
@@ -301,7 +301,7 @@ impl<B: Body> Runner<B> {
         self.finish(own);
     }
 
-    /// An interrupt, by its number, is raised: its handler becomes pending. Nothing happens where it has none, or it is
+    /// An interrupt, by its number, is raised: its handler becomes pending. Nothing happens if it has none, or it is
     /// pending already.
     #[tactic(auto, using(fmp_contexts::proofs::RangeLemmas::no_interrupt_beyond))]
     fn interrupt(&mut self, number: u8) -> Effect

@@ -60,7 +60,7 @@ impl<B: Body> Model for Kernel<B> {
 impl<B: Body + Drop> Kernel<B> {
     /// A kernel after setup (uITRON 4.0, section 3.7): all objects are made, the tasks with TA_ACT are started, in
     /// order of number, and all processors settle. A stretch of a body takes at most n units, 1 to 2^48; a longer one
-    /// does nothing. `KernelFault::Memory` for want of memory: no call after this one takes any.
+    /// does nothing. `KernelFault::Memory` if memory runs out: no call after this one takes any.
     pub fn new(alloc: Global, body: B, sys: &System, n: u64) -> Result<Self, KernelFault>
         requires low { 1 ≤ n }
         requires high { n ≤ 2 ^ 48 }
@@ -126,7 +126,7 @@ impl<B: Body> Kernel<B> {
         let _ = &self.runner;
     }
 
-    /// The actor of the processor of this number, from 1: its running handler, else the task that it runs. None where
+    /// The actor of the processor of this number, from 1: its running handler, else the task that it runs. None if
     /// there is no such processor, or it has no actor. The stamp is how many done events ran the processor or left it
     /// another actor than they found: along one run equal stamps mean the same actor in the same context.
     pub fn actor(&self, p: u8) -> Option<Actor<B::Ctx>>
@@ -161,7 +161,7 @@ impl<B: Body> Kernel<B> {
     }
 
     /// The run of the processor of this number, from 1, where its actor has made this stretch: as `step` of this run,
-    /// which makes the stretch itself. The stretch is one of the present actor's; where there is none, nothing happens.
+    /// which makes the stretch itself. The stretch is one of the present actor's; if there is none, nothing happens.
     pub fn apply(&mut self, p: u8, s: Stretch<B::Ctx>) -> Effect
         requires early { self.old.done < 2 ^ 20 }
         requires stretch { IsFor B.is_context self.old.body (ending s)

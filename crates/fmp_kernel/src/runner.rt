@@ -1,4 +1,4 @@
-//! What carries events out: the bodies with their contexts over the tables, and room for the lines of an event.
+//! The runner of events: the bodies with their contexts over the tables, and room for the lines of an event.
 ghost use Rattle.std.specs.Prelude.{◌≡◌, ◌+◌, ◌≤◌, ◌<◌, ◌^◌, ◌++◌, ◌∷◌, ℕ, [], get_or, length, replicate, vec_len, vec_capacity, false, IfOk, IfSome, Some, None};
 ghost use Rattle.fmp_base.specs.Runs.{task_state, state_word as word_of_state};
 ghost use Rattle.fmp_base.specs.Ranges.{IsInRange};
@@ -89,7 +89,7 @@ fn state_word(phase: Phase, suspended: bool, runs: bool) -> StateWord
 }
 
 impl<B: Body + Drop> Runner<B> {
-    /// The bodies on a system whose objects have just been made. `AllocError` for want of memory: nothing else takes
+    /// The bodies on a system whose objects have just been made. `AllocError` if memory runs out: nothing else takes
     /// any.
     pub fn new(alloc: Global, body: B, sys: &System, n: u64) -> Result<Self, AllocError>
         requires entries { Entered B.has_entry body (tables_of sys.now) }
@@ -155,7 +155,7 @@ impl<B: Body> Runner<B> {
         }
     }
 
-    /// The actor of processor p, with this stamp: none where it has no actor, or one that awaits a reply.
+    /// The actor of processor p, with this stamp: none if it has no actor, or one that awaits a reply.
     #[tactic(auto, using(fmp_contexts::proofs::ContextLemmas::entry_of, fmp_contexts::proofs::ContextLemmas::goes_fits))]
     pub fn actor(&self, p: u8, stamp: u32) -> Option<Actor<B::Ctx>>
         ensures value { result ≡ with_stamp stamp (actor_at self.now.system self.now.world p) }
@@ -172,7 +172,7 @@ impl<B: Body> Runner<B> {
         })
     }
 
-    /// Stamps 0 of the processors, with the actors that they have. `AllocError` for want of memory.
+    /// Stamps 0 of the processors, with the actors that they have. `AllocError` if memory runs out.
     pub fn stamps(&self, alloc: Global) -> Result<Stamps, AllocError>
         ensures counts { IfOk result (λ s. s.counts ≡ replicate self.now.system.processors 0) }
         ensures actors { IfOk result (λ s. AreActors s.actors self.now.system.processors self.now.world.state) }

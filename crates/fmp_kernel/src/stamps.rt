@@ -77,7 +77,7 @@ fn actors(alloc: Global, tables: &Tables) -> Result<Vec<Option<Caller>>, AllocEr
 }
 
 impl Stamps {
-    /// Stamps 0 of the processors, with the actors that they have. `AllocError` for want of memory.
+    /// Stamps 0 of the processors, with the actors that they have. `AllocError` if memory runs out.
     pub fn new(alloc: Global, tables: &Tables) -> Result<Stamps, AllocError>
         ensures counts { IfOk result (λ s. s.counts ≡ replicate tables.now.system.processors 0) }
         ensures actors { IfOk result (λ s. AreActors s.actors tables.now.system.processors tables.now.state) }
@@ -87,7 +87,7 @@ impl Stamps {
         Ok(Stamps { actors, counts })
     }
 
-    /// The stamp of processor p, or 0 where there is none.
+    /// The stamp of processor p, or 0 if there is none.
     pub fn stamp(&self, p: u8) -> u32
         ensures { result ≡ get_or self.now.counts p 0 }
     {

@@ -94,8 +94,8 @@ fn cycle(tables: &mut Tables, caused: &mut Vec<Line>, c: u8)
     }
 }
 
-/// Of all cyclic handlers, of which there are so many, in order of number, those that are due now become pending. Where
-/// none is due it looks at none.
+/// Of all cyclic handlers, whose number is given, those that are due now become pending, in order of number. Where none
+/// is due it looks at none.
 #[tactic(auto, using(crate::proofs::PlaceLemmas::places_next))]
 fn cycle_all(tables: &mut Tables, caused: &mut Vec<Line>, count: u8)
     requires count { count ≡ length tables.old.system.cyclics }

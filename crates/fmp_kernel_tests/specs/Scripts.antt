@@ -7,11 +7,11 @@ use Rattle.fmp_base.specs.Stretches.{Ending}
 use Rattle.fmp_base.specs.Stretches as ends
 use Rattle.fmp_base.specs.Systems.{SystemTables, body_of}
 
--- a body of this number is there
+-- a body of this number exists
 abbrev pub IsBody : List (List Call) → ℕ → Type 0
 IsBody bodies body = body < length bodies
 
--- bodies of a system without handlers: that of each task is there
+-- bodies of a system without handlers: that of each task exists
 pub record AreBodiesOf (bodies : List (List Call)) (sys : SystemTables) : Type 0 where
   pub cyclics : sys.cyclics ≡ []
   pub interrupts : sys.interrupts ≡ []

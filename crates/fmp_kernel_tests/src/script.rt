@@ -7,9 +7,9 @@ ghost use Rattle.fmp_kernel_tests.specs.Scripts.{AreBodiesOf, IsBody, calls_of a
 use fmp_base::{Body, Call, Entry, Reply, Stretch, System, TaskConfig};
 use std::marker::Model;
 
-/// Bodies that are lists of service calls. Body n, from 0, makes the calls of list n, one after the other, whatever
-/// they are replied, and ends. Its context is the place of the next call. A stretch up to a call takes two units, one
-/// to the end takes one.
+/// Bodies that are lists of service calls. Body n, from 0, makes the calls of list n, one after the other, whatever the
+/// replies, and ends. Its context is the place of the next call. A stretch up to a call takes two units, one to the end
+/// takes one.
 #[derive(Drop)]
 pub struct Script {
     bodies: Vec<Vec<Call>>,
@@ -24,7 +24,7 @@ impl Model for Script {
     ghost view = { λ script. map (λ calls. calls.items) script.bodies.items };
 }
 
-/// Whether the body of an entry is one of so many.
+/// Whether the body of an entry is one of this many.
 fn is_there(entry: Entry, count: usize) -> bool
     ensures { IsTrue result ↔ (body_of entry < count) }
 {
@@ -42,7 +42,7 @@ impl Script {
         Script { bodies }
     }
 
-    /// Whether the body of each task is there.
+    /// Whether the body of each task exists.
     fn has_bodies_of_tasks(&self, configs: &[TaskConfig]) -> bool
         ensures { IsTrue result ↔ AllByRecursion (λ config. IsBody self.now (body_of config.entry)) configs.now }
     {
@@ -51,7 +51,7 @@ impl Script {
             .all(|config| is_there(config.entry, self.bodies.len()))
     }
 
-    /// Whether these are the bodies of a system: that of each task is there, and the system has no handlers.
+    /// Whether these are the bodies of a system: that of each task exists, and the system has no handlers.
     pub fn has_bodies_of(&self, sys: &System) -> bool
         ensures { IsTrue result ↔ AreBodiesOf self.now (tables_of sys.now) }
     {

@@ -14,7 +14,8 @@ use Rattle.fmp_lex.specs.declared.cutting.Start.{Start}
 use Rattle.fmp_lex.specs.declared.cutting.Start.TheVariants as start
 use Rattle.fmp_lex.specs.Cutting.{Piece}
 use Rattle.fmp_lex.specs.Cutting.{Skip, Whole, Fault}
-use Rattle.fmp_lex.specs.Scanning.{is_space, is_letter, is_digit, in_class, value_from, IsRun, Closes, IsFirstClose, NeverCloses, greatest}
+use Rattle.fmp_base.specs.Words.{is_letter, is_digit}
+use Rattle.fmp_lex.specs.Scanning.{is_space, in_class, value_from, IsRun, Closes, IsFirstClose, NeverCloses, greatest}
 use Rattle.fmp_lex.specs.Cutting.{long_symbol, short_symbol, is_followed, number_piece, hex_piece, word_kind, word_or_name, word_piece, long_piece, symbol_piece, start_of, IsPieceOf, IsPiece, Cuts, ended, skipped, token, faulty, line_at}
 use Rattle.fmp_lex.specs.Laws.{HasOneCut}
 use Rattle.fmp_lex.proofs.Unique.{cuts_unique}

@@ -1,6 +1,5 @@
 pub mod Answered
 pub mod Existence
-pub mod FirstBytes
 pub mod Heads
 pub mod Lists
 pub mod Names

@@ -7,16 +7,17 @@ use Rattle.fmp_base.specs.declared.codes.Er.TheVariants as er
 use Rattle.fmp_base.specs.declared.services.Service.{Service}
 use Rattle.fmp_base.specs.declared.services.Service.TheVariants as service
 use Rattle.fmp_base.specs.Services.{service_name}
-use Rattle.fmp_lex.specs.declared.words.Constant.{Constant}
-use Rattle.fmp_lex.specs.declared.words.Constant.TheVariants as constant
-use Rattle.fmp_lex.specs.declared.words.Api.{Api}
-use Rattle.fmp_lex.specs.declared.words.Api.TheVariants as api
-use Rattle.fmp_lex.specs.declared.words.Keyword.{Keyword}
-use Rattle.fmp_lex.specs.declared.words.Keyword.TheVariants as keyword
-use Rattle.fmp_lex.specs.declared.words.TheConstants.{CONSTANTS, APIS, SERVICES, KEYWORDS}
+use Rattle.fmp_base.specs.declared.words.Constant.{Constant}
+use Rattle.fmp_base.specs.declared.words.Constant.TheVariants as constant
+use Rattle.fmp_base.specs.declared.words.Api.{Api}
+use Rattle.fmp_base.specs.declared.words.Api.TheVariants as api
+use Rattle.fmp_base.specs.declared.words.Keyword.{Keyword}
+use Rattle.fmp_base.specs.declared.words.Keyword.TheVariants as keyword
+use Rattle.fmp_base.specs.declared.words.TheConstants.{CONSTANTS, APIS, KEYWORDS}
+use Rattle.fmp_base.specs.declared.services.TheConstants.{SERVICES}
 use Rattle.fmp_lex.specs.declared.token.TokenKind.{TokenKind}
 use Rattle.fmp_lex.specs.declared.token.TokenKind.TheVariants as kind
-use Rattle.fmp_lex.specs.Words.{constant_name, api_name, keyword_name, constant_named, api_named, service_named, keyword_named}
+use Rattle.fmp_base.specs.Words.{constant_name, api_name, keyword_name, constant_named, api_named, service_named, keyword_named}
 use Rattle.fmp_lex.specs.Cutting.{word_kind}
 use Rattle.fmp_lex.specs.Laws.{IsWord, ReadsWords}
 

@@ -12,8 +12,9 @@ use Rattle.fmp_lex.specs.declared.token.Token.{Token}
 use Rattle.fmp_lex.specs.declared.scanning.Class.TheVariants as class
 use Rattle.fmp_lex.specs.declared.cutting.Start.{Start}
 use Rattle.fmp_lex.specs.declared.cutting.Start.TheVariants as start
-use Rattle.fmp_lex.specs.Scanning.{is_digit, is_letter, is_word, is_space, in_class, IsRun, IsFirstClose, NeverCloses, value_from, greatest}
-use Rattle.fmp_lex.specs.Words.{constant_named, api_named, service_named, keyword_named}
+use Rattle.fmp_base.specs.Words.{is_digit, is_letter, is_word}
+use Rattle.fmp_lex.specs.Scanning.{is_space, in_class, IsRun, IsFirstClose, NeverCloses, value_from, greatest}
+use Rattle.fmp_base.specs.Words.{constant_named, api_named, service_named, keyword_named}
 
 -- a piece of a text: spaces or a comment, or a token, up to a place; or no piece begins
 pub data Piece : Type 0 where

@@ -26,7 +26,7 @@ token_fault (kind.Bad Limit) why = fault.Limit
 token_fault _ Syntax = fault.Syntax
 token_fault _ Depth = fault.Limit
 
--- the fault of a token, or of the end of the text where there is none
+-- the fault of a token, or of the end of the text if there is none
 abbrev pub fault_of : TextFile → Place → Option Token → GrammarFault → BuildFault
 fault_of file end (Some t) why = build.At file (place_of t) (token_fault t.kind why)
 fault_of file end None why = build.At file end fault.Syntax

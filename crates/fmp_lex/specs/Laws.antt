@@ -4,7 +4,7 @@ use Rattle.fmp_base.specs.Services.{service_name}
 use Rattle.fmp_lex.specs.declared.token.Token.{Token}
 use Rattle.fmp_lex.specs.declared.token.TokenKind.{TokenKind}
 use Rattle.fmp_lex.specs.declared.token.TokenKind.TheVariants as kind
-use Rattle.fmp_lex.specs.Words.{constant_name, api_name, keyword_name}
+use Rattle.fmp_base.specs.Words.{constant_name, api_name, keyword_name}
 use Rattle.fmp_lex.specs.Cutting.{word_kind, Cuts}
 
 -- the bytes are the name of this word
@@ -15,7 +15,7 @@ IsWord bytes (kind.Service s) = bytes ≡ service_name s
 IsWord bytes (kind.Keyword k) = bytes ≡ keyword_name k
 IsWord bytes _ = ⊥
 
--- bytes are read as a word exactly where they are its name
+-- bytes are read as a word exactly if they are its name
 abbrev pub ReadsWords : Type 0
 ReadsWords = (bytes : List ℕ) (k : TokenKind) → (word_kind bytes ≡ Some k) ↔ IsWord bytes k
 

@@ -2,8 +2,8 @@ pub mod Cutting
 pub mod Faults
 pub mod Forms
 pub mod Laws
+pub mod ObjectNames
 pub mod Packing
 pub mod Places
 pub mod Reading
 pub mod Scanning
-pub mod Words

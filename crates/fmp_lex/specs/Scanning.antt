@@ -1,23 +1,12 @@
 -- Classes of bytes, runs of bytes of a class, ends of comments, and values of digits.
 use Rattle.std.specs.Prelude.{◌≡◌, ℕ, ◌+◌, ◌-◌, ◌*◌, ◌<◌, ◌≤◌, ◌⊎◌, ◌==◌, ◌&&◌, ◌||◌, nat_le, Bool, true, false, not, if◌then◌else◌, List, [], ◌∷◌, length, slice_index}
+use Rattle.fmp_base.specs.Words.{is_digit, is_letter, is_word}
 use Rattle.fmp_lex.specs.declared.scanning.Class.{Class}
 use Rattle.fmp_lex.specs.declared.scanning.Class.TheVariants as class
-
--- `0` to `9`
-abbrev pub is_digit : ℕ → Bool
-is_digit b = nat_le 48 b && nat_le b 57
 
 -- `0` to `9`, `A` to `F`, `a` to `f`
 abbrev pub is_hex : ℕ → Bool
 is_hex b = is_digit b || (nat_le 65 b && nat_le b 70) || (nat_le 97 b && nat_le b 102)
-
--- `A` to `Z`, `a` to `z`, `_`
-abbrev pub is_letter : ℕ → Bool
-is_letter b = (nat_le 65 b && nat_le b 90) || (nat_le 97 b && nat_le b 122) || (b == 95)
-
--- a byte of a name behind its first one
-abbrev pub is_word : ℕ → Bool
-is_word b = is_letter b || is_digit b
 
 -- space, tab, carriage return, line feed
 abbrev pub is_space : ℕ → Bool

@@ -282,7 +282,7 @@ fn cut(alloc: Global, text: &[u8]) -> Result<Vec<Packed>, AllocError>
     Ok(tokens)
 }
 
-/// The tokens of a text. The last one is `Bad` where no token stands in its place.
+/// The tokens of a text. The last one is `Bad` if no token stands in its place.
 pub fn tokens<'a>(alloc: Global, text: &'a [u8]) -> Result<TokenList<'a>, TextFault>
     ensures cut { IfOk result (λ list. Cuts text.now 0 list.tokens) }
     ensures only { IfOk result (λ list. (ts : List Token) → Cuts text.now 0 ts → ts ≡ list.tokens) }

@@ -25,14 +25,14 @@ pub enum TextFile {
 /// What is wrong at a place of a text.
 #[derive(Clone, Copy, Debug, PartialEq, Eq)]
 pub enum FaultKind {
-    /// No well-formed text goes on so.
+    /// No well-formed text goes on like this.
     Syntax,
     /// The name is used before.
     TwiceNamed,
     UnknownName,
     /// The static API refuses its values with this code.
     Api(Er),
-    /// A limit on sizes, counts or numbers is passed.
+    /// A limit on sizes, counts or numbers is exceeded.
     Limit,
     /// The stack does not hold the operands of the body.
     StackTooSmall,

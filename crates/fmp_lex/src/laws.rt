@@ -2,7 +2,7 @@
 ghost use Rattle.std.specs.Prelude.{ℕ, List};
 ghost use Rattle.fmp_lex.specs.Laws.{ReadsWords, HasOneCut};
 
-/// Bytes are read as a word exactly where they are its name.
+/// Bytes are read as a word exactly if they are its name.
 pub fn words_have_one_name()
     ensures { ReadsWords }
 {}

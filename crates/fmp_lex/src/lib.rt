@@ -4,22 +4,22 @@
 
 mod cutting;
 pub mod fault;
-mod initials;
 pub mod laws;
 mod marks;
+mod object_name;
 mod packed;
 mod place;
 pub mod reading;
 mod scanning;
 mod small;
 pub mod token;
-pub mod words;
 
 pub use cutting::tokens;
 pub use fault::{BuildFault, FaultKind, TextFile, fault_at, offence_at, too_long};
+pub use fmp_base::words::{self, Api, Constant, Keyword};
 pub use marks::{Mark, expect_mark};
+pub use object_name::ObjectName;
 pub use packed::Tokens;
 pub use place::Place;
 pub use reading::{FirstFault, GrammarFault, ReadError};
 pub use token::{LexFault, Symbol, TextFault, Token, TokenKind, TokenList};
-pub use words::{Api, Constant, Keyword};

@@ -73,7 +73,7 @@ fn digit(b: u8) -> u64
     }
 }
 
-/// The value of digits, or any number above the greatest one where theirs is.
+/// The value of digits, or some number above the greatest one if theirs is above it.
 pub(crate) fn value_of(digits: &[u8], base: u64) -> u64
     requires base { (base ≡ 10) ⊎ (base ≡ 16) }
     requires ascii { EachIndex digits.now (λ k. slice_index digits.now k < 128) }

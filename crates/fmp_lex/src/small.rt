@@ -1,4 +1,4 @@
-//! Numbers in no more bytes than they need, so that they lie at any place.
+//! Numbers in as few bytes as they need, so that they may lie at any address.
 ghost use Rattle.std.specs.Prelude.{◌≡◌, ◌<◌, pos};
 
 use std::marker::Model;

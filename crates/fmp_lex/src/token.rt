@@ -12,7 +12,7 @@ use thiserror::Error;
 /// Why no token stands at a place.
 #[derive(Clone, Copy, Debug, PartialEq, Eq)]
 pub enum LexFault {
-    /// No token begins so.
+    /// No token begins like this.
     Syntax,
     /// A name is too long, or a number too great.
     Limit,

@@ -1,4 +1,4 @@
--- Bodies that make so many delays of one tick, and end: the context is how many delays are left.
+-- Bodies that make a number of delays of one tick, and end: the context is the number of delays left.
 use Rattle.std.specs.Prelude.{ℕ, zero, suc, ◌-◌, pos, None}
 use Rattle.fmp_base.specs.declared.calls.Call.TheVariants as call
 use Rattle.fmp_base.specs.Meanings.{Meaning}

@@ -1,5 +1,4 @@
-//! Reading and writing where the Nth call fails: the answer is a fault exactly where a call failed, and never other
-//! bytes.
+//! Reading and writing where the Nth call fails: the answer is a fault exactly if a call failed, and never other bytes.
 ghost use Rattle.std.specs.Prelude.{IfOk, ◌≤◌};
 
 use fmp_files::{Device, ReadFault, WriteFault, read_in, write_out};
@@ -85,7 +84,7 @@ impl Write for Writer {
     }
 }
 
-/// Whether reading under a limit gives these bytes in so many calls, or ends with a fault at the call that fails.
+/// Whether reading under a limit gives these bytes in this many calls, or ends with a fault at the call that fails.
 fn reads_or_fails(
     alloc: Global,
     limit: Option<usize>,

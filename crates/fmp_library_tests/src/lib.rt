@@ -1,4 +1,4 @@
-//! The programs of docs/LIBRARY.md: a system that is built and run step by step, and bodies of one's own. Beside them
+//! The programs of docs/LIBRARY.md: a system that is built and run step by step, and bodies of your own. Beside them
 //! stand the tests of rings, deadlines, the row of a journal, and files whose calls fail.
 #![tactic(auto)]
 

@@ -4,7 +4,7 @@ ghost use Rattle.std.specs.Prelude.{◌≡◌};
 use fmp_base::{Body, Call, Reply, Stretch};
 use std::marker::Model;
 
-/// Bodies that all do the same: so many delays of one tick, and the end.
+/// Bodies that all do the same: a number of delays of one tick, and the end.
 #[derive(Drop)]
 pub struct Pulse {
     /// How many delays each start makes.

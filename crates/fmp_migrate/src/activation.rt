@@ -1,8 +1,9 @@
 //! Activation of tasks (uITRON 4.0, section 4.1).
-ghost use Rattle.std.specs.Prelude.{◌≡◌, ◌<◌, [], length, vec_len, vec_capacity, IfSome, ◌+◌, ◌≤◌};
+ghost use Rattle.std.specs.Prelude.{◌≡◌, ◌<◌, [], length, IfSome, ◌+◌, ◌≤◌};
 ghost use Rattle.fmp_base.specs.States.{task_at};
 ghost use Rattle.fmp_base.specs.TaskCalls as calls;
 ghost use Rattle.fmp_tasks.specs.Homes.{Fits};
+ghost use Rattle.fmp_tasks.specs.Lines.{AreEmptyWithRoom};
 ghost use Rattle.fmp_tasks.specs.Tables.{outcome, SameShape, SameShapeAndRoom};
 
 use crate::targets::{by_number, self_or};
@@ -32,8 +33,7 @@ fn queue_activation(tables: &mut Tables, t: u8, x: TaskBlock) -> Answer
 /// Task t is activated: a dormant one starts, for another an activation is queued.
 fn activate(tables: &mut Tables, lines: &mut Vec<Line>, t: u8) -> Answer
     requires there { t < length tables.old.system.tasks }
-    requires empty { lines.old.items ≡ [] }
-    requires room { vec_len lines.old < vec_capacity lines.old }
+    requires lines { AreEmptyWithRoom 1 lines.old }
     ensures outcome { outcome result tables.new lines.new.items
         ≡ calls.activated tables.old.system tables.old.state t (task_at tables.old.state.tasks t) }
     ensures kept { SameShapeAndRoom tables.old tables.new lines.old lines.new }
@@ -53,8 +53,7 @@ fn activate(tables: &mut Tables, lines: &mut Vec<Line>, t: u8) -> Answer
 /// nothing (uITRON 4.0, section 4.1).
 pub fn act_tsk(tables: &mut Tables, lines: &mut Vec<Line>, me: u8, task: i32) -> Answer
     requires caller { me < length tables.old.system.tasks }
-    requires empty { lines.old.items ≡ [] }
-    requires room { vec_len lines.old < vec_capacity lines.old }
+    requires lines { AreEmptyWithRoom 1 lines.old }
     ensures outcome { outcome result tables.new lines.new.items
         ≡ calls.act_tsk tables.old.system tables.old.state me task }
     ensures kept { SameShapeAndRoom tables.old tables.new lines.old lines.new }
@@ -68,8 +67,7 @@ pub fn act_tsk(tables: &mut Tables, lines: &mut Vec<Line>, me: u8, task: i32) ->
 /// `iact_tsk`: as `act_tsk` from a handler, where no task is the caller: E_ID at 0 too. E_QOVR if the queued
 /// activations are at the limit. What is refused changes nothing (uITRON 4.0, section 4.1).
 pub fn iact_tsk(tables: &mut Tables, lines: &mut Vec<Line>, task: i32) -> Answer
-    requires empty { lines.old.items ≡ [] }
-    requires room { vec_len lines.old < vec_capacity lines.old }
+    requires lines { AreEmptyWithRoom 1 lines.old }
     ensures outcome { outcome result tables.new lines.new.items
         ≡ calls.iact_tsk tables.old.system tables.old.state task }
     ensures kept { SameShapeAndRoom tables.old tables.new lines.old lines.new }

@@ -1,8 +1,9 @@
 //! The processor of tasks (FMP kernel, task management).
-ghost use Rattle.std.specs.Prelude.{◌≡◌, ◌<◌, [], length, vec_len, vec_capacity, nat_eq, IfSome, ◌+◌, ◌≤◌};
+ghost use Rattle.std.specs.Prelude.{◌≡◌, ◌<◌, [], length, nat_eq, IfSome, ◌+◌, ◌≤◌};
 ghost use Rattle.fmp_base.specs.States.{task_at};
 ghost use Rattle.fmp_base.specs.TaskCalls as calls;
 ghost use Rattle.fmp_tasks.specs.Homes.{Fits};
+ghost use Rattle.fmp_tasks.specs.Lines.{AreEmptyWithRoom};
 ghost use Rattle.fmp_tasks.specs.Tables.{outcome, SameShape, SameShapeAndRoom};
 
 use crate::targets::{allowed_processor, is_dormant, is_ready, self_or};
@@ -51,8 +52,7 @@ pub fn mact_tsk(
     processor: i32,
 ) -> Answer
     requires caller { me < length tables.old.system.tasks }
-    requires empty { lines.old.items ≡ [] }
-    requires room { vec_len lines.old < vec_capacity lines.old }
+    requires lines { AreEmptyWithRoom 1 lines.old }
     ensures outcome { outcome result tables.new lines.new.items
         ≡ calls.mact_tsk tables.old.system tables.old.state me task processor }
     ensures kept { SameShapeAndRoom tables.old tables.new lines.old lines.new }

@@ -1,9 +1,10 @@
 //! Sleep, wakeups, delays and release from waiting (uITRON 4.0, section 4.2).
-ghost use Rattle.std.specs.Prelude.{◌≡◌, ◌+◌, ◌<◌, ◌≤◌, [], length, vec_len, vec_capacity, IfSome};
+ghost use Rattle.std.specs.Prelude.{◌≡◌, ◌+◌, ◌<◌, ◌≤◌, [], length, IfSome};
 ghost use Rattle.fmp_base.specs.Arguments.{IsTimeLimit};
 ghost use Rattle.fmp_base.specs.States.{task_at};
 ghost use Rattle.fmp_base.specs.TaskCalls as calls;
 ghost use Rattle.fmp_tasks.specs.Homes.{Fits};
+ghost use Rattle.fmp_tasks.specs.Lines.{AreEmptyWithRoom};
 ghost use Rattle.fmp_tasks.specs.Tables.{outcome, SameShape, SameShapeAndRoom};
 
 use crate::targets::{by_number, delay_of, is_dormant, self_or};
@@ -42,7 +43,7 @@ pub fn slp_tsk(tables: &mut Tables, me: u8) -> Answer
 }
 
 /// `tslp_tsk`: the caller takes a queued wakeup, or else waits for one within a limit: -1 (TMO_FEVR) is none, at 0
-/// (TMO_POL) it does not wait and is told E_TMOUT, else so many ticks, up to 2^30. E_PAR at another limit. What is
+/// (TMO_POL) it does not wait and is told E_TMOUT, else that many ticks, up to 2^30. E_PAR at another limit. What is
 /// refused changes nothing (uITRON 4.0, section 4.2).
 pub fn tslp_tsk(tables: &mut Tables, me: u8, limit: i32) -> Answer
     requires caller { me < length tables.old.system.tasks }
@@ -77,8 +78,7 @@ fn queue_wakeup(tables: &mut Tables, t: u8, x: TaskBlock) -> Answer
 /// Task t is woken: a sleeping one is released, for another that is not dormant a wakeup is queued.
 fn wake(tables: &mut Tables, lines: &mut Vec<Line>, t: u8) -> Answer
     requires there { t < length tables.old.system.tasks }
-    requires empty { lines.old.items ≡ [] }
-    requires room { vec_len lines.old < vec_capacity lines.old }
+    requires lines { AreEmptyWithRoom 1 lines.old }
     ensures outcome { outcome result tables.new lines.new.items
         ≡ calls.woken tables.old.system tables.old.state t (task_at tables.old.state.tasks t) }
     ensures kept { SameShapeAndRoom tables.old tables.new lines.old lines.new }
@@ -99,8 +99,7 @@ fn wake(tables: &mut Tables, lines: &mut Vec<Line>, t: u8) -> Answer
 /// the limit. What is refused changes nothing (uITRON 4.0, section 4.2).
 pub fn wup_tsk(tables: &mut Tables, lines: &mut Vec<Line>, me: u8, task: i32) -> Answer
     requires caller { me < length tables.old.system.tasks }
-    requires empty { lines.old.items ≡ [] }
-    requires room { vec_len lines.old < vec_capacity lines.old }
+    requires lines { AreEmptyWithRoom 1 lines.old }
     ensures outcome { outcome result tables.new lines.new.items
         ≡ calls.wup_tsk tables.old.system tables.old.state me task }
     ensures kept { SameShapeAndRoom tables.old tables.new lines.old lines.new }
@@ -114,8 +113,7 @@ pub fn wup_tsk(tables: &mut Tables, lines: &mut Vec<Line>, me: u8, task: i32) ->
 /// `iwup_tsk`: as `wup_tsk` from a handler, where no task is the caller: E_ID at 0 too. E_OBJ if the task is dormant;
 /// E_QOVR if the queued wakeups are at the limit. What is refused changes nothing (uITRON 4.0, section 4.2).
 pub fn iwup_tsk(tables: &mut Tables, lines: &mut Vec<Line>, task: i32) -> Answer
-    requires empty { lines.old.items ≡ [] }
-    requires room { vec_len lines.old < vec_capacity lines.old }
+    requires lines { AreEmptyWithRoom 1 lines.old }
     ensures outcome { outcome result tables.new lines.new.items
         ≡ calls.iwup_tsk tables.old.system tables.old.state task }
     ensures kept { SameShapeAndRoom tables.old tables.new lines.old lines.new }
@@ -147,8 +145,7 @@ pub fn can_wup(tables: &mut Tables, me: u8, task: i32) -> Answer
 /// `rel_wai` and `irel_wai`: a waiting task is released by force, with E_RLWAI. E_ID if no task has the number, also at
 /// 0; E_OBJ if the task does not wait. What is refused changes nothing (uITRON 4.0, section 4.2).
 pub fn rel_wai(tables: &mut Tables, lines: &mut Vec<Line>, task: i32) -> Answer
-    requires empty { lines.old.items ≡ [] }
-    requires room { vec_len lines.old < vec_capacity lines.old }
+    requires lines { AreEmptyWithRoom 1 lines.old }
     ensures outcome { outcome result tables.new lines.new.items ≡ calls.rel_wai tables.old.state task }
     ensures kept { SameShapeAndRoom tables.old tables.new lines.old lines.new }
 {

@@ -1,8 +1,9 @@
 //! The end of tasks (uITRON 4.0, section 4.1).
-ghost use Rattle.std.specs.Prelude.{◌≡◌, ◌<◌, [], length, vec_len, vec_capacity};
+ghost use Rattle.std.specs.Prelude.{◌≡◌, ◌<◌, length};
 ghost use Rattle.fmp_base.specs.Changes.{ended_itself};
 ghost use Rattle.fmp_base.specs.States.{task_at};
 ghost use Rattle.fmp_base.specs.TaskCalls as calls;
+ghost use Rattle.fmp_tasks.specs.Lines.{AreEmptyWithRoom};
 ghost use Rattle.fmp_tasks.specs.Tables.{progress, outcome, SameShapeAndRoom};
 
 use crate::targets::{by_number, is_dormant};
@@ -17,8 +18,7 @@ use fmp_tasks::tasks::end;
 pub fn end_itself(tables: &mut Tables, lines: &mut Vec<Line>, p: u8, t: u8)
     requires task { t < length tables.old.system.tasks }
     requires processor { p < tables.old.system.processors }
-    requires empty { lines.old.items ≡ [] }
-    requires room { vec_len lines.old < vec_capacity lines.old }
+    requires lines { AreEmptyWithRoom 1 lines.old }
     ensures progress { progress tables.new lines.new.items
         ≡ ended_itself tables.old.system tables.old.state p t (task_at tables.old.state.tasks t) }
     ensures kept { SameShapeAndRoom tables.old tables.new lines.old lines.new }
@@ -42,8 +42,7 @@ pub fn end_itself(tables: &mut Tables, lines: &mut Vec<Line>, p: u8, t: u8)
 pub fn ext_tsk(tables: &mut Tables, lines: &mut Vec<Line>, p: u8, me: u8) -> Answer
     requires caller { me < length tables.old.system.tasks }
     requires processor { p < tables.old.system.processors }
-    requires empty { lines.old.items ≡ [] }
-    requires room { vec_len lines.old < vec_capacity lines.old }
+    requires lines { AreEmptyWithRoom 1 lines.old }
     ensures outcome { outcome result tables.new lines.new.items
         ≡ record {
           answer = Answer.Ends;
@@ -60,8 +59,7 @@ pub fn ext_tsk(tables: &mut Tables, lines: &mut Vec<Line>, p: u8, me: u8) -> Ans
 /// is the caller's; E_OBJ if the task is dormant or assigned to another processor. What is refused changes nothing
 /// (uITRON 4.0, section 4.1).
 pub fn ter_tsk(tables: &mut Tables, lines: &mut Vec<Line>, p: u8, me: u8, task: i32) -> Answer
-    requires empty { lines.old.items ≡ [] }
-    requires room { vec_len lines.old < vec_capacity lines.old }
+    requires lines { AreEmptyWithRoom 1 lines.old }
     ensures outcome { outcome result tables.new lines.new.items
         ≡ calls.ter_tsk tables.old.system tables.old.state p me task }
     ensures kept { SameShapeAndRoom tables.old tables.new lines.old lines.new }

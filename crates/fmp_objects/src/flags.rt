@@ -1,9 +1,10 @@
 //! The service calls on eventflags that set, clear or await bits (uITRON 4.0, section 4.4.2).
-ghost use Rattle.std.specs.Prelude.{◌≡◌, ◌<◌, ◌≤◌, [], length, vec_capacity, IfSome};
+ghost use Rattle.std.specs.Prelude.{◌≡◌, ◌<◌, [], length, IfSome};
 ghost use Rattle.fmp_base.specs.Arguments.{IsTimeLimit};
 ghost use Rattle.fmp_base.specs.FlagCalls.{mode_of as mode_from, awaited, set_flg as set_flg_case, clr_flg as clr_flg_case, wai_flg as wai_flg_case, twai_flg as twai_flg_case};
 ghost use Rattle.fmp_base.specs.Outcomes.{numbered as place_of};
 ghost use Rattle.fmp_base.specs.States.{task_at};
+ghost use Rattle.fmp_tasks.specs.Lines.{AreEmptyWithRoom};
 ghost use Rattle.fmp_tasks.specs.Tables.{outcome, SameShape, SameShapeAndRoom};
 
 use crate::walking::{satisfies, walk};
@@ -34,10 +35,9 @@ fn mode_of(number: i32) -> Option<FlagMode>
 
 /// `set_flg` and `iset_flg` (uITRON 4.0, section 4.4.2): sets bits, and releases with E_OK and the pattern each waiting
 /// task that it satisfies, in the order of the queue; with TA_CLR the first release clears all bits and is the last.
-/// E_ID where the number names no flag, then E_PAR where the bits are not 0 to 65535; nothing changes then.
+/// E_ID if the number names no flag, then E_PAR if the bits are not 0 to 65535; nothing changes then.
 pub fn set_flg(tables: &mut Tables, lines: &mut Vec<Line>, flag: i32, bits: i32) -> Answer
-    requires empty { lines.old.items ≡ [] }
-    requires room { length tables.old.system.tasks ≤ vec_capacity lines.old }
+    requires lines { AreEmptyWithRoom (length tables.old.system.tasks) lines.old }
     ensures outcome { outcome result tables.new lines.new.items
         ≡ set_flg_case tables.old.system tables.old.state flag bits }
     ensures kept { SameShapeAndRoom tables.old tables.new lines.old lines.new }
@@ -54,8 +54,8 @@ pub fn set_flg(tables: &mut Tables, lines: &mut Vec<Line>, flag: i32, bits: i32)
     replied(Er::Ok)
 }
 
-/// `clr_flg` (uITRON 4.0, section 4.4.2): clears the bits of a flag that are not set in a pattern. E_ID where the
-/// number names no flag, then E_PAR where the pattern is not 0 to 65535; nothing changes then.
+/// `clr_flg` (uITRON 4.0, section 4.4.2): clears the bits of a flag that are not set in a pattern. E_ID if the number
+/// names no flag, then E_PAR if the pattern is not 0 to 65535; nothing changes then.
 pub fn clr_flg(tables: &mut Tables, flag: i32, pattern: i32) -> Answer
     ensures outcome { outcome result tables.new [] ≡ clr_flg_case tables.old.state flag pattern }
     ensures shape { SameShape tables.old tables.new }
@@ -72,7 +72,7 @@ pub fn clr_flg(tables: &mut Tables, flag: i32, pattern: i32) -> Answer
 }
 
 /// Task me gets the bits of flag f where they satisfy the wait, and with TA_CLR all bits are then cleared; else it
-/// waits within the limit. E_ILUSE where a task waits for a flag without TA_WMUL.
+/// waits within the limit. E_ILUSE if a task waits for a flag without TA_WMUL.
 fn await_bits(
     tables: &mut Tables,
     me: u8,
@@ -110,9 +110,9 @@ fn await_bits(
 
 /// `wai_flg` and `pol_flg` by task me (uITRON 4.0, section 4.4.2): gives the bits of a flag where all bits of the wait
 /// pattern are set (mode 0, TWF_ANDW) or any (mode 1, TWF_ORW), and with TA_CLR then clears all; else waits at the end
-/// of the order within the limit. In this order: E_ID where the number names no flag, E_PAR where the wait pattern is
-/// not 1 to 65535 or the mode not 0 or 1, E_ILUSE where a task waits for a flag without TA_WMUL, E_TMOUT where a poll
-/// finds the bits not set; nothing changes then.
+/// of the order within the limit. In this order: E_ID if the number names no flag, E_PAR if the wait pattern is not 1
+/// to 65535 or the mode not 0 or 1, E_ILUSE if a task waits for a flag without TA_WMUL, E_TMOUT if a poll finds the
+/// bits not set; nothing changes then.
 pub fn wai_flg(
     tables: &mut Tables,
     me: u8,

@@ -1,9 +1,10 @@
 //! The service calls on semaphores (uITRON 4.0, section 4.4.1).
-ghost use Rattle.std.specs.Prelude.{◌≡◌, ◌<◌, ◌≤◌, [], length, vec_capacity, IfSome};
+ghost use Rattle.std.specs.Prelude.{◌≡◌, ◌<◌, [], length, IfSome};
 ghost use Rattle.fmp_base.specs.Arguments.{IsTimeLimit};
 ghost use Rattle.fmp_base.specs.Outcomes.{numbered as place_of};
 ghost use Rattle.fmp_base.specs.SemaphoreCalls.{signalled, acquired, sig_sem as sig_sem_case, wai_sem as wai_sem_case, twai_sem as twai_sem_case};
 ghost use Rattle.fmp_base.specs.States.{task_at};
+ghost use Rattle.fmp_tasks.specs.Lines.{AreEmptyWithRoom};
 ghost use Rattle.fmp_tasks.specs.Tables.{outcome, SameShape, SameShapeAndRoom};
 
 use fmp_base::arguments::{limit_of, numbered};
@@ -20,12 +21,10 @@ fn semaphore_of(tables: &Tables, number: i32) -> Option<u8>
     numbered(tables.semaphore_count(), number)
 }
 
-/// The first task that waits for semaphore s is released; with none the count rises, or E_QOVR where it is the
-/// greatest.
+/// The first task that waits for semaphore s is released; with none the count rises, or E_QOVR if it is the greatest.
 fn signal(tables: &mut Tables, lines: &mut Vec<Line>, s: u8) -> Answer
     requires there { s < length tables.old.system.semaphores }
-    requires empty { lines.old.items ≡ [] }
-    requires room { 1 ≤ vec_capacity lines.old }
+    requires lines { AreEmptyWithRoom 1 lines.old }
     ensures outcome { outcome result tables.new lines.new.items ≡ signalled tables.old.system tables.old.state s }
     ensures kept { SameShapeAndRoom tables.old tables.new lines.old lines.new }
 {
@@ -44,11 +43,10 @@ fn signal(tables: &mut Tables, lines: &mut Vec<Line>, s: u8) -> Answer
 }
 
 /// `sig_sem` and `isig_sem` (uITRON 4.0, section 4.4.1): the first waiting task is released with E_OK; with none the
-/// count rises by one. E_ID where the number names no semaphore, then E_QOVR where no task waits and the count is the
+/// count rises by one. E_ID if the number names no semaphore, then E_QOVR if no task waits and the count is the
 /// greatest; nothing changes then.
 pub fn sig_sem(tables: &mut Tables, lines: &mut Vec<Line>, semaphore: i32) -> Answer
-    requires empty { lines.old.items ≡ [] }
-    requires room { 1 ≤ vec_capacity lines.old }
+    requires lines { AreEmptyWithRoom 1 lines.old }
     ensures outcome { outcome result tables.new lines.new.items
         ≡ sig_sem_case tables.old.system tables.old.state semaphore }
     ensures kept { SameShapeAndRoom tables.old tables.new lines.old lines.new }
@@ -78,8 +76,8 @@ fn acquire(tables: &mut Tables, me: u8, limit: TimeLimit, s: u8) -> Answer
 }
 
 /// `wai_sem` and `pol_sem` by task me (uITRON 4.0, section 4.4.1): takes a resource where the count is above 0, else
-/// waits at the end of the order within the limit. E_ID where the number names no semaphore, then E_TMOUT where a poll
-/// finds the count 0; nothing changes then.
+/// waits at the end of the order within the limit. E_ID if the number names no semaphore, then E_TMOUT if a poll finds
+/// the count 0; nothing changes then.
 pub fn wai_sem(tables: &mut Tables, me: u8, limit: TimeLimit, semaphore: i32) -> Answer
     requires me { me < length tables.old.system.tasks }
     requires limit { IsTimeLimit limit }
@@ -94,8 +92,8 @@ pub fn wai_sem(tables: &mut Tables, me: u8, limit: TimeLimit, semaphore: i32) ->
 }
 
 /// `twai_sem` by task me (uITRON 4.0, section 4.4.1): as `wai_sem`, with the time limit that a number states, in ticks:
-/// -1 is none, 0 polls, the greatest is 2^30. E_ID where the number names no semaphore, then E_PAR where the limit is
-/// none of these, then E_TMOUT where a poll finds the count 0; nothing changes then.
+/// -1 is none, 0 polls, the greatest is 2^30. E_ID if the number names no semaphore, then E_PAR if the limit is none of
+/// these, then E_TMOUT if a poll finds the count 0; nothing changes then.
 pub fn twai_sem(tables: &mut Tables, me: u8, semaphore: i32, limit: i32) -> Answer
     requires { me < length tables.old.system.tasks }
     ensures outcome { outcome result tables.new []

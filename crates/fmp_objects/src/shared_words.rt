@@ -17,7 +17,7 @@ fn shared_word_of(tables: &Tables, number: i32) -> Option<u8>
     numbered(tables.shared_word_count(), number)
 }
 
-/// `ld_shr`, this kernel's own: gives a shared word, and changes nothing. E_ID where the number names none.
+/// `ld_shr`, this kernel's own: gives a shared word, and changes nothing. E_ID if the number names none.
 pub fn ld_shr(tables: &Tables, word: i32) -> Answer
     ensures { outcome result tables.now [] ≡ ld_shr_case tables.now.state word }
 {
@@ -27,7 +27,7 @@ pub fn ld_shr(tables: &Tables, word: i32) -> Answer
     }
 }
 
-/// `st_shr`, this kernel's own: writes a shared word. E_ID where the number names none; nothing changes then.
+/// `st_shr`, this kernel's own: writes a shared word. E_ID if the number names none; nothing changes then.
 pub fn st_shr(tables: &mut Tables, word: i32, value: i32) -> Answer
     ensures outcome { outcome result tables.new [] ≡ st_shr_case tables.old.state word value }
     ensures shape { SameShape tables.old tables.new }

@@ -1,9 +1,10 @@
 //! What newly set bits of an eventflag do to the tasks that wait for it.
-ghost use Rattle.std.specs.Prelude.{◌≡◌, ◌<◌, ◌≤◌, [], length, vec_capacity, pos};
+ghost use Rattle.std.specs.Prelude.{◌≡◌, ◌<◌, [], length, pos};
 ghost use Rattle.fmp_base.specs.FlagCalls.{satisfies as satisfies_case, is_satisfied as is_satisfied_case, walk as walk_case};
 ghost use Rattle.fmp_base.specs.Outcomes.{given as given_value};
 ghost use Rattle.fmp_base.specs.Queues.{wait_queue};
 ghost use Rattle.fmp_base.specs.Systems.{flag_config};
+ghost use Rattle.fmp_tasks.specs.Lines.{AreEmptyWithRoom};
 ghost use Rattle.fmp_tasks.specs.Tables.{progress, SameShapeAndRoom};
 
 use fmp_base::{FlagMode, Line, Phase, Reply, WaitCause, WaitQueue};
@@ -42,8 +43,7 @@ fn with_bits(bits: u16) -> Reply
 /// first release clears all bits and is the last.
 pub fn walk(tables: &mut Tables, lines: &mut Vec<Line>, f: u8, bits: u16)
     requires there { f < length tables.old.system.flags }
-    requires empty { lines.old.items ≡ [] }
-    requires room { length tables.old.system.tasks ≤ vec_capacity lines.old }
+    requires lines { AreEmptyWithRoom (length tables.old.system.tasks) lines.old }
     ensures progress { progress tables.new lines.new.items
         ≡ walk_case (flag_config tables.old.system f).clears f bits
         (wait_queue tables.old.system tables.old.state (WaitQueue.Flag f)) (progress tables.old []) }
@@ -52,7 +52,7 @@ pub fn walk(tables: &mut Tables, lines: &mut Vec<Line>, f: u8, bits: u16)
     let clears = tables.flag_config(f).clears;
     let mut at = tables.first_waiting(WaitQueue::Flag(f));
     while let Some(t) = at {
-        // A release takes t out of the queue, so who follows it is read first.
+        // A release takes t out of the queue, so the task behind it is read first.
         at = tables.waiting_behind(WaitQueue::Flag(f), t);
         let x = tables.task(t);
         if !is_satisfied(x.phase, bits) {

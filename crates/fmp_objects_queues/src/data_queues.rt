@@ -1,11 +1,12 @@
 //! The service calls on data queues (uITRON 4.0, section 4.4.3).
-ghost use Rattle.std.specs.Prelude.{◌≡◌, ℕ, ◌<◌, ◌≤◌, [], length, vec_capacity, slice_get, Some, IfSome};
+ghost use Rattle.std.specs.Prelude.{◌≡◌, ℕ, ◌<◌, length, slice_get, Some, IfSome};
 ghost use Rattle.fmp_base.specs.Arguments.{IsTimeLimit};
 ghost use Rattle.fmp_base.specs.declared.states.TaskBlock.{TaskBlock};
 ghost use Rattle.fmp_base.specs.DataQueueCalls.{words_at, offered_word as offered_word_case, word_sent, forced_to, word_received, word_received_from, snd_dtq as snd_dtq_case, tsnd_dtq as tsnd_dtq_case, fsnd_dtq as fsnd_dtq_case, rcv_dtq as rcv_dtq_case, trcv_dtq as trcv_dtq_case};
 ghost use Rattle.fmp_base.specs.Outcomes.{numbered as place_of};
 ghost use Rattle.fmp_base.specs.Queues.{first_waiting};
 ghost use Rattle.fmp_base.specs.States.{task_at};
+ghost use Rattle.fmp_tasks.specs.Lines.{AreEmptyWithRoom};
 ghost use Rattle.fmp_tasks.specs.Tables.{outcome, SameShapeAndRoom};
 
 use fmp_base::arguments::{limit_of, numbered};
@@ -22,7 +23,7 @@ fn data_queue_of(tables: &Tables, number: i32) -> Option<u8>
     numbered(tables.data_queue_count(), number)
 }
 
-/// The word with which a task of this phase waits; 0 where it waits with none.
+/// The word with which a task of this phase waits; 0 if it waits with none.
 fn offered_word(phase: Phase) -> i32
     ensures { result ≡ offered_word_case phase }
 {
@@ -32,8 +33,8 @@ fn offered_word(phase: Phase) -> i32
     }
 }
 
-/// The first task that waits to receive gets the word, or the word is put last where there is room, or else task me
-/// waits with it within the limit.
+/// The first task that waits to receive gets the word, or the word is put last if there is room, or else task me waits
+/// with it within the limit.
 fn send(
     tables: &mut Tables,
     lines: &mut Vec<Line>,
@@ -45,8 +46,7 @@ fn send(
     requires there { d < length tables.old.system.data_queues }
     requires me { me < length tables.old.system.tasks }
     requires limit { IsTimeLimit limit }
-    requires empty { lines.old.items ≡ [] }
-    requires room { 1 ≤ vec_capacity lines.old }
+    requires lines { AreEmptyWithRoom 1 lines.old }
     ensures outcome { outcome result tables.new lines.new.items
         ≡ word_sent tables.old.system tables.old.state me (task_at tables.old.state.tasks me) word limit d }
     ensures kept { SameShapeAndRoom tables.old tables.new lines.old lines.new }
@@ -65,9 +65,9 @@ fn send(
 }
 
 /// `snd_dtq` and `psnd_dtq` by task me (uITRON 4.0, section 4.4.3): releases the first task that waits to receive with
-/// E_OK and the word; with none puts the word last where there is room, and else waits with it at the end of the order
-/// within the limit. E_ID where the number names no data queue, then E_TMOUT where a poll would have to wait; nothing
-/// changes then.
+/// E_OK and the word; with none puts the word last if there is room, and else waits with it at the end of the order
+/// within the limit. E_ID if the number names no data queue, then E_TMOUT if a poll would have to wait; nothing changes
+/// then.
 pub fn snd_dtq(
     tables: &mut Tables,
     lines: &mut Vec<Line>,
@@ -78,8 +78,7 @@ pub fn snd_dtq(
 ) -> Answer
     requires me { me < length tables.old.system.tasks }
     requires limit { IsTimeLimit limit }
-    requires empty { lines.old.items ≡ [] }
-    requires room { 1 ≤ vec_capacity lines.old }
+    requires lines { AreEmptyWithRoom 1 lines.old }
     ensures outcome { outcome result tables.new lines.new.items
         ≡ snd_dtq_case tables.old.system tables.old.state me (task_at tables.old.state.tasks me) limit queue word }
     ensures kept { SameShapeAndRoom tables.old tables.new lines.old lines.new }
@@ -91,8 +90,8 @@ pub fn snd_dtq(
 }
 
 /// `tsnd_dtq` by task me (uITRON 4.0, section 4.4.3): as `snd_dtq`, with the time limit that a number states, in ticks:
-/// -1 is none, 0 polls, the greatest is 2^30. E_ID where the number names no data queue, then E_PAR where the limit is
-/// none of these, then E_TMOUT where a poll would have to wait; nothing changes then.
+/// -1 is none, 0 polls, the greatest is 2^30. E_ID if the number names no data queue, then E_PAR if the limit is none
+/// of these, then E_TMOUT if a poll would have to wait; nothing changes then.
 pub fn tsnd_dtq(
     tables: &mut Tables,
     lines: &mut Vec<Line>,
@@ -102,8 +101,7 @@ pub fn tsnd_dtq(
     limit: i32,
 ) -> Answer
     requires me { me < length tables.old.system.tasks }
-    requires empty { lines.old.items ≡ [] }
-    requires room { 1 ≤ vec_capacity lines.old }
+    requires lines { AreEmptyWithRoom 1 lines.old }
     ensures outcome { outcome result tables.new lines.new.items
         ≡ tsnd_dtq_case tables.old.system tables.old.state me (task_at tables.old.state.tasks me) queue word limit }
     ensures kept { SameShapeAndRoom tables.old tables.new lines.old lines.new }
@@ -117,12 +115,11 @@ pub fn tsnd_dtq(
     }
 }
 
-/// `ipsnd_dtq`, and what `psnd_dtq` does whoever calls it (uITRON 4.0, section 4.4.3): as `snd_dtq` with a poll, but
-/// with no caller. E_ID where the number names no data queue, then E_TMOUT where no task waits to receive and there is
-/// no room; nothing changes then.
+/// `ipsnd_dtq`, and what `psnd_dtq` does for every caller (uITRON 4.0, section 4.4.3): as `snd_dtq` with a poll, but
+/// with no caller. E_ID if the number names no data queue, then E_TMOUT if no task waits to receive and there is no
+/// room; nothing changes then.
 pub fn psnd_dtq(tables: &mut Tables, lines: &mut Vec<Line>, queue: i32, word: i32) -> Answer
-    requires empty { lines.old.items ≡ [] }
-    requires room { 1 ≤ vec_capacity lines.old }
+    requires lines { AreEmptyWithRoom 1 lines.old }
     ensures outcome { (me : ℕ) (x : TaskBlock)
         → outcome result tables.new lines.new.items
         ≡ snd_dtq_case tables.old.system tables.old.state me x TimeLimit.Poll queue word }
@@ -147,8 +144,7 @@ pub fn psnd_dtq(tables: &mut Tables, lines: &mut Vec<Line>, queue: i32, word: i3
 /// The first task that waits to receive gets the word, or the word is put last, where a full queue drops its oldest.
 fn force(tables: &mut Tables, lines: &mut Vec<Line>, d: u8, word: i32) -> Answer
     requires there { d < length tables.old.system.data_queues }
-    requires empty { lines.old.items ≡ [] }
-    requires room { 1 ≤ vec_capacity lines.old }
+    requires lines { AreEmptyWithRoom 1 lines.old }
     ensures outcome { outcome result tables.new lines.new.items
         ≡ forced_to (first_waiting tables.old.system tables.old.state (WaitQueue.Receivers d)) tables.old.system
         tables.old.state d word }
@@ -166,11 +162,10 @@ fn force(tables: &mut Tables, lines: &mut Vec<Line>, d: u8, word: i32) -> Answer
 }
 
 /// `fsnd_dtq` and `ifsnd_dtq` (uITRON 4.0, section 4.4.3): releases the first task that waits to receive with E_OK and
-/// the word; with none puts the word last, and a full queue drops its oldest word first. E_ID where the number names no
-/// data queue, then E_ILUSE where it can hold no word; nothing changes then.
+/// the word; with none puts the word last, and a full queue drops its oldest word first. E_ID if the number names no
+/// data queue, then E_ILUSE if it can hold no word; nothing changes then.
 pub fn fsnd_dtq(tables: &mut Tables, lines: &mut Vec<Line>, queue: i32, word: i32) -> Answer
-    requires empty { lines.old.items ≡ [] }
-    requires room { 1 ≤ vec_capacity lines.old }
+    requires lines { AreEmptyWithRoom 1 lines.old }
     ensures outcome { outcome result tables.new lines.new.items
         ≡ fsnd_dtq_case tables.old.system tables.old.state queue word }
     ensures kept { SameShapeAndRoom tables.old tables.new lines.old lines.new }
@@ -189,8 +184,7 @@ pub fn fsnd_dtq(tables: &mut Tables, lines: &mut Vec<Line>, queue: i32, word: i3
 fn take_oldest(tables: &mut Tables, lines: &mut Vec<Line>, d: u8, word: i32) -> Answer
     requires there { d < length tables.old.system.data_queues }
     requires oldest { slice_get (words_at tables.old.state d) 0 ≡ Some word }
-    requires empty { lines.old.items ≡ [] }
-    requires room { 1 ≤ vec_capacity lines.old }
+    requires lines { AreEmptyWithRoom 1 lines.old }
     ensures outcome { (me : ℕ) (x : TaskBlock) (limit : TimeLimit)
         → outcome result tables.new lines.new.items ≡ word_received tables.old.system tables.old.state me x limit d }
     ensures kept { SameShapeAndRoom tables.old tables.new lines.old lines.new }
@@ -212,8 +206,7 @@ fn receive(tables: &mut Tables, lines: &mut Vec<Line>, me: u8, limit: TimeLimit,
     requires there { d < length tables.old.system.data_queues }
     requires me { me < length tables.old.system.tasks }
     requires limit { IsTimeLimit limit }
-    requires empty { lines.old.items ≡ [] }
-    requires room { 1 ≤ vec_capacity lines.old }
+    requires lines { AreEmptyWithRoom 1 lines.old }
     ensures outcome { outcome result tables.new lines.new.items
         ≡ word_received tables.old.system tables.old.state me (task_at tables.old.state.tasks me) limit d }
     ensures kept { SameShapeAndRoom tables.old tables.new lines.old lines.new }
@@ -232,8 +225,8 @@ fn receive(tables: &mut Tables, lines: &mut Vec<Line>, me: u8, limit: TimeLimit,
 
 /// `rcv_dtq` and `prcv_dtq` by task me (uITRON 4.0, section 4.4.3): gives the oldest word, then the word of the first
 /// task that waits to send is put last and that task is released with E_OK; of a queue that can hold no word gives the
-/// word of that task and releases it; else waits at the end of the order within the limit. E_ID where the number names
-/// no data queue, then E_TMOUT where a poll finds no word; nothing changes then.
+/// word of that task and releases it; else waits at the end of the order within the limit. E_ID if the number names no
+/// data queue, then E_TMOUT if a poll finds no word; nothing changes then.
 pub fn rcv_dtq(
     tables: &mut Tables,
     lines: &mut Vec<Line>,
@@ -243,8 +236,7 @@ pub fn rcv_dtq(
 ) -> Answer
     requires me { me < length tables.old.system.tasks }
     requires limit { IsTimeLimit limit }
-    requires empty { lines.old.items ≡ [] }
-    requires room { 1 ≤ vec_capacity lines.old }
+    requires lines { AreEmptyWithRoom 1 lines.old }
     ensures outcome { outcome result tables.new lines.new.items
         ≡ rcv_dtq_case tables.old.system tables.old.state me (task_at tables.old.state.tasks me) limit queue }
     ensures kept { SameShapeAndRoom tables.old tables.new lines.old lines.new }
@@ -256,8 +248,8 @@ pub fn rcv_dtq(
 }
 
 /// `trcv_dtq` by task me (uITRON 4.0, section 4.4.3): as `rcv_dtq`, with the time limit that a number states, in ticks:
-/// -1 is none, 0 polls, the greatest is 2^30. E_ID where the number names no data queue, then E_PAR where the limit is
-/// none of these, then E_TMOUT where a poll finds no word; nothing changes then.
+/// -1 is none, 0 polls, the greatest is 2^30. E_ID if the number names no data queue, then E_PAR if the limit is none
+/// of these, then E_TMOUT if a poll finds no word; nothing changes then.
 pub fn trcv_dtq(
     tables: &mut Tables,
     lines: &mut Vec<Line>,
@@ -266,8 +258,7 @@ pub fn trcv_dtq(
     limit: i32,
 ) -> Answer
     requires me { me < length tables.old.system.tasks }
-    requires empty { lines.old.items ≡ [] }
-    requires room { 1 ≤ vec_capacity lines.old }
+    requires lines { AreEmptyWithRoom 1 lines.old }
     ensures outcome { outcome result tables.new lines.new.items
         ≡ trcv_dtq_case tables.old.system tables.old.state me (task_at tables.old.state.tasks me) queue limit }
     ensures kept { SameShapeAndRoom tables.old tables.new lines.old lines.new }

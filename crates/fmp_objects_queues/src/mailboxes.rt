@@ -1,9 +1,10 @@
 //! The service calls on mailboxes (uITRON 4.0, section 4.4.4). A message is its number and its priority.
-ghost use Rattle.std.specs.Prelude.{◌≡◌, ◌<◌, ◌≤◌, [], length, vec_capacity, IfSome};
+ghost use Rattle.std.specs.Prelude.{◌≡◌, ◌<◌, [], length, IfSome};
 ghost use Rattle.fmp_base.specs.Arguments.{IsTimeLimit};
 ghost use Rattle.fmp_base.specs.MailboxCalls.{message_sent, message_received, snd_mbx as snd_mbx_case, rcv_mbx as rcv_mbx_case, trcv_mbx as trcv_mbx_case};
 ghost use Rattle.fmp_base.specs.Outcomes.{numbered as place_of};
 ghost use Rattle.fmp_base.specs.States.{task_at};
+ghost use Rattle.fmp_tasks.specs.Lines.{AreEmptyWithRoom};
 ghost use Rattle.fmp_tasks.specs.Tables.{outcome, SameShape, SameShapeAndRoom};
 
 use fmp_base::arguments::{limit_of, numbered};
@@ -28,13 +29,12 @@ fn message_of(tables: &Tables, number: i32) -> Option<u8>
     numbered(tables.message_count(), number)
 }
 
-/// The first task that waits for mailbox m gets message g, or the message is queued. E_PAR where messages queue by
-/// priority and this one's is above the mailbox's limit, then E_OBJ where it is queued somewhere.
+/// The first task that waits for mailbox m gets message g, or the message is queued. E_PAR if messages queue by
+/// priority and this one's is above the mailbox's limit, then E_OBJ if it is queued somewhere.
 fn send(tables: &mut Tables, lines: &mut Vec<Line>, m: u8, g: u8) -> Answer
     requires mailbox { m < length tables.old.system.mailboxes }
     requires message { g < length tables.old.system.messages }
-    requires empty { lines.old.items ≡ [] }
-    requires room { 1 ≤ vec_capacity lines.old }
+    requires lines { AreEmptyWithRoom 1 lines.old }
     ensures outcome { outcome result tables.new lines.new.items ≡ message_sent tables.old.system tables.old.state m g }
     ensures kept { SameShapeAndRoom tables.old tables.new lines.old lines.new }
 {
@@ -58,11 +58,10 @@ fn send(tables: &mut Tables, lines: &mut Vec<Line>, m: u8, g: u8) -> Answer
 
 /// `snd_mbx` (uITRON 4.0, section 4.4.4): releases the first task that waits for the mailbox with E_OK and the
 /// message's number; with none queues the message, with TA_MPRI behind those of its priority or more urgent, else last.
-/// In this order: E_ID where a number names no mailbox or no message, E_PAR where, with TA_MPRI, the message's priority
-/// is above the mailbox's limit, E_OBJ where the message is queued in some mailbox; nothing changes then.
+/// In this order: E_ID if a number names no mailbox or no message, E_PAR if, with TA_MPRI, the message's priority is
+/// above the mailbox's limit, E_OBJ if the message is queued in some mailbox; nothing changes then.
 pub fn snd_mbx(tables: &mut Tables, lines: &mut Vec<Line>, mailbox: i32, message: i32) -> Answer
-    requires empty { lines.old.items ≡ [] }
-    requires room { 1 ≤ vec_capacity lines.old }
+    requires lines { AreEmptyWithRoom 1 lines.old }
     ensures outcome { outcome result tables.new lines.new.items
         ≡ snd_mbx_case tables.old.system tables.old.state mailbox message }
     ensures kept { SameShapeAndRoom tables.old tables.new lines.old lines.new }
@@ -98,8 +97,8 @@ fn receive(tables: &mut Tables, me: u8, limit: TimeLimit, m: u8) -> Answer
 }
 
 /// `rcv_mbx` and `prcv_mbx` by task me (uITRON 4.0, section 4.4.4): gives the number of the first message and takes it
-/// out, else waits at the end of the order within the limit. E_ID where the number names no mailbox, then E_TMOUT where
-/// a poll finds no message; nothing changes then.
+/// out, else waits at the end of the order within the limit. E_ID if the number names no mailbox, then E_TMOUT if a
+/// poll finds no message; nothing changes then.
 pub fn rcv_mbx(tables: &mut Tables, me: u8, limit: TimeLimit, mailbox: i32) -> Answer
     requires me { me < length tables.old.system.tasks }
     requires limit { IsTimeLimit limit }
@@ -114,8 +113,8 @@ pub fn rcv_mbx(tables: &mut Tables, me: u8, limit: TimeLimit, mailbox: i32) -> A
 }
 
 /// `trcv_mbx` by task me (uITRON 4.0, section 4.4.4): as `rcv_mbx`, with the time limit that a number states, in ticks:
-/// -1 is none, 0 polls, the greatest is 2^30. E_ID where the number names no mailbox, then E_PAR where the limit is
-/// none of these, then E_TMOUT where a poll finds no message; nothing changes then.
+/// -1 is none, 0 polls, the greatest is 2^30. E_ID if the number names no mailbox, then E_PAR if the limit is none of
+/// these, then E_TMOUT if a poll finds no message; nothing changes then.
 pub fn trcv_mbx(tables: &mut Tables, me: u8, mailbox: i32, limit: i32) -> Answer
     requires { me < length tables.old.system.tasks }
     ensures outcome { outcome result tables.new []

@@ -1,4 +1,4 @@
--- The ready queues among lent lists: sixteen a processor, from head 0 on.
+-- The ready queues among lent lists: sixteen for each processor, from head 0 on.
 use Rattle.std.specs.Prelude.{◌≡◌, ℕ, zero, suc, ◌+◌, ◌-◌, ◌*◌, ◌<◌, ◌≤◌, ◌^◌, List, [], ◌∷◌, Option, Some, None, length, slice_set, slice_index_or}
 use Rattle.std.specs.Int.{bit_at}
 use Rattle.fmp_ring.specs.RingLists.{RingLists, list_at}
@@ -33,7 +33,7 @@ bit_for [] = 0
 bit_for (t ∷ ts) = 1
 
 -- the lists have those of each processor, of tasks with numbers of one byte, and a bit of a processor's bitmap is set
--- exactly where its queue is not empty
+-- exactly if its queue is not empty
 pub record AreExact (bitmaps : List ℕ) (r : RingLists) : Type 0 where
   pub few : r.nodes ≤ 2 ^ 8
   pub heads : length bitmaps * 16 ≤ length r.lists

@@ -13,9 +13,10 @@ use fmp_ring::{Rings, as_byte};
 use std::alloc::{AllocError, Global};
 use std::marker::Model;
 
-/// For each processor (uITRON 4.0, section 3.2, and the FMP kernel) sixteen queues, one a priority, 1 being the most
-/// urgent. They are the first lists of the rings that each call is lent, sixteen a processor; what stands here is a
-/// bitmap for each processor, of the queues that are not empty. Processors and tasks go by their places, from 0.
+/// For each processor (uITRON 4.0, section 3.2, and the FMP kernel) sixteen queues, one for each priority, 1 being the
+/// most urgent. They are the first lists of the rings that each call is lent, sixteen for each processor; what stands
+/// here is a bitmap for each processor, of the queues that are not empty. Processors and tasks go by their places, from
+/// 0.
 #[derive(Drop)]
 pub struct ReadyQueues {
     bitmaps: Vec<u16>,
@@ -38,7 +39,7 @@ fn head_of(p: u8, priority: u8) -> u16
 }
 
 impl ReadyQueues {
-    /// Empty queues for so many processors. `AllocError` for want of memory.
+    /// Empty queues for this many processors. `AllocError` if memory runs out.
     pub fn new(alloc: Global, processors: u8) -> Result<ReadyQueues, AllocError>
         ensures { IfOk result (λ r. r ≡ replicate processors 0) }
     {

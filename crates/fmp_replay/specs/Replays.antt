@@ -1,33 +1,23 @@
 -- The replay of events on an image, and which lists of events are legal.
-use Rattle.std.specs.Prelude.{◌≡◌, ℕ, List, [], ◌∷◌, length, replicate}
+use Rattle.std.specs.Prelude.{◌≡◌, ℕ, List, [], ◌∷◌, length, map}
 use Rattle.fmp_base.specs.declared.events.Event.{Event}
 use Rattle.fmp_base.specs.Meanings.{Meaning}
 use Rattle.fmp_base.specs.Runs.{done_events}
 use Rattle.fmp_base.specs.Setups.{setup}
-use Rattle.fmp_base.specs.Steps.{Done, Reaction, Nothing, Did, step}
+use Rattle.fmp_base.specs.States.{places_from}
+use Rattle.fmp_base.specs.Steps.{Done, Reaction, step}
 use Rattle.fmp_base.specs.Systems.{SystemTables}
 use Rattle.fmp_instructions.specs.declared.instructions.MachineContext.{MachineContext}
 use Rattle.fmp_instructions.specs.Instructions.{BodyTables}
 use Rattle.fmp_instructions.specs.Machine.{code_meaning}
 use Rattle.fmp_image_bytes.specs.Images.{ImageTables}
 use Rattle.fmp_kernel.specs.KernelViews.{KernelView, done_or}
-use Rattle.fmp_kernel.specs.Stamps.{stamped}
+use Rattle.fmp_worlds.specs.Stamps.{stamp}
 
 -- one event after the other: the world at the end, with the lines of the last event that did something
 abbrev pub done_after : {C : Type 0} → SystemTables → Meaning C → (bound : ℕ) → Done C → List Event → Done C
 done_after sys M bound d [] = d
 done_after sys M bound d (e ∷ es) = done_after sys M bound (done_or d (step sys M bound d.world e)) es
-
--- the stamps of the processors after an event
-abbrev pub stamps_or : {C : Type 0} → Done C → Reaction C → List ℕ → List ℕ
-stamps_or d Nothing stamps = stamps
-stamps_or d (Did e) stamps = stamped e.lines d.world.state e.world.state stamps
-
--- and after one event after the other
-abbrev pub stamps_on : {C : Type 0} → SystemTables → Meaning C → (bound : ℕ) → Done C → List ℕ → List Event → List ℕ
-stamps_on sys M bound d stamps [] = stamps
-stamps_on sys M bound d stamps (e ∷ es) =
-    stamps_on sys M bound (done_or d (step sys M bound d.world e)) (stamps_or d (step sys M bound d.world e) stamps) es
 
 -- the replay of events on an image, within n instructions a stretch: setup, and then one event after the other
 unfoldable pub replay : ImageTables → (n : ℕ) → List Event → Done MachineContext
@@ -36,8 +26,8 @@ replay i n es = done_after i.system (code_meaning i.code) n (setup i.system (cod
 -- the stamps of the processors after it
 unfoldable pub stamps_after : ImageTables → (n : ℕ) → List Event → List ℕ
 stamps_after i n es =
-    stamps_on i.system (code_meaning i.code) n (setup i.system (code_meaning i.code))
-    (replicate i.system.processors 0) es
+    map (stamp i.system (code_meaning i.code) n (setup i.system (code_meaning i.code)).world es)
+    (places_from 0 i.system.processors)
 
 -- what an event does after the replay of others
 unfoldable pub reaction : ImageTables → (n : ℕ) → List Event → Event → Reaction MachineContext

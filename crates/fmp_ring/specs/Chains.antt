@@ -10,7 +10,7 @@ abbrev pub walk : (ℕ → ℕ) → ℕ → ℕ → ℕ → List ℕ
 walk next n zero p = []
 walk next n (suc most) p = cond (nat_lt p n) (p ∷ walk next n most (next p)) []
 
--- the lists of so many heads whose places start at p
+-- the lists of the given number of heads, whose places start at p
 abbrev pub walks : (ℕ → ℕ) → ℕ → ℕ → ℕ → List (List ℕ)
 walks next n p zero = []
 walks next n p (suc heads) = walk next n n (next p) ∷ walks next n (p + 1) heads
@@ -20,7 +20,7 @@ abbrev pub Chain : ℕ → (ℕ → ℕ) → (ℕ → ℕ) → ℕ → List ℕ 
 Chain n next previous a [] z = (next a ≡ z) × (previous z ≡ a)
 Chain n next previous a (t ∷ ts) z = (t < n) × (next a ≡ t) × (previous t ≡ a) × Chain n next previous t ts z
 
--- the links are rings, one a list
+-- the links are rings, one for each list
 pub record AreChains (n : ℕ) (next previous : ℕ → ℕ) (lists : List (List ℕ)) : Type 0 where
   pub each : (h : ℕ) → h < length lists → Chain n next previous (n + h) (list_at lists h) (n + h)
 
@@ -34,7 +34,7 @@ lists_of nodes heads next = walks (link_at next) nodes nodes heads
 abbrev pub ring_lists : Inside → RingLists
 ring_lists a = record { nodes = a.nodes; lists = lists_of a.nodes a.heads a.next }
 
--- rows of links for so many nodes and heads, that are rings
+-- rows of links for this many nodes and heads, which are rings
 pub record AreRings (nodes heads : ℕ) (next previous : List ℕ) : Type 0 where
   pub next_row : length next ≡ nodes + heads
   pub previous_row : length previous ≡ nodes + heads

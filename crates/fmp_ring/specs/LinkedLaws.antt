@@ -61,7 +61,7 @@ pub is_linked-others : (y x : ℕ) (lists : List (List ℕ)) → nat_eq y x ≡ 
 is_linked-others y x [] h = refl
 is_linked-others y x (l ∷ ls) h = rw (in-without y x l h, is_linked-others y x ls h) refl
 
--- who stands there when x came before b
+-- which nodes stand there after x came before b
 in-before : (y b x : ℕ) (l : List ℕ) → is_in y (inserted_before b x l) ≡ (is_in y l || (is_in b l && nat_eq y x))
 in-before y b x [] = refl
 in-before y b x (t ∷ ts) = by_test (nat_eq t b) refl (in-before y b x ts) where
@@ -90,7 +90,7 @@ is_linked-before y b x (l ∷ ls) =
     rw (in-before y b x l, is_linked-before y b x ls)
     (spread (is_in y l) (is_in b l) (is_linked y ls) (is_linked b ls) (nat_eq y x))
 
--- who stands there when x came last
+-- which nodes stand there after x came last
 in-push : (y x : ℕ) (l : List ℕ) → is_in y (l ++ x ∷ []) ≡ (is_in y l || nat_eq y x)
 in-push y x [] = or_comm (nat_eq y x) false
 in-push y x (t ∷ ts) = rw (in-push y x ts) (or_assoc (nat_eq y t) (is_in y ts) (nat_eq y x))

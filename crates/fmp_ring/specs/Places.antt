@@ -3,8 +3,7 @@ use Rattle.std.specs.Prelude.{◌≡◌, ℕ, List, [], ◌∷◌, ◌++◌, Opt
 use Rattle.fmp_base.specs.MailboxCalls.{behind_equals}
 use Rattle.fmp_ring.specs.RingLists.{is_in, inserted_before, from_node}
 
--- before the node, or last where there is none, x comes behind those that are at least as urgent, where f gives
--- priorities
+-- before the node, or last if there is none, x comes behind those that are at least as urgent, where f gives priorities
 abbrev pub IsPlace : (ℕ → ℕ) → ℕ → List ℕ → Option ℕ → Type 0
 IsPlace f x l None = l ++ x ∷ [] ≡ behind_equals f x l
 IsPlace f x l (Some at) = (is_in at l ≡ true) × (inserted_before at x l ≡ behind_equals f x l)

@@ -47,7 +47,7 @@ fn link(next: &mut Counted, previous: &mut Counted, from: u32, to: u32, steps: &
 }
 
 impl Rings {
-    /// Empty lists for so many heads and nodes. `AllocError` for want of memory.
+    /// Empty lists for this many heads and nodes. `AllocError` if memory runs out.
     pub fn new(alloc: Global, heads: u16, nodes: u16) -> Result<Rings, AllocError>
         ensures { IfOk result (λ r. r ≡ record { nodes = nodes; lists = replicate heads [] }) }
     {

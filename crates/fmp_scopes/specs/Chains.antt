@@ -69,6 +69,6 @@ abbrev pub links_depths : List LinkTree → (d : ℕ) → List ℕ
 links_depths [] d = []
 links_depths (l ∷ ls) d = operator_depths l.operator l.operand d ++ links_depths ls d
 
--- the instructions of a condition, with a jump over so many instructions behind it where it is 0
+-- the instructions of a condition, followed by a jump over this many instructions if it is 0
 abbrev pub test_code : Scope → ExpressionTree → (at over : ℕ) → List Instruction
 test_code scope e at over = expression_code scope e at ++ JumpIfZero (at + expression_size e + 1 + over) ∷ []

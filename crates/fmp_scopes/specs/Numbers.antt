@@ -1,15 +1,10 @@
 -- The numbers of objects as the compiler holds them: a map in which a name is found by its bytes.
-use Rattle.std.specs.Prelude.{ℕ, Bool, Option, Some, None}
+use Rattle.std.specs.Prelude.{ℕ, Option, Some, None}
 use Rattle.std.specs.HashMap.{HashMap, get}
-use Rattle.std.specs.Str.{bytes_eq}
 use Rattle.fmp_base.specs.declared.names.Name.{Name}
-use Rattle.fmp_base.specs.Names.{name_text}
+use Rattle.fmp_lex.specs.declared.object_name.ObjectName.{ObjectName}
+use Rattle.fmp_lex.specs.ObjectNames.{same_bytes}
 use Rattle.fmp_tasklang.specs.Scopes.{NameMeaning, Object, Unknown}
-use Rattle.fmp_scopes.specs.declared.numbers.ObjectName.{ObjectName}
-
--- two names have the same bytes
-abbrev pub same_bytes : ObjectName → ObjectName → Bool
-same_bytes a b = bytes_eq (name_text a.name) (name_text b.name)
 
 -- the object of a number, if there is one
 abbrev pub object_or_none : Option ℕ → NameMeaning

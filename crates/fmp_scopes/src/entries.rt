@@ -22,7 +22,7 @@ pub struct EntryUse {
     pub at: usize,
     /// The body that it names.
     pub name: Name,
-    /// The kind of body that it wants.
+    /// The kind of body that it requires.
     pub kind: BodyKind,
     /// The size of the stack in bytes, where it is that of a task.
     pub stack: Option<u32>,

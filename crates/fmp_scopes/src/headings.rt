@@ -1,4 +1,4 @@
-//! What the entries of static APIs ask of a body: its kind, its name, how many operands it needs.
+//! What the entries of static APIs require of a body: its kind, its name, how many operands it needs.
 
 ghost use Rattle.std.specs.Prelude.{◌≡◌, ◌<◌, List, length, min, IfSome};
 ghost use Rattle.fmp_tasklang.specs.Trees.{BodyTree};
@@ -22,7 +22,7 @@ pub struct Heading {
     pub depth: u32,
 }
 
-/// The heading of a body that needs so many operands.
+/// The heading of a body that needs this many operands.
 pub fn heading_with(body: &Body, depth: usize) -> Heading
     requires { depth ≡ min (body_depth (body_view body.now)) 1073741824 }
     ensures { result ≡ spec.heading_of (body_view body.now) }

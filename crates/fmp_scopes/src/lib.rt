@@ -15,6 +15,6 @@ pub use extents::{Extent, block_extent, expression_extent};
 pub use headings::{Heading, body_place, heading_with};
 pub use lists::append;
 pub use names::{HasName, Meaning, Names, Objects, is_exinf, is_object, meaning_in, place_in};
-pub use numbers::{ObjectName, ObjectNumbers, number_objects};
+pub use numbers::{ObjectNumbers, number_objects};
 pub use offences::{Offence, source_fault};
 pub use uses::block_offence;

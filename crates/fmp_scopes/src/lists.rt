@@ -4,7 +4,7 @@ ghost use Rattle.std.specs.Prelude.{◌≡◌, ◌++◌, ◌∷◌, [], OnOk};
 
 use std::alloc::AllocError;
 
-/// Appends an item. The error is want of memory.
+/// Appends an item. The error is out of memory.
 pub fn append<T: Drop>(list: &mut Vec<T>, item: T) -> Result<(), AllocError>
     ensures { OnOk result (list.new.items ≡ list.old.items ++ item ∷ []) }
 {

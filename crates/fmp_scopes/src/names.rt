@@ -10,13 +10,13 @@ ghost use Rattle.fmp_scopes.specs.Naming.{Reads, Writes, use_offence};
 ghost use Rattle.fmp_scopes.specs.Scopes.{HoldsNumbers, IsHeld, meaning_view, scope_view};
 
 use crate::headings::Heading;
-use crate::numbers::{ObjectName, ObjectNumbers};
+use crate::numbers::ObjectNumbers;
 use crate::offences::Offence;
 use fmp_base::{
     CyclicConfig, DataQueueConfig, FlagConfig, MailboxConfig, MessageConfig, Name, SemaphoreConfig,
     SharedWordConfig, SpinLockConfig, System, TaskConfig,
 };
-use fmp_lex::FaultKind;
+use fmp_lex::{FaultKind, ObjectName};
 use fmp_tasklang::{Body, Word};
 
 /// A row of a table that has a name.

@@ -1,10 +1,6 @@
 //! The numbers of the objects of a system, found by their names.
 
 ghost use Rattle.std.specs.Prelude.{◌≡◌, ◌+◌, ◌<◌, ◌≤◌, map, length, IfOk, OnOk};
-ghost use Rattle.std.proofs.Common.{rules};
-ghost use Rattle.std.specs.Cmp.Rules.{comparing, hashing};
-ghost use Rattle.std.specs.Hash as fed;
-ghost use Rattle.std.specs.Str.{bytes_eq};
 ghost use Rattle.fmp_base.specs.declared.names.Name as base;
 ghost use Rattle.fmp_base.specs.Names.{name_text};
 ghost use Rattle.fmp_base.specs.Ranges.{IsInRange};
@@ -13,41 +9,10 @@ ghost use Rattle.fmp_tasklang.specs.Scopes.{place_of, number_or, object_names, o
 ghost use Rattle.fmp_scopes.specs.Numbers.{number_of};
 
 use crate::names::HasName;
-use fmp_base::{Name, System};
+use fmp_base::System;
+use fmp_lex::ObjectName;
 use std::alloc::{AllocError, Global};
 use std::collections::HashMap;
-use std::hash::{Hash, Hasher};
-
-/// The name of an object. Two are equal where their bytes are.
-#[derive(Clone, Copy, Drop)]
-pub struct ObjectName {
-    /// The name as the configuration has it.
-    pub name: Name,
-}
-
-impl PartialEq for ObjectName {
-    ghost eq = { λ a b. bytes_eq (name_text a.name) (name_text b.name) };
-
-    ghost laws = { Prim.search (comparing, rules) };
-
-    fn eq(&self, other: &ObjectName) -> bool {
-        self.name.as_bytes() == other.name.as_bytes()
-    }
-}
-
-impl Eq for ObjectName {
-    ghost laws = { Prim.search (comparing, rules) };
-}
-
-impl Hash for ObjectName {
-    ghost hash_input = { λ a. fed.slice fed.u8 (name_text a.name) };
-
-    ghost respects_eq = { Prim.search (hashing, rules) };
-
-    fn hash<H: Hasher>(&self, state: &mut H) {
-        self.name.as_bytes().hash(state);
-    }
-}
 
 /// The number of the object of each name.
 pub type ObjectNumbers = HashMap<ObjectName, u8>;
@@ -75,8 +40,8 @@ fn number_rows<T: HasName>(numbers: &mut ObjectNumbers, rows: &[T]) -> Result<()
     Ok(())
 }
 
-/// The numbers of the objects of a system. Where two tables have one name, its number is that of the first.
-/// The error is want of memory.
+/// The numbers of the objects of a system. Where two tables have one name, its number is that of the first. The error
+/// is out of memory.
 pub fn number_objects(alloc: Global, system: &System) -> Result<ObjectNumbers, AllocError>
     requires { IsInRange (tables_of system.now) }
     ensures { IfOk result (λ numbers. (name : base.Name) → number_of numbers name ≡

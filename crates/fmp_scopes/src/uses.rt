@@ -67,21 +67,13 @@ fn word_offence(names: &Names<'_>, word: Option<Word>) -> Option<Offence>
     }
 }
 
-/// How many arguments stand before the out place of a service; 0 where it has none.
+/// How many arguments stand before the out place of a service; 0 if it has none.
 fn before_out(service: Service) -> usize
     ensures { result ≡ found 0 (out_place service) }
 {
-    match service {
-        Service::WaiFlg | Service::PolFlg | Service::TwaiFlg => 3,
-        Service::LdShr
-        | Service::GetPri
-        | Service::RcvDtq
-        | Service::PrcvDtq
-        | Service::TrcvDtq
-        | Service::RcvMbx
-        | Service::PrcvMbx
-        | Service::TrcvMbx => 1,
-        _ => 0,
+    match service.out_place() {
+        Some(place) => usize::from(place),
+        None => 0,
     }
 }
 

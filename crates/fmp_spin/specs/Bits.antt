@@ -10,7 +10,7 @@ abbrev pub as_bit : Bool → ℕ
 as_bit false = 0
 as_bit true = 1
 
--- of these bits the first that is set, or none where no bit is
+-- of these bits the first that is set, or none if no bit is
 abbrev pub IsFirst : (ℕ → ℕ) → ℕ → Option ℕ → Type 0
 IsFirst bits n None = (i : ℕ) → i < n → bits i ≡ 0
 IsFirst bits n (Some k) = (k < n) × (bits k ≡ 1) × ((i : ℕ) → i < k → bits i ≡ 0)

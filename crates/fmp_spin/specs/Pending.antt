@@ -88,7 +88,7 @@ processor_at_slot on n = if nat_lt n 64 then found None (slice_get on.interrupts
 abbrev pub mark_at_slot : List Bool → List Bool → ℕ → Bool
 mark_at_slot interrupts cyclics n = if nat_lt n 64 then is_pending interrupts n else is_pending cyclics (n - 64)
 
--- a bit of a processor's row is set exactly where the handler runs there and is pending
+-- a bit of a processor's row is set exactly if the handler runs there and is pending
 abbrev pub AreRows : ℕ → List ℕ → (ℕ → Option ℕ) → (ℕ → Bool) → Type 0
 AreRows count words on mark =
     (p n : ℕ) → p < count → n < 320 → bit_in words (p * 320 + n) ≡ as_bit (mark n && is_on (on n) p)

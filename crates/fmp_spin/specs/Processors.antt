@@ -17,7 +17,7 @@ with_processors s xs = record s { processors = xs }
 abbrev pub answered_in : KernelState → Answer → Outcome
 answered_in s answer = record { answer = answer; progress = unchanged s }
 
--- processor p of these, or an idle one where there is none
+-- processor p of these, or an idle one if there is none
 abbrev pub processor_in : List Processor → ℕ → Processor
 processor_in xs p = found idle (slice_get xs p)
 

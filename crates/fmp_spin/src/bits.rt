@@ -38,7 +38,7 @@ fn lowest_bit(word: u64) -> Option<usize>
     }
 }
 
-/// Of so many words from one on the first bit that is set, if any.
+/// The first set bit in this many words from one on, if any.
 pub fn first_bit(words: &[u64], from: usize, count: usize) -> Option<usize>
     requires inside { from + count ≤ length words.now }
     requires few { count ≤ 255 }

@@ -91,21 +91,21 @@ fn cyclic_processors(alloc: Global, configs: &[CyclicConfig]) -> Result<Vec<u8>,
     Ok(processors)
 }
 
-/// So many marks that are not set.
+/// This many marks, none of them set.
 fn clear_marks(alloc: Global, count: usize) -> Result<Vec<bool>, AllocError>
     ensures { IfOk result (λ v. v.items ≡ replicate count false) }
 {
     vec![in alloc; false; count]
 }
 
-/// So many words in which no bit is set.
+/// This many words in which no bit is set.
 fn clear_words(alloc: Global, count: usize) -> Result<Vec<u64>, AllocError>
     ensures { IfOk result (λ v. v.items ≡ replicate count 0) }
 {
     vec![in alloc; 0; count]
 }
 
-/// The first slot of a row whose bit is set, if any. Mostly there is none, which is seen at once.
+/// The first slot of a row whose bit is set, if any. Usually there is none, which is seen at once.
 fn first_slot(words: &[u64], from: usize) -> Option<usize>
     requires inside { from + 5 ≤ length words.now }
     ensures { IsFirst (λ i. bit_in words.now (from * 64 + i)) 320 result }
@@ -118,7 +118,7 @@ fn first_slot(words: &[u64], from: usize) -> Option<usize>
 }
 
 impl PendingHandlers {
-    /// The handlers of a system, none of them pending. `AllocError` for want of memory.
+    /// The handlers of a system, none of them pending. `AllocError` if memory runs out.
     pub fn new(alloc: Global, sys: &System) -> Result<PendingHandlers, AllocError>
         requires { IsInRange (tables_of sys.now) }
         ensures { IfOk result (λ h. h ≡ none_pending (tables_of sys.now)) }
@@ -162,7 +162,7 @@ impl PendingHandlers {
         self.cyclics[c as usize]
     }
 
-    /// The interrupt at a place is pending, or no more.
+    /// The interrupt at a place is pending, or no longer.
     fn mark_interrupt(&mut self, i: u8, pending: bool)
         requires { i < length self.old.interrupts }
         ensures { self.new ≡ record self.old { interrupts = slice_set self.old.interrupts i pending } }
@@ -172,7 +172,7 @@ impl PendingHandlers {
         set_slot(self.words.as_mut_slice(), processor, i as usize, pending);
     }
 
-    /// A cyclic handler is pending, or no more.
+    /// A cyclic handler is pending, or no longer.
     fn mark_cyclic(&mut self, c: u8, pending: bool)
         requires { c < length self.old.cyclics }
         ensures { self.new ≡ record self.old { cyclics = slice_set self.old.cyclics c pending } }
@@ -203,7 +203,7 @@ impl PendingHandlers {
         self.mark_cyclic(c, true);
     }
 
-    /// A handler is pending no more.
+    /// A handler is no longer pending.
     pub fn clear(&mut self, h: Handler)
         requires { HasMark self.old h }
         ensures { self.new ≡ without_mark self.old h }

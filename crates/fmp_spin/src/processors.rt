@@ -1,4 +1,4 @@
-//! The processors: who runs, CPU locks, disabled dispatching and spin locks.
+//! The processors: what each runs, CPU locks, disabled dispatching and spin locks.
 ghost use Rattle.std.specs.Prelude.{◌≡◌, ◌<◌, length, replicate, slice_set, IfOk};
 ghost use Rattle.fmp_base.specs.ProcessorCalls.{loc_cpu, unl_cpu, dispatch_set, is_held as is_held_in, is_cpu_locked as is_locked, is_spin as is_lock, spin_lock_taken};
 ghost use Rattle.fmp_base.specs.Outcomes.{code};
@@ -69,7 +69,7 @@ fn holds_any(table: &[Processor], l: u8) -> bool
 }
 
 impl Processors {
-    /// So many processors, all idle. Want of memory is the only error.
+    /// This many processors, all idle. Running out of memory is the only error.
     pub fn new(alloc: Global, count: u8) -> Result<Self, AllocError>
         ensures { IfOk result (λ xs. xs ≡ replicate count idle_processor) }
     {
@@ -87,7 +87,7 @@ impl Processors {
         self.table.len()
     }
 
-    /// A processor, or an idle one where there is none.
+    /// A processor, or an idle one if there is none.
     pub fn processor(&self, p: u8) -> Processor
         ensures { result ≡ processor_in self.now p }
     {
@@ -97,7 +97,7 @@ impl Processors {
         }
     }
 
-    /// Changes a processor, where there is one.
+    /// Changes a processor, if there is one.
     pub fn set(&mut self, p: u8, x: Processor)
         ensures { self.new ≡ slice_set self.old p x }
     {
@@ -194,7 +194,7 @@ impl Processors {
     }
 
     /// `loc_spn` of spin lock l on processor p: a free lock is taken, and the CPU is locked by it; for a held one the
-    /// caller goes on asking, and nothing changes.
+    /// caller spins, and nothing changes.
     pub fn acquire(&mut self, p: u8, l: u8) -> Answer
         ensures outcome { (s : KernelState)
             → spin_lock_taken (is_held_in l self.old) (with_processors s self.old) p l
@@ -222,8 +222,8 @@ impl Processors {
         replied(Er::Ok)
     }
 
-    /// `unl_spn` of spin lock l on processor p: E_ILUSE where it does not hold this lock, and then nothing changes;
-    /// else its CPU is free.
+    /// `unl_spn` of spin lock l on processor p: E_ILUSE if it does not hold this lock, and then nothing changes; else
+    /// its CPU is free.
     pub fn release(&mut self, p: u8, l: u8) -> Answer
         ensures outcome { (s : KernelState)
             → released_by (is_lock l (processor_in self.old p).lock) (with_processors s self.old) p

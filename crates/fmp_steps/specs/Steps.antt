@@ -97,7 +97,7 @@ events_of processors n (line ∷ lines) = in_front (event_of_line processors n l
 abbrev pub steps_of : (processors : ℕ) → List ℕ → Result (List Event) StepsFault
 steps_of processors text = events_of processors 1 (lines_of text)
 
--- the events that were read, none where there was a fault
+-- the events that were read, none if there was a fault
 abbrev pub read_events : Result (List Event) StepsFault → List Event
 read_events (Ok es) = es
 read_events (Err f) = []

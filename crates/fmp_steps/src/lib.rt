@@ -1,4 +1,4 @@
-//! The steps text: the events of a run, one a line, read whole or one after the other.
+//! The steps text: the events of a run, one per line, read whole or one after the other.
 #![tactic(auto)]
 
 mod faults;

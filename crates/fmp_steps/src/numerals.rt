@@ -4,10 +4,10 @@ ghost use Rattle.fmp_steps.specs.Steps.{digits_number, number_of, capped, ranged
 
 use crate::faults::Flaw;
 
-/// Greater numbers than this one are read as it.
+/// Greater numbers are read as this one.
 const CAP: u32 = 1000;
 
-/// The number that digits spell, at most `CAP`; none where a byte is no digit.
+/// The number that digits spell, at most `CAP`; none if a byte is no digit.
 fn digits_in(text: &[u8]) -> Option<u32>
     ensures { result ≡ capped (digits_number text.now) }
 {
@@ -21,7 +21,7 @@ fn digits_in(text: &[u8]) -> Option<u32>
     Some(value)
 }
 
-/// The number that a text spells without leading zeros, at most `CAP`; none where it is no number.
+/// The number that a text spells without leading zeros, at most `CAP`; none if it is no number.
 fn number_in(text: &[u8]) -> Option<u32>
     ensures { result ≡ capped (number_of text.now) }
 {

@@ -4,7 +4,7 @@ use clap::error::ErrorKind;
 use clap::{ArgMatches, Error};
 use std::alloc::{AllocError, Global};
 
-/// What is said of words that are no text.
+/// The message for words that are not UTF-8.
 const NOT_TEXT: &str = "invalid UTF-8 was detected in one or more arguments";
 
 /// What the seats of a board are to do.
@@ -24,7 +24,7 @@ pub struct Plan {
     pub capacity: u32,
     /// How many instructions a stretch may take, 1 to 2^48.
     pub bound: u64,
-    /// What the turns are drawn by.
+    /// The seed of the turns.
     pub seed: u64,
     /// Whether each seat has a processor of its own.
     pub own: bool,

@@ -22,7 +22,7 @@ pub struct Hosted {
     pub journal: Vec<Event>,
     /// What the seats of each team did, first of those that followed.
     pub teams: Vec<Vec<Record>>,
-    /// What all calls were answered.
+    /// The answers to all calls, by count.
     pub answers: Answers,
     /// How many seats there were.
     pub seats: u32,
@@ -44,7 +44,7 @@ fn last_of<S: Site>(alloc: Global, seats: &mut Vec<Seat>) -> Place<S>
     Place::new(alloc, seat)
 }
 
-/// A new team of a seat. It is dropped where there is no memory for it.
+/// A new team of a seat. It is dropped if there is no memory for it.
 fn push_team<S: Site>(
     alloc: Global,
     teams: &mut Vec<Team<S>>,
@@ -60,7 +60,7 @@ fn push_team<S: Site>(
     });
 }
 
-/// Gives a seat to its team: the first ones follow, each by itself, and the others call, so many in a team.
+/// Gives a seat to its team: the first ones follow, each by itself, and the others call, a fixed number in a team.
 fn seat_in<S: Site>(alloc: Global, teams: &mut Vec<Team<S>>, place: Place<S>, plan: &Plan) {
     let number = place.number();
     if number < plan.followers {

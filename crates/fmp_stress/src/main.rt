@@ -1,9 +1,9 @@
 //! The program `fmp_stress`, a tool of the checks: threads share a board by as many seats as are asked for, take
 //! tickets, feed events, and follow the row; then the journal is written, and what each follower read. It promises
-//! nothing by contract but that each call of the library is called as it asks.
+//! nothing by contract except that it keeps the conditions of each call of the library.
 //!
-//! It ends with the statuses of `fmp`: 0 where it did what it was asked, 1 for a fault of what it read, 2 for a mistake
-//! in the command line, and 3 where a file could not be read or written or memory ran out.
+//! It ends with the statuses of `fmp`: 0 if it did what it was asked, 1 for a fault of what it read, 2 for a mistake in
+//! the command line, and 3 if a file could not be read or written or memory ran out.
 #![tactic(auto)]
 
 mod asking;

@@ -15,14 +15,14 @@ use std::thread;
 /// How often an outcome is made that is stale, one after the other.
 const MOST_TRIES: u32 = 1000;
 
-/// What the calls of a seat were answered, by count.
+/// The answers to the calls of a seat, by count.
 #[derive(Clone, Copy)]
 pub struct Answers {
     /// Events that were journaled.
     pub journaled: u32,
     /// Events that did nothing.
     pub nothing: u32,
-    /// Tickets that were wanted of a processor without an actor.
+    /// Tickets that were asked for at a processor without an actor.
     pub idle: u32,
     /// Outcomes that were stale.
     pub stale: u32,
@@ -35,7 +35,7 @@ pub struct Answers {
 }
 
 impl Answers {
-    /// What no call was answered.
+    /// No answers yet.
     pub fn none() -> Answers {
         Answers {
             journaled: 0,
@@ -61,7 +61,7 @@ impl Answers {
         }
     }
 
-    /// Counts what one event was answered.
+    /// Counts the answer to one event.
     fn count(&mut self, answer: Result<Receipt, BoardFault>) {
         let count = match answer {
             Ok(receipt) if receipt.number > 0 => &mut self.journaled,
@@ -80,7 +80,7 @@ pub struct Record {
     pub followed: Vec<Event>,
     /// What a follower printed of them, where it read by one.
     pub printed: Vec<u8>,
-    /// What its calls were answered.
+    /// The answers to its calls.
     pub answers: Answers,
 }
 
@@ -96,7 +96,7 @@ pub struct Place<S: Site> {
     ghost at: { IsAt S.row_id seat },
 }
 
-/// The outcome of the stretch that the actor of processor p makes next, made outside the board's lock. None where the
+/// The outcome of the stretch that the actor of processor p makes next, made outside the board's lock. None if the
 /// processor has no actor.
 fn drawn<S: Site, R: Wait>(rt: &R, board: &Board<'_, S>, seat: &mut Seat, p: u8) -> Option<Outcome>
     requires { IsAt S.row_id seat.old }
@@ -223,7 +223,7 @@ impl<S: Site> Place<S> {
         board.close(&mut self.seat)
     }
 
-    /// Counts what an event was answered.
+    /// Counts the answer to an event.
     fn note(&mut self, answer: Result<Receipt, BoardFault>) {
         if let Ok(receipt) = answer {
             self.seen = self.seen.max(receipt.number);

@@ -125,7 +125,7 @@ fn write_followed<O: Outside>(
     Ok(())
 }
 
-/// What is printed of a board: a line for each count and, where that is wanted, how long it took.
+/// What is printed of a board: a line for each count and, if asked for, how long it took.
 #[derive(Clone, Copy)]
 struct Summary<'a> {
     hosted: &'a Hosted,

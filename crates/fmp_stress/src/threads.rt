@@ -16,7 +16,7 @@ pub struct Team<S: Site> {
     pub places: Vec<Place<S>>,
     /// What those did that are done.
     pub records: Vec<Record>,
-    /// The place of the first one among all that call, or none where they follow.
+    /// The place of the first one among all that call, or none if they follow.
     pub caller: Option<usize>,
 }
 
@@ -29,7 +29,7 @@ pub struct Party<S: Site> {
     pub last: Place<S>,
 }
 
-/// How long a run took, in microseconds, or 0 where the clock cannot be read.
+/// How long a run took, in microseconds, or 0 if the clock cannot be read.
 #[derive(Clone, Copy)]
 pub struct Times {
     /// The calls.

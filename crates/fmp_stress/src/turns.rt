@@ -23,7 +23,7 @@ enum Deed {
     Read,
 }
 
-/// What the deeds of a thread's seats are drawn by.
+/// The random source of the turns of a thread's seats.
 #[derive(Drop)]
 struct Draws<'a, 'b, S: Site> {
     board: &'b Board<'a, S>,

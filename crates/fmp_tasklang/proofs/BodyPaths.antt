@@ -7,7 +7,7 @@ use Rattle.fmp_lex.specs.declared.reading.ReadError.{ReadError}
 use Rattle.fmp_lex.specs.declared.reading.ReadError.TheVariants.{Memory, Fault}
 use Rattle.fmp_lex.specs.declared.token.TokenKind.{TokenKind}
 use Rattle.fmp_lex.specs.declared.token.TokenKind.TheVariants as kind
-use Rattle.fmp_lex.specs.declared.words.Keyword.TheVariants as keyword
+use Rattle.fmp_base.specs.declared.words.Keyword.TheVariants as keyword
 use Rattle.fmp_lex.specs.Reading.{Rel, At, Seq, Star, Outcome, found, stopped, map_outcome, Right, Anywhere, RightToken, IsWhole, IsFirstFault, Answers}
 use Rattle.fmp_lex.proofs.Sequences.{Framed, Fills, Follows, fewer, item_framed, token_found, seq_framed, seq_fills, seq_then, seq_stop, right_as}
 use Rattle.fmp_lex.proofs.Repetitions.{Behind, Closed, behind_framed, behind_fills, behind_then, behind_stop, closed_framed, closed_fills, closed_found, closed_missing, closed_stop, star_framed, star_fills, star_none, star_more, star_stop}

@@ -5,7 +5,7 @@ use Rattle.fmp_base.specs.declared.services.Service.TheVariants as service
 use Rattle.fmp_base.specs.Services.{arity, out_place}
 use Rattle.fmp_lex.specs.declared.token.TokenKind.{TokenKind}
 use Rattle.fmp_lex.specs.declared.token.TokenKind.TheVariants as kind
-use Rattle.fmp_lex.specs.declared.words.Keyword.TheVariants as keyword
+use Rattle.fmp_base.specs.declared.words.Keyword.TheVariants as keyword
 use Rattle.fmp_lex.specs.Forms.{put}
 use Rattle.fmp_tasklang.specs.declared.forms.Part.{Part}
 use Rattle.fmp_tasklang.specs.declared.forms.Part.TheVariants as part

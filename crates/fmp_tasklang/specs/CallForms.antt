@@ -3,7 +3,7 @@ use Rattle.std.specs.Prelude.{◌≡◌, List, [], ◌∷◌, length, is_some}
 use Rattle.fmp_base.specs.Services.{arity, out_place}
 use Rattle.fmp_tasklang.specs.Trees.{CallTree, StatementTree, assign, service_call, if_then, if_else, while, break, continue, return, Block, empty, next, BodyTree}
 
--- as many arguments as the service takes, and a variable at the out place exactly where the service has one
+-- as many arguments as the service takes, and a variable at the out place exactly if the service has one
 abbrev pub CallFits : CallTree → Type 0
 CallFits c = (length c.arguments ≡ arity c.service) × (is_some c.out ≡ is_some (out_place c.service))
 

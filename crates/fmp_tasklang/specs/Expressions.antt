@@ -8,7 +8,7 @@ use Rattle.fmp_lex.specs.declared.token.Symbol.TheVariants as symbol
 use Rattle.fmp_lex.specs.declared.token.TokenKind.{TokenKind}
 use Rattle.fmp_lex.specs.declared.token.TokenKind.TheVariants as kind
 use Rattle.fmp_lex.specs.Reading.{Allows, IsToken, IsItem}
-use Rattle.fmp_lex.specs.Words.{constant_value}
+use Rattle.fmp_base.specs.Words.{constant_value}
 use Rattle.fmp_tasklang.specs.declared.trees.Operator.{Operator}
 use Rattle.fmp_tasklang.specs.declared.trees.Operator.TheVariants as operator
 use Rattle.fmp_tasklang.specs.declared.trees.Word.{Word}

@@ -1,4 +1,4 @@
--- When what the readers of a task text answer is right.
+-- When the answers of the readers of a task text are right.
 use Rattle.std.specs.Prelude.{◌≡◌, ℕ, ◌+◌, ◌≤◌, Bool, List, map, slice_get, Option, Some, None, option_and_then, Result, Ok, Err}
 use Rattle.std.specs.declared.vec.Vec.{Vec}
 use Rattle.std.specs.declared.alloc.Global.{Global}
@@ -11,7 +11,7 @@ use Rattle.fmp_lex.specs.declared.token.Symbol.TheVariants as symbol
 use Rattle.fmp_lex.specs.declared.token.Token.{Token}
 use Rattle.fmp_lex.specs.declared.token.TokenKind.{TokenKind}
 use Rattle.fmp_lex.specs.declared.token.TokenKind.TheVariants as kind
-use Rattle.fmp_lex.specs.declared.words.Keyword.TheVariants as keyword
+use Rattle.fmp_base.specs.declared.words.Keyword.TheVariants as keyword
 use Rattle.fmp_lex.specs.Faults.{Spells, IsSyntaxFault}
 use Rattle.fmp_lex.specs.Reading.{Rel, At, IsToken, IsItem, Item, Star, Outcome, Right, Anywhere, IsWhole, IsFirstFault}
 use Rattle.fmp_base.specs.declared.services.Service.{Service}

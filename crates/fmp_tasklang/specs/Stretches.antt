@@ -24,7 +24,7 @@ from_mark [] = []
 from_mark (Do s ∷ rest) = from_mark rest
 from_mark (Mark e b ∷ rest) = Mark e b ∷ rest
 
--- the place of a variable that is written; none where the name is no variable
+-- the place of a variable that is written; none if the name is no variable
 abbrev pub variable_place : NameMeaning → Option ℕ
 variable_place (Variable place) = Some place
 variable_place (Object k) = None
@@ -113,12 +113,12 @@ follow again go (Stops s) = s
 abbrev pub out_of_turns : Way
 out_of_turns locals todo = ends.Over None
 
--- one item after another, at most so many
+-- one item after another, at most n
 abbrev pub walk : Scope → Way → ℕ → Way
 walk scope again zero locals todo = out_of_turns locals todo
 walk scope again (suc fuel) locals todo = follow again (walk scope again fuel) (after_item scope locals todo)
 
--- at most so many turns of loops
+-- at most t turns of loops
 abbrev pub turns : Scope → ℕ → Way
 turns scope zero locals todo = walk scope out_of_turns (weight todo) locals todo
 turns scope (suc t) locals todo = walk scope (turns scope t) (weight todo) locals todo

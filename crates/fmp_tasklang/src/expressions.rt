@@ -20,7 +20,7 @@ fn literal(number: i32) -> Expression
     Expression::Number(number)
 }
 
-/// The operand at a place, where so many levels of nesting are open, and the place behind it.
+/// The operand at a place, given the number of open levels of nesting, and the place behind it.
 #[cycle(expressions)]
 #[inline(always)]
 fn operand(

@@ -5,7 +5,7 @@ ghost use Rattle.fmp_tasklang.specs.Calls.{call_parts};
 use fmp_base::Service;
 use fmp_lex::Mark;
 
-/// A part of the form of a call. What goes on with an expression is never the mark behind it.
+/// A part of the form of a call. A token that continues an expression is never the mark behind it.
 #[derive(Clone, Copy)]
 pub enum Part {
     Mark(Mark),

@@ -1,7 +1,7 @@
 //! Statements of the task language.
 ghost use Rattle.std.specs.Prelude.{◌≡◌, ◌^◌, ◌≤◌, ◌<◌, ◌+◌, Some, true, length, slice_get, option_and_then};
 ghost use Rattle.fmp_lex.specs.Reading.{kinds_of, max_depth, Answers};
-ghost use Rattle.fmp_lex.specs.declared.words.Keyword.TheVariants as keyword;
+ghost use Rattle.fmp_base.specs.declared.words.Keyword.TheVariants as keyword;
 ghost use Rattle.fmp_tasklang.specs.Blocks.{choice};
 ghost use Rattle.fmp_tasklang.specs.Calls.{service_of, call_tree};
 ghost use Rattle.fmp_tasklang.specs.Reading.{statements_view, block_view, else_view, source_view, called_view, assigned, RightCondition, RightSource, RightAssignment, RightPlainCall, RightJump, RightStatement, RightIf, RightElse, RightOther, RightBlock, RightStatements};

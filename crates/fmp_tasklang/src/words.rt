@@ -1,4 +1,4 @@
-//! What tokens are worth in the task language: numbers, names, operators and their levels.
+//! What tokens mean in the task language: numbers, names, operators and their levels.
 ghost use Rattle.std.specs.Prelude.{◌≡◌, ◌^◌, ◌+◌, ◌≤◌, ◌<◌, ℕ, None, Some, length, slice_get, option_and_then, option_map, IfSome, MatchOption};
 ghost use Rattle.fmp_lex.specs.Reading.{kinds_of, Finds};
 ghost use Rattle.fmp_tasklang.specs.Calls as calls;

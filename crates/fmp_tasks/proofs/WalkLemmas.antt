@@ -7,7 +7,7 @@ use Rattle.fmp_ring.specs.OrderLaws.{IsOrder-length}
 use Rattle.fmp_ring.specs.RingLists.{is_in, behind, follower, from_node}
 use Rattle.fmp_ring.specs.WalkLaws.{from_first, in-split, follower-rest}
 
--- so many nodes stand before the one that a walk came to
+-- the number of nodes before the one that a walk reached
 pub record Past (l : List ℕ) (at : Option ℕ) (count : ℕ) : Type 0 where
   pub past : List ℕ
   pub split : l ≡ past ++ from_node at l

@@ -9,7 +9,7 @@ use Rattle.fmp_tasks.specs.Homes.{counts_of}
 abbrev pub no_bits : SystemTables → List ℕ
 no_bits sys = replicate sys.processors 0
 
--- empty lists: sixteen ready queues a processor, and then the wait queues
+-- empty lists: sixteen ready queues for each processor, and then the wait queues
 abbrev pub no_tasks : SystemTables → RingLists
 no_tasks sys =
     record { nodes = length sys.tasks; lists = replicate (sys.processors * 16 + count_of_lists (counts_of sys)) [] }

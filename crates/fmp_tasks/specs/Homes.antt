@@ -104,7 +104,7 @@ abbrev pub joined_to : (ℕ → QueueOrder) → (ℕ → ℕ) → List (List ℕ
 joined_to by f lists None t = lists
 joined_to by f lists (Some h) t = slice_set lists h (enqueued (by h) f t (list_at lists h))
 
--- the queue of an option is one that is there
+-- the queue of an option exists
 abbrev pub IsSomeThere : ObjectCounts → Option WaitQueue → Type 0
 IsSomeThere n None = Unit {0}
 IsSomeThere n (Some q) = IsThere n q

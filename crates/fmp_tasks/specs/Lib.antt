@@ -3,6 +3,7 @@ pub mod Empties
 pub mod Homes
 pub mod Joining
 pub mod KeptLaws
+pub mod Lines
 pub mod SortLaws
 pub mod Tables
 pub mod Trails

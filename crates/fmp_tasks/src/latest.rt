@@ -7,7 +7,7 @@ use fmp_base::WaitQueue;
 const SLOTS: usize = 256;
 
 /// For each priority the task that came last into a wait queue at it. It may have left since, or stand in another queue
-/// of the group: whoever asks looks where it stands. So the contracts say nothing of it, and nothing depends on it but
+/// of the group: the caller looks where it stands. So the contracts say nothing of it, and nothing depends on it but
 /// how long a task looks for its place.
 #[derive(Drop)]
 pub struct Latest {

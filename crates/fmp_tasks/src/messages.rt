@@ -8,7 +8,7 @@ ghost use Rattle.fmp_ring.specs.RingLists.{list_at};
 use fmp_base::{QueueOrder, Steps, System};
 use fmp_ring::Rings;
 
-/// The priority of a message; 1 where there is none.
+/// The priority of a message; 1 if there is none.
 fn priority_of(sys: &System, g: u16) -> u8
     ensures { result ≡ message_priority (tables_of sys.now) g }
 {

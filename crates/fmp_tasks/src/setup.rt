@@ -95,7 +95,7 @@ pub fn wait_queues(sys: &System) -> WaitQueues
     }
 }
 
-/// How many lists tasks stand in: sixteen ready queues a processor, and the wait queues.
+/// How many lists tasks stand in: sixteen ready queues for each processor, and the wait queues.
 fn list_count(waits: WaitQueues) -> u16
     ensures { result ≡ waits.processors * 16 + count_of_lists waits.counts }
 {
@@ -138,7 +138,7 @@ pub fn initial_values(
     Ok((semaphores, flags, shared_words))
 }
 
-/// So many data queues with no word.
+/// This many data queues with no word.
 fn empty_words(alloc: Global, queues: usize) -> Result<Vec<Words>, AllocError>
     ensures { IfOk result (λ v. v.items ≡ replicate queues []) }
 {

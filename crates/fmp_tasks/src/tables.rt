@@ -63,8 +63,8 @@ impl Model for Tables {
 }
 
 impl Tables {
-    /// The state in which a system starts, with no task started yet (uITRON 4.0, section 3.7). `AllocError` for want
-    /// of memory.
+    /// The state in which a system starts, with no task started yet (uITRON 4.0, section 3.7). `AllocError` if memory
+    /// runs out.
     pub fn new(alloc: Global, sys: &System) -> Result<Tables, AllocError>
         requires { IsInRange (tables_of sys.now) }
         ensures { IfOk result

@@ -24,7 +24,7 @@ impl Model for Words {
 }
 
 impl Words {
-    /// No word. `AllocError` for want of memory.
+    /// No word. `AllocError` if memory runs out.
     pub fn new(alloc: Global) -> Result<Words, AllocError>
         ensures { IfOk result (λ w. w ≡ []) }
     {
@@ -46,7 +46,7 @@ impl Words {
         self.ring.front().copied()
     }
 
-    /// Puts a word last, where there are fewer than 255.
+    /// Puts a word last, if there are fewer than 255.
     pub fn append(&mut self, word: i32)
         requires { length self.old < 255 }
         ensures { self.new ≡ self.old ++ word ∷ [] }

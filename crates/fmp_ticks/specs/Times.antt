@@ -1,4 +1,4 @@
--- Tables of times, and who is due.
+-- Tables of times, and what is due.
 use Rattle.std.specs.Prelude.{◌≡◌, ℕ, ◌+◌, ◌-◌, ◌^◌, ◌≤◌, min, List, [], ◌∷◌, Option, Some, None, IfSome, length, slice_index_or, if◌then◌else◌}
 use Rattle.fmp_base.specs.Ticks.{is_due}
 use Rattle.fmp_ticks.specs.declared.cyclics.Cyclics.TheInside.{Inside}
@@ -20,7 +20,7 @@ abbrev pub lowered : ℕ → Option ℕ → ℕ
 lowered least None = least
 lowered least (Some time) = min time least
 
--- the least of these times, or the greatest number of 32 bits where there is none
+-- the least of these times, or the greatest number of 32 bits if there is none
 abbrev pub least_time : List (Option ℕ) → ℕ
 least_time [] = 2 ^ 32 - 1
 least_time (time ∷ times) = lowered (least_time times) time

@@ -12,7 +12,7 @@ use std::marker::Model;
 
 /// For each task the clock at which its wait or delay ends, if it is limited (uITRON 4.0, sections 2.1.7 and 4.2).
 /// Tasks go by their places, from 0. It is seen as the list of these times. The tasks that have one stand in a heap,
-/// the first of them at its top; the last argument of each call counts how often tasks are compared.
+/// the first of them at its top; the last argument of each call counts the comparisons of tasks.
 #[derive(Drop)]
 pub struct TickQueue {
     deadlines: Vec<Option<u32>>,
@@ -31,7 +31,7 @@ impl Model for TickQueue {
 }
 
 impl TickQueue {
-    /// No deadline for any of so many tasks. `AllocError` for want of memory.
+    /// No deadline for any of this many tasks. `AllocError` if memory runs out.
     pub fn new(alloc: Global, tasks: u8) -> Result<TickQueue, AllocError>
         ensures { IfOk result (λ q. q ≡ replicate tasks None) }
     {

@@ -6,7 +6,7 @@ ghost use Rattle.fmp_ticks.specs.Ranks.{rank as rank_of, rank_in, KeepRanks, IsH
 use crate::places::Places;
 use fmp_base::Steps;
 
-/// The place of a task in the order of deadlines and then of numbers, from 1, or 0 where it has no deadline.
+/// The place of a task in the order of deadlines and then of numbers, from 1, or 0 if it has no deadline.
 pub fn rank(deadline: Option<u32>, task: u8) -> u64
     ensures { result ≡ rank_of deadline task }
 {

@@ -1,5 +1,5 @@
-//! What the clock waits for: the deadlines of tasks, and the times at which cyclic handlers are due. No call but `new`
-//! takes memory.
+//! Times in the future: the deadlines of tasks, and the times at which cyclic handlers are due. No call but `new` takes
+//! memory.
 #![tactic(auto)]
 
 pub mod cyclics;

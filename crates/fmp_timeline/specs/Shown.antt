@@ -43,7 +43,7 @@ task_shown t state block xs =
       held = is_run t (slice_get xs state.processor) && block.suspended;
     }
 
--- of a task that is not there
+-- of a missing task
 abbrev pub no_state : TaskState
 no_state = record { word = word.Dormant; processor = 0; priority = 0 }
 

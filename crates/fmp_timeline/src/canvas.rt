@@ -24,7 +24,7 @@ pub enum Piece<'a> {
 /// The digits of hexadecimal numbers.
 const DIGITS: &[u8; 16] = b"0123456789ABCDEF";
 
-/// The text of a picture, or of a label in it. Once memory has run out it takes no more, which `finish` tells.
+/// The text of a picture, or of a label in it. Once memory has run out it takes no more, which `finish` reports.
 #[derive(Drop)]
 pub struct Canvas {
     bytes: Vec<u8>,
@@ -50,7 +50,7 @@ impl Canvas {
         width(&self.bytes, size)
     }
 
-    /// Keeps the first bytes, so many.
+    /// Keeps only this many bytes, the first.
     pub fn shorten(&mut self, count: usize) {
         self.bytes.truncate(count);
     }
@@ -87,7 +87,7 @@ impl Canvas {
         self.raw(behind);
     }
 
-    /// A number in decimal digits, with `-` in front where it is negative.
+    /// A number in decimal digits, with `-` in front if it is negative.
     pub fn signed(&mut self, number: i32) {
         let sign = if number < 0 { "-" } else { "" };
         self.numbered(sign, number.unsigned_abs(), "");

@@ -5,7 +5,7 @@ use std::ops::{Add, Sub};
 #[derive(Clone, Copy)]
 pub struct Tenths(pub i32);
 
-/// So many whole pixels.
+/// This many whole pixels.
 pub fn px(pixels: u32) -> Tenths {
     Tenths(i32::try_from(pixels).unwrap_or(i32::MAX).saturating_mul(10))
 }
@@ -21,7 +21,7 @@ impl Tenths {
         Tenths(0) - self
     }
 
-    /// So many times this.
+    /// This length times a number.
     pub fn times(self, count: u32) -> Tenths {
         Tenths(
             self.0

@@ -1,5 +1,5 @@
 //! What events do to tasks and handlers: marks in their lanes, and links between them.
-use fmp_base::{Call, Caller, Er, Fault, Handler, Line, Reply};
+use fmp_base::{Action, Call, Caller, Er, Fault, Handler, Line, Reply};
 
 /// What a mark says.
 #[derive(Clone, Copy)]
@@ -64,7 +64,7 @@ pub struct Made {
     pub reply: Option<Reply>,
 }
 
-/// What one did to another at an event.
+/// What an actor did to another task at an event.
 #[derive(Clone, Copy)]
 pub enum Bond {
     /// It started the other.
@@ -77,7 +77,7 @@ pub enum Bond {
     Changes,
 }
 
-/// A line from the one who did something to the task that it was done to.
+/// A line from an actor to the task on which it acted.
 #[derive(Clone, Copy)]
 pub struct Link {
     pub event: u32,
@@ -115,18 +115,15 @@ pub fn task_named(number: i32, caller: Caller) -> Option<u8> {
 
 /// What an accepted call does to a task, if it names one to do something to.
 pub fn bond_of(call: Call) -> Option<(i32, Bond)> {
-    match call {
-        Call::ActTsk { task } | Call::IactTsk { task } | Call::MactTsk { task, .. } => {
-            Some((task, Bond::Starts))
-        }
-        Call::WupTsk { task } | Call::IwupTsk { task } => Some((task, Bond::Releases)),
-        Call::MigTsk { task, .. } => Some((task, Bond::Migrates)),
-        Call::TerTsk { task }
-        | Call::ChgPri { task, .. }
-        | Call::SusTsk { task }
-        | Call::RsmTsk { task } => Some((task, Bond::Changes)),
-        _ => None,
-    }
+    let bond = match call.service().action()? {
+        Action::Activates => Bond::Starts,
+        Action::WakesUp => Bond::Releases,
+        Action::Migrates => Bond::Migrates,
+        Action::Changes => Bond::Changes,
+        Action::Gives | Action::Takes => return None,
+    };
+    let arguments = call.arguments();
+    Some((*arguments.as_slice().first()?, bond))
 }
 
 /// Whether one of these lines says that this task starts or is released.

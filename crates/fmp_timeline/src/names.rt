@@ -1,6 +1,6 @@
 //! The names that a picture has for tasks, handlers, objects and calls.
 use crate::canvas::Canvas;
-use fmp_base::{Call, Handler, Name, Reply, System, WaitCause};
+use fmp_base::{Call, Handler, Name, ObjectKind, Reply, System, WaitCause};
 use std::alloc::Global;
 
 /// What an argument or a wait is about.
@@ -16,7 +16,7 @@ pub enum Topic {
     Cyclic(u8),
 }
 
-/// The name of what a topic is, where there is one.
+/// The name of what a topic is, if there is one.
 fn name_of(sys: &System, topic: Topic) -> Option<&Name> {
     match topic {
         Topic::Task(place) => Some(&sys.tasks.get(usize::from(place))?.name),
@@ -27,7 +27,7 @@ fn name_of(sys: &System, topic: Topic) -> Option<&Name> {
     }
 }
 
-/// The name of an object that tasks wait for, where a topic is one and it is there.
+/// The name of an object that tasks wait for, if a topic is one and it exists.
 fn object_name(sys: &System, topic: Topic) -> Option<&Name> {
     match topic {
         Topic::Semaphore(place) => Some(&sys.semaphores.get(usize::from(place))?.name),
@@ -38,7 +38,7 @@ fn object_name(sys: &System, topic: Topic) -> Option<&Name> {
     }
 }
 
-/// The bytes of the name of what a topic is; none where there is nothing.
+/// The bytes of the name of what a topic is; none if there is nothing.
 pub fn bytes_of(sys: &System, topic: Topic) -> &[u8] {
     match name_of(sys, topic) {
         Some(name) => name.as_bytes(),
@@ -66,60 +66,29 @@ pub fn handler_text(alloc: Global, sys: &System, handler: Handler, words: &str) 
     text
 }
 
-/// What the first argument of a call names, as its kind with this place.
-fn topic_of(call: Call, place: u8) -> Option<Topic> {
-    match call {
-        Call::LdShr { .. } | Call::StShr { .. } => Some(Topic::SharedWord(place)),
-        Call::ActTsk { .. }
-        | Call::CanAct { .. }
-        | Call::TerTsk { .. }
-        | Call::ChgPri { .. }
-        | Call::GetPri { .. }
-        | Call::MactTsk { .. }
-        | Call::MigTsk { .. }
-        | Call::WupTsk { .. }
-        | Call::CanWup { .. }
-        | Call::RelWai { .. }
-        | Call::SusTsk { .. }
-        | Call::RsmTsk { .. }
-        | Call::IactTsk { .. }
-        | Call::IwupTsk { .. }
-        | Call::IrelWai { .. } => Some(Topic::Task(place)),
-        Call::StaCyc { .. } | Call::StpCyc { .. } => Some(Topic::Cyclic(place)),
-        Call::LocSpn { .. } | Call::TrySpn { .. } | Call::UnlSpn { .. } => {
-            Some(Topic::SpinLock(place))
-        }
-        _ => object_of(call, place),
+/// An object of a kind at a place, where a picture shows such objects.
+fn topic_of(kind: ObjectKind, place: u8) -> Option<Topic> {
+    match kind {
+        ObjectKind::Task => Some(Topic::Task(place)),
+        ObjectKind::Semaphore => Some(Topic::Semaphore(place)),
+        ObjectKind::Flag => Some(Topic::Flag(place)),
+        ObjectKind::DataQueue => Some(Topic::DataQueue(place)),
+        ObjectKind::Mailbox => Some(Topic::Mailbox(place)),
+        ObjectKind::SharedWord => Some(Topic::SharedWord(place)),
+        ObjectKind::SpinLock => Some(Topic::SpinLock(place)),
+        ObjectKind::Cyclic => Some(Topic::Cyclic(place)),
+        ObjectKind::Message => None,
     }
 }
 
-/// The object that the first argument of a call names, as its kind with this place.
-fn object_of(call: Call, place: u8) -> Option<Topic> {
-    match call {
-        Call::SigSem { .. }
-        | Call::WaiSem { .. }
-        | Call::PolSem { .. }
-        | Call::TwaiSem { .. }
-        | Call::IsigSem { .. } => Some(Topic::Semaphore(place)),
-        Call::SetFlg { .. }
-        | Call::ClrFlg { .. }
-        | Call::WaiFlg { .. }
-        | Call::PolFlg { .. }
-        | Call::TwaiFlg { .. }
-        | Call::IsetFlg { .. } => Some(Topic::Flag(place)),
-        Call::SndDtq { .. }
-        | Call::PsndDtq { .. }
-        | Call::TsndDtq { .. }
-        | Call::FsndDtq { .. }
-        | Call::RcvDtq { .. }
-        | Call::PrcvDtq { .. }
-        | Call::TrcvDtq { .. }
-        | Call::IpsndDtq { .. }
-        | Call::IfsndDtq { .. } => Some(Topic::DataQueue(place)),
-        Call::SndMbx { .. } | Call::RcvMbx { .. } | Call::PrcvMbx { .. } | Call::TrcvMbx { .. } =>
-            Some(Topic::Mailbox(place)),
-        _ => None,
-    }
+/// The kind of the objects of which an argument of a call, from 0, names one. The out place is no argument.
+fn kind_named(call: Call, index: usize) -> Option<ObjectKind> {
+    let service = call.service();
+    let place = match service.out_place() {
+        Some(out) if usize::from(out) <= index => index.saturating_add(1),
+        _ => index,
+    };
+    service.parameters().get(place)?.object_kind()
 }
 
 /// The name of the message with this number.
@@ -128,15 +97,20 @@ fn message_name(sys: &System, number: i32) -> Option<&Name> {
     Some(&sys.messages.get(place)?.name)
 }
 
-/// The name for an argument of a call, if it has one.
-fn argument_name(sys: &System, call: Call, index: usize, number: i32) -> Option<&Name> {
-    match (index, call) {
-        (0, _) => {
-            let place = u8::try_from(number.checked_sub(1)?).ok()?;
-            name_of(sys, topic_of(call, place)?)
-        }
-        (1, Call::SndMbx { .. }) => message_name(sys, number),
-        _ => None,
+/// The name of the object of a kind with this number, if it has one.
+fn numbered_name(sys: &System, kind: ObjectKind, number: i32) -> Option<&Name> {
+    if let ObjectKind::Message = kind {
+        return message_name(sys, number);
+    }
+    let place = u8::try_from(number.checked_sub(1)?).ok()?;
+    name_of(sys, topic_of(kind, place)?)
+}
+
+/// The bytes of the name for an argument of a call, if it has one.
+fn argument_name(sys: &System, call: Call, index: usize, number: i32) -> Option<&[u8]> {
+    match kind_named(call, index)? {
+        ObjectKind::Task if number == 0 => Some(b"self"),
+        kind => Some(numbered_name(sys, kind, number)?.as_bytes()),
     }
 }
 
@@ -145,10 +119,7 @@ fn append_argument(sys: &System, call: Call, index: usize, number: i32, out: &mu
         out.raw(",");
     }
     match argument_name(sys, call, index, number) {
-        Some(name) => out.plain(name.as_bytes()),
-        None if index == 0 && number == 0 && topic_of(call, 0) == Some(Topic::Task(0)) => {
-            out.raw("self");
-        }
+        Some(name) => out.plain(name),
         None => out.signed(number),
     }
 }

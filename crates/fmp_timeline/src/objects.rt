@@ -3,7 +3,9 @@ use crate::marks::task_named;
 use crate::names::Topic;
 use crate::states::Moment;
 use crate::tracks::Track;
-use fmp_base::{Call, Caller, Er, Line, Phase, QueueOrder, System, TaskBlock, WaitCause};
+use fmp_base::{
+    Action, Call, Caller, Er, Line, ObjectKind, Phase, QueueOrder, System, TaskBlock, WaitCause,
+};
 use std::alloc::{AllocError, Global};
 
 /// What the lane of an object shows.
@@ -25,7 +27,7 @@ pub struct Object {
     /// The most words that it holds, of a data queue.
     most: i32,
     now: ObjectShown,
-    /// Whether its queue may be other than before.
+    /// Whether its queue may have changed.
     moved: bool,
     pub track: Track<ObjectShown>,
 }
@@ -64,34 +66,31 @@ fn topic_of(cause: WaitCause) -> Option<Topic> {
     }
 }
 
-/// The object of which an accepted call that releases nobody queues one more, or one less.
+/// The queue that a call names by this number, if it sends to one or receives from one.
+fn queue_named(kind: ObjectKind, number: i32) -> Option<Topic> {
+    let place = u8::try_from(number.checked_sub(1)?).ok()?;
+    match kind {
+        ObjectKind::DataQueue => Some(Topic::DataQueue(place)),
+        ObjectKind::Mailbox => Some(Topic::Mailbox(place)),
+        _ => None,
+    }
+}
+
+/// The object in which an accepted call that releases no task queues one more, or one less.
 fn level_change(call: Call) -> Option<(Topic, i32)> {
-    let (place, queue, change) = match call {
-        Call::SndDtq { queue, .. }
-        | Call::PsndDtq { queue, .. }
-        | Call::TsndDtq { queue, .. }
-        | Call::FsndDtq { queue, .. }
-        | Call::IpsndDtq { queue, .. }
-        | Call::IfsndDtq { queue, .. } => (queue, true, 1),
-        Call::RcvDtq { queue } | Call::PrcvDtq { queue } | Call::TrcvDtq { queue, .. } => {
-            (queue, true, -1)
-        }
-        Call::SndMbx { mailbox, .. } => (mailbox, false, 1),
-        Call::RcvMbx { mailbox } | Call::PrcvMbx { mailbox } | Call::TrcvMbx { mailbox, .. } => {
-            (mailbox, false, -1)
-        }
+    let service = call.service();
+    let change = match service.action()? {
+        Action::Gives => 1,
+        Action::Takes => -1,
         _ => return None,
     };
-    let place = u8::try_from(place.checked_sub(1)?).ok()?;
-    let topic = if queue {
-        Topic::DataQueue(place)
-    } else {
-        Topic::Mailbox(place)
-    };
+    let kind = service.parameters().first()?.object_kind()?;
+    let arguments = call.arguments();
+    let topic = queue_named(kind, *arguments.as_slice().first()?)?;
     Some((topic, change))
 }
 
-/// The call of an event that was accepted, and who made it.
+/// The call of an event that was accepted, and its caller.
 fn accepted(lines: &[Line]) -> Option<(Call, Caller)> {
     match lines.first()? {
         Line::Call {
@@ -178,7 +177,7 @@ impl Objects {
         Ok(())
     }
 
-    /// The objects of a system, or none where they are not wanted. `AllocError` for want of memory.
+    /// The objects of a system, or none if they are not asked for. `AllocError` if memory runs out.
     pub fn new(alloc: Global, sys: &System, wanted: bool) -> Result<Objects, AllocError> {
         let waits = vec![in alloc; None; sys.tasks.len()]?;
         let mut objects = Objects {
@@ -277,7 +276,7 @@ impl Objects {
         })
     }
 
-    /// Notes that the queue of an object may be other than before.
+    /// Notes that the queue of an object may have changed.
     fn note_move(&mut self, wait: Option<Wait>) {
         let Some(wait) = wait else {
             return;
@@ -338,7 +337,7 @@ impl Objects {
         }
     }
 
-    /// The queues that are other than before, of those that may be.
+    /// The queues that have changed, of those that may have.
     fn take_queues(&mut self, alloc: Global) -> Result<(), AllocError> {
         for object in self.all.iter_mut() {
             if object.moved {
@@ -358,7 +357,7 @@ impl Objects {
         Ok(())
     }
 
-    /// One moment more. `AllocError` for want of memory.
+    /// One moment more. `AllocError` if memory runs out.
     pub fn show(
         &mut self,
         alloc: Global,

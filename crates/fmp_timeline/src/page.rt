@@ -37,7 +37,7 @@ pub struct Page {
     pub wide: u32,
 }
 
-/// The width of a column for so many events.
+/// The width of a column for this many events.
 fn column_for(count: u32) -> u32 {
     let free = PANEL.checked_div(count).unwrap_or(PANEL);
     match count {

@@ -89,7 +89,7 @@ impl Run {
         Ok(())
     }
 
-    /// One moment more: setup, and then each event that did something. `AllocError` for want of memory.
+    /// One moment more: setup, and then each event that did something. `AllocError` if memory runs out.
     pub fn show(&mut self, alloc: Global, moment: &Moment<'_>) -> Result<(), AllocError> {
         let event = self.next_event();
         self.take_deeds(event, moment)?;
@@ -117,7 +117,7 @@ impl Run {
         self.show_interrupts(event, moment)
     }
 
-    /// A turn of the processor at this place did nothing, since its actor asks for a spin lock or makes no progress.
+    /// A turn of the processor at this place did nothing, since its actor spins for a spin lock or makes no progress.
     pub fn turn_in_vain(&mut self, processor: u8) {
         let event = self.next_event().saturating_sub(1);
         if let Some(track) = self.occupants.get(usize::from(processor))

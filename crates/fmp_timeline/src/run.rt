@@ -66,7 +66,7 @@ fn place_of(caller: Caller) -> usize {
     }
 }
 
-/// Appends so many tracks with no states.
+/// Appends this many tracks with no states.
 fn add_tracks<S: Copy + PartialEq + Drop>(
     alloc: Global,
     count: usize,
@@ -79,7 +79,7 @@ fn add_tracks<S: Copy + PartialEq + Drop>(
 }
 
 impl Run {
-    /// A run of a system before its setup, with its objects or without. `AllocError` for want of memory, as of each
+    /// A run of a system before its setup, with its objects or without. `AllocError` if memory runs out, as of each
     /// call below.
     pub fn new(alloc: Global, sys: &System, objects: bool) -> Result<Run, AllocError> {
         let spins = Spins::new(alloc, usize::from(sys.processors))?;
@@ -142,7 +142,7 @@ impl Run {
         }
     }
 
-    /// Whether a handler pends or runs after some event of a panel.
+    /// Whether a handler is pending or runs after some event of a panel.
     pub fn is_handling(&self, handler: Handler, span: &Span) -> bool {
         let Some(track) = self.handling(handler) else {
             return false;

@@ -1,4 +1,4 @@
-//! Stretches over which a processor's turns did nothing.
+//! Spinning spans, in which a processor's turns did nothing.
 use crate::marks::{Made, Mark, Sign};
 use crate::page::Span;
 use crate::run::Run;
@@ -8,7 +8,7 @@ use fmp_base::{Call, Caller, Er, Line, Lock};
 use std::alloc::{AllocError, Global};
 use std::ops::Range;
 
-/// A stretch over which the turns of a processor do nothing.
+/// A span in which the turns of a processor do nothing.
 #[derive(Clone, Copy)]
 pub struct Spin {
     /// The last event before it.
@@ -17,12 +17,12 @@ pub struct Spin {
     pub to: Option<u32>,
     /// The place of the processor.
     pub processor: u8,
-    /// Who asks in vain.
+    /// The actor that spins.
     pub actor: Caller,
 }
 
 impl Spin {
-    /// Whether it is of a processor and lasts over one of these events.
+    /// Whether it is of a processor and covers one of these events.
     fn meets(&self, processor: u8, first: u32, last: u32) -> bool {
         let lasts = match self.to {
             Some(to) => to > first,
@@ -40,7 +40,7 @@ impl Spin {
     }
 }
 
-/// All such stretches of a run.
+/// All such spans of a run.
 #[derive(Drop)]
 pub struct Spins {
     /// Those that ended, in order of their ends.
@@ -61,7 +61,7 @@ fn is_own(lines: &[Line], place: u8) -> bool {
     }
 }
 
-/// Whether a stretch ends at this moment.
+/// Whether a span ends at this moment.
 fn ends(spin: &Spin, moment: &Moment<'_>) -> bool {
     let actor = match moment.processors.get(usize::from(spin.processor)) {
         Some(processor) => occupant_of(processor).actor(),
@@ -71,7 +71,7 @@ fn ends(spin: &Spin, moment: &Moment<'_>) -> bool {
 }
 
 impl Spins {
-    /// None so far, on so many processors. `AllocError` for want of memory, as of each call below.
+    /// None so far, on this many processors. `AllocError` if memory runs out, as of each call below.
     pub fn new(alloc: Global, processors: usize) -> Result<Spins, AllocError> {
         Ok(Spins {
             ended: Vec::new(alloc),
@@ -79,7 +79,7 @@ impl Spins {
         })
     }
 
-    /// A processor's actor asks in vain from this event on, if it does not yet.
+    /// A processor's actor spins from this event on, unless it does already.
     pub fn begin(&mut self, from: u32, processor: u8, actor: Caller) {
         if let Some(open) = self.open.get_mut(usize::from(processor))
             && open.is_none()
@@ -93,7 +93,7 @@ impl Spins {
         }
     }
 
-    /// Ends the stretches that this moment ends.
+    /// Ends the spans that this moment ends.
     pub fn show(&mut self, event: u32, moment: &Moment<'_>) -> Result<(), AllocError> {
         for open in self.open.iter_mut() {
             if let Some(spin) = *open
@@ -109,12 +109,12 @@ impl Spins {
         Ok(())
     }
 
-    /// The stretch of a processor that goes on.
+    /// The span of a processor that has not ended.
     fn open_at(&self, processor: u8) -> Option<Spin> {
         *self.open.get(usize::from(processor))?
     }
 
-    /// Whether a stretch of a processor meets these events.
+    /// Whether a span of a processor meets these events.
     pub fn meet(&self, processor: u8, first: u32, last: u32) -> bool {
         for spin in &self.ended {
             if spin.meets(processor, first, last) {
@@ -127,12 +127,12 @@ impl Spins {
         }
     }
 
-    /// The places of all stretches: of those that ended, and behind them of the one that goes on.
+    /// The places of all spans: of those that ended, and behind them of the one that has not.
     pub fn places(&self) -> Range<usize> {
         0..self.ended.len().saturating_add(1)
     }
 
-    /// The stretch at a place, if it is of this processor and meets a panel.
+    /// The span at a place, if it is of this processor and meets a panel.
     pub fn stay(&self, place: usize, processor: u8, span: &Span) -> Option<Stay<Spin>> {
         let spin = match self.ended.get(place) {
             Some(spin) => *spin,
@@ -168,7 +168,7 @@ fn stop_between(marks: &[Mark], after: u32, before: u32) -> Option<Sign> {
 }
 
 impl Run {
-    /// The place of a spin lock that another processor holds where a stretch begins.
+    /// The place of a spin lock that another processor holds where a span begins.
     fn lock_beside(&self, spin: &Spin) -> Option<u8> {
         for (place, track) in (0u8..8).zip(self.locks.as_slice()) {
             if place != spin.processor
@@ -180,8 +180,8 @@ impl Run {
         None
     }
 
-    /// The place of the spin lock that the actor of a stretch asks for: the one that it gets by its next call; where it
-    /// makes none, one that another processor holds. None where it asks for none, but makes no progress.
+    /// The place of the spin lock for which the actor of a span spins: the one that it gets by its next call; where it
+    /// makes none, one that another processor holds. None if it asks for none, but makes no progress.
     pub fn lock_of(&self, spin: &Spin) -> Option<u8> {
         let deeds = self.deeds_of(spin.actor)?;
         let place = deeds.calls.partition_point(|made| made.event <= spin.from);

@@ -63,7 +63,7 @@ pub struct Occupant {
 }
 
 impl Occupant {
-    /// Who goes on when the processor does.
+    /// The actor that goes on when the processor does.
     pub fn actor(self) -> Option<Caller> {
         match (self.handler, self.task) {
             (Some(handler), _) => Some(Caller::Handler(handler)),
@@ -192,7 +192,7 @@ fn shown_at(
     )
 }
 
-/// What is shown of all tasks, in order of number. `AllocError` for want of memory.
+/// What is shown of all tasks, in order of number. `AllocError` if memory runs out.
 pub fn tasks_shown(
     alloc: Global,
     states: &[TaskState],

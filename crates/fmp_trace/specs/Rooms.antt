@@ -1,14 +1,14 @@
 -- How much room a text needs for lines.
 use Rattle.std.specs.Prelude.{ℕ, ◌+◌, ◌*◌}
 
--- room for so many lines: each has at most 127 bytes, and behind the last one 96 more are copied and cut off
+-- room for n lines: each has at most 127 bytes, and behind the last one 96 more are copied and cut off
 abbrev pub lines_room : (lines : ℕ) → ℕ
 lines_room lines = 127 * lines + 96
 
--- room for what stands on a page, and for so many lines
+-- room for what stands on a page, and for n lines
 abbrev pub page_room : (lines : ℕ) → ℕ
 page_room lines = 1024 + lines_room lines
 
--- room for the lines of so many states: each has at most 1024 bytes
+-- room for the lines of n states: each has at most 1024 bytes
 abbrev pub states_room : (states : ℕ) → ℕ
 states_room states = 1024 * states + 96

@@ -135,7 +135,7 @@ fn append_value(value: Option<i32>, line: &mut LineBytes, end: usize) -> usize
     }
 }
 
-/// The name of the code, and the value where there is one.
+/// The name of the code, and the value if there is one.
 #[inline(always)]
 pub fn append_reply(reply: &Reply, line: &mut LineBytes, end: usize) -> usize
     requires { end + 26 ≤ ROOM }

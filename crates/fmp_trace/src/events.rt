@@ -47,7 +47,7 @@ fn append_steps(events: &[Event], out: &mut Vec<u8>) -> Result<(), AllocError>
     Ok(())
 }
 
-/// Appends events as a steps text, each ended by a line feed. Where memory runs out, the text stays as it was.
+/// Appends events as a steps text, each ended by a line feed. If memory runs out, the text stays as it was.
 pub fn print_steps(events: &[Event], out: &mut Vec<u8>) -> Result<(), AllocError>
     ensures ok { OnOk result (out.new.items ≡ out.old.items ++ steps_text events.now) }
     ensures err { OnErr result (out.new.items ≡ out.old.items) }

@@ -18,8 +18,8 @@ use std::alloc::AllocError;
 /// No line has more bytes than this.
 const LONGEST: usize = 127;
 
-/// Putting a line together writes no further than this behind where it begins: a short piece is copied with bytes
-/// behind its end.
+/// Putting a line together writes at most this far from its beginning: a short piece is copied with the bytes behind
+/// its end.
 pub const REACH: usize = 179;
 
 /// The name of the task or handler that acts, behind its processor.
@@ -297,7 +297,7 @@ fn put_line(
     append_array(*b"\n", line, end)
 }
 
-/// Appends what is put together to the text.
+/// Appends the lines so far to the text.
 #[cold]
 #[inline(never)]
 fn append_all(line: &LineBytes, end: usize, out: &mut Vec<u8>) -> Result<(), AllocError>
@@ -311,7 +311,7 @@ fn append_all(line: &LineBytes, end: usize, out: &mut Vec<u8>) -> Result<(), All
     append_line(line, end, out)
 }
 
-/// Appends what is put together where there is no room for one more line, and gives the end of what is left.
+/// Appends the lines so far if there is no room for one more, and gives the end of the rest.
 #[inline(always)]
 fn make_room(line: &LineBytes, end: usize, out: &mut Vec<u8>) -> Result<usize, AllocError>
     requires { end ≤ ROOM }
@@ -329,8 +329,8 @@ fn make_room(line: &LineBytes, end: usize, out: &mut Vec<u8>) -> Result<usize, A
     Ok(0)
 }
 
-/// Puts the lines of the event of this number together behind what ends at this place, and gives their end. Where there
-/// is no room for one more line, what is put together is appended.
+/// Puts the lines of the event of this number together behind what ends at this place, and gives their end. If there is
+/// no room for one more line, the lines so far are appended.
 #[inline(always)]
 pub fn put_lines(
     sys: &System,
@@ -373,8 +373,8 @@ fn append_lines(
     append_line(&bytes, end, out)
 }
 
-/// Appends the lines of the event of this number, each ended by a line feed. Where memory runs out, the
-/// text stays as it was; it never does where the text has room for so many lines.
+/// Appends the lines of the event of this number, each ended by a line feed. If memory runs out, the text stays as it
+/// was; it never does if the text has room for that many lines.
 pub fn print(sys: &System, number: u32, lines: &[Line], out: &mut Vec<u8>) -> Result<(), AllocError>
     ensures ok { OnOk result (out.new.items ≡ out.old.items ++ lines_text (tables_of sys.now) number lines.now) }
     ensures err { OnErr result (out.new.items ≡ out.old.items) }

@@ -7,7 +7,7 @@ ghost use Rattle.fmp_base.specs.Texts.{task_name, handler_name, caller_name, run
 use crate::texts::{LineBytes, ROOM, append_array, append_name, append_number};
 use fmp_base::{Caller, Handler, System};
 
-/// The name of the task at this place, or nothing where there is none.
+/// The name of the task at this place, or nothing if there is none.
 #[inline(always)]
 pub fn append_name_at(sys: &System, task: usize, line: &mut LineBytes, end: usize) -> usize
     requires { end + 31 ≤ ROOM }
@@ -30,7 +30,7 @@ pub fn append_task_name(sys: &System, task: u8, line: &mut LineBytes, end: usize
     append_name_at(sys, usize::from(task), line, end)
 }
 
-/// The name of the cyclic handler at this place, or nothing where there is none.
+/// The name of the cyclic handler at this place, or nothing if there is none.
 pub fn append_cyclic_name(sys: &System, cyclic: u8, line: &mut LineBytes, end: usize) -> usize
     requires { end + 31 ≤ ROOM }
     ensures text { take result line.new ≡

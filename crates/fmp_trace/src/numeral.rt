@@ -8,7 +8,7 @@ use std::marker::Model;
 /// The most digits of a number.
 const DIGITS: usize = 16;
 
-/// A number whose decimal digits stand ready. It is seen as the number.
+/// A number with its decimal digits at hand. It is seen as the number.
 #[derive(Drop)]
 pub struct Numeral {
     number: u32,
@@ -28,7 +28,7 @@ impl Model for Numeral {
     ghost invariant = { λ n. (0 < n.count) × (n.count ≤ 10) × (take n.count n.bytes ≡ decimal n.number) };
 }
 
-/// Counts digits of which the last is 9 on by one, if only the last two of them change.
+/// Adds one to digits that end in 9, if only the last two of them change.
 #[inline(never)]
 fn count_tens_on(digits: &mut [u8; DIGITS], count: usize) -> bool
     requires some { 0 < count }
@@ -50,7 +50,7 @@ fn count_tens_on(digits: &mut [u8; DIGITS], count: usize) -> bool
     true
 }
 
-/// Counts digits on by one, if only the last two of them change.
+/// Adds one to digits, if only the last two of them change.
 #[inline(always)]
 fn count_on(digits: &mut [u8; DIGITS], count: usize) -> bool
     requires some { 0 < count }
@@ -83,7 +83,7 @@ impl Numeral {
         }
     }
 
-    /// Changes the number. Where it grows by one, mostly only one digit changes.
+    /// Changes the number. If it grows by one, usually only one digit changes.
     #[inline(always)]
     pub fn set(&mut self, number: u32)
         ensures { self.new ≡ number }

@@ -6,7 +6,7 @@ ghost use Rattle.fmp_base.specs.Services.{service_name};
 
 use fmp_base::{Er, Service};
 
-/// How a service call begins: a blank, its name and the parenthesis in front of its arguments.
+/// The beginning of a service call: a blank, its name and the opening parenthesis.
 #[inline(always)]
 pub fn opening(service: Service) -> &'static [u8; 16]
     ensures text { take (get_or result.now 15 0) result.now ≡ codes " " ++ (service_name service ++ codes "(") }

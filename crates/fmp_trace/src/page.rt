@@ -42,8 +42,8 @@ impl Page {
         }
     }
 
-    /// Prints the lines of the event of this number, each ended by a line feed. Where the page is full, what stands on
-    /// it is appended to the text, which has room for it and for the lines.
+    /// Prints the lines of the event of this number, each ended by a line feed. If the page is full, its content is
+    /// appended to the text, which has room for that and for the lines.
     #[inline(always)]
     pub fn print(&mut self, sys: &System, number: u32, lines: &[Line], out: &mut Vec<u8>)
         requires room { vec_len out.old + page_room (length lines.now) ≤ vec_capacity out.old }
@@ -59,7 +59,7 @@ impl Page {
         }
     }
 
-    /// Appends what stands on the page to a text that has room for it.
+    /// Appends the content of the page to a text that has room for it.
     pub fn finish(&self, out: &mut Vec<u8>)
         requires room { vec_len out.old + page_room 0 ≤ vec_capacity out.old }
         ensures text { out.new.items ≡ out.old.items ++ self.now }

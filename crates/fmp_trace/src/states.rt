@@ -69,8 +69,8 @@ fn append_states(sys: &System, states: &[TaskState], out: &mut Vec<u8>) -> Resul
     Ok(())
 }
 
-/// Appends a line for each state: the first is that of the first task, and so on. Where memory runs out, the
-/// text stays as it was; it never does where the text has room for so many states.
+/// Appends a line for each state: the first is that of the first task, and so on. If memory runs out, the text stays as
+/// it was; it never does if the text has room for that many states.
 pub fn print_states(sys: &System, states: &[TaskState], out: &mut Vec<u8>) -> Result<(), AllocError>
     ensures ok { OnOk result (out.new.items ≡ out.old.items ++ listed_states_text (tables_of sys.now) 0 states.now) }
     ensures err { OnErr result (out.new.items ≡ out.old.items) }

@@ -16,7 +16,7 @@ pub const ROOM: usize = 1024;
 /// The bytes of a line. Those behind its end mean nothing.
 pub type LineBytes = [u8; ROOM];
 
-/// So many bytes are copied at once where a line is no longer.
+/// The number of bytes that are copied at once if a line is no longer.
 const SHORT: usize = 96;
 
 /// A text of any length.
@@ -30,8 +30,8 @@ pub fn append(text: &[u8], line: &mut LineBytes, end: usize) -> usize
     end + text.len()
 }
 
-/// A text of a length that is known when the program is built. It is taken by value, so that no copy asks whether it
-/// lies in the line.
+/// A text whose length is known at compile time. It is taken by value, so that no copy tests whether it lies in the
+/// line.
 #[inline(always)]
 pub fn append_array<const N: usize>(text: [u8; N], line: &mut LineBytes, end: usize) -> usize
     requires { end + N ≤ ROOM }
@@ -42,7 +42,7 @@ pub fn append_array<const N: usize>(text: [u8; N], line: &mut LineBytes, end: us
     end + N
 }
 
-/// The first bytes of an array. All are copied, since so many bytes as are known are copied without a call.
+/// The first bytes of an array. All are copied, since a number of bytes that is known is copied without a call.
 #[inline(always)]
 pub fn append_front<const N: usize>(
     bytes: &[u8; N],
@@ -60,7 +60,7 @@ pub fn append_front<const N: usize>(
     end + count
 }
 
-/// A name of any length: its first 15 bytes and its last 16, so that two copies of a length that is known do.
+/// A name of any length: its first 15 bytes and its last 16, so that two copies of known length suffice.
 #[inline(never)]
 fn append_long_name(name: &Name, line: &mut LineBytes, end: usize) -> usize
     requires { end + 31 ≤ ROOM }
@@ -78,7 +78,7 @@ fn append_long_name(name: &Name, line: &mut LineBytes, end: usize) -> usize
     end + usize::from(name.length).min(Name::MAX)
 }
 
-/// A name. Most have at most 16 bytes, and one copy does.
+/// A name. Most have at most 16 bytes, and one copy suffices.
 #[inline(always)]
 pub fn append_name(name: &Name, line: &mut LineBytes, end: usize) -> usize
     requires { end + 31 ≤ ROOM }
@@ -160,7 +160,7 @@ pub fn append_number(number: u32, line: &mut LineBytes, end: usize) -> usize
     append_digits(number, line, end)
 }
 
-/// A number in decimal digits, with `-` in front where it is negative.
+/// A number in decimal digits, with `-` in front if it is negative.
 #[inline(never)]
 fn append_any_signed(number: i32, line: &mut LineBytes, end: usize) -> usize
     requires { end + 17 ≤ ROOM }
@@ -174,7 +174,7 @@ fn append_any_signed(number: i32, line: &mut LineBytes, end: usize) -> usize
     append_number(number.unsigned_abs(), line, end)
 }
 
-/// A number in decimal digits, with `-` in front where it is negative. Most have one digit.
+/// A number in decimal digits, with `-` in front if it is negative. Most have one digit.
 #[tactic(auto, using(std::proofs::lemmas::Fmt::decimal_digit))]
 #[inline(always)]
 pub fn append_signed(number: i32, line: &mut LineBytes, end: usize) -> usize
@@ -188,7 +188,7 @@ pub fn append_signed(number: i32, line: &mut LineBytes, end: usize) -> usize
     append_any_signed(number, line, end)
 }
 
-/// The number of the processor at this place, with the blanks round it.
+/// The number of the processor at this place, with the blanks around it.
 #[tactic(auto, using(std::proofs::lemmas::Fmt::decimal_digit, crate::proofs::Short::short_byte))]
 #[inline(always)]
 pub fn append_processor(place: u8, line: &mut LineBytes, end: usize) -> usize
@@ -205,8 +205,8 @@ pub fn append_processor(place: u8, line: &mut LineBytes, end: usize) -> usize
 }
 
 /// Appends a line that ends at this place to a text. A short one is copied with what stands behind it, which is cut
-/// off. Where memory runs out, what stood before is still the front of the text; it never does where the text has room
-/// for the line and for 96 bytes more.
+/// off. If memory runs out, what stood before is still the front of the text; it never does if the text has room for
+/// the line and for 96 bytes more.
 #[inline(always)]
 pub fn append_line(line: &LineBytes, end: usize, out: &mut Vec<u8>) -> Result<(), AllocError>
     requires { end ≤ ROOM }

@@ -5,12 +5,12 @@ use Rattle.fmp_instructions.specs.Instructions.{BodyTables}
 use Rattle.fmp_instructions.specs.Machine.{code_meaning}
 use Rattle.fmp_drive.specs.Driving.{IsDriven}
 use Rattle.fmp_drive.specs.NextRuns.{AreNext}
-use Rattle.fmp_board.specs.Replays.{kernel_after}
+use Rattle.fmp_replay.specs.Replays.{kernel_after}
 use Rattle.fmp_image_bytes.specs.Images.{ImageTables}
 use Rattle.fmp_kernel.specs.KernelViews.{KernelView}
 use Rattle.fmp_view.specs.declared.driving.Drive.{Drive}
 
--- the kernel of an image was driven from setup on: it has done these events, at most so many, and then stopped; and the
+-- the kernel of an image was driven from setup on: it has done these events, at most `most`, and then stopped; and the
 -- next runs are those of the kernel that it is then
 pub record DrivesImage (i : ImageTables) (n most : ℕ) (d : Drive) : Type 0 where
   pub after : KernelView (List BodyTables) MachineContext

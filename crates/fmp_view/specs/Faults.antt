@@ -30,7 +30,7 @@ IsShown names t (shown.Faulty out) =
     × IsReport (name_of names f.file) (text_of t f.file) f.place f.kind out.items
 IsShown names t (shown.Sound out) = HasFault t.cfg.now t.src.now None
 
--- what the program ends with where all of it is printed: 1 for texts with a fault, as where they are checked
+-- the program's status if all of it is printed: 1 for texts with a fault, as when they are checked
 abbrev pub status : Shown → ℕ
 status (shown.Faulty _) = 1
 status (shown.Sound _) = 0

@@ -7,16 +7,16 @@ use clap::{ArgMatches, Command, Error};
 use fmp_timeline::Choice;
 use std::alloc::{AllocError, Global};
 
-/// What is said of words that are no text.
+/// The message for words that are not UTF-8.
 const NOT_TEXT: &str = "invalid UTF-8 was detected in one or more arguments";
 
-/// What is said of a word that is no code.
+/// The message for a word that is no code.
 const NO_CODE: &str = "no code is printed so";
 
-/// What is said of a file that would take the place of one that is read.
+/// The message for a file that would replace one that is read.
 const OUT_OVER_INPUT: &str = "the file OUT is one of the two that are read";
 
-/// What is said of a picture that ends before it begins.
+/// The message for a picture that ends before it begins.
 const FROM_AFTER_TO: &str = "--from is later than --to";
 
 /// What a run is of: the names of its files, and the bound of a stretch, 1 to 2^48.
@@ -46,7 +46,7 @@ pub enum Cmd<'a> {
         cfg: &'a str,
         src: &'a str,
     },
-    /// Print steps of an image: at most so many, 0 to 2^20, in turn or at random.
+    /// Print steps of an image: at most `events`, 0 to 2^20, in turn or at random.
     Drive {
         image: &'a str,
         events: u32,
@@ -133,7 +133,7 @@ pub fn no_code(alloc: Global) -> Result<Error, AllocError> {
     mistake(program(alloc), NO_CODE)
 }
 
-/// The error for a dump that would take the place of a file that is read, which has the status 2.
+/// The error for a dump that would replace a file that is read, which has the status 2.
 pub fn dump_over_input(alloc: Global) -> Result<Error, AllocError> {
     mistake_of(waves_command(alloc), "fmp_view waves", OUT_OVER_INPUT)
 }
@@ -143,7 +143,7 @@ fn no_picture(alloc: Global, why: &str) -> Result<Error, AllocError> {
     mistake_of(timeline_command(alloc), "fmp_view timeline", why)
 }
 
-/// The error for a picture that would take the place of a file that is read, which has the status 2.
+/// The error for a picture that would replace a file that is read, which has the status 2.
 pub fn picture_over_input(alloc: Global) -> Result<Error, AllocError> {
     no_picture(alloc, OUT_OVER_INPUT)
 }

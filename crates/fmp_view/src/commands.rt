@@ -17,7 +17,7 @@ use fmp_kernel::{Body, Kernel};
 use fmp_trace::print_steps;
 use std::alloc::{AllocError, Global};
 
-/// Want of memory, as a fault.
+/// Out of memory, as a fault.
 pub fn made<T>(outcome: Result<T, AllocError>) -> Result<T, SimFault> {
     match outcome {
         Ok(x) => Ok(x),
@@ -25,7 +25,7 @@ pub fn made<T>(outcome: Result<T, AllocError>) -> Result<T, SimFault> {
     }
 }
 
-/// What the code of this word means; none where no code is printed so.
+/// What the code of this word means; none if no code is printed so.
 pub fn code(alloc: Global, word: &str) -> Result<Option<Vec<u8>>, AllocError> {
     let Some(topic) = topic_named(word.as_bytes()) else {
         return Ok(None);
@@ -39,7 +39,7 @@ pub fn code(alloc: Global, word: &str) -> Result<Option<Vec<u8>>, AllocError> {
 #[derive(Clone, Copy)]
 pub struct Ending {
     pub stop: Stop,
-    /// What the next run of each processor comes to, by places from 0.
+    /// How the next run of each processor ends, by places from 0.
     pub next: [NextRun; 8],
     /// How many processors there are, at most 8.
     pub processors: u8,

@@ -1,11 +1,11 @@
 //! Steps of an image that is driven.
 ghost use Rattle.std.specs.Prelude.{◌≡◌, ◌+◌, ◌≤◌, ◌^◌, [], IfOk, length};
 ghost use Rattle.fmp_drive.specs.Driving.{IsDriven};
-ghost use Rattle.fmp_board.specs.Replays.{kernel_after};
+ghost use Rattle.fmp_replay.specs.Replays.{kernel_after};
 ghost use Rattle.fmp_view.specs.Drives.{DrivesImage};
 
 use fmp_base::System;
-use fmp_board::kernel_of;
+use fmp_replay::kernel_of;
 use fmp_code::Vm;
 use fmp_drive::{Driven, NextRun, Plan, drive, next_runs};
 use fmp_image_bytes::Image;
@@ -19,8 +19,7 @@ fn tasks_of<B: Body>(kernel: &Kernel<B>) -> u8
     kernel.tables().task_count() as u8
 }
 
-/// Drives a kernel of this system until it is quiet, or at most so many events are done. `AllocError` for want of
-/// memory.
+/// Drives a kernel of this system until it is quiet, or `events` events are done. `AllocError` if memory runs out.
 #[tactic(none)]
 fn driven_on<B: Body>(
     alloc: Global,
@@ -45,12 +44,12 @@ fn driven_on<B: Body>(
 pub struct Drive {
     /// The steps, and why they stop.
     pub driven: Driven,
-    /// What the next run of each processor comes to, by places from 0.
+    /// How the next run of each processor ends, by places from 0.
     pub next: [NextRun; 8],
 }
 
-/// Drives the kernel of an image after setup, and looks at what its processors would do next. `AllocError` for want of
-/// memory.
+/// Drives the kernel of an image after setup, and looks at what its processors would do next. `AllocError` if memory
+/// runs out.
 #[tactic(none)]
 fn drive_on<'a>(
     alloc: Global,
@@ -69,7 +68,7 @@ fn drive_on<'a>(
     Ok(Drive { driven, next })
 }
 
-/// Drives an image after setup until it is quiet, or at most so many events are done. `AllocError` for want of memory.
+/// Drives an image after setup until it is quiet, or `events` events are done. `AllocError` if memory runs out.
 #[tactic(none)]
 pub fn driven(
     alloc: Global,

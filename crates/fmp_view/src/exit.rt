@@ -28,7 +28,7 @@ impl fmt::Display for Exit<'_> {
 }
 
 impl Exit<'_> {
-    /// What the program ends with.
+    /// The status with which the program ends.
     pub fn status(self) -> u8 {
         match self {
             Exit::Sim(SimFault::Memory) | Exit::File(_) | Exit::Memory => 3,

@@ -21,7 +21,7 @@ pub struct Fault {
 pub enum Shown {
     /// They have a fault: what is said of it.
     Faulty(Vec<u8>),
-    /// They have none: the warnings, a line each.
+    /// They have none: the warnings, one line each.
     Sound(Vec<u8>),
 }
 
@@ -33,7 +33,7 @@ impl Shown {
         }
     }
 
-    /// What the program ends with where all of it is printed, as `fmp check`: 1 for texts with a fault, else 0.
+    /// The program's status if all of it is printed, as for `fmp check`: 1 for texts with a fault, else 0.
     pub fn status(&self) -> u8
         ensures { result ≡ spec.status self.now }
     {
@@ -44,7 +44,7 @@ impl Shown {
     }
 }
 
-/// The first fault of two texts; none where they build an image.
+/// The first fault of two texts; none if they build an image.
 fn fault_of(alloc: Global, cfg: &[u8], src: &[u8]) -> Result<Option<Fault>, AllocError>
     ensures { IfOk result (HasFault cfg.now src.now) }
 {
@@ -65,7 +65,7 @@ fn name_of<'a>(names: FileNames<'a>, file: TextFile) -> &'a str
     }
 }
 
-/// What is said of the first fault of two texts, or their warnings. `AllocError` for want of memory.
+/// What is said of the first fault of two texts, or their warnings. `AllocError` if memory runs out.
 pub fn shown_fault(
     alloc: Global,
     names: FileNames<'_>,

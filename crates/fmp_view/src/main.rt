@@ -1,8 +1,8 @@
 //! The program `fmp_view`: it looks at a system. It says what a code means, drives an image, and shows a run of it as a
 //! table, as a waveform or as a picture.
 //!
-//! It ends with the statuses of `fmp`: 0 where it did what it was asked, 1 for a fault of what it read, 2 for a mistake
-//! in the command line, and 3 where a file could not be read or written or memory ran out.
+//! It ends with the statuses of `fmp`: 0 if it did what it was asked, 1 for a fault of what it read, 2 for a mistake in
+//! the command line, and 3 if a file could not be read or written or memory ran out.
 #![tactic(auto)]
 
 mod asking;

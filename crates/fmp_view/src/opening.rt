@@ -2,7 +2,7 @@
 ghost use Rattle.std.specs.Prelude.{◌≡◌, ◌≤◌, ◌^◌, IfOk, length};
 
 use fmp_base::Event;
-use fmp_board::kernel_of;
+use fmp_replay::kernel_of;
 use fmp_code::Vm;
 use fmp_engine::SimFault;
 use fmp_image_bytes::{Image, LoadFault, load};
@@ -19,7 +19,7 @@ pub fn image_of(alloc: Global, bytes: &[u8]) -> Result<Image, SimFault> {
     }
 }
 
-/// The events of a steps text for so many processors, or the fault that `fmp sim` has of it.
+/// The events of a steps text for this many processors, or the fault that `fmp sim` reports of it.
 pub fn events_of(alloc: Global, text: &[u8], processors: u8) -> Result<Vec<Event>, SimFault>
     ensures { IfOk result (λ events. length events.items ≤ 2 ^ 20) }
 {
@@ -30,7 +30,7 @@ pub fn events_of(alloc: Global, text: &[u8], processors: u8) -> Result<Vec<Event
     }
 }
 
-/// The kernel of an image after setup, on which nothing is done yet. `AllocError` for want of memory.
+/// The kernel of an image after setup, on which nothing is done yet. `AllocError` if memory runs out.
 #[tactic(none)]
 pub fn fresh_kernel<'a>(
     alloc: Global,

@@ -23,8 +23,8 @@ pub struct Recorder<'a> {
 }
 
 impl<'a> Recorder<'a> {
-    /// A run of a system after setup, with its objects or without; these turns of it do nothing. `AllocError` for want
-    /// of memory.
+    /// A run of a system after setup, with its objects or without; these turns of it do nothing. `AllocError` if memory
+    /// runs out.
     pub fn new(
         alloc: Global,
         sys: &'a System,

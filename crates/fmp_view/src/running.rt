@@ -121,8 +121,8 @@ fn say_stop<O: Outside>(outside: &mut O, stop: Stop) {
     }
 }
 
-/// Says why the run of a processor does nothing, if that is so: always where it reaches the bound, and of a quiet
-/// system whatever the reason is.
+/// Says why the run of a processor does nothing, if so: always if it reaches the bound, and in a quiet system whatever
+/// the reason is.
 fn say_next<O: Outside>(outside: &mut O, stop: Stop, processor: usize, next: NextRun) {
     match (stop, next) {
         (_, NextRun::OverBound) => outside.say(format_args!(

@@ -24,7 +24,7 @@ pub enum TimelineFault {
     /// There is no run.
     #[error("{0}")]
     Sim(SimFault),
-    /// The run ends before the first event that is wanted, with this one.
+    /// The run ends before the first event that is asked for, with this one.
     #[error("the run has no event so late: its last is {0}")]
     NoEvent(u32),
     /// The picture would be too large: half of its events are these.
@@ -99,7 +99,7 @@ fn run_of(
     run_on(alloc, image.system(), &mut kernel, events, objects, &turns)
 }
 
-/// The picture of what is wanted of a run.
+/// The picture that is asked for of a run.
 fn picture_of(
     alloc: Global,
     sys: &System,

@@ -5,8 +5,8 @@ use fmp_base::{Effect, Event};
 use fmp_kernel::{Body, Kernel};
 use std::alloc::{AllocError, Global};
 
-/// A turn of a processor that does nothing: nothing runs there, or what runs asks in vain for a spin lock or exceeds
-/// its bound.
+/// A turn of a processor that does nothing: nothing runs there, or its actor spins for a spin lock or exceeds its
+/// bound.
 #[derive(Clone, Copy, PartialEq, Eq)]
 pub struct IdleTurn {
     /// The last event before it.
@@ -31,7 +31,7 @@ fn note(turns: &mut Vec<IdleTurn>, event: u32, e: Event) -> Result<(), AllocErro
 }
 
 /// The turns that do nothing in a run of a kernel over events, in order; of equal ones in succession the first.
-/// `AllocError` for want of memory.
+/// `AllocError` if memory runs out.
 pub fn idle_turns<B: Body>(
     alloc: Global,
     kernel: &mut Kernel<B>,

@@ -1,5 +1,5 @@
--- The wait queues among lent lists: behind sixteen ready queues a processor, those of semaphores, eventflags, senders,
--- receivers and mailboxes.
+-- The wait queues among lent lists: behind sixteen ready queues for each processor, those of semaphores, eventflags,
+-- senders, receivers and mailboxes.
 use Rattle.std.specs.Prelude.{ℕ, ◌+◌, ◌*◌, ◌<◌, ◌≤◌, ◌^◌, List, length, slice_set}
 use Rattle.fmp_base.specs.declared.states.WaitQueue.{WaitQueue}
 use Rattle.fmp_base.specs.declared.states.WaitQueue.TheVariants as queue
@@ -22,7 +22,7 @@ place_of n (queue.Mailbox x) = n.semaphores + n.flags + n.data_queues + n.data_q
 abbrev pub head : WaitQueues → WaitQueue → ℕ
 head w q = w.processors * 16 + place_of w.counts q
 
--- a queue of an object that is there
+-- a queue of an object that exists
 abbrev pub IsThere : ObjectCounts → WaitQueue → Type 0
 IsThere n (queue.Semaphore s) = s < n.semaphores
 IsThere n (queue.Flag f) = f < n.flags

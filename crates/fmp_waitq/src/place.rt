@@ -9,7 +9,7 @@ ghost use Rattle.fmp_ring.specs.RingLists.{list_at};
 use fmp_base::{Steps, TaskBlock};
 use fmp_ring::Rings;
 
-/// The priority of a task; 1 where there is none.
+/// The priority of a task; 1 if there is none.
 fn priority_at(blocks: &[TaskBlock], t: u16) -> u8
     ensures { result ≡ priority_in blocks.now t }
 {

@@ -63,7 +63,7 @@ shared_word letters = record { name = called letters; initial = pos 0 }
 abbrev pub spin_lock : String → SpinLockConfig
 spin_lock letters = record { name = called letters }
 
--- so many processors, these tasks, and no other object
+-- n processors, these tasks, and no other object
 abbrev pub system : ℕ → List TaskConfig → SystemTables
 system processors tasks =
     record {

@@ -17,7 +17,7 @@ delaying =
     task "b" [] (call service.DlyTsk (whole 1 ∷ []) ∷ []) ∷
     []
 
--- delays that end at one tick end in order of task number, whoever began first
+-- delays that end at one tick end in order of task number, whichever began first
 abbrev pub DelaysEndInTaskOrder : Type 0
 DelaysEndInTaskOrder =
     printed_from 1 three_tasks delaying usual_bound (Run 1 ∷ Run 1 ∷ Run 1 ∷ Tick ∷ Tick ∷ []) ≡

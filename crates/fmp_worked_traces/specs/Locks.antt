@@ -18,7 +18,7 @@ locking =
     task "b" [] (call service.LocSpn (spelled "L" ∷ []) ∷ []) ∷
     []
 
--- a task that asks for a held spin lock does nothing until the lock is free
+-- a task that spins for a held spin lock does nothing until the lock is free
 abbrev pub SpinningDoesNothing : Type 0
 SpinningDoesNothing =
     printed_from 1 two_and_lock locking usual_bound (Run 1 ∷ Run 2 ∷ Run 2 ∷ Run 2 ∷ Run 1 ∷ Run 2 ∷ []) ≡

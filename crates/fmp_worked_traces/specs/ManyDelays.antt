@@ -14,7 +14,7 @@ use Rattle.fmp_worked_traces.specs.Builders.{created_task, system, whole, call, 
 abbrev pub task_numbered : ℕ → TaskConfig
 task_numbered k = created_task true (name_from (codes "T" ++ decimal k)) 0 1
 
--- so many of these tasks, of which each starts at setup
+-- n of these tasks, each of which starts at setup
 abbrev pub many_tasks : ℕ → SystemTables
 many_tasks n = system 1 (map task_numbered (places_from 1 n))
 

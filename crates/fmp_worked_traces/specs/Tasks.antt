@@ -29,7 +29,7 @@ one_task_text =
 abbrev pub TaskRunsAndEnds : Type 0
 TaskRunsAndEnds = printed one_task putting usual_bound (replicate 3 (Run 1)) ≡ one_task_text
 
--- a small bound changes nothing where there is no loop
+-- a small bound changes nothing if there is no loop
 abbrev pub SmallBoundIsEnough : Type 0
 SmallBoundIsEnough = printed one_task putting 2 (replicate 3 (Run 1)) ≡ one_task_text
 

@@ -64,7 +64,7 @@ pub fn urgent_message_first()
     ensures { UrgentMessageFirst }
 {}
 
-/// Delays that end at one tick end in order of task number, whoever began first.
+/// Delays that end at one tick end in order of task number, whichever began first.
 pub fn delays_end_in_task_order()
     ensures { DelaysEndInTaskOrder }
 {}
@@ -94,7 +94,7 @@ pub fn suspended_task_runs_on()
     ensures { SuspendedTaskRunsOn }
 {}
 
-/// A task that asks for a held spin lock does nothing until the lock is free.
+/// A task that spins for a held spin lock does nothing until the lock is free.
 pub fn spinning_does_nothing()
     ensures { SpinningDoesNothing }
 {}

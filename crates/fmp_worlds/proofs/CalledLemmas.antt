@@ -1,4 +1,4 @@
--- Every call comes to what every call comes to.
+-- Every call has the effect that every call has, by cases.
 use Rattle.std.proofs.Common.{◌≡◌, ℕ, ℤ, [], Some, None, true, false, ◌&&◌, refl}
 use Rattle.fmp_base.specs.declared.calls.Call.{Call}
 use Rattle.fmp_base.specs.declared.calls.Call.TheVariants as call

@@ -1,4 +1,4 @@
--- The calls on semaphores, eventflags and shared words come to what every call comes to.
+-- The calls on semaphores, eventflags and shared words have the effect that every call has.
 use Rattle.std.proofs.Common.{ℕ, zero, suc, ℤ, pos, List, [], ◌∷◌, Option, Some, None, Bool, true, false, ◌&&◌, not, length, nat_lt, get_or, bit_or, refl, ◌∙◌}
 use Rattle.std.specs.List.{AllByRecursion}
 use Rattle.fmp_base.specs.declared.events.Line.{Line}

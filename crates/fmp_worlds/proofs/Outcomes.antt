@@ -1,4 +1,4 @@
--- What every call comes to: a state that can settle, and nothing where the caller goes on asking for a spin lock.
+-- The effect that every call has: a state that can settle, and nothing where the caller spins for a spin lock.
 use Rattle.std.proofs.Common.{◌≡◌, ℕ, ℤ, [], Option, Some, None, Bool, true, false, ◌⊎◌, inl, inr, nat_eq, refl, sym, subst, arith, slice_set, if◌then◌else◌}
 use Rattle.std.specs.List.{AllByRecursion}
 use Rattle.std.proofs.lemmas.Bool.{eqb-true}

@@ -1,4 +1,4 @@
--- The calls on cyclic handlers and on the state of a processor come to what every call comes to.
+-- The calls on cyclic handlers and on the state of a processor have the effect that every call has.
 use Rattle.std.proofs.Common.{ℕ, ℤ, Option, Bool, true, false, not, length, refl}
 use Rattle.fmp_base.specs.declared.codes.Er.TheVariants as er
 use Rattle.fmp_base.specs.declared.states.Lock.{Lock}

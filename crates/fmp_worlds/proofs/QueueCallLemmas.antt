@@ -1,4 +1,4 @@
--- The calls on data queues and mailboxes come to what every call comes to.
+-- The calls on data queues and mailboxes have the effect that every call has.
 use Rattle.std.proofs.Common.{ℕ, refl, ◌+◌, ℤ, pos, List, [], ◌∷◌, Option, Some, None, Bool, true, false, ◌&&◌, length, nat_eq, nat_lt}
 use Rattle.fmp_base.specs.declared.codes.Er.TheVariants as er
 use Rattle.fmp_base.specs.declared.states.TaskBlock.{TaskBlock}

@@ -1,4 +1,4 @@
--- The calls that manage tasks come to what every call comes to.
+-- The calls that manage tasks have the effect that every call has.
 use Rattle.std.proofs.Common.{◌≡◌, ℕ, zero, suc, ◌^◌, ℤ, Option, Some, None, Bool, true, false, not, nat_lt, slice_set, refl, sym, ap}
 use Rattle.fmp_base.specs.declared.codes.Er.TheVariants as er
 use Rattle.fmp_base.specs.declared.states.Phase.{Phase}

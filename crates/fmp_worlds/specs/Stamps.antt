@@ -35,7 +35,7 @@ abbrev pub going_by : {C : Type 0} → SystemTables → Contexts (Held C) → �
 going_by sys cs p None = None
 going_by sys cs p (Some who) = going sys cs p who
 
--- the body and the context of the actor of the processor at place p, where it has one
+-- the body and the context of the actor of the processor at place p, if it has one
 abbrev pub actor_at : {C : Type 0} → SystemTables → World C → ℕ → Option (Going C)
 actor_at sys w p = going_by sys w.contexts p (actor_of (processor_at w.state p))
 
@@ -107,7 +107,7 @@ stamp sys M bound w [] p = 0
 stamp sys M bound w (e ∷ es) p =
     counted e w (step sys M bound w e) p + stamp sys M bound (world_after w (step sys M bound w e)) es p
 
--- the run of the processor at place p where the stretch of its actor ends so
+-- the run of the processor at place p, given how the stretch of its actor ends
 abbrev pub applied_in : {C : Type 0} → SystemTables → Meaning C → World C → ℕ → Caller → Option (Held C) → Ending C
     → Reaction C
 applied_in sys M w p who None x = Nothing
@@ -118,12 +118,12 @@ abbrev pub applied_by : {C : Type 0} → SystemTables → Meaning C → World C 
 applied_by sys M w p None x = Nothing
 applied_by sys M w p (Some who) x = applied_in sys M w p who (context_of w.contexts p who) x
 
--- what an event `Run` of this processor's number does where the stretch of its actor ends so
+-- the effect of an event `Run` of this processor's number, given how the stretch of its actor ends
 abbrev pub applied : {C : Type 0} → SystemTables → Meaning C → World C → ℕ → Ending C → Reaction C
 applied sys M w zero x = Nothing
 applied sys M w (suc p) x = applied_by sys M w p (actor_of (processor_at w.state p)) x
 
--- a stretch of this actor, of at most so many units, ends so
+-- a stretch of this actor within the bound ends in this way
 abbrev pub EndsSo : {C : Type 0} → Meaning C → (bound : ℕ) → Ending C → Option (Going C) → Type 0
 EndsSo M bound x None = Unit {0}
 EndsSo M bound x (Some a) = x ≡ M.stretch a.entry bound a.context

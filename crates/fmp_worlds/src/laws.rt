@@ -42,7 +42,7 @@ pub fn actors_await_nothing<C>()
         context_of (run sys M n (setup sys M).world es).world.contexts p who ≡ Some (Awaits c) → ⊥ }
 {}
 
-/// A call that finds its spin lock held, so that its caller goes on asking, has changed nothing and has no line.
+/// A call that finds its spin lock held, so that its caller spins, has changed nothing and has no line.
 pub fn spinning_changes_nothing()
     ensures { (sys : SystemTables) (s : KernelState) (p : ℕ) (who : Caller) (c : Call) →
         (called sys s p who c).answer ≡ Spins → (called sys s p who c).progress ≡ unchanged s }

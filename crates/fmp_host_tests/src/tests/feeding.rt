@@ -17,7 +17,7 @@ const ONE_TASK: (&str, &str) = (
     "task main { put(7); }",
 );
 
-/// One seat of a board feeds these events: what it was answered.
+/// One seat of a board feeds these events: the answers that it got.
 pub fn feed<S: Site, R: Wait>(
     rt: &R,
     alloc: Global,

@@ -51,7 +51,7 @@ fn pull<S: Site>(
     }
 }
 
-/// Pulls so many events through a follower, yields where there is none yet, and pulls once more: what that gave.
+/// Pulls this many events through a follower, yields while there is none yet, and pulls once more: what that gave.
 fn pull_all<S: Site>(
     follower: &mut Follower<'_, '_, S>,
     events: u32,
@@ -70,7 +70,7 @@ fn pull_all<S: Site>(
     pull(follower, out)
 }
 
-/// Pulls so many events through a follower: what it printed behind what was printed before.
+/// Pulls this many events through a follower: what it printed behind what was printed before.
 fn pulled<S: Site>(
     follower: &mut Follower<'_, '_, S>,
     events: u32,
@@ -84,8 +84,8 @@ fn pulled<S: Site>(
     }))
 }
 
-/// What a follower prints of a board from a seat that was given no event, once it was given so many. None where the
-/// seat was given some.
+/// What a follower prints of a board from a seat that was given no event, once it was given this many. None if the seat
+/// was given some.
 fn followed<S: Site>(
     alloc: Global,
     board: &Board<'_, S>,
@@ -126,7 +126,7 @@ pub fn follow<S: Site, R: Wait>(
     }
 }
 
-/// Has threads write a board, and then pulls so many events through a follower of it.
+/// Has threads write a board, and then pulls this many events through a follower of it.
 fn written_and_pulled<S: Site + Send + Sync, R: Threads + Wait + Sync>(
     rt: &R,
     alloc: Global,
@@ -143,8 +143,8 @@ fn written_and_pulled<S: Site + Send + Sync, R: Threads + Wait + Sync>(
     pulled(follower, events, text)
 }
 
-/// Makes a follower, has threads write the board by the other seats, and then pulls so many events: what the follower
-/// printed. None where its seat was given some before.
+/// Makes a follower, has threads write the board by the other seats, and then pulls this many events: what the follower
+/// printed. None if its seat was given some before.
 pub fn watch<S: Site + Send + Sync, R: Threads + Wait + Sync>(
     rt: &R,
     alloc: Global,
@@ -176,7 +176,7 @@ fn with_states(alloc: Global, printed: &Printed, seen: &Seen) -> Result<String, 
     Ok(text)
 }
 
-/// A follower that was given so many events printed what a simulation of the journal prints, and then found no more.
+/// A follower that was given this many events printed what a simulation of the journal prints, and then found no more.
 fn prints_as_simulated(
     rt: &(impl Abort + AllocGlobal),
     told: (Told, Seen),

@@ -26,20 +26,20 @@ pub enum Play<'e> {
     Feed(&'e [Event]),
     /// One seat feeds these events, and another follows them then.
     Follow(&'e [Event]),
-    /// The threads of two processors write the board, and a follower that was made before is given so many events.
+    /// The threads of two processors write the board, and a follower that was made before is given this many events.
     Watch(u32),
     /// The same stretch of processor 1 is made twice, then one seat feeds these events, and then submits both outcomes.
     /// Another meets it, and follows.
     Submit(&'e [Event]),
 }
 
-/// What calls are answered.
+/// The answers to calls.
 pub type Calls = Vec<Result<Receipt, BoardFault>>;
 
 /// What is told of what was done on a board.
 #[derive(Drop)]
 pub struct Told {
-    /// What the calls were answered.
+    /// The answers to the calls.
     pub calls: Calls,
     /// The events that a seat followed.
     pub followed: Vec<Event>,
@@ -47,7 +47,7 @@ pub struct Told {
     pub printed: Option<Printed>,
 }
 
-/// Feeds events by one seat, one after the other: what was answered.
+/// Feeds events by one seat, one after the other: the answers.
 #[tactic(auto, using(fmp_board::proofs::Visiting::prefix_same, fmp_board::proofs::Visiting::prefix_then))]
 pub fn fed<S: Site, R: Wait>(
     rt: &R,

@@ -32,7 +32,7 @@ fn outcome_of<S: Site, R: Wait>(
     Ok(ticket.stretch())
 }
 
-/// The events that a seat follows until its row has no more, at most so many.
+/// The events that a seat follows until its row has no more, at most `most`.
 fn followed<S: Site>(
     alloc: Global,
     board: &Board<'_, S>,
@@ -208,7 +208,7 @@ fn overtaken_of_texts<R: Wait>(
 fn a_board_that_takes_no_memory_once_it_is_made(rt: HostRuntime) -> Result<(), Fail> {
     let alloc = rt.alloc();
     let (answers, journal) = overtaken_of_texts(&rt, alloc, SUSPENDED)?;
-    // The one growth behind those of the board, for whoever refuses all from there on.
+    // The one growth after those of the board, for a test that refuses all from there on.
     let _refused: Result<Vec<u8>, AllocError> = Vec::with_capacity(alloc, 1);
     assert_eq!(rt; answers?, [done(1), done(2), Err(BoardFault::Stale)]);
     assert_eq!(rt; journal, Some([Event::Run(2), Event::Run(2)]));

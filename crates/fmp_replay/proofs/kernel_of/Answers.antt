@@ -1,6 +1,6 @@
-use Rattle.fmp_board.proofs.Entries.{entered}
-use Rattle.fmp_board.proofs.Replaying.{begun}
-use Rattle.fmp_board.proofs.blank.kernel_of.Goals as goal
+use Rattle.fmp_replay.proofs.Entries.{entered}
+use Rattle.fmp_replay.proofs.Replaying.{begun}
+use Rattle.fmp_replay.proofs.kernel_of.Goals as goal
 
 pub new-requires-clause-entries : goal.new-requires-clause-entries
 new-requires-clause-entries c = rw c.vm.ensures (rw c.system.ensures.tables (entered c.args.image.now c.keeps_rules.ensures))

@@ -62,7 +62,7 @@ impl Tables {
         self.cyclics.due_time(c)
     }
 
-    /// A cyclic handler is due when the clock is this, or no more.
+    /// A cyclic handler is due when the clock is this, or no longer.
     pub fn set_due(&mut self, c: u8, due: Option<u32>)
         requires { c < length self.old.system.cyclics }
         ensures { self.new ≡ record self.old { state = with_due self.old.state c due } }
@@ -114,7 +114,7 @@ impl Tables {
         self.pending.first(p)
     }
 
-    /// A handler is pending no more.
+    /// A handler is no longer pending.
     pub fn clear_pending(&mut self, h: Handler)
         requires there { HasHandler self.old.system h }
         ensures { self.new ≡ record self.old { state = without_pending self.old.state h } }

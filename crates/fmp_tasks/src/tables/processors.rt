@@ -60,9 +60,8 @@ impl Tables {
         self.processors.set_dispatch(p, disabled)
     }
 
-    /// `loc_spn` on processor p: a free spin lock is taken, and locks the CPU; for a held one the caller goes on
-    /// asking. E_ID where the number names no spin lock. But for a lock that is taken nothing changes (FMP kernel, spin
-    /// locks).
+    /// `loc_spn` on processor p: a free spin lock is taken, and locks the CPU; for a held one the caller spins. E_ID if
+    /// the number names no spin lock. But for a lock that is taken nothing changes (FMP kernel, spin locks).
     pub fn loc_spn(&mut self, p: u8, lock: i32) -> Answer
         ensures outcome { outcome result self.new [] ≡ calls.loc_spn self.old.system self.old.state p lock }
         ensures shape { SameShape self.old self.new }
@@ -73,8 +72,8 @@ impl Tables {
         }
     }
 
-    /// `try_spn` on processor p: a free spin lock is taken, and locks the CPU. E_ID where the number names no spin
-    /// lock, then E_OBJ for a held one; nothing changes then (FMP kernel, spin locks).
+    /// `try_spn` on processor p: a free spin lock is taken, and locks the CPU. E_ID if the number names no spin lock,
+    /// then E_OBJ for a held one; nothing changes then (FMP kernel, spin locks).
     pub fn try_spn(&mut self, p: u8, lock: i32) -> Answer
         ensures outcome { outcome result self.new [] ≡ calls.try_spn self.old.system self.old.state p lock }
         ensures shape { SameShape self.old self.new }
@@ -85,8 +84,8 @@ impl Tables {
         }
     }
 
-    /// `unl_spn` on processor p: its spin lock is given up and its CPU is free. E_ID where the number names no spin
-    /// lock, then E_ILUSE where the processor does not hold it; nothing changes then (FMP kernel, spin locks).
+    /// `unl_spn` on processor p: its spin lock is given up and its CPU is free. E_ID if the number names no spin lock,
+    /// then E_ILUSE if the processor does not hold it; nothing changes then (FMP kernel, spin locks).
     pub fn unl_spn(&mut self, p: u8, lock: i32) -> Answer
         ensures outcome { outcome result self.new [] ≡ calls.unl_spn self.old.system self.old.state p lock }
         ensures shape { SameShape self.old self.new }

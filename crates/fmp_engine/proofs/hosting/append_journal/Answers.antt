@@ -1,4 +1,4 @@
-use Rattle.fmp_board.proofs.Entries.{entered}
+use Rattle.fmp_replay.proofs.Entries.{entered}
 use Rattle.fmp_engine.proofs.hosting.append_journal.Goals as goal
 
 pub play-played-requires-clause-entries : goal.play-played-requires-clause-entries

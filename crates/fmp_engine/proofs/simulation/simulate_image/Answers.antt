@@ -1,4 +1,4 @@
-use Rattle.fmp_board.proofs.Entries.{entered}
+use Rattle.fmp_replay.proofs.Entries.{entered}
 use Rattle.fmp_engine.proofs.StepLemmas.{few_events}
 use Rattle.fmp_engine.proofs.simulation.simulate_image.Goals as goal
 

@@ -22,6 +22,7 @@ take-requires-clause-early g c =
       end = c.in-Some.ensures.end;
       some = c.in-Some.ensures.some;
       none = c.in-Some.ensures.none;
+      empty = c.in-Some.ensures.empty;
     } in
     early g.S.Site.image g.S.Site.bound g.S.Site.row_id _ _ _ c.in-Some.event c.requires f
 
@@ -35,6 +36,7 @@ returns-in-Some-clause-following g c =
       end = c.in-Some.ensures.end;
       some = c.in-Some.ensures.some;
       none = c.in-Some.ensures.none;
+      empty = c.in-Some.ensures.empty;
     } in
     goes_on g.S.Site.image g.S.Site.bound g.S.Site.row_id _ _ _ _ c.in-Some.event c.requires f c.take.ensures.kernel
 
@@ -47,6 +49,7 @@ returns-in-Some-clause-follows g c =
       end = c.in-Some.ensures.end;
       some = c.in-Some.ensures.some;
       none = c.in-Some.ensures.none;
+      empty = c.in-Some.ensures.empty;
     }
 
 pub returns-in-Some-clause-text : goal.returns-in-Some-clause-text
@@ -59,6 +62,7 @@ returns-in-Some-clause-text g c =
       end = c.in-Some.ensures.end;
       some = c.in-Some.ensures.some;
       none = c.in-Some.ensures.none;
+      empty = c.in-Some.ensures.empty;
     } in
     let k = c.args.kernel.now in
     prints g.S.Site.image g.S.Site.bound g.S.Site.row_id _ _ _ c.in-Some.event _ _ c.requires f
@@ -75,6 +79,7 @@ returns-in-None-clause-following g c =
       end = c.in-None.ensures.end;
       some = c.in-None.ensures.some;
       none = c.in-None.ensures.none;
+      empty = c.in-None.ensures.empty;
     } in
     stays g.S.Site.image g.S.Site.bound g.S.Site.row_id _ _ _ c.requires f
 
@@ -87,6 +92,7 @@ returns-in-None-clause-follows g c =
       end = c.in-None.ensures.end;
       some = c.in-None.ensures.some;
       none = c.in-None.ensures.none;
+      empty = c.in-None.ensures.empty;
     }
 
 pub returns-in-None-clause-text : goal.returns-in-None-clause-text
@@ -99,5 +105,6 @@ returns-in-None-clause-text g c =
       end = c.in-None.ensures.end;
       some = c.in-None.ensures.some;
       none = c.in-None.ensures.none;
+      empty = c.in-None.ensures.empty;
     } in
     prints_nothing g.S.Site.image g.S.Site.bound g.S.Site.row_id.capacity _ _ _ _ f c.reserve.ensures.items

@@ -6,7 +6,7 @@ use Rattle.fmp_kernel.proofs.TickLemmas.{Passed}
 use Rattle.fmp_kernel.proofs.ticks.time_out_all.Given as goal
 use Rattle.fmp_tasks.specs.Tables.{progress, SameShape}
 
--- what is still to be released comes to the whole; as many first tasks as were released are not due
+-- the releases still to come complete the whole; as many first tasks as were released are not due
 abbrev pub invariant-loop-t : goal.invariant-loop-t
 invariant-loop-t l =
     let now = at_tick (progress l.tables l.caused.items) in

@@ -22,10 +22,10 @@ loop-at-init c =
     let first = c.first_waiting-at.ensures.value in
     let whole : from_node c.first_waiting-at.result waiting ≡ waiting = ap (λ (o : Option ℕ). from_node o waiting) first ∙ from_first waiting in
     record {
-      progress = rw (whole, c.requires.empty) refl;
+      progress = rw (whole, c.requires.lines.empty) refl;
       reached = rw first (Reached-first waiting);
       shape = record { system = refl; clock = refl };
-      room = λ some. let none : length c.args.lines.now.items ≡ 0 = ap length c.requires.empty in absurd (omega arith);
+      room = λ some. let none : length c.args.lines.now.items ≡ 0 = ap length c.requires.lines.empty in absurd (omega arith);
       capacity = refl;
     }
 

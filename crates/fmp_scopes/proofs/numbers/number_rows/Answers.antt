@@ -2,7 +2,8 @@ use Rattle.std.proofs.Common.{◌≡◌, ◌+◌, ◌-◌, ◌<◌, ℕ, length,
 use Rattle.std.specs.List.{position_from}
 use Rattle.std.specs.HashMap.{get}
 use Rattle.fmp_tasklang.specs.Scopes.{number_or}
-use Rattle.fmp_scopes.specs.Numbers.{same_bytes, number_of}
+use Rattle.fmp_lex.specs.ObjectNames.{same_bytes}
+use Rattle.fmp_scopes.specs.Numbers.{number_of}
 use Rattle.fmp_scopes.proofs.Loops.{position-start}
 use Rattle.fmp_scopes.proofs.RowNumbers.{bears, same-entry, number-row}
 use Rattle.fmp_scopes.proofs.numbers.number_rows.Goals as goal

@@ -9,7 +9,7 @@ returns-in-Some g c =
     let was : c.args.self.now.journal ≡ c.self.inside.scribe.journal = search rules in
     let found : actor_in c.self.inside.kernel c.args.outcome.now.ticket.processor ≡ Some c.in-Some.actor =
     ap (actor_in c.self.inside.kernel) (sym c.processor.ensures) ∙ sym c.actor.ensures.value ∙ c.in-Some.is in
-    rw was (rw c.actor-in-Some.ensures (stamp_test c.stamps_count_events.ensures _ _ _ _ _ _ c.args.outcome.now.ticket c.in-Some.actor b.3 (rw was at c.requires) found))
+    rw was (rw c.actor-in-Some.ensures (stamp_test _ _ _ _ _ _ c.args.outcome.now.ticket c.in-Some.actor b.3 (rw was at c.requires) found))
 
 pub returns-in-None : goal.returns-in-None
 returns-in-None g c =
@@ -17,4 +17,4 @@ returns-in-None g c =
     let was : c.args.self.now.journal ≡ c.self.inside.scribe.journal = search rules in
     let found : actor_in c.self.inside.kernel c.args.outcome.now.ticket.processor ≡ None =
     ap (actor_in c.self.inside.kernel) (sym c.processor.ensures) ∙ sym c.actor.ensures.value ∙ c.in-None.is in
-    rw was (none_test c.stamps_count_events.ensures _ _ _ _ _ _ c.args.outcome.now.ticket b.3 (rw was at c.requires) found)
+    rw was (none_test _ _ _ _ _ _ c.args.outcome.now.ticket b.3 (rw was at c.requires) found)

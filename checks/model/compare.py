@@ -1,0 +1,71 @@
+#!/usr/bin/env python3
+"""Compares the program with a model of the kernel on random systems.
+
+    checks/model/compare.py [COUNT] [SEED] [--program PATH]
+
+makes COUNT systems (2000), one from each seed from SEED (1) on: a configuration of one to eight processors, the
+bodies of its tasks and handlers and a list of events. The program builds and runs each. Its whole trace and the
+states at the end must be those of kernel.py, which is written from the rules of the kernel and shares nothing
+with the program.
+
+Where all agree it prints how much was compared and which replies and situations never came up. At the first
+difference it prints the seed, the first line that differs and the folder that keeps the texts, and its status is 1.
+
+It wants the program as `rt run` leaves it in crates/fmp/out, or at PATH.
+"""
+
+import sys
+from collections import Counter
+from pathlib import Path
+
+sys.dont_write_bytecode = True  # the folders of the checks stay as they are
+sys.path[0] = str(Path(__file__).resolve().parents[1])  # the folder `checks`, whose folders are packages
+
+from model.harness import expect_same, main  # noqa: E402
+from model.kernel import Kernel  # noqa: E402
+from model.replies import CASES, SITUATIONS  # noqa: E402
+
+
+def run_model(generator, case):
+    """The model after random events, and these."""
+    kernel = Kernel(case.system)
+    events = []
+    for _ in range(case.event_count):
+        events.append(generator.event(kernel.world))
+        kernel.step(events[-1])
+    return kernel, events
+
+
+def report(count, events, calls, situations):
+    """Prints how much was compared, and what never came up."""
+    print(f"{count} systems, {events} events, {calls.total()} calls: the program and the model agree")
+    for caller in ("task", "handler"):
+        made = Counter()
+        for (who, service, case), times in calls.items():
+            if who == caller:
+                made[service, case.split()[0]] += times
+        print(f"from {caller}s: {made.total()} calls, {len(made)} pairs of call and reply")
+    for missing in sorted(CASES - calls.keys()):
+        print("never came up:", *missing)
+    for missing in SITUATIONS:
+        if not situations[missing]:
+            print("never came up:", missing)
+
+
+def compare(trial):
+    """Compares the program with the model on each system."""
+    events, calls, situations = 0, Counter(), Counter()
+    for _, generator in trial.systems():
+        case = generator.case()
+        kernel, steps = run_model(generator, case)
+        trial.build(case.configuration, case.source)
+        trial.write("system.steps", "".join(f"{step}\n" for step in steps))
+        expect_same("the trace beside that of the model", trial.simulated("system.steps"), kernel.text())
+        events += kernel.world.event
+        calls += kernel.calls
+        situations += kernel.world.situations
+    report(trial.count, events, calls, situations)
+
+
+if __name__ == "__main__":
+    sys.exit(main("Compares the program with a model on random systems.", 2000, ("fmp",), compare))

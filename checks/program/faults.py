@@ -1,0 +1,261 @@
+#!/usr/bin/env python3
+"""Compares what `fmp_view fault` prints of faulty texts, and of texts with warnings, with what is written here.
+
+    checks/program/faults.py [PROGRAM]
+
+PROGRAM is crates/fmp_view/out/fmp_view where it is not given. Line, column, width and sentence of each row were worked
+out by hand from docs/LANGUAGE.md, never taken from the program. In a row `[N times: PIECE]` stands for so many pieces,
+with the numbers from 1 in place of `#`.
+"""
+
+import subprocess
+import sys
+import tempfile
+from pathlib import Path
+
+sys.dont_write_bytecode = True  # the folders of the checks stay as they are
+sys.path[0] = str(Path(__file__).resolve().parents[1])  # the folder `checks`, whose folders are packages
+
+from common.program import program_of_words  # noqa: E402
+from common.repeats import expanded  # noqa: E402
+from common.tally import Tally  # noqa: E402
+
+BODIES = "task m { } handler h { } task deep { put(1 + 2); }"
+ONE = "NUM_PRC(1); CLASS(TCL_1) { "
+OBJECT = ONE + "CRE_SEM(SEM, { 0, 0, 1 }); }"
+GREAT = "is too great: a number is at most 2147483647, with at most 8 hexadecimal digits"
+LONG_NAME = "the name has 39 bytes; a name has at most 31"
+LONG_BODY = "the body has more than 65535 instructions; it may have at most 65535"
+DEEP_BODY = "the body needs more than 64 operands at once; it may need at most 64"
+FLAG = "made of `TA_TPRI`, `TA_WMUL` and `TA_CLR`, 0 to 7"
+
+# A configuration; the line, the column and the bytes that are marked; the code; the sentence.
+CONFIGURATIONS = [
+    ("NUM_PRC(1)", 1, 11, 1, "B1", "expected `;`, but the text ends here"),
+    ("NUM_PRC(1);\nCLASS(TCL_1) {", 2, 15, 1, "B1", "expected a static API or `}`, but the text ends here"),
+    ("NUM_PRC(1); CLAS(TCL_1) { }", 1, 13, 4, "B1",
+     "expected `CLASS` or the end of the text, found the name `CLAS`; did you mean `CLASS`?"),
+    ("PRC(1);", 1, 1, 3, "B1", "expected `NUM_PRC`, found the name `PRC`"),
+    ("NUM_PRC(TA_ACT);", 1, 9, 6, "B1", "expected the number of processors, found the constant `TA_ACT`"),
+    ("NUM_PRC(1); CLASS(1) { }", 1, 19, 1, "B1", "expected the name of a class, as `TCL_1`, found the number 1"),
+    (ONE + "CRE_SEM(S, { 0 | , 0, 1 }); }", 1, 45, 1, "B1", "expected a number or a constant, found `,`"),
+    (ONE + "CRE_TSK(T, { 0, 0, 0, 1, 64, NULL }); }", 1, 47, 1, "B1",
+     "expected the name of a body, the entry of `CRE_TSK`, found the number 0"),
+    (ONE + "CRE_DTQ(D, { 0, 1, null }); }", 1, 47, 4, "B1",
+     "expected `NULL` of `CRE_DTQ`, found the name `null`; did you mean `NULL`?"),
+    (ONE + "CRE_SEM(S, { 0, 0 }); }", 1, 46, 1, "B1",
+     "expected `,` and the greatest count of `CRE_SEM`, found `}`"),
+    (ONE + "CRE_SEM(S, { 0, 0, 1, 1 }); }", 1, 48, 1, "B1",
+     "expected `}` behind the last value of `CRE_SEM`, found `,`"),
+    (ONE + "CRE_SEM(put, { 0, 0, 1 }); }", 1, 36, 3, "B1",
+     "expected a name for a semaphore, found the service call `put`"),
+    (ONE + "CRE_SEM(S, 0, 0, 1); }", 1, 39, 1, "B1", "expected `{`, found the number 0"),
+    (ONE + "CRE_TSK(T, { 0, 0, m, 1, 64, 0 }); }", 1, 57, 1, "B1", "expected `NULL` of `CRE_TSK`, found the number 0"),
+    (ONE + "CRE_TASK(T, { 0, 0, m, 1, 64, NULL }); }", 1, 28, 8, "B1",
+     "`CRE_TASK` is no static API; did you mean `CRE_TSK`?"),
+    (ONE + "CRE_SHR(W, { -TA_CLR }); }", 1, 42, 6, "B1", "expected a number, found the constant `TA_CLR`"),
+    (ONE + "CRE_SHR(W, { 1 }) }", 1, 46, 1, "B1", "expected `;`, found `}`"),
+    ("NUM_PRC(01);", 1, 9, 1, "B1", "`01` is no number"),
+    ("NUM_PRC(1); /* open", 1, 13, 1, "B1", "the comment that begins here is not closed"),
+    ("NUM_PRC(1); #", 1, 13, 1, "B1", "no token begins with `#`"),
+    ("NUM_PRC(9);", 1, 9, 1, "B5", "the number of processors is 9; it must be 1 to 8"),
+    ("NUM_PRC(0);", 1, 9, 1, "B5", "the number of processors is 0; it must be 1 to 8"),
+    ("NUM_PRC(2147483648);", 1, 9, 1, "B5", "`2147483648` " + GREAT),
+    (ONE + "CRE_SHR(W, { 0x100000000 }); }", 1, 41, 1, "B5", "`0x100000000` " + GREAT),
+    (ONE + "CRE_SPN(a_name_of_more_than_31_bytes_is_a_fault, { 0 }); }", 1, 36, 1, "B5", LONG_NAME),
+    ("NUM_PRC(1);\nCLASS(TCL_2) { }", 2, 7, 5, "B3",
+     "there is no class `TCL_2`: with 1 processor they are `TCL_1` and `TCL_1_ONLY`"),
+    ("NUM_PRC(2); CLASS(MAIN) { }", 1, 19, 4, "B3",
+     "there is no class `MAIN`: with 2 processors they are `TCL_n` and `TCL_n_ONLY` for n from 1 to 2"),
+    ("NUM_PRC(2); CLASS(TCL_1) {\nCRE_SEM(S, { 0, 0, 1 }); }\nCLASS(TCL_2) {\nCRE_FLG(S, { 0, 0 }); }", 4, 1, 7, "B2",
+     "`S` is the name of an object already, at line 2"),
+    (ONE + "\nCRE_SEM(S, { TA_FIFO, 0, 1 }); }", 2, 1, 7, "B3",
+     "`TA_FIFO` is no constant: the attribute of `CRE_SEM` is a value; did you mean `TA_TFIFO`?"),
+    (ONE + "\nCRE_TSK(T, { 1, 0, m, 1, 64, NULL }); }", 2, 1, 7, "B4 E_RSATR",
+     "the attribute of `CRE_TSK` is 1; it must be 0 or `TA_ACT`"),
+    (ONE + "\nCRE_TSK(T, { TA_ACT, 0, m, 17, 64, NULL }); }", 2, 1, 7, "B4 E_PAR",
+     "the priority of `CRE_TSK` is 17; it must be 1 to 16"),
+    (ONE + "\n\tCRE_TSK(T, { TA_ACT, 0, m, 1, 0, NULL }); }", 2, 2, 7, "B4 E_PAR",
+     "the stack size of `CRE_TSK` is 0; it must be 1 to 65536"),
+    (ONE + "CRE_SEM(S, { TA_MPRI, 0, 1 }); }", 1, 28, 7, "B4 E_RSATR",
+     "the attribute of `CRE_SEM` is 2; it must be `TA_TFIFO` or `TA_TPRI`"),
+    (ONE + "CRE_SEM(S, { 0, 2, 1 }); }", 1, 28, 7, "B4 E_PAR",
+     "the initial count of `CRE_SEM` is 2; it must be 0 to 1"),
+    (ONE + "CRE_SEM(S, { 0, 0, 65536 }); }", 1, 28, 7, "B4 E_PAR",
+     "the greatest count of `CRE_SEM` is 65536; it must be 1 to 65535"),
+    (ONE + "CRE_FLG(F, { 8, 0 }); }", 1, 28, 7, "B4 E_RSATR", "the attribute of `CRE_FLG` is 8; it must be " + FLAG),
+    (ONE + "CRE_FLG(F, { 0, 0x10000 }); }", 1, 28, 7, "B4 E_PAR",
+     "the initial pattern of `CRE_FLG` is 65536; it must be 0 to 65535"),
+    (ONE + "CRE_DTQ(D, { 0, 256, NULL }); }", 1, 28, 7, "B4 E_PAR",
+     "the capacity of `CRE_DTQ` is 256; it must be 0 to 255"),
+    (ONE + "CRE_MBX(X, { 4, 1, NULL }); }", 1, 28, 7, "B4 E_RSATR",
+     "the attribute of `CRE_MBX` is 4; it must be made of `TA_TPRI` and `TA_MPRI`, 0 to 3"),
+    (ONE + "CRE_MBX(X, { 0, 17, NULL }); }", 1, 28, 7, "B4 E_PAR",
+     "the greatest message priority of `CRE_MBX` is 17; it must be 1 to 16"),
+    (ONE + "CRE_MSG(G, { 0 }); }", 1, 28, 7, "B4 E_PAR", "the message priority of `CRE_MSG` is 0; it must be 1 to 16"),
+    (ONE + "CRE_SPN(L, { 1 }); }", 1, 28, 7, "B4 E_RSATR", "the attribute of `CRE_SPN` is 1; it must be 0"),
+    (ONE + "CRE_CYC(C, { 1, 0, h, 1, 0 }); }", 1, 28, 7, "B4 E_RSATR",
+     "the attribute of `CRE_CYC` is 1; it must be 0 or `TA_STA`"),
+    (ONE + "CRE_CYC(C, { TA_STA, 0, h, 0, 0 }); }", 1, 28, 7, "B4 E_PAR",
+     "the period of `CRE_CYC` is 0; it must be 1 to 1073741824"),
+    (ONE + "CRE_CYC(C, { TA_STA, 0, h, 1, -1 }); }", 1, 28, 7, "B4 E_PAR",
+     "the phase of `CRE_CYC` is -1; it must be 0 to 1073741824"),
+    (ONE + "DEF_INH(33, { 0, h }); }", 1, 28, 7, "B4 E_PAR",
+     "the interrupt number of `DEF_INH` is 33; it must be 1 to 32"),
+    (ONE + "DEF_INH(3, { 0, h });\nDEF_INH(3, { 0, h }); }", 2, 1, 7, "B4 E_OBJ",
+     "interrupt 3 has a handler already, defined at line 1"),
+    (ONE + "[256 times: CRE_SEM(S#, { 0, 0, 1 });\n] }", 256, 1, 7, "B5",
+     "this is the 256th `CRE_SEM`; there are at most 255 of a kind"),
+    (ONE + "CRE_TSK(T, { 0, 0, dep, 1, 64, NULL }); }", 1, 28, 7, "B3",
+     "no body of the task text has the name `dep`; did you mean `deep`?"),
+    (ONE + "CRE_TSK(T, { 0, 0, h, 1, 64, NULL }); }", 1, 28, 7, "B7",
+     "`h` is declared by `handler`; the entry of a task is declared by `task`"),
+    (ONE + "DEF_INH(3, { 0, m }); }", 1, 28, 7, "B7",
+     "`m` is declared by `task`; the entry of an interrupt handler is declared by `handler`"),
+    (ONE + "CRE_TSK(T, { 0, 0, deep, 1, 7, NULL }); }", 1, 28, 7, "B6",
+     "the stack has 7 bytes; `deep` needs 8, 4 for each operand that stands at once"),
+    ("NUM_PRC(1); // [1048576 times: .]", 1, 1, 1, "B5", "the text has 1048591 bytes; a text has at most 1048576"),
+]
+
+# Task texts, checked with a configuration of one object, the semaphore SEM.
+SOURCES = [
+    ("task m { put(1) }", 1, 17, 1, "B1", "expected `;`, found `}`"),
+    ("task m {\n    put(1);\n", 3, 1, 1, "B1", "expected a statement or `}`, but the text ends here"),
+    ("task m { put(1, 2); }", 1, 15, 1, "B1", "expected `)`, since `put` has 1 argument, found `,`"),
+    ("task m { snd_dtq(1); }", 1, 19, 1, "B1", "expected `,`, since `snd_dtq` has 2 arguments, found `)`"),
+    ("task m { slp_tsk(1); }", 1, 18, 1, "B1", "expected `)`, since `slp_tsk` has no argument, found the number 1"),
+    ("task m { x = put; }", 1, 17, 1, "B1", "expected `(`, found `;`"),
+    ("task m() { }", 1, 7, 1, "B1", "expected `{`, found `(`"),
+    ("tusk m { }", 1, 1, 4, "B1", "expected `task` or `handler`, found the name `tusk`; did you mean `task`?"),
+    ("task m { } }", 1, 12, 1, "B1", "expected `task`, `handler` or the end of the text, found `}`"),
+    ("task m { retrun; }", 1, 16, 1, "B1", "expected `=`, found `;`; did you mean `return`?"),
+    ("task m { whlie (1) { } }", 1, 16, 1, "B1", "`whlie` is no service call; did you mean `while`?"),
+    ("task m { else { } }", 1, 10, 4, "B1", "expected a statement or `}`, found `else`"),
+    ("task m { while (1) { } continue; }", 1, 24, 8, "B1", "`continue` stands in no loop"),
+    ("task m { if (1 { } }", 1, 16, 1, "B1", "expected an operator or `)`, found `{`"),
+    ("task m { put(1 + ); }", 1, 18, 1, "B1", "expected an operand: a number, a constant, a name or `(`, found `)`"),
+    ("task m { put(&exinf); }", 1, 14, 1, "B1", "expected an expression, argument 1 of `put`, found `&`"),
+    ("task m { break; }", 1, 10, 5, "B1", "`break` stands in no loop"),
+    ("task m { if (1) put(1); }", 1, 17, 3, "B1", "expected `{`, found the service call `put`"),
+    ("task m { put(1); var x; }", 1, 18, 3, "B1",
+     "variables are declared at the head of a body, before its statements"),
+    ("task m { put(act_tsk(1)); }", 1, 14, 7, "B1", "a service call is a statement, and no part of an expression"),
+    ("task m { wup_tks(1); }", 1, 17, 1, "B1", "`wup_tks` is no service call; did you mean `wup_tsk`?"),
+    ("task m { put(012); }", 1, 14, 1, "B1", "`012` is no number"),
+    ("task m { put(1 << 2); }", 1, 17, 1, "B1", "there are no shifts"),
+    ("task m { rcv_dtq(1, 2); }", 1, 21, 1, "B1",
+     "expected `&` and a variable, the out place of `rcv_dtq`, found the number 2"),
+    ("task m { var put; }", 1, 14, 3, "B1", "expected the name of a variable, found the service call `put`"),
+    ("put(1);", 1, 1, 3, "B1", "expected `task` or `handler`, found the service call `put`"),
+    ("task m { put(2147483648); }", 1, 14, 1, "B5", "`2147483648` " + GREAT),
+    ("task m { put([41 times: 9]); }", 1, 14, 1, "B5", "a number of 41 characters " + GREAT),
+    ("task a_name_of_more_than_31_bytes_is_a_fault { }", 1, 6, 1, "B5", LONG_NAME),
+    ("task m { put([65 times: (]1[65 times: )]); }", 1, 78, 1, "B5",
+     "this opens level 65 of nesting; there are at most 64"),
+    ("task m { }\nhandler m { }", 2, 9, 1, "B2", "`m` is the name of a body already, at line 1"),
+    ("task m { var x;\nvar x; }", 2, 5, 1, "B2", "`x` is the name of a variable of this body already, at line 1"),
+    ("task m { var exinf; }", 1, 14, 5, "B2", "`exinf` is the name of the first variable of each body"),
+    ("task m { var SEM; }", 1, 14, 3, "B2", "`SEM` is the name of an object of the configuration, at line 1"),
+    ("task m { put(\nx); }", 2, 1, 1, "B3", "`x` is neither a variable of this body, an object nor a constant"),
+    ("task m { var level; put(levle); }", 1, 25, 5, "B3",
+     "`levle` is neither a variable of this body, an object nor a constant; did you mean `level`?"),
+    ("task m { put(sem); }", 1, 14, 3, "B3",
+     "`sem` is neither a variable of this body, an object nor a constant; did you mean `SEM`?"),
+    ("task m { put(TA_ACTT); }", 1, 14, 7, "B3",
+     "`TA_ACTT` is neither a variable of this body, an object nor a constant; did you mean `TA_ACT`?"),
+    ("task run { act_tsk(run); }", 1, 20, 3, "B3",
+     "`run` is a body; what stands here is a variable of this body, an object or a constant"),
+    ("task m { x = 1; }", 1, 10, 1, "B3", "`x` is no variable of this body"),
+    ("task m { SEM = 1; }", 1, 10, 3, "B3", "`SEM` is an object; only a variable is written"),
+    ("task m { get_tid(&SEM); }", 1, 19, 3, "B3", "`SEM` is an object; only a variable is written"),
+    ("task m {\n[64 times: var v#;\n]}", 65, 5, 3, "B5",
+     "`v64` is the 65th variable of this body with `exinf`; a body has at most 64"),
+    ("[256 times: task t# { }\n]", 256, 1, 4, "B5", "this is the 256th body; a text has at most 255"),
+    ("task ok { }\ntask long {\n[32768 times: put(1); ]}", 2, 1, 4, "B5", LONG_BODY),
+    ("task deep {\nput([64 times: 1+(]1[64 times: )]); }", 1, 1, 4, "B5", DEEP_BODY),
+]
+
+# Texts without a fault: the configuration, the bodies, and the warnings.
+WARNINGS = [
+    (OBJECT, "", "t.cfg:1: warning: `SEM` is not named in the task text\n"),
+    (ONE + "CRE_TSK(T, { TA_ACT, 0, m, 1, 64, NULL }); CRE_SEM(S, { 0, 1, 1 }); }",
+     "task m {\n    wai_sem(S);\n    wai_sem(1);\n    sig_sem(T);\n}\nhandler idle { }\n",
+     "t.src:3: warning: the argument 1 is no name; `wai_sem` takes a semaphore\n"
+     "t.src:4: warning: `T` is a task; `sig_sem` takes a semaphore\n"
+     "t.src:6: warning: no static API names the body `idle`\n"),
+    (ONE + "CRE_TSK(T, { TA_ACT, 0, m, 1, 64, NULL });\nCRE_SEM(S, { 0, 1, 1 });\nCRE_FLG(F, { 0, 0 }); }",
+     "task m {\n    wai_sem(S);\n    set_flg(F, 1);\n    sig_sem(-1);\n    set_flg(E_OK, F);\n    ter_tsk(0);\n"
+     "    dly_tsk(S);\n    act_tsk(TSK_SELF);\n}\n",
+     "t.src:4: warning: the argument -1 is no name; `sig_sem` takes a semaphore\n"
+     "t.src:5: warning: the constant `E_OK` is no object; `set_flg` takes an eventflag\n"
+     "t.src:5: warning: `F` is an eventflag; `set_flg` takes a bit pattern\n"
+     "t.src:6: warning: the argument 0 is no name; `ter_tsk` takes a task\n"
+     "t.src:7: warning: `S` is a semaphore; `dly_tsk` takes a time\n"),
+    (ONE + "CRE_TSK(T, { TA_ACT, 0, m, 1, 64, NULL });\nCRE_SEM(S, { 0, 1, 1 });\nCRE_FLG(F, { 0, 0 }); }",
+     "task m {\n    wai_sem(S);\n    clr_flg(F, 0);\n    set_flg(1, 1);\n}\n",
+     "t.src:4: warning: the argument 1 is no name; `set_flg` takes an eventflag\n"
+     "t.cfg:2: warning: `S` is a semaphore that nothing signals\n"),
+    (ONE + "CRE_TSK(T, { 0, 0, m, 1, 64, NULL });\nCRE_FLG(F, { 0, 0 }); }",
+     "task m { var x; clr_flg(F, 1); slp_tsk(); x = TSK_SELF; wup_tsk(0); }",
+     "t.cfg:1: warning: `T` is not started at setup, and no body names it\n"
+     "t.cfg:2: warning: `F` is an eventflag that nothing sets\n"),
+    (ONE + "CRE_TSK(T, { TA_ACT, 0, m, 1, 64, NULL }); CRE_SEM(S, { 0, 1, 1 }); }",
+     "task m { var s; s = S; wai_sem(S); sig_sem(s); }", ""),
+    (ONE + "CRE_TSK(T, { TA_ACT, 0, m, 1, 64, NULL }); CRE_SEM(S, { 0, 1, 1 });\nDEF_INH(1, { 0, h }); }",
+     "task m {\n    isig_sem(S);\n    irot_rdq(TPRI_SELF);\n    loc_cpu();\n    put(1);\n}\n"
+     "handler h {\n    var x;\n    sig_sem(S);\n    wai_sem(S);\n    x = act_tsk(1);\n    loc_cpu();\n    put(1);\n"
+     "    isig_sem(S);\n}\n",
+     "t.src:2: warning: `isig_sem` answers E_CTX in a task; there it is `sig_sem`\n"
+     "t.src:3: warning: `irot_rdq` answers E_CTX in a task; there it is `rot_rdq`\n"
+     "t.src:9: warning: `sig_sem` answers E_CTX in a handler; there it is `isig_sem`\n"
+     "t.src:10: warning: `wai_sem` answers E_CTX in a handler\n"
+     "t.src:11: warning: `act_tsk` answers E_CTX in a handler; there it is `iact_tsk`\n"
+     "t.src:11: warning: the argument 1 is no name; `act_tsk` takes a task\n"
+     "t.src:12: warning: `loc_cpu` answers E_CTX in a handler\n"),
+]
+
+
+def report(name, text, line, column, width, code, sentence):
+    """What is printed of a fault: the head and the sentence, the line, and the marks under it."""
+    shown = text.split("\n")[line - 1]
+    marks = "".join("\t" if letter == "\t" else " " for letter in shown[:column - 1]) + "^" * width
+    if len(shown) > 100:
+        assert column <= 47 or column == 78  # worked out for these alone
+        begin = max(0, column - 1 - 47)
+        marks = " " * (3 if begin else 0) + marks[begin:]
+        shown = ("..." if begin else "") + shown[begin:begin + 94] + ("..." if begin + 94 < len(shown) else "")
+    return f"{name}:{line}:{column}: {code}: {sentence}\n    {shown}\n    {marks}\n"
+
+
+def rows():
+    """Each case: two texts, the status, and what is printed."""
+    for row, *place in CONFIGURATIONS:
+        text = expanded(row)
+        yield text, BODIES, 1, report("t.cfg", text, *place)
+    for row, *place in SOURCES:
+        text = expanded(row)
+        yield OBJECT, text, 1, report("t.src", text, *place)
+    for cfg, src, warnings in WARNINGS:
+        yield cfg, src, 0, warnings
+
+
+def answered(program, room):
+    """Each case with what the program answers, and what it should."""
+    for cfg, src, status, wanted in rows():
+        Path(room, "t.cfg").write_text(cfg, newline="")
+        Path(room, "t.src").write_text(src, newline="")
+        done = subprocess.run([program, "fault", "t.cfg", "t.src"], cwd=room, capture_output=True)
+        answer = done.returncode, done.stdout.decode(), done.stderr.decode()
+        yield f"{cfg[:200]!r} {src[:200]!r}", answer, (status, wanted, "")
+
+
+def main():
+    program, tally = program_of_words("Compares what `fmp_view fault` prints with rows.", "fmp_view"), Tally()
+    with tempfile.TemporaryDirectory() as room:
+        count, differ = tally.compare(answered(program, room))
+    print(f"checks/program/faults.py: {count} texts compared, {differ} differ")
+    return tally.status
+
+
+if __name__ == "__main__":
+    sys.exit(main())

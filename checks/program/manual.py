@@ -1,0 +1,301 @@
+#!/usr/bin/env python3
+"""Makes the manual page and the completions of shells from the command line's own description, and tells whether those
+that stand in docs/ are these.
+
+    checks/program/manual.py [--write] [--of NAME] [PROGRAM]
+
+NAME is fmp, or fmp_view. PROGRAM is crates/NAME/out/NAME where it is not given, as `rt ci` or `rt run` leaves it. With
+`--write` the files are written: after each change of the command line or of its help. Without it they are compared, the
+completion of bash is tried, and `make install` is run into a folder of its own.
+"""
+
+import argparse
+import filecmp
+import os
+import re
+import subprocess
+import sys
+import tempfile
+from dataclasses import dataclass, field
+from pathlib import Path
+
+sys.dont_write_bytecode = True  # the folders of the checks stay as they are
+sys.path[0] = str(Path(__file__).resolve().parents[1])  # the folder `checks`, whose folders are packages
+
+from common.program import ROOT, located  # noqa: E402
+from common.tally import Tally  # noqa: E402
+
+PROGRAMS = {"fmp": "PROGRAM", "fmp_view": "VIEW"}  # with the word of the Makefile for each
+SECTIONS = ("Commands", "Arguments", "Options")
+
+
+def files(name):
+    """The files that are made for the program of this name, and how."""
+    return {
+        f"man/{name}.1": page,
+        f"completions/{name}.bash": bash,
+        f"completions/_{name}": zsh,
+        f"completions/{name}.fish": fish,
+    }
+
+
+def installed(name):
+    """Where they are installed."""
+    return {
+        f"share/man/man1/{name}.1": f"man/{name}.1",
+        f"share/bash-completion/completions/{name}": f"completions/{name}.bash",
+        f"share/zsh/site-functions/_{name}": f"completions/_{name}",
+        f"share/fish/vendor_completions.d/{name}.fish": f"completions/{name}.fish",
+    }
+
+
+@dataclass
+class Item:
+    """A command, argument or option: how it is written, and what help says of it."""
+
+    form: str
+    text: str
+
+    def names(self):
+        """The names of an option, such as `-h` and `--help`."""
+        return re.findall(r"--?[\w-]+", self.form)
+
+    def takes(self):
+        """What an option takes, as `N`, or nothing."""
+        value = re.search(r"<(\w+)>", self.form)
+        return value[1] if value else ""
+
+
+@dataclass
+class Help:
+    """What the help of a command has."""
+
+    about: str = ""
+    usage: str = ""
+    items: dict = field(default_factory=lambda: {section: [] for section in SECTIONS})
+    rest: list = field(default_factory=list)
+
+
+def read_help(text):
+    """Help as clap prints it: paragraphs, and sections with an item a line, or its text on the lines below."""
+    read, section = Help(), "about"
+    for line in text.splitlines():
+        head = re.fullmatch(r"(\w+):", line)
+        if line.startswith("Usage: "):
+            read.usage, section = line[len("Usage: "):], "rest"
+        elif head and head[1] in SECTIONS:
+            section = head[1]
+        elif section == "about":
+            read.about = f"{read.about} {line.strip()}".strip()
+        elif section in SECTIONS and line.startswith(" " * 7) and read.items[section]:
+            last = read.items[section][-1]
+            last.text = f"{last.text} {line.strip()}".strip()
+        elif section in SECTIONS and line.startswith("  "):
+            form, _, said = line.strip().partition("  ")
+            read.items[section].append(Item(form, said.strip()))
+        elif section in SECTIONS and not line:
+            pass
+        else:
+            section = "rest"
+            read.rest.append(line)
+    read.rest = "\n".join(read.rest).strip("\n").splitlines()
+    return read
+
+
+def helped(name, program, *words):
+    """The help of these words from the program called by its own name, whatever its file is called."""
+    done = subprocess.run([name, *words, "--help"], executable=program, capture_output=True, check=True)
+    return read_help(done.stdout.decode())
+
+
+@dataclass
+class Manual:
+    """The whole command line of a program: its own help and that of each of its commands."""
+
+    name: str
+    top: Help
+    commands: dict
+
+    def options(self):
+        """The options of each command, by its name."""
+        return {name: command.items["Options"] for name, command in self.commands.items()}
+
+
+def described(name, program):
+    top = helped(name, program)
+    commands = [item.form for item in top.items["Commands"] if item.form != "help"]
+    return Manual(name, top, {command: helped(name, program, command) for command in commands})
+
+
+# The manual page
+
+def roff(text):
+    text = text.replace("\\", "\\e").replace("-", "\\-")
+    return re.sub(r"^([.'])", r"\\&\1", text, flags=re.M)
+
+
+def listed(items):
+    for item in items:
+        yield from (".TP", f"\\fB{roff(item.form)}\\fR", roff(item.text))
+
+
+def as_it_stands(lines):
+    return [".nf", *(roff(line) for line in lines), ".fi"] if lines else []
+
+
+def page(manual):
+    top = manual.top
+    short = re.split("[:.]", top.about)[0]
+    lines = [f'.TH {manual.name.upper()} 1 "" "fmp" "User Commands"', ".SH NAME"]
+    lines.append(f"{manual.name} \\- {roff(short[0].lower() + short[1:])}")
+    lines.append(".SH SYNOPSIS")
+    for command in manual.commands.values():
+        lines += [f"\\fB{roff(command.usage)}\\fR", ".br"]
+    lines += [f"\\fB{manual.name}\\fR"] if "With no command" in top.about else []
+    lines += [".SH DESCRIPTION", roff(top.about), ".SH COMMANDS"]
+    for name, command in manual.commands.items():
+        lines += [f".SS {name}", roff(command.about)]
+        lines += listed(command.items["Arguments"])
+        lines += listed(command.items["Options"])
+        lines += [".PP", *as_it_stands(command.rest)] if command.rest else []
+    lines.append(".SH OPTIONS")
+    lines += listed(top.items["Options"])
+    lines += [".SH NOTES", *as_it_stands(top.rest)]
+    lines += [".SH SEE ALSO", "docs/LANGUAGE.md in the repository: the texts, service calls, traces and faults."]
+    return "\n".join(lines) + "\n"
+
+
+# The completions
+
+def made_for(shell, name):
+    return f"# Completion of {name} for {shell}. Made by checks/program/manual.py from the program's help."
+
+
+def bash(manual):
+    cases = []
+    for name, options in manual.options().items():
+        words = " ".join(word for option in options for word in option.names())
+        cases.append(f'        {name}) words="{words}" ;;')
+    valued = "|".join(it.names()[-1] for options in manual.options().values() for it in options if it.takes())
+    first = " ".join([*manual.commands, "help", *(it for item in manual.top.items["Options"] for it in item.names())])
+    return "\n".join([
+        made_for("bash", manual.name),
+        f"_{manual.name}() {{",
+        '    local word=${COMP_WORDS[COMP_CWORD]} before=${COMP_WORDS[COMP_CWORD-1]} words=""',
+        "    COMPREPLY=()",
+        '    if [ "$COMP_CWORD" -eq 1 ]; then',
+        f'        COMPREPLY=($(compgen -W "{first}" -- "$word"))',
+        "        return",
+        "    fi",
+        *([f'    case $before in {valued}) return ;; esac'] if valued else []),
+        "    case ${COMP_WORDS[1]} in",
+        *cases,
+        f'        help) COMPREPLY=($(compgen -W "{" ".join(manual.commands)}" -- "$word")); return ;;',
+        "    esac",
+        '    case $word in',
+        '        -*) COMPREPLY=($(compgen -W "$words" -- "$word")) ;;',
+        '        *) COMPREPLY=($(compgen -f -- "$word")) ;;',
+        "    esac",
+        "}",
+        f"complete -o filenames -F _{manual.name} {manual.name}",
+    ]) + "\n"
+
+
+def quoted(text):
+    return text.replace("'", "'\\''")
+
+
+def zsh(manual):
+    def named(text):
+        return quoted(text.replace("[", "\\[").replace("]", "\\]").replace(":", "\\:"))
+
+    name = manual.name
+    lines = [f"#compdef {name}", made_for("zsh", name), f"_{name}() {{", "    local -a commands", "    commands=("]
+    lines += [f"        '{name}:{named(command.about)}'" for name, command in manual.commands.items()]
+    lines += ["    )", "    if (( CURRENT == 2 )); then", "        _describe command commands", "        return"]
+    lines += ["    fi", "    case $words[2] in"]
+    for name, command in manual.commands.items():
+        words = enumerate(command.items["Arguments"], 2)
+        given = [f"'{place}:{quoted(word.takes())}:_files'" for place, word in words]
+        for option in command.items["Options"]:
+            value = f":{option.takes()}:" if option.takes() else ""
+            given += [f"'{word}[{named(option.text)}]{value}'" for word in option.names()]
+        lines += [f"        {name})", "            _arguments \\"]
+        lines += [f"                {word} \\" for word in given[:-1]]
+        lines += [f"                {given[-1]}", "            ;;"]
+    lines += ["        help) _describe command commands ;;", "    esac", "}", f'_{manual.name} "$@"']
+    return "\n".join(lines) + "\n"
+
+
+def fish(manual):
+    def one(condition, item):
+        words = [f"-s {it[1:]}" if not it.startswith("--") else f"-l {it[2:]}" for it in item.names()]
+        value = " -x" if item.takes() else ""
+        return f"complete -c {manual.name} -n '{condition}' {' '.join(words)}{value} -d '{quoted(item.text)}'"
+
+    lines = [made_for("fish", manual.name)]
+    for name, command in manual.commands.items():
+        lines.append(f"complete -c {manual.name} -f -n __fish_use_subcommand -a {name} -d '{quoted(command.about)}'")
+    lines += [one("__fish_use_subcommand", item) for item in manual.top.items["Options"]]
+    for name, options in manual.options().items():
+        lines += [one(f"__fish_seen_subcommand_from {name}", item) for item in options]
+    return "\n".join(lines) + "\n"
+
+
+# The checks
+
+def completed(name, *words):
+    """What bash completes these words to, behind the program's name."""
+    script, words = ROOT / f"docs/completions/{name}.bash", [name, *words]
+    given = f"COMP_WORDS=({' '.join(words)}); COMP_CWORD={len(words) - 1}"
+    command = f'. "{script}"; {given}; _{name}; echo "${{COMPREPLY[@]}}"'
+    return subprocess.run(["bash", "-c", command], capture_output=True, cwd=ROOT / "docs").stdout.decode().split()
+
+
+def check_completion(tally, manual):
+    of = manual.name
+    for name, options in manual.options().items():
+        tally.holds(f"bash completes {name}", name in completed(of, name[:2]))
+        words = {word for option in options for word in option.names() if word.startswith("--")}
+        tally.holds(f"bash completes the options of {name}", words <= set(completed(of, name, "--")))
+        tally.holds(f"bash completes files of {name}", "LANGUAGE.md" in completed(of, name, "LANG"))
+
+
+def check_install(tally, name, program):
+    with tempfile.TemporaryDirectory() as room:
+        words = ["make", "-s", "-C", ROOT, "install", f"PREFIX={room}", f"{PROGRAMS[name]}={program}"]
+        done = subprocess.run(words, capture_output=True)
+        said = done.stdout.decode()
+        tally.holds(f"make install: {done.stderr.decode()}", done.returncode == 0)
+        copies = {f"{room}/{target}": ROOT / "docs" / source for target, source in installed(name).items()}
+        for target, source in {**copies, f"{room}/bin/{name}": program}.items():
+            same = os.path.exists(target) and filecmp.cmp(target, source, shallow=False)
+            tally.holds(f"make install copies {source}", same)
+            tally.holds(f"make install says where it puts {source}", target in said)
+
+
+def main():
+    parser = argparse.ArgumentParser(description="Makes the manual page and the completions, or compares them.")
+    parser.add_argument("program", metavar="PROGRAM", nargs="?", type=Path, help="crates/NAME/out/NAME")
+    parser.add_argument("--of", metavar="NAME", choices=PROGRAMS, default="fmp", help="fmp, or fmp_view")
+    parser.add_argument("--write", action="store_true", help="write the files")
+    options = parser.parse_args()
+    name = options.of
+    program = located(name, options.program)
+    manual, tally = described(name, program), Tally()
+    tally.holds("the help tells its commands", len(manual.commands) > 2)
+    for file, make in files(name).items():
+        path, text = ROOT / "docs" / file, make(manual)
+        if options.write:
+            path.parent.mkdir(exist_ok=True)
+            path.write_text(text)
+        stands = path.exists() and path.read_text() == text
+        tally.holds(f"docs/{file} is not what the help tells: checks/program/manual.py --write makes it", stands)
+    check_completion(tally, manual)
+    check_install(tally, name, program)
+    print(f"checks/program/manual.py: {tally}")
+    return tally.status
+
+
+if __name__ == "__main__":
+    sys.exit(main())

@@ -1,0 +1,47 @@
+#!/usr/bin/env python3
+"""Prints what a picture of `fmp_view timeline` shows, for view.sh to compare.
+
+    checks/program/pictures.py lanes|marks PICTURE
+
+`lanes`: each lane, and the first line of each of its titles. `marks`: the shape of each mark, and the first line of its
+title.
+"""
+
+import sys
+from xml.etree import ElementTree
+
+SVG = "{http://www.w3.org/2000/svg}"
+LANES = ("Processor ", "Task ", "Handler ", "semaphore ", "flag ", "data queue ", "mailbox ", "shared word ")
+
+
+def first_line(title):
+    return title.text.split("\n")[0]
+
+
+def lanes(picture):
+    for lane in picture.iter(f"{SVG}g"):
+        label = lane.get("aria-label", "")
+        if label.startswith(LANES):
+            yield label
+            yield from (f"  {first_line(title)}" for title in lane.iter(f"{SVG}title"))
+
+
+def marks(picture):
+    for group in picture.iter(f"{SVG}g"):
+        shape, title = group.find(f"{SVG}use"), group.find(f"{SVG}title")
+        if shape is not None and title is not None:
+            yield f"{shape.get('href')} {first_line(title)}"
+
+
+def main():
+    _, what, path = sys.argv
+    try:
+        picture = ElementTree.parse(path)
+    except (OSError, ElementTree.ParseError) as error:
+        sys.exit(f"{path}: {error}")
+    for line in {"lanes": lanes, "marks": marks}[what](picture):
+        print(line)
+
+
+if __name__ == "__main__":
+    main()

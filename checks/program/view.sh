@@ -1,0 +1,422 @@
+#!/bin/sh
+# Runs the proved program that looks at systems on the examples, and compares its status, its standard output, its
+# standard error and the files that it leaves, each to the byte. What is expected is written out here, and of dumps in
+# the folder dumps: worked out by hand from the rules and the traces of the examples, never taken from the program.
+#
+#   checks/program/view.sh [PROGRAM [FMP]]
+#
+# PROGRAM is crates/fmp_view/out/fmp_view and FMP is crates/fmp/out/fmp where they are not given.
+#
+# shellcheck disable=SC2016 # a `$` of sed stands for the last line
+set -eu
+# shellcheck source-path=SCRIPTDIR source=harness.sh
+. "$(dirname "$0")/harness.sh"
+subject=$(located fmp_view "${1:-}")
+fmp=$(located fmp "${2:-}")
+pictures=$root/checks/program/pictures.py
+dumps=$root/checks/program/dumps
+
+# built NAME: the image of the two texts of this name.
+built() { "$fmp" build "$1.cfg" "$1.src" "$1.img" > /dev/null; }
+
+# What the next case expects on standard output and on standard error; both are empty again after it.
+nothing() {
+    : > wanted
+    : > said
+}
+nothing
+
+# shows NAME STATUS WORD..: the program on these words ends with this status, prints the file `wanted`, and says on
+# standard error the file `said`.
+shows() {
+    name=$1 wanted_status=$2
+    shift 2
+    run "$name" "$wanted_status" wanted said "$@"
+    nothing
+}
+
+# gives NAME COMMAND..: the command succeeds, and prints the file `wanted`.
+gives() {
+    name=$1
+    shift
+    problem=
+    "$@" > output 2> errors || problem="it fails: $(tail -n 1 errors); "
+    cmp -s wanted output || problem="${problem}it is other than it should be"
+    verdict "$name" "$problem"
+    nothing
+}
+
+# The names and checksums of all files but those that each run writes.
+files() { cksum ./* | grep -v ' \./\(output\|errors\)$'; }
+
+# refused NAME MESSAGE WORD..: these words are refused with status 2 and this message, and no file is written.
+refused() {
+    name=$1 message=$2
+    shift 2
+    before=$(files)
+    attempt "$@"
+    problem=
+    [ "$status" -eq 2 ] || problem="status $status; "
+    grep -q -e "$message" errors || problem="${problem}it says '$(head -c 200 errors)'; "
+    [ ! -s output ] || problem="${problem}it prints something; "
+    [ "$before" = "$(files)" ] || problem="${problem}a file is written"
+    verdict "$name" "$problem"
+}
+
+for system in queue watchdog interrupt; do built $system; done
+
+# What a code means.
+cat > wanted <<'END'
+E_TMOUT: polling failure or time-out
+  when: What was waited for was not there at once, or not within the time limit.
+  example: pol_sem(1) with count 0.
+END
+shows 'code: E_TMOUT' 0 code E_TMOUT
+cat > wanted <<'END'
+L2: no image
+  when: The first four bytes are not FMPI.
+  example: A text in place of an image.
+END
+shows 'code: L2' 0 code L2
+cat > wanted <<'END'
+E_PAR: parameter error
+  when: A value is out of its range: a priority, a time limit, a pattern, a mode, a size.
+  example: chg_pri(1, 17), since priorities end at 16.
+END
+shows 'code: E_PAR' 0 code E_PAR
+cat > wanted <<'END'
+B7: entry of the other kind
+  when: A task names a handler as its entry, or a handler a task.
+  example: CRE_TSK whose entry is declared by 'handler'.
+END
+shows 'code: B7' 0 code B7
+
+# Of one processor there is one order: two tasks that both end.
+printf 'run 1\nrun 1\nrun 1\nrun 1\nrun 1\nrun 1\n' > wanted
+printf 'quiet: no processor goes on, and the clock changes nothing\nprocessor 1: nothing runs there\n' > said
+shows 'drive: queue' 0 drive queue.img
+printf 'run 1\nrun 1\n' > wanted
+printf 'as many events as were asked for are done\n' > said
+shows 'drive: two events' 0 drive queue.img --events 2
+printf 'as many events as were asked for are done\n' > said
+shows 'drive: no events' 0 drive queue.img --events=0
+
+# A holds the lock and calls no more; B asks for the lock; and nothing runs on the third processor.
+cat > stuck.cfg <<'END'
+NUM_PRC(3);
+CLASS(TCL_1) { CRE_TSK(A, { TA_ACT, 0, a, 10, 256, NULL }); CRE_SPN(L, { TA_NULL }); }
+CLASS(TCL_2) { CRE_TSK(B, { TA_ACT, 0, b, 10, 256, NULL }); }
+END
+echo 'task a { loc_spn(L); while (1) { } } task b { loc_spn(L); unl_spn(L); }' > stuck.src
+built stuck
+echo 'run 1' > wanted
+cat > said <<'END'
+quiet: no processor goes on, and the clock changes nothing
+processor 1: what runs there reaches the bound before its next call
+processor 2: what runs there asks for spin lock 1, which is held
+processor 3: nothing runs there
+END
+shows 'drive: stuck' 0 drive stuck.img
+echo 'run 1' > wanted
+cat > said <<'END'
+as many events as were asked for are done
+processor 1: what runs there reaches the bound before its next call
+END
+shows 'drive: stuck, one event' 0 drive stuck.img --events 1
+
+# The trace of the queue: PRODUCER calls twice, is preempted at both calls and ends; CONSUMER waits once, and ends.
+cat > wanted <<'END'
+task      starts   calls   waits  time-outs  preemptions  events   share
+PRODUCER       1       2       0          0            2       3   50.0%
+CONSUMER       1       2       1          0            0       3   50.0%
+END
+shows 'stats: queue' 0 stats queue.img queue.steps
+printf 'run 1\nrun 1\n' > two.steps
+cat > wanted <<'END'
+task      starts   calls   waits  time-outs  preemptions  events   share
+PRODUCER       1       1       0          0            1       1   50.0%
+CONSUMER       1       1       1          0            0       1   50.0%
+END
+shows 'stats: two events' 0 stats queue.img two.steps
+
+# Of the 18 events of the watchdog 5 are ticks; a wait that ends by its limit is a time-out, and WORKER is preempted at
+# each call that wakes WATCHDOG.
+cat > wanted <<'END'
+task      starts   calls   waits  time-outs  preemptions  events   share
+WATCHDOG       1       7       4          1            0       7   38.8%
+WORKER         2       6       3          0            3       6   33.3%
+END
+shows 'stats: watchdog' 0 stats watchdog.img watchdog.steps
+
+# Of the 15 events of the interrupts 2 are interrupts and 4 are the handler's, which wakes DRIVER and so preempts OTHER.
+cat > wanted <<'END'
+task    starts   calls   waits  time-outs  preemptions  events   share
+MAIN         1       3       0          0            0       4   26.6%
+DRIVER       1       4       2          0            0       4   26.6%
+OTHER        1       1       0          0            2       1    6.6%
+END
+shows 'stats: interrupt' 0 stats interrupt.img interrupt.steps
+
+shows 'waves: queue' 0 waves queue.img queue.steps queue.vcd
+cp "$dumps/queue.values" wanted
+gives 'waves: values' sed -n '/^.enddefinitions/,$p' queue.vcd
+cp "$dumps/queue.names" wanted
+gives 'waves: names' sed -n '/^.enddefinitions/q; /^.scope module fmp/,$p' queue.vcd
+
+# A task that disables dispatching, takes of a semaphore, writes a word, is refused a priority, locks the processor, and
+# ends by a fault; between, an interrupt that pends until the processor is unlocked.
+cat > held.cfg <<'END'
+NUM_PRC(1);
+CLASS(TCL_1) {
+    CRE_TSK(A, { TA_ACT, 0, a, 10, 256, NULL });
+    CRE_SEM(S, { 0, 3, 9 });
+    CRE_SHR(W, { -1 });
+    DEF_INH(3, { 0, h });
+}
+END
+cat > held.src <<'END'
+task a { var x; dis_dsp(); pol_sem(S); st_shr(W, 1); chg_pri(A, 17); loc_cpu(); unl_cpu(); x = 1 / 0; }
+handler h { }
+END
+for step in 'run 1' 'run 1' 'run 1' 'run 1' 'run 1' 'int 3' 'run 1' 'run 1' 'run 1'; do echo "$step"; done > held.steps
+built held
+shows 'waves: held' 0 waves held.img held.steps held.vcd
+cp "$dumps/held.values" wanted
+gives 'waves: held, values' sed -n '/priority/,$p' held.vcd
+
+# A task that sends two words and takes one out, and sends a message and takes it out: what the queues hold then.
+cat > lengths.cfg <<'END'
+NUM_PRC(1);
+CLASS(TCL_1) {
+    CRE_TSK(A, { TA_ACT, 0, a, 10, 256, NULL });
+    CRE_DTQ(D, { 0, 2, NULL });
+    CRE_MBX(M, { 0, 1, NULL });
+    CRE_MSG(G, { 1 });
+}
+END
+cat > lengths.src <<'END'
+task a { var x; psnd_dtq(D, 5); psnd_dtq(D, 6); snd_mbx(M, G); prcv_dtq(D, &x); prcv_mbx(M, &x); }
+END
+for step in 1 2 3 4 5 6; do echo 'run 1'; done > lengths.steps
+built lengths
+shows 'waves: lengths' 0 waves lengths.img lengths.steps lengths.vcd
+cp "$dumps/lengths.values" wanted
+gives 'waves: lengths, values' sed -n '/module objects/,$p' lengths.vcd
+
+# The picture of the queue: its lanes in order, each with what its boxes and its calls say first. The urgent task stands
+# above the other.
+shows 'timeline: queue' 0 timeline queue.img queue.steps queue.svg --objects
+cat > wanted <<'END'
+Processor 1
+  p1: PRODUCER, events 0 to 1
+  p1: CONSUMER, events 1 to 2
+  p1: PRODUCER, events 2 to 3
+  p1: CONSUMER, events 3 to 5
+  p1: PRODUCER, events 5 to 6
+  p1: idle, from event 6 on
+Task CONSUMER on processor 1
+  CONSUMER DORMANT, p1, events 0 to 1
+  CONSUMER RUNNING, p1, events 1 to 2
+  CONSUMER WAITING ←QUEUE, p1, events 2 to 3
+  CONSUMER RUNNING, p1, events 3 to 5
+  CONSUMER DORMANT, p1, from event 5 on
+  2 p1 CONSUMER rcv_dtq(1) wait
+  4 p1 CONSUMER put(42) E_OK
+Task PRODUCER on processor 1
+  PRODUCER RUNNING, p1, events 0 to 1
+  PRODUCER READY, p1, events 1 to 2
+  PRODUCER RUNNING, p1, events 2 to 3
+  PRODUCER READY, p1, events 3 to 5
+  PRODUCER RUNNING, p1, events 5 to 6
+  PRODUCER DORMANT, p1, from event 6 on
+  1 p1 PRODUCER act_tsk(2) E_OK
+  3 p1 PRODUCER snd_dtq(1,42) E_OK
+data queue QUEUE
+  QUEUE = 0, events 0 to 2
+  QUEUE = 0, waiting: CONSUMER, events 2 to 3
+  QUEUE = 0, from event 3 on
+END
+gives 'timeline: lanes' "$pictures" lanes queue.svg
+shows 'timeline: two events' 0 timeline queue.img queue.steps queue.svg --from 2 --to 3
+cat > wanted <<'END'
+Processor 1
+  p1: PRODUCER, events 2 to 3
+  p1: CONSUMER, events 3 to 5
+Task CONSUMER on processor 1
+  CONSUMER WAITING ←QUEUE, p1, events 2 to 3
+  CONSUMER RUNNING, p1, events 3 to 5
+  2 p1 CONSUMER rcv_dtq(1) wait
+Task PRODUCER on processor 1
+  PRODUCER RUNNING, p1, events 2 to 3
+  PRODUCER READY, p1, events 3 to 5
+  3 p1 PRODUCER snd_dtq(1,42) E_OK
+END
+gives 'timeline: lanes of two events' "$pictures" lanes queue.svg
+shows 'timeline: up to the end and beyond' 0 timeline queue.img queue.steps late.svg --from 6 --to 1048576
+holds 'timeline: the last event' 'it does not say so' grep -q 'events 6–6 of 0–6' late.svg
+
+# Marks, lane by lane: what shape each has, and the first line of its event.
+drawn() { # drawn SYSTEM WORD..: the picture 'SYSTEM.svg' of an example; there is none where the program fails
+    system=$1
+    shift
+    built "$system"
+    "$subject" timeline "$system.img" "$system.steps" "$system.svg" "$@" || rm -f "$system.svg"
+}
+marks() { # marks SYSTEM: the marks of its picture are those of the file 'wanted'
+    drawn "$1"
+    gives "timeline: marks of $1" "$pictures" marks "$1.svg"
+}
+cat > wanted <<'END'
+#act 0 p1 WATCHDOG starts
+#rel 2 p1 WORKER wup_tsk(1) E_OK
+#rel 7 p1 WORKER wup_tsk(1) E_OK
+#tmo 13 tick 5
+#rel 18 p1 WORKER wup_tsk(1) E_OK
+#act 0 p1 WATCHDOG starts
+#rel 6 tick 2
+#rel 11 tick 4
+#ter 15 p1 WATCHDOG ter_tsk(2) E_OK
+#act 16 p1 WATCHDOG act_tsk(2) E_OK
+END
+marks watchdog
+
+# A mark stands where the task is after the event; where it was before, if its call was refused or its body ended.
+cat > wanted <<'END'
+#act 0 p1 BALANCE starts
+#refused 1 p1 BALANCE mig_tsk(3,2) E_PAR
+#refused 3 p1 BALANCE mig_tsk(2,1) E_OBJ
+#act 0 p1 BALANCE starts
+#act 9 p2 JOB end
+#end 11 p1 JOB end
+#act 0 p1 BALANCE starts
+#end 13 p1 FIXED end
+#end 8 p2 BALANCE end
+#queued 4 p1 BALANCE mact_tsk(2,1) E_OK
+#end 9 p2 JOB end
+END
+marks migration
+cat > wanted <<'END'
+#int 3 int 3
+#end 7 p1 #3 end
+#int 11 int 3
+#end 13 p1 #3 end
+#act 0 p1 MAIN starts
+#end 14 p1 MAIN end
+#act 0 p1 MAIN starts
+#rel 6 p1 #3 iwup_tsk(2) E_OK
+#rel 12 p1 #3 iwup_tsk(2) E_OK
+#act 0 p1 MAIN starts
+END
+marks interrupt
+same 'timeline: the picture of the README' "$root/docs/timeline.svg" interrupt.svg
+
+# Who holds a lock, and who spins for it: up to the call that gets it.
+drawn pipeline
+cat > wanted <<'END'
+p1: spin lock LOCK held, events 2 to 5
+p1: spin lock LOCK held, events 7 to 10
+p2: spin lock LOCK held, events 11 to 15
+p2: spin lock LOCK held, events 19 to 22
+p2: spins for LOCK, events 7 to 11
+END
+gives 'timeline: locks of pipeline' sed -n 's/.*<title>\(p[12]: .*\(held\|spins for\).*\)$/\1/p' pipeline.svg
+
+# Each example's picture is XML.
+for text in "$root"/examples/*.steps; do
+    system=$(basename "$text" .steps)
+    drawn "$system" --objects
+    holds "timeline: $system" 'no picture, or no XML' "$pictures" lanes "$system.svg" > output
+done
+
+# A long run of many tasks: within 64 MB of memory and 40 MB of picture.
+awk 'BEGIN {
+    print "NUM_PRC(8);"
+    for (p = 1; p <= 8; p++) {
+        print "CLASS(TCL_" p ") {"
+        for (i = p; i <= 255; i += 8)
+            printf "CRE_TSK(TASK_%d, { TA_ACT, %d, work, %d, 256, NULL });\n", i, i, i % 16 + 1
+        printf "CRE_SEM(SEM_%d, { TA_TFIFO, 1, 4 });\n", p
+        printf "DEF_INH(%d, { TA_NULL, knock });\n", p
+        printf "CRE_CYC(CYC_%d, { TA_STA, %d, beat, %d, 0 });\n", p, p, 20 + p
+        print "}"
+    } }' > many.cfg
+cat > many.src <<'END'
+task work {
+    while (1) {
+        sig_sem(exinf % 8 + 1);
+        dly_tsk(exinf % 5);
+        twai_sem(exinf * 3 % 8 + 1, exinf % 7);
+        act_tsk(exinf % 255 + 1);
+        mig_tsk(0, exinf * 5 % 8 + 1);
+        wup_tsk((exinf + 1) % 255 + 1);
+        tslp_tsk(exinf % 3);
+    }
+}
+handler knock { iwup_tsk(7); isig_sem(1); }
+handler beat { isig_sem(exinf); }
+END
+built many
+"$subject" drive many.img --events 10000 --seed 1 > many.steps 2> errors
+# shellcheck disable=SC3045 # the shells that are a /bin/sh have it
+scant() { (ulimit -v 65536 && "$subject" "$@"); }
+holds 'timeline: 255 tasks, 10,000 events' 'it fails' scant timeline many.img many.steps many.svg --objects
+size=$(wc -c < many.svg)
+is_fair() { [ "$size" -gt 1000000 ] && [ "$size" -le 40000000 ]; }
+holds 'timeline: the size of its picture' "$size bytes" is_fair
+"$pictures" lanes many.svg > output
+lanes=$(grep -c '^Processor ' output)
+holds 'timeline: a lane for each of its processors' "$lanes lanes" [ "$lanes" -eq 144 ]
+rm many.*
+
+# Faults, as `fmp` has them.
+printf 'FMP' > short.img
+echo 'image: L1' > said
+shows 'stats: a short image' 1 stats short.img queue.steps
+printf 'run 1\nrun one\n' > wrong.steps
+echo 'steps:2: S1' > said
+shows 'waves: a wrong step' 1 waves queue.img wrong.steps none.vcd
+absent 'waves: no file after a fault' none.vcd
+echo 'file: none.img' > said
+shows 'drive: no image' 3 drive none.img
+for code in B9 E_PA; do refused "code: $code" 'no code is printed so' code $code; done
+is_read='the file OUT is one of the two that are read'
+cp queue.img same.img
+cp queue.steps same.steps
+refused 'waves: over the image' "$is_read" waves same.img queue.steps same.img
+refused 'timeline: over the image' "$is_read" timeline same.img queue.steps ./same.img
+refused 'timeline: over the steps' "$is_read" timeline queue.img same.steps ./same.steps
+echo 'file: none/queue.svg' > said
+shows 'timeline: in no folder' 3 timeline queue.img queue.steps none/queue.svg
+echo 'file: none.img' > said
+shows 'timeline: no image' 3 timeline none.img queue.steps none.svg
+echo 'file: none.steps' > said
+shows 'timeline: no steps' 3 timeline queue.img none.steps none.svg
+echo 'image: L1' > said
+shows 'timeline: a short image' 1 timeline short.img queue.steps none.svg
+no_picture() { # no_picture NAME MESSAGE WORD..: a picture with these words is refused
+    name=$1 message=$2
+    shift 2
+    refused "timeline: $name" "$message" timeline queue.img queue.steps none.svg "$@"
+}
+no_picture 'from beyond the run' 'the run has no event so late: its last is 6' --from 7
+no_picture 'from later than to' '--from is later than --to' --from 4 --to 3
+no_picture 'to beyond 2^20' '1048577' --to 1048577
+no_picture 'from beyond 2^20' '1048577' --from 1048577
+no_picture 'one file more' 'more.svg' more.svg
+no_picture 'from that is no number' 'first' --from first
+echo 'steps:2: S1' > said
+shows 'timeline: a wrong step' 1 timeline queue.img wrong.steps none.svg
+absent 'timeline: no file after a fault' none.svg
+
+# Each step of a drive does something: a run of them has as many events.
+for seed in 1 2 3 4 5 6 7 8; do
+    for system in queue watchdog interrupt; do
+        "$subject" drive "$system.img" --events 60 --seed $seed > driven 2> errors
+        "$fmp" sim "$system.img" driven > trace
+        steps=$(wc -l < driven)
+        events=$(grep '^[0-9]' trace | tail -1 | cut -d ' ' -f 1)
+        holds "drive: $system by $seed" "$steps steps, $events events" [ "$steps" -eq "$events" ]
+    done
+done
+
+finish

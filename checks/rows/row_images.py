@@ -1,0 +1,145 @@
+"""Rows of images and steps: images byte for byte, what loading changed ones answers, and the faults of steps."""
+
+from images.image_samples import ONE_TASK, ONE_TASK_CONFIGURATION, ONE_TASK_SOURCE
+from rows.row_runs import AND, SETUP, alone, apart, runs, task
+
+NOTHING = bytes.fromhex("464d50490100010000000000000000000000")
+
+# A row in each table.
+EACH_TABLE = """NUM_PRC(2); CLASS(TCL_2_ONLY) { CRE_TSK(T,{0,-1,t,16,65536,NULL}); }
+    CLASS(TCL_1) { CRE_SEM(S,{TA_TPRI,2,3}); CRE_FLG(F,{TA_TPRI|TA_CLR,7}); CRE_DTQ(D,{0,255,NULL});
+        CRE_MBX(M,{TA_TPRI|TA_MPRI,16,NULL}); CRE_MSG(G,{1}); CRE_SHR(W,{-2147483647}); CRE_SPN(L,{0});
+        CRE_CYC(_9,{TA_STA,5,h,513,0x40000000}); DEF_INH(3,{0,h}); }
+    CLASS(TCL_2) { DEF_INH(32,{0,h}); }"""
+EACH_TABLE_IMAGE = bytes.fromhex(
+    "464d50490100020200010001000900000000000101000100090000000000"
+    "01015400ffffffff00100000010002010101530102000300010146050700"
+    "01014400ff01014d0310010147010101570100008001014c01025f39020500000001010200000000004001"
+    "02030101200102"
+)
+
+# Two texts and their image.
+IMAGES = (
+    (ONE_TASK_CONFIGURATION, ONE_TASK_SOURCE, ONE_TASK),
+    ("NUM_PRC(1);", "", NOTHING),
+    (
+        alone(task("M", "m")),
+        AND,
+        bytes.fromhex(
+            "464d5049010001010002020c0001000000000007070000000101010000000001000000000105030000000204030000"
+            "00010608000000010100000000000301000000010201000000000801ffff000109000000000001014d020000000000"
+            "0a000100000100000000000000000000"
+        ),
+    ),
+    (EACH_TABLE, "task t { } handler h { }", EACH_TABLE_IMAGE),
+)
+
+# Bytes of the image of one task and their new values, and the fault.
+CHANGES = """
+0=0 => L2
+4=2 => L3
+4=9 => L3
+6=0 => L4
+6=9 => L4
+8=1 => L4
+9=0 => L4
+10=2 => L4
+11=0 => L5
+12=255 => L1
+11=255 12=255 => L1
+13=200 => L5
+20=200 => L5
+24=0 => L5
+25=1 => L5
+33=48 => L4
+40=1 => L4
+41=17 => L4
+42=3 43=0 => L4
+46=2 => L4
+47=2 => L4
+48=1 => L4
+56=1 => L1
+"""
+
+# Changes that load: an operand, the least stack that holds it, and a task of one processor alone; and the word that
+# its first event puts.
+LOADS = (("14=8", 8), ("42=4 43=0", 7), ("47=1", 7))
+
+# A loop beside another task. The argument of its jump back stands at 26, and 9 leads out of its body.
+LOOP = apart(task("A", "a"), task("B", "b")), "task a { while (1) { } } task b { put(1); put(2); }"
+JUMP, OUT_OF_BODY = (25, 6, 0), "26=9"
+LOOP_SETUP = "0 p1 A starts / 0 p2 B starts / 0 p1 > A / 0 p2 > B / A RUNNING p1 10 / B RUNNING p2 10 / "
+
+# The second line of steps for two processors, and the fault, if any. `~` stands for a space.
+STEPS = """
+run 1 => ok
+run 2 => ok
+tick => ok
+int 32 => ok
+run 01 => S1
+run~~1 => S1
+tick~ => S1
+ => S1
+tick\r => S1
+run -1 => S1
+tick 1 => S1
+run => S1
+run 1~ => S1
+Run 1 => S1
+run 1x => S1
+run 3 => S2
+run 0 => S2
+int 33 => S2
+int 0 => S2
+int 99999999999999999999 => S2
+run 256 => S2
+"""
+
+
+def changed(image, changes):
+    """An image with other bytes, `PLACE=VALUE` each."""
+    image = bytearray(image)
+    for part in changes.split():
+        place, value = map(int, part.split("="))
+        image[place] = value
+    return bytes(image)
+
+
+def table(rows):
+    """What stands before and behind the arrow of each row."""
+    for line in rows.strip("\n").split("\n"):
+        text, _, answer = line.partition(" => ")
+        yield text, answer
+
+
+def sized():
+    """Each pair of texts, the bytes of their image, and what a build prints."""
+    for configuration, source, image in IMAGES:
+        yield configuration, source, image, f"ok {len(image)}\n"
+
+
+def refused_images():
+    """Each image that is not loaded, with its fault: cut, too long, changed, and of two rows of one key."""
+    for length in range(len(ONE_TASK)):
+        yield ONE_TASK[:length], "L1"
+    yield ONE_TASK + b"\0", "L6"
+    for changes, fault in table(CHANGES):
+        yield changed(ONE_TASK, changes), fault
+    yield changed(EACH_TABLE_IMAGE, "107=3"), "L4"
+
+
+def loaded_images():
+    """Each image that is loaded, steps, and what is printed."""
+    for changes, word in LOADS:
+        trace = f"{SETUP}1 p1 T1 put({word}) E_OK / T1 RUNNING p1 10 / "
+        yield changed(ONE_TASK, changes), runs(1), trace
+
+
+def faulty_steps():
+    """Steps for two processors, and their fault, if any."""
+    for line, answer in table(STEPS):
+        line = line.replace("~", " ")
+        if answer == "ok":
+            yield f"tick\n{line}", None
+        else:
+            yield f"tick\n{line}\nrun 9\n", f"steps:2: {answer}"

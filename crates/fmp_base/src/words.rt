@@ -1,0 +1,295 @@
+//! The words of both texts: constants, static APIs, service calls and keywords.
+ghost use Rattle.std.specs.Prelude.{◌≡◌, find};
+ghost use Rattle.std.specs.Str.{bytes_eq};
+ghost use Rattle.fmp_base.specs.Services.{service_name};
+ghost use Rattle.fmp_base.specs.Words.{constant_name, constant_value, api_name, keyword_name, constant_named, api_named, service_named, keyword_named};
+
+use crate::codes::Er;
+use crate::initials::{apis_from, constants_from, keywords_from, services_from};
+use crate::services::Service;
+
+/// A constant of the uITRON 4.0 specification that may stand in both texts.
+#[derive(Clone, Copy, PartialEq, Eq)]
+pub enum Constant {
+    /// A main error code.
+    Code(Er),
+    TaNull,
+    TaHlng,
+    TaTfifo,
+    TaTpri,
+    TaMfifo,
+    TaMpri,
+    TaAct,
+    TaWsgl,
+    TaWmul,
+    TaClr,
+    TaSta,
+    TwfAndw,
+    TwfOrw,
+    TmoPol,
+    TmoFevr,
+    TskSelf,
+    TpriIni,
+    TpriSelf,
+}
+
+/// A static API of the configuration.
+#[derive(Clone, Copy, PartialEq, Eq)]
+pub enum Api {
+    CreTsk,
+    CreSem,
+    CreFlg,
+    CreDtq,
+    CreMbx,
+    CreMsg,
+    CreShr,
+    CreSpn,
+    CreCyc,
+    DefInh,
+}
+
+/// A word of the grammars that names no constant, no API and no call.
+#[derive(Clone, Copy, PartialEq, Eq)]
+pub enum Keyword {
+    NumPrc,
+    Class,
+    Null,
+    Task,
+    Handler,
+    Var,
+    If,
+    Else,
+    While,
+    Break,
+    Continue,
+    Return,
+}
+
+/// All constants.
+pub const CONSTANTS: [Constant; 30] = [
+    Constant::Code(Er::Ok),
+    Constant::Code(Er::Sys),
+    Constant::Code(Er::Nospt),
+    Constant::Code(Er::Rsatr),
+    Constant::Code(Er::Par),
+    Constant::Code(Er::Id),
+    Constant::Code(Er::Ctx),
+    Constant::Code(Er::Iluse),
+    Constant::Code(Er::Obj),
+    Constant::Code(Er::Qovr),
+    Constant::Code(Er::Rlwai),
+    Constant::Code(Er::Tmout),
+    Constant::TaNull,
+    Constant::TaHlng,
+    Constant::TaTfifo,
+    Constant::TaTpri,
+    Constant::TaMfifo,
+    Constant::TaMpri,
+    Constant::TaAct,
+    Constant::TaWsgl,
+    Constant::TaWmul,
+    Constant::TaClr,
+    Constant::TaSta,
+    Constant::TwfAndw,
+    Constant::TwfOrw,
+    Constant::TmoPol,
+    Constant::TmoFevr,
+    Constant::TskSelf,
+    Constant::TpriIni,
+    Constant::TpriSelf,
+];
+
+/// All static APIs.
+pub const APIS: [Api; 10] = [
+    Api::CreTsk,
+    Api::CreSem,
+    Api::CreFlg,
+    Api::CreDtq,
+    Api::CreMbx,
+    Api::CreMsg,
+    Api::CreShr,
+    Api::CreSpn,
+    Api::CreCyc,
+    Api::DefInh,
+];
+
+/// All keywords of both texts.
+pub const KEYWORDS: [Keyword; 12] = [
+    Keyword::NumPrc,
+    Keyword::Class,
+    Keyword::Null,
+    Keyword::Task,
+    Keyword::Handler,
+    Keyword::Var,
+    Keyword::If,
+    Keyword::Else,
+    Keyword::While,
+    Keyword::Break,
+    Keyword::Continue,
+    Keyword::Return,
+];
+
+impl Constant {
+    /// The number that the constant stands for.
+    pub fn value(self) -> i32
+        ensures { result ≡ constant_value self }
+    {
+        match self {
+            Constant::Code(code) => code.code(),
+            Constant::TaNull => 0,
+            Constant::TaHlng => 0,
+            Constant::TaTfifo => 0,
+            Constant::TaTpri => 1,
+            Constant::TaMfifo => 0,
+            Constant::TaMpri => 2,
+            Constant::TaAct => 2,
+            Constant::TaWsgl => 0,
+            Constant::TaWmul => 2,
+            Constant::TaClr => 4,
+            Constant::TaSta => 2,
+            Constant::TwfAndw => 0,
+            Constant::TwfOrw => 1,
+            Constant::TmoPol => 0,
+            Constant::TmoFevr => -1,
+            Constant::TskSelf => 0,
+            Constant::TpriIni => 0,
+            Constant::TpriSelf => 0,
+        }
+    }
+
+    /// The constant as the texts write it.
+    pub fn name(self) -> &'static str
+        ensures { result.now ≡ constant_name self }
+    {
+        match self {
+            Constant::Code(code) => code.name(),
+            Constant::TaNull => "TA_NULL",
+            Constant::TaHlng => "TA_HLNG",
+            Constant::TaTfifo => "TA_TFIFO",
+            Constant::TaTpri => "TA_TPRI",
+            Constant::TaMfifo => "TA_MFIFO",
+            Constant::TaMpri => "TA_MPRI",
+            Constant::TaAct => "TA_ACT",
+            Constant::TaWsgl => "TA_WSGL",
+            Constant::TaWmul => "TA_WMUL",
+            Constant::TaClr => "TA_CLR",
+            Constant::TaSta => "TA_STA",
+            Constant::TwfAndw => "TWF_ANDW",
+            Constant::TwfOrw => "TWF_ORW",
+            Constant::TmoPol => "TMO_POL",
+            Constant::TmoFevr => "TMO_FEVR",
+            Constant::TskSelf => "TSK_SELF",
+            Constant::TpriIni => "TPRI_INI",
+            Constant::TpriSelf => "TPRI_SELF",
+        }
+    }
+}
+
+impl Api {
+    /// The API as the configuration writes it.
+    pub fn name(self) -> &'static str
+        ensures { result.now ≡ api_name self }
+    {
+        match self {
+            Api::CreTsk => "CRE_TSK",
+            Api::CreSem => "CRE_SEM",
+            Api::CreFlg => "CRE_FLG",
+            Api::CreDtq => "CRE_DTQ",
+            Api::CreMbx => "CRE_MBX",
+            Api::CreMsg => "CRE_MSG",
+            Api::CreShr => "CRE_SHR",
+            Api::CreSpn => "CRE_SPN",
+            Api::CreCyc => "CRE_CYC",
+            Api::DefInh => "DEF_INH",
+        }
+    }
+}
+
+impl Keyword {
+    /// The keyword as the texts write it.
+    pub fn name(self) -> &'static str
+        ensures { result.now ≡ keyword_name self }
+    {
+        match self {
+            Keyword::NumPrc => "NUM_PRC",
+            Keyword::Class => "CLASS",
+            Keyword::Null => "NULL",
+            Keyword::Task => "task",
+            Keyword::Handler => "handler",
+            Keyword::Var => "var",
+            Keyword::If => "if",
+            Keyword::Else => "else",
+            Keyword::While => "while",
+            Keyword::Break => "break",
+            Keyword::Continue => "continue",
+            Keyword::Return => "return",
+        }
+    }
+}
+
+/// The constant of this name, among these.
+fn constant_among(constants: &[Constant], word: &[u8]) -> Option<Constant>
+    ensures { result ≡ find (λ constant. bytes_eq (constant_name constant) word.now) constants.now }
+{
+    constants
+        .iter()
+        .copied()
+        .find(|constant| constant.name().as_bytes() == word)
+}
+
+/// The constant of this name.
+pub fn find_constant(word: &[u8]) -> Option<Constant>
+    ensures { result ≡ constant_named word.now }
+{
+    constant_among(constants_from(*word.first()?), word)
+}
+
+/// The API of this name, among these.
+fn api_among(apis: &[Api], word: &[u8]) -> Option<Api>
+    ensures { result ≡ find (λ api. bytes_eq (api_name api) word.now) apis.now }
+{
+    apis.iter()
+        .copied()
+        .find(|api| api.name().as_bytes() == word)
+}
+
+/// The API of this name.
+pub fn find_api(word: &[u8]) -> Option<Api>
+    ensures { result ≡ api_named word.now }
+{
+    api_among(apis_from(*word.first()?), word)
+}
+
+/// The service call of this name, among these.
+fn service_among(services: &[Service], word: &[u8]) -> Option<Service>
+    ensures { result ≡ find (λ service. bytes_eq (service_name service) word.now) services.now }
+{
+    services
+        .iter()
+        .copied()
+        .find(|service| service.name().as_bytes() == word)
+}
+
+/// The service call of this name.
+pub fn find_service(word: &[u8]) -> Option<Service>
+    ensures { result ≡ service_named word.now }
+{
+    service_among(services_from(*word.first()?), word)
+}
+
+/// The keyword of this name, among these.
+fn keyword_among(keywords: &[Keyword], word: &[u8]) -> Option<Keyword>
+    ensures { result ≡ find (λ keyword. bytes_eq (keyword_name keyword) word.now) keywords.now }
+{
+    keywords
+        .iter()
+        .copied()
+        .find(|keyword| keyword.name().as_bytes() == word)
+}
+
+/// The keyword of this name.
+pub fn find_keyword(word: &[u8]) -> Option<Keyword>
+    ensures { result ≡ keyword_named word.now }
+{
+    keyword_among(keywords_from(*word.first()?), word)
+}
