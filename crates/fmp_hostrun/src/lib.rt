@@ -5,8 +5,6 @@ mod feed;
 mod running;
 mod turns;
 
-pub use fmp_board::{
-    Blank, Board, BoardFault, Book, Closed, Outcome, Receipt, Seat, Site, Ticket,
-};
+pub use fmp_board::{Blank, Board, BoardFault, Book, Closed, Outcome, Receipt, Seat, Site, Ticket};
 pub use running::run_all;
 pub use turns::Gate;

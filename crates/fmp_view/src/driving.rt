@@ -5,11 +5,11 @@ ghost use Rattle.fmp_replay.specs.Replays.{kernel_after};
 ghost use Rattle.fmp_view.specs.Drives.{DrivesImage};
 
 use fmp_base::System;
-use fmp_replay::kernel_of;
 use fmp_code::Vm;
 use fmp_drive::{Driven, NextRun, Plan, drive, next_runs};
 use fmp_image_bytes::Image;
 use fmp_kernel::{Body, Kernel};
+use fmp_replay::kernel_of;
 use std::alloc::{AllocError, Global};
 
 /// How many tasks a kernel has.

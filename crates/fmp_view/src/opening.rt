@@ -2,11 +2,11 @@
 ghost use Rattle.std.specs.Prelude.{◌≡◌, ◌≤◌, ◌^◌, IfOk, length};
 
 use fmp_base::Event;
-use fmp_replay::kernel_of;
 use fmp_code::Vm;
 use fmp_engine::SimFault;
 use fmp_image_bytes::{Image, LoadFault, load};
 use fmp_kernel::Kernel;
+use fmp_replay::kernel_of;
 use fmp_trace::{StepsFault, read_steps};
 use std::alloc::{AllocError, Global};
 
