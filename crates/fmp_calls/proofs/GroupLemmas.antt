@@ -1,6 +1,8 @@
 -- What a handler may call.
-use Rattle.std.proofs.Common.{◌≡◌, false}
+use Rattle.std.proofs.Common.{◌≡◌, Bool, true, false, refl, sym, ◌∙◌}
 use Rattle.fmp_base.specs.declared.calls.Call.{Call}
+use Rattle.fmp_base.specs.declared.permissions.Permission.{Permission}
+use Rattle.fmp_base.specs.declared.permissions.Permission.TheVariants.{Anywhere, LockedTasks, Tasks, TasksOnOthers, WaitingTasks, Handlers}
 use Rattle.fmp_base.specs.declared.services.Service.{Service}
 use Rattle.fmp_base.specs.declared.services.Service.TheVariants as service
 use Rattle.fmp_base.specs.declared.states.Caller.TheVariants as caller
@@ -8,69 +10,47 @@ use Rattle.fmp_base.specs.declared.states.Handler.{Handler}
 use Rattle.fmp_base.specs.declared.states.Processor.{Processor}
 use Rattle.fmp_base.specs.Permissions.{permission, is_barred}
 use Rattle.fmp_base.specs.Services.{service_of}
+use Rattle.fmp_calls.specs.declared.groups.ServiceGroup.{ServiceGroup}
+use Rattle.fmp_calls.specs.declared.groups.ServiceGroup.TheVariants as group
 use Rattle.fmp_calls.specs.Groups.{IsForHandlers, group_of}
 
-by_service : (s : Service) (cpu : Processor) (h : Handler) (c : Call)
-    → is_barred (permission s) cpu (caller.Handler h) c ≡ false → IsForHandlers (group_of s)
-by_service service.Put cpu h c e = tt
-by_service service.LdShr cpu h c e = tt
-by_service service.StShr cpu h c e = tt
-by_service service.ActTsk cpu h c e = absurd (cc e)
-by_service service.CanAct cpu h c e = absurd (cc e)
-by_service service.ExtTsk cpu h c e = absurd (cc e)
-by_service service.TerTsk cpu h c e = absurd (cc e)
-by_service service.ChgPri cpu h c e = absurd (cc e)
-by_service service.GetPri cpu h c e = absurd (cc e)
-by_service service.MactTsk cpu h c e = absurd (cc e)
-by_service service.MigTsk cpu h c e = absurd (cc e)
-by_service service.RotRdq cpu h c e = absurd (cc e)
-by_service service.GetTid cpu h c e = absurd (cc e)
-by_service service.SlpTsk cpu h c e = absurd (cc e)
-by_service service.TslpTsk cpu h c e = absurd (cc e)
-by_service service.WupTsk cpu h c e = absurd (cc e)
-by_service service.CanWup cpu h c e = absurd (cc e)
-by_service service.RelWai cpu h c e = absurd (cc e)
-by_service service.SusTsk cpu h c e = absurd (cc e)
-by_service service.RsmTsk cpu h c e = absurd (cc e)
-by_service service.DlyTsk cpu h c e = absurd (cc e)
-by_service service.SigSem cpu h c e = absurd (cc e)
-by_service service.WaiSem cpu h c e = absurd (cc e)
-by_service service.PolSem cpu h c e = absurd (cc e)
-by_service service.TwaiSem cpu h c e = absurd (cc e)
-by_service service.SetFlg cpu h c e = absurd (cc e)
-by_service service.ClrFlg cpu h c e = absurd (cc e)
-by_service service.WaiFlg cpu h c e = absurd (cc e)
-by_service service.PolFlg cpu h c e = absurd (cc e)
-by_service service.TwaiFlg cpu h c e = absurd (cc e)
-by_service service.SndDtq cpu h c e = absurd (cc e)
-by_service service.PsndDtq cpu h c e = absurd (cc e)
-by_service service.TsndDtq cpu h c e = absurd (cc e)
-by_service service.FsndDtq cpu h c e = absurd (cc e)
-by_service service.RcvDtq cpu h c e = absurd (cc e)
-by_service service.PrcvDtq cpu h c e = absurd (cc e)
-by_service service.TrcvDtq cpu h c e = absurd (cc e)
-by_service service.SndMbx cpu h c e = absurd (cc e)
-by_service service.RcvMbx cpu h c e = absurd (cc e)
-by_service service.PrcvMbx cpu h c e = absurd (cc e)
-by_service service.TrcvMbx cpu h c e = absurd (cc e)
-by_service service.StaCyc cpu h c e = absurd (cc e)
-by_service service.StpCyc cpu h c e = absurd (cc e)
-by_service service.LocCpu cpu h c e = absurd (cc e)
-by_service service.UnlCpu cpu h c e = absurd (cc e)
-by_service service.DisDsp cpu h c e = absurd (cc e)
-by_service service.EnaDsp cpu h c e = absurd (cc e)
-by_service service.LocSpn cpu h c e = absurd (cc e)
-by_service service.TrySpn cpu h c e = absurd (cc e)
-by_service service.UnlSpn cpu h c e = absurd (cc e)
-by_service service.IactTsk cpu h c e = tt
-by_service service.IwupTsk cpu h c e = tt
-by_service service.IrelWai cpu h c e = tt
-by_service service.IsigSem cpu h c e = tt
-by_service service.IsetFlg cpu h c e = tt
-by_service service.IpsndDtq cpu h c e = tt
-by_service service.IfsndDtq cpu h c e = tt
-by_service service.IrotRdq cpu h c e = tt
+-- whether handlers may make calls with this permission
+abbrev allows_handlers : Permission → Bool
+allows_handlers Anywhere = true
+allows_handlers Handlers = true
+allows_handlers _ = false
+
+-- whether a group is one from which a handler may call
+abbrev is_for_handlers : ServiceGroup → Bool
+is_for_handlers group.Own = true
+is_for_handlers group.Handlers = true
+is_for_handlers _ = false
+
+-- handlers may make just the calls of those groups
+groups_by_permission : (s : Service) → allows_handlers (permission s) ≡ is_for_handlers (group_of s)
+groups_by_permission service.Put = refl
+groups_by_permission _ = refl
+
+allowed : (p : Permission) (cpu : Processor) (h : Handler) (c : Call)
+    → is_barred p cpu (caller.Handler h) c ≡ false → allows_handlers p ≡ true
+allowed Anywhere cpu h c e = refl
+allowed LockedTasks cpu h c e = absurd (cc e)
+allowed Tasks cpu h c e = absurd (cc e)
+allowed TasksOnOthers cpu h c e = absurd (cc e)
+allowed WaitingTasks cpu h c e = absurd (cc e)
+allowed Handlers cpu h c e = refl
+
+of_handlers : (g : ServiceGroup) → is_for_handlers g ≡ true → IsForHandlers g
+of_handlers group.Own e = tt
+of_handlers group.Handlers e = tt
+of_handlers group.Management e = absurd (cc e)
+of_handlers group.Synchronization e = absurd (cc e)
+of_handlers group.Objects e = absurd (cc e)
+of_handlers group.Queues e = absurd (cc e)
+of_handlers group.Processors e = absurd (cc e)
 
 pub handlers_call : (cpu : Processor) (h : Handler) (c : Call)
     → is_barred (permission (service_of c)) cpu (caller.Handler h) c ≡ false → IsForHandlers (group_of (service_of c))
-handlers_call cpu h c e = by_service (service_of c) cpu h c e
+handlers_call cpu h c e =
+    let s = service_of c in
+    of_handlers (group_of s) (sym (groups_by_permission s) ∙ allowed (permission s) cpu h c e)
