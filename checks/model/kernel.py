@@ -2,7 +2,7 @@
 
 from collections import Counter
 
-from model.bodies import Call, Stop, stretch
+from model.bodies import Stop, stretch
 from model.services import ENDS, WAITS, LockIsHeld, Refused, Services
 from model.world import FREE, Code, Handler, Reply, State, World
 
