@@ -1,41 +1,15 @@
 //! The arguments of the service calls.
-ghost use Rattle.std.specs.Prelude.{◌≡◌};
-ghost use Rattle.fmp_base.specs.Services as spec;
-
-use fmp_base::Service;
+use fmp_base::{Parameter, Service};
 use fmp_lex::{Symbol, TokenKind, Tokens};
-
-/// Among the places of a call's arguments the one at which `&` and a variable stand, from 0.
-pub fn out_place(service: Service) -> Option<u8>
-    ensures { result ≡ spec.out_place service }
-{
-    match service {
-        Service::GetTid => Some(0),
-        Service::LdShr
-        | Service::GetPri
-        | Service::RcvDtq
-        | Service::PrcvDtq
-        | Service::TrcvDtq
-        | Service::RcvMbx
-        | Service::PrcvMbx
-        | Service::TrcvMbx => Some(1),
-        Service::WaiFlg | Service::PolFlg | Service::TwaiFlg => Some(3),
-        _ => None,
-    }
-}
 
 /// Whether `&` and a variable stand at a place of a call's arguments, from 0.
 pub fn is_out_place(service: Service, place: usize) -> bool {
-    match out_place(service) {
-        Some(out) => usize::from(out) == place,
-        None => false,
-    }
+    matches!(service.parameters().get(place), Some(Parameter::Out))
 }
 
 /// How many arguments a call has, the out place among them.
 pub fn argument_count(service: Service) -> usize {
-    let out = if out_place(service).is_some() { 1 } else { 0 };
-    usize::from(service.arity()).saturating_add(out)
+    service.parameters().len()
 }
 
 /// How far tokens behind a place are nested in parentheses, and how many commas stand at the first level.

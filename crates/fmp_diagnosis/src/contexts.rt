@@ -21,10 +21,10 @@ impl BodyKind {
 
     /// Whether a call is E_CTX in each body of this kind, whatever happens.
     pub fn bars(self, service: Service) -> bool {
-        match (self, service.permission()) {
-            (_, Permission::Anywhere) => false,
-            (BodyKind::Task, permission) => permission == Permission::Handlers,
-            (BodyKind::Handler, permission) => permission != Permission::Handlers,
+        let permission = service.permission();
+        match self {
+            BodyKind::Task => matches!(permission, Permission::Handlers),
+            BodyKind::Handler => !matches!(permission, Permission::Anywhere | Permission::Handlers),
         }
     }
 

@@ -6,8 +6,8 @@ use crate::apis::object_name;
 use crate::around::{begins_body_at, last_body, name_at};
 use crate::nearness::{nearest, other_case};
 use crate::words::{Word, say};
-use fmp_base::{Name, Service};
-use fmp_lex::words::{APIS, CONSTANTS, KEYWORDS, SERVICES};
+use fmp_base::{Name, SERVICES, Service};
+use fmp_lex::words::{APIS, CONSTANTS, KEYWORDS};
 use fmp_lex::{Keyword, TextFile, TokenKind, Tokens};
 use std::alloc::{AllocError, Global};
 

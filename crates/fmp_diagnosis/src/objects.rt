@@ -18,7 +18,7 @@ pub struct Object {
     pub at: usize,
     /// Whether its name stands in the task text.
     pub is_named: bool,
-    /// Whether a call signals or sets it.
+    /// Whether a call signals or sets it, or sends to it.
     pub is_raised: bool,
 }
 
