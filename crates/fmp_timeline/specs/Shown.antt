@@ -1,5 +1,5 @@
 -- What the lanes show after an event.
-use Rattle.std.specs.Prelude.{ℕ, List, Option, None, Some, Bool, true, false, ◌&&◌, if◌then◌else◌, nat_eq, get_or, slice_get, length, map}
+use Rattle.std.specs.Prelude.{ℕ, ◌≡◌, List, Option, None, Some, Bool, false, ◌&&◌, if◌then◌else◌, nat_eq, get_or, slice_get, length, map}
 use Rattle.std.specs.List.{range_with_len}
 use Rattle.fmp_base.specs.declared.events.StateWord.TheVariants as word
 use Rattle.fmp_base.specs.declared.events.TaskState.{TaskState}
@@ -64,3 +64,7 @@ no_block =
 abbrev pub tasks_shown : List TaskState → List TaskBlock → List Processor → List TaskShown
 tasks_shown states blocks xs =
     map (λ t. task_shown t (get_or states t no_state) (get_or blocks t no_block) xs) (range_with_len 0 (length states))
+
+-- a processor runs this handler
+abbrev pub IsRunning : Handler → Processor → Type 0
+IsRunning handler x = x.handler ≡ Some handler

@@ -1,5 +1,6 @@
 //! What the lanes show after an event.
-ghost use Rattle.std.specs.Prelude.{◌≡◌, IfOk, get_or, slice_get};
+ghost use Rattle.std.specs.Prelude.{◌≡◌, ◌↔◌, IfOk, get_or, slice_get, true};
+ghost use Rattle.std.specs.List.{Any};
 ghost use Rattle.fmp_timeline.specs.Shown as spec;
 
 use fmp_base::{
@@ -219,12 +220,25 @@ pub fn occupant_of(processor: &Processor) -> Occupant
     }
 }
 
+/// Whether a handler runs on one of these processors.
+fn is_running(handler: Handler, processors: &[Processor]) -> bool
+    ensures { result ≡ true ↔ Any (spec.IsRunning handler) processors.now }
+{
+    for processor in processors {
+        if processor.handler == Some(handler) {
+            return true;
+        }
+    }
+    false
+}
+
 /// How far a handler is.
 pub fn handling_of(handler: Handler, pends: bool, processors: &[Processor]) -> Handling
-    ensures { result.pends ≡ pends }
+    ensures runs { result.runs ≡ true ↔ Any (spec.IsRunning handler) processors.now }
+    ensures pends { result.pends ≡ pends }
 {
     Handling {
-        runs: processors.iter().any(|x| x.handler == Some(handler)),
+        runs: is_running(handler, processors),
         pends,
     }
 }
