@@ -107,15 +107,13 @@ fn advance<'a, S: Site>(
 
 impl<'a, 'b, S: Site> Follower<'a, 'b, S> {
     ghost use Rattle.std.specs.Prelude.{◌≡◌, ◌++◌, [], IfOk, OnOk, OnErr};
-    ghost use Rattle.std.specs.Borrow.{sem, RestsIfErr};
     ghost use Rattle.fmp_journal.specs.Seats.{given};
-    ghost use Rattle.fmp_journal.specs.contracts.seat.Seat.{the_row as seat_row};
     ghost use Rattle.fmp_board.specs.Boards.{IsAt};
     ghost use Rattle.fmp_follower.specs.Followers.{Continues, Follows, events_of, followed_text, kernel_over};
 
     /// A follower of a board from a seat of it that was given no event yet. The lines of setup are appended.
     ///
-    /// `AllocError` where memory runs out; then nothing has been appended, and the seat is as before.
+    /// `AllocError` where memory runs out; then nothing has been appended.
     pub fn new(
         alloc: Global,
         board: &'b Board<'a, S>,
@@ -124,7 +122,6 @@ impl<'a, 'b, S: Site> Follower<'a, 'b, S> {
     ) -> Result<Follower<'a, 'b, S>, AllocError>
         requires at { IsAt S.row_id seat.old }
         requires place { seat.old.place ≡ 0 }
-        ensures* untouched { sem 𝓛 (RestsIfErr seat_row seat.entry (λ f. f.seat.ghost_name) result (λ s. s ≡ seat.old)) }
         ensures same_reference { IfOk result (λ f. f.seat.ghost_name ≡ seat.entry.ghost_name) }
         ensures seat { IfOk result (λ f. f.seat.now ≡ seat.old) }
         ensures text { OnOk result (out.new.items ≡ out.old.items ++ followed_text S.image S.bound []) }
