@@ -69,10 +69,10 @@ pub record HostsTexts (i : ImageTables) (bodies : List BodyTree) (work : Workloa
 abbrev pub IsWhyNoBoard : BoardFault → ImageTables → Workload → Type 0
 IsWhyNoBoard board.Limit i work = FitsBoard i work → ⊥
 IsWhyNoBoard board.Memory i work = ⊥
-IsWhyNoBoard board.Stale i work = Unit {0}
+IsWhyNoBoard board.Stale i work = ⊥
 IsWhyNoBoard board.Full i work = Unit {0}
 IsWhyNoBoard board.Thread i work = Unit {0}
-IsWhyNoBoard board.Held i work = Unit {0}
+IsWhyNoBoard board.Held i work = ⊥
 
 -- why there is no journal of an image
 abbrev pub IsWhyNoJournal : HostFault → ImageTables → Workload → Type 0

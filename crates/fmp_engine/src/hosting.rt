@@ -6,7 +6,8 @@ ghost use Rattle.fmp_instructions.specs.Machine.{code_meaning};
 ghost use Rattle.fmp_engine.specs.Hosting.{FitsBoard, Hosts, HostsTexts, IsHosted, IsWhyHost, IsWhyNoJournal, IsWorkload};
 ghost use Rattle.fmp_engine.specs.declared.hosting.HostFault.TheVariants as host_fault;
 ghost use Rattle.fmp_board.specs.Boards.{IsAt, IsClosed, blank as blank_of};
-ghost use Rattle.fmp_board.specs.declared.fault.BoardFault.TheVariants.{Limit};
+ghost use Rattle.fmp_board.specs.declared.fault.BoardFault.TheVariants.{Held, Limit, Stale};
+ghost use Rattle.fmp_hostrun.specs.Works.{IsAnswer};
 ghost use Rattle.fmp_image_bytes.specs.Images.{ImageTables, Spells};
 ghost use Rattle.fmp_steps.specs.Steps.{steps_text};
 
@@ -53,6 +54,8 @@ pub enum HostFault {
 struct OpenGate;
 
 impl Gate for OpenGate {
+    ghost is_open = { Unit {0} };
+
     fn may_submit(&self, _p: u8, _turn: u32) -> bool {
         true
     }
@@ -60,10 +63,10 @@ impl Gate for OpenGate {
     fn answered(&self, _p: u8, _turn: u32) {}
 }
 
-/// The end of a host whose board answered with a fault.
+/// The end of a host whose threads answered with a fault.
 fn fault_of(fault: BoardFault) -> HostFault
-    ensures { (i : ImageTables) (work : Workload)
-        → (fault ≡ Limit → FitsBoard i work → ⊥) → IsWhyNoJournal result i work }
+    requires { (fault ≢ Limit) × (fault ≢ Stale) × (fault ≢ Held) }
+    ensures { (i : ImageTables) (work : Workload) → IsWhyNoJournal result i work }
 {
     match fault {
         BoardFault::Memory => HostFault::Memory,
@@ -83,6 +86,26 @@ fn closed<'a, S: Site>(board: Board<'a, S>, mut seats: Vec<Seat>) -> Closed<'a>
     board.close(&mut seat)
 }
 
+/// Runs the turns and ticks of a workload on a board, by threads that no gate holds.
+fn run_work<S: Site + Send + Sync, R: Threads + Wait + Sync>(
+    rt: &R,
+    alloc: Global,
+    board: &Board<'_, S>,
+    seats: Vec<Seat>,
+    work: Workload,
+) -> (Vec<Seat>, Result<u32, BoardFault>)
+    requires seats { All (IsAt S.row_id) seats.items }
+    requires count { length seats.items ≡ S.image.system.processors + 1 }
+    ensures answer { IsAnswer S.image S.bound S.row_id (Unit {0})
+        (record { processors = S.image.system.processors; turns = work.turns; ticks = work.ticks })
+        seats.items result.0.items result.1 }
+    ensures at { All (IsAt S.row_id) result.0.items }
+    ensures count { IfOk result.1 (λ _. length result.0.items ≡ length seats.items) }
+    ensures fault { IfErr result.1 (λ f. (f ≢ Limit) × (f ≢ Stale) × (f ≢ Held)) }
+{
+    run_all(rt, alloc, board, &OpenGate, seats, work.turns, work.ticks)
+}
+
 /// Opens a board, runs its threads, and closes it.
 fn run_board<'a, S: Site + Send + Sync, R: Threads + Wait + Sync>(
     rt: &R,
@@ -95,10 +118,10 @@ fn run_board<'a, S: Site + Send + Sync, R: Threads + Wait + Sync>(
     requires seats { All (IsAt S.row_id) seats.items }
     requires count { length seats.items ≡ S.image.system.processors + 1 }
     ensures closed { IfOk result (IsClosed S.image S.bound S.row_id.capacity S.row_id.seats) }
-    ensures fault { IfErr result (λ f. f ≢ Limit) }
+    ensures fault { IfErr result (λ f. (f ≢ Limit) × (f ≢ Stale) × (f ≢ Held)) }
 {
     let board: Board<'a, S> = blank.open();
-    let (seats, journaled) = run_all(rt, alloc, &board, &OpenGate, seats, work.turns, work.ticks);
+    let (seats, journaled) = run_work(rt, alloc, &board, seats, work);
     match journaled {
         Ok(_) => Ok(closed(board, seats)),
         Err(fault) => {
@@ -145,7 +168,8 @@ fn journal_of<R: Threads + Wait + Sync>(
     let capacity = u32::from(processors) * work.turns + work.ticks;
     let (blank, seats) = match Blank::new(alloc, image, work.bound, capacity, processors + 1) {
         Ok(made) => made,
-        Err(fault) => return Err(fault_of(fault)),
+        Err(BoardFault::Memory) => return Err(HostFault::Memory),
+        Err(_) => return Err(HostFault::Board(BoardFault::Limit)),
     };
     let closed = match run_board::<Brand, _>(rt, alloc, blank, seats, work) {
         Ok(closed) => closed,
@@ -216,7 +240,9 @@ fn append_hosted<R: Threads + Wait + Sync>(
 /// steps text, and to the output the trace of the journal and the states of the tasks at its end.
 ///
 /// The image is judged first. Then, with P processors, P * turns + ticks has to be 1 to 2^20, else it is
-/// `HostFault::Board(BoardFault::Limit)`. After an error nothing has been appended.
+/// `HostFault::Board(BoardFault::Limit)`. It is `HostFault::Board(BoardFault::Thread)` where a thread was refused, and
+/// never a stale outcome or a processor that was held. The journal has room for one event of each turn and tick. After
+/// an error nothing has been appended.
 pub fn host<R: Threads + Wait + Sync>(
     rt: &R,
     alloc: Global,

@@ -1,4 +1,4 @@
-//! A gate that has two processors go on in turn.
+//! Gates: one that has two processors go on in turn, and one that says no to some.
 use fmp_hostrun::Gate;
 use std::sync::atomic::{AtomicU64, Ordering};
 use std::thread;
@@ -14,6 +14,7 @@ pub struct SecondFirst {
     turns: u32,
     asked: AtomicU64,
     answered: AtomicU64,
+    told: AtomicU64,
     vain: AtomicU64,
 }
 
@@ -24,8 +25,14 @@ impl SecondFirst {
             turns,
             asked: AtomicU64::new(0),
             answered: AtomicU64::new(0),
+            told: AtomicU64::new(0),
             vain: AtomicU64::new(0),
         }
+    }
+
+    /// How many turns the board has answered.
+    pub fn told(&self) -> u64 {
+        self.told.load(Ordering::SeqCst)
     }
 
     /// Waits until something has happened: whether it has.
@@ -45,6 +52,8 @@ impl SecondFirst {
 }
 
 impl Gate for SecondFirst {
+    ghost is_open = { ⊥ };
+
     fn may_submit(&self, p: u8, turn: u32) -> bool {
         match (p, turn) {
             (2, 1) => self.waits_for(&self.asked),
@@ -57,8 +66,54 @@ impl Gate for SecondFirst {
     }
 
     fn answered(&self, p: u8, turn: u32) {
+        self.told.fetch_add(1, Ordering::SeqCst);
         if p == 2 && turn == self.turns {
             self.answered.store(1, Ordering::SeqCst);
         }
+    }
+}
+
+/// A gate that lets at most one processor go on, and counts what it was asked for the others and what it was told.
+#[derive(Drop)]
+pub struct LetsOne {
+    processor: u8,
+    refused: AtomicU64,
+    told: AtomicU64,
+}
+
+impl LetsOne {
+    /// A gate that lets this processor go on, or none where it is 0.
+    pub fn new(processor: u8) -> LetsOne {
+        LetsOne {
+            processor,
+            refused: AtomicU64::new(0),
+            told: AtomicU64::new(0),
+        }
+    }
+
+    /// How often it said no.
+    pub fn refused(&self) -> u64 {
+        self.refused.load(Ordering::SeqCst)
+    }
+
+    /// How many turns the board has answered.
+    pub fn told(&self) -> u64 {
+        self.told.load(Ordering::SeqCst)
+    }
+}
+
+impl Gate for LetsOne {
+    ghost is_open = { ⊥ };
+
+    fn may_submit(&self, p: u8, _turn: u32) -> bool {
+        if p == self.processor {
+            return true;
+        }
+        self.refused.fetch_add(1, Ordering::SeqCst);
+        false
+    }
+
+    fn answered(&self, _p: u8, _turn: u32) {
+        self.told.fetch_add(1, Ordering::SeqCst);
     }
 }

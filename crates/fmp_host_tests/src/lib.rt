@@ -1,9 +1,9 @@
-//! A gate with an order, and the worked rows of boards that threads share.
+//! Gates, and the worked rows of boards that threads share.
 #![tactic(auto)]
 
 mod gate;
 
-pub use gate::SecondFirst;
+pub use gate::{LetsOne, SecondFirst};
 
 #[cfg(test)]
 mod tests;

@@ -7,7 +7,7 @@ use Rattle.std.specs.Prelude.{IfErr, IfOk}
 use Rattle.fmp_image_bytes.specs.Images.{ImageTables}
 use Rattle.fmp_journal.specs.Seats.{RowId, SeatState}
 use Rattle.fmp_board.specs.declared.fault.BoardFault.{BoardFault}
-use Rattle.fmp_board.specs.Boards.{IsAt, IsTurnFault}
+use Rattle.fmp_board.specs.Boards.{IsAt}
 use Rattle.fmp_board.specs.Visits.{Kept}
 use Rattle.fmp_hostrun.specs.declared.turns.Load.{Load}
 use Rattle.fmp_hostrun.specs.Works.{AllAdded, AllButOne, CameBack, CameBackAs, mine_of, part_at}
@@ -49,12 +49,6 @@ pub none_left : {X : Type 0} (rest : List X) → length rest ≡ 0 → rest ≡ 
 none_left [] e = refl
 none_left (x ∷ rest) e = absurd (omega arith)
 
--- why a thread stops is neither that one was refused nor a limit
-pub other_fault : (result : Result ℕ BoardFault) → IfErr result IsTurnFault → (result ≢ Err fault.Thread) × (result ≢ Err fault.Limit)
-other_fault (Ok r) why = ((λ e. absurd (cc)), (λ e. absurd (cc)))
-other_fault (Err f) (inl full) = ((λ e. absurd (cc)), (λ e. absurd (cc)))
-other_fault (Err f) (inr held) = ((λ e. absurd (cc)), (λ e. absurd (cc)))
-
 -- all but the refused one come back
 pub all_but_one : (R : (seats back : List SeatState) → Type 0) (refused : Bool) (seats first started spared rest worked back : List SeatState) → refused ≡ true
     → Started refused first started spared rest → length rest ≡ 0 → first ≡ seats → back ≡ worked ++ spared → R started worked
@@ -76,11 +70,11 @@ all_but_one R true seats first started spared rest worked back is s none same b 
 
 -- all were started, and all come back
 
-all_started : (refused : Bool) (seats first started spared rest : List SeatState) → refused ≡ false → Started refused first started spared rest → length rest ≡ 0 → first ≡ seats → started ≡ seats
+pub all_started : (refused : Bool) (seats first started spared rest : List SeatState) → refused ≡ false → Started refused first started spared rest → length rest ≡ 0 → first ≡ seats → started ≡ seats
 all_started true seats first started spared rest is s none same = absurd (true≢false is)
 all_started false seats first started spared rest is s none same = sym (append-nil started) ∙ ap (λ (xs : List SeatState). started ++ xs) (sym (none_left rest none)) ∙ sym s.0 ∙ same
 
-all_worked : (refused : Bool) (seats first started spared rest worked back : List SeatState) → refused ≡ false → Started refused first started spared rest → back ≡ worked ++ spared → worked ≡ back
+pub all_worked : (refused : Bool) (seats first started spared rest worked back : List SeatState) → refused ≡ false → Started refused first started spared rest → back ≡ worked ++ spared → worked ≡ back
 all_worked true seats first started spared rest worked back is s b = absurd (true≢false is)
 all_worked false seats first started spared rest worked back is s b = sym (append-nil worked) ∙ ap (λ (xs : List SeatState). worked ++ xs) (sym s.1) ∙ sym b
 

@@ -1,5 +1,5 @@
 -- What a thread has added to the journal by its seat.
-use Rattle.std.proofs.Common.{◌≡◌, ◌≢◌, ℕ, zero, suc, ◌+◌, ◌<◌, ◌≤◌, ◌==◌, List, [], ◌∷◌, ◌++◌, Result, Ok, Err, length, replicate, refl, sym, ap, ◌∙◌, subst, append_assoc, arith, length-append}
+use Rattle.std.proofs.Common.{◌≡◌, ◌≢◌, ◌⊎◌, inl, inr, ℕ, zero, suc, ◌+◌, ◌<◌, ◌≤◌, ◌==◌, Bool, true, false, cond, List, [], ◌∷◌, ◌++◌, Result, Ok, Err, length, replicate, refl, sym, ap, ◌∙◌, subst, append_assoc, arith, length-append}
 use Rattle.std.specs.Prelude.{IfOk}
 use Rattle.std.proofs.lemmas.List.{append-nil, length-replicate}
 use Rattle.std.proofs.lemmas.List.Elements.{filter-append}
@@ -15,12 +15,13 @@ use Rattle.fmp_journal.specs.Seats.{RowId, SeatState, events}
 use Rattle.fmp_journal.specs.Views.{own}
 use Rattle.fmp_journal.specs.Words.{entry}
 use Rattle.fmp_board.specs.declared.fault.BoardFault.{BoardFault}
+use Rattle.fmp_board.specs.declared.fault.BoardFault.TheVariants as fault
 use Rattle.fmp_board.specs.declared.receipt.Receipt.{Receipt}
-use Rattle.fmp_board.specs.Outcomes.{AnsweredAfter, Submitted, TicketState}
+use Rattle.fmp_board.specs.Outcomes.{AnsweredAfter, IsDrawn, IsWhyRefused, Submitted, TicketState, stamp_after}
 use Rattle.fmp_board.specs.Receipts.{receipt_of}
 use Rattle.fmp_replay.specs.Replays.{reaction}
 use Rattle.fmp_board.specs.Visits.{FedAfter, Fed, Kept, Visited, entered, journaled}
-use Rattle.fmp_hostrun.specs.Works.{Added, IsCounted}
+use Rattle.fmp_hostrun.specs.Works.{Added, IsCounted, IsIdle, IsWhyStopped}
 use Rattle.fmp_board.proofs.Visiting.{kept_none, kept_more, kept_on}
 
 -- entries of one seat
@@ -194,11 +195,49 @@ added_turn i n row p q was mid now v same is a =
     added_more i n row (Run p) 0 1 was mid now (added_none i n row (Run p) 0 was mid v same) (subst (λ (r : ℕ). Added i n row (Run r) 1 mid now) is a)
 
 -- what a thread has added has room
-pub within_room : (i : ImageTables) (n : ℕ) (row : RowId) (e : Event) (most : ℕ) (was now : SeatState) (result : Result ℕ BoardFault) → Added i n row e most was now
-    → IfOk result (λ count. now.mine ≡ was.mine + count) → IfOk result (λ count. (now.mine ≡ was.mine + count) × (count ≤ row.capacity))
-within_room i n row e most was now (Err f) a h = tt
-within_room i n row e most was now (Ok count) a h = (h, by_count a.count refl)
+pub within_room : (i : ImageTables) (n : ℕ) (row : RowId) (e : Event) (most : ℕ) (was now : SeatState) (count : ℕ) → Added i n row e most was now → now.mine ≡ was.mine + count → count ≤ row.capacity
+within_room i n row e most was now count a h = by_count a.count refl
   where
     by_count : (k : ℕ) → a.count ≡ k → count ≤ row.capacity
     by_count zero none = omega (arith, h, a.mine_is, none)
     by_count (suc k) is = let r = a.room (λ z. absurd (omega (arith, z, is))) in omega (arith, r, h)
+
+-- a thread that has added at most so many has counted no more
+pub mine_most : (i : ImageTables) (n : ℕ) (row : RowId) (e : Event) (most enough : ℕ) (was mid now : SeatState) → Added i n row e most was mid → now.mine ≡ mid.mine → most < enough
+    → now.mine < was.mine + enough
+mine_most i n row e most enough was mid now a same lt = omega (arith, a.few, a.mine_is, same, lt)
+
+-- why an outcome or an event is refused
+
+same_or_not : (a b : ℕ) → (a ≡ b) ⊎ (a ≢ b)
+same_or_not a b = grind arith
+
+why_full : (i : ImageTables) (n k : ℕ) (before : List JournalEntry) (t : TicketState) (f : BoardFault) → IsWhyRefused i n k before t f → f ≢ fault.Stale
+    → (stamp_after i n before t.processor ≡ t.actor.stamp) ⊎ (stamp_after i n before t.processor ≢ t.actor.stamp) → (f ≡ fault.Full) × (length before ≡ k)
+why_full i n k before t f why other (inl same) = why.full same
+why_full i n k before t f why other (inr differs) = absurd (other (why.stale differs))
+
+pub full_submitted : (i : ImageTables) (n : ℕ) (row : RowId) (t : TicketState) (was now : SeatState) (f : BoardFault) → Submitted i n row t was now (Err f) → f ≢ fault.Stale
+    → (f ≡ fault.Full) × (length now.seen ≡ row.capacity)
+full_submitted i n row t was now f s other =
+    let full = why_full i n row.capacity s.0 t f s.3 other (same_or_not _ _) in
+    (full.0, ap length s.4 ∙ full.1)
+
+pub full_fed : (i : ImageTables) (n : ℕ) (row : RowId) (e : Event) (was now : SeatState) (f : BoardFault) → Fed i n row e was now (Err f)
+    → (f ≡ fault.Full) × (length now.seen ≡ row.capacity)
+full_fed i n row e was now f s = (s.3.1, ap length s.4 ∙ s.3.0)
+
+-- an outcome that is refused is stale, or its turn stops
+pub turn_refused : (i : ImageTables) (n : ℕ) (row : RowId) (always : Type 0) (p : ℕ) (t : TicketState) (was drawn now : SeatState) (f : BoardFault) → Submitted i n row t drawn now (Err f)
+    → f ≢ fault.Stale → drawn.mine ≡ was.mine → now.mine ≡ drawn.mine + journaled (Err f) → (now.mine ≡ was.mine) × IsWhyStopped row always (Run p) now f
+turn_refused i n row always p t was drawn now f s other same mine = (omega (arith, same, mine), inl (full_submitted i n row t drawn now f s other))
+
+pub feed_refused : (i : ImageTables) (n : ℕ) (row : RowId) (e : Event) (was now : SeatState) (f : BoardFault) → Fed i n row e was now (Err f)
+    → now.mine ≡ was.mine + journaled (Err f) → (now.mine ≡ was.mine) × (f ≡ fault.Full) × (length now.seen ≡ row.capacity)
+feed_refused i n row e was now f s mine = let full = full_fed i n row e was now f s in (omega (arith, mine), full.0, full.1)
+
+-- turns in which nothing was journaled
+
+pub idle_turn : (i : ImageTables) (n : ℕ) (row : RowId) (p : ℕ) (t : TicketState) (drawn now : SeatState) (answer : Result Receipt BoardFault) → t.processor ≡ p → IsDrawn i n drawn.seen t
+    → Submitted i n row t drawn now answer → journaled answer ≡ 0 → IsIdle i n row p now
+idle_turn i n row p t drawn now answer is d s none = inr (t, is, (drawn, d, (answer, s, none)))

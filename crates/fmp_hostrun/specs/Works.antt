@@ -1,5 +1,5 @@
 -- The effect of a board's threads on their seats.
-use Rattle.std.specs.Prelude.{◌≡◌, ◌≢◌, ℕ, ◌+◌, ◌≤◌, nat_lt, if◌then◌else◌, List, [], ◌∷◌, ◌++◌, length, map, replicate, Result, Ok, Err, IfErr, IfOk}
+use Rattle.std.specs.Prelude.{◌≡◌, ◌≢◌, ◌⊎◌, ℕ, ◌+◌, ◌<◌, ◌≤◌, nat_lt, if◌then◌else◌, List, [], ◌∷◌, ◌++◌, length, map, replicate, slice_get, Some, None, Result, Ok, Err, IfErr, IfOk}
 use Rattle.std.specs.List.{AllZip}
 use Rattle.fmp_base.specs.declared.events.Event.{Event}
 use Rattle.fmp_base.specs.declared.events.Event.TheVariants.{Run, Tick}
@@ -9,10 +9,11 @@ use Rattle.fmp_journal.specs.Views.{own}
 use Rattle.fmp_journal.specs.Words.{entry}
 use Rattle.fmp_board.specs.declared.fault.BoardFault.{BoardFault}
 use Rattle.fmp_board.specs.declared.fault.BoardFault.TheVariants as fault
+use Rattle.fmp_board.specs.declared.receipt.Receipt.{Receipt}
+use Rattle.fmp_board.specs.Outcomes.{IsDrawn, Submitted, TicketState, actor_after}
+use Rattle.fmp_board.specs.Visits.{Kept, journaled}
 use Rattle.fmp_hostrun.specs.declared.turns.Load.{Load}
 use Rattle.fmp_hostrun.specs.declared.turns.Part.{Part}
-use Rattle.fmp_board.specs.Boards.{IsTurnFault}
-use Rattle.fmp_board.specs.Visits.{Kept}
 
 -- the part of the thread at this place, from 0: the processors come first, and then the ticks
 abbrev pub part_at : Load → (place : ℕ) → Part
@@ -44,6 +45,15 @@ AllAdded i n row load place (s ∷ seats) (b ∷ back) =
 AllAdded i n row load place [] (b ∷ back) = ⊥
 AllAdded i n row load place (s ∷ seats) [] = ⊥
 
+-- a turn of processor p in which nothing was journaled: it had no actor, or what became of its stretch was refused or
+-- did nothing
+abbrev pub IsIdle : ImageTables → (n : ℕ) → RowId → (p : ℕ) → (now : SeatState) → Type 0
+IsIdle i n row p now =
+    (actor_after i n now.seen p ≡ None)
+    ⊎ ((t : TicketState) × (t.processor ≡ p)
+    × ((drawn : SeatState) × IsDrawn i n drawn.seen t
+    × ((answer : Result Receipt BoardFault) × Submitted i n row t drawn now answer × (journaled answer ≡ 0))))
+
 -- the job of a thread: its part, and the seat with which it does it
 pub record Job : Type 0 where
   pub part : Part
@@ -52,12 +62,59 @@ pub record Job : Type 0 where
 abbrev pub job_of : Part → SeatState → Job
 job_of part seat = record { part = part; seat = seat }
 
+-- the jobs of threads, the first of which is at this place
+abbrev pub jobs_of : Load → (place : ℕ) → List SeatState → List Job
+jobs_of load place [] = []
+jobs_of load place (s ∷ seats) = job_of (part_at load place) s ∷ jobs_of load (place + 1) seats
+
 abbrev pub seats_of : List Job → List SeatState
 seats_of jobs = map (λ j. j.seat) jobs
 
--- a thread has done at most its part
-abbrev pub IsDone : ImageTables → (n : ℕ) → RowId → Job → (back : SeatState) → Type 0
-IsDone i n row job back = Added i n row job.part.event job.part.times job.seat back
+-- why a thread stopped before the end of its part: the journal was full, all of which its seat has then seen; or the
+-- thread runs a processor, and the gate, which is not always open, said no
+abbrev pub IsWhyStopped : RowId → (always : Type 0) → Event → (now : SeatState) → BoardFault → Type 0
+IsWhyStopped row always event now f =
+    ((f ≡ fault.Full) × (length now.seen ≡ row.capacity))
+    ⊎ ((f ≡ fault.Held) × (always → ⊥) × ((p : ℕ) × (event ≡ Run p)))
+
+-- What a thread gives back: its seat; how many turns it took, or how many ticks it fed; and how many of its events were
+-- journaled, which it answers only at the end of its part, or why it stopped before.
+pub record Gave : Type 0 where
+  pub seat : SeatState
+  pub times : ℕ
+  pub answer : Result ℕ BoardFault
+
+abbrev pub gave : SeatState → (times : ℕ) → Result ℕ BoardFault → Gave
+gave seat times answer = record { seat = seat; times = times; answer = answer }
+
+-- a thread did its part, or stopped, and gave this back
+pub record GaveBack (i : ImageTables) (n : ℕ) (row : RowId) (always : Type 0) (job : Job) (g : Gave) : Type 0 where
+  pub added : Added i n row job.part.event job.part.times job.seat g.seat
+  pub finished :
+      IfOk g.answer
+      (λ count. (g.times ≡ job.part.times) × (g.seat.mine ≡ job.seat.mine + count) × (count ≤ row.capacity))
+  pub stopped :
+      IfErr g.answer
+      (λ f. (g.seat.mine < job.seat.mine + job.part.times) × IsWhyStopped row always job.part.event g.seat f)
+
+-- the sum of two counts, or the first fault
+abbrev pub both : (journaled more : Result ℕ BoardFault) → Result ℕ BoardFault
+both (Ok count) (Ok more) = Ok (count + more)
+both (Ok count) (Err f) = Err f
+both (Err f) more = Err f
+
+-- the sum of all counts, or the first fault
+abbrev pub total : List (Result ℕ BoardFault) → Result ℕ BoardFault
+total [] = Ok 0
+total (answer ∷ answers) = both answer (total answers)
+
+-- threads that did these jobs were joined: their seats came back, and the answer is the total of theirs
+pub record Joined (i : ImageTables) (n : ℕ) (row : RowId) (always : Type 0) (jobs : List Job) (back : List SeatState)
+    (answer : Result ℕ BoardFault) : Type 0 where
+  pub all : List Gave
+  pub each : AllZip (GaveBack i n row always) jobs all
+  pub back_is : back ≡ map (λ g. g.seat) all
+  pub answer_is : answer ≡ total (map (λ g. g.answer) all)
 
 -- the sum of the counts of seats
 abbrev pub mine_of : List SeatState → ℕ
@@ -86,20 +143,30 @@ abbrev pub CameBack : (P : SeatState → SeatState → Type 0) → (seats back :
     → Type 0
 CameBack P seats back result = CameBackAs (AllZip P) seats back result
 
--- what a thread gives back: its seat, and how many of its events were journaled, or why it stopped
-abbrev pub GaveBack : ImageTables → (n : ℕ) → RowId → Part → (was now : SeatState) → Result ℕ BoardFault → Type 0
-GaveBack i n row part was now result =
-    Added i n row part.event part.times was now
-    × IfOk result (λ count. (now.mine ≡ was.mine + count) × (count ≤ row.capacity)) × IfErr result IsTurnFault
-
--- the sum of two counts, or the first fault
-abbrev pub both : (journaled more : Result ℕ BoardFault) → Result ℕ BoardFault
-both (Ok count) (Ok more) = Ok (count + more)
-both (Ok count) (Err f) = Err f
-both (Err f) more = Err f
-
 -- threads were started for seats
-abbrev pub AreRun : ImageTables → (n : ℕ) → RowId → Load → (seats back : List SeatState) → Result ℕ BoardFault → Type 0
-AreRun i n row load seats back result =
-    CameBackAs (AllAdded i n row load 0) seats back result × (result ≢ Err fault.Limit)
-    × IfOk result (λ count. mine_of back ≡ mine_of seats + count)
+pub record AreRun (i : ImageTables) (n : ℕ) (row : RowId) (always : Type 0) (load : Load) (seats back : List SeatState)
+    (answer : Result ℕ BoardFault) : Type 0 where
+  pub added : CameBackAs (AllAdded i n row load 0) seats back answer
+  pub mine : IfOk answer (λ count. mine_of back ≡ mine_of seats + count)
+  pub joined : answer ≢ Err fault.Thread → Joined i n row always (jobs_of load 0 seats) back answer
+
+-- What is answered for seats: no thread was started, and they are as they were; or a thread was refused, and its seat
+-- is lost; or the threads of all seats were joined in their order. It is never that an outcome was stale.
+abbrev pub IsAnswer : ImageTables → (n : ℕ) → RowId → (always : Type 0) → Load → (seats back : List SeatState)
+    → Result ℕ BoardFault → Type 0
+IsAnswer i n row always load seats back (Ok count) = Joined i n row always (jobs_of load 0 seats) back (Ok count)
+IsAnswer i n row always load seats back (Err fault.Full) =
+    Joined i n row always (jobs_of load 0 seats) back (Err fault.Full)
+IsAnswer i n row always load seats back (Err fault.Held) =
+    Joined i n row always (jobs_of load 0 seats) back (Err fault.Held)
+IsAnswer i n row always load seats back (Err fault.Thread) = AllButOne (AllAdded i n row load 0) seats back
+IsAnswer i n row always load seats back (Err fault.Limit) = back ≡ seats
+IsAnswer i n row always load seats back (Err fault.Memory) = back ≡ seats
+IsAnswer i n row always load seats back (Err fault.Stale) = ⊥
+
+-- one of these seats has seen a journal that is full
+pub record HasFull (row : RowId) (seats : List SeatState) : Type 0 where
+  pub place : ℕ
+  pub seat : SeatState
+  pub found : slice_get seats place ≡ Some seat
+  pub full : length seat.seen ≡ row.capacity

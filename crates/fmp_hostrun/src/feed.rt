@@ -1,11 +1,8 @@
 //! A taker of events from many threads.
-ghost use Rattle.std.specs.Prelude.{◌≡◌, ◌+◌, ◌⊎◌, ℕ, IfErr, IfSome};
-ghost use Rattle.fmp_base.specs.declared.events.Event.TheVariants.{Run};
+ghost use Rattle.std.specs.Prelude.{◌≡◌, ◌+◌, ℕ, IfNone, IfSome, None};
 ghost use Rattle.fmp_board.specs.Boards.{IsAt};
-ghost use Rattle.fmp_board.specs.Outcomes.{IsDrawn};
-ghost use Rattle.fmp_board.specs.Visits.{Visited, journaled};
-ghost use Rattle.fmp_hostrun.specs.Works.{Added};
-ghost use Rattle.fmp_board.specs.declared.fault.BoardFault.TheVariants.{Full, Stale};
+ghost use Rattle.fmp_board.specs.Outcomes.{IsDrawn, Submitted, actor_after};
+ghost use Rattle.fmp_board.specs.Visits.{Fed, Visited, journaled};
 ghost use Rattle.fmp_image_bytes.specs.Images.{ImageTables};
 ghost use Rattle.fmp_journal.specs.Seats.{RowId};
 
@@ -31,6 +28,7 @@ pub(crate) trait Feed {
         ensures at { IsAt row_id seat.new }
         ensures visited { Visited image bound row_id seat.old seat.new }
         ensures mine { seat.new.mine ≡ seat.old.mine }
+        ensures none { IfNone result (actor_after image bound seat.new.seen p ≡ None) }
         ensures drawn { IfSome result (λ o. IsDrawn image bound seat.new.seen o.ticket) }
         ensures processor { IfSome result (λ o. o.ticket.processor ≡ p) };
 
@@ -44,17 +42,17 @@ pub(crate) trait Feed {
         requires at { IsAt row_id seat.old }
         requires drawn { IsDrawn image bound seat.old.seen outcome.ticket }
         ensures at { IsAt row_id seat.new }
-        ensures added { Added image bound row_id (Run outcome.ticket.processor) 1 seat.old seat.new }
+        ensures visited { Visited image bound row_id seat.old seat.new }
         ensures mine { seat.new.mine ≡ seat.old.mine + journaled result }
-        ensures fault { IfErr result (λ f. (f ≡ Full) ⊎ (f ≡ Stale)) };
+        ensures submitted { Submitted image bound row_id outcome.ticket seat.old seat.new result };
 
     /// Takes an event, under the number of the seat.
     fn feed<R: Wait>(&self, rt: &R, seat: &mut Seat, event: Event) -> Result<Receipt, BoardFault>
         requires at { IsAt row_id seat.old }
         ensures at { IsAt row_id seat.new }
-        ensures added { Added image bound row_id event 1 seat.old seat.new }
+        ensures visited { Visited image bound row_id seat.old seat.new }
         ensures mine { seat.new.mine ≡ seat.old.mine + journaled result }
-        ensures fault { IfErr result (λ f. f ≡ Full) };
+        ensures fed { Fed image bound row_id event seat.old seat.new result };
 }
 
 impl<'a, S: Site> Feed for Board<'a, S> {

@@ -1,4 +1,5 @@
-//! Threads that share a board: a worker for each processor, and one for the ticks.
+//! Threads that share a board: a worker for each processor, and one for the ticks. The board itself stands in
+//! `fmp_board`, and what prints its trace meanwhile in `fmp_follower`; both are given out here too.
 #![tactic(auto)]
 
 mod feed;
@@ -6,5 +7,6 @@ mod running;
 mod turns;
 
 pub use fmp_board::{Blank, Board, BoardFault, Book, Closed, Outcome, Receipt, Seat, Site, Ticket};
+pub use fmp_follower::{Follower, followed_text_is_front};
 pub use running::run_all;
 pub use turns::Gate;

@@ -1,13 +1,12 @@
 //! A thread for each processor of a board, and one for the ticks.
-ghost use Rattle.std.specs.Prelude.{◌≡◌, ◌+◌, ◌<◌, ◌≤◌, ◌^◌, [], ◌++◌, ◌↔◌, ◌≢◌, All, Err, IfErr, IfOk, length, map, vec_len, vec_capacity};
-ghost use Rattle.std.specs.List.{AllZip};
-ghost use Rattle.fmp_board.specs.Boards.{IsAt, IsTurnFault};
+ghost use Rattle.std.specs.Prelude.{◌≡◌, ◌+◌, ◌<◌, ◌≤◌, ◌^◌, [], ◌++◌, ◌↔◌, ◌≢◌, All, Err, IfOk, length, map, vec_len, vec_capacity};
+ghost use Rattle.fmp_board.specs.Boards.{IsAt};
 ghost use Rattle.fmp_board.specs.Visits.{Kept};
-ghost use Rattle.fmp_hostrun.specs.Works.{AllAdded, AreRun, CameBack, CameBackAs, GaveBack, IsDone, both, job_of, mine_of, seats_of};
-ghost use Rattle.fmp_board.specs.declared.fault.BoardFault.TheVariants.{Limit};
+ghost use Rattle.fmp_hostrun.specs.Works.{AllAdded, AreRun, CameBack, CameBackAs, GaveBack, HasFull, IsAnswer, Joined, both, gave, job_of, mine_of, seats_of};
+ghost use Rattle.fmp_board.specs.declared.fault.BoardFault.TheVariants.{Full, Held, Limit, Stale};
 
 use crate::feed::Feed;
-use crate::turns::{Gate, Load, Part, run_part};
+use crate::turns::{Gate, Load, Part, Worked, work};
 use fmp_board::{Board, BoardFault, Site};
 use fmp_journal::Seat;
 use std::alloc::{AllocError, Global};
@@ -17,43 +16,23 @@ use std::sync::Wait;
 use std::thread;
 use std::thread::{Promise, PromisedHandle, Threads};
 
-/// What a thread of a board gives back: its seat, and how many of its events were journaled.
+/// A thread's promise to do its part with this seat at this board and this gate, and to give the seat back.
 #[derive(Drop)]
-pub(crate) struct Worked {
-    seat: Seat,
-    journaled: Result<u32, BoardFault>,
-}
-
-/// A thread's promise to do its part with this seat at this board, and to give the seat back.
-#[derive(Drop)]
-pub(crate) struct GivesBack<B: Feed> {
+pub(crate) struct GivesBack<B: Feed, G: Gate> {
     seat: Snapshot<Seat>,
     part: Part,
     board: PhantomData<B>,
+    gate: PhantomData<G>,
 }
 
-impl<B: Feed> Promise<Worked> for GivesBack<B> {
-    ghost use Rattle.fmp_hostrun.specs.Works.{GaveBack};
+impl<B: Feed, G: Gate> Promise<Worked> for GivesBack<B, G> {
+    ghost use Rattle.fmp_hostrun.specs.Works.{GaveBack, gave, job_of};
 
-    ghost kept_by = { λ p r. GaveBack B.image B.bound B.row_id p.part p.seat.value r.seat r.journaled };
+    ghost kept_by = { λ p r. GaveBack B.image B.bound B.row_id G.is_open (job_of p.part p.seat.value)
+        (gave r.seat r.times r.journaled) };
 }
 
-type Handles<B> = Vec<PromisedHandle<Worked, GivesBack<B>>>;
-
-/// Does a thread's part with its seat, and gives the seat back.
-fn work<B: Feed, G: Gate, R: Wait>(
-    rt: &R,
-    board: &B,
-    gate: &G,
-    mut seat: Seat,
-    part: Part,
-) -> Worked
-    requires { IsAt B.row_id seat }
-    ensures { GaveBack B.image B.bound B.row_id part seat result.seat result.journaled }
-{
-    let journaled = run_part(rt, board, gate, &mut seat, part);
-    Worked { seat, journaled }
-}
+type Handles<B, G> = Vec<PromisedHandle<Worked, GivesBack<B, G>>>;
 
 /// Both counts together, or the first fault.
 fn with_more(
@@ -67,21 +46,20 @@ fn with_more(
 }
 
 /// Joins threads in order: their seats, and how many of their events were journaled, or the first fault.
-fn joined<B: Feed, R: Threads>(
+fn joined<B: Feed, G: Gate, R: Threads>(
     rt: &R,
-    handles: Handles<B>,
+    handles: Handles<B, G>,
     mut back: Vec<Seat>,
 ) -> (Vec<Seat>, Result<u32, BoardFault>)
     requires room { B.row_id.capacity ≤ 2 ^ 20 }
     requires few { vec_len handles ≤ 256 }
     requires back { (back.items ≡ []) × (vec_len handles ≤ vec_capacity back) }
-    ensures done { AllZip (IsDone B.image B.bound B.row_id)
-        (map (λ h. job_of h.promise.part h.promise.seat.value) handles.items) result.0.items }
+    ensures joined { Joined B.image B.bound B.row_id G.is_open
+        (map (λ h. job_of h.promise.part h.promise.seat.value) handles.items) result.0.items result.1 }
     ensures mine { IfOk result.1 (λ count. mine_of result.0.items
         ≡ mine_of (seats_of (map (λ h. job_of h.promise.part h.promise.seat.value) handles.items)) + count) }
     ensures count { vec_len result.0 ≡ vec_len handles }
     ensures capacity { vec_capacity result.0 ≡ vec_capacity back }
-    ensures fault { IfErr result.1 IsTurnFault }
 {
     let mut journaled = Ok(0);
     for handle in handles {
@@ -105,14 +83,14 @@ fn with_seats(mut back: Vec<Seat>, more: Vec<Seat>) -> Vec<Seat>
 
 /// The lists that the threads of a board need, with room for each of its seats.
 #[derive(Drop)]
-struct Lists<B: Feed> {
-    handles: Handles<B>,
+struct Lists<B: Feed, G: Gate> {
+    handles: Handles<B, G>,
     spared: Vec<Seat>,
     back: Vec<Seat>,
 }
 
-impl<B: Feed> Lists<B> {
-    fn new(alloc: Global, count: usize) -> Result<Lists<B>, AllocError>
+impl<B: Feed, G: Gate> Lists<B, G> {
+    fn new(alloc: Global, count: usize) -> Result<Lists<B, G>, AllocError>
         ensures handles { IfOk result (λ l. (l.handles.items ≡ []) × (count ≤ vec_capacity l.handles)) }
         ensures spared { IfOk result (λ l. (l.spared.items ≡ []) × (count ≤ vec_capacity l.spared)) }
         ensures back { IfOk result (λ l. (l.back.items ≡ []) × (count ≤ vec_capacity l.back)) }
@@ -132,7 +110,7 @@ fn run_threads<B: Feed + Sync, G: Gate, R: Threads + Wait + Sync>(
     board: &B,
     gate: &G,
     seats: Vec<Seat>,
-    lists: Lists<B>,
+    lists: Lists<B, G>,
     load: Load,
 ) -> (Vec<Seat>, Result<u32, BoardFault>)
     requires room { B.row_id.capacity ≤ 2 ^ 20 }
@@ -141,7 +119,7 @@ fn run_threads<B: Feed + Sync, G: Gate, R: Threads + Wait + Sync>(
     requires handles { (lists.handles.items ≡ []) × (vec_len seats ≤ vec_capacity lists.handles) }
     requires spared { (lists.spared.items ≡ []) × (vec_len seats ≤ vec_capacity lists.spared) }
     requires back { (lists.back.items ≡ []) × (vec_len seats ≤ vec_capacity lists.back) }
-    ensures { AreRun B.image B.bound B.row_id load seats.items result.0.items result.1 }
+    ensures { AreRun B.image B.bound B.row_id G.is_open load seats.items result.0.items result.1 }
 {
     thread::scope(
         thread::scope_env(),
@@ -153,7 +131,7 @@ fn run_threads<B: Feed + Sync, G: Gate, R: Threads + Wait + Sync>(
             requires handles { (lists.handles.items ≡ []) × (vec_len seats ≤ vec_capacity lists.handles) }
             requires spared { (lists.spared.items ≡ []) × (vec_len seats ≤ vec_capacity lists.spared) }
             requires back { (lists.back.items ≡ []) × (vec_len seats ≤ vec_capacity lists.back) }
-            ensures { AreRun B.image B.bound B.row_id load seats.items result.0.items result.1 }
+            ensures { AreRun B.image B.bound B.row_id G.is_open load seats.items result.0.items result.1 }
         {
             let Lists {
                 mut handles,
@@ -171,12 +149,14 @@ fn run_threads<B: Feed + Sync, G: Gate, R: Threads + Wait + Sync>(
                     seat: Snapshot::of(&seat),
                     part,
                     board: PhantomData,
+                    gate: PhantomData,
                 };
                 let started = scope.spawn_with(
                     promise,
                     move || -> Worked
                         requires { IsAt B.row_id seat }
-                        ensures { GaveBack B.image B.bound B.row_id part seat result.seat result.journaled }
+                        ensures { GaveBack B.image B.bound B.row_id G.is_open (job_of part seat)
+                            (gave result.seat result.times result.journaled) }
                     { work(rt, board, gate, seat, part) },
                 );
                 match started {
@@ -195,18 +175,18 @@ fn run_threads<B: Feed + Sync, G: Gate, R: Threads + Wait + Sync>(
     )
 }
 
-/// Runs a board by threads: one for each processor makes `turns` turns, in each of which it draws a ticket, makes its
-/// stretch outside the lock, asks the gate, submits the outcome and tells the gate; and one more feeds `ticks` ticks. A
-/// turn in which the processor has no actor is over, and so is one whose outcome is stale. The seats are one for each
-/// processor, in order, and one for the ticks; they come back in their order, each of which has seen what its calls
-/// showed it. The answer is the number of events that this call journaled, which is the sum by which their own counts
-/// have risen.
+/// Runs a board by threads: one for each processor takes the turns, and one more feeds the ticks. In a turn a processor
+/// draws a ticket, makes its stretch outside the lock, asks the gate, submits the outcome and tells the gate. A turn in
+/// which it has no actor is over, and so is one whose outcome is stale. The seats are one for each processor, in order,
+/// and one for the ticks. They come back in their order, and each has seen what its calls showed it. The answer is
+/// the number of events that this call journaled, which is the sum by which their own counts have risen.
 ///
-/// `BoardFault::Limit`, exactly if the number of seats differs; `BoardFault::Memory`, if memory runs out, before any
-/// thread is started; `BoardFault::Thread` if a thread was refused: then no more are started, those that run are
-/// joined, and the seat of the refused one is lost. Else, where threads stopped at a fault, `BoardFault::Full` or
-/// `BoardFault::Held` (the gate said no 10,000 times), it is that of the least processor, or at last of the ticks. What
-/// was journaled before a fault stands.
+/// `BoardFault::Limit`, exactly where there is not one seat for each processor and one more; `BoardFault::Memory` where
+/// memory runs out. Then no thread was started, and the seats are as they came. `BoardFault::Thread` where a thread was
+/// refused: no more are started, those that run are joined, and the seat of the refused one is lost. Else it is the
+/// fault of the first thread that stopped, by the order of the processors, the ticks last: `BoardFault::Full` where the
+/// journal has no room for one more event, or `BoardFault::Held` where the gate said no 10,000 times. It is never
+/// `BoardFault::Stale`. What was journaled before a fault stands.
 pub fn run_all<S: Site + Send + Sync, G: Gate, R: Threads + Wait + Sync>(
     rt: &R,
     alloc: Global,
@@ -217,6 +197,12 @@ pub fn run_all<S: Site + Send + Sync, G: Gate, R: Threads + Wait + Sync>(
     ticks: u32,
 ) -> (Vec<Seat>, Result<u32, BoardFault>)
     requires { All (IsAt S.row_id) seats.items }
+    ensures answer { IsAnswer S.image S.bound S.row_id G.is_open
+        (record { processors = S.image.system.processors; turns = turns; ticks = ticks })
+        seats.items result.0.items result.1 }
+    ensures stale { result.1 ≢ Err Stale }
+    ensures full { result.1 ≡ Err Full → HasFull S.row_id result.0.items }
+    ensures held { G.is_open → result.1 ≢ Err Held }
     ensures limit { (result.1 ≡ Err Limit) ↔ (length seats.items ≢ S.image.system.processors + 1) }
     ensures seats { CameBack (Kept S.image S.bound S.row_id) seats.items result.0.items result.1 }
     // What the p-th seat has added are runs of processor p, at most `turns`, and what the last one has are ticks.

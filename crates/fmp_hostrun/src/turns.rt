@@ -1,9 +1,9 @@
 //! What one thread of a board does: the turns of a processor, or the ticks.
-ghost use Rattle.std.specs.Prelude.{◌≡◌, ◌+◌, ◌⊎◌, cond, IfOk, IfErr};
+ghost use Rattle.std.specs.Prelude.{◌≡◌, ◌+◌, ◌<◌, ◌^◌, cond, false, true, length, Ok, IfOk, IfErr};
 ghost use Rattle.fmp_base.specs.declared.events.Event.TheVariants.{Run};
-ghost use Rattle.fmp_board.specs.declared.fault.BoardFault.TheVariants.{Full, Held};
-ghost use Rattle.fmp_board.specs.Boards.{IsAt, IsTurnFault};
-ghost use Rattle.fmp_hostrun.specs.Works.{Added, GaveBack};
+ghost use Rattle.fmp_board.specs.declared.fault.BoardFault.TheVariants.{Full};
+ghost use Rattle.fmp_board.specs.Boards.{IsAt};
+ghost use Rattle.fmp_hostrun.specs.Works.{Added, GaveBack, IsIdle, IsWhyStopped, gave, job_of};
 
 use crate::feed::Feed;
 use fmp_base::Event;
@@ -17,15 +17,23 @@ const MOST_ASKED: u32 = 10_000;
 
 /// Decides when the processors go on. Both calls come from the thread of the processor, and may wait.
 pub trait Gate: Sync {
-    /// Whether this turn of processor p, counted from 1, may go on. It is asked until it says yes, at most 10,000
-    /// times.
-    fn may_submit(&self, p: u8, turn: u32) -> bool;
+    ghost use Rattle.std.specs.Prelude.{◌≡◌, true};
 
-    /// The board has answered this turn of processor p, by a receipt or by a refusal.
+    /// Whether each gate of this type always says yes.
+    ghost is_open: { Type 0 };
+
+    /// Whether this turn of processor p, counted from 1, may go on. It is asked until it says yes, at most 10,000
+    /// times; then the processor stops.
+    fn may_submit(&self, p: u8, turn: u32) -> bool
+        ensures { is_open → result ≡ true };
+
+    /// The board has answered this turn of processor p, by a receipt or by a refusal. A turn in which the processor has
+    /// no actor is neither asked for nor answered.
     fn answered(&self, p: u8, turn: u32);
 }
 
-/// The part of a thread of a board: a processor's runs, each a turn, or other events to feed; and how many times.
+/// The part of a thread of a board: to run a processor, each time in a turn, or to feed another event; and how many
+/// times.
 #[derive(Clone, Copy)]
 pub(crate) struct Part {
     pub event: Event,
@@ -62,9 +70,11 @@ impl Load {
     }
 }
 
-/// Asks a gate until it lets this turn go on: whether it did.
-fn is_let<G: Gate>(gate: &G, p: u8, turn: u32) -> bool {
-    for _ in 0..MOST_ASKED {
+/// Asks a gate until it says yes to this turn, at most 10,000 times: whether it did.
+fn is_let<G: Gate>(gate: &G, p: u8, turn: u32) -> bool
+    ensures { G.is_open → result ≡ true }
+{
+    for _asked in 0..MOST_ASKED {
         if gate.may_submit(p, turn) {
             return true;
         }
@@ -73,31 +83,36 @@ fn is_let<G: Gate>(gate: &G, p: u8, turn: u32) -> bool {
     false
 }
 
-/// One turn of processor p: whether an event was journaled. Its stretch is made outside the board's lock, and handed in
-/// once the gate lets the turn go on; a stale one is dropped. Without an actor the turn is over.
-#[tactic(auto, using(crate::proofs::Working::added_none, crate::proofs::Working::added_turn))]
+/// The next turn of processor p, one more than were taken: whether an event was journaled. Its stretch is made outside
+/// the board's lock, and handed in once the gate lets the turn go on; a stale one is dropped. Without an actor the turn
+/// is over.
 fn take_turn<B: Feed, G: Gate, R: Wait>(
     rt: &R,
     board: &B,
     gate: &G,
     seat: &mut Seat,
     p: u8,
-    turn: u32,
+    taken: &mut u32,
 ) -> Result<bool, BoardFault>
-    requires { IsAt B.row_id seat.old }
+    requires at { IsAt B.row_id seat.old }
+    requires room { taken.old + 1 < 2 ^ 32 }
     ensures at { IsAt B.row_id seat.new }
     ensures added { Added B.image B.bound B.row_id (Run p) 1 seat.old seat.new }
+    ensures taken { taken.new ≡ taken.old + 1 }
     ensures mine { IfOk result (λ entered. seat.new.mine ≡ seat.old.mine + cond entered 1 0) }
-    ensures fault { IfErr result IsTurnFault }
+    ensures idle { result ≡ Ok false → IsIdle B.image B.bound B.row_id p seat.new }
+    ensures stopped { IfErr result (λ f. (seat.new.mine ≡ seat.old.mine)
+        × IsWhyStopped B.row_id G.is_open (Run p) seat.new f) }
 {
+    *taken += 1;
     let Some(outcome) = board.outcome(rt, seat, p) else {
         return Ok(false);
     };
-    if !is_let(gate, p, turn) {
+    if !is_let(gate, p, *taken) {
         return Err(BoardFault::Held);
     }
     let answer = board.submit(rt, seat, outcome);
-    gate.answered(p, turn);
+    gate.answered(p, *taken);
     match answer {
         Ok(receipt) => Ok(receipt.number > 0),
         Err(BoardFault::Stale) => Ok(false),
@@ -114,23 +129,48 @@ fn run_turns<B: Feed, G: Gate, R: Wait>(
     seat: &mut Seat,
     p: u8,
     turns: u32,
+    taken: &mut u32,
 ) -> Result<u32, BoardFault>
-    requires { IsAt B.row_id seat.old }
+    requires at { IsAt B.row_id seat.old }
+    requires none { taken.old ≡ 0 }
     ensures at { IsAt B.row_id seat.new }
     ensures added { Added B.image B.bound B.row_id (Run p) turns seat.old seat.new }
-    ensures mine { IfOk result (λ journaled. seat.new.mine ≡ seat.old.mine + journaled) }
-    ensures fault { IfErr result IsTurnFault }
+    ensures finished { IfOk result (λ journaled. (taken.new ≡ turns) × (seat.new.mine ≡ seat.old.mine + journaled)) }
+    ensures stopped { IfErr result (λ f. (seat.new.mine < seat.old.mine + turns)
+        × IsWhyStopped B.row_id G.is_open (Run p) seat.new f) }
 {
     let mut journaled = 0;
-    for turn in 0..turns {
-        if take_turn(rt, board, gate, seat, p, turn + 1)? {
+    for _turn in 0..turns {
+        if take_turn(rt, board, gate, seat, p, taken)? {
             journaled += 1;
         }
     }
     Ok(journaled)
 }
 
-/// Feeds an event this many times. The answer is how many times it was journaled.
+/// Feeds an event once more than it was fed: whether it was journaled.
+fn feed_once<B: Feed, R: Wait>(
+    rt: &R,
+    board: &B,
+    seat: &mut Seat,
+    event: Event,
+    fed: &mut u32,
+) -> Result<bool, BoardFault>
+    requires at { IsAt B.row_id seat.old }
+    requires room { fed.old + 1 < 2 ^ 32 }
+    ensures at { IsAt B.row_id seat.new }
+    ensures added { Added B.image B.bound B.row_id event 1 seat.old seat.new }
+    ensures fed { fed.new ≡ fed.old + 1 }
+    ensures mine { IfOk result (λ entered. seat.new.mine ≡ seat.old.mine + cond entered 1 0) }
+    ensures stopped { IfErr result (λ f. (seat.new.mine ≡ seat.old.mine) × (f ≡ Full)
+        × (length seat.new.seen ≡ B.row_id.capacity)) }
+{
+    *fed += 1;
+    let receipt = board.feed(rt, seat, event)?;
+    Ok(receipt.number > 0)
+}
+
+/// Feeds an event as often as asked: how many times it was journaled.
 #[tactic(auto, using(crate::proofs::Working::added_begin, crate::proofs::Working::added_more, crate::proofs::Working::added_last, crate::proofs::Working::added_enough))]
 fn feed_all<B: Feed, R: Wait>(
     rt: &R,
@@ -138,38 +178,73 @@ fn feed_all<B: Feed, R: Wait>(
     seat: &mut Seat,
     event: Event,
     times: u32,
+    fed: &mut u32,
 ) -> Result<u32, BoardFault>
-    requires { IsAt B.row_id seat.old }
+    requires at { IsAt B.row_id seat.old }
+    requires none { fed.old ≡ 0 }
     ensures at { IsAt B.row_id seat.new }
     ensures added { Added B.image B.bound B.row_id event times seat.old seat.new }
-    ensures mine { IfOk result (λ journaled. seat.new.mine ≡ seat.old.mine + journaled) }
-    ensures fault { IfErr result IsTurnFault }
+    ensures finished { IfOk result (λ journaled. (fed.new ≡ times) × (seat.new.mine ≡ seat.old.mine + journaled)) }
+    ensures stopped { IfErr result (λ f. (seat.new.mine < seat.old.mine + times)
+        × (f ≡ Full) × (length seat.new.seen ≡ B.row_id.capacity)) }
 {
     let mut journaled = 0;
     for _time in 0..times {
-        let receipt = board.feed(rt, seat, event)?;
-        if receipt.number > 0 {
+        if feed_once(rt, board, seat, event, fed)? {
             journaled += 1;
         }
     }
     Ok(journaled)
 }
 
-/// Does a thread's part: how many of its events were journaled.
-#[tactic(auto, using(crate::proofs::Working::within_room))]
-pub(crate) fn run_part<B: Feed, G: Gate, R: Wait>(
+/// Does a thread's part: how many of its events were journaled. It counts how many turns it takes, or how many times it
+/// feeds its event.
+fn run_part<B: Feed, G: Gate, R: Wait>(
     rt: &R,
     board: &B,
     gate: &G,
     seat: &mut Seat,
     part: Part,
+    times: &mut u32,
 ) -> Result<u32, BoardFault>
-    requires { IsAt B.row_id seat.old }
+    requires at { IsAt B.row_id seat.old }
+    requires none { times.old ≡ 0 }
     ensures at { IsAt B.row_id seat.new }
-    ensures gave { GaveBack B.image B.bound B.row_id part seat.old seat.new result }
+    ensures gave { GaveBack B.image B.bound B.row_id G.is_open (job_of part seat.old) (gave seat.new times.new result) }
 {
     match part.event {
-        Event::Run(p) => run_turns(rt, board, gate, seat, p, part.times),
-        event => feed_all(rt, board, seat, event, part.times),
+        Event::Run(p) => run_turns(rt, board, gate, seat, p, part.times, times),
+        event => feed_all(rt, board, seat, event, part.times, times),
+    }
+}
+
+/// What a thread of a board gives back.
+#[derive(Drop)]
+pub(crate) struct Worked {
+    pub seat: Seat,
+    /// How many turns it took, or how many times it fed its event.
+    pub times: u32,
+    /// How many of its events were journaled.
+    pub journaled: Result<u32, BoardFault>,
+}
+
+/// Does a thread's part with its seat, and gives the seat back.
+pub(crate) fn work<B: Feed, G: Gate, R: Wait>(
+    rt: &R,
+    board: &B,
+    gate: &G,
+    mut seat: Seat,
+    part: Part,
+) -> Worked
+    requires { IsAt B.row_id seat }
+    ensures { GaveBack B.image B.bound B.row_id G.is_open (job_of part seat)
+        (gave result.seat result.times result.journaled) }
+{
+    let mut times = 0;
+    let journaled = run_part(rt, board, gate, &mut seat, part, &mut times);
+    Worked {
+        seat,
+        times,
+        journaled,
     }
 }

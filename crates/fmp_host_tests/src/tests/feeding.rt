@@ -6,7 +6,7 @@ use crate::tests::playing::{Calls, Play, fed, played};
 use crate::tests::showing::{board_of, image_of, one};
 use fmp_base::Event;
 use fmp_hostrun::{Board, BoardFault, Seat, Site};
-use fmp_image_bytes::Image;
+use fmp_image::Image;
 use std::alloc::Global;
 use std::process::Abort;
 use std::sync::Wait;

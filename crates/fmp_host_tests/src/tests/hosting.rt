@@ -2,10 +2,10 @@
 ghost use Rattle.std.specs.Prelude.{◌≡◌, All, IfOk};
 ghost use Rattle.fmp_board.specs.Boards.{IsAt, blank as blank_of};
 
-use crate::SecondFirst;
 use crate::tests::showing::{BOUND, Seen, board_of, image_of, one};
-use fmp_hostrun::{Blank, Board, BoardFault, Closed, Seat, Site, run_all};
-use fmp_image_bytes::Image;
+use crate::{LetsOne, SecondFirst};
+use fmp_hostrun::{Blank, Board, BoardFault, Closed, Gate, Seat, Site, run_all};
+use fmp_image::Image;
 use std::alloc::Global;
 use std::marker::Brand;
 use std::process::Abort;
@@ -36,17 +36,15 @@ struct Schedule {
     capacity: u32,
     /// How many turns each processor has.
     turns: u32,
-    /// For how many turns of processor 2 the first one of processor 1 is held.
-    held: u32,
 }
 
 /// Runs a board by threads at this gate, and again where memory was refused: the seats, and what was answered.
-fn run_again<S: Site + Send + Sync, R: Threads + Wait + Sync>(
+fn run_again<S: Site + Send + Sync, G: Gate, R: Threads + Wait + Sync>(
     rt: &R,
     alloc: Global,
     board: &Board<'_, S>,
     seats: Vec<Seat>,
-    gate: &SecondFirst,
+    gate: &G,
     turns: u32,
 ) -> (Vec<Seat>, Result<u32, BoardFault>)
     requires { All (IsAt S.row_id) seats.items }
@@ -59,23 +57,24 @@ fn run_again<S: Site + Send + Sync, R: Threads + Wait + Sync>(
     (seats, journaled)
 }
 
-/// Runs a board by threads at this gate: what was answered, and the closed board.
-fn run<'a, S: Site + Send + Sync, R: Threads + Wait + Sync>(
+/// Runs a board by threads at this gate: what was answered, how many seats came back, and the closed board.
+fn run<'a, S: Site + Send + Sync, G: Gate, R: Threads + Wait + Sync>(
     rt: &R,
     alloc: Global,
     blank: Blank<'a>,
     seats: Vec<Seat>,
-    gate: &SecondFirst,
+    gate: &G,
     turns: u32,
-) -> Result<(Result<u32, BoardFault>, Closed<'a>), Fail>
+) -> Result<(Result<u32, BoardFault>, usize, Closed<'a>), Fail>
     requires blank { blank ≡ blank_of S.image S.bound S.row_id }
     requires seats { All (IsAt S.row_id) seats.items }
-    ensures { IfOk result (λ r. r.1.kernel.system ≡ S.image.system) }
+    ensures { IfOk result (λ r. r.2.kernel.system ≡ S.image.system) }
 {
     let board: Board<'a, S> = blank.open();
     let (mut seats, journaled) = run_again(rt, alloc, &board, seats, gate, turns);
+    let count = seats.len();
     let mut seat = one::<S>(&mut seats).ok_or("a seat")?;
-    Ok((journaled, board.close(&mut seat)))
+    Ok((journaled, count, board.close(&mut seat)))
 }
 
 /// How many events were journaled, or the name of a refusal.
@@ -86,31 +85,43 @@ fn journaled_text(alloc: Global, journaled: Result<u32, BoardFault>) -> Result<S
     }
 }
 
-/// Runs a board of an image of two processors: how many events were journaled, and what is seen of the board then.
-fn run_both<R: Threads + Wait + Sync>(
+/// Runs a board of an image of two processors at a gate: how many events were journaled, and what is seen of the board
+/// then. All seats have to come back, unless a thread was refused.
+fn run_both<G: Gate, R: Threads + Wait + Sync>(
     rt: &R,
     alloc: Global,
     image: &Image,
+    gate: &G,
     schedule: Schedule,
 ) -> Result<(String, Seen), Fail> {
-    let gate = SecondFirst::new(schedule.held);
     let (blank, seats) = board_of(alloc, image, BOUND, schedule.capacity, 3)?;
-    let (journaled, closed) = run::<Brand, R>(rt, alloc, blank, seats, &gate, schedule.turns)?;
+    let (journaled, count, closed) = run::<Brand, G, R>(
+        rt,
+        alloc,
+        blank,
+        seats,
+        gate,
+        schedule.turns,
+    )?;
     let seen = Seen::of(alloc, image, &closed);
     drop(closed);
     let seen = seen?;
+    if count != 3 && journaled != Err(BoardFault::Thread) {
+        return Err(Fail::from("a seat did not come back"));
+    }
     Ok((journaled_text(alloc, journaled)?, seen))
 }
 
 /// The same, of the image of two texts.
-fn run_texts<R: Threads + Wait + Sync>(
+fn run_texts<G: Gate, R: Threads + Wait + Sync>(
     rt: &R,
     alloc: Global,
     texts: (&str, &str),
+    gate: &G,
     schedule: Schedule,
 ) -> Result<(String, Seen), Fail> {
     let image = image_of(alloc, texts)?;
-    let answer = run_both(rt, alloc, &image, schedule);
+    let answer = run_both(rt, alloc, &image, gate, schedule);
     drop(image);
     answer
 }
@@ -133,9 +144,9 @@ fn processors_that_wait_for_one_another(rt: HostRuntime) -> Result<(), Fail> {
     let schedule = Schedule {
         capacity: 8,
         turns: 4,
-        held: 1,
     };
-    let (journaled, seen) = run_texts(&rt, alloc, TWO_TASKS, schedule)?;
+    let gate = SecondFirst::new(1);
+    let (journaled, seen) = run_texts(&rt, alloc, TWO_TASKS, &gate, schedule)?;
     assert_eq!(rt; journaled.as_str(), "6");
     assert_eq!(rt; seen.journal.lines().count(), 6);
     assert!(rt; seen.journal.as_str().starts_with("run 2\n"));
@@ -153,29 +164,34 @@ fn processors_of_which_one_may_be_refused(rt: HostRuntime) -> Result<(), Fail> {
     let schedule = Schedule {
         capacity: 8,
         turns: 4,
-        held: 1,
     };
-    let (journaled, seen) = run_texts(&rt, rt.alloc(), TWO_TASKS, schedule)?;
+    let gate = SecondFirst::new(1);
+    let (journaled, seen) = run_texts(&rt, rt.alloc(), TWO_TASKS, &gate, schedule)?;
     // A thread is refused only from outside.
     assert!(rt; journaled.as_str() == "6" || journaled.as_str() == "H5");
     assert!(rt; seen.simulated.as_str().ends_with(seen.states.as_str()));
     Ok(())
 }
 
-/// How a board is run whose second processor suspends and resumes the first one's task before that one's first outcome
-/// is submitted.
-const fn suspending(capacity: u32, turns: u32) -> Schedule {
-    Schedule {
-        capacity,
-        turns,
-        held: 2,
-    }
+/// A gate at which the second processor suspends and resumes the first one's task before that one's first outcome is
+/// submitted.
+fn suspending() -> SecondFirst {
+    SecondFirst::new(2)
 }
 
 #[test]
 fn a_stale_outcome_ends_its_turn(rt: HostRuntime) -> Result<(), Fail> {
     let alloc = rt.alloc();
-    let (journaled, seen) = run_texts(&rt, alloc, SUSPENDED, suspending(6, 3))?;
+    let (journaled, seen) = run_texts(
+        &rt,
+        alloc,
+        SUSPENDED,
+        &suspending(),
+        Schedule {
+            capacity: 6,
+            turns: 3,
+        },
+    )?;
     assert_eq!(rt; journaled.as_str(), "5");
     assert!(rt; seen.journal.as_str().starts_with("run 2\nrun 2\n"));
     assert_eq!(rt;
@@ -188,7 +204,16 @@ fn a_stale_outcome_ends_its_turn(rt: HostRuntime) -> Result<(), Fail> {
 
 #[test]
 fn threads_that_fill_a_board(rt: HostRuntime) -> Result<(), Fail> {
-    let (journaled, seen) = run_texts(&rt, rt.alloc(), SUSPENDED, suspending(4, 3))?;
+    let (journaled, seen) = run_texts(
+        &rt,
+        rt.alloc(),
+        SUSPENDED,
+        &suspending(),
+        Schedule {
+            capacity: 4,
+            turns: 3,
+        },
+    )?;
     assert_eq!(rt; journaled.as_str(), "H2");
     assert_eq!(rt; seen.journal.lines().count(), 4);
     assert!(rt; seen.journal.as_str().starts_with("run 2\nrun 2\n"));
@@ -198,7 +223,14 @@ fn threads_that_fill_a_board(rt: HostRuntime) -> Result<(), Fail> {
 #[test]
 fn two_turns_of_which_one_is_stale(rt: HostRuntime) -> Result<(), Fail> {
     let alloc = rt.alloc();
-    let (journaled, seen) = run_texts(&rt, alloc, SUSPENDED, suspending(6, 2))?;
+    let gate = suspending();
+    let schedule = Schedule {
+        capacity: 6,
+        turns: 2,
+    };
+    let (journaled, seen) = run_texts(&rt, alloc, SUSPENDED, &gate, schedule)?;
+    // Each turn was answered, the stale one too.
+    assert_eq!(rt; gate.told(), 4);
     assert_eq!(rt; journaled.as_str(), "3");
     assert_eq!(rt; seen.journal.as_str(), "run 2\nrun 2\nrun 1\n");
     assert_eq!(rt;
@@ -206,5 +238,39 @@ fn two_turns_of_which_one_is_stale(rt: HostRuntime) -> Result<(), Fail> {
         "starts\nput(1) E_OK\n"
     );
     assert_eq!(rt; seen.states.as_str(), "T RUNNING p1 10\nS RUNNING p2 10\n");
+    Ok(())
+}
+
+#[test]
+fn a_gate_that_always_says_no(rt: HostRuntime) -> Result<(), Fail> {
+    let schedule = Schedule {
+        capacity: 8,
+        turns: 4,
+    };
+    let gate = LetsOne::new(0);
+    let (journaled, seen) = run_texts(&rt, rt.alloc(), TWO_TASKS, &gate, schedule)?;
+    assert_eq!(rt; journaled.as_str(), "H6");
+    assert_eq!(rt; seen.journal.as_str(), "");
+    // Each of two processors was refused 10,000 times in its first turn.
+    assert_eq!(rt; gate.refused(), 20_000);
+    assert_eq!(rt; gate.told(), 0);
+    Ok(())
+}
+
+#[test]
+fn two_faults_of_which_the_first_processors_is_answered(rt: HostRuntime) -> Result<(), Fail> {
+    let schedule = Schedule {
+        capacity: 1,
+        turns: 2,
+    };
+    // The one that goes on finds the journal full in its second turn, and the other one is held in its first.
+    for (processor, fault, journal) in [(1, "H2", "run 1\n"), (2, "H6", "run 2\n")] {
+        let gate = LetsOne::new(processor);
+        let (journaled, seen) = run_texts(&rt, rt.alloc(), TWO_TASKS, &gate, schedule)?;
+        assert_eq!(rt; journaled.as_str(), fault);
+        assert_eq!(rt; seen.journal.as_str(), journal);
+        assert_eq!(rt; gate.refused(), 10_000);
+        assert_eq!(rt; gate.told(), 2);
+    }
     Ok(())
 }

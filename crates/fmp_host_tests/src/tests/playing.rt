@@ -9,7 +9,7 @@ use crate::tests::showing::{BOUND, Seen, board_of, image_of, last_of};
 use crate::tests::tickets::submit;
 use fmp_base::Event;
 use fmp_hostrun::{Blank, Board, BoardFault, Closed, Receipt, Seat, Site};
-use fmp_image_bytes::Image;
+use fmp_image::Image;
 use std::alloc::Global;
 use std::marker::Brand;
 use std::sync::Wait;

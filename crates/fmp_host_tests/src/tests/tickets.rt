@@ -9,7 +9,7 @@ use crate::tests::playing::{Calls, Play, fed, played};
 use crate::tests::showing::{BOUND, board_of, image_of, last_of, one, steps_of};
 use fmp_base::{Effect, Er, Event, Reply};
 use fmp_hostrun::{Blank, Board, BoardFault, Closed, Outcome, Receipt, Seat, Site};
-use fmp_image_bytes::Image;
+use fmp_image::Image;
 use std::alloc::{AllocError, Global};
 use std::marker::Brand;
 use std::process::Abort;

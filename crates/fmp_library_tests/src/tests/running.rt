@@ -1,7 +1,6 @@
 //! A system that two texts describe: built, loaded again, and run event by event.
 use fmp_base::{Body, Effect, Event, System};
-use fmp_image::build;
-use fmp_image_bytes::{Image, load, store};
+use fmp_image::{Image, build, load, store};
 use fmp_kernel::Kernel;
 use fmp_replay::kernel_of;
 use fmp_trace::print;

@@ -7,5 +7,6 @@ abbrev pub invariant-loop-time : goal.invariant-loop-time
 invariant-loop-time g l =
     IsAt g.B.Feed.row_id l.seat
     × Added g.B.Feed.image g.B.Feed.bound g.B.Feed.row_id l.fn.event l._time l.fn.seat l.seat
+    × (l.fed ≡ l._time)
     × (l.seat.mine ≡ l.fn.seat.mine + l.journaled)
     × (l.journaled ≤ l._time)

@@ -7,6 +7,7 @@ use Rattle.fmp_hostrun.proofs.turns.run_turns.Given as goal
 abbrev pub invariant-loop-turn : goal.invariant-loop-turn
 invariant-loop-turn g l =
     IsAt g.B.Feed.row_id l.seat
-    × Added g.B.Feed.image g.B.Feed.bound g.B.Feed.row_id (Run l.fn.p) l.turn l.fn.seat l.seat
+    × Added g.B.Feed.image g.B.Feed.bound g.B.Feed.row_id (Run l.fn.p) l._turn l.fn.seat l.seat
+    × (l.taken ≡ l._turn)
     × (l.seat.mine ≡ l.fn.seat.mine + l.journaled)
-    × (l.journaled ≤ l.turn)
+    × (l.journaled ≤ l._turn)

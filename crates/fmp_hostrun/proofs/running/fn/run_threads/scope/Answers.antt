@@ -1,8 +1,8 @@
-use Rattle.std.proofs.Common.{◌≡◌, [], ◌∷◌, ◌++◌, map, ap, sym, ◌∙◌, subst, rules}
+use Rattle.std.proofs.Common.{◌≡◌, [], ◌∷◌, ◌++◌, map, refl, ap, sym, ◌∙◌, subst, rules}
 use Rattle.std.proofs.lemmas.List.{length-map, map-append}
 use Rattle.fmp_hostrun.specs.Works.{AllAdded, Job, job_of, seats_of}
-use Rattle.fmp_hostrun.proofs.Joining.{ArePlaced, all_added, placed_more, seats_last}
-use Rattle.fmp_hostrun.proofs.Starting.{all_back, all_but_one, mine_back, one_refused, one_spared, one_started, other_fault, seats_at}
+use Rattle.fmp_hostrun.proofs.Joining.{ArePlaced, all_added, all_joined, not_refused, placed_more, seats_last}
+use Rattle.fmp_hostrun.proofs.Starting.{all_back, all_but_one, all_started, all_worked, mine_back, one_refused, one_spared, one_started, seats_at}
 use Rattle.fmp_hostrun.proofs.running.fn.run_threads.scope.Goals as goal
 
 pub loop-seat-preserved-then-refused : goal.loop-seat-preserved-then-refused
@@ -56,20 +56,26 @@ loop-seat-preserved g c =
 pub returns-then-refused-2 : goal.returns-then-refused-2
 returns-then-refused-2 g c =
     let i = c.loop-seat.invariant in
-    let added = all_added _ _ _ _ _ _ _ c.joined-back.ensures.done i.placed in (
-      all_but_one (AllAdded g.B.Feed.image g.B.Feed.bound g.B.Feed.row_id _ 0) _ _ _ _ _ _ _ _ c.if-refused-2.true i.started (sym i.size ∙ search rules) (search rules) (search rules)
-          added,
-      search rules,
-      tt,
-    )
+    let added = all_added _ _ _ _ _ _ _ _ c.joined-back.ensures.joined i.placed in
+    record {
+      added =
+          all_but_one (AllAdded g.B.Feed.image g.B.Feed.bound g.B.Feed.row_id _ 0) _ _ _ _ _ _ _ _ c.if-refused-2.true i.started (sym i.size ∙ search rules) (search rules)
+          (search rules) added;
+      mine = tt;
+      joined = λ other. absurd (other refl);
+    }
 
 pub returns : goal.returns
 returns g c =
     let i = c.loop-seat.invariant in
-    let other = other_fault _ c.joined-back.ensures.fault in
-    let added = all_added _ _ _ _ _ _ _ c.joined-back.ensures.done i.placed in (
-      all_back (AllAdded g.B.Feed.image g.B.Feed.bound g.B.Feed.row_id _ 0) _ _ _ _ _ _ _ _ _ c.if-refused-2.false i.started (sym i.size ∙ search rules) (search rules) (search rules)
-          added other.0,
-      other.1,
-      mine_back _ _ _ _ _ _ _ _ _ c.if-refused-2.false i.started (sym i.size ∙ search rules) (search rules) (search rules) c.joined-back.ensures.mine,
-    )
+    let added = all_added _ _ _ _ _ _ _ _ c.joined-back.ensures.joined i.placed in
+    record {
+      added =
+          all_back (AllAdded g.B.Feed.image g.B.Feed.bound g.B.Feed.row_id _ 0) _ _ _ _ _ _ _ _ _ c.if-refused-2.false i.started (sym i.size ∙ search rules) (search rules)
+          (search rules) added (not_refused _ _ _ _ _ _ _ c.joined-back.ensures.joined);
+      mine = mine_back _ _ _ _ _ _ _ _ _ c.if-refused-2.false i.started (sym i.size ∙ search rules) (search rules) (search rules) c.joined-back.ensures.mine;
+      joined = λ other.
+          all_joined _ _ _ _ _ _ _ _ _ _ c.joined-back.ensures.joined i.placed
+          (all_started _ _ _ _ _ _ c.if-refused-2.false i.started (sym i.size ∙ search rules) (search rules))
+          (all_worked _ [] _ _ _ _ _ _ c.if-refused-2.false i.started (search rules));
+    }
