@@ -1,7 +1,9 @@
 -- What the calls of a board make of a seat.
-use Rattle.std.proofs.Common.{◌≡◌, ℕ, List, [], ◌++◌, Option, Some, None, Result, Ok, Err, length, refl, sym, ap, ◌∙◌, subst, append_assoc, arith}
+use Rattle.std.proofs.Common.{◌≡◌, ℕ, List, [], ◌∷◌, ◌++◌, Option, Some, None, Result, Ok, Err, length, refl, sym, ap, ◌∙◌, subst, append_assoc, arith}
 use Rattle.std.specs.Prelude.{OnOk, OnErr, IfSome}
 use Rattle.std.proofs.lemmas.List.{append-nil}
+use Rattle.std.proofs.lemmas.List.Elements.{All-tail}
+use Rattle.std.specs.List.{All}
 use Rattle.std.proofs.lemmas.Bool.Decides.{nat_tests}
 use mathlib.Core.List.{IsPrefix}
 use Rattle.fmp_base.specs.Steps.{Reaction, Nothing, Did}
@@ -11,7 +13,7 @@ use Rattle.fmp_journal.specs.Seats.{RowId, SeatState}
 use Rattle.fmp_journal.specs.Views.{own, times, without}
 use Rattle.fmp_board.specs.declared.fault.BoardFault.{BoardFault}
 use Rattle.fmp_board.specs.declared.receipt.Receipt.{Receipt}
-use Rattle.fmp_board.specs.Boards.{BookState, IsJournal}
+use Rattle.fmp_board.specs.Boards.{BookState, HasCounted, IsAt, IsJournal}
 use Rattle.fmp_board.specs.Outcomes.{Drew, IsDrawn, TicketState, actor_after}
 use Rattle.fmp_board.specs.Receipts.{journal_after, marks_after, receipt_of}
 use Rattle.fmp_board.specs.Visits.{Kept, Visited, entered, journaled, shown, unmarked}
@@ -45,6 +47,22 @@ none_counted was now b is none =
 pub none_unmarked : (b now : BookState) (n : ℕ) → now ≡ unmarked b n → b.marks ≡ [] → now ≡ b
 none_unmarked b now n is none =
     is ∙ ap (λ (xs : List ℕ). record b { marks = without n xs }) none ∙ sym (ap (λ (xs : List ℕ). record b { marks = xs }) none)
+
+-- then it has counted its entries in what it is shown
+pub counted_by : (i : ImageTables) (n : ℕ) (row : RowId) (was now : SeatState) (journal : List JournalEntry) → Visited i n row was now → now.mine ≡ was.mine
+    → now.seen ≡ journal → HasCounted journal was
+counted_by i n row was now journal v mine is =
+    let number : now.number ≡ was.number = ap (λ (s : SeatState). s.number) v.same in
+    (subst (IsPrefix was.seen) is v.grows, ap (λ (m : ℕ). length (own m journal)) (sym number) ∙ ap (λ (xs : List JournalEntry). length (own now.number xs)) (sym is) ∙ v.counted ∙ mine)
+
+-- seats, one after the other
+
+pub rest_at : (row : RowId) (rest next : List SeatState) (x : SeatState) → All (IsAt row) rest → rest ≡ x ∷ next → All (IsAt row) next
+rest_at row rest next x all r = All-tail (IsAt row) x next (subst (All (IsAt row)) r all)
+
+pub all_counted : (P : SeatState → Type 0) (first rest seats : List SeatState) → first ++ rest ≡ seats → length rest ≡ 0 → All P first → All P seats
+all_counted P first [] seats are none all = subst (All P) (sym (append-nil first) ∙ are) all
+all_counted P first (x ∷ rest) seats are none all = absurd (omega (arith, none))
 
 -- two visits
 pub visited_on : (i : ImageTables) (n : ℕ) (row : RowId) (was mid now : SeatState) → Visited i n row was mid → Visited i n row mid now → Visited i n row was now

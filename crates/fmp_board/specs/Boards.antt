@@ -1,6 +1,7 @@
 -- What contracts see of boards and their seats, and what their calls answer.
-use Rattle.std.specs.Prelude.{◌≡◌, ◌⊎◌, ℕ, ◌≤◌, ◌<◌, ◌^◌, List, length}
+use Rattle.std.specs.Prelude.{◌≡◌, ℕ, ◌≤◌, ◌<◌, ◌^◌, List, length}
 use Rattle.std.specs.List.{All}
+use mathlib.Core.List.{IsPrefix}
 use Rattle.fmp_base.specs.declared.events.Event.{Event}
 use Rattle.fmp_instructions.specs.declared.instructions.MachineContext.{MachineContext}
 use Rattle.fmp_instructions.specs.Instructions.{BodyTables}
@@ -8,8 +9,7 @@ use Rattle.fmp_image_bytes.specs.Images.{ImageTables}
 use Rattle.fmp_kernel.specs.KernelViews.{KernelView}
 use Rattle.fmp_journal.specs.declared.entry.JournalEntry.{JournalEntry}
 use Rattle.fmp_journal.specs.Seats.{RowId, SeatState, events}
-use Rattle.fmp_board.specs.declared.fault.BoardFault.{BoardFault}
-use Rattle.fmp_board.specs.declared.fault.BoardFault.TheVariants as fault
+use Rattle.fmp_journal.specs.Views.{own}
 use Rattle.fmp_replay.specs.Replays.{IsLegal, kernel_after}
 
 -- what contracts see of a book: its journal, and the seats that have not counted one of their entries, one mark for
@@ -60,10 +60,6 @@ pub record InRange (n k m : ℕ) : Type 0 where
 abbrev pub IsAt : RowId → SeatState → Type 0
 IsAt row s = s.row ≡ row
 
--- why a thread of a board stops
-abbrev pub IsTurnFault : BoardFault → Type 0
-IsTurnFault f = (f ≡ fault.Full) ⊎ (f ≡ fault.Held)
-
 abbrev pub blank : ImageTables → (n : ℕ) → RowId → BlankState
 blank i n row = record { image = i; bound = n; row = row }
 
@@ -72,3 +68,14 @@ pub record IsClosed (i : ImageTables) (n k m : ℕ) (closed : ClosedState) : Typ
   pub legal : IsLegal i n closed.events
   pub room : length closed.events ≤ k
   pub kernel_is : closed.kernel ≡ kernel_after i n closed.events
+
+-- a seat has seen a beginning of a journal, and has counted all of its own entries in it
+abbrev pub HasCounted : List JournalEntry → SeatState → Type 0
+HasCounted journal s = IsPrefix s.seen journal × (length (own s.number journal) ≡ s.mine)
+
+-- the events of a closed board are those of a journal whose entries these seats have counted, each its own
+pub record IsCountedBy (i : ImageTables) (n k m : ℕ) (seats : List SeatState) (closed : ClosedState) : Type 0 where
+  pub journal : List JournalEntry
+  pub journal_is : IsJournal i n k m journal
+  pub counted : All (HasCounted journal) seats
+  pub events_are : closed.events ≡ events journal

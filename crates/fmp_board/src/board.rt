@@ -30,12 +30,12 @@ pub struct Board<'a, S: Site> {
 }
 
 impl<'a, S: Site> Board<'a, S> {
-    ghost use Rattle.std.specs.Prelude.{◌≡◌, ◌+◌, ◌^◌, ◌<◌, ◌≤◌, ◌⊎◌, ◌++◌, [], ◌∷◌, length, None, IfNone, IfSome, vec_capacity};
+    ghost use Rattle.std.specs.Prelude.{◌≡◌, ◌+◌, ◌^◌, ◌<◌, ◌≤◌, ◌⊎◌, ◌++◌, [], ◌∷◌, All, length, None, IfNone, IfSome, vec_capacity};
     ghost use mathlib.Core.List.{IsPrefix};
     ghost use Rattle.fmp_journal.specs.Seats.{events, given};
     ghost use Rattle.fmp_journal.specs.Views.{looked_at};
     ghost use Rattle.fmp_journal.specs.Words.{event_in};
-    ghost use Rattle.fmp_board.specs.Boards.{IsAt, IsClosed};
+    ghost use Rattle.fmp_board.specs.Boards.{IsAt, IsClosed, IsCountedBy};
     ghost use Rattle.fmp_board.specs.Outcomes.{Drew, IsDrawn, Submitted};
     ghost use Rattle.fmp_board.specs.Visits.{Fed, Visited, journaled};
 
@@ -206,5 +206,21 @@ impl<'a, S: Site> Board<'a, S> {
             desk,
         } = self;
         desk.into_inner().close(seat, room)
+    }
+    /// Ends the board and these seats of it. Each of them has counted all of its own entries in the journal, however
+    /// much of it it had seen. It never waits, and takes no memory.
+    pub fn close_all(self, seats: Vec<Seat>) -> Closed<'a>
+        requires at { All (IsAt S.row_id) seats.items }
+        ensures closed { IsClosed S.image S.bound S.row_id.capacity S.row_id.seats result }
+        ensures counted { IsCountedBy S.image S.bound S.row_id.capacity S.row_id.seats seats.items result }
+    {
+        let Board {
+            image: _,
+            row: _,
+            room,
+            bound: _,
+            desk,
+        } = self;
+        desk.into_inner().close_all(seats, room)
     }
 }

@@ -19,9 +19,9 @@ pub(crate) struct Desk<'a, S: Site> {
 }
 
 impl<'a, S: Site> Desk<'a, S> {
-    ghost use Rattle.std.specs.Prelude.{◌≡◌, ◌+◌, ◌≤◌, [], IfSome, vec_capacity};
+    ghost use Rattle.std.specs.Prelude.{◌≡◌, ◌+◌, ◌≤◌, [], All, IfSome, vec_capacity};
     ghost use Rattle.fmp_journal.specs.Seats.{events};
-    ghost use Rattle.fmp_board.specs.Boards.{IsAt, IsClosed};
+    ghost use Rattle.fmp_board.specs.Boards.{HasCounted, IsAt, IsClosed, IsCountedBy};
     ghost use Rattle.fmp_board.specs.Outcomes.{Drew, IsDrawn, Submitted};
     ghost use Rattle.fmp_board.specs.Visits.{Fed, Visited, journaled};
 
@@ -85,6 +85,29 @@ impl<'a, S: Site> Desk<'a, S> {
         let answer = self.book.enter(seat.number(), event);
         self.book.show(seat);
         answer
+    }
+
+    /// Each of these seats sees the journal.
+    fn show_all(&mut self, seats: Vec<Seat>)
+        requires { All (IsAt S.row_id) seats.items }
+        ensures counted { All (HasCounted self.old.book.journal) seats.items }
+        ensures book { self.new.book ≡ self.old.book }
+    {
+        for mut seat in seats {
+            self.show(&mut seat);
+        }
+    }
+
+    /// The kernel, and the events of the journal in a list that has room for them.
+    pub fn close_all(mut self, seats: Vec<Seat>, room: Vec<Event>) -> Closed<'a>
+        requires at { All (IsAt S.row_id) seats.items }
+        requires room { (room.items ≡ []) × (S.row_id.capacity ≤ vec_capacity room) }
+        ensures closed { IsClosed S.image S.bound S.row_id.capacity S.row_id.seats result }
+        ensures counted { IsCountedBy S.image S.bound S.row_id.capacity S.row_id.seats seats.items result }
+    {
+        self.show_all(seats);
+        let Desk { book } = self;
+        book.into_closed(room)
     }
 
     /// The kernel, and the events of the journal in a list that has room for them.

@@ -1,3 +1,4 @@
+pub mod Again
 pub mod BoardFaults
 pub mod Headline
 pub mod JournalLemmas

@@ -1,14 +1,17 @@
 //! A host: an image that is run by threads, one for each of its processors.
-ghost use Rattle.std.specs.Prelude.{◌≡◌, ◌≢◌, ◌<◌, ◌+◌, ◌++◌, ◌≤◌, ◌^◌, List, ℕ, All, IfErr, IfOk, OnErr, OnOk, length};
+ghost use Rattle.std.specs.Prelude.{◌≡◌, ◌≢◌, ◌+◌, ◌++◌, ◌≤◌, ◌^◌, List, ℕ, All, IfErr, IfOk, OnErr, OnOk, length};
 ghost use Rattle.fmp_base.specs.Texts.{whole_text};
 ghost use Rattle.fmp_image.specs.Building.{Builds};
 ghost use Rattle.fmp_instructions.specs.Machine.{code_meaning};
-ghost use Rattle.fmp_engine.specs.Hosting.{FitsBoard, Hosts, HostsTexts, IsHosted, IsWhyHost, IsWhyNoJournal, IsWorkload};
+ghost use Rattle.fmp_engine.specs.Hosting.{FitsBoard, Hosts, HostsTexts, IsHosted, IsWhyHost, IsWhyNoJournal, IsWorkload, most_events};
+ghost use Rattle.fmp_engine.specs.Simulations.{Simulates};
 ghost use Rattle.fmp_engine.specs.declared.hosting.HostFault.TheVariants as host_fault;
 ghost use Rattle.fmp_board.specs.Boards.{IsAt, IsClosed, blank as blank_of};
-ghost use Rattle.fmp_board.specs.declared.fault.BoardFault.TheVariants.{Held, Limit, Stale};
-ghost use Rattle.fmp_hostrun.specs.Works.{IsAnswer};
+ghost use Rattle.fmp_board.specs.declared.fault.BoardFault.TheVariants.{Full, Held, Limit, Stale};
+ghost use Rattle.fmp_hostrun.specs.Counts.{AreCounted};
+ghost use Rattle.fmp_hostrun.specs.Works.{AllAdded, CameBackAs, IsAnswer};
 ghost use Rattle.fmp_image_bytes.specs.Images.{ImageTables, Spells};
+ghost use Rattle.fmp_journal.specs.Seats.{AreNew};
 ghost use Rattle.fmp_steps.specs.Steps.{steps_text};
 
 use crate::events::Journal;
@@ -17,7 +20,7 @@ use fmp_base::Event;
 use fmp_hostrun::{Blank, Board, BoardFault, Closed, Gate, Seat, Site, run_all};
 use fmp_image::laws::built_image_prints_text;
 use fmp_image_bytes::{Image, LoadFault, load};
-use fmp_trace::print_steps;
+use fmp_trace::{print_steps, printed_steps_read_back};
 use std::alloc::{AllocError, Global};
 use std::marker::Brand;
 use std::sync::Wait;
@@ -65,25 +68,13 @@ impl Gate for OpenGate {
 
 /// The end of a host whose threads answered with a fault.
 fn fault_of(fault: BoardFault) -> HostFault
-    requires { (fault ≢ Limit) × (fault ≢ Stale) × (fault ≢ Held) }
+    requires { (fault ≢ Limit) × (fault ≢ Stale) × (fault ≢ Held) × (fault ≢ Full) }
     ensures { (i : ImageTables) (work : Workload) → IsWhyNoJournal result i work }
 {
     match fault {
         BoardFault::Memory => HostFault::Memory,
         fault => HostFault::Board(fault),
     }
-}
-
-/// Closes a board, to which the last of these seats is handed in.
-fn closed<'a, S: Site>(board: Board<'a, S>, mut seats: Vec<Seat>) -> Closed<'a>
-    requires at { All (IsAt S.row_id) seats.items }
-    requires some { 0 < length seats.items }
-    ensures { IsClosed S.image S.bound S.row_id.capacity S.row_id.seats result }
-{
-    let Some(mut seat) = seats.pop() else {
-        unreachable!()
-    };
-    board.close(&mut seat)
 }
 
 /// Runs the turns and ticks of a workload on a board, by threads that no gate holds.
@@ -99,14 +90,16 @@ fn run_work<S: Site + Send + Sync, R: Threads + Wait + Sync>(
     ensures answer { IsAnswer S.image S.bound S.row_id (Unit {0})
         (record { processors = S.image.system.processors; turns = work.turns; ticks = work.ticks })
         seats.items result.0.items result.1 }
+    ensures added { CameBackAs (AllAdded S.image S.bound S.row_id
+        (record { processors = S.image.system.processors; turns = work.turns; ticks = work.ticks }) 0)
+        seats.items result.0.items result.1 }
     ensures at { All (IsAt S.row_id) result.0.items }
-    ensures count { IfOk result.1 (λ _. length result.0.items ≡ length seats.items) }
     ensures fault { IfErr result.1 (λ f. (f ≢ Limit) × (f ≢ Stale) × (f ≢ Held)) }
 {
     run_all(rt, alloc, board, &OpenGate, seats, work.turns, work.ticks)
 }
 
-/// Opens a board, runs its threads, and closes it.
+/// Opens a board, runs its threads, and closes it, with its seats. Its journal has room for all turns and ticks.
 fn run_board<'a, S: Site + Send + Sync, R: Threads + Wait + Sync>(
     rt: &R,
     alloc: Global,
@@ -116,16 +109,21 @@ fn run_board<'a, S: Site + Send + Sync, R: Threads + Wait + Sync>(
 ) -> Result<Closed<'a>, BoardFault>
     requires blank { blank ≡ blank_of S.image S.bound S.row_id }
     requires seats { All (IsAt S.row_id) seats.items }
-    requires count { length seats.items ≡ S.image.system.processors + 1 }
+    requires new { AreNew S.row_id seats.items }
+    requires count { S.row_id.seats ≡ S.image.system.processors + 1 }
+    requires room { S.row_id.capacity ≡ most_events S.image work }
     ensures closed { IfOk result (IsClosed S.image S.bound S.row_id.capacity S.row_id.seats) }
-    ensures fault { IfErr result (λ f. (f ≢ Limit) × (f ≢ Stale) × (f ≢ Held)) }
+    ensures counted { IfOk result
+        (λ closed. AreCounted S.image.system.processors work.turns work.ticks closed.events) }
+    ensures fault { IfErr result (λ f. (f ≢ Limit) × (f ≢ Stale) × (f ≢ Held) × (f ≢ Full)) }
 {
     let board: Board<'a, S> = blank.open();
     let (seats, journaled) = run_work(rt, alloc, &board, seats, work);
+    let closed = board.close_all(seats);
     match journaled {
-        Ok(_) => Ok(closed(board, seats)),
+        Ok(_) => Ok(closed),
         Err(fault) => {
-            drop(board);
+            drop(closed);
             Err(fault)
         }
     }
@@ -241,8 +239,8 @@ fn append_hosted<R: Threads + Wait + Sync>(
 ///
 /// The image is judged first. Then, with P processors, P * turns + ticks has to be 1 to 2^20, else it is
 /// `HostFault::Board(BoardFault::Limit)`. It is `HostFault::Board(BoardFault::Thread)` where a thread was refused, and
-/// never a stale outcome or a processor that was held. The journal has room for one event of each turn and tick. After
-/// an error nothing has been appended.
+/// never another fault of a board. The journal has at most one event of each turn and tick, and no interrupts. After an
+/// error nothing has been appended.
 pub fn host<R: Threads + Wait + Sync>(
     rt: &R,
     alloc: Global,
@@ -256,9 +254,13 @@ pub fn host<R: Threads + Wait + Sync>(
     // Where two texts build the image, what was appended is what they mean over the journal.
     ensures headline { (cfg src : List ℕ) (i : ImageTables) (b : Builds cfg src i) → Spells i image.now → OnOk result
         (HostsTexts i b.tasks.bodies work file.old.items file.new.items out.old.items out.new.items) }
+    // A simulation of the image over the steps that were appended prints the same.
+    ensures again { OnOk result ((steps : List ℕ) → file.new.items ≡ file.old.items ++ steps
+        → Simulates image.now steps work.bound out.old.items out.new.items) }
     ensures refused { IfErr result (λ f. IsWhyHost f image.now work) }
     ensures err { OnErr result ((file.new.items ≡ file.old.items) × (out.new.items ≡ out.old.items)) }
 {
     built_image_prints_text();
+    printed_steps_read_back();
     append_hosted(rt, alloc, image, work, file, out)
 }

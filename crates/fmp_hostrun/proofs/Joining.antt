@@ -196,7 +196,7 @@ pub not_stale : (i : ImageTables) (n : ℕ) (row : RowId) (always : Type 0) (loa
 not_stale i n row always load seats back answer r is =
     other_fault i n row always _ back fault.Stale (subst (Joined i n row always (jobs_of load 0 seats) back) is (r.joined (λ e. absurd (cc (e, is))))) (λ e. absurd (cc)) (λ e. absurd (cc))
 
-why_seen : (row : RowId) (always : Type 0) (e : Event) (s : SeatState) → IsWhyStopped row always e s fault.Full → length s.seen ≡ row.capacity
+pub why_seen : (row : RowId) (always : Type 0) (e : Event) (s : SeatState) → IsWhyStopped row always e s fault.Full → length s.seen ≡ row.capacity
 why_seen row always e s (inl full) = full.1
 why_seen row always e s (inr held) = absurd (cc (held.0))
 

@@ -1,3 +1,4 @@
+pub mod Counting
 pub mod Joining
 pub mod Starting
 pub mod Working

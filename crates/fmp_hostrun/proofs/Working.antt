@@ -31,7 +31,7 @@ no_more [] e = refl
 no_more (x ∷ xs) e = absurd (omega arith)
 
 -- a journal that has no more entries of a seat than a beginning of it has the same
-own_same : (n : ℕ) (xs ys : List JournalEntry) → IsPrefix xs ys → length (own n ys) ≡ length (own n xs) → own n ys ≡ own n xs
+pub own_same : (n : ℕ) (xs ys : List JournalEntry) → IsPrefix xs ys → length (own n ys) ≡ length (own n xs) → own n ys ≡ own n xs
 own_same n xs ys p count =
     let parts : own n ys ≡ own n xs ++ own n p.0 = ap (own n) (sym p.1) ∙ filter-append (λ (x : JournalEntry). x.seat == n) xs p.0 in
     let none : length (own n p.0) ≡ 0 = omega (arith, ap length parts, length-append (own n xs) (own n p.0), count) in

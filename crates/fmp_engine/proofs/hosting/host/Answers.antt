@@ -1,3 +1,4 @@
+use Rattle.fmp_engine.proofs.Again.{simulates_again}
 use Rattle.fmp_engine.proofs.Headline.{hosts_texts, where_ok}
 use Rattle.fmp_engine.proofs.hosting.host.Goals as goal
 
@@ -7,3 +8,7 @@ returns-clause-headline g c = λ cfg src i b spelled.
     (λ h. hosts_texts i b.tasks.bodies c.args.image.now c.args.work _ _ _ _ h spelled
     (λ es. c.built_image_prints_text.ensures cfg src i b c.args.work.bound es c.requires.bound_low))
     c.append_hosted.ensures.ok
+
+pub returns-clause-again : goal.returns-clause-again
+returns-clause-again g c =
+    where_ok c.append_hosted.result (λ h steps. simulates_again c.args.image.now c.args.work _ _ _ _ steps c.printed_steps_read_back.ensures h) c.append_hosted.ensures.ok
