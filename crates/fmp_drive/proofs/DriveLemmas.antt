@@ -13,10 +13,12 @@ use Rattle.fmp_kernel.specs.KernelViews.{KernelView, view_after}
 use Rattle.std.proofs.Common.{inl, inr}
 use Rattle.std.proofs.lemmas.Bool.{cases_order}
 use Rattle.fmp_drive.specs.declared.trying.Source.{Source}
-use Rattle.std.specs.Prelude.{MatchOption}
+use Rattle.std.specs.Prelude.{IfSome, MatchOption}
 use Rattle.fmp_trace.specs.StepsLaws.{IsStep}
 use Rattle.fmp_drive.specs.declared.trying.Source.TheVariants as source
-use Rattle.fmp_drive.specs.Driving.{AllStand, HasDone, HasRun, IsFrom, event_of, reaction}
+use Rattle.fmp_drive.specs.Driving.{AllStand, DoesFirst, HasDone, HasRun, IsFirstFrom, IsStirred, event_of, reaction}
+use Rattle.fmp_drive.specs.declared.plan.Wish.{Wish}
+use Rattle.fmp_drive.specs.declared.plan.Wish.TheVariants.{Run, Tick, Interrupt}
 
 -- P holds of all, and of one more
 pub all_more : {A : Type 0} (P : A → Type 0) (xs : List A) (x : A) → AllByRecursion P xs → P x → AllByRecursion P (xs ++ x ∷ [])
@@ -96,33 +98,44 @@ module _ {B C : Type 0} (meaning : B → Meaning C) where
       → AllStand meaning k source first end
   stand_end k source first n end le all = λ m low high. all m low (omega (arith, le, high))
 
-  processor_step : (processors first : ℕ) (e : Event) → 1 ≤ first → IsFrom source.Processor first (processors + 1) e → IsStep processors e
-  processor_step processors first e low f =
+  processor_step : (k : KernelView B C) (processors first : ℕ) (e : Event) → 1 ≤ first
+      → IsFirstFrom meaning k source.Processor first (processors + 1) e → IsStep processors e
+  processor_step k processors first e low f =
       let above : first ≤ f.number = f.first_on in
       let below : f.number < processors + 1 = f.in_front in
       subst (λ (x : Event). IsStep processors x) (sym f.event) (omega (arith, low, above), omega (arith, below))
 
-  interrupt_step : (processors first : ℕ) (e : Event) → 1 ≤ first → IsFrom source.Interrupt first 33 e → IsStep processors e
-  interrupt_step processors first e low f =
+  interrupt_step : (k : KernelView B C) (processors first : ℕ) (e : Event) → 1 ≤ first
+      → IsFirstFrom meaning k source.Interrupt first 33 e → IsStep processors e
+  interrupt_step k processors first e low f =
       let above : first ≤ f.number = f.first_on in
       let below : f.number < 33 = f.in_front in
       subst (λ (x : Event). IsStep processors x) (sym f.event) (omega (arith, low, above), omega (arith, below))
 
   -- what was done from a number on is a step
   pub processor_steps : (r : Option Event) (k k' : KernelView B C) (processors first : ℕ) → 1 ≤ first
-      → MatchOption r (AllStand meaning k source.Processor first (processors + 1) × (k' ≡ k))
-      (λ e. HasDone meaning k k' e × IsFrom source.Processor first (processors + 1) e)
+      → DoesFirst meaning k k' source.Processor first (processors + 1) r
       → MatchOption r (AllStand meaning k source.Processor first (processors + 1) × (k' ≡ k))
       (λ e. HasDone meaning k k' e × IsStep processors e)
   processor_steps None k k' processors first low m = m
-  processor_steps (Some e) k k' processors first low m = (m.0, processor_step processors first e low m.1)
+  processor_steps (Some e) k k' processors first low m = (m.0, processor_step k processors first e low m.1)
 
   pub interrupt_steps : (r : Option Event) (k k' : KernelView B C) (processors first : ℕ) → 1 ≤ first
-      → MatchOption r (AllStand meaning k source.Interrupt first 33 × (k' ≡ k))
-      (λ e. HasDone meaning k k' e × IsFrom source.Interrupt first 33 e)
+      → DoesFirst meaning k k' source.Interrupt first 33 r → IfSome r (IsStep processors)
+  interrupt_steps None k k' processors first low m = tt
+  interrupt_steps (Some e) k k' processors first low m = interrupt_step k processors first e low m.1
+
+  -- what was wished from outside is an event that was done, or nothing has changed
+  pub stirred_done : (r : Option Event) (k k' : KernelView B C) (processors : ℕ) (wish : Wish)
+      → IsStirred meaning k k' wish r → IfSome r (IsStep processors)
       → MatchOption r (k' ≡ k) (λ e. HasDone meaning k k' e × IsStep processors e)
-  interrupt_steps None k k' processors first low m = m.1
-  interrupt_steps (Some e) k k' processors first low m = (m.0, interrupt_step processors first e low m.1)
+  stirred_done None k k' processors (Run first) is step = is.1
+  stirred_done None k k' processors Tick is step = absurd (cc)
+  stirred_done None k k' processors (Interrupt first) is step = is.1
+  stirred_done (Some e) k k' processors (Run first) is step = absurd (cc)
+  stirred_done (Some e) k k' processors Tick is step =
+      (subst (λ (x : Event). HasDone meaning k k' x) (sym (ap (found e) is.0)) is.1, step)
+  stirred_done (Some e) k k' processors (Interrupt first) is step = (is.0, step)
 
   -- what is done where nothing had changed before is done from there
   pub done_after : (r : Option Event) (k0 k k' : KernelView B C) (processors : ℕ) (P : KernelView B C → Type 0) → k ≡ k0

@@ -1,5 +1,5 @@
 -- What it is to drive a kernel: events, each of which does something.
-use Rattle.std.specs.Prelude.{ℕ, ◌≡◌, ◌+◌, ◌≤◌, ◌<◌, List, Some, length}
+use Rattle.std.specs.Prelude.{ℕ, ◌≡◌, ◌+◌, ◌≤◌, ◌<◌, List, Option, None, Some, length, max}
 use Rattle.std.specs.List.{AllByRecursion}
 use Rattle.fmp_base.specs.declared.events.Effect.TheVariants as effect
 use Rattle.fmp_base.specs.declared.events.Event.{Event}
@@ -11,6 +11,8 @@ use Rattle.fmp_kernel.specs.KernelViews.{KernelView, view_after}
 use Rattle.fmp_trace.specs.StepsLaws.{IsStep}
 use Rattle.fmp_drive.specs.declared.driving.Stop.{Stop}
 use Rattle.fmp_drive.specs.declared.driving.Stop.TheVariants.{Quiet, Enough}
+use Rattle.fmp_drive.specs.declared.plan.Wish.{Wish}
+use Rattle.fmp_drive.specs.declared.plan.Wish.TheVariants as wish
 use Rattle.fmp_drive.specs.declared.trying.Source.{Source}
 use Rattle.fmp_drive.specs.declared.trying.Source.TheVariants.{Processor, Interrupt}
 
@@ -28,17 +30,34 @@ pub record HasDone {B C : Type 0} (meaning : B → Meaning C) (before after : Ke
   pub done : effect.Done ≡ effect_of (reaction meaning before e)
   pub view : after ≡ view_after before (reaction meaning before e)
 
--- the event is one of a source, by a number from the first one up to the end, which is left out
-pub record IsFrom (source : Source) (first end : ℕ) (e : Event) : Type 0 where
+-- no event of a source by a number from the first one up to the end, which is left out, does anything
+abbrev pub AllStand : {B C : Type 0} → (B → Meaning C) → KernelView B C → Source → (first end : ℕ) → Type 0
+AllStand meaning k source first end =
+    (number : ℕ) → first ≤ number → number < end → reaction meaning k (event_of source number) ≡ Nothing
+
+-- the event is one of a source, by such a number, and no event by a smaller one from the first one on does anything
+pub record IsFirstFrom {B C : Type 0} (meaning : B → Meaning C) (k : KernelView B C) (source : Source) (first end : ℕ)
+    (e : Event) : Type 0 where
   pub number : ℕ
   pub first_on : first ≤ number
   pub in_front : number < end
   pub event : e ≡ event_of source number
+  pub others : AllStand meaning k source first number
 
--- no event of a source by such a number does anything
-abbrev pub AllStand : {B C : Type 0} → (B → Meaning C) → KernelView B C → Source → (first end : ℕ) → Type 0
-AllStand meaning k source first end =
-    (number : ℕ) → first ≤ number → number < end → reaction meaning k (event_of source number) ≡ Nothing
+-- the kernel has done the first event of a source, by such a number, that does something; or none does
+abbrev pub DoesFirst : {B C : Type 0} → (B → Meaning C) → (before after : KernelView B C) → Source → (first end : ℕ)
+    → Option Event → Type 0
+DoesFirst meaning before after source first end None = AllStand meaning before source first end × (after ≡ before)
+DoesFirst meaning before after source first end (Some e) =
+    HasDone meaning before after e × IsFirstFrom meaning before source first end e
+
+-- What is wished from outside of the tasks was done: a tick, or the first interrupt that does something, from the number
+-- wished on; of processors nothing is wished here.
+abbrev pub IsStirred : {B C : Type 0} → (B → Meaning C) → (before after : KernelView B C) → Wish → Option Event → Type 0
+IsStirred meaning before after (wish.Run first) done = (done ≡ None) × (after ≡ before)
+IsStirred meaning before after wish.Tick done = (done ≡ Some event.Tick) × HasDone meaning before after event.Tick
+IsStirred meaning before after (wish.Interrupt first) done =
+    DoesFirst meaning before after Interrupt (max first 1) 33 done
 
 -- the kernel has done these events one after the other, and each of them did something
 pub record HasRun {B C : Type 0} (meaning : B → Meaning C) (before after : KernelView B C) (es : List Event) :

@@ -1,7 +1,7 @@
 //! Driving a kernel: events that each do something, until no processor goes on.
-ghost use Rattle.std.specs.Prelude.{◌≡◌, ◌+◌, ◌<◌, ◌≤◌, ◌^◌, length, IfOk, MatchOption};
+ghost use Rattle.std.specs.Prelude.{◌≡◌, ◌+◌, ◌<◌, ◌≤◌, ◌^◌, length, IfOk, IfSome, MatchOption};
 ghost use Rattle.fmp_trace.specs.StepsLaws.{IsStep};
-ghost use Rattle.fmp_drive.specs.Driving.{AllStand, HasDone, IsDriven};
+ghost use Rattle.fmp_drive.specs.Driving.{AllStand, HasDone, IsDriven, IsStirred};
 ghost use Rattle.fmp_drive.specs.declared.trying.Source.TheVariants as source;
 
 use crate::plan::{Plan, Wish};
@@ -30,8 +30,8 @@ pub struct Driven {
 /// What comes from outside of the tasks, where it is wished: a tick, or an interrupt that does something.
 fn stir<B: Body>(kernel: &mut Kernel<B>, wish: Wish, processors: u8) -> Option<Event>
     requires { kernel.old.done < 2 ^ 20 }
-    ensures { MatchOption result (kernel.new ≡ kernel.old)
-        (λ e. HasDone B.meaning kernel.old kernel.new e × IsStep processors e) }
+    ensures stirred { IsStirred B.meaning kernel.old kernel.new wish result }
+    ensures step { IfSome result (IsStep processors) }
 {
     match wish {
         Wish::Run(_) => None,

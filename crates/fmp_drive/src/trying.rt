@@ -1,8 +1,8 @@
 //! Events that are tried in order until one does something.
-ghost use Rattle.std.specs.Prelude.{◌≡◌, ◌+◌, ◌<◌, ◌≤◌, ◌^◌, MatchOption};
+ghost use Rattle.std.specs.Prelude.{◌≡◌, ◌+◌, ◌<◌, ◌≤◌, ◌^◌, IfSome, MatchOption};
 ghost use Rattle.fmp_drive.specs.declared.trying.Source.TheVariants as source;
 ghost use Rattle.fmp_trace.specs.StepsLaws.{IsStep};
-ghost use Rattle.fmp_drive.specs.Driving.{AllStand, HasDone, IsFrom, event_of};
+ghost use Rattle.fmp_drive.specs.Driving.{AllStand, DoesFirst, HasDone, event_of};
 
 use fmp_base::{Effect, Event};
 use fmp_kernel::{Body, Kernel};
@@ -38,9 +38,7 @@ pub fn first_done<B: Body>(
     end: u8,
 ) -> Option<Event>
     requires { kernel.old.done < 2 ^ 20 }
-    ensures { MatchOption result
-        (AllStand B.meaning kernel.old source first end × (kernel.new ≡ kernel.old))
-        (λ e. HasDone B.meaning kernel.old kernel.new e × IsFrom source first end e) }
+    ensures { DoesFirst B.meaning kernel.old kernel.new source first end result }
 {
     for number in first..end {
         let e = event_of(source, number);
@@ -94,8 +92,8 @@ pub fn run_one<B: Body>(kernel: &mut Kernel<B>, first: u8, processors: u8) -> Op
 pub fn raise<B: Body>(kernel: &mut Kernel<B>, first: u8, processors: u8) -> Option<Event>
     requires few { kernel.old.done < 2 ^ 20 }
     requires first { 1 ≤ first }
-    ensures { MatchOption result (kernel.new ≡ kernel.old)
-        (λ e. HasDone B.meaning kernel.old kernel.new e × IsStep processors e) }
+    ensures first { DoesFirst B.meaning kernel.old kernel.new source.Interrupt first 33 result }
+    ensures step { IfSome result (IsStep processors) }
 {
     first_done(kernel, Source::Interrupt, first, INTERRUPTS_END)
 }
@@ -103,6 +101,7 @@ pub fn raise<B: Body>(kernel: &mut Kernel<B>, first: u8, processors: u8) -> Opti
 /// The clock advances by one.
 pub fn tick<B: Body>(kernel: &mut Kernel<B>, processors: u8) -> Event
     requires { kernel.old.done < 2 ^ 20 }
+    ensures tick { result ≡ Event.Tick }
     ensures done { HasDone B.meaning kernel.old kernel.new result }
     ensures step { IsStep processors result }
 {

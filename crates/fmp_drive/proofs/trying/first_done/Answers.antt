@@ -21,6 +21,7 @@ returns-in-Done g c = (
     first_on = c.loop-number.invariant.from;
     in_front = c.loop-number-test.true;
     event = c.event_of-e.ensures;
+    others = c.loop-number.invariant.stand;
   },
 )
 
