@@ -36,26 +36,3 @@ impl BodyKind {
         }
     }
 }
-
-/// The call that does the same from bodies of the other kind, if there is one.
-pub fn counterpart(service: Service) -> Option<Service> {
-    match service {
-        Service::ActTsk => Some(Service::IactTsk),
-        Service::WupTsk => Some(Service::IwupTsk),
-        Service::RelWai => Some(Service::IrelWai),
-        Service::SigSem => Some(Service::IsigSem),
-        Service::SetFlg => Some(Service::IsetFlg),
-        Service::PsndDtq => Some(Service::IpsndDtq),
-        Service::FsndDtq => Some(Service::IfsndDtq),
-        Service::RotRdq => Some(Service::IrotRdq),
-        Service::IactTsk => Some(Service::ActTsk),
-        Service::IwupTsk => Some(Service::WupTsk),
-        Service::IrelWai => Some(Service::RelWai),
-        Service::IsigSem => Some(Service::SigSem),
-        Service::IsetFlg => Some(Service::SetFlg),
-        Service::IpsndDtq => Some(Service::PsndDtq),
-        Service::IfsndDtq => Some(Service::FsndDtq),
-        Service::IrotRdq => Some(Service::RotRdq),
-        _ => None,
-    }
-}

@@ -6,7 +6,7 @@ ghost use Rattle.fmp_diagnosis.specs.Words.{IsSaid};
 
 use crate::apis::{api_at, entry_of, is_symbol, value_of};
 use crate::around::{begins_body_at, is_among, line_of, list_of, name_at};
-use crate::contexts::{BodyKind, counterpart};
+use crate::contexts::BodyKind;
 use crate::fields::{Field, object_of};
 use crate::objects::{Object, Objects};
 use crate::reports::FileNames;
@@ -233,7 +233,7 @@ fn say_barred(barred: BarredCall, out: &mut Vec<u8>) -> Result<(), AllocError>
     let answers = Word::Text(" answers E_CTX in ");
     let body = Word::Text(barred.body.called());
     let end = Word::Text("\n");
-    match counterpart(barred.service) {
+    match barred.service.counterpart() {
         Some(other) => {
             let other = Word::Quoted(other.name());
             say(
