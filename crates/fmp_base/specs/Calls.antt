@@ -9,7 +9,7 @@ use Rattle.fmp_base.specs.declared.states.Caller.TheVariants as caller
 use Rattle.fmp_base.specs.declared.states.TaskBlock.{TaskBlock}
 use Rattle.fmp_base.specs.declared.states.TimeLimit.TheVariants.{Forever, Poll}
 use Rattle.fmp_base.specs.Changes.{ended_itself}
-use Rattle.fmp_base.specs.Outcomes.{Outcome, succeeds_in, refused_if}
+use Rattle.fmp_base.specs.Outcomes.{CallOutcome, succeeds_in, refused_if}
 use Rattle.fmp_base.specs.Permissions.{permission, is_barred}
 use Rattle.fmp_base.specs.Services.{service_of}
 use Rattle.fmp_base.specs.States.{KernelState, task_at, processor_at}
@@ -22,7 +22,7 @@ use Rattle.fmp_base.specs.MailboxCalls.{snd_mbx, rcv_mbx, trcv_mbx}
 use Rattle.fmp_base.specs.ProcessorCalls.{sta_cyc, stp_cyc, loc_cpu, unl_cpu, dispatch_set, loc_spn, try_spn, unl_spn}
 
 -- the effect of a call that may be made: by task me, whose block is x, or by a handler, on processor p
-abbrev pub case_of : SystemTables → KernelState → (p me : ℕ) → TaskBlock → Call → Outcome
+abbrev pub case_of : SystemTables → KernelState → (p me : ℕ) → TaskBlock → Call → CallOutcome
 case_of sys s p me x (call.Put value) = succeeds_in s
 case_of sys s p me x (call.LdShr word) = ld_shr s word
 case_of sys s p me x (call.StShr word value) = st_shr s word value
@@ -84,11 +84,11 @@ case_of sys s p me x (call.IrotRdq priority) = irot_rdq s p priority
 
 -- the effect of a call of this caller on processor p that may be made; a handler is no task, and no call that it may
 -- make looks at one that calls
-abbrev pub case_by : SystemTables → KernelState → ℕ → Caller → Call → Outcome
+abbrev pub case_by : SystemTables → KernelState → ℕ → Caller → Call → CallOutcome
 case_by sys s p (caller.Task me) c = case_of sys s p me (task_at s.tasks me) c
 case_by sys s p (caller.Handler h) c = case_of sys s p 0 (task_at [] 0) c
 
 -- the effect of a call of the actor of processor p
-abbrev pub called : SystemTables → KernelState → ℕ → Caller → Call → Outcome
+abbrev pub called : SystemTables → KernelState → ℕ → Caller → Call → CallOutcome
 called sys s p who c =
     refused_if (is_barred (permission (service_of c)) (processor_at s p) who c) s er.Ctx (case_by sys s p who c)

@@ -11,7 +11,7 @@ use Rattle.fmp_base.specs.declared.states.WaitCause.{WaitCause}
 use Rattle.fmp_base.specs.declared.states.WaitCause.TheVariants as cause
 use Rattle.fmp_base.specs.declared.states.WaitQueue.TheVariants as queue
 use Rattle.fmp_base.specs.Changes.{released}
-use Rattle.fmp_base.specs.Outcomes.{Outcome, given, succeeds, succeeds_in, gives, waits_within, limit_of, numbered, ranged, tested, refused_if}
+use Rattle.fmp_base.specs.Outcomes.{CallOutcome, given, succeeds, succeeds_in, gives, waits_within, limit_of, numbered, ranged, tested, refused_if}
 use Rattle.fmp_base.specs.Queues.{wait_queue}
 use Rattle.fmp_base.specs.States.{KernelState, Progress, unchanged, task_at}
 use Rattle.fmp_base.specs.Systems.{SystemTables, flag_config}
@@ -59,12 +59,12 @@ bits_set sys s f bits =
     walk (flag_config sys f).clears f bits (wait_queue sys s (queue.Flag f)) (unchanged (with_pattern s f bits))
 
 -- set_flg and iset_flg
-abbrev pub set_flg : SystemTables → KernelState → ℤ → ℤ → Outcome
+abbrev pub set_flg : SystemTables → KernelState → ℤ → ℤ → CallOutcome
 set_flg sys s f b =
     tested s er.Id (numbered (length s.flags) f)
     (λ i. tested s er.Par (ranged 0 65535 b) (λ bits. succeeds (bits_set sys s i (bit_or (pattern_at s i) bits))))
 
-abbrev pub clr_flg : KernelState → ℤ → ℤ → Outcome
+abbrev pub clr_flg : KernelState → ℤ → ℤ → CallOutcome
 clr_flg s f b =
     tested s er.Id (numbered (length s.flags) f) (λ i. tested s er.Par (ranged 0 65535 b)
     (λ bits. succeeds_in (with_pattern s i (bit_and (pattern_at s i) bits))))
@@ -81,32 +81,32 @@ is_empty [] = true
 is_empty (t ∷ ts) = false
 
 -- the caller gets the pattern, which is then cleared where the flag has TA_CLR
-abbrev pub obtained : Bool → KernelState → ℕ → Outcome
+abbrev pub obtained : Bool → KernelState → ℕ → CallOutcome
 obtained true s f = gives (pos (pattern_at s f)) (unchanged (with_pattern s f 0))
 obtained false s f = gives (pos (pattern_at s f)) (unchanged s)
 
 abbrev pub awaited_by : Bool → SystemTables → KernelState → ℕ → TaskBlock → TimeLimit → (f pattern : ℕ) → FlagMode
-    → Outcome
+    → CallOutcome
 awaited_by true sys s me x limit f pattern mode = obtained (flag_config sys f).clears s f
 awaited_by false sys s me x limit f pattern mode = waits_within limit s me x (cause.Flag f pattern mode)
 
 -- without TA_WMUL only one task may wait
-abbrev pub awaited : SystemTables → KernelState → ℕ → TaskBlock → (f pattern : ℕ) → FlagMode → TimeLimit → Outcome
+abbrev pub awaited : SystemTables → KernelState → ℕ → TaskBlock → (f pattern : ℕ) → FlagMode → TimeLimit → CallOutcome
 awaited sys s me x f pattern mode limit =
     refused_if (not (flag_config sys f).multiple && not (is_empty (wait_queue sys s (queue.Flag f)))) s er.Iluse
     (awaited_by (satisfies mode pattern (pattern_at s f)) sys s me x limit f pattern mode)
 
 -- goes on with a flag, a pattern and a mode, which are tested in this order
-abbrev pub flag_tested : KernelState → ℤ → ℤ → ℤ → (ℕ → ℕ → FlagMode → Outcome) → Outcome
+abbrev pub flag_tested : KernelState → ℤ → ℤ → ℤ → (ℕ → ℕ → FlagMode → CallOutcome) → CallOutcome
 flag_tested s f b o go =
     tested s er.Id (numbered (length s.flags) f)
     (λ i. tested s er.Par (ranged 1 65535 b) (λ bits. tested s er.Par (mode_of o) (λ mode. go i bits mode)))
 
 -- wai_flg and pol_flg
-abbrev pub wai_flg : SystemTables → KernelState → ℕ → TaskBlock → TimeLimit → ℤ → ℤ → ℤ → Outcome
+abbrev pub wai_flg : SystemTables → KernelState → ℕ → TaskBlock → TimeLimit → ℤ → ℤ → ℤ → CallOutcome
 wai_flg sys s me x limit f b o = flag_tested s f b o (λ i bits mode. awaited sys s me x i bits mode limit)
 
-abbrev pub twai_flg : SystemTables → KernelState → ℕ → TaskBlock → ℤ → ℤ → ℤ → ℤ → Outcome
+abbrev pub twai_flg : SystemTables → KernelState → ℕ → TaskBlock → ℤ → ℤ → ℤ → ℤ → CallOutcome
 twai_flg sys s me x f b o tmout =
     flag_tested s f b o
     (λ i bits mode. tested s er.Par (limit_of tmout) (λ limit. awaited sys s me x i bits mode limit))

@@ -8,7 +8,7 @@ use Rattle.fmp_base.specs.declared.states.WaitQueue.TheVariants as queue
 use Rattle.fmp_base.specs.declared.systems.QueueOrder.{QueueOrder}
 use Rattle.fmp_base.specs.declared.systems.QueueOrder.TheVariants.{Fifo, Priority}
 use Rattle.fmp_base.specs.Changes.{released}
-use Rattle.fmp_base.specs.Outcomes.{Outcome, given, succeeds, succeeds_in, gives, waits_within, limit_of, numbered, tested, refused_if}
+use Rattle.fmp_base.specs.Outcomes.{CallOutcome, given, succeeds, succeeds_in, gives, waits_within, limit_of, numbered, tested, refused_if}
 use Rattle.fmp_base.specs.Queues.{first_waiting, is_by_priority}
 use Rattle.fmp_base.specs.States.{KernelState, unchanged, task_at}
 use Rattle.fmp_base.specs.Systems.{SystemTables, mailbox_config, message_config}
@@ -43,7 +43,7 @@ abbrev pub message_priority : SystemTables → ℕ → ℕ
 message_priority sys message = (message_config sys message).priority
 
 -- the first waiting task, if any, is released with the message; else the message is queued
-abbrev pub message_sent_to : Option ℕ → SystemTables → KernelState → (mailbox message : ℕ) → Outcome
+abbrev pub message_sent_to : Option ℕ → SystemTables → KernelState → (mailbox message : ℕ) → CallOutcome
 message_sent_to (Some t) sys s mailbox message =
     succeeds (released (unchanged s) t (task_at s.tasks t) (given (pos (message + 1))))
 message_sent_to None sys s mailbox message =
@@ -51,31 +51,31 @@ message_sent_to None sys s mailbox message =
     (enqueued (mailbox_config sys mailbox).message_order (message_priority sys) message (messages_at s mailbox)))
 
 -- messages that queue by priority have one up to the mailbox's limit; a message is queued once
-abbrev pub message_sent : SystemTables → KernelState → (mailbox message : ℕ) → Outcome
+abbrev pub message_sent : SystemTables → KernelState → (mailbox message : ℕ) → CallOutcome
 message_sent sys s mailbox message =
     refused_if (is_by_priority (mailbox_config sys mailbox).message_order && nat_lt (mailbox_config sys mailbox).most
     (message_priority sys message)) s er.Par (refused_if (is_queued message s.mailboxes) s er.Obj
     (message_sent_to (first_waiting sys s (queue.Mailbox mailbox)) sys s mailbox message))
 
-abbrev pub snd_mbx : SystemTables → KernelState → ℤ → ℤ → Outcome
+abbrev pub snd_mbx : SystemTables → KernelState → ℤ → ℤ → CallOutcome
 snd_mbx sys s mailbox message =
     tested s er.Id (numbered (length s.mailboxes) mailbox)
     (λ i. tested s er.Id (numbered (length sys.messages) message) (message_sent sys s i))
 
 -- the first message is taken, else the caller waits
-abbrev pub message_taken_from : List ℕ → KernelState → ℕ → TaskBlock → TimeLimit → ℕ → Outcome
+abbrev pub message_taken_from : List ℕ → KernelState → ℕ → TaskBlock → TimeLimit → ℕ → CallOutcome
 message_taken_from [] s me x limit mailbox = waits_within limit s me x (cause.Mailbox mailbox)
 message_taken_from (message ∷ rest) s me x limit mailbox =
     gives (pos (message + 1)) (unchanged (with_messages s mailbox rest))
 
-abbrev pub message_received : KernelState → ℕ → TaskBlock → TimeLimit → ℕ → Outcome
+abbrev pub message_received : KernelState → ℕ → TaskBlock → TimeLimit → ℕ → CallOutcome
 message_received s me x limit mailbox = message_taken_from (messages_at s mailbox) s me x limit mailbox
 
 -- rcv_mbx and prcv_mbx
-abbrev pub rcv_mbx : KernelState → ℕ → TaskBlock → TimeLimit → ℤ → Outcome
+abbrev pub rcv_mbx : KernelState → ℕ → TaskBlock → TimeLimit → ℤ → CallOutcome
 rcv_mbx s me x limit mailbox = tested s er.Id (numbered (length s.mailboxes) mailbox) (message_received s me x limit)
 
-abbrev pub trcv_mbx : KernelState → ℕ → TaskBlock → ℤ → ℤ → Outcome
+abbrev pub trcv_mbx : KernelState → ℕ → TaskBlock → ℤ → ℤ → CallOutcome
 trcv_mbx s me x mailbox tmout =
     tested s er.Id (numbered (length s.mailboxes) mailbox)
     (λ i. tested s er.Par (limit_of tmout) (λ limit. message_received s me x limit i))

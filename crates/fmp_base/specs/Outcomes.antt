@@ -13,7 +13,7 @@ use Rattle.fmp_base.specs.declared.states.WaitCause.{WaitCause}
 use Rattle.fmp_base.specs.States.{KernelState, Progress, unchanged, clock_after, task_at, with_last}
 
 -- the answer, and the state after the call with the lines of what it caused
-pub record Outcome : Type 0 where
+pub record CallOutcome : Type 0 where
   pub answer : Answer
   pub progress : Progress
 
@@ -26,29 +26,29 @@ abbrev pub given : ℤ → Reply
 given v = record { code = er.Ok; value = Some v }
 
 -- the call is refused with a code, and nothing changes
-abbrev pub refused : KernelState → Er → Outcome
+abbrev pub refused : KernelState → Er → CallOutcome
 refused s e = record { answer = Replies (code e); progress = unchanged s }
 
 -- E_OK, after this progress
-abbrev pub succeeds : Progress → Outcome
+abbrev pub succeeds : Progress → CallOutcome
 succeeds g = record { answer = Replies (code er.Ok); progress = g }
 
 -- E_OK, in this state
-abbrev pub succeeds_in : KernelState → Outcome
+abbrev pub succeeds_in : KernelState → CallOutcome
 succeeds_in s = succeeds (unchanged s)
 
 -- E_OK with a value, after this progress
-abbrev pub gives : ℤ → Progress → Outcome
+abbrev pub gives : ℤ → Progress → CallOutcome
 gives v g = record { answer = Replies (given v); progress = g }
 
 -- the caller, task t, which is x, waits at the end of the order
-abbrev pub waits : KernelState → ℕ → TaskBlock → WaitCause → Option ℕ → Outcome
+abbrev pub waits : KernelState → ℕ → TaskBlock → WaitCause → Option ℕ → CallOutcome
 waits s t x c deadline =
     record
     { answer = Waits; progress = unchanged (with_last s t (record x { phase = Waiting c; deadline = deadline })) }
 
 -- the caller waits within a limit; a poll fails and changes nothing
-abbrev pub waits_within : TimeLimit → KernelState → ℕ → TaskBlock → WaitCause → Outcome
+abbrev pub waits_within : TimeLimit → KernelState → ℕ → TaskBlock → WaitCause → CallOutcome
 waits_within limit.Forever s t x c = waits s t x c None
 waits_within limit.Poll s t x c = refused s er.Tmout
 waits_within (limit.Ticks n) s t x c = waits s t x c (Some (clock_after s n))
@@ -78,16 +78,16 @@ ranged low high (pos n) = if nat_le low n then (if nat_le n high then Some n els
 ranged low high (negsuc n) = None
 
 -- goes on with what a test of an argument gave, or is refused with the code of that test
-abbrev pub tested : {A : Type 0} → KernelState → Er → Option A → (A → Outcome) → Outcome
+abbrev pub tested : {A : Type 0} → KernelState → Er → Option A → (A → CallOutcome) → CallOutcome
 tested s e None go = refused s e
 tested s e (Some a) go = go a
 
 -- is refused with a code where a test holds, else goes on
-abbrev pub refused_if : Bool → KernelState → Er → Outcome → Outcome
+abbrev pub refused_if : Bool → KernelState → Er → CallOutcome → CallOutcome
 refused_if true s e o = refused s e
 refused_if false s e o = o
 
 -- goes on with task t and its block, or is refused with E_ID
-abbrev pub on_task : KernelState → Option ℕ → (ℕ → TaskBlock → Outcome) → Outcome
+abbrev pub on_task : KernelState → Option ℕ → (ℕ → TaskBlock → CallOutcome) → CallOutcome
 on_task s None go = refused s er.Id
 on_task s (Some t) go = go t (task_at s.tasks t)

@@ -19,7 +19,7 @@ use Rattle.fmp_base.specs.declared.systems.InterruptConfig.{InterruptConfig}
 use Rattle.fmp_base.specs.Calls.{called}
 use Rattle.fmp_base.specs.Changes.{ended_itself}
 use Rattle.fmp_base.specs.Meanings.{Meaning, Contexts, World, caller_body, context_of, with_context, contexts_after_all}
-use Rattle.fmp_base.specs.Outcomes.{Outcome}
+use Rattle.fmp_base.specs.Outcomes.{CallOutcome}
 use Rattle.fmp_base.specs.Settles.{settled}
 use Rattle.fmp_base.specs.States.{KernelState, Progress, unchanged, task_at, processor_at, with_processor}
 use Rattle.fmp_base.specs.Stretches.{Ending}
@@ -75,7 +75,7 @@ answered Waits sys M cs p who c g = Did (finished sys M cs (line.Call p who c No
 answered Ends sys M cs p who c g = Did (finished sys M cs (line.End p who ∷ []) g)
 answered Spins sys M cs p who c g = Nothing
 
-abbrev pub call_made : {C : Type 0} → SystemTables → Meaning C → Contexts (Held C) → ℕ → Caller → Call → Outcome
+abbrev pub call_made : {C : Type 0} → SystemTables → Meaning C → Contexts (Held C) → ℕ → Caller → Call → CallOutcome
     → Reaction C
 call_made sys M cs p who c o = answered o.answer sys M cs p who c o.progress
 

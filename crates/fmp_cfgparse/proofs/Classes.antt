@@ -11,12 +11,12 @@ use Rattle.fmp_lex.specs.declared.reading.GrammarFault.{GrammarFault}
 use Rattle.fmp_lex.specs.declared.reading.GrammarFault.TheVariants.{Syntax}
 use Rattle.fmp_lex.specs.declared.reading.ReadError.{ReadError}
 use Rattle.fmp_lex.specs.declared.reading.ReadError.TheVariants.{Memory, Fault}
-use Rattle.fmp_lex.specs.Reading.{Rel, At, Seq, OneToken, Same, Outcome, found, stopped, place, map_outcome, Right, Anywhere, IsFirstFault, IsWhole, Answers, Star}
+use Rattle.fmp_lex.specs.Reading.{Rel, At, Seq, OneToken, Same, ParseResult, found, stopped, place, map_result, Right, Anywhere, IsFirstFault, IsWhole, Answers, Star}
 use Rattle.fmp_lex.specs.Reading as reading
 use Rattle.fmp_lex.proofs.Sequences.{Framed, Fills, Follows, token_found, right_as, item_framed, fewer}
 use Rattle.fmp_lex.proofs.Wholes.{whole_found, whole_longer, whole_stopped}
 use Rattle.fmp_cfgparse.specs.Trees.{FieldTree, ApiTree, ClassTree, ConfigurationTree, configuration_view}
-use Rattle.fmp_cfgparse.specs.Grammar.{number_of, name_of, api_of, Parts, api_parts, OneApi, OneClass, Config}
+use Rattle.fmp_cfgparse.specs.Grammar.{token_number, name_of, api_of, Parts, api_parts, OneApi, OneClass, Config}
 use Rattle.fmp_cfgparse.specs.Reading.{EndsValue, EndsApis, EndsClasses, RightParts, RightApi, RightApis, RightClass, RightClasses, RightConfig, IsVerdict}
 use Rattle.fmp_cfgparse.proofs.Items.{bar}
 use Rattle.fmp_cfgparse.proofs.Parts.{parts_framed}
@@ -61,14 +61,14 @@ module _ (ts : List TokenKind) (i : ℕ) (a : Api) (is : option_and_then api_of 
         ends,
       )
 
-  api_as : (o : Outcome (List FieldTree)) → Right (At (Behind (kind.Api a) (Parts (api_parts a))) i) EndsValue ts i o →
-      RightApi ts i (map_outcome (λ (fs : List FieldTree). record { kind = a; at = i; fields = fs }) o)
+  api_as : (o : ParseResult (List FieldTree)) → Right (At (Behind (kind.Api a) (Parts (api_parts a))) i) EndsValue ts i o →
+      RightApi ts i (map_result (λ (fs : List FieldTree). record { kind = a; at = i; fields = fs }) o)
   api_as o x = right_as (Behind (kind.Api a) (Parts (api_parts a))) OneApi (λ fs. record { kind = a; at = i; fields = fs })
       (λ us limit fs j r. (refl, r.0, (ap (option_and_then api_of) r.1.0, r.1.1), r.2))
       (λ us limit e j at r ends. api_back us limit e j at r ends) o x
 
-  pub api_then : (o : Outcome (List FieldTree)) → RightParts (api_parts a) ts (i + 1) o →
-      RightApi ts i (map_outcome (λ (fs : List FieldTree). record { kind = a; at = i; fields = fs }) o)
+  pub api_then : (o : ParseResult (List FieldTree)) → RightParts (api_parts a) ts (i + 1) o →
+      RightApi ts i (map_result (λ (fs : List FieldTree). record { kind = a; at = i; fields = fs }) o)
   api_then o x = api_as o (behind_then (kind.Api a) (Parts (api_parts a)) (token_found (kind.Api a) ts i (is_api (slice_get ts i) a is)) o x)
 
 pub apis_follow : Follows EndsValue (Star OneApi) EndsApis
@@ -80,8 +80,8 @@ module _ (ts : List TokenKind) (i : ℕ) where
     api_goes_on : (us : List TokenKind) → slice_get us i ≡ slice_get ts i → EndsApis us i → ⊥
     api_goes_on us at ends = let e : None ≡ Some a = sym ends.1 ∙ (ap (option_and_then api_of) at ∙ is) in absurd (cc)
 
-    pub more_apis : (one : ApiTree) (k : ℕ) → RightApi ts i (found one k) → (o : Outcome (List ApiTree)) → RightApis ts k o →
-        RightApis ts i (map_outcome (λ (more : List ApiTree). one ∷ more) o)
+    pub more_apis : (one : ApiTree) (k : ℕ) → RightApi ts i (found one k) → (o : ParseResult (List ApiTree)) → RightApis ts k o →
+        RightApis ts i (map_result (λ (more : List ApiTree). one ∷ more) o)
     more_apis one k x o rest = star_more OneApi EndsValue EndsApis ts i api_framed apis_follow api_goes_on one k x o rest
 
     pub apis_stop : (j : ℕ) (why : GrammarFault) → RightApi ts i (stopped j why) → RightApis ts i (stopped j why)
@@ -137,7 +137,7 @@ class_to us limit i p j s = (
 class_from : (us : List TokenKind) (limit i : ℕ) (e : ClassTree) (j : ℕ) → OneClass us limit i e j → ClassHead us limit i ((e.at, e.name), e.apis) j
 class_from us limit i e j r = (r.0, r.1, (r.2, r.3, (r.5, (r.4, r.6), (r.7, r.8, (r.9, r.10, (r.11, r.12, r.13))))))
 
-pub class_as : (ts : List TokenKind) (i : ℕ) (o : Outcome ((ℕ × Name) × List ApiTree)) → Right (At ClassHead i) Anywhere ts i o → RightClass ts i (map_outcome class_of o)
+pub class_as : (ts : List TokenKind) (i : ℕ) (o : ParseResult ((ℕ × Name) × List ApiTree)) → Right (At ClassHead i) Anywhere ts i o → RightClass ts i (map_result class_of o)
 class_as ts i o x = right_as ClassHead OneClass class_of (λ us limit p j s. class_to us limit i p j s)
     (λ us limit e j at r ends. (((e.at, e.name), e.apis), refl, class_from us limit i e j r, tt)) o x
 
@@ -157,8 +157,8 @@ module _ (ts : List TokenKind) (i : ℕ) where
     class_goes_on : (us : List TokenKind) → slice_get us i ≡ slice_get ts i → EndsClasses us i → ⊥
     class_goes_on us at ends = ends (at ∙ is)
 
-    pub more_classes : (one : ClassTree) (k : ℕ) → RightClass ts i (found one k) → (o : Outcome (List ClassTree)) → RightClasses ts k o →
-        RightClasses ts i (map_outcome (λ (more : List ClassTree). one ∷ more) o)
+    pub more_classes : (one : ClassTree) (k : ℕ) → RightClass ts i (found one k) → (o : ParseResult (List ClassTree)) → RightClasses ts k o →
+        RightClasses ts i (map_result (λ (more : List ClassTree). one ∷ more) o)
     more_classes one k x o rest = star_more OneClass Anywhere EndsClasses ts i class_framed (λ us limit n b m y ends. tt) class_goes_on one k x o rest
 
     pub classes_stop : (j : ℕ) (why : GrammarFault) → RightClass ts i (stopped j why) → RightClasses ts i (stopped j why)
@@ -175,7 +175,7 @@ abbrev pub semicolon : TokenKind
 semicolon = kind.Symbol symbol.Semicolon
 
 abbrev pub ConfigHead : Rel ((ℕ × ℤ) × List ClassTree)
-ConfigHead = Head processors_word semicolon (reading.Item number_of) (Star OneClass)
+ConfigHead = Head processors_word semicolon (reading.Item token_number) (Star OneClass)
 
 abbrev pub config_of : (ℕ × ℤ) × List ClassTree → ConfigurationTree
 config_of p = record { processors = p.0.1; at = p.0.0; classes = p.1 }
@@ -199,13 +199,13 @@ config_to us limit i p j s = (
 config_from : (us : List TokenKind) (limit i : ℕ) (e : ConfigurationTree) (j : ℕ) → Config us limit i e j → ConfigHead us limit i ((e.at, e.processors), e.classes) j
 config_from us limit i e j r = (r.0, r.1, (r.2, r.3, (r.5, (r.4, r.6), (r.7, r.8, (r.9, r.10, r.11)))))
 
-pub config_as : (ts : List TokenKind) (o : Outcome ((ℕ × ℤ) × List ClassTree)) → Right (At ConfigHead 0) EndsClasses ts 0 o → RightConfig ts 0 (map_outcome config_of o)
+pub config_as : (ts : List TokenKind) (o : ParseResult ((ℕ × ℤ) × List ClassTree)) → Right (At ConfigHead 0) EndsClasses ts 0 o → RightConfig ts 0 (map_result config_of o)
 config_as ts o x = right_as ConfigHead Config config_of (λ us limit p j s. config_to us limit 0 p j s)
     (λ us limit e j at r ends. (((e.at, e.processors), e.classes), refl, config_from us limit 0 e j r, ends)) o x
 
 pub config_framed : Framed Config
 config_framed =
-    let f = head_framed processors_word semicolon (reading.Item number_of) (Star OneClass) (item_framed number_of) (star_framed OneClass class_framed) in record {
+    let f = head_framed processors_word semicolon (reading.Item token_number) (Star OneClass) (item_framed token_number) (star_framed OneClass class_framed) in record {
       up = λ us limit i c j x. f.up us limit i ((c.at, c.processors), c.classes) j (config_from us limit i c j x);
       same = λ ts us limit lower i c j low x same.
           config_to us lower i ((c.at, c.processors), c.classes) j (f.same ts us limit lower i ((c.at, c.processors), c.classes) j low (config_from ts limit i c j x) same);

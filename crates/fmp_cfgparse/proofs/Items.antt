@@ -6,12 +6,12 @@ use Rattle.fmp_lex.specs.declared.token.TokenKind.{TokenKind}
 use Rattle.fmp_lex.specs.declared.token.TokenKind.TheVariants as kind
 use Rattle.fmp_lex.specs.declared.reading.GrammarFault.{GrammarFault}
 use Rattle.fmp_lex.specs.declared.reading.GrammarFault.TheVariants.{Syntax}
-use Rattle.fmp_lex.specs.Reading.{Rel, At, Seq, OneToken, IsToken, IsItem, Same, Outcome, found, stopped, place, map_outcome, Right, Anywhere, Star}
+use Rattle.fmp_lex.specs.Reading.{Rel, At, Seq, OneToken, IsToken, IsItem, Same, ParseResult, found, stopped, place, map_result, Right, Anywhere, Star}
 use Rattle.fmp_lex.specs.Reading as reading
 use Rattle.fmp_lex.proofs.Sequences.{Framed, Fills, token_found, seq_framed, seq_fills, seq_then, seq_stop, right_as, item_framed, item_fills, item_found, item_missing}
 use Rattle.fmp_cfgparse.specs.declared.tree.Item.{Item}
 use Rattle.fmp_cfgparse.specs.declared.tree.Item.TheVariants as item
-use Rattle.fmp_cfgparse.specs.Grammar.{number_of, name_of, plain_item_of, OneItem, MoreItem, OneValue}
+use Rattle.fmp_cfgparse.specs.Grammar.{token_number, name_of, plain_item_of, OneItem, MoreItem, OneValue}
 use Rattle.fmp_cfgparse.specs.Reading.{EndsValue, RightItem, RightNumber, RightValue}
 use Rattle.fmp_lex.proofs.Repetitions.{Behind, behind_framed, behind_then, star_framed, star_fills, star_none, star_more, star_stop}
 
@@ -53,13 +53,13 @@ item_same ts us limit lower i (item.Number n) j low x same = (item_framed plain_
 item_same ts us limit lower i (item.Constant n) j low x same = (item_framed plain_item_of).same ts us limit lower i (item.Constant n) j low x same
 item_same ts us limit lower i (item.Name n) j low x same = (item_framed plain_item_of).same ts us limit lower i (item.Name n) j low x same
 item_same ts us limit lower i (item.Minus n) j low x same =
-    (behind_framed minus (reading.Item number_of) (item_framed number_of)).same ts us limit lower i n j low x same
+    (behind_framed minus (reading.Item token_number) (item_framed token_number)).same ts us limit lower i n j low x same
 
 pub one_item_framed : Framed OneItem
 one_item_framed = record { up = item_up; same = item_same }
 
-pub number_fills : Fills (reading.Item number_of)
-number_fills = item_fills number_of (kind.Number (pos 0)) (pos 0) refl
+pub number_fills : Fills (reading.Item token_number)
+number_fills = item_fills token_number (kind.Number (pos 0)) (pos 0) refl
 
 pub name_fills : Fills (reading.Item name_of)
 name_fills = item_fills name_of (kind.Name (name_from [])) (name_from []) refl
@@ -73,22 +73,22 @@ one_item_fills us limit low = let x = plain_fills us limit low in
 
 -- a number behind a minus sign
 pub minus_back : (us : List TokenKind) (limit i : ℕ) (e : Item) (j : ℕ) → slice_get us i ≡ Some minus → OneItem us limit i e j →
-    (n : ℤ) × (e ≡ item.Minus n) × Behind minus (reading.Item number_of) us limit i n j
+    (n : ℤ) × (e ≡ item.Minus n) × Behind minus (reading.Item token_number) us limit i n j
 minus_back us limit i (item.Minus n) j is x = (n, refl, x)
 minus_back us limit i (item.Number n) j is x = let e : None ≡ Some (item.Number n) = ap (option_and_then plain_item_of) (sym is) ∙ x.0 in absurd (cc)
 minus_back us limit i (item.Constant n) j is x = let e : None ≡ Some (item.Constant n) = ap (option_and_then plain_item_of) (sym is) ∙ x.0 in absurd (cc)
 minus_back us limit i (item.Name n) j is x = let e : None ≡ Some (item.Name n) = ap (option_and_then plain_item_of) (sym is) ∙ x.0 in absurd (cc)
 
-minus_as : (ts : List TokenKind) (i : ℕ) → slice_get ts i ≡ Some minus → (o : Outcome ℤ) →
-    Right (At (Behind minus (reading.Item number_of)) i) Anywhere ts i o → RightItem ts i (map_outcome (λ (n : ℤ). item.Minus n) o)
-minus_as ts i is o x = right_as (Behind minus (reading.Item number_of)) OneItem (λ n. item.Minus n) (λ us limit n j r. r)
+minus_as : (ts : List TokenKind) (i : ℕ) → slice_get ts i ≡ Some minus → (o : ParseResult ℤ) →
+    Right (At (Behind minus (reading.Item token_number)) i) Anywhere ts i o → RightItem ts i (map_result (λ (n : ℤ). item.Minus n) o)
+minus_as ts i is o x = right_as (Behind minus (reading.Item token_number)) OneItem (λ n. item.Minus n) (λ us limit n j r. r)
     (λ us limit e j at r ends. let b = minus_back us limit i e j (at ∙ is) r in (b.0, b.1, b.2, tt)) o x
 
 pub minus_found : (ts : List TokenKind) (i : ℕ) → slice_get ts i ≡ Some minus → (n : ℤ) (j : ℕ) → RightNumber ts (i + 1) (found n j) → RightItem ts i (found (item.Minus n) j)
-minus_found ts i is n j x = minus_as ts i is (found n j) (behind_then minus (reading.Item number_of) (token_found minus ts i is) (found n j) x)
+minus_found ts i is n j x = minus_as ts i is (found n j) (behind_then minus (reading.Item token_number) (token_found minus ts i is) (found n j) x)
 
 pub minus_stopped : (ts : List TokenKind) (i : ℕ) → slice_get ts i ≡ Some minus → (j : ℕ) (why : GrammarFault) → RightNumber ts (i + 1) (stopped j why) → RightItem ts i (stopped j why)
-minus_stopped ts i is j why x = minus_as ts i is (stopped j why) (behind_then minus (reading.Item number_of) (token_found minus ts i is) (stopped j why) x)
+minus_stopped ts i is j why x = minus_as ts i is (stopped j why) (behind_then minus (reading.Item token_number) (token_found minus ts i is) (stopped j why) x)
 
 -- an item of one token
 pub plain_back : (us : List TokenKind) (limit i : ℕ) (e : Item) (j : ℕ) → (slice_get us i ≡ Some minus → ⊥) → OneItem us limit i e j → IsItem plain_item_of us i e j
@@ -97,8 +97,8 @@ plain_back us limit i (item.Number n) j is_not x = x
 plain_back us limit i (item.Constant n) j is_not x = x
 plain_back us limit i (item.Name n) j is_not x = x
 
-plain_as : (ts : List TokenKind) (i : ℕ) → (slice_get ts i ≡ Some minus → ⊥) → (o : Outcome Item) → Right (At (reading.Item plain_item_of) i) Anywhere ts i o →
-    RightItem ts i (map_outcome (λ (a : Item). a) o)
+plain_as : (ts : List TokenKind) (i : ℕ) → (slice_get ts i ≡ Some minus → ⊥) → (o : ParseResult Item) → Right (At (reading.Item plain_item_of) i) Anywhere ts i o →
+    RightItem ts i (map_result (λ (a : Item). a) o)
 plain_as ts i is_not o x = right_as (reading.Item plain_item_of) OneItem (λ a. a) (λ us limit a j r. one_token us limit i a j r)
     (λ us limit e j at r ends. (e, refl, plain_back us limit i e j (λ is. is_not (sym at ∙ is)) r, tt)) o x
 
@@ -120,13 +120,13 @@ value_back : (us : List TokenKind) (limit i : ℕ) (e : List Item) (j : ℕ) →
 value_back us limit i [] j x = absurd x
 value_back us limit i (a ∷ more) j x = ((a, more), refl, x)
 
-value_as : (ts : List TokenKind) (i : ℕ) (o : Outcome (Item × List Item)) → Right (At (Seq OneItem (Star MoreItem)) i) EndsValue ts i o →
-    RightValue ts i (map_outcome (λ (p : Item × List Item). p.0 ∷ p.1) o)
+value_as : (ts : List TokenKind) (i : ℕ) (o : ParseResult (Item × List Item)) → Right (At (Seq OneItem (Star MoreItem)) i) EndsValue ts i o →
+    RightValue ts i (map_result (λ (p : Item × List Item). p.0 ∷ p.1) o)
 value_as ts i o x = right_as (Seq OneItem (Star MoreItem)) OneValue (λ p. p.0 ∷ p.1) (λ us limit p j r. r)
     (λ us limit e j at r ends. let b = value_back us limit i e j r in (b.0, b.1, b.2, ends)) o x
 
-pub value_then : (ts : List TokenKind) (i k : ℕ) (a : Item) → RightItem ts i (found a k) → (o : Outcome (List Item)) → Right (At (Star MoreItem) k) EndsValue ts k o →
-    RightValue ts i (map_outcome (λ (more : List Item). a ∷ more) o)
+pub value_then : (ts : List TokenKind) (i k : ℕ) (a : Item) → RightItem ts i (found a k) → (o : ParseResult (List Item)) → Right (At (Star MoreItem) k) EndsValue ts k o →
+    RightValue ts i (map_result (λ (more : List Item). a ∷ more) o)
 value_then ts i k a x (found more j) rest =
     value_as ts i (found (a, more) j) (seq_then OneItem (Star MoreItem) one_item_framed (λ us limit n b m y ends. tt) x (found more j) rest)
 value_then ts i k a x (stopped j why) rest =
@@ -139,8 +139,8 @@ module _ (ts : List TokenKind) (i : ℕ) where
   goes_on : slice_get ts i ≡ Some bar → (us : List TokenKind) → slice_get us i ≡ slice_get ts i → EndsValue us i → ⊥
   goes_on is us at ends = ends (at ∙ is)
 
-  pub more_items : slice_get ts i ≡ Some (kind.Symbol symbol.Or) → (a : Item) (k : ℕ) → RightItem ts (i + 1) (found a k) → (o : Outcome (List Item)) →
-      Right (At (Star MoreItem) k) EndsValue ts k o → Right (At (Star MoreItem) i) EndsValue ts i (map_outcome (λ (more : List Item). a ∷ more) o)
+  pub more_items : slice_get ts i ≡ Some (kind.Symbol symbol.Or) → (a : Item) (k : ℕ) → RightItem ts (i + 1) (found a k) → (o : ParseResult (List Item)) →
+      Right (At (Star MoreItem) k) EndsValue ts k o → Right (At (Star MoreItem) i) EndsValue ts i (map_result (λ (more : List Item). a ∷ more) o)
   more_items is a k x o rest = star_more MoreItem Anywhere EndsValue ts i more_item_framed (λ us limit n b m y ends. tt) (goes_on is) a k
       (behind_then bar OneItem (token_found bar ts i is) (found a k) x) o rest
 

@@ -25,7 +25,7 @@ use Rattle.fmp_cfgparse.specs.Apis.{gives_name}
 use Rattle.fmp_cfgparse.specs.Grammar.{name_of, plain_item_of, OneItem, MoreItem, OneValue, OnePart, Parts, api_parts, OneApi, OneClass, Config}
 use Rattle.fmp_cfgparse.specs.Tables.{IsObjectName}
 use Rattle.fmp_cfgparse.specs.Trees.{FieldTree, value, name, ApiTree, ClassTree, ConfigurationTree}
-use Rattle.fmp_cfgparse.specs.Values.{item_number, joined, joined_items, number_of, or_zero, field_number, number_at, name_at}
+use Rattle.fmp_cfgparse.specs.Values.{item_number, joined, joined_items, value_number, or_zero, field_number, number_at, name_at}
 use Rattle.fmp_cfgparse.proofs.KnownTokens.{IsKnown, IsKnownAt, known_at}
 
 -- what an item, a field, an API and a class can be
@@ -228,7 +228,7 @@ or_zero_fits (Some z) h = h
 or_zero_fits None h = sfits_lit tt
 
 field_fits : (f : Option FieldTree) → IsKnownPart f → FitsSigned w32 (field_number f)
-field_fits (Some (value items)) h = or_zero_fits (number_of items) (items_fit (Some (pos 0)) items (sfits_lit tt) h)
+field_fits (Some (value items)) h = or_zero_fits (value_number items) (items_fit (Some (pos 0)) items (sfits_lit tt) h)
 field_fits (Some (name n)) h = sfits_lit tt
 field_fits None h = sfits_lit tt
 

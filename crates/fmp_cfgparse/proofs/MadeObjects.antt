@@ -8,7 +8,7 @@ use Rattle.fmp_base.specs.Ranges.{IsInRange, TaskInRange, SemaphoreInRange, Flag
 use Rattle.fmp_base.specs.Systems.{SystemTables}
 use Rattle.fmp_base.specs.declared.words.Api.{Api}
 use Rattle.fmp_base.specs.declared.words.Api.TheVariants as api
-use Rattle.fmp_cfgparse.specs.declared.places.ClassPlace.{ClassPlace}
+use Rattle.fmp_cfgparse.specs.declared.places.ClassProcessors.{ClassProcessors}
 use Rattle.fmp_cfgparse.specs.Apis.{count_of, gives_name, parameters_fit, is_taken, with_object, with_name}
 use Rattle.fmp_cfgparse.specs.Tables.{TaskConfigured, SharedWordConfigured, CyclicConfigured, InterruptConfigured, object_names, interrupt_number, task_name, semaphore_name, flag_name, data_queue_name, mailbox_name, message_name, shared_word_name, spin_lock_name, cyclic_name}
 use Rattle.fmp_cfgparse.specs.Trees.{FieldTree}
@@ -16,7 +16,7 @@ use Rattle.fmp_cfgparse.specs.Values.{number_at, name_at, between, held}
 use Rattle.fmp_cfgparse.proofs.KnownTrees.{IsKnownField, number_fits}
 use Rattle.fmp_cfgparse.proofs.OneMore.{both, held_lies, all_more, count_more, row_more, name_here, name_last, name_later, number_more}
 
-module _ (c : ClassPlace) (f : List FieldTree) (t : SystemTables) where
+module _ (c : ClassProcessors) (f : List FieldTree) (t : SystemTables) where
   pub ranges_more : (k : Api) → c.processor < t.processors → nat_le 255 (count_of k t) ≡ false → parameters_fit k f ≡ true → IsInRange t → IsInRange (with_object c k f t)
   ranges_more api.CreTsk inside room fits h =
       let fit = both (between 1 16 (number_at f 4)) (between 1 65536 (number_at f 5)) fits in

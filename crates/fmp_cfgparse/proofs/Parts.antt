@@ -5,7 +5,7 @@ use Rattle.fmp_lex.specs.declared.token.Symbol.TheVariants as symbol
 use Rattle.fmp_lex.specs.declared.token.TokenKind.{TokenKind}
 use Rattle.fmp_lex.specs.declared.token.TokenKind.TheVariants as kind
 use Rattle.fmp_lex.specs.declared.reading.GrammarFault.{GrammarFault}
-use Rattle.fmp_lex.specs.Reading.{At, Seq, OneToken, Same, Outcome, found, stopped, place, map_outcome, Right, Anywhere}
+use Rattle.fmp_lex.specs.Reading.{At, Seq, OneToken, Same, ParseResult, found, stopped, place, map_result, Right, Anywhere}
 use Rattle.fmp_lex.specs.Reading as reading
 use Rattle.fmp_lex.proofs.Sequences.{Framed, Fills, Follows, token_framed, token_fills, seq_fills, seq_then, seq_stop, right_as, item_framed}
 use Rattle.fmp_lex.specs.Forms.{mark_kind, put}
@@ -62,8 +62,8 @@ module _ (ts : List TokenKind) (i : ℕ) where
   mark_back m us limit (Some (value v)) j x = absurd x
   mark_back m us limit (Some (name n)) j x = absurd x
 
-  pub mark_as : (m : Mark) (o : Outcome (Unit {0})) → Right (At (OneToken (mark_kind m)) i) Anywhere ts i o →
-      RightPart (part.Mark m) ts i (map_outcome (λ (a : Unit {0}). None) o)
+  pub mark_as : (m : Mark) (o : ParseResult (Unit {0})) → Right (At (OneToken (mark_kind m)) i) Anywhere ts i o →
+      RightPart (part.Mark m) ts i (map_result (λ (a : Unit {0}). None) o)
   mark_as m o x = right_as (OneToken (mark_kind m)) (OnePart (part.Mark m)) (λ a. None) (λ us limit a j r. r)
       (λ us limit e j at r ends. mark_back m us limit e j r) o x
 
@@ -73,7 +73,7 @@ module _ (ts : List TokenKind) (i : ℕ) where
   name_back us limit (Some (value v)) j x = absurd x
   name_back us limit (Some (name n)) j x = (n, refl, x, tt)
 
-  pub name_as : (o : Outcome Name) → RightName ts i o → RightPart part.Name ts i (map_outcome (λ (a : Name). Some (name a)) o)
+  pub name_as : (o : ParseResult Name) → RightName ts i o → RightPart part.Name ts i (map_result (λ (a : Name). Some (name a)) o)
   name_as o x = right_as (reading.Item name_of) (OnePart part.Name) (λ a. Some (name a)) (λ us limit a j r. r)
       (λ us limit e j at r ends. name_back us limit e j r) o x
 
@@ -83,7 +83,7 @@ module _ (ts : List TokenKind) (i : ℕ) where
   value_back us limit (Some (value v)) j x ends = (v, refl, x, ends)
   value_back us limit (Some (name n)) j x ends = absurd x
 
-  pub value_as : (o : Outcome (List Item)) → RightValue ts i o → RightPart part.Value ts i (map_outcome (λ (a : List Item). Some (value a)) o)
+  pub value_as : (o : ParseResult (List Item)) → RightValue ts i o → RightPart part.Value ts i (map_result (λ (a : List Item). Some (value a)) o)
   value_as o x = right_as OneValue (OnePart part.Value) (λ a. Some (value a)) (λ us limit a j r. r)
       (λ us limit e j at r ends. value_back us limit e j r ends) o x
 
@@ -149,14 +149,14 @@ parts_fills (p ∷ ps) us limit low =
 
 -- a part, and then the outcome of the others
 module _ (p : Part) (ps : List Part) (ts : List TokenKind) (i : ℕ) where
-  parts_as : (o : Outcome (Option FieldTree × List FieldTree)) → Right (At (Seq (OnePart p) (Parts ps)) i) EndsValue ts i o →
-      RightParts (p ∷ ps) ts i (map_outcome (λ (q : Option FieldTree × List FieldTree). put q.0 q.1) o)
+  parts_as : (o : ParseResult (Option FieldTree × List FieldTree)) → Right (At (Seq (OnePart p) (Parts ps)) i) EndsValue ts i o →
+      RightParts (p ∷ ps) ts i (map_result (λ (q : Option FieldTree × List FieldTree). put q.0 q.1) o)
   parts_as o x = right_as (Seq (OnePart p) (Parts ps)) (Parts (p ∷ ps)) (λ q. put q.0 q.1)
       (λ us limit q j s. (q.0, q.1, refl, s.0, s.1, s.2))
       (λ us limit e j at r ends. ((r.0, r.1), r.2, (r.3, r.4, r.5), ends)) o x
 
-  pub parts_then : (f : Option FieldTree) (k : ℕ) → RightPart p ts i (found f k) → (o : Outcome (List FieldTree)) → RightParts ps ts k o →
-      RightParts (p ∷ ps) ts i (map_outcome (put f) o)
+  pub parts_then : (f : Option FieldTree) (k : ℕ) → RightPart p ts i (found f k) → (o : ParseResult (List FieldTree)) → RightParts ps ts k o →
+      RightParts (p ∷ ps) ts i (map_result (put f) o)
   parts_then f k x (found more j) rest =
       parts_as (found (f, more) j) (seq_then (OnePart p) (Parts ps) (part_framed p) (parts_follow ps) x (found more j) rest)
   parts_then f k x (stopped j why) rest =
@@ -179,8 +179,8 @@ parts_done [] (suc n) h = refl
 parts_done (p ∷ ps) zero h = absurd (omega arith)
 parts_done (p ∷ ps) (suc n) h = parts_done ps n (omega arith)
 
-pub push_put : (xs : List FieldTree) (f : Option FieldTree) (o : Outcome (List FieldTree)) (P : Outcome (List FieldTree) → Type 0) →
-    P (map_outcome (put_before xs) (map_outcome (put f) o)) → P (map_outcome (put_before (xs ++ put f [])) o)
+pub push_put : (xs : List FieldTree) (f : Option FieldTree) (o : ParseResult (List FieldTree)) (P : ParseResult (List FieldTree) → Type 0) →
+    P (map_result (put_before xs) (map_result (put f) o)) → P (map_result (put_before (xs ++ put f [])) o)
 push_put xs (Some f) (found more j) P x = rw append_assoc x
 push_put xs None (found more j) P x = rw append-nil x
 push_put xs (Some f) (stopped j why) P x = x

@@ -11,7 +11,7 @@ use Rattle.fmp_cfgparse.specs.declared.forms.Part.TheVariants as part
 use Rattle.fmp_cfgparse.specs.declared.tree.Item.{Item}
 use Rattle.fmp_cfgparse.specs.declared.tree.Item.TheVariants as item
 use Rattle.fmp_cfgparse.specs.Trees.{FieldTree, value, name, ApiTree, ClassTree, ConfigurationTree}
-use Rattle.fmp_cfgparse.specs.Grammar.{number_of, name_of, plain_item_of, api_of, OneItem, MoreItem, OneValue, OnePart, Parts, api_parts, OneApi, OneClass, Config}
+use Rattle.fmp_cfgparse.specs.Grammar.{token_number, name_of, plain_item_of, api_of, OneItem, MoreItem, OneValue, OnePart, Parts, api_parts, OneApi, OneClass, Config}
 use Rattle.fmp_cfgparse.specs.Reading.{EndsValue, EndsApis, EndsClasses}
 use Rattle.fmp_cfgparse.proofs.Items.{minus, minus_back, plain_back}
 use Rattle.fmp_cfgparse.proofs.Parts.{parts_follow}
@@ -51,7 +51,7 @@ item_single us l i (item.Constant n) j b k x ends y more = one_item us l i (item
 item_single us l i (item.Name n) j b k x ends y more = one_item us l i (item.Name n) j b k (plain_token us i (item.Name n) j x) x y
 item_single us l i (item.Minus n) j b k x ends y more =
     let z = minus_back us l i b k x.1.0 y in
-    let same = item_one number_of us x.0 z.2.0 n j z.0 k (omega (arith, x.1.1, z.2.1.1)) x.2 z.2.2 in
+    let same = item_one token_number us x.0 z.2.0 n j z.0 k (omega (arith, x.1.1, z.2.1.1)) x.2 z.2.2 in
     (z.1 ∙ ap item.Minus same.0, same.1)
 
 more_item_single : Single MoreItem Anywhere
@@ -137,7 +137,7 @@ pub config_single : (ts : List TokenKind) (a b : ConfigurationTree) → IsWhole 
 config_single ts c d x y =
     let l = length ts in
     let at : y.2 ≡ x.2 = omega (arith, x.1.1, x.3.1, y.1.1, y.3.1) in
-    let n = item_one number_of ts x.2 y.2 c.processors x.5 d.processors y.5 at x.6 y.6 in
+    let n = item_one token_number ts x.2 y.2 c.processors x.5 d.processors y.5 at x.6 y.6 in
     let o : y.9 ≡ x.9 = omega (arith, n.1, x.8.1, x.10.1, y.8.1, y.10.1) in
     let t = classes_single ts l x.9 c.classes l d.classes l x.11 (ends_there ts) (subst (λ m. Star OneClass ts l m d.classes l) o y.11) (ends_there ts) in
     let places : d.at ≡ c.at = omega (arith, at, x.4, y.4) in

@@ -12,7 +12,7 @@ use Rattle.fmp_base.specs.declared.names.Name.{Name}
 use Rattle.fmp_lex.specs.declared.fault.FaultKind.{FaultKind}
 use Rattle.fmp_lex.specs.declared.fault.FaultKind.TheVariants as fault
 use Rattle.fmp_base.specs.declared.words.Api.{Api}
-use Rattle.fmp_cfgparse.specs.declared.places.ClassPlace.{ClassPlace}
+use Rattle.fmp_cfgparse.specs.declared.places.ClassProcessors.{ClassProcessors}
 use Rattle.fmp_cfgparse.specs.Apis.{Making, class_of, class_name, only_name, is_used, count_of, gives_name, attribute_fits, parameters_fit, is_taken, refusal, api_fault, with_object, with_name, made}
 use Rattle.fmp_cfgparse.specs.Configuring.{Offence, unless, walk_apis, walk_class, and_then, walk_classes, nothing_made, configured}
 use Rattle.fmp_cfgparse.specs.Tables.{IsConfiguration, IsObjectName, TaskConfigured, SharedWordConfigured, CyclicConfigured, InterruptConfigured, same_name, object_names, interrupt_number}
@@ -52,7 +52,7 @@ distinct_more : (gives : Bool) (n : Name) (names : List Name) → (gives && is_u
 distinct_more true n names unused h = name_more names n h unused
 distinct_more false n names unused h = h
 
-object_made : (processors : ℕ) (c : ClassPlace) (k : Api) (f : List FieldTree) (g : Making) → c.processor < processors → (gives_name k ≡ true → IsObjectName (name_at f 0)) →
+object_made : (processors : ℕ) (c : ClassProcessors) (k : Api) (f : List FieldTree) (g : Making) → c.processor < processors → (gives_name k ≡ true → IsObjectName (name_at f 0)) →
     AllByRecursion IsKnownField f → IsAllowed k f g → IsMaking processors g →
     IsMaking processors (record { tables = with_object c k f g.tables; names = with_name (gives_name k) (name_at f 0) g.names })
 object_made processors c k f g here name known a h =
@@ -97,14 +97,14 @@ allowed a g e =
 -- ---- the walk
 
 module _ (processors : ℕ) where
-  api_made : (c : ClassPlace) (a : ApiTree) (g : Making) → c.processor < processors → IsKnownApi a → api_fault a g ≡ None → IsMaking processors g → IsMaking processors (made c a g)
+  api_made : (c : ClassProcessors) (a : ApiTree) (g : Making) → c.processor < processors → IsKnownApi a → api_fault a g ≡ None → IsMaking processors g → IsMaking processors (made c a g)
   api_made c a g here known e h = object_made processors c a.kind a.fields g here known.names known.fields (allowed a g e) h
 
   went_on : {A : Type 0} (at : ℕ) (o : Option FaultKind) (then_ : Result A Offence) (r : A) → unless at o then_ ≡ Ok r → (o ≡ None) × (then_ ≡ Ok r)
   went_on at None then_ r e = (refl, e)
   went_on at (Some why) then_ r e = cc
 
-  apis_made : (c : ClassPlace) (apis : List ApiTree) (g made_ : Making) → c.processor < processors → AllByRecursion IsKnownApi apis → IsMaking processors g →
+  apis_made : (c : ClassProcessors) (apis : List ApiTree) (g made_ : Making) → c.processor < processors → AllByRecursion IsKnownApi apis → IsMaking processors g →
       walk_apis c apis g ≡ Ok made_ → IsMaking processors made_
   apis_made c [] g made_ here known h e = let same : g ≡ made_ = cc in subst (λ x. IsMaking processors x) same h
   apis_made c (a ∷ more) g made_ here known h e =
@@ -112,16 +112,16 @@ module _ (processors : ℕ) where
       apis_made c more (made c a g) made_ here known.1 (api_made c a g here known.0 on.0 h) on.1
 
   -- a class has a processor of the system
-  place_inside : (digit : ℕ) (only : Bool) (c : ClassPlace) → nat_le 49 digit ≡ true → nat_le digit (48 + processors) ≡ true →
-      ◌≡◌ {A = Option ClassPlace} (Some (record { processor = digit - 49; only = only })) (Some c) → c.processor < processors
+  place_inside : (digit : ℕ) (only : Bool) (c : ClassProcessors) → nat_le 49 digit ≡ true → nat_le digit (48 + processors) ≡ true →
+      ◌≡◌ {A = Option ClassProcessors} (Some (record { processor = digit - 49; only = only })) (Some c) → c.processor < processors
   place_inside digit only c low high is =
       let least : 49 ≤ digit = leb-true 49 digit low in
       let most : digit ≤ 48 + processors = leb-true digit (48 + processors) high in
-      let same : ◌≡◌ {A = ClassPlace} (record { processor = digit - 49; only = only }) c = cc in
-      let at : digit - 49 ≡ c.processor = ap (λ (x : ClassPlace). x.processor) same in
+      let same : ◌≡◌ {A = ClassProcessors} (record { processor = digit - 49; only = only }) c = cc in
+      let at : digit - 49 ≡ c.processor = ap (λ (x : ClassProcessors). x.processor) same in
       omega arith
 
-  digit_inside : (digit : ℕ) (c : ClassPlace) (a b x y : Bool) → nat_le 49 digit ≡ a → nat_le digit (48 + processors) ≡ b →
+  digit_inside : (digit : ℕ) (c : ClassProcessors) (a b x y : Bool) → nat_le 49 digit ≡ a → nat_le digit (48 + processors) ≡ b →
       (if a && b then (if x then Some (record { processor = digit - 49; only = false }) else
       (if y then Some (record { processor = digit - 49; only = true }) else None)) else None)
       ≡ Some c → c.processor < processors
@@ -131,12 +131,12 @@ module _ (processors : ℕ) where
   digit_inside digit c true false x y low high is = cc
   digit_inside digit c false b x y low high is = cc
 
-  class_inside : (text : List ℕ) (c : ClassPlace) → class_of processors text ≡ Some c → c.processor < processors
+  class_inside : (text : List ℕ) (c : ClassProcessors) → class_of processors text ≡ Some c → c.processor < processors
   class_inside text c e =
       let digit = slice_index text 4 in
       digit_inside digit c (nat_le 49 digit) (nat_le digit (48 + processors)) (bytes_eq text (class_name digit)) (bytes_eq text (only_name digit)) refl refl e
 
-  class_made : (at : ℕ) (o : Option ClassPlace) (apis : List ApiTree) (g made_ : Making) → ((c : ClassPlace) → o ≡ Some c → c.processor < processors) →
+  class_made : (at : ℕ) (o : Option ClassProcessors) (apis : List ApiTree) (g made_ : Making) → ((c : ClassProcessors) → o ≡ Some c → c.processor < processors) →
       AllByRecursion IsKnownApi apis → IsMaking processors g → walk_class at o apis g ≡ Ok made_ → IsMaking processors made_
   class_made at None apis g made_ inside known h e = cc
   class_made at (Some c) apis g made_ inside known h e = apis_made c apis g made_ (inside c refl) known h e

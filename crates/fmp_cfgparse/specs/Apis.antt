@@ -9,7 +9,7 @@ use Rattle.fmp_base.specs.Names.{name_text}
 use Rattle.fmp_base.specs.Systems.{SystemTables}
 use Rattle.fmp_base.specs.declared.words.Api.{Api}
 use Rattle.fmp_base.specs.declared.words.Api.TheVariants as api
-use Rattle.fmp_cfgparse.specs.declared.places.ClassPlace.{ClassPlace}
+use Rattle.fmp_cfgparse.specs.declared.places.ClassProcessors.{ClassProcessors}
 use Rattle.fmp_lex.specs.declared.fault.FaultKind.{FaultKind}
 use Rattle.fmp_lex.specs.declared.fault.FaultKind.TheVariants as fault
 use Rattle.fmp_cfgparse.specs.Objects.{task, semaphore, flag, data_queue, mailbox, message, shared_word, spin_lock, cyclic, interrupt}
@@ -24,7 +24,7 @@ abbrev pub only_name : ℕ → List ℕ
 only_name digit = codes "TCL_" ++ digit ∷ codes "_ONLY"
 
 -- The class of a name, given the number of processors. The digit 1 is the code 49.
-abbrev pub class_of : ℕ → List ℕ → Option ClassPlace
+abbrev pub class_of : ℕ → List ℕ → Option ClassProcessors
 class_of processors text =
     if nat_le 49 (slice_index text 4) && nat_le (slice_index text 4) (48 + processors)
     then (if bytes_eq text (class_name (slice_index text 4)) then Some
@@ -112,7 +112,7 @@ api_fault a g =
     else (if not (all_known a.fields) then Some fault.UnknownName else refusal a.kind a.fields g.tables))
 
 -- the tables with the object that an API of a class makes
-abbrev pub with_object : ClassPlace → Api → List FieldTree → SystemTables → SystemTables
+abbrev pub with_object : ClassProcessors → Api → List FieldTree → SystemTables → SystemTables
 with_object c api.CreTsk f t = record t { tasks = t.tasks ++ task c f ∷ [] }
 with_object c api.CreSem f t = record t { semaphores = t.semaphores ++ semaphore f ∷ [] }
 with_object c api.CreFlg f t = record t { flags = t.flags ++ flag f ∷ [] }
@@ -130,7 +130,7 @@ with_name true name names = names ++ name ∷ []
 with_name false name names = names
 
 -- what an API of a class makes
-abbrev pub made : ClassPlace → ApiTree → Making → Making
+abbrev pub made : ClassProcessors → ApiTree → Making → Making
 made c a g =
     record {
       tables = with_object c a.kind a.fields g.tables;

@@ -6,7 +6,7 @@ use Rattle.fmp_lex.specs.declared.fault.FaultKind.{FaultKind}
 use Rattle.fmp_lex.specs.declared.fault.FaultKind.TheVariants as fault
 use Rattle.fmp_cfgparse.specs.declared.objects.Stop.{Stop}
 use Rattle.fmp_cfgparse.specs.declared.objects.Stop.TheVariants as stop
-use Rattle.fmp_cfgparse.specs.declared.places.ClassPlace.{ClassPlace}
+use Rattle.fmp_cfgparse.specs.declared.places.ClassProcessors.{ClassProcessors}
 use Rattle.fmp_cfgparse.specs.declared.making.Making as declared
 use Rattle.fmp_cfgparse.specs.Apis.{Making, class_of, api_fault, made}
 use Rattle.fmp_cfgparse.specs.Making.{making_of}
@@ -24,12 +24,12 @@ unless at None then_ = then_
 unless at (Some why) then_ = Err (record { at = at; why = why })
 
 -- the APIs of a class, one after another
-abbrev pub walk_apis : ClassPlace → List ApiTree → Making → Result Making Offence
+abbrev pub walk_apis : ClassProcessors → List ApiTree → Making → Result Making Offence
 walk_apis c [] g = Ok g
 walk_apis c (a ∷ more) g = unless a.at (api_fault a g) (walk_apis c more (made c a g))
 
 -- the APIs of a known class
-abbrev pub walk_class : ℕ → Option ClassPlace → List ApiTree → Making → Result Making Offence
+abbrev pub walk_class : ℕ → Option ClassProcessors → List ApiTree → Making → Result Making Offence
 walk_class at None apis g = Err (record { at = at; why = fault.UnknownName })
 walk_class at (Some c) apis g = walk_apis c apis g
 

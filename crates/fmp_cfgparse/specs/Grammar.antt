@@ -17,9 +17,9 @@ use Rattle.fmp_cfgparse.specs.declared.tree.Item.TheVariants as item
 use Rattle.fmp_cfgparse.specs.Trees.{FieldTree, value, name, ApiTree, ClassTree, ConfigurationTree}
 
 -- the number that a token is; likewise the name, the item and the API
-abbrev pub number_of : TokenKind → Option ℤ
-number_of (kind.Number n) = Some n
-number_of _ = None
+abbrev pub token_number : TokenKind → Option ℤ
+token_number (kind.Number n) = Some n
+token_number _ = None
 
 abbrev pub name_of : TokenKind → Option Name
 name_of (kind.Name n) = Some n
@@ -37,7 +37,7 @@ api_of _ = None
 
 -- item = number | - number | constant | name
 abbrev pub OneItem : Rel Item
-OneItem ts limit i (item.Minus n) j = (k : ℕ) × IsToken ts (kind.Symbol symbol.Minus) i k × IsItem number_of ts k n j
+OneItem ts limit i (item.Minus n) j = (k : ℕ) × IsToken ts (kind.Symbol symbol.Minus) i k × IsItem token_number ts k n j
 OneItem ts limit i a j = IsItem plain_item_of ts i a j
 
 -- | item
@@ -104,5 +104,5 @@ abbrev pub Config : Rel ConfigurationTree
 Config ts limit i c j =
     (k : ℕ) × IsToken ts (kind.Keyword keyword.NumPrc) i k × (l : ℕ) × IsToken ts (kind.Symbol symbol.LeftParen) k l ×
     (c.at ≡ l)
-    × (m : ℕ) × IsItem number_of ts l c.processors m × (n : ℕ) × IsToken ts (kind.Symbol symbol.RightParen) m n ×
+    × (m : ℕ) × IsItem token_number ts l c.processors m × (n : ℕ) × IsToken ts (kind.Symbol symbol.RightParen) m n ×
     (o : ℕ) × IsToken ts (kind.Symbol symbol.Semicolon) n o × Star OneClass ts limit o c.classes j

@@ -13,7 +13,7 @@ use Rattle.fmp_base.specs.declared.systems.SemaphoreConfig.{SemaphoreConfig}
 use Rattle.fmp_base.specs.declared.systems.SharedWordConfig.{SharedWordConfig}
 use Rattle.fmp_base.specs.declared.systems.SpinLockConfig.{SpinLockConfig}
 use Rattle.fmp_base.specs.declared.systems.TaskConfig.{TaskConfig}
-use Rattle.fmp_cfgparse.specs.declared.places.ClassPlace.{ClassPlace}
+use Rattle.fmp_cfgparse.specs.declared.places.ClassProcessors.{ClassProcessors}
 use Rattle.fmp_cfgparse.specs.Trees.{FieldTree}
 use Rattle.fmp_cfgparse.specs.Values.{number_at, name_at, held}
 
@@ -25,7 +25,7 @@ abbrev pub order_by : Bool → QueueOrder
 order_by true = Priority
 order_by false = Fifo
 
-abbrev pub task : ClassPlace → List FieldTree → TaskConfig
+abbrev pub task : ClassProcessors → List FieldTree → TaskConfig
 task c f =
     record {
       name = name_at f 0;
@@ -94,7 +94,7 @@ spin_lock f =
       name = name_at f 0;
     }
 
-abbrev pub cyclic : ClassPlace → List FieldTree → CyclicConfig
+abbrev pub cyclic : ClassProcessors → List FieldTree → CyclicConfig
 cyclic c f =
     record {
       name = name_at f 0;
@@ -106,7 +106,7 @@ cyclic c f =
       processor = c.processor;
     }
 
-abbrev pub interrupt : ClassPlace → List FieldTree → InterruptConfig
+abbrev pub interrupt : ClassProcessors → List FieldTree → InterruptConfig
 interrupt c f =
     record {
       number = held 255 (number_at f 0);

@@ -7,11 +7,11 @@ use Rattle.fmp_lex.specs.declared.token.TokenKind.TheVariants as kind
 use Rattle.fmp_base.specs.declared.words.Keyword.TheVariants as keyword
 use Rattle.fmp_lex.specs.declared.reading.ReadError.{ReadError}
 use Rattle.fmp_lex.specs.declared.reading.ReadError.TheVariants as errors
-use Rattle.fmp_lex.specs.Reading.{At, Item, Outcome, Right, Anywhere, IsWhole, IsFirstFault, Star}
+use Rattle.fmp_lex.specs.Reading.{At, Item, ParseResult, Right, Anywhere, IsWhole, IsFirstFault, Star}
 use Rattle.fmp_cfgparse.specs.declared.forms.Part.{Part}
 use Rattle.fmp_cfgparse.specs.declared.tree.Configuration.{Configuration}
 use Rattle.fmp_cfgparse.specs.declared.tree.Item as tree
-use Rattle.fmp_cfgparse.specs.Grammar.{number_of, name_of, api_of, OneItem, OneValue, OnePart, Parts, OneApi, OneClass, Config}
+use Rattle.fmp_cfgparse.specs.Grammar.{token_number, name_of, api_of, OneItem, OneValue, OnePart, Parts, OneApi, OneClass, Config}
 use Rattle.fmp_cfgparse.specs.Trees.{FieldTree, ApiTree, ClassTree, ConfigurationTree, configuration_view}
 
 -- no `|` follows
@@ -29,37 +29,37 @@ EndsClasses ts j = slice_get ts j ≡ Some (kind.Keyword keyword.Class) → ⊥
 abbrev pub itself : {A : Type 0} → A → A
 itself a = a
 
-abbrev pub RightItem : List TokenKind → ℕ → Outcome tree.Item → Type 0
+abbrev pub RightItem : List TokenKind → ℕ → ParseResult tree.Item → Type 0
 RightItem ts i = Right (At OneItem i) Anywhere ts i
 
-abbrev pub RightNumber : List TokenKind → ℕ → Outcome ℤ → Type 0
-RightNumber ts i = Right (At (Item number_of) i) Anywhere ts i
+abbrev pub RightNumber : List TokenKind → ℕ → ParseResult ℤ → Type 0
+RightNumber ts i = Right (At (Item token_number) i) Anywhere ts i
 
-abbrev pub RightName : List TokenKind → ℕ → Outcome Name → Type 0
+abbrev pub RightName : List TokenKind → ℕ → ParseResult Name → Type 0
 RightName ts i = Right (At (Item name_of) i) Anywhere ts i
 
-abbrev pub RightValue : List TokenKind → ℕ → Outcome (List tree.Item) → Type 0
+abbrev pub RightValue : List TokenKind → ℕ → ParseResult (List tree.Item) → Type 0
 RightValue ts i = Right (At OneValue i) EndsValue ts i
 
-abbrev pub RightPart : Part → List TokenKind → ℕ → Outcome (Option FieldTree) → Type 0
+abbrev pub RightPart : Part → List TokenKind → ℕ → ParseResult (Option FieldTree) → Type 0
 RightPart p ts i = Right (At (OnePart p) i) EndsValue ts i
 
-abbrev pub RightParts : List Part → List TokenKind → ℕ → Outcome (List FieldTree) → Type 0
+abbrev pub RightParts : List Part → List TokenKind → ℕ → ParseResult (List FieldTree) → Type 0
 RightParts ps ts i = Right (At (Parts ps) i) EndsValue ts i
 
-abbrev pub RightApi : List TokenKind → ℕ → Outcome ApiTree → Type 0
+abbrev pub RightApi : List TokenKind → ℕ → ParseResult ApiTree → Type 0
 RightApi ts i = Right (At OneApi i) EndsValue ts i
 
-abbrev pub RightApis : List TokenKind → ℕ → Outcome (List ApiTree) → Type 0
+abbrev pub RightApis : List TokenKind → ℕ → ParseResult (List ApiTree) → Type 0
 RightApis ts i = Right (At (Star OneApi) i) EndsApis ts i
 
-abbrev pub RightClass : List TokenKind → ℕ → Outcome ClassTree → Type 0
+abbrev pub RightClass : List TokenKind → ℕ → ParseResult ClassTree → Type 0
 RightClass ts i = Right (At OneClass i) Anywhere ts i
 
-abbrev pub RightClasses : List TokenKind → ℕ → Outcome (List ClassTree) → Type 0
+abbrev pub RightClasses : List TokenKind → ℕ → ParseResult (List ClassTree) → Type 0
 RightClasses ts i = Right (At (Star OneClass) i) EndsClasses ts i
 
-abbrev pub RightConfig : List TokenKind → ℕ → Outcome ConfigurationTree → Type 0
+abbrev pub RightConfig : List TokenKind → ℕ → ParseResult ConfigurationTree → Type 0
 RightConfig ts i = Right (At Config i) EndsClasses ts i
 
 -- The tokens are a configuration that spells this tree and no other one, or else the first fault stands at this place.

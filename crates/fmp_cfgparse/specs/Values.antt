@@ -27,8 +27,8 @@ joined_items x [] = x
 joined_items x (a ∷ more) = joined_items (joined x (item_number a)) more
 
 -- the number of a value, where it has no unknown constant
-abbrev pub number_of : List Item → Option ℤ
-number_of items = joined_items (Some (pos 0)) items
+abbrev pub value_number : List Item → Option ℤ
+value_number items = joined_items (Some (pos 0)) items
 
 abbrev pub is_known_number : Option ℤ → Bool
 is_known_number (Some x) = true
@@ -36,7 +36,7 @@ is_known_number None = false
 
 -- the field has no unknown constant
 abbrev pub is_known : FieldTree → Bool
-is_known (value items) = is_known_number (number_of items)
+is_known (value items) = is_known_number (value_number items)
 is_known (name n) = true
 
 abbrev pub all_known : List FieldTree → Bool
@@ -49,7 +49,7 @@ or_zero None = pos 0
 
 -- the number of a field; 0 if it has none
 abbrev pub field_number : Option FieldTree → ℤ
-field_number (Some (value items)) = or_zero (number_of items)
+field_number (Some (value items)) = or_zero (value_number items)
 field_number (Some (name n)) = pos 0
 field_number None = pos 0
 

@@ -8,7 +8,7 @@ ghost use Rattle.fmp_cfgparse.specs.declared.objects.Stop.TheVariants.{Memory};
 
 use crate::making::{Making, find_fault, gives_name};
 use crate::objects::{Stop, create};
-use crate::places::{ClassPlace, find_class};
+use crate::places::{ClassProcessors, find_class};
 use crate::tree::{Class, Configuration, StaticApi};
 use crate::used_names::add_name;
 use crate::values::{between, byte_of, name_at};
@@ -18,7 +18,7 @@ use indexmap::IndexSet;
 use std::alloc::Global;
 
 /// Makes the object of a static API that has no fault.
-fn make(making: &mut Making, class: ClassPlace, api: &StaticApi) -> Result<(), Stop>
+fn make(making: &mut Making, class: ClassProcessors, api: &StaticApi) -> Result<(), Stop>
     requires { api_fault (api_view api.now) (making_of making.old) ≡ None }
     ensures made { IfOk result (λ _. making_of making.new ≡ made class (api_view api.now) (making_of making.old)) }
     ensures memory { IfErr result (λ e. e ≡ Memory) }
@@ -29,7 +29,7 @@ fn make(making: &mut Making, class: ClassPlace, api: &StaticApi) -> Result<(), S
     create(&mut making.system, class, api.kind, &api.fields)
 }
 
-fn add_apis(making: &mut Making, class: ClassPlace, apis: &[StaticApi]) -> Result<(), Stop>
+fn add_apis(making: &mut Making, class: ClassProcessors, apis: &[StaticApi]) -> Result<(), Stop>
     ensures { IsWalk (walk_apis class (map api_view apis.now) (making_of making.old)) result (making_of making.new) }
 {
     for api in apis {

@@ -6,7 +6,7 @@ ghost use Rattle.fmp_cfgparse.specs.Objects as spec;
 ghost use Rattle.fmp_cfgparse.specs.Trees.{field_view};
 ghost use Rattle.fmp_cfgparse.specs.declared.objects.Stop.TheVariants.{Memory};
 
-use crate::places::ClassPlace;
+use crate::places::ClassProcessors;
 use crate::tree::Field;
 use crate::values::{byte_of, half_of, name_at, number_at, word_of};
 use fmp_base::{
@@ -51,7 +51,7 @@ fn order_by(priority: bool) -> QueueOrder
     }
 }
 
-fn task(class: ClassPlace, fields: &[Field]) -> TaskConfig
+fn task(class: ClassProcessors, fields: &[Field]) -> TaskConfig
     ensures { result ≡ spec.task class (map field_view fields.now) }
 {
     TaskConfig {
@@ -136,7 +136,7 @@ fn spin_lock(fields: &[Field]) -> SpinLockConfig
     }
 }
 
-fn cyclic(class: ClassPlace, fields: &[Field]) -> CyclicConfig
+fn cyclic(class: ClassProcessors, fields: &[Field]) -> CyclicConfig
     ensures { result ≡ spec.cyclic class (map field_view fields.now) }
 {
     CyclicConfig {
@@ -150,7 +150,7 @@ fn cyclic(class: ClassPlace, fields: &[Field]) -> CyclicConfig
     }
 }
 
-fn interrupt(class: ClassPlace, fields: &[Field]) -> InterruptConfig
+fn interrupt(class: ClassProcessors, fields: &[Field]) -> InterruptConfig
     ensures { result ≡ spec.interrupt class (map field_view fields.now) }
 {
     InterruptConfig {
@@ -172,7 +172,7 @@ fn add<T: Drop>(rows: &mut Vec<T>, row: T) -> Result<(), Stop>
 /// Makes the object of a static API.
 pub(crate) fn create(
     system: &mut System,
-    class: ClassPlace,
+    class: ClassProcessors,
     api: Api,
     fields: &[Field],
 ) -> Result<(), Stop>

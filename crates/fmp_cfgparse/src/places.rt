@@ -5,13 +5,13 @@ ghost use Rattle.fmp_cfgparse.specs.Apis.{class_of};
 
 /// The processors of a class: the place of the initial one, and whether it is the only one allowed.
 #[derive(Clone, Copy)]
-pub struct ClassPlace {
+pub struct ClassProcessors {
     pub processor: u8,
     pub only: bool,
 }
 
 /// The class of a name, given the number of processors.
-pub(crate) fn find_class(processors: u8, name: &[u8]) -> Option<ClassPlace>
+pub(crate) fn find_class(processors: u8, name: &[u8]) -> Option<ClassProcessors>
     requires { processors ≤ 8 }
     ensures { result ≡ class_of processors name.now }
 {
@@ -24,13 +24,13 @@ pub(crate) fn find_class(processors: u8, name: &[u8]) -> Option<ClassPlace>
     }
     let processor = digit - b'1';
     if name == [b'T', b'C', b'L', b'_', digit].as_slice() {
-        return Some(ClassPlace {
+        return Some(ClassProcessors {
             processor,
             only: false,
         });
     }
     if name == [b'T', b'C', b'L', b'_', digit, b'_', b'O', b'N', b'L', b'Y'].as_slice() {
-        return Some(ClassPlace {
+        return Some(ClassProcessors {
             processor,
             only: true,
         });

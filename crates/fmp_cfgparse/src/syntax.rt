@@ -15,8 +15,8 @@ use fmp_lex::{
 };
 use std::alloc::Global;
 
-fn number_of(kind: TokenKind) -> Option<i32>
-    ensures { result ≡ grammar.number_of kind }
+fn token_number(kind: TokenKind) -> Option<i32>
+    ensures { result ≡ grammar.token_number kind }
 {
     match kind {
         TokenKind::Number(number) => Some(number),
@@ -54,11 +54,11 @@ fn api_of(kind: TokenKind) -> Option<Api>
 }
 
 fn number_at(tokens: &Tokens<'_>, at: usize) -> Option<i32>
-    ensures value { result ≡ option_and_then grammar.number_of (slice_get (kinds_of tokens.now) at) }
+    ensures value { result ≡ option_and_then grammar.token_number (slice_get (kinds_of tokens.now) at) }
     ensures within { IfSome result (λ _. at < length tokens.now) }
     ensures room { IfSome result (λ _. at + 1 < 2 ^ 64) }
 {
-    number_of(kind_at(tokens, at)?)
+    token_number(kind_at(tokens, at)?)
 }
 
 fn name_at(tokens: &Tokens<'_>, at: usize) -> Option<Name>

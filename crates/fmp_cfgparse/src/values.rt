@@ -28,8 +28,8 @@ fn joined(x: Option<i32>, y: Option<i32>) -> Option<i32>
 }
 
 /// The number of a value, where it has no unknown constant.
-fn number_of(items: &[Item]) -> Option<i32>
-    ensures { result ≡ spec.number_of items.now }
+fn value_number(items: &[Item]) -> Option<i32>
+    ensures { result ≡ spec.value_number items.now }
 {
     let mut number = Some(0);
     for item in items {
@@ -42,7 +42,7 @@ fn is_known(field: &Field) -> bool
     ensures { result ≡ spec.is_known (field_view field.now) }
 {
     match field {
-        Field::Value(items) => number_of(items).is_some(),
+        Field::Value(items) => value_number(items).is_some(),
         Field::Name(_) => true,
     }
 }
@@ -63,7 +63,7 @@ fn field_number(field: &Field) -> i32
     ensures { result ≡ spec.field_number (Some (field_view field.now)) }
 {
     match field {
-        Field::Value(items) => number_of(items).unwrap_or(0),
+        Field::Value(items) => value_number(items).unwrap_or(0),
         Field::Name(_) => 0,
     }
 }

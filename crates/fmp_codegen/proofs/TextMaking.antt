@@ -20,7 +20,7 @@ use Rattle.fmp_lex.specs.declared.place.Place.{Place}
 use Rattle.fmp_lex.specs.Cutting.{Cuts}
 use Rattle.fmp_lex.specs.Faults.{Spells, text_max, fault_of, IsSyntaxFault}
 use Rattle.fmp_lex.specs.Places.{text_end}
-use Rattle.fmp_lex.specs.Reading.{Outcome, stopped, Answers, kinds_of, IsFirstFault}
+use Rattle.fmp_lex.specs.Reading.{ParseResult, stopped, Answers, kinds_of, IsFirstFault}
 use Rattle.fmp_lex.proofs.Wholes.{whole_stopped}
 use Rattle.fmp_tasklang.specs.Grammar.{Bodies}
 use Rattle.fmp_tasklang.specs.Reading.{EndsBodies, RightBodies}
@@ -110,7 +110,7 @@ module _ (tables : SystemTables) (bodies : List BodyTree) (b : BodyTree) where
 
 -- what the reader of a body answered, handed on
 pub read-error :
-    (tables : SystemTables) (ts : List TokenKind) (e : ReadError) (P : Outcome BodyTree → Type 0) →
+    (tables : SystemTables) (ts : List TokenKind) (e : ReadError) (P : ParseResult BodyTree → Type 0) →
     ((j : ℕ) (why : GrammarFault) → P (stopped j why) → RightBodies ts 0 (stopped j why)) →
     Answers body_view (Err e) P → IsMadeUpTo tables ts (Err e)
 read-error tables ts Memory P f a = tt

@@ -1,7 +1,7 @@
 //! Lanes of objects.
-use crate::rows::Row;
 use crate::scene::Scene;
 use crate::shapes::put_text;
+use crate::strips::Strip;
 use crate::tasks::{NAME, put_name, put_side};
 use crate::titles::put_title;
 use fmp_timeline::Piece::{At, Label, Raw, Text};
@@ -27,8 +27,8 @@ fn kind_of(topic: Topic) -> &'static str {
 }
 
 /// The head of the group of objects.
-pub fn put_objects_head(row: &Row, out: &mut Canvas) {
-    put_text(Raw("pn"), (px(12), row.y(120)), Raw("Objects"), out);
+pub fn put_objects_head(strip: &Strip, out: &mut Canvas) {
+    put_text(Raw("pn"), (px(12), strip.y(120)), Raw("Objects"), out);
 }
 
 /// Appends a value: of an eventflag's pattern above 9 in hexadecimal digits.
@@ -62,17 +62,17 @@ fn put_value_title(scene: &Scene<'_>, topic: Topic, stay: &Stay<ObjectShown>, ou
 }
 
 /// The text of a value from a place on.
-fn put_value_text(row: &Row, left: Tenths, text: &Canvas, out: &mut Canvas) {
+fn put_value_text(strip: &Strip, left: Tenths, text: &Canvas, out: &mut Canvas) {
     out.put(
         "<text class=\"wt q\" x=\"{}\" y=\"{}\" xml:space=\"preserve\">{}</text>\n",
-        &[At(left + px(5)), At(row.middle(30)), Label(text)],
+        &[At(left + px(5)), At(strip.middle(30)), Label(text)],
     );
 }
 
 /// The value followed by the waiting tasks, or the value alone, if it fits.
 fn put_value(
     scene: &Scene<'_>,
-    row: &Row,
+    strip: &Strip,
     (left, right): (Tenths, Tenths),
     topic: Topic,
     shown: &ObjectShown,
@@ -85,19 +85,19 @@ fn put_value(
     for count in [text.len(), alone] {
         text.shorten(count);
         if (text.width(SMALL) + px(6)).is_below(right - left) {
-            return put_value_text(row, left, &text, out);
+            return put_value_text(strip, left, &text, out);
         }
     }
 }
 
 /// The box of a value: a hexagon whose ends slant so far, without the end of its element.
-fn put_hexagon(row: &Row, (left, right): (Tenths, Tenths), slant: Tenths, out: &mut Canvas) {
+fn put_hexagon(strip: &Strip, (left, right): (Tenths, Tenths), slant: Tenths, out: &mut Canvas) {
     let (begin, end) = (At(left + slant), At(right - slant));
     out.put(
         "<path class=\"b\" d=\"M{} {}l{}-5.5H{}l{} 5.5l{} 5.5H{}z\"",
         &[
             At(left),
-            At(row.middle(0)),
+            At(strip.middle(0)),
             At(slant),
             end,
             At(slant),
@@ -108,10 +108,10 @@ fn put_hexagon(row: &Row, (left, right): (Tenths, Tenths), slant: Tenths, out: &
 }
 
 /// The bar at the foot of a value while tasks wait.
-fn put_queue_bar(row: &Row, (left, right): (Tenths, Tenths), out: &mut Canvas) {
+fn put_queue_bar(strip: &Strip, (left, right): (Tenths, Tenths), out: &mut Canvas) {
     out.put(
         "<path class=\"bq q\" d=\"M{} {}H{}v2.5H{}z\"/>\n",
-        &[At(left), At(row.middle(35)), At(right), At(left)],
+        &[At(left), At(strip.middle(35)), At(right), At(left)],
     );
 }
 
@@ -119,24 +119,30 @@ fn put_queue_bar(row: &Row, (left, right): (Tenths, Tenths), out: &mut Canvas) {
 fn put_stay(
     scene: &Scene<'_>,
     span: &Span,
-    row: &Row,
+    strip: &Strip,
     topic: Topic,
     stay: &Stay<ObjectShown>,
     out: &mut Canvas,
 ) {
     let (left, right) = (span.box_left(stay), span.box_right(stay));
     let slant = (right - left).half().or_less(Tenths(25));
-    put_hexagon(row, (left, right), slant, out);
+    put_hexagon(strip, (left, right), slant, out);
     put_value_title(scene, topic, stay, out);
     if stay.state.start < stay.state.end {
-        put_queue_bar(row, (left + slant, right - slant), out);
+        put_queue_bar(strip, (left + slant, right - slant), out);
     }
     let begin = left.or_more(span.page.start() - px(3));
-    put_value(scene, row, (begin, right), topic, &stay.state, out);
+    put_value(scene, strip, (begin, right), topic, &stay.state, out);
 }
 
 /// The lane of an object.
-pub fn put_object(scene: &Scene<'_>, span: &Span, row: &Row, object: &Object, out: &mut Canvas) {
+pub fn put_object(
+    scene: &Scene<'_>,
+    span: &Span,
+    strip: &Strip,
+    object: &Object,
+    out: &mut Canvas,
+) {
     let kind = kind_of(object.topic);
     let name = bytes_of(scene.sys, object.topic);
     out.put(
@@ -144,11 +150,11 @@ pub fn put_object(scene: &Scene<'_>, span: &Span, row: &Row, object: &Object, ou
         &[Raw(kind), Text(name)],
     );
     let room = scene.page.left() - px(44) - width(kind.as_bytes(), SMALL);
-    put_name(row, Text(name), width(name, NAME), room, false, out);
-    put_side(scene, row, Raw(kind), out);
+    put_name(strip, Text(name), width(name, NAME), room, false, out);
+    put_side(scene, strip, Raw(kind), out);
     for place in object.track.places(span.first, span.last) {
         if let Some(stay) = object.track.stay(place) {
-            put_stay(scene, span, row, object.topic, &stay, out);
+            put_stay(scene, span, strip, object.topic, &stay, out);
         }
     }
     out.raw("</g>\n");

@@ -1,7 +1,7 @@
 //! The names of service calls, each at the end of the stretch that made it.
-use crate::rows::{Lane, Row};
 use crate::scene::{Scene, Taken, fit_right};
 use crate::shapes::{put_box, put_text};
+use crate::strips::{Lane, Strip};
 use crate::titles::put_area;
 use fmp_timeline::Piece::{At, Label, Numbered, Raw};
 use fmp_timeline::{Canvas, Made, Span, Tenths, append_call, append_value, px};
@@ -50,23 +50,23 @@ fn fit_call(
 }
 
 /// The text of a call: in a task's box in its colour, in a handler's on a plate.
-fn put_call_text(scene: &Scene<'_>, row: &Row, x: Tenths, text: &Canvas, out: &mut Canvas) {
-    if let Lane::Task(task, _) = row.lane {
+fn put_call_text(scene: &Scene<'_>, strip: &Strip, x: Tenths, text: &Canvas, out: &mut Canvas) {
+    if let Lane::Task(task, _) = strip.lane {
         let class = Numbered("e s8 d", scene.colour(task), " q");
-        return put_text(class, (x, row.y(140)), Label(text), out);
+        return put_text(class, (x, strip.y(140)), Label(text), out);
     }
     let wide = text.width(CALL) + px(2);
-    let corner = (x - wide + px(1), row.middle(-45));
+    let corner = (x - wide + px(1), strip.middle(-45));
     put_box(Raw("tb q"), corner, (wide, px(9)), out);
     out.raw("/>");
-    put_text(Raw("e s8 q"), (x, row.middle(30)), Label(text), out);
+    put_text(Raw("e s8 q"), (x, strip.middle(30)), Label(text), out);
 }
 
 /// A call of a lane whose stretch begins with this event, after the lane's event before it.
 fn put_call(
     scene: &Scene<'_>,
     span: &Span,
-    row: &Row,
+    strip: &Strip,
     taken: &[Taken],
     (start, previous, made): (u32, Tenths, &Made),
     out: &mut Canvas,
@@ -77,11 +77,11 @@ fn put_call(
         span.x(start)
     };
     let ends = (previous.or_more(from), span.x(made.event));
-    let size = (ends.1 - ends.0, px(row.height) - px(4));
-    put_area(scene.run, (ends.0, row.y(20)), size, made.event, out);
+    let size = (ends.1 - ends.0, px(strip.height) - px(4));
+    put_area(scene.run, (ends.0, strip.y(20)), size, made.event, out);
     let mut text = Canvas::new(scene.alloc);
     if let Some(x) = fit_call(scene, span, taken, ends, made, &mut text) {
-        put_call_text(scene, row, x, &text, out);
+        put_call_text(scene, strip, x, &text, out);
     }
 }
 
@@ -96,11 +96,11 @@ fn calls_of<'a>(scene: &Scene<'a>, span: &Span, lane: Lane) -> &'a [Made] {
 }
 
 /// A notch at the foot of a task's box for each of these calls.
-fn put_notches(scene: &Scene<'_>, span: &Span, row: &Row, calls: &[Made], out: &mut Canvas) {
-    let foot = row.y(-70) + px(row.height);
+fn put_notches(scene: &Scene<'_>, span: &Span, strip: &Strip, calls: &[Made], out: &mut Canvas) {
+    let foot = strip.y(-70) + px(strip.height);
     let mut open = false;
     for made in calls {
-        if stretch_start(scene, row.lane, made.event).is_some() {
+        if stretch_start(scene, strip.lane, made.event).is_some() {
             if !open {
                 out.raw("<path class=\"cut q\" d=\"");
                 open = true;
@@ -115,19 +115,19 @@ fn put_notches(scene: &Scene<'_>, span: &Span, row: &Row, calls: &[Made], out: &
 }
 
 /// The calls of a lane in a panel, and a notch at the foot of a task's box for each.
-pub fn put_calls(scene: &Scene<'_>, span: &Span, row: &Row, taken: &[Taken], out: &mut Canvas) {
+pub fn put_calls(scene: &Scene<'_>, span: &Span, strip: &Strip, taken: &[Taken], out: &mut Canvas) {
     if span.is_narrow() {
         return;
     }
-    let calls = calls_of(scene, span, row.lane);
+    let calls = calls_of(scene, span, strip.lane);
     let mut previous = px(0);
     for made in calls {
-        if let Some(start) = stretch_start(scene, row.lane, made.event) {
-            put_call(scene, span, row, taken, (start, previous, made), out);
+        if let Some(start) = stretch_start(scene, strip.lane, made.event) {
+            put_call(scene, span, strip, taken, (start, previous, made), out);
             previous = span.x(made.event);
         }
     }
-    if matches!(row.lane, Lane::Task(..)) {
-        put_notches(scene, span, row, calls, out);
+    if matches!(strip.lane, Lane::Task(..)) {
+        put_notches(scene, span, strip, calls, out);
     }
 }

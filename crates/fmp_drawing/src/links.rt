@@ -1,26 +1,26 @@
 //! Lines from an actor to the task on which it acted, and migrations.
-use crate::rows::{Row, Rows};
 use crate::scene::Scene;
+use crate::strips::{Strip, Strips};
 use fmp_base::Caller;
 use fmp_timeline::Piece::{At, Number, Raw};
 use fmp_timeline::{Bond, Canvas, Link, Migration, Span, Tenths, px};
 
 /// Where a link ends in the lane of the other.
-fn link_end(bond: Bond, row: &Row, down: bool) -> Tenths {
+fn link_end(bond: Bond, strip: &Strip, down: bool) -> Tenths {
     let edge = match bond {
         Bond::Starts => px(1),
         Bond::Releases => px(7),
         Bond::Migrates | Bond::Changes => px(3),
     };
     if down {
-        row.y(0) + edge
+        strip.y(0) + edge
     } else {
-        row.y(0) + px(row.height) - edge
+        strip.y(0) + px(strip.height) - edge
     }
 }
 
 /// A link from one lane to another.
-fn put_link(x: Tenths, bond: Bond, from: &Row, to: &Row, out: &mut Canvas) {
+fn put_link(x: Tenths, bond: Bond, from: &Strip, to: &Strip, out: &mut Canvas) {
     let down = from.top < to.top;
     let (x, start, end) = (At(x), At(from.middle(0)), At(link_end(bond, to, down)));
     out.put("<path class=\"ln q\" d=\"M{} {}V{}\"/>", &[x, start, end]);
@@ -39,20 +39,20 @@ fn put_link(x: Tenths, bond: Bond, from: &Row, to: &Row, out: &mut Canvas) {
 }
 
 /// The lanes of a link, if both are there and are two.
-fn lanes_of(scene: &Scene<'_>, rows: &Rows, link: &Link) -> Option<(Row, Row)> {
+fn lanes_of(scene: &Scene<'_>, strips: &Strips, link: &Link) -> Option<(Strip, Strip)> {
     let before = link.event.saturating_sub(1);
     let at = if link.bond == Bond::Migrates {
         before
     } else {
         link.event
     };
-    let from = rows.of_actor(scene.run, link.from, before)?;
-    let to = rows.of_actor(scene.run, Caller::Task(link.task), at)?;
+    let from = strips.of_actor(scene.run, link.from, before)?;
+    let to = strips.of_actor(scene.run, Caller::Task(link.task), at)?;
     (from.lane != to.lane).then_some((from, to))
 }
 
 /// A migration from lane to lane.
-fn put_migration(colour: u32, x: Tenths, from: &Row, to: &Row, out: &mut Canvas) {
+fn put_migration(colour: u32, x: Tenths, from: &Strip, to: &Strip, out: &mut Canvas) {
     let (tip, neck, head) = if from.top < to.top {
         (to.y(30), to.y(-40), "l4.5 -7h-9z")
     } else {
@@ -69,15 +69,15 @@ fn put_migration(colour: u32, x: Tenths, from: &Row, to: &Row, out: &mut Canvas)
     );
 }
 
-fn put_migrations(scene: &Scene<'_>, span: &Span, rows: &Rows, out: &mut Canvas) {
+fn put_migrations(scene: &Scene<'_>, span: &Span, strips: &Strips, out: &mut Canvas) {
     let all: &[Migration] = &scene.run.migrations;
     let first = all.partition_point(|migration| migration.event < span.first);
     for migration in all.get(first..).unwrap_or(&[]) {
         if migration.event > span.last {
             break;
         }
-        let from = rows.of_task(migration.task, migration.from);
-        let to = rows.of_task(migration.task, migration.to);
+        let from = strips.of_task(migration.task, migration.from);
+        let to = strips.of_task(migration.task, migration.to);
         if let (Some(from), Some(to)) = (from, to) {
             let colour = scene.colour(migration.task);
             put_migration(colour, span.x(migration.event), &from, &to, out);
@@ -86,16 +86,16 @@ fn put_migrations(scene: &Scene<'_>, span: &Span, rows: &Rows, out: &mut Canvas)
 }
 
 /// The links and the migrations of a panel. Narrow columns have migrations alone.
-pub fn put_links(scene: &Scene<'_>, span: &Span, rows: &Rows, out: &mut Canvas) {
+pub fn put_links(scene: &Scene<'_>, span: &Span, strips: &Strips, out: &mut Canvas) {
     let all: &[Link] = &scene.run.links;
     let first = all.partition_point(|link| link.event < span.first);
     for link in all.get(first..).unwrap_or(&[]) {
         if span.is_narrow() || link.event > span.last {
             break;
         }
-        if let Some((from, to)) = lanes_of(scene, rows, link) {
+        if let Some((from, to)) = lanes_of(scene, strips, link) {
             put_link(span.x(link.event), link.bond, &from, &to, out);
         }
     }
-    put_migrations(scene, span, rows, out);
+    put_migrations(scene, span, strips, out);
 }

@@ -4,9 +4,9 @@ use crate::buses::{put_object, put_objects_head};
 use crate::links::put_links;
 use crate::picture::MOST_BYTES;
 use crate::processors::{put_dispatch, put_handler, put_lock, put_processor};
-use crate::rows::{Lane, Row, Rows};
 use crate::scene::{Scene, Taken};
 use crate::signs::{put_marks, taken_in};
+use crate::strips::{Lane, Strip, Strips};
 use crate::tasks::put_task;
 use fmp_base::StateWord;
 use fmp_timeline::Piece::{At, Number, Raw, Text};
@@ -17,13 +17,13 @@ use std::alloc::AllocError;
 const AXIS: u32 = 34;
 
 /// The bands behind the heads of the processors' groups.
-fn put_bands(span: &Span, rows: &Rows, out: &mut Canvas) {
+fn put_bands(span: &Span, strips: &Strips, out: &mut Canvas) {
     out.raw("<path class=\"pband\" d=\"");
-    for row in rows.rows.as_slice() {
-        if row.lane.is_head() {
+    for strip in strips.strips.as_slice() {
+        if strip.lane.is_head() {
             out.put(
                 "M0 {}H{}v{}H0z",
-                &[At(row.y(0)), At(span.end()), Number(row.height)],
+                &[At(strip.y(0)), At(span.end()), Number(strip.height)],
             );
         }
     }
@@ -31,17 +31,23 @@ fn put_bands(span: &Span, rows: &Rows, out: &mut Canvas) {
 }
 
 /// A lane with its boxes and texts, beside these pixels of its marks.
-fn put_lane_beside(scene: &Scene<'_>, span: &Span, row: &Row, taken: &[Taken], out: &mut Canvas) {
-    match row.lane {
-        Lane::Processor(processor) => put_processor(scene, span, row, processor, out),
-        Lane::Lock(processor) => put_lock(scene, span, row, processor, out),
-        Lane::Dispatch(processor) => put_dispatch(scene, span, row, processor, out),
-        Lane::Handler(handler) => put_handler(scene, span, row, taken, handler, out),
-        Lane::Task(task, processor) => put_task(scene, span, row, taken, (task, processor), out),
-        Lane::ObjectsHead => put_objects_head(row, out),
+fn put_lane_beside(
+    scene: &Scene<'_>,
+    span: &Span,
+    strip: &Strip,
+    taken: &[Taken],
+    out: &mut Canvas,
+) {
+    match strip.lane {
+        Lane::Processor(processor) => put_processor(scene, span, strip, processor, out),
+        Lane::Lock(processor) => put_lock(scene, span, strip, processor, out),
+        Lane::Dispatch(processor) => put_dispatch(scene, span, strip, processor, out),
+        Lane::Handler(handler) => put_handler(scene, span, strip, taken, handler, out),
+        Lane::Task(task, processor) => put_task(scene, span, strip, taken, (task, processor), out),
+        Lane::ObjectsHead => put_objects_head(strip, out),
         Lane::Object(place) => {
             if let Some(object) = scene.run.objects.all.get(place) {
-                put_object(scene, span, row, object, out);
+                put_object(scene, span, strip, object, out);
             }
         }
         Lane::Gap => {}
@@ -49,9 +55,14 @@ fn put_lane_beside(scene: &Scene<'_>, span: &Span, row: &Row, taken: &[Taken], o
 }
 
 /// A lane with its boxes and texts. `AllocError` if memory runs out.
-fn put_lane(scene: &Scene<'_>, span: &Span, row: &Row, out: &mut Canvas) -> Result<(), AllocError> {
-    let taken = taken_in(scene, span, row.lane)?;
-    put_lane_beside(scene, span, row, &taken, out);
+fn put_lane(
+    scene: &Scene<'_>,
+    span: &Span,
+    strip: &Strip,
+    out: &mut Canvas,
+) -> Result<(), AllocError> {
+    let taken = taken_in(scene, span, strip.lane)?;
+    put_lane_beside(scene, span, strip, &taken, out);
     Ok(())
 }
 
@@ -90,9 +101,9 @@ fn is_in(scene: &Scene<'_>, span: &Span, task: u8, word: StateWord) -> bool {
 }
 
 /// How many tasks without a lane are in a state.
-fn asleep_in(scene: &Scene<'_>, span: &Span, rows: &Rows, word: StateWord) -> u32 {
+fn asleep_in(scene: &Scene<'_>, span: &Span, strips: &Strips, word: StateWord) -> u32 {
     let mut count: u32 = 0;
-    for task in rows.asleep.as_slice() {
+    for task in strips.asleep.as_slice() {
         if is_in(scene, span, *task, word) {
             count = count.saturating_add(1);
         }
@@ -104,12 +115,12 @@ fn asleep_in(scene: &Scene<'_>, span: &Span, rows: &Rows, word: StateWord) -> u3
 fn put_asleep_names(
     scene: &Scene<'_>,
     span: &Span,
-    rows: &Rows,
+    strips: &Strips,
     word: StateWord,
     out: &mut Canvas,
 ) {
     let mut count: u32 = 0;
-    for task in rows.asleep.as_slice() {
+    for task in strips.asleep.as_slice() {
         if count < 4 && is_in(scene, span, *task, word) {
             out.raw(if count > 0 { ", " } else { "" });
             out.text(task_bytes(scene.sys, *task));
@@ -123,24 +134,24 @@ fn put_asleep_names(
 fn put_asleep_in(
     scene: &Scene<'_>,
     span: &Span,
-    rows: &Rows,
+    strips: &Strips,
     word: StateWord,
     before: &str,
     out: &mut Canvas,
 ) -> bool {
-    let count = asleep_in(scene, span, rows, word);
+    let count = asleep_in(scene, span, strips, word);
     if count > 0 {
         let head = [Raw(before), Number(count), Raw(small_word(word))];
         out.put("{}{} {} (", &head);
-        put_asleep_names(scene, span, rows, word, out);
+        put_asleep_names(scene, span, strips, word, out);
         out.raw(if count > 4 { ", …)" } else { ")" });
     }
     count > 0
 }
 
 /// The line that says which tasks have no lane.
-fn put_asleep(scene: &Scene<'_>, span: &Span, rows: &Rows, out: &mut Canvas) {
-    let y = px(rows.bottom) + px(11);
+fn put_asleep(scene: &Scene<'_>, span: &Span, strips: &Strips, out: &mut Canvas) {
+    let y = px(strips.bottom) + px(11);
     out.put(
         "<text class=\"m\" x=\"12\" y=\"{}\">No change and no lane here:",
         &[At(y)],
@@ -153,7 +164,7 @@ fn put_asleep(scene: &Scene<'_>, span: &Span, rows: &Rows, out: &mut Canvas) {
         StateWord::Waiting,
         StateWord::WaitingSuspended,
     ] {
-        if put_asleep_in(scene, span, rows, word, before, out) {
+        if put_asleep_in(scene, span, strips, word, before, out) {
             before = "; ";
         }
     }
@@ -164,12 +175,12 @@ fn put_asleep(scene: &Scene<'_>, span: &Span, rows: &Rows, out: &mut Canvas) {
 fn put_lanes(
     scene: &Scene<'_>,
     span: &Span,
-    rows: &Rows,
+    strips: &Strips,
     out: &mut Canvas,
 ) -> Result<(), AllocError> {
-    for row in rows.rows.as_slice() {
+    for strip in strips.strips.as_slice() {
         if out.len() <= MOST_BYTES {
-            put_lane(scene, span, row, out)?;
+            put_lane(scene, span, strip, out)?;
         }
     }
     Ok(())
@@ -179,11 +190,11 @@ fn put_lanes(
 fn put_all_marks(
     scene: &Scene<'_>,
     span: &Span,
-    rows: &Rows,
+    strips: &Strips,
     out: &mut Canvas,
 ) -> Result<(), AllocError> {
-    for row in rows.rows.as_slice() {
-        put_marks(scene, span, row, out)?;
+    for strip in strips.strips.as_slice() {
+        put_marks(scene, span, strip, out)?;
     }
     Ok(())
 }
@@ -194,7 +205,7 @@ fn put_rows(
     scene: &Scene<'_>,
     span: &Span,
     top: u32,
-    rows: &Rows,
+    strips: &Strips,
     out: &mut Canvas,
 ) -> Result<(), AllocError> {
     let (first, last) = (Number(span.first), Number(span.last));
@@ -202,26 +213,26 @@ fn put_rows(
         "<g id=\"e{}\" role=\"group\" aria-label=\"Events {} to {}\">\n",
         &[first, first, last],
     );
-    put_bands(span, rows, out);
-    put_axis(scene, span, px(top), px(rows.bottom), out);
-    put_lanes(scene, span, rows, out)?;
+    put_bands(span, strips, out);
+    put_axis(scene, span, px(top), px(strips.bottom), out);
+    put_lanes(scene, span, strips, out)?;
     if out.len() > MOST_BYTES {
         return Ok(());
     }
-    put_lead(span, top.saturating_add(AXIS), rows.bottom, out);
-    put_links(scene, span, rows, out);
-    put_all_marks(scene, span, rows, out)?;
-    if !rows.asleep.is_empty() {
-        put_asleep(scene, span, rows, out);
+    put_lead(span, top.saturating_add(AXIS), strips.bottom, out);
+    put_links(scene, span, strips, out);
+    put_all_marks(scene, span, strips, out)?;
+    if !strips.asleep.is_empty() {
+        put_asleep(scene, span, strips, out);
     }
     out.raw("</g>\n");
     Ok(())
 }
 
 /// The lanes of a panel that begins at this height.
-fn rows_of(scene: &Scene<'_>, span: &Span, top: u32) -> Result<Rows, AllocError> {
+fn rows_of(scene: &Scene<'_>, span: &Span, top: u32) -> Result<Strips, AllocError> {
     let lanes = top.saturating_add(AXIS);
-    Rows::new(scene.alloc, scene.sys, scene.run, span, lanes)
+    Strips::new(scene.alloc, scene.sys, scene.run, span, lanes)
 }
 
 /// The lower end of a panel that begins at this height.
@@ -236,7 +247,7 @@ pub fn put_panel(
     top: u32,
     out: &mut Canvas,
 ) -> Result<u32, AllocError> {
-    let rows = rows_of(scene, span, top)?;
-    put_rows(scene, span, top, &rows, out)?;
-    Ok(rows.end())
+    let strips = rows_of(scene, span, top)?;
+    put_rows(scene, span, top, &strips, out)?;
+    Ok(strips.end())
 }

@@ -1,8 +1,8 @@
 //! Lanes of processors, with their locks and their dispatching, and of handlers.
 use crate::calls::put_calls;
-use crate::rows::Row;
 use crate::scene::{Scene, Taken, letters_that_fit};
 use crate::shapes::{put_box, put_frame, put_line, put_text};
+use crate::strips::Strip;
 use crate::tasks::{NAME, put_name, put_side};
 use crate::titles::put_title;
 use fmp_base::{Handler, Lock};
@@ -18,7 +18,7 @@ const BOLD: Tenths = Tenths(100);
 const BAR: Tenths = Tenths(80);
 
 /// The number of a processor.
-fn number_of(place: u8) -> u32 {
+fn processor_number(place: u8) -> u32 {
     u32::from(place).saturating_add(1)
 }
 
@@ -30,7 +30,7 @@ fn text_left<S>(span: &Span, stay: &Stay<S>) -> Tenths {
 /// The name of a handler on a plate between two places, where it fits.
 fn put_handler_plate(
     scene: &Scene<'_>,
-    row: &Row,
+    strip: &Strip,
     handler: Handler,
     (left, right): (Tenths, Tenths),
     out: &mut Canvas,
@@ -38,10 +38,10 @@ fn put_handler_plate(
     let label = handler_text(scene.alloc, scene.sys, handler, "int ");
     let wide = label.width(BOLD) + px(6);
     if (wide + px(4)).is_below(right - left) {
-        let corner = (left + px(3), row.middle(-70));
+        let corner = (left + px(3), strip.middle(-70));
         put_box(Raw("tb q"), corner, (wide, px(14)), out);
         out.raw("/>");
-        let place = (left + px(6), row.middle(40));
+        let place = (left + px(6), strip.middle(40));
         put_text(Raw("k q"), place, Label(&label), out);
     }
 }
@@ -50,18 +50,18 @@ fn put_handler_plate(
 fn put_handler_box(
     scene: &Scene<'_>,
     span: &Span,
-    row: &Row,
+    strip: &Strip,
     (processor, handler): (u8, Handler),
     stay: &Stay<Occupant>,
     out: &mut Canvas,
 ) {
     let (left, right) = (span.box_left(stay), span.box_right(stay));
     let size = (right - left, px(19));
-    put_frame(Raw("hr"), (left, row.y(45)), size, out);
+    put_frame(Raw("hr"), (left, strip.y(45)), size, out);
     let name = handler_text(scene.alloc, scene.sys, handler, "#");
-    let head = [Number(number_of(processor)), Label(&name)];
+    let head = [Number(processor_number(processor)), Label(&name)];
     put_title(scene.run, "p{}: {}", &head, stay, out);
-    put_handler_plate(scene, row, handler, (text_left(span, stay), right), out);
+    put_handler_plate(scene, strip, handler, (text_left(span, stay), right), out);
 }
 
 /// How many letters of a name stand in its box, and what stands behind them, where some fit.
@@ -75,7 +75,7 @@ fn fit_name(name: &[u8], room: Tenths) -> Option<(usize, &'static str)> {
 /// The name of a task in its box, or its first letters where it does not fit.
 fn put_occupant_name(
     scene: &Scene<'_>,
-    row: &Row,
+    strip: &Strip,
     task: u8,
     (left, right): (Tenths, Tenths),
     out: &mut Canvas,
@@ -84,7 +84,7 @@ fn put_occupant_name(
     if let Some((letters, dots)) = fit_name(name, right - left - px(6)) {
         let colour = Number(scene.colour(task));
         let letters = Text(name.get(..letters).unwrap_or(name));
-        let (x, y) = (At(left + px(4)), At(row.middle(40)));
+        let (x, y) = (At(left + px(4)), At(strip.middle(40)));
         out.put(
             "<text class=\"k d{} q\" x=\"{}\" y=\"{}\">{}{}</text>\n",
             &[colour, x, y, letters, Raw(dots)],
@@ -96,34 +96,34 @@ fn put_occupant_name(
 fn put_task_box(
     scene: &Scene<'_>,
     span: &Span,
-    row: &Row,
+    strip: &Strip,
     (processor, task): (u8, u8),
     stay: &Stay<Occupant>,
     out: &mut Canvas,
 ) {
     let (left, right) = (span.box_left(stay), span.box_right(stay));
     let class = Numbered("c", scene.colour(task), " f");
-    put_frame(class, (left, row.y(40)), (right - left, px(20)), out);
+    put_frame(class, (left, strip.y(40)), (right - left, px(20)), out);
     let head = [
-        Number(number_of(processor)),
+        Number(processor_number(processor)),
         Text(task_bytes(scene.sys, task)),
     ];
     put_title(scene.run, "p{}: {}", &head, stay, out);
-    put_occupant_name(scene, row, task, (text_left(span, stay), right), out);
+    put_occupant_name(scene, strip, task, (text_left(span, stay), right), out);
 }
 
 /// A processor that runs nothing.
 fn put_idle(
     scene: &Scene<'_>,
     span: &Span,
-    row: &Row,
+    strip: &Strip,
     processor: u8,
     stay: &Stay<Occupant>,
     out: &mut Canvas,
 ) {
     let (left, right) = (span.box_left(stay), span.box_right(stay));
-    put_line("i", (left, row.middle(0)), right - left, out);
-    let number = Number(number_of(processor));
+    put_line("i", (left, strip.middle(0)), right - left, out);
+    let number = Number(processor_number(processor));
     put_title(scene.run, "p{}: idle", &[number], stay, out);
 }
 
@@ -131,28 +131,34 @@ fn put_idle(
 fn put_occupant(
     scene: &Scene<'_>,
     span: &Span,
-    row: &Row,
+    strip: &Strip,
     processor: u8,
     stay: &Stay<Occupant>,
     out: &mut Canvas,
 ) {
     match (stay.state.handler, stay.state.task) {
-        (Some(handler), _) => put_handler_box(scene, span, row, (processor, handler), stay, out),
-        (None, Some(task)) => put_task_box(scene, span, row, (processor, task), stay, out),
-        (None, None) => put_idle(scene, span, row, processor, stay, out),
+        (Some(handler), _) => put_handler_box(scene, span, strip, (processor, handler), stay, out),
+        (None, Some(task)) => put_task_box(scene, span, strip, (processor, task), stay, out),
+        (None, None) => put_idle(scene, span, strip, processor, stay, out),
     }
 }
 
 /// The lane of a processor.
-pub fn put_processor(scene: &Scene<'_>, span: &Span, row: &Row, processor: u8, out: &mut Canvas) {
-    let number = number_of(processor);
+pub fn put_processor(
+    scene: &Scene<'_>,
+    span: &Span,
+    strip: &Strip,
+    processor: u8,
+    out: &mut Canvas,
+) {
+    let number = processor_number(processor);
     out.numbered("<g role=\"group\" aria-label=\"Processor ", number, "\">");
-    let place = (px(12), row.middle(40));
+    let place = (px(12), strip.middle(40));
     put_text(Raw("pn"), place, Numbered("Processor ", number, ""), out);
     if let Some(track) = scene.run.occupants.get(usize::from(processor)) {
         for place in track.places(span.first, span.last) {
             if let Some(stay) = track.stay(place) {
-                put_occupant(scene, span, row, processor, &stay, out);
+                put_occupant(scene, span, strip, processor, &stay, out);
             }
         }
     }
@@ -160,22 +166,22 @@ pub fn put_processor(scene: &Scene<'_>, span: &Span, row: &Row, processor: u8, o
 }
 
 /// The box of a bar, without the end of its element.
-fn put_bar(class: &str, row: &Row, (left, right): (Tenths, Tenths), out: &mut Canvas) {
+fn put_bar(class: &str, strip: &Strip, (left, right): (Tenths, Tenths), out: &mut Canvas) {
     let size = (right - left, px(10));
-    put_box(Raw(class), (left, row.y(0)), size, out);
+    put_box(Raw(class), (left, strip.y(0)), size, out);
 }
 
 /// Puts the text of a bar in place, if it fits, and says whether it does.
 fn put_bar_text(
     class: &str,
-    row: &Row,
+    strip: &Strip,
     (left, right): (Tenths, Tenths),
     label: &[u8],
     out: &mut Canvas,
 ) -> bool {
     let fits = (width(label, BAR) + px(4)).is_below(right - left);
     if fits {
-        let place = (left + px(3), row.y(80));
+        let place = (left + px(3), strip.y(80));
         put_text(Raw(class), place, Text(label), out);
     }
     fits
@@ -185,7 +191,7 @@ fn put_bar_text(
 fn put_held_lock(
     scene: &Scene<'_>,
     span: &Span,
-    row: &Row,
+    strip: &Strip,
     processor: u8,
     stay: &Stay<Lock>,
     out: &mut Canvas,
@@ -196,10 +202,10 @@ fn put_held_lock(
         Lock::Cpu => ("", b"CPU lock".as_slice()),
         Lock::Spin(place) => ("spin lock ", bytes_of(scene.sys, Topic::SpinLock(place))),
     };
-    put_bar("lc", row, ends, out);
-    let head = [Number(number_of(processor)), Raw(words), Text(label)];
+    put_bar("lc", strip, ends, out);
+    let head = [Number(processor_number(processor)), Raw(words), Text(label)];
     put_title(scene.run, "p{}: {}{} held", &head, stay, out);
-    put_bar_text("lct q", row, (text_left(span, stay), ends.1), label, out);
+    put_bar_text("lct q", strip, (text_left(span, stay), ends.1), label, out);
 }
 
 /// The text of a spinning span: words, and the name of the lock.
@@ -212,7 +218,7 @@ fn spin_text<'a>(scene: &Scene<'a>, spin: &Spin) -> (&'static str, &'a [u8]) {
 
 /// Puts the text of such a span between two places, if it fits, and says whether it does.
 fn put_spin_text<'a>(
-    row: &Row,
+    strip: &Strip,
     (left, right): (Tenths, Tenths),
     words: &'a str,
     name: &'a [u8],
@@ -221,28 +227,33 @@ fn put_spin_text<'a>(
     let wide = width(words.as_bytes(), BAR) + width(name, BAR) + px(5);
     let fits = (wide + px(20)).is_below(right - left);
     if fits {
-        let corner = (left + px(4), row.y(10));
+        let corner = (left + px(4), strip.y(10));
         put_box(Raw("tb q"), corner, (wide, px(8)), out);
         out.put(
             "/><text class=\"spt q\" x=\"{}\" y=\"{}\">{}{}</text>\n",
-            &[At(left + Tenths(65)), At(row.y(80)), Raw(words), Text(name)],
+            &[
+                At(left + Tenths(65)),
+                At(strip.y(80)),
+                Raw(words),
+                Text(name),
+            ],
         );
     }
     fits
 }
 
 /// A span in which a processor's actor spins.
-fn put_spin(scene: &Scene<'_>, span: &Span, row: &Row, stay: &Stay<Spin>, out: &mut Canvas) {
+fn put_spin(scene: &Scene<'_>, span: &Span, strip: &Strip, stay: &Stay<Spin>, out: &mut Canvas) {
     let (left, right) = (span.box_left(stay), span.box_right(stay));
     let (words, name) = spin_text(scene, &stay.state);
     let size = (right - left, px(9));
-    put_frame(Raw("spb"), (left, row.y(5)), size, out);
-    let number = Number(number_of(stay.state.processor));
+    put_frame(Raw("spb"), (left, strip.y(5)), size, out);
+    let number = Number(processor_number(stay.state.processor));
     let head = [number, Raw(words), Text(name)];
     put_title(scene.run, "p{}: {}{}", &head, stay, out);
     let ends = (text_left(span, stay), right);
-    if !put_spin_text(row, ends, words, name, out) {
-        put_spin_text(row, ends, "", name, out);
+    if !put_spin_text(strip, ends, words, name, out) {
+        put_spin_text(strip, ends, "", name, out);
     }
 }
 
@@ -250,7 +261,7 @@ fn put_spin(scene: &Scene<'_>, span: &Span, row: &Row, stay: &Stay<Spin>, out: &
 fn put_spins(
     scene: &Scene<'_>,
     span: &Span,
-    row: &Row,
+    strip: &Strip,
     processor: u8,
     track: &Track<Lock>,
     out: &mut Canvas,
@@ -260,20 +271,20 @@ fn put_spins(
         if let Some(stay) = spins.stay(place, processor, span)
             && track.at(stay.from) == Some(Lock::Free)
         {
-            put_spin(scene, span, row, &stay, out);
+            put_spin(scene, span, strip, &stay, out);
         }
     }
 }
 
 /// The bar of a processor's lock.
-pub fn put_lock(scene: &Scene<'_>, span: &Span, row: &Row, processor: u8, out: &mut Canvas) {
+pub fn put_lock(scene: &Scene<'_>, span: &Span, strip: &Strip, processor: u8, out: &mut Canvas) {
     if let Some(track) = scene.run.locks.get(usize::from(processor)) {
         for place in track.places(span.first, span.last) {
             if let Some(stay) = track.stay(place) {
-                put_held_lock(scene, span, row, processor, &stay, out);
+                put_held_lock(scene, span, strip, processor, &stay, out);
             }
         }
-        put_spins(scene, span, row, processor, track, out);
+        put_spins(scene, span, strip, processor, track, out);
     }
 }
 
@@ -281,28 +292,34 @@ pub fn put_lock(scene: &Scene<'_>, span: &Span, row: &Row, processor: u8, out: &
 fn put_no_dispatch(
     scene: &Scene<'_>,
     span: &Span,
-    row: &Row,
+    strip: &Strip,
     processor: u8,
     stay: &Stay<bool>,
     out: &mut Canvas,
 ) {
     let ends = (span.box_left(stay), span.box_right(stay));
-    put_bar("ld", row, ends, out);
-    let number = Number(number_of(processor));
+    put_bar("ld", strip, ends, out);
+    let number = Number(processor_number(processor));
     put_title(scene.run, "p{}: dispatch disabled", &[number], stay, out);
-    if !put_bar_text("ldt q", row, ends, b"dispatch off", out) {
-        put_bar_text("ldt q", row, ends, b"dsp off", out);
+    if !put_bar_text("ldt q", strip, ends, b"dispatch off", out) {
+        put_bar_text("ldt q", strip, ends, b"dsp off", out);
     }
 }
 
 /// The bar of a processor's dispatching.
-pub fn put_dispatch(scene: &Scene<'_>, span: &Span, row: &Row, processor: u8, out: &mut Canvas) {
+pub fn put_dispatch(
+    scene: &Scene<'_>,
+    span: &Span,
+    strip: &Strip,
+    processor: u8,
+    out: &mut Canvas,
+) {
     if let Some(track) = scene.run.dispatches.get(usize::from(processor)) {
         for place in track.places(span.first, span.last) {
             if let Some(stay) = track.stay(place)
                 && !stay.state
             {
-                put_no_dispatch(scene, span, row, processor, &stay, out);
+                put_no_dispatch(scene, span, strip, processor, &stay, out);
             }
         }
     }
@@ -311,7 +328,7 @@ pub fn put_dispatch(scene: &Scene<'_>, span: &Span, row: &Row, processor: u8, ou
 /// The name of a handler, its square and its period at the left of its lane.
 fn put_handler_gutter(
     scene: &Scene<'_>,
-    row: &Row,
+    strip: &Strip,
     handler: Handler,
     name: &Canvas,
     out: &mut Canvas,
@@ -321,14 +338,14 @@ fn put_handler_gutter(
         &[Label(name)],
     );
     let room = scene.page.left() - px(74);
-    put_name(row, Label(name), name.width(NAME), room, false, out);
-    let corner = (Tenths(165), row.middle(-35));
+    put_name(strip, Label(name), name.width(NAME), room, false, out);
+    let corner = (Tenths(165), strip.middle(-35));
     put_box(Raw("hr"), corner, (px(7), px(7)), out);
     out.raw("/>\n");
     if let Handler::Cyclic(place) = handler
         && let Some(config) = scene.sys.cyclics.get(usize::from(place))
     {
-        put_side(scene, row, Numbered("every ", config.period, ""), out);
+        put_side(scene, strip, Numbered("every ", config.period, ""), out);
     }
 }
 
@@ -346,7 +363,7 @@ fn words_of(handling: Handling) -> Option<&'static str> {
 fn put_handling(
     scene: &Scene<'_>,
     span: &Span,
-    row: &Row,
+    strip: &Strip,
     name: &Canvas,
     stay: &Stay<Handling>,
     out: &mut Canvas,
@@ -354,18 +371,18 @@ fn put_handling(
     let left = span.box_left(stay);
     let wide = span.box_right(stay) - left;
     let Some(words) = words_of(stay.state) else {
-        put_line("dorm", (left, row.middle(5)), wide, out);
+        put_line("dorm", (left, strip.middle(5)), wide, out);
         out.raw("/>\n");
         return;
     };
     if stay.state.runs {
-        put_frame(Raw("hr"), (left, row.y(25)), (wide, px(13)), out);
+        put_frame(Raw("hr"), (left, strip.y(25)), (wide, px(13)), out);
     } else {
-        put_frame(Raw("hp"), (left, row.y(45)), (wide, px(9)), out);
+        put_frame(Raw("hp"), (left, strip.y(45)), (wide, px(9)), out);
     }
     put_title(scene.run, "{}{}", &[Label(name), Raw(words)], stay, out);
     if stay.state.runs && stay.state.pends {
-        put_frame(Raw("hp q"), (left, row.y(125)), (wide, px(3)), out);
+        put_frame(Raw("hp q"), (left, strip.y(125)), (wide, px(3)), out);
         out.raw("/>\n");
     }
 }
@@ -374,20 +391,20 @@ fn put_handling(
 pub fn put_handler(
     scene: &Scene<'_>,
     span: &Span,
-    row: &Row,
+    strip: &Strip,
     taken: &[Taken],
     handler: Handler,
     out: &mut Canvas,
 ) {
     let name = handler_text(scene.alloc, scene.sys, handler, "interrupt ");
-    put_handler_gutter(scene, row, handler, &name, out);
+    put_handler_gutter(scene, strip, handler, &name, out);
     if let Some(track) = scene.run.handling(handler) {
         for place in track.places(span.first, span.last) {
             if let Some(stay) = track.stay(place) {
-                put_handling(scene, span, row, &name, &stay, out);
+                put_handling(scene, span, strip, &name, &stay, out);
             }
         }
     }
-    put_calls(scene, span, row, taken, out);
+    put_calls(scene, span, strip, taken, out);
     out.raw("</g>\n");
 }

@@ -1,5 +1,5 @@
 //! The source of all parts of a picture, and where a text can stand.
-use crate::rows::{Lane, colours};
+use crate::strips::{Lane, colours};
 use fmp_base::System;
 use fmp_timeline::{Deeds, Page, Run, Span, Tenths, px, width};
 use std::alloc::{AllocError, Global};

@@ -1,7 +1,7 @@
 //! Marks and their tags, which take room in a lane before its texts do.
-use crate::rows::{Lane, Row};
 use crate::scene::{Scene, Taken};
 use crate::shapes::{put_box, put_text};
+use crate::strips::{Lane, Strip};
 use crate::titles::put_event_title;
 use fmp_base::Fault;
 use fmp_timeline::Piece::{At, Raw, Text};
@@ -228,37 +228,37 @@ pub fn taken_in(scene: &Scene<'_>, span: &Span, lane: Lane) -> Result<Vec<Taken>
     Ok(taken)
 }
 
-fn put_tag(text: &[u8], sign: Sign, from: Tenths, row: &Row, out: &mut Canvas) {
+fn put_tag(text: &[u8], sign: Sign, from: Tenths, strip: &Strip, out: &mut Canvas) {
     let (frame, words) = if sign.is_wrong() {
         ("eb q", "et q")
     } else {
         ("pb q", "pt q")
     };
-    let corner = (from, row.middle(-50));
+    let corner = (from, strip.middle(-50));
     put_box(Raw(frame), corner, (tag_width(text), px(10)), out);
     out.raw("/>");
-    let place = (from + Tenths(25), row.middle(30));
+    let place = (from + Tenths(25), strip.middle(30));
     put_text(Raw(words), place, Text(text), out);
 }
 
 /// The shape of a mark.
-fn put_shape(run: &Run, shape: &str, row: &Row, placed: &Placed, out: &mut Canvas) {
+fn put_shape(run: &Run, shape: &str, strip: &Strip, placed: &Placed, out: &mut Canvas) {
     out.raw("<g>");
     put_event_title(run, placed.mark.event, out);
     out.put(
         "<use href=\"#{}\" x=\"{}\" y=\"{}\"/></g>\n",
-        &[Raw(shape), At(placed.x), At(row.middle(0))],
+        &[Raw(shape), At(placed.x), At(strip.middle(0))],
     );
 }
 
-fn put_mark(run: &Run, row: &Row, placed: &Placed, out: &mut Canvas) {
+fn put_mark(run: &Run, strip: &Strip, placed: &Placed, out: &mut Canvas) {
     let sign = placed.mark.sign;
     let (shape, _, _) = shape_of(sign);
     if !shape.is_empty() {
-        put_shape(run, shape, row, placed, out);
+        put_shape(run, shape, strip, placed, out);
     }
     if let Some((from, text)) = placed.tag {
-        put_tag(text, sign, from, row, out);
+        put_tag(text, sign, from, strip, out);
     }
 }
 
@@ -273,7 +273,7 @@ fn tick_class(sign: Sign) -> Option<&'static str> {
 }
 
 /// The ticks of one class of marks, as one path.
-fn put_ticks(span: &Span, row: &Row, marks: &[Mark], class: &'static str, out: &mut Canvas) {
+fn put_ticks(span: &Span, strip: &Strip, marks: &[Mark], class: &'static str, out: &mut Canvas) {
     let mut open = false;
     for mark in marks {
         if tick_class(mark.sign) == Some(class) {
@@ -281,7 +281,7 @@ fn put_ticks(span: &Span, row: &Row, marks: &[Mark], class: &'static str, out: &
                 out.put("<path class=\"{} thin q\" d=\"", &[Raw(class)]);
                 open = true;
             }
-            out.put("M{} {}v7", &[At(span.x(mark.event)), At(row.y(0))]);
+            out.put("M{} {}v7", &[At(span.x(mark.event)), At(strip.y(0))]);
         }
     }
     if open {
@@ -290,25 +290,25 @@ fn put_ticks(span: &Span, row: &Row, marks: &[Mark], class: &'static str, out: &
 }
 
 /// The marks of a lane where columns are narrow.
-fn put_all_ticks(span: &Span, row: &Row, marks: &[Mark], out: &mut Canvas) {
-    put_ticks(span, row, marks, "er", out);
-    put_ticks(span, row, marks, "am", out);
-    put_ticks(span, row, marks, "mk", out);
+fn put_all_ticks(span: &Span, strip: &Strip, marks: &[Mark], out: &mut Canvas) {
+    put_ticks(span, strip, marks, "er", out);
+    put_ticks(span, strip, marks, "am", out);
+    put_ticks(span, strip, marks, "mk", out);
 }
 
 /// The marks of a lane. `AllocError` if memory runs out.
 pub fn put_marks(
     scene: &Scene<'_>,
     span: &Span,
-    row: &Row,
+    strip: &Strip,
     out: &mut Canvas,
 ) -> Result<(), AllocError> {
     if span.is_narrow() {
-        put_all_ticks(span, row, &marks_of(scene, span, row.lane)?, out);
+        put_all_ticks(span, strip, &marks_of(scene, span, strip.lane)?, out);
         return Ok(());
     }
-    for placed in &placed_marks(scene, span, row.lane)? {
-        put_mark(scene.run, row, placed, out);
+    for placed in &placed_marks(scene, span, strip.lane)? {
+        put_mark(scene.run, strip, placed, out);
     }
     Ok(())
 }

@@ -1,8 +1,8 @@
 //! Lanes of tasks.
 use crate::calls::put_calls;
-use crate::rows::Row;
 use crate::scene::{Scene, Taken, fit_left};
 use crate::shapes::{put_box, put_frame, put_line, put_text};
+use crate::strips::Strip;
 use crate::titles::put_title;
 use fmp_base::{Caller, StateWord};
 use fmp_timeline::Piece::{At, Label, Number, Numbered, Raw, Text};
@@ -31,14 +31,14 @@ pub fn word_of(word: StateWord) -> &'static str {
 
 /// A name of this width in the gutter, squeezed where it is wider than its room.
 pub fn put_name(
-    row: &Row,
+    strip: &Strip,
     name: Piece<'_>,
     wide: Tenths,
     room: Tenths,
     faint: bool,
     out: &mut Canvas,
 ) {
-    let y = At(row.middle(40));
+    let y = At(strip.middle(40));
     out.put("<text class=\"n\" x=\"30\" y=\"{}\"", &[y]);
     if room.is_below(wide) {
         out.put(
@@ -67,12 +67,12 @@ fn side_text(scene: &Scene<'_>, task: u8, processor: u8) -> Canvas {
 }
 
 /// The small square of a task's colour.
-fn put_square(row: &Row, colour: u32, home: bool, out: &mut Canvas) {
+fn put_square(strip: &Strip, colour: u32, home: bool, out: &mut Canvas) {
     if home {
-        let corner = (px(16), row.middle(-40));
+        let corner = (px(16), strip.middle(-40));
         put_box(Numbered("c", colour, " f"), corner, (px(8), px(8)), out);
     } else {
-        let corner = (Tenths(165), row.middle(-35));
+        let corner = (Tenths(165), strip.middle(-35));
         put_box(Numbered("c", colour, " y"), corner, (px(7), px(7)), out);
     }
     out.raw("/>");
@@ -87,7 +87,7 @@ fn is_home(scene: &Scene<'_>, task: u8, processor: u8) -> bool {
 }
 
 /// The name, the colour and the priority of a task at the left of its lane.
-fn put_gutter(scene: &Scene<'_>, row: &Row, (task, processor): (u8, u8), out: &mut Canvas) {
+fn put_gutter(scene: &Scene<'_>, strip: &Strip, (task, processor): (u8, u8), out: &mut Canvas) {
     let name = task_bytes(scene.sys, task);
     let home = is_home(scene, task, processor);
     let number = Number(u32::from(processor).saturating_add(1));
@@ -95,16 +95,16 @@ fn put_gutter(scene: &Scene<'_>, row: &Row, (task, processor): (u8, u8), out: &m
         "<g role=\"group\" aria-label=\"Task {} on processor {}\">",
         &[Text(name), number],
     );
-    put_square(row, scene.colour(task), home, out);
+    put_square(strip, scene.colour(task), home, out);
     let side = side_text(scene, task, processor);
     let room = scene.page.left() - px(44) - side.width(SMALL);
-    put_name(row, Text(name), width(name, NAME), room, !home, out);
-    put_side(scene, row, Label(&side), out);
+    put_name(strip, Text(name), width(name, NAME), room, !home, out);
+    put_side(scene, strip, Label(&side), out);
 }
 
 /// What stands at the right end of the gutter.
-pub fn put_side(scene: &Scene<'_>, row: &Row, side: Piece<'_>, out: &mut Canvas) {
-    let place = (scene.page.left() - px(8), row.middle(30));
+pub fn put_side(scene: &Scene<'_>, strip: &Strip, side: Piece<'_>, out: &mut Canvas) {
+    let place = (scene.page.left() - px(8), strip.middle(30));
     put_text(Raw("m e"), place, side, out);
 }
 
@@ -227,22 +227,22 @@ fn put_wait_text(
 fn put_wait(
     scene: &Scene<'_>,
     span: &Span,
-    row: &Row,
+    strip: &Strip,
     taken: &[Taken],
     (task, stay): (u8, &Stay<TaskShown>),
     out: &mut Canvas,
 ) {
     let (left, right) = (span.box_left(stay), span.box_right(stay));
     let wide = right - left;
-    put_frame(Raw("w"), (left, row.y(55)), (wide, px(13)), out);
+    put_frame(Raw("w"), (left, strip.y(55)), (wide, px(13)), out);
     put_task_title(scene, task, stay, out);
     let look = if stay.state.word == StateWord::WaitingSuspended {
-        let corner = (left + px(1), row.y(145));
+        let corner = (left + px(1), strip.y(145));
         put_box(Raw("ws q"), corner, (wide - px(2), px(4)), out);
         out.raw("/>\n");
-        ("wt q s7", row.y(130))
+        ("wt q s7", strip.y(130))
     } else {
-        ("wt q", row.y(150))
+        ("wt q", strip.y(150))
     };
     put_wait_text(scene, span, taken, (left, right), look, &stay.state, out);
 }
@@ -251,12 +251,12 @@ fn put_wait(
 fn put_running(
     scene: &Scene<'_>,
     span: &Span,
-    row: &Row,
+    strip: &Strip,
     (task, stay): (u8, &Stay<TaskShown>),
     out: &mut Canvas,
 ) {
     let (left, right) = (span.box_left(stay), span.box_right(stay));
-    let (corner, size) = ((left, row.y(30)), (right - left, px(16)));
+    let (corner, size) = ((left, strip.y(30)), (right - left, px(16)));
     let class = Numbered("c", scene.colour(task), " f");
     put_box(class, corner, size, out);
     put_task_title(scene, task, stay, out);
@@ -274,7 +274,7 @@ fn put_running(
 fn put_rest(
     scene: &Scene<'_>,
     span: &Span,
-    row: &Row,
+    strip: &Strip,
     (task, stay): (u8, &Stay<TaskShown>),
     out: &mut Canvas,
 ) {
@@ -283,12 +283,12 @@ fn put_rest(
     match stay.state.word {
         StateWord::Ready => {
             let class = Numbered("c", scene.colour(task), " y");
-            put_frame(class, (left, row.y(95)), (wide, px(9)), out);
+            put_frame(class, (left, strip.y(95)), (wide, px(9)), out);
         }
         StateWord::Suspended => {
-            put_frame(Raw("s"), (left, row.y(55)), (wide, px(13)), out);
+            put_frame(Raw("s"), (left, strip.y(55)), (wide, px(13)), out);
         }
-        _ => put_line("dorm", (left, row.middle(5)), wide, out),
+        _ => put_line("dorm", (left, strip.middle(5)), wide, out),
     }
     put_task_title(scene, task, stay, out);
 }
@@ -297,29 +297,29 @@ fn put_rest(
 fn put_state(
     scene: &Scene<'_>,
     span: &Span,
-    row: &Row,
+    strip: &Strip,
     taken: &[Taken],
     (task, stay): (u8, &Stay<TaskShown>),
     out: &mut Canvas,
 ) {
     match stay.state.word {
         StateWord::Waiting | StateWord::WaitingSuspended => {
-            put_wait(scene, span, row, taken, (task, stay), out);
+            put_wait(scene, span, strip, taken, (task, stay), out);
         }
-        StateWord::Running => put_running(scene, span, row, (task, stay), out),
+        StateWord::Running => put_running(scene, span, strip, (task, stay), out),
         StateWord::Suspended if stay.state.held => {
-            put_running(scene, span, row, (task, stay), out);
+            put_running(scene, span, strip, (task, stay), out);
         }
-        _ => put_rest(scene, span, row, (task, stay), out),
+        _ => put_rest(scene, span, strip, (task, stay), out),
     }
 }
 
 /// The zigzags of one span along the foot of a task that spins.
-fn put_zigzags(span: &Span, row: &Row, colour: u32, spin: &Stay<Spin>, out: &mut Canvas) {
+fn put_zigzags(span: &Span, strip: &Strip, colour: u32, spin: &Stay<Spin>, out: &mut Canvas) {
     let (left, right) = (span.box_left(spin), span.box_right(spin));
     let count = u32::try_from((right - left - px(2)).0).unwrap_or(0) / 40;
     out.numbered("<path class=\"g", colour, " q\" d=\"");
-    let y = row.y(180);
+    let y = strip.y(180);
     for step in 0..count.min(5000) {
         let x = left + px(1) + px(4).times(step);
         out.put("M{} {}l2-3l2 3", &[At(x), At(y)]);
@@ -331,7 +331,7 @@ fn put_zigzags(span: &Span, row: &Row, colour: u32, spin: &Stay<Spin>, out: &mut
 fn put_spins(
     scene: &Scene<'_>,
     span: &Span,
-    row: &Row,
+    strip: &Strip,
     (task, processor): (u8, u8),
     out: &mut Canvas,
 ) {
@@ -340,7 +340,7 @@ fn put_spins(
         if let Some(spin) = spins.stay(place, processor, span)
             && spin.state.actor == Caller::Task(task)
         {
-            put_zigzags(span, row, scene.colour(task), &spin, out);
+            put_zigzags(span, strip, scene.colour(task), &spin, out);
         }
     }
 }
@@ -349,17 +349,17 @@ fn put_spins(
 fn put_stay(
     scene: &Scene<'_>,
     span: &Span,
-    row: &Row,
+    strip: &Strip,
     taken: &[Taken],
     (task, processor, stay): (u8, u8, &Stay<TaskShown>),
     out: &mut Canvas,
 ) {
     if stay.state.processor == processor {
-        return put_state(scene, span, row, taken, (task, stay), out);
+        return put_state(scene, span, strip, taken, (task, stay), out);
     }
     let left = span.box_left(stay);
     let wide = span.box_right(stay) - left;
-    put_line("away", (left, row.middle(5)), wide, out);
+    put_line("away", (left, strip.middle(5)), wide, out);
     out.raw("/>\n");
 }
 
@@ -367,20 +367,20 @@ fn put_stay(
 pub fn put_task(
     scene: &Scene<'_>,
     span: &Span,
-    row: &Row,
+    strip: &Strip,
     taken: &[Taken],
     (task, processor): (u8, u8),
     out: &mut Canvas,
 ) {
-    put_gutter(scene, row, (task, processor), out);
+    put_gutter(scene, strip, (task, processor), out);
     if let Some(track) = scene.run.tasks.get(usize::from(task)) {
         for place in track.places(span.first, span.last) {
             if let Some(stay) = track.stay(place) {
-                put_stay(scene, span, row, taken, (task, processor, &stay), out);
+                put_stay(scene, span, strip, taken, (task, processor, &stay), out);
             }
         }
     }
-    put_spins(scene, span, row, (task, processor), out);
-    put_calls(scene, span, row, taken, out);
+    put_spins(scene, span, strip, (task, processor), out);
+    put_calls(scene, span, strip, taken, out);
     out.raw("</g>\n");
 }

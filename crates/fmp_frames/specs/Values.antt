@@ -31,9 +31,9 @@ one_if true = 1
 one_if false = 0
 
 -- the number of what is at a place, 0 for none
-abbrev pub number_of : Option ℕ → ℕ
-number_of None = 0
-number_of (Some i) = i + 1
+abbrev pub number_or_zero : Option ℕ → ℕ
+number_or_zero None = 0
+number_or_zero (Some i) = i + 1
 
 abbrev pub state_code : StateWord → ℕ
 state_code word.Dormant = 0
@@ -149,7 +149,7 @@ phase_of (Some block) = block.phase
 -- the value of a variable in a frame
 abbrev pub value_of : FrameTable → Variable → ℕ
 value_of f show.Clock = f.clock
-value_of f (show.Run p) = number_of (get_or f.processors p idle).run
+value_of f (show.Run p) = number_or_zero (get_or f.processors p idle).run
 value_of f (show.Handler p) = handler_code (get_or f.processors p idle).handler
 value_of f (show.Lock p) = lock_code (get_or f.processors p idle).lock
 value_of f (show.Dispatch p) = one_if (not (get_or f.processors p idle).dispatch_disabled)

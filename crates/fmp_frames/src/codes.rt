@@ -23,8 +23,8 @@ pub fn state_code(word: StateWord) -> u32
     }
 }
 
-pub fn number_of(place: Option<u8>) -> u32
-    ensures { result ≡ spec.number_of place }
+pub fn number_or_zero(place: Option<u8>) -> u32
+    ensures { result ≡ spec.number_or_zero place }
 {
     match place {
         Some(place) => u32::from(place) + 1,

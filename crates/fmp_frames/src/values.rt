@@ -7,7 +7,7 @@ ghost use Rattle.fmp_frames.specs.Values as spec;
 
 use crate::Frame;
 use crate::codes::{
-    handler_code, handling, lock_code, number_of, one_if, refused_by, state_code, wait_code,
+    handler_code, handling, lock_code, number_or_zero, one_if, refused_by, state_code, wait_code,
     wait_object,
 };
 use crate::variable::{Object, Variable};
@@ -174,7 +174,9 @@ fn value_of(frame: &Frame, variable: Variable) -> u64
 {
     match variable {
         Variable::Clock => u64::from(frame.clock),
-        Variable::Run(place) => u64::from(number_of(processor_at(&frame.processors, place).run)),
+        Variable::Run(place) => u64::from(number_or_zero(
+            processor_at(&frame.processors, place).run,
+        )),
         Variable::Handler(place) => {
             u64::from(handler_code(processor_at(&frame.processors, place).handler))
         }

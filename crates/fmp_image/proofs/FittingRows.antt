@@ -25,7 +25,7 @@ use Rattle.fmp_cfgparse.specs.Tables.{is_identifier, IsObjectName, SharedWordCon
 use Rattle.fmp_image_bytes.specs.Images.{KeepRules}
 use Rattle.fmp_image_parts.specs.Keys.{begins_and_goes_on, is_reserved, is_name}
 use Rattle.fmp_image_parts.specs.Fields.{in_range}
-use Rattle.fmp_image_rows.specs.Rows.{Frame, RowForm, row, bit, order_bit, order_of, semaphore_form, flag_form, data_queue_form, mailbox_form, message_form, shared_word_form, spin_lock_form}
+use Rattle.fmp_image_rows.specs.Rows.{RowContext, RowForm, row, bit, order_bit, order_of, semaphore_form, flag_form, data_queue_form, mailbox_form, message_form, shared_word_form, spin_lock_form}
 use Rattle.fmp_image_parts.proofs.Verification.{both_true}
 
 -- ---- names
@@ -66,8 +66,8 @@ order_small Priority = omega arith
 
 -- ---- rows
 
-pub semaphore_fits : (frame : Frame) (s : SemaphoreConfig) → SemaphoreInRange s → IsObjectName s.name → (row semaphore_form frame).fits s
-semaphore_fits frame s h name =
+pub semaphore_fits : (context : RowContext) (s : SemaphoreConfig) → SemaphoreInRange s → IsObjectName s.name → (row semaphore_form context).fits s
+semaphore_fits context s h name =
     let small = order_small s.order in
     let most : s.most ≤ 65535 = h.most.most in
     let initial : s.initial ≤ s.most = h.initial in (
@@ -97,9 +97,9 @@ flag_back Priority false true = record { small = omega arith; order = refl; mult
 flag_back Priority true false = record { small = omega arith; order = refl; multiple = refl; clears = refl }
 flag_back Priority true true = record { small = omega arith; order = refl; multiple = refl; clears = refl }
 
-pub flag_fits : (frame : Frame) (f : FlagConfig) → FlagInRange f → IsObjectName f.name → (row flag_form frame).fits f
+pub flag_fits : (context : RowContext) (f : FlagConfig) → FlagInRange f → IsObjectName f.name → (row flag_form context).fits f
 unfolding flag_attributes
-flag_fits frame f h name =
+flag_fits context f h name =
     let back = flag_back f.order f.multiple f.clears in
     let small : flag_attributes f.order f.multiple f.clears ≤ 7 = back.small in
     let initial : f.initial ≤ 65535 = h.initial in (
@@ -109,8 +109,8 @@ flag_fits frame f h name =
           (ap₂ (λ a b. (a, b)) back.order (ap₂ (λ a b. (a, b)) back.multiple back.clears)),
     )
 
-pub data_queue_fits : (frame : Frame) (d : DataQueueConfig) → DataQueueInRange d → IsObjectName d.name → (row data_queue_form frame).fits d
-data_queue_fits frame d h name =
+pub data_queue_fits : (context : RowContext) (d : DataQueueConfig) → DataQueueInRange d → IsObjectName d.name → (row data_queue_form context).fits d
+data_queue_fits context d h name =
     let small = order_small d.order in
     let capacity : d.capacity ≤ 255 = h.capacity in (
       (name_room d.name name, (omega arith, omega arith)),
@@ -133,9 +133,9 @@ mailbox_back Fifo Priority = record { small = omega arith; order = refl; message
 mailbox_back Priority Fifo = record { small = omega arith; order = refl; message_order = refl }
 mailbox_back Priority Priority = record { small = omega arith; order = refl; message_order = refl }
 
-pub mailbox_fits : (frame : Frame) (m : MailboxConfig) → MailboxInRange m → IsObjectName m.name → (row mailbox_form frame).fits m
+pub mailbox_fits : (context : RowContext) (m : MailboxConfig) → MailboxInRange m → IsObjectName m.name → (row mailbox_form context).fits m
 unfolding mailbox_attributes
-mailbox_fits frame m h name =
+mailbox_fits context m h name =
     let back = mailbox_back m.order m.message_order in
     let small : mailbox_attributes m.order m.message_order ≤ 3 = back.small in
     let most : m.most ≤ 16 = h.most.most in (
@@ -146,20 +146,20 @@ mailbox_fits frame m h name =
           (ap₂ (λ a b. (a, b)) back.order back.message_order),
     )
 
-pub message_fits : (frame : Frame) (m : MessageConfig) → MessageInRange m → IsObjectName m.name → (row message_form frame).fits m
-message_fits frame m h name =
+pub message_fits : (context : RowContext) (m : MessageConfig) → MessageInRange m → IsObjectName m.name → (row message_form context).fits m
+message_fits context m h name =
     let most : m.priority ≤ 16 = h.priority.most in (
       (name_room m.name name, omega arith),
       both_true _ _ (object_is_name m.name name) (lies_in_range 1 16 m.priority h.priority),
       ap (λ n. record { name = n; priority = m.priority }) name.canonical,
     )
 
-pub shared_word_fits : (frame : Frame) (w : SharedWordConfig) → SharedWordConfigured w → IsObjectName w.name → (row shared_word_form frame).fits w
-shared_word_fits frame w h name =
+pub shared_word_fits : (context : RowContext) (w : SharedWordConfig) → SharedWordConfigured w → IsObjectName w.name → (row shared_word_form context).fits w
+shared_word_fits context w h name =
     ((name_room w.name name, h.initial), object_is_name w.name name, ap (λ n. record { name = n; initial = w.initial }) name.canonical)
 
-pub spin_lock_fits : (frame : Frame) (l : SpinLockConfig) → IsObjectName l.name → (row spin_lock_form frame).fits l
-spin_lock_fits frame l name = (name_room l.name name, object_is_name l.name name, ap (λ n. record { name = n }) name.canonical)
+pub spin_lock_fits : (context : RowContext) (l : SpinLockConfig) → IsObjectName l.name → (row spin_lock_form context).fits l
+spin_lock_fits context l name = (name_room l.name name, object_is_name l.name name, ap (λ n. record { name = n }) name.canonical)
 
 -- ---- tables
 
@@ -171,6 +171,6 @@ each_fits : {A : Type 0} {P Q R : A → Type 0} → ((a : A) → P a → Q a →
 each_fits f [] p q = tt
 each_fits f (a ∷ rows) p q = (f a p.0 q.0, each_fits f rows p.1 q.1)
 
-pub table_keeps : {F A : Type 0} (form : RowForm F A) (frame : Frame) {P Q : A → Type 0} → ((a : A) → P a → Q a → (row form frame).fits a) →
-    (rows : List A) → length rows ≤ 255 → AllByRecursion P rows → AllByRecursion Q rows → KeepRules form frame rows
-table_keeps form frame fits rows count p q = record { count = omega arith; each = each_fits fits rows p q }
+pub table_keeps : {F A : Type 0} (form : RowForm F A) (context : RowContext) {P Q : A → Type 0} → ((a : A) → P a → Q a → (row form context).fits a) →
+    (rows : List A) → length rows ≤ 255 → AllByRecursion P rows → AllByRecursion Q rows → KeepRules form context rows
+table_keeps form context fits rows count p q = record { count = omega arith; each = each_fits fits rows p q }

@@ -22,7 +22,7 @@ use Rattle.fmp_image_parts.specs.declared.heads.BodyHead.{BodyHead}
 use Rattle.fmp_image_bytes.specs.Images.{image_tables, keys_of, KeepRules, IsImage}
 use Rattle.fmp_image_parts.specs.Instructions.{HasWord}
 use Rattle.fmp_image_parts.specs.Keys.{are_new}
-use Rattle.fmp_image_rows.specs.Rows.{Frame, frame_of, row, task_form, cyclic_form, interrupt_form, semaphore_form, flag_form, data_queue_form, mailbox_form, message_form, shared_word_form, spin_lock_form}
+use Rattle.fmp_image_rows.specs.Rows.{RowContext, context_of, row, task_form, cyclic_form, interrupt_form, semaphore_form, flag_form, data_queue_form, mailbox_form, message_form, shared_word_form, spin_lock_form}
 use Rattle.fmp_image.specs.Building.{built_entry, built_task, built_cyclic, built_interrupt, built_tables, built_heads, built_image}
 use Rattle.fmp_image.proofs.Entering.{Enters, TaskEnters, CyclicEnters, InterruptEnters, EachEnters}
 use Rattle.fmp_image.proofs.BodyRules.{are_bodies}
@@ -34,31 +34,31 @@ use Rattle.fmp_image.proofs.NewKeys.{keys_new}
 use Rattle.fmp_image.proofs.SameNames.{kept}
 
 module _ (bodies : List BodyTree) (processors : ℕ) (few : length bodies ≤ 255) (small : processors ≤ 8) where
-  abbrev frame : Frame
-  frame = frame_of processors (built_heads bodies)
+  abbrev context : RowContext
+  context = context_of processors (built_heads bodies)
 
   task_row :
       (t : TaskConfig) (e : Entry) → IsTask processors t → Enters bodies Task (Some t.stack) e →
-      (row task_form frame).fits (record t { entry = built_entry bodies e })
+      (row task_form context).fits (record t { entry = built_entry bodies e })
   task_row t (entry.Named n) ok h =
       let below = number_below bodies n Task (Some t.stack) h in
-      task_fits frame t (number bodies n) small ok (omega (arith, below, few)) (enters_task bodies n t.stack h)
+      task_fits context t (number bodies n) small ok (omega (arith, below, few)) (enters_task bodies n t.stack h)
   task_row t (entry.Body k) ok h = absurd h
 
   cyclic_row :
       (c : CyclicConfig) (e : Entry) → IsCyclic processors c → Enters bodies Handler None e →
-      (row cyclic_form frame).fits (record c { entry = built_entry bodies e })
+      (row cyclic_form context).fits (record c { entry = built_entry bodies e })
   cyclic_row c (entry.Named n) ok h =
       let below = number_below bodies n Handler None h in
-      cyclic_fits frame c (number bodies n) small ok (omega (arith, below, few)) (enters_handler bodies n h)
+      cyclic_fits context c (number bodies n) small ok (omega (arith, below, few)) (enters_handler bodies n h)
   cyclic_row c (entry.Body k) ok h = absurd h
 
   interrupt_row :
       (i : InterruptConfig) (e : Entry) → InterruptInRange processors i → Enters bodies Handler None e →
-      (row interrupt_form frame).fits (record i { entry = built_entry bodies e })
+      (row interrupt_form context).fits (record i { entry = built_entry bodies e })
   interrupt_row i (entry.Named n) ok h =
       let below = number_below bodies n Handler None h in
-      interrupt_fits frame i (number bodies n) small ok (omega (arith, below, few)) (enters_handler bodies n h)
+      interrupt_fits context i (number bodies n) small ok (omega (arith, below, few)) (enters_handler bodies n h)
   interrupt_row i (entry.Body k) ok h = absurd h
 
   each_row :
@@ -71,28 +71,28 @@ module _ (bodies : List BodyTree) (processors : ℕ) (few : length bodies ≤ 25
   fewer change rows h = omega (arith, h, length-map rows change)
 
   tasks_keep : (rows : List TaskConfig) → IsTable (TaskInRange processors) rows → AreNamed task_name rows → AllByRecursion TaskConfigured rows → AllByRecursion (TaskEnters bodies) rows →
-      KeepRules task_form frame (map (built_task bodies) rows)
+      KeepRules task_form context (map (built_task bodies) rows)
   tasks_keep rows h named given enters =
       let ok = both_all (TaskInRange processors) _ rows h.each (both_all _ TaskConfigured rows named given) in
       record {
         count = fewer (built_task bodies) rows h.count;
-        each = each_row (IsTask processors) (TaskEnters bodies) (row task_form frame).fits (built_task bodies) (λ a p q. task_row a a.entry p q) rows ok enters;
+        each = each_row (IsTask processors) (TaskEnters bodies) (row task_form context).fits (built_task bodies) (λ a p q. task_row a a.entry p q) rows ok enters;
       }
 
   cyclics_keep : (rows : List CyclicConfig) → IsTable (CyclicInRange processors) rows → AreNamed cyclic_name rows → AllByRecursion CyclicConfigured rows → AllByRecursion (CyclicEnters bodies) rows →
-      KeepRules cyclic_form frame (map (built_cyclic bodies) rows)
+      KeepRules cyclic_form context (map (built_cyclic bodies) rows)
   cyclics_keep rows h named given enters =
       let ok = both_all (CyclicInRange processors) _ rows h.each (both_all _ CyclicConfigured rows named given) in
       record {
         count = fewer (built_cyclic bodies) rows h.count;
-        each = each_row (IsCyclic processors) (CyclicEnters bodies) (row cyclic_form frame).fits (built_cyclic bodies) (λ a p q. cyclic_row a a.entry p q) rows ok enters;
+        each = each_row (IsCyclic processors) (CyclicEnters bodies) (row cyclic_form context).fits (built_cyclic bodies) (λ a p q. cyclic_row a a.entry p q) rows ok enters;
       }
 
   interrupts_keep : (rows : List InterruptConfig) → IsTable (InterruptInRange processors) rows → AllByRecursion (InterruptEnters bodies) rows →
-      KeepRules interrupt_form frame (map (built_interrupt bodies) rows)
+      KeepRules interrupt_form context (map (built_interrupt bodies) rows)
   interrupts_keep rows h enters = record {
     count = fewer (built_interrupt bodies) rows h.count;
-    each = each_row (InterruptInRange processors) (InterruptEnters bodies) (row interrupt_form frame).fits (built_interrupt bodies) (λ a p q. interrupt_row a a.entry p q) rows h.each enters;
+    each = each_row (InterruptInRange processors) (InterruptEnters bodies) (row interrupt_form context).fits (built_interrupt bodies) (λ a p q. interrupt_row a a.entry p q) rows h.each enters;
   }
 
 keys_kept : (bodies : List BodyTree) (t : SystemTables) → keys_of (built_tables bodies t) ≡ keys_of t
@@ -112,7 +112,7 @@ lawful needed t bodies code h enters few is verified words =
     let r = h.ranges in
     let n = has_names t h.names in
     let small : p ≤ 8 = r.processors.most in
-    let frame = frame_of p (built_heads bodies) in
+    let context = context_of p (built_heads bodies) in
     let many : length code ≡ length (compiled t bodies) = ap length is in
     record {
       processors = lies_in_range 1 8 p r.processors;
@@ -120,13 +120,13 @@ lawful needed t bodies code h enters few is verified words =
       count = omega (arith, few, many, length-map bodies (compiled_body t));
       bodies = are_bodies needed t bodies code is verified words;
       tasks = tasks_keep bodies p few small t.tasks r.tasks n.tasks h.tasks enters.tasks;
-      semaphores = table_keeps semaphore_form frame (semaphore_fits frame) t.semaphores r.semaphores.count r.semaphores.each n.semaphores;
-      flags = table_keeps flag_form frame (flag_fits frame) t.flags r.flags.count r.flags.each n.flags;
-      data_queues = table_keeps data_queue_form frame (data_queue_fits frame) t.data_queues r.data_queues.count r.data_queues.each n.data_queues;
-      mailboxes = table_keeps mailbox_form frame (mailbox_fits frame) t.mailboxes r.mailboxes.count r.mailboxes.each n.mailboxes;
-      messages = table_keeps message_form frame (message_fits frame) t.messages r.messages.count r.messages.each n.messages;
-      shared_words = table_keeps shared_word_form frame (shared_word_fits frame) t.shared_words r.shared_words h.shared_words n.shared_words;
-      spin_locks = table_keeps spin_lock_form frame (λ l name same. spin_lock_fits frame l name) t.spin_locks r.spin_locks n.spin_locks n.spin_locks;
+      semaphores = table_keeps semaphore_form context (semaphore_fits context) t.semaphores r.semaphores.count r.semaphores.each n.semaphores;
+      flags = table_keeps flag_form context (flag_fits context) t.flags r.flags.count r.flags.each n.flags;
+      data_queues = table_keeps data_queue_form context (data_queue_fits context) t.data_queues r.data_queues.count r.data_queues.each n.data_queues;
+      mailboxes = table_keeps mailbox_form context (mailbox_fits context) t.mailboxes r.mailboxes.count r.mailboxes.each n.mailboxes;
+      messages = table_keeps message_form context (message_fits context) t.messages r.messages.count r.messages.each n.messages;
+      shared_words = table_keeps shared_word_form context (shared_word_fits context) t.shared_words r.shared_words h.shared_words n.shared_words;
+      spin_locks = table_keeps spin_lock_form context (λ l name same. spin_lock_fits context l name) t.spin_locks r.spin_locks n.spin_locks n.spin_locks;
       cyclics = cyclics_keep bodies p few small t.cyclics r.cyclics n.cyclics h.cyclics enters.cyclics;
       interrupts = interrupts_keep bodies p few small t.interrupts r.interrupts enters.interrupts;
       once = ap (are_new []) (keys_kept bodies t) ∙ keys_new t h;

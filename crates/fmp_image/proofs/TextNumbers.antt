@@ -16,7 +16,7 @@ use Rattle.fmp_tasklang.specs.declared.trees.Operator.TheVariants as operator
 use Rattle.fmp_tasklang.specs.declared.trees.Word.{Word}
 use Rattle.fmp_tasklang.specs.Blocks.{block_of, choice}
 use Rattle.fmp_tasklang.specs.Calls.{call_parts, ArgumentTree, value, out, values_of, Called, call_tree, OnePart, Parts, OneCall}
-use Rattle.fmp_tasklang.specs.Expressions.{number_of, IsOperand, a_number, a_name, a_group, a_unary, IsExpression, an_operand, a_chain, AreLinks, no_link, a_link}
+use Rattle.fmp_tasklang.specs.Expressions.{token_number, IsOperand, a_number, a_name, a_group, a_unary, IsExpression, an_operand, a_chain, AreLinks, no_link, a_link}
 use Rattle.fmp_tasklang.specs.Grammar.{Bodies}
 use Rattle.fmp_tasklang.specs.Statements.{jump_of, IsStatement, an_assignment, a_call, a_jump, an_if, a_while, IsIf, if_chosen, IsElse, no_else, an_else, IsOther, a_block, another_if, IsBlock, braces, AreStatements, no_statement, a_statement}
 use Rattle.fmp_tasklang.specs.Trees.{ExpressionTree, number, named, unary, binary, both, either, StatementTree, assign, service_call, if_then, if_else, while, break, continue, return, Block, empty, next, BodyTree}
@@ -69,14 +69,14 @@ abbrev NumberFits : Option ℤ → Type 0
 NumberFits None = Unit {0}
 NumberFits (Some n) = FitsSigned w32 n
 
-token_number : (t : TokenKind) → IsKnown t → NumberFits (number_of t)
-token_number (kind.Number n) h = h
-token_number (kind.Constant c) h = constant_fits c
-token_number _ h = tt
+known_number : (t : TokenKind) → IsKnown t → NumberFits (token_number t)
+known_number (kind.Number n) h = h
+known_number (kind.Constant c) h = constant_fits c
+known_number _ h = tt
 
-number_at : (o : Option TokenKind) → IsKnownAt o → NumberFits (option_and_then number_of o)
+number_at : (o : Option TokenKind) → IsKnownAt o → NumberFits (option_and_then token_number o)
 number_at None h = tt
-number_at (Some t) h = token_number t h
+number_at (Some t) h = known_number t h
 
 abbrev JumpHasWords : Option StatementTree → Type 0
 JumpHasWords None = Unit {0}

@@ -8,7 +8,7 @@ use Rattle.fmp_base.specs.Systems.{SystemTables}
 use Rattle.fmp_lex.specs.declared.fault.FaultKind.{FaultKind}
 use Rattle.fmp_base.specs.declared.words.Api.{Api}
 use Rattle.fmp_base.specs.declared.words.Api.TheVariants as api
-use Rattle.fmp_cfgparse.specs.declared.places.ClassPlace.{ClassPlace}
+use Rattle.fmp_cfgparse.specs.declared.places.ClassProcessors.{ClassProcessors}
 use Rattle.fmp_cfgparse.specs.Apis.{Making, class_of, api_fault, with_object, made}
 use Rattle.fmp_cfgparse.specs.Configuring as walk
 use Rattle.fmp_cfgparse.specs.Configuring.{unless, walk_apis, walk_class, and_then, walk_classes, nothing_made, configured}
@@ -96,7 +96,7 @@ one_more : {A : Type 0} (P : A → Type 0) (xs : List A) (x : A) → AllByRecurs
 one_more P [] x all here = (here, tt)
 one_more P (y ∷ ys) x all here = (all.0, one_more P ys x all.1 here)
 
-module _ (bodies : List BodyTree) (c : ClassPlace) where
+module _ (bodies : List BodyTree) (c : ClassProcessors) where
   object_enters :
       (kind : Api) (at : ℕ) (f : List FieldTree) (t : SystemTables) → entries_offence bodies (alone (entry_of kind at f)) ≡ None →
       EachEnters bodies t → EachEnters bodies (with_object c kind f t)
@@ -116,7 +116,7 @@ module _ (bodies : List BodyTree) (c : ClassPlace) where
 
 module _ (bodies : List BodyTree) where
   apis_enter :
-      (c : ClassPlace) (apis : List ApiTree) (g m : Making) → walk_apis c apis g ≡ Ok m →
+      (c : ClassProcessors) (apis : List ApiTree) (g m : Making) → walk_apis c apis g ≡ Ok m →
       entries_offence bodies (flat_map api_uses apis) ≡ None → EachEnters bodies g.tables → EachEnters bodies m.tables
   apis_enter c [] g m walked none h = let same : g ≡ m = cc walked in subst (λ (x : Making). EachEnters bodies x.tables) same h
   apis_enter c (a ∷ more) g m walked none h =
@@ -127,7 +127,7 @@ module _ (bodies : List BodyTree) where
       (object_enters bodies c a.kind a.at a.fields g.tables (front bodies uses rest none) h)
 
   class_enters :
-      (at : ℕ) (o : Option ClassPlace) (apis : List ApiTree) (g m : Making) → walk_class at o apis g ≡ Ok m →
+      (at : ℕ) (o : Option ClassProcessors) (apis : List ApiTree) (g m : Making) → walk_class at o apis g ≡ Ok m →
       entries_offence bodies (flat_map api_uses apis) ≡ None → EachEnters bodies g.tables → EachEnters bodies m.tables
   class_enters at None apis g m walked none h = absurd (cc walked)
   class_enters at (Some c) apis g m walked none h = apis_enter c apis g m walked none h

@@ -8,7 +8,7 @@ use Rattle.fmp_image_parts.specs.declared.keys.Key.{Key}
 use Rattle.fmp_image_parts.specs.Fields.{Field, chained}
 use Rattle.fmp_image_parts.specs.Keys.{are_new}
 use Rattle.fmp_image_parts.specs.Fields.{in_range}
-use Rattle.fmp_image_rows.specs.Rows.{Frame, frame_of, RowForm, row, task_form, semaphore_form, flag_form, data_queue_form, mailbox_form, message_form, shared_word_form, spin_lock_form, cyclic_form, interrupt_form}
+use Rattle.fmp_image_rows.specs.Rows.{RowContext, context_of, RowForm, row, task_form, semaphore_form, flag_form, data_queue_form, mailbox_form, message_form, shared_word_form, spin_lock_form, cyclic_form, interrupt_form}
 use Rattle.fmp_image_rows.specs.Tables.{AreRows}
 use Rattle.fmp_image_parts.specs.Bodies.{bodies}
 use Rattle.fmp_image_bytes.specs.Images.{◌▹◌, ImageTables, plain, magic, is_magic, header, table_of, also, tables, Parts, layout, parts_of, image_of, spelling, all_read, image_at, KeepRules, IsImage, Spells}
@@ -25,22 +25,22 @@ plain_exact size = record { takes = λ bytes a rest h e. bytes_take size bytes a
 header_exact : Exact header
 header_exact = both_exact _ _ (tested_exact _ _ _ (plain_exact 4)) (both_exact _ _ (tested_exact _ _ _ short_exact) (tested_exact _ _ _ byte_exact))
 
-one_table : {F A : Type 0} (form : RowForm F A) → ((frame : Frame) → GoesBack form frame) → (frame : Frame) (taken : List Key) → Exact (table_of form frame taken)
-one_table form back frame taken = table_exact (row form frame) form.key_of (row_exact form frame (back frame)) taken
+one_table : {F A : Type 0} (form : RowForm F A) → ((context : RowContext) → GoesBack form context) → (context : RowContext) (taken : List Key) → Exact (table_of form context taken)
+one_table form back context taken = table_exact (row form context) form.key_of (row_exact form context (back context)) taken
 
-also_exact : {F A B : Type 0} (form : RowForm F A) (behind : Frame → List Key → Field B) → ((frame : Frame) → GoesBack form frame) → ((frame : Frame) (taken : List Key) → Exact (behind frame taken))
-    → (frame : Frame) (taken : List Key) → Exact (also form behind frame taken)
-also_exact form behind back rest frame taken =
-    chained_exact (table_of form frame taken) (λ rows. behind frame (taken ++ map form.key_of rows)) (one_table form back frame taken) (λ rows. rest frame (taken ++ map form.key_of rows))
+also_exact : {F A B : Type 0} (form : RowForm F A) (behind : RowContext → List Key → Field B) → ((context : RowContext) → GoesBack form context) → ((context : RowContext) (taken : List Key) → Exact (behind context taken))
+    → (context : RowContext) (taken : List Key) → Exact (also form behind context taken)
+also_exact form behind back rest context taken =
+    chained_exact (table_of form context taken) (λ rows. behind context (taken ++ map form.key_of rows)) (one_table form back context taken) (λ rows. rest context (taken ++ map form.key_of rows))
 
-tables_exact : (frame : Frame) (taken : List Key) → Exact (tables frame taken)
+tables_exact : (context : RowContext) (taken : List Key) → Exact (tables context taken)
 tables_exact = also_exact _ _ task_back (also_exact _ _ semaphore_back (also_exact _ _ flag_back_row (also_exact _ _ data_queue_back (also_exact _ _ mailbox_back_row
     (also_exact _ _ message_back (also_exact _ _ shared_word_back (also_exact _ _ spin_lock_back (also_exact _ _ cyclic_back (one_table _ interrupt_back)))))))))
 
 layout_exact : Exact layout
 layout_exact =
-    chained_exact header (λ h. chained bodies (λ b. tables (frame_of h.1.1 b.0) [])) header_exact (λ h. chained_exact
-    bodies (λ b. tables (frame_of h.1.1 b.0) []) bodies_exact (λ b. tables_exact (frame_of h.1.1 b.0) []))
+    chained_exact header (λ h. chained bodies (λ b. tables (context_of h.1.1 b.0) [])) header_exact (λ h. chained_exact
+    bodies (λ b. tables (context_of h.1.1 b.0) []) bodies_exact (λ b. tables_exact (context_of h.1.1 b.0) []))
 
 magic_is : (m : List ℕ) → is_magic m ≡ true → m ≡ magic
 magic_is m e = (bytes_eq-Decides m magic).0 e
@@ -50,25 +50,25 @@ processors_fit n h = let high : n ≤ 8 = leb-true _ _ (and_true _ _ h).1 in ome
 
 -- ---- the rules of an image, table by table
 
-module _ {F A : Type 0} (form : RowForm F A) (frame : Frame) (taken : List Key) (rows : List A) where
+module _ {F A : Type 0} (form : RowForm F A) (context : RowContext) (taken : List Key) (rows : List A) where
   -- the keys of a table are new, and those behind it are new with them
-  peel : (behind : List Key) → KeepRules form frame rows → are_new taken (map form.key_of rows ++ behind) ≡ true
-      → AreRows (row form frame) form.key_of taken rows × (are_new (taken ++ map form.key_of rows) behind ≡ true)
+  peel : (behind : List Key) → KeepRules form context rows → are_new taken (map form.key_of rows ++ behind) ≡ true
+      → AreRows (row form context) form.key_of taken rows × (are_new (taken ++ map form.key_of rows) behind ≡ true)
   peel behind rules new =
       let parts = and_true _ _ (sym (new_append taken (map form.key_of rows) behind) ∙ new) in
       (record { count = rules.count; each = rules.each; once = parts.0 }, parts.1)
 
-  gather : (behind : List Key) → AreRows (row form frame) form.key_of taken rows → are_new (taken ++ map form.key_of rows) behind ≡ true
+  gather : (behind : List Key) → AreRows (row form context) form.key_of taken rows → are_new (taken ++ map form.key_of rows) behind ≡ true
       → are_new taken (map form.key_of rows ++ behind) ≡ true
   gather behind rules new = new_append taken (map form.key_of rows) behind ∙ both_true _ _ rules.once new
 
-  rules_of : AreRows (row form frame) form.key_of taken rows → KeepRules form frame rows
+  rules_of : AreRows (row form context) form.key_of taken rows → KeepRules form context rows
   rules_of rules = record { count = rules.count; each = rules.each }
 
 parts_fit : (i : ImageTables) → IsImage i → layout.fits (parts_of i)
 parts_fit i h =
     let s = i.system in
-    let frame = frame_of s.processors i.heads in
+    let context = context_of s.processors i.heads in
     let k1 = [] ++ map task_form.key_of s.tasks in
     let k2 = k1 ++ map semaphore_form.key_of s.semaphores in
     let k3 = k2 ++ map flag_form.key_of s.flags in
@@ -78,16 +78,16 @@ parts_fit i h =
     let k7 = k6 ++ map shared_word_form.key_of s.shared_words in
     let k8 = k7 ++ map spin_lock_form.key_of s.spin_locks in
     let k9 = k8 ++ map cyclic_form.key_of s.cyclics in
-    let t1 = peel task_form frame [] s.tasks _ h.tasks h.once in
-    let t2 = peel semaphore_form frame k1 s.semaphores _ h.semaphores t1.1 in
-    let t3 = peel flag_form frame k2 s.flags _ h.flags t2.1 in
-    let t4 = peel data_queue_form frame k3 s.data_queues _ h.data_queues t3.1 in
-    let t5 = peel mailbox_form frame k4 s.mailboxes _ h.mailboxes t4.1 in
-    let t6 = peel message_form frame k5 s.messages _ h.messages t5.1 in
-    let t7 = peel shared_word_form frame k6 s.shared_words _ h.shared_words t6.1 in
-    let t8 = peel spin_lock_form frame k7 s.spin_locks _ h.spin_locks t7.1 in
-    let t9 = peel cyclic_form frame k8 s.cyclics _ h.cyclics t8.1 in
-    let t10 : AreRows (row interrupt_form frame) interrupt_form.key_of k9 s.interrupts = record { count = h.interrupts.count; each = h.interrupts.each; once = t9.1 } in (
+    let t1 = peel task_form context [] s.tasks _ h.tasks h.once in
+    let t2 = peel semaphore_form context k1 s.semaphores _ h.semaphores t1.1 in
+    let t3 = peel flag_form context k2 s.flags _ h.flags t2.1 in
+    let t4 = peel data_queue_form context k3 s.data_queues _ h.data_queues t3.1 in
+    let t5 = peel mailbox_form context k4 s.mailboxes _ h.mailboxes t4.1 in
+    let t6 = peel message_form context k5 s.messages _ h.messages t5.1 in
+    let t7 = peel shared_word_form context k6 s.shared_words _ h.shared_words t6.1 in
+    let t8 = peel spin_lock_form context k7 s.spin_locks _ h.spin_locks t7.1 in
+    let t9 = peel cyclic_form context k8 s.cyclics _ h.cyclics t8.1 in
+    let t10 : AreRows (row interrupt_form context) interrupt_form.key_of k9 s.interrupts = record { count = h.interrupts.count; each = h.interrupts.each; once = t9.1 } in (
       ((refl, refl), ((lit< tt, refl), (processors_fit s.processors h.processors, h.processors))),
       ((h.count, h.bodies), (t1.0, (t2.0, (t3.0, (t4.0, (t5.0, (t6.0, (t7.0, (t8.0, (t9.0, t10)))))))))),
     )
@@ -117,7 +117,7 @@ image_back i h =
 
 image_fits : (p : Parts) → layout.fits p → IsImage (image_of p) × (parts_of (image_of p) ≡ p)
 image_fits ((m ▹ version ▹ processors) ▹ (heads ▹ code) ▹ tasks ▹ semaphores ▹ flags ▹ data_queues ▹ mailboxes ▹ messages ▹ shared_words ▹ spin_locks ▹ cyclics ▹ interrupts) f =
-    let frame = frame_of processors heads in
+    let context = context_of processors heads in
     let k1 = [] ++ map task_form.key_of tasks in
     let k2 = k1 ++ map semaphore_form.key_of semaphores in
     let k3 = k2 ++ map flag_form.key_of flags in
@@ -137,15 +137,15 @@ image_fits ((m ▹ version ▹ processors) ▹ (heads ▹ code) ▹ tasks ▹ se
     let t8 = t.1.1.1.1.1.1.1.0 in
     let t9 = t.1.1.1.1.1.1.1.1.0 in
     let t10 = t.1.1.1.1.1.1.1.1.1 in
-    let n9 = gather cyclic_form frame k8 cyclics _ t9 t10.once in
-    let n8 = gather spin_lock_form frame k7 spin_locks _ t8 n9 in
-    let n7 = gather shared_word_form frame k6 shared_words _ t7 n8 in
-    let n6 = gather message_form frame k5 messages _ t6 n7 in
-    let n5 = gather mailbox_form frame k4 mailboxes _ t5 n6 in
-    let n4 = gather data_queue_form frame k3 data_queues _ t4 n5 in
-    let n3 = gather flag_form frame k2 flags _ t3 n4 in
-    let n2 = gather semaphore_form frame k1 semaphores _ t2 n3 in
-    let n1 = gather task_form frame [] tasks _ t1 n2 in
+    let n9 = gather cyclic_form context k8 cyclics _ t9 t10.once in
+    let n8 = gather spin_lock_form context k7 spin_locks _ t8 n9 in
+    let n7 = gather shared_word_form context k6 shared_words _ t7 n8 in
+    let n6 = gather message_form context k5 messages _ t6 n7 in
+    let n5 = gather mailbox_form context k4 mailboxes _ t5 n6 in
+    let n4 = gather data_queue_form context k3 data_queues _ t4 n5 in
+    let n3 = gather flag_form context k2 flags _ t3 n4 in
+    let n2 = gather semaphore_form context k1 semaphores _ t2 n3 in
+    let n1 = gather task_form context [] tasks _ t1 n2 in
     let m-is : m ≡ magic = magic_is m f.0.0.1 in
     let version-is : version ≡ 1 = eqb-true _ _ f.0.1.0.1 in (
       record {
@@ -153,16 +153,16 @@ image_fits ((m ▹ version ▹ processors) ▹ (heads ▹ code) ▹ tasks ▹ se
         queue_limit = refl;
         count = f.1.0.0;
         bodies = f.1.0.1;
-        tasks = rules_of task_form frame [] tasks t1;
-        semaphores = rules_of semaphore_form frame k1 semaphores t2;
-        flags = rules_of flag_form frame k2 flags t3;
-        data_queues = rules_of data_queue_form frame k3 data_queues t4;
-        mailboxes = rules_of mailbox_form frame k4 mailboxes t5;
-        messages = rules_of message_form frame k5 messages t6;
-        shared_words = rules_of shared_word_form frame k6 shared_words t7;
-        spin_locks = rules_of spin_lock_form frame k7 spin_locks t8;
-        cyclics = rules_of cyclic_form frame k8 cyclics t9;
-        interrupts = rules_of interrupt_form frame (k8 ++ map cyclic_form.key_of cyclics) interrupts t10;
+        tasks = rules_of task_form context [] tasks t1;
+        semaphores = rules_of semaphore_form context k1 semaphores t2;
+        flags = rules_of flag_form context k2 flags t3;
+        data_queues = rules_of data_queue_form context k3 data_queues t4;
+        mailboxes = rules_of mailbox_form context k4 mailboxes t5;
+        messages = rules_of message_form context k5 messages t6;
+        shared_words = rules_of shared_word_form context k6 shared_words t7;
+        spin_locks = rules_of spin_lock_form context k7 spin_locks t8;
+        cyclics = rules_of cyclic_form context k8 cyclics t9;
+        interrupts = rules_of interrupt_form context (k8 ++ map cyclic_form.key_of cyclics) interrupts t10;
         once = n1;
       },
       rw (m-is, version-is) refl,

@@ -13,7 +13,7 @@ use Rattle.fmp_base.specs.declared.systems.InterruptConfig.{InterruptConfig}
 use Rattle.fmp_base.specs.Ranges.{Lies, IsTable, IsInRange, TaskInRange, SemaphoreInRange, FlagInRange, DataQueueInRange, MailboxInRange, MessageInRange, CyclicInRange, InterruptInRange}
 use Rattle.fmp_image_bytes.specs.Images.{ImageTables, KeepRules, IsImage}
 use Rattle.fmp_image_parts.specs.Fields.{in_range}
-use Rattle.fmp_image_rows.specs.Rows.{Frame, frame_of, RowForm, row, task_form, semaphore_form, flag_form, data_queue_form, mailbox_form, message_form, cyclic_form, interrupt_form}
+use Rattle.fmp_image_rows.specs.Rows.{RowContext, context_of, RowForm, row, task_form, semaphore_form, flag_form, data_queue_form, mailbox_form, message_form, cyclic_form, interrupt_form}
 use Rattle.fmp_image_parts.proofs.Names.{and_true}
 
 lies : (low high n : ℕ) → in_range low high n ≡ true → Lies low high n
@@ -25,18 +25,18 @@ inside processors processor h = let most = (lies 1 processors (processor + 1) h)
 
 -- ---- rows
 
-task_in_range : (frame : Frame) (t : TaskConfig) → (row task_form frame).fits t → TaskInRange frame.processors t
-task_in_range frame t h =
+task_in_range : (context : RowContext) (t : TaskConfig) → (row task_form context).fits t → TaskInRange context.processors t
+task_in_range context t h =
     let rules = and_true _ _ (and_true _ _ h.1).1 in
     let numbers = and_true _ _ (and_true _ _ (and_true _ _ rules.0).0).0 in
     record {
       priority = lies 1 16 t.priority (and_true _ _ numbers.0).1;
       stack = lies 1 65536 t.stack numbers.1;
-      processor = inside frame.processors t.processor rules.1;
+      processor = inside context.processors t.processor rules.1;
     }
 
-semaphore_in_range : (frame : Frame) (s : SemaphoreConfig) → (row semaphore_form frame).fits s → SemaphoreInRange s
-semaphore_in_range frame s h =
+semaphore_in_range : (context : RowContext) (s : SemaphoreConfig) → (row semaphore_form context).fits s → SemaphoreInRange s
+semaphore_in_range context s h =
     let rules = and_true _ _ (and_true _ _ h.1).1 in
     let most = h.0.1.1.1 in
     record {
@@ -44,61 +44,61 @@ semaphore_in_range frame s h =
       most = record { least = leb-true 1 s.most (and_true _ _ rules.0).1; most = omega arith };
     }
 
-flag_in_range : (frame : Frame) (f : FlagConfig) → (row flag_form frame).fits f → FlagInRange f
-flag_in_range frame f h = let initial = h.0.1.1 in record { initial = omega arith }
+flag_in_range : (context : RowContext) (f : FlagConfig) → (row flag_form context).fits f → FlagInRange f
+flag_in_range context f h = let initial = h.0.1.1 in record { initial = omega arith }
 
-data_queue_in_range : (frame : Frame) (d : DataQueueConfig) → (row data_queue_form frame).fits d → DataQueueInRange d
-data_queue_in_range frame d h = let capacity = h.0.1.1 in record { capacity = omega arith }
+data_queue_in_range : (context : RowContext) (d : DataQueueConfig) → (row data_queue_form context).fits d → DataQueueInRange d
+data_queue_in_range context d h = let capacity = h.0.1.1 in record { capacity = omega arith }
 
-mailbox_in_range : (frame : Frame) (b : MailboxConfig) → (row mailbox_form frame).fits b → MailboxInRange b
-mailbox_in_range frame b h = record { most = lies 1 16 b.most (and_true _ _ (and_true _ _ h.1).1).1 }
+mailbox_in_range : (context : RowContext) (b : MailboxConfig) → (row mailbox_form context).fits b → MailboxInRange b
+mailbox_in_range context b h = record { most = lies 1 16 b.most (and_true _ _ (and_true _ _ h.1).1).1 }
 
-message_in_range : (frame : Frame) (m : MessageConfig) → (row message_form frame).fits m → MessageInRange m
-message_in_range frame m h = record { priority = lies 1 16 m.priority (and_true _ _ h.1).1 }
+message_in_range : (context : RowContext) (m : MessageConfig) → (row message_form context).fits m → MessageInRange m
+message_in_range context m h = record { priority = lies 1 16 m.priority (and_true _ _ h.1).1 }
 
-cyclic_in_range : (frame : Frame) (c : CyclicConfig) → (row cyclic_form frame).fits c → CyclicInRange frame.processors c
-cyclic_in_range frame c h =
+cyclic_in_range : (context : RowContext) (c : CyclicConfig) → (row cyclic_form context).fits c → CyclicInRange context.processors c
+cyclic_in_range context c h =
     let rules = and_true _ _ (and_true _ _ h.1).1 in
     let numbers = and_true _ _ (and_true _ _ rules.0).0 in
     record {
       period = lies 1 1073741824 c.period (and_true _ _ numbers.0).1;
       phase = leb-true c.phase 1073741824 numbers.1;
-      processor = inside frame.processors c.processor rules.1;
+      processor = inside context.processors c.processor rules.1;
     }
 
-interrupt_in_range : (frame : Frame) (i : InterruptConfig) → (row interrupt_form frame).fits i → InterruptInRange frame.processors i
-interrupt_in_range frame i h =
+interrupt_in_range : (context : RowContext) (i : InterruptConfig) → (row interrupt_form context).fits i → InterruptInRange context.processors i
+interrupt_in_range context i h =
     let rules = and_true _ _ h.1 in
-    record { number = lies 1 32 i.number (and_true _ _ rules.0).0; processor = inside frame.processors i.processor rules.1 }
+    record { number = lies 1 32 i.number (and_true _ _ rules.0).0; processor = inside context.processors i.processor rules.1 }
 
 -- ---- tables
 
-at_most : {F A : Type 0} (form : RowForm F A) (frame : Frame) (rows : List A) → KeepRules form frame rows → length rows ≤ 255
-at_most form frame rows h = let count = h.count in omega arith
+at_most : {F A : Type 0} (form : RowForm F A) (context : RowContext) (rows : List A) → KeepRules form context rows → length rows ≤ 255
+at_most form context rows h = let count = h.count in omega arith
 
 pub all_map : {A : Type 0} {P Q : A → Type 0} → ((a : A) → P a → Q a) → (rows : List A) → AllByRecursion P rows → AllByRecursion Q rows
 all_map f [] h = tt
 all_map f (a ∷ rows) h = (f a h.0, all_map f rows h.1)
 
-table_in_range : {F A : Type 0} (form : RowForm F A) (frame : Frame) (P : A → Type 0) → ((a : A) → (row form frame).fits a → P a) → (rows : List A) → KeepRules form frame rows → IsTable P rows
-table_in_range form frame P each rows h = record { count = at_most form frame rows h; each = all_map each rows h.each }
+table_in_range : {F A : Type 0} (form : RowForm F A) (context : RowContext) (P : A → Type 0) → ((a : A) → (row form context).fits a → P a) → (rows : List A) → KeepRules form context rows → IsTable P rows
+table_in_range form context P each rows h = record { count = at_most form context rows h; each = all_map each rows h.each }
 
 pub image_in_range : (i : ImageTables) → IsImage i → IsInRange i.system
 image_in_range i h =
     let s = i.system in
     let p = s.processors in
-    let frame = frame_of p i.heads in
+    let context = context_of p i.heads in
     record {
       processors = lies 1 8 p h.processors;
       queue_limit = rw h.queue_limit (record { least = omega arith; most = omega arith });
-      tasks = table_in_range task_form frame (TaskInRange p) (task_in_range frame) s.tasks h.tasks;
-      semaphores = table_in_range semaphore_form frame SemaphoreInRange (semaphore_in_range frame) s.semaphores h.semaphores;
-      flags = table_in_range flag_form frame FlagInRange (flag_in_range frame) s.flags h.flags;
-      data_queues = table_in_range data_queue_form frame DataQueueInRange (data_queue_in_range frame) s.data_queues h.data_queues;
-      mailboxes = table_in_range mailbox_form frame MailboxInRange (mailbox_in_range frame) s.mailboxes h.mailboxes;
-      messages = table_in_range message_form frame MessageInRange (message_in_range frame) s.messages h.messages;
-      shared_words = at_most _ frame s.shared_words h.shared_words;
-      spin_locks = at_most _ frame s.spin_locks h.spin_locks;
-      cyclics = table_in_range cyclic_form frame (CyclicInRange p) (cyclic_in_range frame) s.cyclics h.cyclics;
-      interrupts = table_in_range interrupt_form frame (InterruptInRange p) (interrupt_in_range frame) s.interrupts h.interrupts;
+      tasks = table_in_range task_form context (TaskInRange p) (task_in_range context) s.tasks h.tasks;
+      semaphores = table_in_range semaphore_form context SemaphoreInRange (semaphore_in_range context) s.semaphores h.semaphores;
+      flags = table_in_range flag_form context FlagInRange (flag_in_range context) s.flags h.flags;
+      data_queues = table_in_range data_queue_form context DataQueueInRange (data_queue_in_range context) s.data_queues h.data_queues;
+      mailboxes = table_in_range mailbox_form context MailboxInRange (mailbox_in_range context) s.mailboxes h.mailboxes;
+      messages = table_in_range message_form context MessageInRange (message_in_range context) s.messages h.messages;
+      shared_words = at_most _ context s.shared_words h.shared_words;
+      spin_locks = at_most _ context s.spin_locks h.spin_locks;
+      cyclics = table_in_range cyclic_form context (CyclicInRange p) (cyclic_in_range context) s.cyclics h.cyclics;
+      interrupts = table_in_range interrupt_form context (InterruptInRange p) (interrupt_in_range context) s.interrupts h.interrupts;
     }

@@ -21,7 +21,7 @@ use Rattle.fmp_image_parts.specs.declared.keys.Key.{Key}
 use Rattle.fmp_image_parts.specs.Fields.{Field, ◌>>=◌, ◌⊗◌, byte, short, bytes_at, tested, chained}
 use Rattle.fmp_image_parts.specs.Keys.{are_new}
 use Rattle.fmp_image_parts.specs.Fields.{in_range}
-use Rattle.fmp_image_rows.specs.Rows.{Frame, frame_of, RowForm, row, task_form, semaphore_form, flag_form, data_queue_form, mailbox_form, message_form, shared_word_form, spin_lock_form, cyclic_form, interrupt_form}
+use Rattle.fmp_image_rows.specs.Rows.{RowContext, context_of, RowForm, row, task_form, semaphore_form, flag_form, data_queue_form, mailbox_form, message_form, shared_word_form, spin_lock_form, cyclic_form, interrupt_form}
 use Rattle.fmp_image_rows.specs.Tables.{table}
 use Rattle.fmp_image_parts.specs.Bodies.{bodies, IsBody}
 use Rattle.fmp_image_parts.specs.Pairs.{AllPairs}
@@ -57,13 +57,13 @@ header =
     byte
 
 -- the table of a kind of rows, behind which these keys stand
-abbrev pub table_of : {F A : Type 0} → RowForm F A → Frame → List Key → Field (List A)
-table_of form frame taken = table (row form frame) form.key_of taken
+abbrev pub table_of : {F A : Type 0} → RowForm F A → RowContext → List Key → Field (List A)
+table_of form context taken = table (row form context) form.key_of taken
 
 -- a table, and what stands behind it with its keys taken too
-abbrev pub also : {F A B : Type 0} → RowForm F A → (Frame → List Key → Field B) → Frame → List Key → Field (List A × B)
-also form behind frame taken =
-    chained (table_of form frame taken) (λ rows. behind frame (taken ++ map form.key_of rows))
+abbrev pub also : {F A B : Type 0} → RowForm F A → (RowContext → List Key → Field B) → RowContext → List Key → Field (List A × B)
+also form behind context taken =
+    chained (table_of form context taken) (λ rows. behind context (taken ++ map form.key_of rows))
 
 abbrev pub TheTables : Type 0
 TheTables = List TaskConfig × (List SemaphoreConfig × (List FlagConfig × (List DataQueueConfig × (List MailboxConfig
@@ -71,7 +71,7 @@ TheTables = List TaskConfig × (List SemaphoreConfig × (List FlagConfig × (Lis
     × (List SharedWordConfig × (List SpinLockConfig × (List CyclicConfig × List InterruptConfig))))))))
 
 -- all tables in order
-abbrev pub tables : Frame → List Key → Field TheTables
+abbrev pub tables : RowContext → List Key → Field TheTables
 tables = also task_form (also semaphore_form (also flag_form (also data_queue_form (also mailbox_form (also message_form
     (also shared_word_form (also spin_lock_form (also cyclic_form (table_of interrupt_form)))))))))
 
@@ -80,7 +80,7 @@ Parts = (List ℕ × (ℕ × ℕ)) × ((List BodyHead × List BodyTables) × The
 
 -- an image: the header, the bodies, the tables
 abbrev pub layout : Field Parts
-layout = chained header (λ h. chained bodies (λ b. tables (frame_of h.1.1 b.0) []))
+layout = chained header (λ h. chained bodies (λ b. tables (context_of h.1.1 b.0) []))
 
 -- a pair, in a chain of parts that stand one behind the other
 pattern abbrev pub ◌▹◌ : {A B : Type 0} → A → B → A × B
@@ -134,9 +134,9 @@ image_at bytes = do
   all_read (image_of parts.0, parts.1)
 
 -- the rows of a table, at most 255, keep the rules of their kind
-pub record KeepRules {F A : Type 0} (form : RowForm F A) (frame : Frame) (rows : List A) : Type 0 where
+pub record KeepRules {F A : Type 0} (form : RowForm F A) (context : RowContext) (rows : List A) : Type 0 where
   pub count : length rows < 256
-  pub each : AllByRecursion (row form frame).fits rows
+  pub each : AllByRecursion (row form context).fits rows
 
 -- what may stand only once: the names of all objects, and the numbers of interrupts
 abbrev pub keys_of : SystemTables → List Key
@@ -153,16 +153,16 @@ pub record IsImage (i : ImageTables) : Type 0 where
   pub queue_limit : i.system.queue_limit ≡ 1
   pub count : length i.code < 256
   pub bodies : AllPairs IsBody i.heads i.code
-  pub tasks : KeepRules task_form (frame_of i.system.processors i.heads) i.system.tasks
-  pub semaphores : KeepRules semaphore_form (frame_of i.system.processors i.heads) i.system.semaphores
-  pub flags : KeepRules flag_form (frame_of i.system.processors i.heads) i.system.flags
-  pub data_queues : KeepRules data_queue_form (frame_of i.system.processors i.heads) i.system.data_queues
-  pub mailboxes : KeepRules mailbox_form (frame_of i.system.processors i.heads) i.system.mailboxes
-  pub messages : KeepRules message_form (frame_of i.system.processors i.heads) i.system.messages
-  pub shared_words : KeepRules shared_word_form (frame_of i.system.processors i.heads) i.system.shared_words
-  pub spin_locks : KeepRules spin_lock_form (frame_of i.system.processors i.heads) i.system.spin_locks
-  pub cyclics : KeepRules cyclic_form (frame_of i.system.processors i.heads) i.system.cyclics
-  pub interrupts : KeepRules interrupt_form (frame_of i.system.processors i.heads) i.system.interrupts
+  pub tasks : KeepRules task_form (context_of i.system.processors i.heads) i.system.tasks
+  pub semaphores : KeepRules semaphore_form (context_of i.system.processors i.heads) i.system.semaphores
+  pub flags : KeepRules flag_form (context_of i.system.processors i.heads) i.system.flags
+  pub data_queues : KeepRules data_queue_form (context_of i.system.processors i.heads) i.system.data_queues
+  pub mailboxes : KeepRules mailbox_form (context_of i.system.processors i.heads) i.system.mailboxes
+  pub messages : KeepRules message_form (context_of i.system.processors i.heads) i.system.messages
+  pub shared_words : KeepRules shared_word_form (context_of i.system.processors i.heads) i.system.shared_words
+  pub spin_locks : KeepRules spin_lock_form (context_of i.system.processors i.heads) i.system.spin_locks
+  pub cyclics : KeepRules cyclic_form (context_of i.system.processors i.heads) i.system.cyclics
+  pub interrupts : KeepRules interrupt_form (context_of i.system.processors i.heads) i.system.interrupts
   pub once : are_new [] (keys_of i.system) ≡ true
 
 -- bytes spell an image

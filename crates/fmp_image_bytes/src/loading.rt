@@ -4,7 +4,7 @@ ghost use Rattle.std.specs.Prelude.{◌≡◌, [], IfOk, Ok};
 ghost use Rattle.fmp_base.specs.Systems.{tables_of};
 ghost use Rattle.fmp_instructions.specs.Instructions.{code_tables};
 ghost use Rattle.fmp_image_parts.specs.Fields.{Gives};
-ghost use Rattle.fmp_image_rows.specs.Rows.{frame_of};
+ghost use Rattle.fmp_image_rows.specs.Rows.{context_of};
 ghost use Rattle.fmp_image_bytes.specs.Images.{ImageTables, Spells, magic, is_magic, header, tables, tables_in, image_tables, image_at};
 
 use crate::image::Image;
@@ -50,7 +50,7 @@ fn read_tables<'a>(
     bytes: &'a [u8],
 ) -> Result<(System, &'a [u8]), LoadFault>
     ensures read { Gives (λ x. (tables_in (tables_of x.0), x.1.now)) result
-        ((tables (frame_of processors heads.now) []).read bytes.now) }
+        ((tables (context_of processors heads.now) []).read bytes.now) }
     ensures numbers { IfOk result (λ x. (x.0.processors ≡ processors) × (x.0.queue_limit ≡ 1)) }
 {
     let mut taken = TakenKeys::new(alloc);

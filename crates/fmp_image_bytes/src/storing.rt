@@ -2,7 +2,7 @@
 
 ghost use Rattle.std.specs.Prelude.{◌≡◌, ◌++◌, [], IfOk, OnOk};
 ghost use Rattle.fmp_base.specs.Systems.{tables_of};
-ghost use Rattle.fmp_image_rows.specs.Rows.{frame_of};
+ghost use Rattle.fmp_image_rows.specs.Rows.{context_of};
 ghost use Rattle.fmp_image_bytes.specs.Images.{CanPut, header, magic, tables, tables_in, spelling};
 
 use crate::image::Image;
@@ -24,7 +24,7 @@ fn put_header(out: &mut Vec<u8>, processors: u8) -> Result<(), AllocError>
 fn put_tables(out: &mut Vec<u8>, system: &System) -> Result<(), AllocError>
     requires { CanPut (tables_of system.now) }
     ensures { OnOk result
-        (out.new.items ≡ out.old.items ++ (tables (frame_of 0 []) []).spell (tables_in (tables_of system.now))) }
+        (out.new.items ≡ out.old.items ++ (tables (context_of 0 []) []).spell (tables_in (tables_of system.now))) }
 {
     put_table(out, &system.tasks)?;
     put_table(out, &system.semaphores)?;

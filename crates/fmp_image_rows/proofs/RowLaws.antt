@@ -7,25 +7,25 @@ use Rattle.fmp_base.specs.Names.{name_text, name_from}
 use Rattle.fmp_image_parts.specs.declared.fault.ImageFault.TheVariants as fault
 use Rattle.fmp_image_parts.specs.Keys.{is_name}
 use Rattle.fmp_image_parts.specs.Fields.{in_range}
-use Rattle.fmp_image_rows.specs.Rows.{Frame, RowForm, row, is_handler_body, bit, order_bit, order_of, is_start_bit, task_form, semaphore_form, flag_form, data_queue_form, mailbox_form, message_form, shared_word_form, spin_lock_form, cyclic_form, interrupt_form}
+use Rattle.fmp_image_rows.specs.Rows.{RowContext, RowForm, row, is_handler_body, bit, order_bit, order_of, is_start_bit, task_form, semaphore_form, flag_form, data_queue_form, mailbox_form, message_form, shared_word_form, spin_lock_form, cyclic_form, interrupt_form}
 use Rattle.fmp_image_parts.proofs.FieldLaws.{Exact, bind_ok, passed, byte_exact, short_exact, long_exact, word_exact, text_exact, both_exact}
 use Rattle.fmp_image_parts.proofs.Names.{and_true}
 
 -- fields that keep the rules are those of the row that they make
-pub record GoesBack {F A : Type 0} (form : RowForm F A) (frame : Frame) : Type 0 where
+pub record GoesBack {F A : Type 0} (form : RowForm F A) (context : RowContext) : Type 0 where
   pub exact : Exact form.layout
-  pub back : (f : F) → form.keeps frame f ≡ true → form.fields (form.make f) ≡ f
+  pub back : (f : F) → form.keeps context f ≡ true → form.fields (form.make f) ≡ f
 
-pub row_exact : {F A : Type 0} (form : RowForm F A) (frame : Frame) → GoesBack form frame → Exact (row form frame)
-row_exact {F = F} {A = A} form frame goes = record {
+pub row_exact : {F A : Type 0} (form : RowForm F A) (context : RowContext) → GoesBack form context → Exact (row form context)
+row_exact {F = F} {A = A} form context goes = record {
   takes = λ bytes a rest h e.
-      let b = bind_ok (form.layout.read bytes) (λ f. cond (form.keeps frame f.0) (Ok (form.make f.0, f.1)) (Err fault.Table)) (a, rest) e in
-      let g = passed (form.keeps frame b.0.0) fault.Table (form.make b.0.0, b.0.1) (a, rest) b.2 in
+      let b = bind_ok (form.layout.read bytes) (λ f. cond (form.keeps context f.0) (Ok (form.make f.0, f.1)) (Err fault.Table)) (a, rest) e in
+      let g = passed (form.keeps context b.0.0) fault.Table (form.make b.0.0, b.0.1) (a, rest) b.2 in
       let t = goes.exact.takes bytes b.0.0 b.0.1 h b.1 in
       let same = goes.back b.0.0 g.0 in
-      let fits : (row form frame).fits (form.make b.0.0) = (subst form.layout.fits (sym same) t.0, rw same g.0, ap form.make same) in
+      let fits : (row form context).fits (form.make b.0.0) = (subst form.layout.fits (sym same) t.0, rw same g.0, ap form.make same) in
       let whole : bytes ≡ form.layout.spell (form.fields (form.make b.0.0)) ++ b.0.1 = rw same t.1 in
-      subst (λ (x : A × List ℕ). (row form frame).fits x.0 × (bytes ≡ form.layout.spell (form.fields x.0) ++ x.1)) g.1 (fits, whole);
+      subst (λ (x : A × List ℕ). (row form context).fits x.0 × (bytes ≡ form.layout.spell (form.fields x.0) ++ x.1)) g.1 (fits, whole);
   again = λ a rest fits. rw (goes.exact.again (form.fields a) rest fits.0, fits.1, fits.2) refl;
 }
 
@@ -94,8 +94,8 @@ mailbox_back n h = four n (leb-true _ _ h) where
 
 -- ---- the kinds of rows
 
-module _ (frame : Frame) where
-  pub task_back : GoesBack task_form frame
+module _ (context : RowContext) where
+  pub task_back : GoesBack task_form context
   task_back = record {
     exact = both_exact _ _ text_exact (both_exact _ _ byte_exact
         (both_exact _ _ word_exact
@@ -107,10 +107,10 @@ module _ (frame : Frame) where
         let four = and_true _ _ three.0 in
         let five = and_true _ _ four.0 in
         let six = and_true _ _ five.0 in
-        rw (name_back name one.0, start_back attributes six.0, place_back frame.processors processor two.1, only_back only four.1) refl;
+        rw (name_back name one.0, start_back attributes six.0, place_back context.processors processor two.1, only_back only four.1) refl;
   }
 
-  pub semaphore_back : GoesBack semaphore_form frame
+  pub semaphore_back : GoesBack semaphore_form context
   semaphore_back = record {
     exact = both_exact _ _ text_exact (both_exact _ _ byte_exact (both_exact _ _ short_exact short_exact));
     back = λ (name, (attributes, (initial, most))) h.
@@ -119,7 +119,7 @@ module _ (frame : Frame) where
         rw (name_back name one.0, order_back attributes (and_true _ _ two.0).0) refl;
   }
 
-  pub flag_back_row : GoesBack flag_form frame
+  pub flag_back_row : GoesBack flag_form context
   flag_back_row = record {
     exact = both_exact _ _ text_exact (both_exact _ _ byte_exact short_exact);
     back = λ (name, (attributes, initial)) h.
@@ -127,7 +127,7 @@ module _ (frame : Frame) where
         rw (name_back name one.0, flag_back attributes one.1) refl;
   }
 
-  pub data_queue_back : GoesBack data_queue_form frame
+  pub data_queue_back : GoesBack data_queue_form context
   data_queue_back = record {
     exact = both_exact _ _ text_exact (both_exact _ _ byte_exact byte_exact);
     back = λ (name, (attributes, capacity)) h.
@@ -135,7 +135,7 @@ module _ (frame : Frame) where
         rw (name_back name one.0, order_back attributes one.1) refl;
   }
 
-  pub mailbox_back_row : GoesBack mailbox_form frame
+  pub mailbox_back_row : GoesBack mailbox_form context
   mailbox_back_row = record {
     exact = both_exact _ _ text_exact (both_exact _ _ byte_exact byte_exact);
     back = λ (name, (attributes, most)) h.
@@ -143,22 +143,22 @@ module _ (frame : Frame) where
         rw (name_back name one.0, mailbox_back attributes (and_true _ _ one.1).0) refl;
   }
 
-  pub message_back : GoesBack message_form frame
+  pub message_back : GoesBack message_form context
   message_back = record {
     exact = both_exact _ _ text_exact byte_exact;
     back = λ (name, priority) h. rw (name_back name (and_true _ _ h).0) refl;
   }
 
-  pub shared_word_back : GoesBack shared_word_form frame
+  pub shared_word_back : GoesBack shared_word_form context
   shared_word_back = record {
     exact = both_exact _ _ text_exact word_exact;
     back = λ (name, initial) h. rw (name_back name h) refl;
   }
 
-  pub spin_lock_back : GoesBack spin_lock_form frame
+  pub spin_lock_back : GoesBack spin_lock_form context
   spin_lock_back = record { exact = text_exact; back = λ name h. name_back name h }
 
-  pub cyclic_back : GoesBack cyclic_form frame
+  pub cyclic_back : GoesBack cyclic_form context
   cyclic_back = record {
     exact = both_exact _ _ text_exact (both_exact _ _ byte_exact (both_exact _ _ word_exact (both_exact _ _ byte_exact (both_exact _ _ long_exact (both_exact _ _ long_exact byte_exact)))));
     back = λ (name, (attributes, (exinf, (body, (period, (phase, processor)))))) h.
@@ -167,13 +167,13 @@ module _ (frame : Frame) where
         let three = and_true _ _ two.0 in
         let four = and_true _ _ three.0 in
         let five = and_true _ _ four.0 in
-        rw (name_back name one.0, start_back attributes five.0, place_back frame.processors processor two.1) refl;
+        rw (name_back name one.0, start_back attributes five.0, place_back context.processors processor two.1) refl;
   }
 
-  pub interrupt_back : GoesBack interrupt_form frame
+  pub interrupt_back : GoesBack interrupt_form context
   interrupt_back = record {
     exact = both_exact _ _ byte_exact (both_exact _ _ byte_exact byte_exact);
     back = λ (number, (body, processor)) h.
-        let two = and_true (in_range 1 32 number && is_handler_body (slice_get frame.heads body)) (in_range 1 frame.processors processor) h in
-        rw (place_back frame.processors processor two.1) refl;
+        let two = and_true (in_range 1 32 number && is_handler_body (slice_get context.heads body)) (in_range 1 context.processors processor) h in
+        rw (place_back context.processors processor two.1) refl;
   }

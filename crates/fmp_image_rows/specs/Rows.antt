@@ -25,31 +25,31 @@ use Rattle.fmp_image_parts.specs.Fields.{Field, ◌>>=◌, ◌⊗◌, byte, shor
 use Rattle.fmp_image_parts.specs.Keys.{is_name}
 
 -- what rows refer to: the number of processors, and what is said of each body
-pub record Frame : Type 0 where
+pub record RowContext : Type 0 where
   pub processors : ℕ
   pub heads : List BodyHead
 
-abbrev pub frame_of : ℕ → List BodyHead → Frame
-frame_of processors heads = record { processors = processors; heads = heads }
+abbrev pub context_of : ℕ → List BodyHead → RowContext
+context_of processors heads = record { processors = processors; heads = heads }
 
 -- How rows of a table stand in fields: their layout, the fields of a row, the rules, the row of fields that keep them,
 -- and its key.
 pub record RowForm (F A : Type 0) : Type 1 where
   pub layout : Field F
   pub fields : A → F
-  pub keeps : Frame → F → Bool
+  pub keeps : RowContext → F → Bool
   pub make : F → A
   pub key_of : A → Key
 
 -- a row: what it is made of are its own fields
-abbrev pub row : {F A : Type 0} → RowForm F A → Frame → Field A
-row form frame = record {
+abbrev pub row : {F A : Type 0} → RowForm F A → RowContext → Field A
+row form context = record {
   fits =
       λ a. form.layout.fits (form.fields a)
-      × (form.keeps frame (form.fields a) ≡ true) × (form.make (form.fields a) ≡ a);
+      × (form.keeps context (form.fields a) ≡ true) × (form.make (form.fields a) ≡ a);
   spell = λ a. form.layout.spell (form.fields a);
   read =
-      λ bytes. form.layout.read bytes >>= λ f. if form.keeps frame f.0 then Ok (form.make f.0, f.1) else Err
+      λ bytes. form.layout.read bytes >>= λ f. if form.keeps context f.0 then Ok (form.make f.0, f.1) else Err
       fault.Table;
 }
 
@@ -97,10 +97,10 @@ abbrev pub task_numbers : (attributes priority stack only : ℕ) → Bool
 task_numbers attributes priority stack only =
     is_start_bit attributes && in_range 1 16 priority && in_range 1 65536 stack && nat_le only 1
 
-abbrev pub task_rules : Frame → (attributes body priority stack processor only : ℕ) → Bool
-task_rules frame attributes body priority stack processor only =
-    task_numbers attributes priority stack only && is_task_body (slice_get frame.heads body) stack
-    && in_range 1 frame.processors processor
+abbrev pub task_rules : RowContext → (attributes body priority stack processor only : ℕ) → Bool
+task_rules context attributes body priority stack processor only =
+    task_numbers attributes priority stack only && is_task_body (slice_get context.heads body) stack
+    && in_range 1 context.processors processor
 
 abbrev pub task_form : RowForm TaskFields TaskConfig
 task_form = record {
@@ -115,8 +115,8 @@ task_form = record {
       ),
     ),
   );
-  keeps = λ frame. λ (name, (attributes, (exinf, (body, (priority, (stack, (processor, only))))))).
-      is_name name && task_rules frame attributes body priority stack processor only;
+  keeps = λ context. λ (name, (attributes, (exinf, (body, (priority, (stack, (processor, only))))))).
+      is_name name && task_rules context attributes body priority stack processor only;
   make = λ (name, (attributes, (exinf, (body, (priority, (stack, (processor, only))))))). record {
     name = name_from name;
     activated = attributes == 2;
@@ -141,7 +141,7 @@ abbrev pub semaphore_form : RowForm SemaphoreFields SemaphoreConfig
 semaphore_form = record {
   layout = text ⊗ byte ⊗ short ⊗ short;
   fields = λ s. (name_text s.name, (order_bit s.order 1, (s.initial, s.most)));
-  keeps = λ frame. λ (name, (attributes, (initial, most))). is_name name && semaphore_rules attributes initial most;
+  keeps = λ context. λ (name, (attributes, (initial, most))). is_name name && semaphore_rules attributes initial most;
   make = λ (name, (attributes, (initial, most))). record {
     name = name_from name;
     order = order_of (attributes == 1);
@@ -160,7 +160,7 @@ abbrev pub flag_form : RowForm FlagFields FlagConfig
 flag_form = record {
   layout = text ⊗ byte ⊗ short;
   fields = λ f. (name_text f.name, (order_bit f.order 1 + bit f.multiple 2 + bit f.clears 4, f.initial));
-  keeps = λ frame. λ (name, (attributes, initial)). is_name name && nat_le attributes 7;
+  keeps = λ context. λ (name, (attributes, initial)). is_name name && nat_le attributes 7;
   make = λ (name, (attributes, initial)). record {
     name = name_from name;
     order = order_of (attributes % 2 == 1);
@@ -179,7 +179,7 @@ abbrev pub data_queue_form : RowForm DataQueueFields DataQueueConfig
 data_queue_form = record {
   layout = text ⊗ byte ⊗ byte;
   fields = λ d. (name_text d.name, (order_bit d.order 1, d.capacity));
-  keeps = λ frame. λ (name, (attributes, capacity)). is_name name && nat_le attributes 1;
+  keeps = λ context. λ (name, (attributes, capacity)). is_name name && nat_le attributes 1;
   make = λ (name, (attributes, capacity)). record {
     name = name_from name;
     order = order_of (attributes == 1);
@@ -200,7 +200,7 @@ abbrev pub mailbox_form : RowForm MailboxFields MailboxConfig
 mailbox_form = record {
   layout = text ⊗ byte ⊗ byte;
   fields = λ m. (name_text m.name, (order_bit m.order 1 + order_bit m.message_order 2, m.most));
-  keeps = λ frame. λ (name, (attributes, most)). is_name name && mailbox_rules attributes most;
+  keeps = λ context. λ (name, (attributes, most)). is_name name && mailbox_rules attributes most;
   make = λ (name, (attributes, most)). record {
     name = name_from name;
     order = order_of (attributes % 2 == 1);
@@ -218,7 +218,7 @@ abbrev pub message_form : RowForm MessageFields MessageConfig
 message_form = record {
   layout = text ⊗ byte;
   fields = λ m. (name_text m.name, m.priority);
-  keeps = λ frame. λ (name, priority). is_name name && in_range 1 16 priority;
+  keeps = λ context. λ (name, priority). is_name name && in_range 1 16 priority;
   make = λ (name, priority). record { name = name_from name; priority = priority };
   key_of = λ m. key.Name m.name;
 }
@@ -231,7 +231,7 @@ abbrev pub shared_word_form : RowForm SharedWordFields SharedWordConfig
 shared_word_form = record {
   layout = text ⊗ word;
   fields = λ w. (name_text w.name, w.initial);
-  keeps = λ frame. λ (name, initial). is_name name;
+  keeps = λ context. λ (name, initial). is_name name;
   make = λ (name, initial). record { name = name_from name; initial = initial };
   key_of = λ w. key.Name w.name;
 }
@@ -241,7 +241,7 @@ abbrev pub spin_lock_form : RowForm (List ℕ) SpinLockConfig
 spin_lock_form = record {
   layout = text;
   fields = λ l. name_text l.name;
-  keeps = λ frame. λ name. is_name name;
+  keeps = λ context. λ name. is_name name;
   make = λ name. record { name = name_from name };
   key_of = λ l. key.Name l.name;
 }
@@ -254,18 +254,18 @@ abbrev pub cyclic_numbers : (attributes period phase : ℕ) → Bool
 cyclic_numbers attributes period phase =
     is_start_bit attributes && in_range 1 1073741824 period && nat_le phase 1073741824
 
-abbrev pub cyclic_rules : Frame → (attributes body period phase processor : ℕ) → Bool
-cyclic_rules frame attributes body period phase processor =
-    cyclic_numbers attributes period phase && is_handler_body (slice_get frame.heads body)
-    && in_range 1 frame.processors processor
+abbrev pub cyclic_rules : RowContext → (attributes body period phase processor : ℕ) → Bool
+cyclic_rules context attributes body period phase processor =
+    cyclic_numbers attributes period phase && is_handler_body (slice_get context.heads body)
+    && in_range 1 context.processors processor
 
 abbrev pub cyclic_form : RowForm CyclicFields CyclicConfig
 cyclic_form = record {
   layout = text ⊗ byte ⊗ word ⊗ byte ⊗ long ⊗ long ⊗ byte;
   fields =
       λ c. (name_text c.name, (bit c.started 2, (c.exinf, (body_of c.entry, (c.period, (c.phase, c.processor + 1))))));
-  keeps = λ frame. λ (name, (attributes, (exinf, (body, (period, (phase, processor)))))).
-      is_name name && cyclic_rules frame attributes body period phase processor;
+  keeps = λ context. λ (name, (attributes, (exinf, (body, (period, (phase, processor)))))).
+      is_name name && cyclic_rules context attributes body period phase processor;
   make = λ (name, (attributes, (exinf, (body, (period, (phase, processor)))))). record {
     name = name_from name;
     started = attributes == 2;
@@ -282,15 +282,15 @@ cyclic_form = record {
 abbrev pub InterruptFields : Type 0
 InterruptFields = ℕ × (ℕ × ℕ)
 
-abbrev pub interrupt_rules : Frame → (number body processor : ℕ) → Bool
-interrupt_rules frame number body processor =
-    in_range 1 32 number && is_handler_body (slice_get frame.heads body) && in_range 1 frame.processors processor
+abbrev pub interrupt_rules : RowContext → (number body processor : ℕ) → Bool
+interrupt_rules context number body processor =
+    in_range 1 32 number && is_handler_body (slice_get context.heads body) && in_range 1 context.processors processor
 
 abbrev pub interrupt_form : RowForm InterruptFields InterruptConfig
 interrupt_form = record {
   layout = byte ⊗ byte ⊗ byte;
   fields = λ i. (i.number, (body_of i.entry, i.processor + 1));
-  keeps = λ frame. λ (number, (body, processor)). interrupt_rules frame number body processor;
+  keeps = λ context. λ (number, (body, processor)). interrupt_rules context number body processor;
   make = λ (number, (body, processor)). record {
     number = number;
     entry = entry.Body body;

@@ -4,7 +4,7 @@ ghost use Rattle.std.specs.Prelude.{◌≡◌, ◌++◌, ◌∷◌, [], ◌<◌,
 ghost use Rattle.std.specs.List.{flat_map, AllByRecursion};
 ghost use Rattle.fmp_base.specs.Names.{name_text};
 ghost use Rattle.fmp_image_parts.specs.Fields.{Field, Gives, byte, text};
-ghost use Rattle.fmp_image_rows.specs.Rows.{Frame, frame_of, bit};
+ghost use Rattle.fmp_image_rows.specs.Rows.{RowContext, context_of, bit};
 ghost use Rattle.fmp_image_rows.specs.Tables.{rows_at, table};
 ghost use Rattle.fmp_image_parts.specs.declared.keys.Key as spec_key;
 
@@ -32,7 +32,7 @@ pub fn put_name(out: &mut Vec<u8>, name: &Name) -> Result<(), AllocError>
 
 /// A row of a table.
 pub trait Row: Copy {
-    ghost field: { Frame → Field Self };
+    ghost field: { RowContext → Field Self };
 
     ghost key_of: { Self → spec_key.Key };
 
@@ -48,7 +48,7 @@ pub trait Row: Copy {
         heads: &[BodyHead],
         bytes: &'a [u8],
     ) -> Result<(Self, &'a [u8]), LoadFault>
-        ensures { Gives (λ x. (x.0, x.1.now)) result ((field (frame_of processors heads.now)).read bytes.now) };
+        ensures { Gives (λ x. (x.0, x.1.now)) result ((field (context_of processors heads.now)).read bytes.now) };
 
     /// What may stand only once in an image.
     fn key(&self) -> Key
@@ -71,7 +71,7 @@ pub fn read_rows<'a, R: Row>(
     bytes: &'a [u8],
 ) -> Result<(Vec<R>, &'a [u8]), LoadFault>
     ensures read { Gives (λ x. (x.0.items, x.1.now)) result
-        (rows_at (R.field (frame_of processors heads.now)) R.key_of count taken.old.keys bytes.now) }
+        (rows_at (R.field (context_of processors heads.now)) R.key_of count taken.old.keys bytes.now) }
     ensures taken { IfOk result (λ x. taken.new.keys ≡ taken.old.keys ++ map R.key_of x.0.items) }
 {
     let mut rows = Vec::new(alloc);
@@ -99,7 +99,7 @@ pub fn read_table<'a, R: Row>(
     bytes: &'a [u8],
 ) -> Result<(Vec<R>, &'a [u8]), LoadFault>
     ensures read { Gives (λ x. (x.0.items, x.1.now)) result
-        ((table (R.field (frame_of processors heads.now)) R.key_of taken.old.keys).read bytes.now) }
+        ((table (R.field (context_of processors heads.now)) R.key_of taken.old.keys).read bytes.now) }
     ensures taken { IfOk result (λ x. taken.new.keys ≡ taken.old.keys ++ map R.key_of x.0.items) }
 {
     let (count, rest) = byte_at(bytes)?;

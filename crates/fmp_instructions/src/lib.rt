@@ -3,9 +3,9 @@
 #![tactic(auto)]
 
 mod decoder;
-pub mod frame;
 pub mod instructions;
 pub mod operators;
+pub mod register_file;
 pub mod registers;
 pub mod source;
 pub mod table;

@@ -14,18 +14,18 @@ kind_of (Run p) = 1
 kind_of Tick = 2
 kind_of (Int i) = 3
 
-abbrev pub number_of : Event → ℕ
-number_of (Run p) = p
-number_of Tick = 0
-number_of (Int i) = i
+abbrev pub event_number : Event → ℕ
+event_number (Run p) = p
+event_number Tick = 0
+event_number (Int i) = i
 
 -- the word of an entry
 abbrev pub word_of : JournalEntry → ℕ
-word_of x = x.seat * 65536 + kind_of x.event * 256 + number_of x.event
+word_of x = x.seat * 65536 + kind_of x.event * 256 + event_number x.event
 
 -- an entry whose numbers are bytes
 abbrev pub IsEntry : JournalEntry → Type 0
-IsEntry x = (x.seat < 256) × (number_of x.event < 256)
+IsEntry x = (x.seat < 256) × (event_number x.event < 256)
 
 -- the event of a kind and a number, if any
 abbrev pub event_of : (kind number : ℕ) → Option Event

@@ -4,7 +4,7 @@ use Rattle.fmp_lex.specs.declared.token.Symbol.TheVariants as symbol
 use Rattle.fmp_lex.specs.declared.token.TokenKind.{TokenKind}
 use Rattle.fmp_lex.specs.declared.token.TokenKind.TheVariants as kind
 use Rattle.fmp_lex.specs.declared.reading.GrammarFault.{GrammarFault}
-use Rattle.fmp_lex.specs.Reading.{Rel, At, Seq, Outcome, found, stopped, map_outcome, Right, Anywhere, RightToken}
+use Rattle.fmp_lex.specs.Reading.{Rel, At, Seq, ParseResult, found, stopped, map_result, Right, Anywhere, RightToken}
 use Rattle.fmp_lex.proofs.Sequences.{Framed, Fills, seq_framed, seq_fills, seq_then, seq_stop}
 use Rattle.fmp_lex.proofs.Repetitions.{Behind, Placed, behind_framed, behind_fills, behind_then, behind_stop, placed_framed, placed_fills, placed_right}
 
@@ -43,7 +43,7 @@ module _ {A B : Type 0} (word last : TokenKind) (R : Rel B) (Z : Rel A) where
           (behind_stop left (Seq (Placed R) (Behind right (Behind last Z))) thing_fills x)
 
       module _ (l : ℕ) (lp : RightToken ts left k (found tt l)) where
-        behind_left : (o : Outcome ((ℕ × B) × A)) → Right (At (Seq (Placed R) (Behind right (Behind last Z))) l) EndZ ts l o → Right (At (Head word last R Z) i) EndZ ts i o
+        behind_left : (o : ParseResult ((ℕ × B) × A)) → Right (At (Seq (Placed R) (Behind right (Behind last Z))) l) EndZ ts l o → Right (At (Head word last R Z) i) EndZ ts i o
         behind_left o x = behind_then word (Behind left (Seq (Placed R) (Behind right (Behind last Z)))) w o
             (behind_then left (Seq (Placed R) (Behind right (Behind last Z))) lp o x)
 
@@ -52,8 +52,8 @@ module _ {A B : Type 0} (word last : TokenKind) (R : Rel B) (Z : Rel A) where
             (λ us limit n b m y ends. tt) (placed_right R (stopped j why) x))
 
         module _ (b : B) (m : ℕ) (r : Right (At R l) Anywhere ts l (found b m)) where
-          behind_thing : (o : Outcome A) → Right (At (Behind right (Behind last Z)) m) EndZ ts m o →
-              Right (At (Head word last R Z) i) EndZ ts i (map_outcome (λ (z : A). ((l, b), z)) o)
+          behind_thing : (o : ParseResult A) → Right (At (Behind right (Behind last Z)) m) EndZ ts m o →
+              Right (At (Head word last R Z) i) EndZ ts i (map_result (λ (z : A). ((l, b), z)) o)
           behind_thing (found z j) x = behind_left (found ((l, b), z) j) (seq_then (Placed R) (Behind right (Behind last Z)) (placed_framed R fr)
               (λ us limit n b m y ends. tt) (placed_right R (found b m) r) (found z j) x)
           behind_thing (stopped j why) x = behind_left (stopped j why) (seq_then (Placed R) (Behind right (Behind last Z)) (placed_framed R fr)
@@ -66,6 +66,6 @@ module _ {A B : Type 0} (word last : TokenKind) (R : Rel B) (Z : Rel A) where
             pub last_stop : (j : ℕ) (why : GrammarFault) → RightToken ts last n (stopped j why) → Right (At (Head word last R Z) i) EndZ ts i (stopped j why)
             last_stop j why x = behind_thing (stopped j why) (behind_then right (Behind last Z) rp (stopped j why) (behind_stop last Z gz x))
 
-            pub rest_then : (q : ℕ) → RightToken ts last n (found tt q) → (o : Outcome A) → Right (At Z q) EndZ ts q o →
-                Right (At (Head word last R Z) i) EndZ ts i (map_outcome (λ (z : A). ((l, b), z)) o)
+            pub rest_then : (q : ℕ) → RightToken ts last n (found tt q) → (o : ParseResult A) → Right (At Z q) EndZ ts q o →
+                Right (At (Head word last R Z) i) EndZ ts i (map_result (λ (z : A). ((l, b), z)) o)
             rest_then q la o x = behind_thing o (behind_then right (Behind last Z) rp o (behind_then last Z la o x))

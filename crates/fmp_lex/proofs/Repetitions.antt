@@ -2,7 +2,7 @@
 use Rattle.std.proofs.Common.{◌≡◌, ℕ, ◌≤◌, List, [], ◌∷◌, ◌++◌, length, slice_get, refl, sym, ap, subst, arith, append_assoc}
 use Rattle.fmp_lex.specs.declared.token.TokenKind.{TokenKind}
 use Rattle.fmp_lex.specs.declared.reading.GrammarFault.{GrammarFault}
-use Rattle.fmp_lex.specs.Reading.{Rel, At, Seq, OneToken, IsToken, Same, Outcome, found, stopped, map_outcome, Right, Anywhere}
+use Rattle.fmp_lex.specs.Reading.{Rel, At, Seq, OneToken, IsToken, Same, ParseResult, found, stopped, map_result, Right, Anywhere}
 use Rattle.fmp_lex.proofs.Sequences.{Framed, Fills, Follows, fewer, token_framed, token_fills, seq_framed, seq_fills, seq_then, seq_stop, right_as}
 use Rattle.fmp_lex.specs.Reading.{Star}
 
@@ -32,12 +32,12 @@ module _ {A : Type 0} (t : TokenKind) (X : Rel A) where
   behind_fills gx us limit low = let x = seq_fills (OneToken t) X (token_framed t) (token_fills t) gx us limit low in
       record { other = x.other; same = x.same; long = x.long; tree = x.tree.1; reads = x.reads }
 
-  behind_as : {EndX : List TokenKind → ℕ → Type 0} {ts : List TokenKind} {i : ℕ} (o : Outcome (Unit {0} × A)) →
-      Right (At (Seq (OneToken t) X) i) EndX ts i o → Right (At (Behind t X) i) EndX ts i (map_outcome (λ (p : Unit {0} × A). p.1) o)
+  behind_as : {EndX : List TokenKind → ℕ → Type 0} {ts : List TokenKind} {i : ℕ} (o : ParseResult (Unit {0} × A)) →
+      Right (At (Seq (OneToken t) X) i) EndX ts i o → Right (At (Behind t X) i) EndX ts i (map_result (λ (p : Unit {0} × A). p.1) o)
   behind_as o x = right_as (Seq (OneToken t) X) (Behind t X) (λ p. p.1) (λ us limit p j s. s) (λ us limit e j at r ends. ((tt, e), refl, r, ends)) o x
 
   pub behind_then : {EndX : List TokenKind → ℕ → Type 0} {ts : List TokenKind} {i k : ℕ} →
-      Right (At (OneToken t) i) Anywhere ts i (found tt k) → (o : Outcome A) → Right (At X k) EndX ts k o → Right (At (Behind t X) i) EndX ts i o
+      Right (At (OneToken t) i) Anywhere ts i (found tt k) → (o : ParseResult A) → Right (At X k) EndX ts k o → Right (At (Behind t X) i) EndX ts i o
   behind_then {EndX = EndX} w (found a j) x =
       behind_as (found (tt, a) j) (seq_then (OneToken t) X (token_framed t) (anywhere X EndX) w (found a j) x)
   behind_then {EndX = EndX} w (stopped j why) x =
@@ -59,8 +59,8 @@ module _ {A : Type 0} (X : Rel A) (t : TokenKind) where
   closed_fills fx gx us limit low = let x = seq_fills X (OneToken t) fx gx (token_fills t) us limit low in
       record { other = x.other; same = x.same; long = x.long; tree = x.tree.0; reads = x.reads }
 
-  closed_as : {ts : List TokenKind} {i : ℕ} (o : Outcome (A × Unit {0})) →
-      Right (At (Seq X (OneToken t)) i) Anywhere ts i o → Right (At (Closed X t) i) Anywhere ts i (map_outcome (λ (p : A × Unit {0}). p.0) o)
+  closed_as : {ts : List TokenKind} {i : ℕ} (o : ParseResult (A × Unit {0})) →
+      Right (At (Seq X (OneToken t)) i) Anywhere ts i o → Right (At (Closed X t) i) Anywhere ts i (map_result (λ (p : A × Unit {0}). p.0) o)
   closed_as o x = right_as (Seq X (OneToken t)) (Closed X t) (λ p. p.0) (λ us limit p j s. s) (λ us limit e j at r ends. ((e, tt), refl, r, ends)) o x
 
   pub closed_found : {EndX : List TokenKind → ℕ → Type 0} {ts : List TokenKind} {i k j : ℕ} {a : A} → Framed X → Follows EndX (OneToken t) Anywhere →
@@ -89,8 +89,8 @@ module _ {A : Type 0} (X : Rel A) where
   placed_fills gx us limit low = let x = gx us limit low in
       record { other = x.other; same = x.same; long = x.long; tree = (length us, x.tree); reads = (refl, x.reads) }
 
-  pub placed_right : {EndX : List TokenKind → ℕ → Type 0} {ts : List TokenKind} {i : ℕ} (o : Outcome A) →
-      Right (At X i) EndX ts i o → Right (At (Placed X) i) EndX ts i (map_outcome (λ (a : A). (i, a)) o)
+  pub placed_right : {EndX : List TokenKind → ℕ → Type 0} {ts : List TokenKind} {i : ℕ} (o : ParseResult A) →
+      Right (At X i) EndX ts i o → Right (At (Placed X) i) EndX ts i (map_result (λ (a : A). (i, a)) o)
   placed_right {i = i} o x = right_as X (Placed X) (λ a. (i, a)) (λ us limit a j r. (refl, r))
       (λ us limit e j at r ends. (e.1, ap (λ n. (n, e.1)) r.0, r.1, ends)) o x
 
@@ -136,15 +136,15 @@ module _ {A : Type 0} (X : Rel A) where
   star_back Ends us limit i (a ∷ more) j goes_on s ends = ((a, more), refl, s, ends)
 
   star_as : (Ends : List TokenKind → ℕ → Type 0) (ts : List TokenKind) (i : ℕ) → ((us : List TokenKind) → slice_get us i ≡ slice_get ts i → Ends us i → ⊥) →
-      (o : Outcome (A × List A)) → Right (At (Seq X (Star X)) i) Ends ts i o → Right (At (Star X) i) Ends ts i (map_outcome (λ (p : A × List A). p.0 ∷ p.1) o)
+      (o : ParseResult (A × List A)) → Right (At (Seq X (Star X)) i) Ends ts i o → Right (At (Star X) i) Ends ts i (map_result (λ (p : A × List A). p.0 ∷ p.1) o)
   star_as Ends ts i goes_on o x = right_as (Seq X (Star X)) (Star X) (λ p. p.0 ∷ p.1) (λ us limit p j s. s)
       (λ us limit e j at r ends. star_back Ends us limit i e j (goes_on us at) r ends) o x
 
   module _ (EndX Ends : List TokenKind → ℕ → Type 0) (ts : List TokenKind) (i : ℕ) where
     -- an X, and then the outcome of the others
     pub star_more : Framed X → Follows EndX (Star X) Ends → ((us : List TokenKind) → slice_get us i ≡ slice_get ts i → Ends us i → ⊥) → (a : A) (k : ℕ) →
-        Right (At X i) EndX ts i (found a k) → (o : Outcome (List A)) → Right (At (Star X) k) Ends ts k o →
-        Right (At (Star X) i) Ends ts i (map_outcome (λ (more : List A). a ∷ more) o)
+        Right (At X i) EndX ts i (found a k) → (o : ParseResult (List A)) → Right (At (Star X) k) Ends ts k o →
+        Right (At (Star X) i) Ends ts i (map_result (λ (more : List A). a ∷ more) o)
     star_more fx follow goes_on a k x (found more j) rest =
         star_as Ends ts i goes_on (found (a, more) j) (seq_then X (Star X) fx follow x (found more j) rest)
     star_more fx follow goes_on a k x (stopped j why) rest =
@@ -159,7 +159,7 @@ module _ {A : Type 0} (X : Rel A) where
 abbrev pub put_before : {A : Type 0} → List A → List A → List A
 put_before before rest = before ++ rest
 
-pub push_before : {A : Type 0} (xs : List A) (a : A) (o : Outcome (List A)) (P : Outcome (List A) → Type 0) →
-    P (map_outcome (put_before xs) (map_outcome (λ (more : List A). a ∷ more) o)) → P (map_outcome (put_before (xs ++ a ∷ [])) o)
+pub push_before : {A : Type 0} (xs : List A) (a : A) (o : ParseResult (List A)) (P : ParseResult (List A) → Type 0) →
+    P (map_result (put_before xs) (map_result (λ (more : List A). a ∷ more) o)) → P (map_result (put_before (xs ++ a ∷ [])) o)
 push_before xs a (found more j) P x = rw append_assoc x
 push_before xs a (stopped j why) P x = x

@@ -4,7 +4,7 @@ use Rattle.std.proofs.lemmas.Option.{slice_get_within}
 use Rattle.fmp_lex.specs.declared.token.TokenKind.{TokenKind}
 use Rattle.fmp_lex.specs.declared.reading.GrammarFault.{GrammarFault}
 use Rattle.fmp_lex.specs.declared.reading.GrammarFault.TheVariants.{Syntax, Depth}
-use Rattle.fmp_lex.specs.Reading.{Rel, At, Seq, OneToken, Item, Opening, IsItem, Same, Outcome, found, stopped, place, map_outcome, covered, Right, Anywhere}
+use Rattle.fmp_lex.specs.Reading.{Rel, At, Seq, OneToken, Item, Opening, IsItem, Same, ParseResult, found, stopped, place, map_result, covered, Right, Anywhere}
 use Rattle.fmp_lex.proofs.Lists.{get_take, same_take, take_long, same_self, one_longer, get_seam}
 
 -- fewer tokens are the same too
@@ -93,7 +93,7 @@ module _ {A B : Type 0} (X : Rel A) (Y : Rel B) where
 
   -- an X, and then the outcome of a Y
   pub seq_then : {EndX EndY : List TokenKind → ℕ → Type 0} {ts : List TokenKind} {i k : ℕ} {a : A} → Framed X → Follows EndX Y EndY → Right (At X i) EndX ts i (found a k) →
-      (o : Outcome B) → Right (At Y k) EndY ts k o → Right (At (Seq X Y) i) EndY ts i (map_outcome (λ (b : B). (a, b)) o)
+      (o : ParseResult B) → Right (At Y k) EndY ts k o → Right (At (Seq X Y) i) EndY ts i (map_result (λ (b : B). (a, b)) o)
   seq_then {ts = ts} {i = i} {k = k} {a = a} fx follow x (found b j) y = let le = x.from in let more = y.from in record {
     from = omega arith;
     within = y.within;
@@ -145,10 +145,10 @@ module _ {A B : Type 0} (X : Rel A) (Y : Rel B) where
 
 -- one relation by way of another, which the first token chooses
 module _ {A B : Type 0} (X : Rel A) (Z : Rel B) (f : A → B) where
-  pub right_by : {EndX EndZ : List TokenKind → ℕ → Type 0} {ts : List TokenKind} {i : ℕ} (o : Outcome A) →
+  pub right_by : {EndX EndZ : List TokenKind → ℕ → Type 0} {ts : List TokenKind} {i : ℕ} (o : ParseResult A) →
       ((us : List TokenKind) (limit : ℕ) (a : A) (j : ℕ) → X us limit i a j → Z us limit i (f a) j) →
       ((us : List TokenKind) (limit : ℕ) (e : B) (j : ℕ) → Same (place o + 1) ts us → Z us limit i e j → EndZ us j → (a : A) × (e ≡ f a) × X us limit i a j × EndX us j) →
-      Right (At X i) EndX ts i o → Right (At Z i) EndZ ts i (map_outcome f o)
+      Right (At X i) EndX ts i o → Right (At Z i) EndZ ts i (map_result f o)
   right_by {ts = ts} {i = i} (found a j) to back x = record {
     from = x.from;
     within = x.within;
@@ -170,7 +170,7 @@ module _ {A B : Type 0} (X : Rel A) (Z : Rel B) (f : A → B) where
   pub right_as : {EndX EndZ : List TokenKind → ℕ → Type 0} {ts : List TokenKind} {i : ℕ} →
       ((us : List TokenKind) (limit : ℕ) (a : A) (j : ℕ) → X us limit i a j → Z us limit i (f a) j) →
       ((us : List TokenKind) (limit : ℕ) (e : B) (j : ℕ) → slice_get us i ≡ slice_get ts i → Z us limit i e j → EndZ us j → (a : A) × (e ≡ f a) × X us limit i a j × EndX us j) →
-      (o : Outcome A) → Right (At X i) EndX ts i o → Right (At Z i) EndZ ts i (map_outcome f o)
+      (o : ParseResult A) → Right (At X i) EndX ts i o → Right (At Z i) EndZ ts i (map_result f o)
   right_as {ts = ts} {i = i} to back (found a j) x = let le = x.from in record {
     from = x.from;
     within = x.within;

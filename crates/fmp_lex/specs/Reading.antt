@@ -65,17 +65,17 @@ abbrev pub Opening : TokenKind → ℕ → Rel (Unit {0})
 Opening t d ts limit i a j = Opens ts limit t d i j
 
 -- what was read and the place behind it, or the place of the first fault
-pub data Outcome (A : Type 0) : Type 0 where
-  found : A → ℕ → Outcome A
-  stopped : ℕ → GrammarFault → Outcome A
+pub data ParseResult (A : Type 0) : Type 0 where
+  found : A → ℕ → ParseResult A
+  stopped : ℕ → GrammarFault → ParseResult A
 
-abbrev pub place : {A : Type 0} → Outcome A → ℕ
+abbrev pub place : {A : Type 0} → ParseResult A → ℕ
 place (found a j) = j
 place (stopped j why) = j
 
-abbrev pub map_outcome : {A B : Type 0} → (A → B) → Outcome A → Outcome B
-map_outcome f (found a j) = found (f a) j
-map_outcome f (stopped j why) = stopped j why
+abbrev pub map_result : {A B : Type 0} → (A → B) → ParseResult A → ParseResult B
+map_result f (found a j) = found (f a) j
+map_result f (stopped j why) = stopped j why
 
 -- how many tokens begin some list of the grammar: a token that opens a level too many does, one that is out of place
 -- does not
@@ -88,7 +88,7 @@ abbrev pub limited : ℕ → GrammarFault → ℕ
 limited j Syntax = 0
 limited j Depth = j + 1
 
-abbrev pub limit_of : {A : Type 0} → Outcome A → ℕ
+abbrev pub limit_of : {A : Type 0} → ParseResult A → ℕ
 limit_of (found a j) = 0
 limit_of (stopped j why) = limited j why
 
@@ -106,19 +106,19 @@ pub record Completes {A : Type 0} (X : List TokenKind → ℕ → A → ℕ → 
     pub reads : X other limit tree (length other)
 
 -- what was found is read there at any limit; up to a fault the tokens begin something
-abbrev pub Reads : {A : Type 0} → (List TokenKind → ℕ → A → ℕ → Type 0) → List TokenKind → Outcome A → Type 0
+abbrev pub Reads : {A : Type 0} → (List TokenKind → ℕ → A → ℕ → Type 0) → List TokenKind → ParseResult A → Type 0
 Reads X ts (found a j) = (limit : ℕ) → X ts limit a j
 Reads X ts (stopped j why) = Completes X ts (covered j why) j
 
 -- the reading is that of the outcome
-abbrev pub Matches : {A : Type 0} → Outcome A → A → ℕ → Type 0
+abbrev pub Matches : {A : Type 0} → ParseResult A → A → ℕ → Type 0
 Matches (found a j) a' j' = (a' ≡ a) × (j' ≡ j)
 Matches (stopped j why) a' j' = ⊥
 
 -- The outcome of reading an X from i on. Every list that has the same tokens up to the place of the outcome, that one
 -- too, reads alike, where no token follows that the reader would go on with.
 pub record Right {A : Type 0} (X : List TokenKind → ℕ → A → ℕ → Type 0) (Ends : List TokenKind → ℕ → Type 0)
-    (ts : List TokenKind) (i : ℕ) (o : Outcome A) : Type 0 where
+    (ts : List TokenKind) (i : ℕ) (o : ParseResult A) : Type 0 where
   pub from : i ≤ place o
   pub within : place o ≤ length ts
   pub reads : Reads X ts o
@@ -129,22 +129,22 @@ pub record Right {A : Type 0} (X : List TokenKind → ℕ → A → ℕ → Type
 abbrev pub Anywhere : List TokenKind → ℕ → Type 0
 Anywhere ts j = Unit {0}
 
-abbrev pub RightToken : List TokenKind → TokenKind → ℕ → Outcome (Unit {0}) → Type 0
+abbrev pub RightToken : List TokenKind → TokenKind → ℕ → ParseResult (Unit {0}) → Type 0
 RightToken ts t i = Right (At (OneToken t) i) Anywhere ts i
 
 -- what a reader returned is right, unless memory ran out
-abbrev pub Answers : {V A : Type 0} → (V → A) → Result (V × ℕ) ReadError → (Outcome A → Type 0) → Type 0
+abbrev pub Answers : {V A : Type 0} → (V → A) → Result (V × ℕ) ReadError → (ParseResult A → Type 0) → Type 0
 Answers view (Ok x) P = P (found (view x.0) x.1)
 Answers view (Err errors.Memory) P = Unit {0}
 Answers view (Err (errors.Fault f)) P = P (stopped f.at f.why)
 
 -- what a reader returned that takes no memory is right
-abbrev pub Finds : {V A : Type 0} → (V → A) → Result (V × ℕ) FirstFault → (Outcome A → Type 0) → Type 0
+abbrev pub Finds : {V A : Type 0} → (V → A) → Result (V × ℕ) FirstFault → (ParseResult A → Type 0) → Type 0
 Finds view (Ok x) P = P (found (view x.0) x.1)
 Finds view (Err f) P = P (stopped f.at f.why)
 
 -- likewise where it returns a place alone
-abbrev pub Steps : Result ℕ FirstFault → (Outcome (Unit {0}) → Type 0) → Type 0
+abbrev pub Steps : Result ℕ FirstFault → (ParseResult (Unit {0}) → Type 0) → Type 0
 Steps (Ok j) P = P (found tt j)
 Steps (Err f) P = P (stopped f.at f.why)
 

@@ -12,5 +12,5 @@ object_or_none None = Unknown
 object_or_none (Some number) = Object number
 
 -- the object of a name
-abbrev pub number_of : {S : Type 0} → HashMap ObjectName ℕ S → Name → NameMeaning
-number_of numbers name = object_or_none (get same_bytes numbers (record { name = name }))
+abbrev pub object_named : {S : Type 0} → HashMap ObjectName ℕ S → Name → NameMeaning
+object_named numbers name = object_or_none (get same_bytes numbers (record { name = name }))

@@ -9,7 +9,7 @@ use Rattle.fmp_scopes.specs.declared.names.Meaning.TheVariants as meaning
 use Rattle.fmp_scopes.specs.declared.names.Names.{Names}
 use Rattle.fmp_scopes.specs.declared.names.Objects.{Objects}
 use Rattle.fmp_scopes.specs.Naming.{reads}
-use Rattle.fmp_scopes.specs.Numbers.{number_of}
+use Rattle.fmp_scopes.specs.Numbers.{object_named}
 
 abbrev pub scope_view : Names → Scope
 scope_view n =
@@ -31,7 +31,7 @@ meaning_view meaning.Unknown = Unknown
 pub record HoldsNumbers (o : Objects) : Type 0 where
   pub held :
       (name : Name) →
-      number_of o.numbers.now name ≡ object_number (name_text name) (object_names (tables_of o.system.now))
+      object_named o.numbers.now name ≡ object_number (name_text name) (object_names (tables_of o.system.now))
 
 -- each object is found by its name, and a number of 8 bits is enough for the place of each local
 pub record IsHeld (n : Names) : Type 0 where

@@ -6,7 +6,7 @@ ghost use Rattle.fmp_base.specs.Names.{name_text};
 ghost use Rattle.fmp_base.specs.Ranges.{IsInRange};
 ghost use Rattle.fmp_base.specs.Systems.{tables_of};
 ghost use Rattle.fmp_tasklang.specs.Scopes.{place_of, number_or, object_names, object_number};
-ghost use Rattle.fmp_scopes.specs.Numbers.{number_of};
+ghost use Rattle.fmp_scopes.specs.Numbers.{object_named};
 
 use crate::names::HasName;
 use fmp_base::System;
@@ -28,8 +28,8 @@ fn numbered(place: usize) -> u8
 /// Gives the objects of a table their numbers. Of those with one name the first comes last, and its number stays.
 fn number_rows<T: HasName>(numbers: &mut ObjectNumbers, rows: &[T]) -> Result<(), AllocError>
     requires { length rows.now ≤ 255 }
-    ensures { OnOk result ((name : base.Name) → number_of numbers.new name ≡
-        number_or (place_of (name_text name) (map T.name_of rows.now)) (number_of numbers.old name)) }
+    ensures { OnOk result ((name : base.Name) → object_named numbers.new name ≡
+        number_or (place_of (name_text name) (map T.name_of rows.now)) (object_named numbers.old name)) }
 {
     let mut place = rows.len();
     while place > 0 {
@@ -44,7 +44,7 @@ fn number_rows<T: HasName>(numbers: &mut ObjectNumbers, rows: &[T]) -> Result<()
 /// is out of memory.
 pub fn number_objects(alloc: Global, system: &System) -> Result<ObjectNumbers, AllocError>
     requires { IsInRange (tables_of system.now) }
-    ensures { IfOk result (λ numbers. (name : base.Name) → number_of numbers name ≡
+    ensures { IfOk result (λ numbers. (name : base.Name) → object_named numbers name ≡
         object_number (name_text name) (object_names (tables_of system.now))) }
 {
     let mut numbers = HashMap::new(alloc);

@@ -10,7 +10,7 @@ use Rattle.std.proofs.lemmas.Str.Parse.{IsNumeralModel, numerals_by_value, tells
 use Rattle.std.specs.Char.{is_ascii_digit, digit_value}
 use Rattle.std.specs.Str.{all_ascii_digits}
 use Rattle.std.specs.Str.Parse.{digits_value}
-use Rattle.fmp_steps.specs.Steps.{digits_number, number_of}
+use Rattle.fmp_steps.specs.Steps.{digits_number, numeral_value}
 
 -- digits, and one more
 pub all_digits_more : (text : List ℕ) (i : ℕ) → i < length text → all_ascii_digits (take i text) ≡ true → is_ascii_digit (get_or text i 0) ≡ true → all_ascii_digits (take (i + 1) text) ≡ true
@@ -46,15 +46,15 @@ pub decimal_digits : (n : ℕ) → n < 2 ^ 64 → all_ascii_digits (decimal n) �
 decimal_digits n h = digits_decimal own n h
 
 -- digits of which the first is not 0
-number_of-digits : (text : List ℕ) → 48 < get_or text 0 0 → all_ascii_digits text ≡ true → number_of text ≡ Some (digits_value 10 text)
-number_of-digits [] h a = absurd (omega arith)
-number_of-digits (d ∷ []) h a = are_digits (d ∷ []) a
-number_of-digits (d ∷ e ∷ ds) h a =
+numeral_value-digits : (text : List ℕ) → 48 < get_or text 0 0 → all_ascii_digits text ≡ true → numeral_value text ≡ Some (digits_value 10 text)
+numeral_value-digits [] h a = absurd (omega arith)
+numeral_value-digits (d ∷ []) h a = are_digits (d ∷ []) a
+numeral_value-digits (d ∷ e ∷ ds) h a =
     let first : nat_eq d 48 ≡ false = grind (arith, nat_tests) in
     ap (λ t. cond t None (digits_number (d ∷ e ∷ ds))) first ∙ are_digits (d ∷ e ∷ ds) a
 
 -- a positive number is read as it is written
-pub number_of-decimal : (n : ℕ) → 1 ≤ n → n < 2 ^ 64 → number_of (decimal n) ≡ Some n
-number_of-decimal n low high =
-    number_of-digits (decimal n) (first_decimal n (omega arith) high) (decimal_digits n high)
+pub numeral_value-decimal : (n : ℕ) → 1 ≤ n → n < 2 ^ 64 → numeral_value (decimal n) ≡ Some n
+numeral_value-decimal n low high =
+    numeral_value-digits (decimal n) (first_decimal n (omega arith) high) (decimal_digits n high)
     ∙ ap (λ v. Some v) (digits_value-decimal own n high)

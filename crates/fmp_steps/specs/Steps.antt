@@ -25,10 +25,10 @@ abbrev pub digits_number : List ℕ → Option ℕ
 digits_number text = if all_ascii_digits text then Some (digits_value 10 text) else None
 
 -- the number that a text spells, if it is decimal digits without leading zeros
-abbrev pub number_of : List ℕ → Option ℕ
-number_of [] = None
-number_of (d ∷ []) = digits_number (d ∷ [])
-number_of (d ∷ e ∷ ds) = if nat_eq d 48 then None else digits_number (d ∷ e ∷ ds)
+abbrev pub numeral_value : List ℕ → Option ℕ
+numeral_value [] = None
+numeral_value (d ∷ []) = digits_number (d ∷ [])
+numeral_value (d ∷ e ∷ ds) = if nat_eq d 48 then None else digits_number (d ∷ e ∷ ds)
 
 -- a number, or 1000 for a greater one
 abbrev pub capped : Option ℕ → Option ℕ
@@ -59,8 +59,8 @@ behind (c ∷ cs) (b ∷ bs) = if_same (nat_eq b c) (behind cs bs)
 -- the event of a line by what stands in it behind `run `, behind `int ` and behind `tick`
 abbrev pub meaning_by : (processors : ℕ) → (run int tick : Option (List ℕ)) → Result Event Flaw
 meaning_by processors (Some text) int tick =
-    numbered_event (λ p. event.Run p) (ranged_number processors (number_of text))
-meaning_by processors None (Some text) tick = numbered_event (λ i. event.Int i) (ranged_number 32 (number_of text))
+    numbered_event (λ p. event.Run p) (ranged_number processors (numeral_value text))
+meaning_by processors None (Some text) tick = numbered_event (λ i. event.Int i) (ranged_number 32 (numeral_value text))
 meaning_by processors None None (Some []) = Ok event.Tick
 meaning_by processors None None (Some (b ∷ bs)) = Err flaw.Form
 meaning_by processors None None None = Err flaw.Form

@@ -1,6 +1,6 @@
 //! Numbers in decimal digits, of any length.
 ghost use Rattle.std.specs.Prelude.{◌≡◌};
-ghost use Rattle.fmp_steps.specs.Steps.{digits_number, number_of, capped, ranged_number};
+ghost use Rattle.fmp_steps.specs.Steps.{digits_number, numeral_value, capped, ranged_number};
 
 use crate::faults::Flaw;
 
@@ -23,7 +23,7 @@ fn digits_in(text: &[u8]) -> Option<u32>
 
 /// The number that a text spells without leading zeros, at most `CAP`; none if it is no number.
 fn number_in(text: &[u8]) -> Option<u32>
-    ensures { result ≡ capped (number_of text.now) }
+    ensures { result ≡ capped (numeral_value text.now) }
 {
     match text {
         [] | [b'0', _, ..] => None,
@@ -33,7 +33,7 @@ fn number_in(text: &[u8]) -> Option<u32>
 
 /// The number that a text spells, if it is one from 1 to `most`.
 pub fn ranged_in(text: &[u8], most: u8) -> Result<u8, Flaw>
-    ensures { result ≡ ranged_number most (number_of text.now) }
+    ensures { result ≡ ranged_number most (numeral_value text.now) }
 {
     match number_in(text) {
         Some(number) => {

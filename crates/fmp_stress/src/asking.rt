@@ -45,18 +45,18 @@ fn word_of<'a>(words: &ArgMatches<'a>, id: &str) -> &'a str {
 }
 
 /// A number that the command line gives.
-fn number_of(words: &ArgMatches<'_>, id: &str) -> u32 {
+fn number_asked(words: &ArgMatches<'_>, id: &str) -> u32 {
     words.get_one::<u32>(id).unwrap_or(1)
 }
 
 fn plan_of(words: &ArgMatches<'_>) -> Plan {
     Plan {
-        seats: u8::try_from(number_of(words, "seats")).unwrap_or(1),
-        followers: u8::try_from(number_of(words, "followers")).unwrap_or(0),
-        share: number_of(words, "share") as usize,
-        turns: number_of(words, "turns"),
-        ticks: number_of(words, "ticks"),
-        capacity: number_of(words, "capacity"),
+        seats: u8::try_from(number_asked(words, "seats")).unwrap_or(1),
+        followers: u8::try_from(number_asked(words, "followers")).unwrap_or(0),
+        share: number_asked(words, "share") as usize,
+        turns: number_asked(words, "turns"),
+        ticks: number_asked(words, "ticks"),
+        capacity: number_asked(words, "capacity"),
         bound: words.get_one::<u64>("bound").unwrap_or(1),
         seed: words.get_one::<u64>("seed").unwrap_or(1),
         own: words.get_flag("own"),

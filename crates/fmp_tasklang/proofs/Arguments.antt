@@ -5,7 +5,7 @@ use Rattle.fmp_lex.specs.declared.reading.GrammarFault.{GrammarFault}
 use Rattle.fmp_lex.specs.declared.token.Symbol.TheVariants as symbol
 use Rattle.fmp_lex.specs.declared.token.TokenKind.{TokenKind}
 use Rattle.fmp_lex.specs.declared.token.TokenKind.TheVariants as kind
-use Rattle.fmp_lex.specs.Reading.{Rel, At, Seq, OneToken, Same, Outcome, found, stopped, map_outcome, Right, Anywhere, RightToken}
+use Rattle.fmp_lex.specs.Reading.{Rel, At, Seq, OneToken, Same, ParseResult, found, stopped, map_result, Right, Anywhere, RightToken}
 use Rattle.fmp_lex.proofs.Sequences.{Framed, Fills, fewer, token_framed, token_fills, token_found, seq_fills, seq_then, seq_stop, right_as}
 use Rattle.fmp_lex.proofs.Repetitions.{Behind, Closed, behind_framed, behind_fills, behind_then, behind_stop, closed_framed, closed_fills, closed_found, closed_missing, closed_stop, put_before}
 use Rattle.fmp_lex.specs.Forms.{mark_kind, put}
@@ -92,7 +92,7 @@ module _ (d : ℕ) where
     mark_back us limit (Some (value e)) j x = absurd x
     mark_back us limit (Some (out w)) j x = absurd x
 
-    pub mark_as : (o : Outcome (Unit {0})) → RightToken ts (mark_kind m) i o → RightPart ts d (part.Mark m) i (map_outcome (λ (a : Unit {0}). None) o)
+    pub mark_as : (o : ParseResult (Unit {0})) → RightToken ts (mark_kind m) i o → RightPart ts d (part.Mark m) i (map_result (λ (a : Unit {0}). None) o)
     mark_as o x = right_as (OneToken (mark_kind m)) (OnePart d (part.Mark m)) (λ a. None) (λ us limit a j r. r)
         (λ us limit e j at r ends. mark_back us limit e j r) o x
 
@@ -102,8 +102,8 @@ module _ (d : ℕ) where
     value_back us limit (Some (value e)) j x = (e, refl, x, tt)
     value_back us limit (Some (out w)) j x = absurd x
 
-    value_as : (o : Outcome ExpressionTree) → Right (At (Ended d (mark_kind m)) i) Anywhere ts i o →
-        RightPart ts d (part.Value m) i (map_outcome (λ (a : ExpressionTree). Some (value a)) o)
+    value_as : (o : ParseResult ExpressionTree) → Right (At (Ended d (mark_kind m)) i) Anywhere ts i o →
+        RightPart ts d (part.Value m) i (map_result (λ (a : ExpressionTree). Some (value a)) o)
     value_as o x = right_as (Ended d (mark_kind m)) (OnePart d (part.Value m)) (λ a. Some (value a)) (λ us limit a j r. r)
         (λ us limit e j at r ends. value_back us limit e j r) o x
 
@@ -123,7 +123,7 @@ module _ (d : ℕ) where
     out_back us limit (Some (value e)) j x = absurd x
     out_back us limit (Some (out w)) j x = (w, refl, x, tt)
 
-    out_as : (o : Outcome Word) → Right (At (Outs m) i) Anywhere ts i o → RightPart ts d (part.Out m) i (map_outcome (λ (a : Word). Some (out a)) o)
+    out_as : (o : ParseResult Word) → Right (At (Outs m) i) Anywhere ts i o → RightPart ts d (part.Out m) i (map_result (λ (a : Word). Some (out a)) o)
     out_as o x = right_as (Outs m) (OnePart d (part.Out m)) (λ a. Some (out a)) (λ us limit a j r. r)
         (λ us limit e j at r ends. out_back us limit e j r) o x
 
@@ -175,14 +175,14 @@ module _ (d : ℕ) where
 
   -- a part, and then the outcome of the others
   module _ (p : Part) (ps : List Part) (ts : List TokenKind) (i : ℕ) where
-    parts_as : (o : Outcome (Option ArgumentTree × List ArgumentTree)) → Right (At (Seq (OnePart d p) (Parts d ps)) i) Anywhere ts i o →
-        RightParts ts d (p ∷ ps) i (map_outcome (λ (q : Option ArgumentTree × List ArgumentTree). put q.0 q.1) o)
+    parts_as : (o : ParseResult (Option ArgumentTree × List ArgumentTree)) → Right (At (Seq (OnePart d p) (Parts d ps)) i) Anywhere ts i o →
+        RightParts ts d (p ∷ ps) i (map_result (λ (q : Option ArgumentTree × List ArgumentTree). put q.0 q.1) o)
     parts_as o x = right_as (Seq (OnePart d p) (Parts d ps)) (Parts d (p ∷ ps)) (λ q. put q.0 q.1)
         (λ us limit q j s. (q.0, q.1, refl, s.0, s.1, s.2))
         (λ us limit e j at r ends. ((r.0, r.1), r.2, (r.3, r.4, r.5), ends)) o x
 
-    pub parts_then : (a : Option ArgumentTree) (k : ℕ) → RightPart ts d p i (found a k) → (o : Outcome (List ArgumentTree)) → RightParts ts d ps k o →
-        RightParts ts d (p ∷ ps) i (map_outcome (put a) o)
+    pub parts_then : (a : Option ArgumentTree) (k : ℕ) → RightPart ts d p i (found a k) → (o : ParseResult (List ArgumentTree)) → RightParts ts d ps k o →
+        RightParts ts d (p ∷ ps) i (map_result (put a) o)
     parts_then a k x (found more j) rest =
         parts_as (found (a, more) j) (seq_then (OnePart d p) (Parts d ps) (part_framed p) (λ us limit n b m y ends. tt) x (found more j) rest)
     parts_then a k x (stopped j why) rest =
@@ -200,8 +200,8 @@ module _ (d : ℕ) where
   })
 
   -- the parts of a call are its arguments
-  pub arguments_as : (s : Service) (ps : List Part) (ts : List TokenKind) (i : ℕ) (o : Outcome (List ArgumentTree)) → RightParts ts d ps i o →
-      RightArguments ts d s ps i (map_outcome (called s) o)
+  pub arguments_as : (s : Service) (ps : List Part) (ts : List TokenKind) (i : ℕ) (o : ParseResult (List ArgumentTree)) → RightParts ts d ps i o →
+      RightArguments ts d s ps i (map_result (called s) o)
   arguments_as s ps ts i o x = right_as (Parts d ps) (Arguments d s ps) (called s) (λ us limit args j r. (args, refl, r))
       (λ us limit c j at r ends. (r.0, r.1, r.2, tt)) o x
 
@@ -240,7 +240,7 @@ module _ (d : ℕ) where
           subst (λ z. Parts d (call_parts z) us limit r.0 r.2.0 j) one r.2.2,
         )
 
-    pub call_as : (o : Outcome Called) → RightArguments ts d s (call_parts s) (i + 1) o → RightCall ts d i o
+    pub call_as : (o : ParseResult Called) → RightArguments ts d s (call_parts s) (i + 1) o → RightCall ts d i o
     call_as (found c j) x = right_as Passed (OneCall d) (λ c. c) (λ us limit c j r. call_to us limit c j r)
         (λ us limit c j at r ends. (c, refl, call_back us limit c j at r, tt)) (found c j)
         (behind_then name.0 (Arguments d s (call_parts s)) (token_found name.0 ts i name.1) (found c j) x)
@@ -267,12 +267,12 @@ parts_done [] (suc n) h = refl
 parts_done (p ∷ ps) zero h = absurd (omega arith)
 parts_done (p ∷ ps) (suc n) h = parts_done ps n (omega arith)
 
-pub no_before : (o : Outcome (List ArgumentTree)) (P : Outcome (List ArgumentTree) → Type 0) → P o → P (map_outcome (put_before []) o)
+pub no_before : (o : ParseResult (List ArgumentTree)) (P : ParseResult (List ArgumentTree) → Type 0) → P o → P (map_result (put_before []) o)
 no_before (found more j) P x = x
 no_before (stopped j why) P x = x
 
-pub push_put : (xs : List ArgumentTree) (f : Option ArgumentTree) (o : Outcome (List ArgumentTree)) (P : Outcome (List ArgumentTree) → Type 0) →
-    P (map_outcome (put_before xs) (map_outcome (put f) o)) → P (map_outcome (put_before (xs ++ put f [])) o)
+pub push_put : (xs : List ArgumentTree) (f : Option ArgumentTree) (o : ParseResult (List ArgumentTree)) (P : ParseResult (List ArgumentTree) → Type 0) →
+    P (map_result (put_before xs) (map_result (put f) o)) → P (map_result (put_before (xs ++ put f [])) o)
 push_put xs (Some f) (found more j) P x = rw append_assoc x
 push_put xs None (found more j) P x = rw append-nil x
 push_put xs (Some f) (stopped j why) P x = x

@@ -8,7 +8,7 @@ use Rattle.fmp_lex.specs.declared.reading.ReadError.TheVariants.{Memory, Fault}
 use Rattle.fmp_lex.specs.declared.token.TokenKind.{TokenKind}
 use Rattle.fmp_lex.specs.declared.token.TokenKind.TheVariants as kind
 use Rattle.fmp_base.specs.declared.words.Keyword.TheVariants as keyword
-use Rattle.fmp_lex.specs.Reading.{Rel, At, Seq, Star, Outcome, found, stopped, map_outcome, Right, Anywhere, RightToken, IsWhole, IsFirstFault, Answers}
+use Rattle.fmp_lex.specs.Reading.{Rel, At, Seq, Star, ParseResult, found, stopped, map_result, Right, Anywhere, RightToken, IsWhole, IsFirstFault, Answers}
 use Rattle.fmp_lex.proofs.Sequences.{Framed, Fills, Follows, fewer, item_framed, token_found, seq_framed, seq_fills, seq_then, seq_stop, right_as}
 use Rattle.fmp_lex.proofs.Repetitions.{Behind, Closed, behind_framed, behind_fills, behind_then, behind_stop, closed_framed, closed_fills, closed_found, closed_missing, closed_stop, star_framed, star_fills, star_none, star_more, star_stop}
 use Rattle.fmp_lex.proofs.Wholes.{whole_found, whole_longer, whole_stopped}
@@ -54,8 +54,8 @@ module _ (ts : List TokenKind) (i : ℕ) where
       variable_found j z = behind_then var_word Ended x (found w j) (closed_found OneWord semicolon word_framed (λ us limit n b m y ends. tt) y z)
 
   module _ (is : slice_get ts i ≡ Some var_word) where
-    pub variables_more : (w : Word) (k : ℕ) → RightVariable ts i (found w k) → (o : Outcome (List Word)) → RightVariables ts k o →
-        RightVariables ts i (map_outcome (λ (more : List Word). w ∷ more) o)
+    pub variables_more : (w : Word) (k : ℕ) → RightVariable ts i (found w k) → (o : ParseResult (List Word)) → RightVariables ts k o →
+        RightVariables ts i (map_result (λ (more : List Word). w ∷ more) o)
     variables_more w k x o rest = star_more OneVariable Anywhere EndsVariables ts i variable_framed (λ us limit n b m y ends. tt) (λ us at ends. ends (at ∙ is)) w k x o rest
 
     pub variables_stop : (j : ℕ) (why : GrammarFault) → RightVariable ts i (stopped j why) → RightVariables ts i (stopped j why)
@@ -169,7 +169,7 @@ module _ (ts : List TokenKind) (i : ℕ) (b : BodyKind) (is : option_and_then bo
         tt,
       )
 
-  body_as : (o : Outcome (Word × (List Word × List StatementTree))) → Right (At Rest (i + 1)) Anywhere ts (i + 1) o → RightBody ts i (map_outcome (body_of i b) o)
+  body_as : (o : ParseResult (Word × (List Word × List StatementTree))) → Right (At Rest (i + 1)) Anywhere ts (i + 1) o → RightBody ts i (map_result (body_of i b) o)
   body_as o x = right_as (Behind word.0 Rest) OneBody (body_of i b) (λ us limit p j r. body_to us limit p j r)
       (λ us limit e j at r ends. body_back us limit e j at r) o (behind_then word.0 Rest (token_found word.0 ts i word.1) o x)
 
@@ -177,8 +177,8 @@ module _ (ts : List TokenKind) (i : ℕ) (b : BodyKind) (is : option_and_then bo
   body_name j why x = body_as (stopped j why) (seq_stop OneWord (Behind open_brace Declared) word_framed braces_fills (λ us limit n b m y ends. tt) x)
 
   module _ (w : Word) (k : ℕ) (x : RightWord ts (i + 1) (found w k)) where
-    after_name : (o : Outcome (List Word × List StatementTree)) → Right (At (Behind open_brace Declared) k) Anywhere ts k o →
-        RightBody ts i (map_outcome (λ (q : List Word × List StatementTree). body_of i b (w, q)) o)
+    after_name : (o : ParseResult (List Word × List StatementTree)) → Right (At (Behind open_brace Declared) k) Anywhere ts k o →
+        RightBody ts i (map_result (λ (q : List Word × List StatementTree). body_of i b (w, q)) o)
     after_name (found q j) y = body_as (found (w, q) j) (seq_then OneWord (Behind open_brace Declared) word_framed (λ us limit n b m y ends. tt) x (found q j) y)
     after_name (stopped j why) y = body_as (stopped j why) (seq_then OneWord (Behind open_brace Declared) word_framed (λ us limit n b m y ends. tt) x (stopped j why) y)
 
@@ -191,8 +191,8 @@ module _ (ts : List TokenKind) (i : ℕ) (b : BodyKind) (is : option_and_then bo
           (seq_stop (Star OneVariable) Inner variables_framed inner_fills variables_follow z))
 
       module _ (vs : List Word) (m : ℕ) (z : RightVariables ts l (found vs m)) where
-        after_variables : (o : Outcome (List StatementTree)) → Right (At Inner m) Anywhere ts m o →
-            RightBody ts i (map_outcome (λ (ss : List StatementTree). body_of i b (w, (vs, ss))) o)
+        after_variables : (o : ParseResult (List StatementTree)) → Right (At Inner m) Anywhere ts m o →
+            RightBody ts i (map_result (λ (ss : List StatementTree). body_of i b (w, (vs, ss))) o)
         after_variables (found ss j) v = after_name (found (vs, ss) j) (behind_then open_brace Declared y (found (vs, ss) j)
             (seq_then (Star OneVariable) Inner variables_framed variables_follow z (found ss j) v))
         after_variables (stopped j why) v = after_name (stopped j why) (behind_then open_brace Declared y (stopped j why)
@@ -211,8 +211,8 @@ module _ (ts : List TokenKind) (i : ℕ) (b : BodyKind) (is : option_and_then bo
   goes_on : (us : List TokenKind) → slice_get us i ≡ slice_get ts i → EndsBodies us i → ⊥
   goes_on us at ends = let e : None ≡ Some b = sym ends ∙ (ap (option_and_then body_kind_of) at ∙ is) in absurd (cc)
 
-  pub bodies_more : (e : BodyTree) (k : ℕ) → RightBody ts i (found e k) → (o : Outcome (List BodyTree)) → RightBodies ts k o →
-      RightBodies ts i (map_outcome (λ (more : List BodyTree). e ∷ more) o)
+  pub bodies_more : (e : BodyTree) (k : ℕ) → RightBody ts i (found e k) → (o : ParseResult (List BodyTree)) → RightBodies ts k o →
+      RightBodies ts i (map_result (λ (more : List BodyTree). e ∷ more) o)
   bodies_more e k x o rest = star_more OneBody Anywhere EndsBodies ts i body_framed (λ us limit n b m y ends. tt) goes_on e k x o rest
 
   pub bodies_stop : (j : ℕ) (why : GrammarFault) → RightBody ts i (stopped j why) → RightBodies ts i (stopped j why)

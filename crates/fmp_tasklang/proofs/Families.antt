@@ -8,7 +8,7 @@ use Rattle.fmp_base.specs.declared.words.Keyword.TheVariants as keyword
 use Rattle.fmp_lex.specs.declared.token.TokenKind.{TokenKind}
 use Rattle.fmp_lex.specs.declared.token.TokenKind.TheVariants as kind
 use Rattle.fmp_tasklang.specs.Trees.{StatementTree}
-use Rattle.fmp_tasklang.specs.Expressions.{number_of, name_of, unary_of}
+use Rattle.fmp_tasklang.specs.Expressions.{token_number, name_of, unary_of}
 use Rattle.fmp_tasklang.specs.Calls.{service_of}
 use Rattle.fmp_tasklang.specs.Statements.{jump_of}
 
@@ -23,7 +23,7 @@ family (Some (kind.Keyword k)) = 4
 family (Some (kind.Api a)) = 5
 family (Some (kind.Bad b)) = 5
 
-pub number_family : (o : Option TokenKind) (a : ℤ) → option_and_then number_of o ≡ Some a → family o ≡ 0
+pub number_family : (o : Option TokenKind) (a : ℤ) → option_and_then token_number o ≡ Some a → family o ≡ 0
 number_family None a e = absurd (cc)
 number_family (Some (kind.Number x)) a e = refl
 number_family (Some (kind.Constant x)) a e = refl
@@ -89,7 +89,7 @@ jump_family false (Some (kind.Bad x)) a e = absurd (cc)
 
 -- a name is nothing else that begins an operand or a statement
 pub name_excludes : (o : Option TokenKind) (a : Name) → option_and_then name_of o ≡ Some a →
-    (option_and_then number_of o ≡ None) × (option_and_then unary_of o ≡ None) × (o ≡ Some (kind.Symbol symbol.LeftParen) → ⊥)
+    (option_and_then token_number o ≡ None) × (option_and_then unary_of o ≡ None) × (o ≡ Some (kind.Symbol symbol.LeftParen) → ⊥)
 name_excludes None a e = absurd (cc)
 name_excludes (Some (kind.Number x)) a e = absurd (cc)
 name_excludes (Some (kind.Constant x)) a e = absurd (cc)

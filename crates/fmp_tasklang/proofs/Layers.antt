@@ -3,7 +3,7 @@ use Rattle.std.proofs.Common.{◌≡◌, ℕ, ◌+◌, ◌<◌, ◌≤◌, List,
 use Rattle.fmp_lex.specs.declared.token.TokenKind.{TokenKind}
 use Rattle.fmp_lex.specs.declared.reading.GrammarFault.TheVariants.{Syntax, Depth}
 use Rattle.std.proofs.lemmas.Option.{slice_get_within}
-use Rattle.fmp_lex.specs.Reading.{Rel, At, Same, Allows, Outcome, found, stopped, Right}
+use Rattle.fmp_lex.specs.Reading.{Rel, At, Same, Allows, ParseResult, found, stopped, Right}
 use Rattle.fmp_lex.proofs.Lists.{get_take, take_long}
 use Rattle.fmp_lex.proofs.Sequences.{Fills, right_as, token_stopped}
 use Rattle.fmp_lex.proofs.Repetitions.{Behind, behind_stop}
@@ -19,7 +19,7 @@ module _ {A : Type 0} (X Z : Rel A) where
   pub right_same : {EndX EndZ : List TokenKind → ℕ → Type 0} {ts : List TokenKind} {i : ℕ} →
       ((us : List TokenKind) (limit : ℕ) (a : A) (j : ℕ) → X us limit i a j → Z us limit i a j) →
       ((us : List TokenKind) (limit : ℕ) (e : A) (j : ℕ) → slice_get us i ≡ slice_get ts i → Z us limit i e j → EndZ us j → X us limit i e j × EndX us j) →
-      (o : Outcome A) → Right (At X i) EndX ts i o → Right (At Z i) EndZ ts i o
+      (o : ParseResult A) → Right (At X i) EndX ts i o → Right (At Z i) EndZ ts i o
   right_same to back (found a j) x = right_as X Z (λ e. e) (λ us limit a j r. to us limit a j r)
       (λ us limit e j at r ends. let b = back us limit e j at r ends in (e, refl, b.0, b.1)) (found a j) x
   right_same to back (stopped j why) x = right_as X Z (λ e. e) (λ us limit a j r. to us limit a j r)
@@ -30,7 +30,7 @@ abbrev pub Deeper : {A : Type 0} → ℕ → Rel A → Rel A
 Deeper d X ts limit i a j = Allows limit i d × X ts limit i a j
 
 module _ {A : Type 0} (d : ℕ) (X : Rel A) where
-  pub deeper_then : {EndX : List TokenKind → ℕ → Type 0} {ts : List TokenKind} {i : ℕ} → d < 64 → (o : Outcome A) →
+  pub deeper_then : {EndX : List TokenKind → ℕ → Type 0} {ts : List TokenKind} {i : ℕ} → d < 64 → (o : ParseResult A) →
       Right (At X i) EndX ts i o → Right (At (Deeper d X) i) EndX ts i o
   deeper_then fits o x = right_same X (Deeper d X) (λ us limit a j r. ((λ lt. fits), r)) (λ us limit e j at r ends. (r.1, ends)) o x
 

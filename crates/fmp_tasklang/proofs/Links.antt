@@ -2,7 +2,7 @@
 use Rattle.std.proofs.Common.{◌≡◌, ℕ, zero, suc, ◌+◌, ◌-◌, ◌≤◌, ◌<◌, List, [], ◌∷◌, length, slice_get, Option, Some, option_and_then, refl, sym, ap, subst, ◌∙◌, arith}
 use Rattle.fmp_lex.specs.declared.reading.GrammarFault.{GrammarFault}
 use Rattle.fmp_lex.specs.declared.token.TokenKind.{TokenKind}
-use Rattle.fmp_lex.specs.Reading.{Rel, At, Seq, Star, Outcome, found, stopped, map_outcome, Right}
+use Rattle.fmp_lex.specs.Reading.{Rel, At, Seq, Star, ParseResult, found, stopped, map_result, Right}
 use Rattle.fmp_lex.proofs.Sequences.{Follows, token_found, seq_then, seq_stop, right_as}
 use Rattle.fmp_lex.proofs.Repetitions.{Behind, behind_then, star_fills, star_none, star_more, star_stop}
 use Rattle.fmp_tasklang.specs.declared.trees.Operator.{Operator}
@@ -43,7 +43,7 @@ module _ (us : List TokenKind) (limit d m : ℕ) where
       )
 
 -- an operand is an expression of the tightest level
-pub expression_zero : (ts : List TokenKind) (d l i : ℕ) → l ≡ 0 → (o : Outcome ExpressionTree) → RightOperand ts d i o → RightExpression ts d l i o
+pub expression_zero : (ts : List TokenKind) (d l i : ℕ) → l ≡ 0 → (o : ParseResult ExpressionTree) → RightOperand ts d i o → RightExpression ts d l i o
 expression_zero ts d l i at o x = right_same (OneOperand d) (OneExpression d l) (λ us limit e j r. an_operand at r)
     (λ us limit e j same r ends. (expression_zero_back us limit d 0 at r, tt)) o x
 
@@ -55,14 +55,14 @@ module _ (d m : ℕ) where
       let one = one_operator m n l.operator op (sym s.1.1.0 ∙ is) in let e = one.0 in omega arith
 
   module _ (ts : List TokenKind) (l i : ℕ) (at : l ≡ m + 1) where
-    chain_as : (o : Outcome (ExpressionTree × List LinkTree)) → Right (At (Seq (OneExpression d m) (Star (OneLink d m))) i) (EndsExpression (m + 1)) ts i o →
-        RightExpression ts d l i (map_outcome (λ (p : ExpressionTree × List LinkTree). chain_tree p.0 p.1) o)
+    chain_as : (o : ParseResult (ExpressionTree × List LinkTree)) → Right (At (Seq (OneExpression d m) (Star (OneLink d m))) i) (EndsExpression (m + 1)) ts i o →
+        RightExpression ts d l i (map_result (λ (p : ExpressionTree × List LinkTree). chain_tree p.0 p.1) o)
     chain_as o x = right_as (Seq (OneExpression d m) (Star (OneLink d m))) (OneExpression d l) (λ p. chain_tree p.0 p.1)
         (λ us limit p j r. a_chain at r.1 (from_star us limit d m r.0 p.1 j r.2) refl)
         (λ us limit e j same r ends. let b = chain_back us limit d m at r in (b.0, b.1, b.2, subst (λ n. EndsExpression n us j) at ends)) o x
 
-    pub chain_then : (a : ExpressionTree) (k : ℕ) → RightExpression ts d m i (found a k) → (o : Outcome (List LinkTree)) → RightLinks ts d m k o →
-        RightExpression ts d l i (map_outcome (chain_tree a) o)
+    pub chain_then : (a : ExpressionTree) (k : ℕ) → RightExpression ts d m i (found a k) → (o : ParseResult (List LinkTree)) → RightLinks ts d m k o →
+        RightExpression ts d l i (map_result (chain_tree a) o)
     chain_then a k x (found links j) y = chain_as (found (a, links) j)
         (seq_then (OneExpression d m) (Star (OneLink d m)) (expression_framed d m) links_follow x (found links j) y)
     chain_then a k x (stopped j why) y = chain_as (stopped j why)
@@ -89,19 +89,19 @@ module _ (d m : ℕ) where
           let one = one_operator m m l.operator op (sym r.1.0 ∙ (ap (option_and_then operator_of) at ∙ is)) in
           (l.operand, ap (λ o. record { operator = o; operand = l.operand }) one.1, (r.0, (at ∙ sign.1, r.1.1), r.2))
 
-      link_as : (o : Outcome ExpressionTree) → Right (At Signed i) (EndsExpression m) ts i o → Right (At (OneLink d m) i) (EndsExpression m) ts i (map_outcome link_of o)
+      link_as : (o : ParseResult ExpressionTree) → Right (At Signed i) (EndsExpression m) ts i o → Right (At (OneLink d m) i) (EndsExpression m) ts i (map_result link_of o)
       link_as o x = right_as Signed (OneLink d m) link_of
           (λ us limit e j r. (r.0, (ap (option_and_then operator_of) r.1.0 ∙ sign.2, r.1.1), r.2))
           (λ us limit l j at r ends. let b = link_back us limit l j at r in (b.0, b.1, b.2, ends)) o x
 
-      link_right : (o : Outcome ExpressionTree) → RightExpression ts d m (i + 1) o → Right (At (OneLink d m) i) (EndsExpression m) ts i (map_outcome link_of o)
+      link_right : (o : ParseResult ExpressionTree) → RightExpression ts d m (i + 1) o → Right (At (OneLink d m) i) (EndsExpression m) ts i (map_result link_of o)
       link_right o x = link_as o (behind_then sign.0 (OneExpression d m) (token_found sign.0 ts i sign.1) o x)
 
       goes_on : (us : List TokenKind) → slice_get us i ≡ slice_get ts i → EndsExpression (m + 1) us i → ⊥
       goes_on us at ends = let le = ends m op (ap (option_and_then operator_of) at ∙ is) in absurd (omega arith)
 
-      pub links_more : (e : ExpressionTree) (k : ℕ) → RightExpression ts d m (i + 1) (found e k) → (o : Outcome (List LinkTree)) → RightLinks ts d m k o →
-          RightLinks ts d m i (map_outcome (λ (more : List LinkTree). record { operator = op; operand = e } ∷ more) o)
+      pub links_more : (e : ExpressionTree) (k : ℕ) → RightExpression ts d m (i + 1) (found e k) → (o : ParseResult (List LinkTree)) → RightLinks ts d m k o →
+          RightLinks ts d m i (map_result (λ (more : List LinkTree). record { operator = op; operand = e } ∷ more) o)
       links_more e k x o rest = star_more (OneLink d m) (EndsExpression m) (EndsExpression (m + 1)) ts i (link_framed d m) links_follow goes_on
           (link_of e) k (link_right (found e k) x) o rest
 

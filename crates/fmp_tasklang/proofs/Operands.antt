@@ -8,14 +8,14 @@ use Rattle.fmp_lex.specs.declared.reading.GrammarFault.TheVariants.{Syntax, Dept
 use Rattle.fmp_lex.specs.declared.token.Symbol.TheVariants as symbol
 use Rattle.fmp_lex.specs.declared.token.TokenKind.{TokenKind}
 use Rattle.fmp_lex.specs.declared.token.TokenKind.TheVariants as kind
-use Rattle.fmp_lex.specs.Reading.{Rel, At, OneToken, Item, Same, Outcome, found, stopped, map_outcome, Right, Anywhere, RightToken}
+use Rattle.fmp_lex.specs.Reading.{Rel, At, OneToken, Item, Same, ParseResult, found, stopped, map_result, Right, Anywhere, RightToken}
 use Rattle.fmp_lex.proofs.Sequences.{Framed, Fills, Follows, fewer, token_framed, token_found, item_framed, item_fills, item_found, item_missing, right_as}
 use Rattle.fmp_lex.proofs.Repetitions.{Behind, Closed, behind_then, closed_fills, closed_found, closed_missing, closed_stop}
 use Rattle.fmp_tasklang.specs.declared.trees.Operator.{Operator}
 use Rattle.fmp_tasklang.specs.declared.trees.Word.{Word}
 use Rattle.fmp_tasklang.specs.Trees.{ExpressionTree, number, named, unary}
 use Rattle.fmp_tasklang.specs.Views.{LinkTree}
-use Rattle.fmp_tasklang.specs.Expressions.{number_of, name_of, unary_of, operator_of, loosest, IsOperand, a_number, a_name, a_group, a_unary, IsExpression, an_operand, a_chain, AreLinks, no_link, a_link}
+use Rattle.fmp_tasklang.specs.Expressions.{token_number, name_of, unary_of, operator_of, loosest, IsOperand, a_number, a_name, a_group, a_unary, IsExpression, an_operand, a_chain, AreLinks, no_link, a_link}
 use Rattle.fmp_tasklang.specs.Reading.{EndsExpression, OneWord, OneOperand, OneExpression, OneLink, RightWord, RightOperand, RightExpression}
 use Rattle.fmp_tasklang.proofs.Families.{family, number_family, name_family, unary_family}
 use Rattle.fmp_tasklang.proofs.Layers.{token_there, right_same, Deeper, deeper_then, deeper_deep}
@@ -51,7 +51,7 @@ module _ (ts : List TokenKind) (limit : ℕ) where
 module _ (ts us : List TokenKind) (limit lower : ℕ) (low : lower ≤ limit) where
   mutual
     operand_same : {d i : ℕ} {e : ExpressionTree} {j : ℕ} → IsOperand ts limit d i e j → Same j ts us → IsOperand us lower d i e j
-    operand_same {i = i} {j = j} (a_number {n = n} x) same = a_number ((item_framed number_of).same ts us limit lower i n j low x same)
+    operand_same {i = i} {j = j} (a_number {n = n} x) same = a_number ((item_framed token_number).same ts us limit lower i n j low x same)
     operand_same {i = i} {j = j} (a_name {w = w} x) same = a_name (word_framed.same ts us limit lower i w j low x same)
     operand_same {i = i} {j = j} (a_group {a = a} {b = b} fits x e y) same =
         let up = expression_up ts limit e in
@@ -98,12 +98,12 @@ link_framed d m = record {
 }
 
 -- a number is an expression
-number_expression : (us : List TokenKind) (limit d l i : ℕ) (n : ℤ) (j : ℕ) → Item number_of us limit i n j → IsExpression us limit d l i (number n) j
+number_expression : (us : List TokenKind) (limit d l i : ℕ) (n : ℤ) (j : ℕ) → Item token_number us limit i n j → IsExpression us limit d l i (number n) j
 number_expression us limit d zero i n j x = an_operand refl (a_number x)
 number_expression us limit d (suc l) i n j x = a_chain (sym (add-one l)) (number_expression us limit d l i n j x) no_link refl
 
-zero_fills : Fills (Item number_of)
-zero_fills = item_fills number_of (kind.Number (pos 0)) (pos 0) refl
+zero_fills : Fills (Item token_number)
+zero_fills = item_fills token_number (kind.Number (pos 0)) (pos 0) refl
 
 pub word_fills : Fills OneWord
 word_fills us limit low = let x = item_fills name_of (kind.Name (name_from [])) (name_from []) refl us limit low in
@@ -112,7 +112,7 @@ word_fills us limit low = let x = item_fills name_of (kind.Name (name_from [])) 
 abbrev pub word_here : ℕ → Name → Word
 word_here i n = record { name = n; at = i }
 
-word_as : (ts : List TokenKind) (i : ℕ) (o : Outcome Name) → Right (At (Item name_of) i) Anywhere ts i o → RightWord ts i (map_outcome (word_here i) o)
+word_as : (ts : List TokenKind) (i : ℕ) (o : ParseResult Name) → Right (At (Item name_of) i) Anywhere ts i o → RightWord ts i (map_result (word_here i) o)
 word_as ts i o x = right_as (Item name_of) OneWord (word_here i) (λ us limit n j r. (refl, r))
     (λ us limit w j at r ends. (w.name, ap (λ l. record { name = w.name; at = l }) r.0, r.1, tt)) o x
 
@@ -147,20 +147,20 @@ module _ (d : ℕ) (t : TokenKind) (none : operator_of t ≡ None) (ts : List To
   pub ended_stop : (j : ℕ) (why : GrammarFault) → RightExpression ts d loosest i (stopped j why) → Right (At (Ended d t) i) Anywhere ts i (stopped j why)
   ended_stop j why x = closed_stop (OneExpression d loosest) t (expression_framed d loosest) (closes t none) x
 
-  pub ended_then : (e : ExpressionTree) (k : ℕ) → RightExpression ts d loosest i (found e k) → (o : Outcome (Unit {0})) → RightToken ts t k o →
-      Right (At (Ended d t) i) Anywhere ts i (map_outcome (λ (u : Unit {0}). e) o)
+  pub ended_then : (e : ExpressionTree) (k : ℕ) → RightExpression ts d loosest i (found e k) → (o : ParseResult (Unit {0})) → RightToken ts t k o →
+      Right (At (Ended d t) i) Anywhere ts i (map_result (λ (u : Unit {0}). e) o)
   ended_then e k x (found u j) y = closed_found (OneExpression d loosest) t (expression_framed d loosest) (closes t none) x y
   ended_then e k x (stopped j why) y = closed_missing (OneExpression d loosest) t (expression_framed d loosest) (closes t none) x y
 
 -- what the first token of an operand says of it
 module _ (us : List TokenKind) (limit d i : ℕ) where
-  number_back : {e : ExpressionTree} {j : ℕ} → family (slice_get us i) ≡ 0 → IsOperand us limit d i e j → (n : ℤ) × (e ≡ number n) × Item number_of us limit i n j
+  number_back : {e : ExpressionTree} {j : ℕ} → family (slice_get us i) ≡ 0 → IsOperand us limit d i e j → (n : ℤ) × (e ≡ number n) × Item token_number us limit i n j
   number_back at (a_number {n = n} x) = (n, refl, x)
   number_back at (a_name {w = w} x) = let f = name_family (slice_get us i) w.name x.1.0 in absurd (omega arith)
   number_back at (a_group fits a e b) = let f : family (slice_get us i) ≡ 2 = ap family a.0 in absurd (omega arith)
   number_back at (a_unary {op = op} fits a e) = let f = unary_family (slice_get us i) op a.0 in absurd (omega arith)
 
-  name_back : {e : ExpressionTree} {j : ℕ} → option_and_then number_of (slice_get us i) ≡ None → option_and_then unary_of (slice_get us i) ≡ None →
+  name_back : {e : ExpressionTree} {j : ℕ} → option_and_then token_number (slice_get us i) ≡ None → option_and_then unary_of (slice_get us i) ≡ None →
       (slice_get us i ≡ Some left → ⊥) → IsOperand us limit d i e j → (w : Word) × (e ≡ named w) × OneWord us limit i w j
   name_back no_number no_unary no_left (a_number {n = n} x) = let e : None ≡ Some n = sym no_number ∙ x.0 in absurd (cc)
   name_back no_number no_unary no_left (a_name {w = w} x) = (w, refl, x)
@@ -189,26 +189,26 @@ module _ (us : List TokenKind) (limit d i : ℕ) where
       (inner, ap (λ o. unary o inner) one, (fits, (k, (at, a.1), e)))
 
 module _ (ts : List TokenKind) (d i : ℕ) where
-  pub number_found : (n : ℤ) → i < length ts → option_and_then number_of (slice_get ts i) ≡ Some n → RightOperand ts d i (found (number n) (i + 1))
-  number_found n lt is = right_as (Item number_of) (OneOperand d) number (λ us limit n j r. a_number r)
+  pub number_found : (n : ℤ) → i < length ts → option_and_then token_number (slice_get ts i) ≡ Some n → RightOperand ts d i (found (number n) (i + 1))
+  number_found n lt is = right_as (Item token_number) (OneOperand d) number (λ us limit n j r. a_number r)
       (λ us limit e j at r ends. let b = number_back us limit d i (ap family at ∙ number_family (slice_get ts i) n is) r in (b.0, b.1, b.2, tt))
-      (found n (i + 1)) (item_found number_of ts i n lt is)
+      (found n (i + 1)) (item_found token_number ts i n lt is)
 
-  pub name_as : option_and_then number_of (slice_get ts i) ≡ None → option_and_then unary_of (slice_get ts i) ≡ None → (slice_get ts i ≡ Some left → ⊥) →
-      (o : Outcome Word) → RightWord ts i o → RightOperand ts d i (map_outcome named o)
+  pub name_as : option_and_then token_number (slice_get ts i) ≡ None → option_and_then unary_of (slice_get ts i) ≡ None → (slice_get ts i ≡ Some left → ⊥) →
+      (o : ParseResult Word) → RightWord ts i o → RightOperand ts d i (map_result named o)
   name_as no_number no_unary no_left o x = right_as OneWord (OneOperand d) named (λ us limit n j r. a_name r)
       (λ us limit e j at r ends.
-      let b = name_back us limit d i (ap (option_and_then number_of) at ∙ no_number) (ap (option_and_then unary_of) at ∙ no_unary) (λ is. no_left (sym at ∙ is)) r in
+      let b = name_back us limit d i (ap (option_and_then token_number) at ∙ no_number) (ap (option_and_then unary_of) at ∙ no_unary) (λ is. no_left (sym at ∙ is)) r in
       (b.0, b.1, b.2, tt)) o x
 
-  group_as : slice_get ts i ≡ Some left → (o : Outcome ExpressionTree) → Right (At (Deeper d (Behind left (Ended (d + 1) right))) i) Anywhere ts i o → RightOperand ts d i o
+  group_as : slice_get ts i ≡ Some left → (o : ParseResult ExpressionTree) → Right (At (Deeper d (Behind left (Ended (d + 1) right))) i) Anywhere ts i o → RightOperand ts d i o
   group_as is o x = right_same (Deeper d (Behind left (Ended (d + 1) right))) (OneOperand d)
       (λ us limit e j r. a_group r.0 r.1.1 r.1.2.1 r.1.2.2) (λ us limit e j at r ends. (group_back us limit d i (at ∙ is) r, tt)) o x
 
   pub group_deep : slice_get ts i ≡ Some left → 64 ≤ d → RightOperand ts d i (stopped i Depth)
   group_deep is deep = group_as is (stopped i Depth) (deeper_deep d left (Ended (d + 1) right) (ended_fills (d + 1) right) is deep)
 
-  pub group_then : slice_get ts i ≡ Some left → d < 64 → (o : Outcome ExpressionTree) → Right (At (Ended (d + 1) right) (i + 1)) Anywhere ts (i + 1) o → RightOperand ts d i o
+  pub group_then : slice_get ts i ≡ Some left → d < 64 → (o : ParseResult ExpressionTree) → Right (At (Ended (d + 1) right) (i + 1)) Anywhere ts (i + 1) o → RightOperand ts d i o
   group_then is fits o x = group_as is o (deeper_then d (Behind left (Ended (d + 1) right)) fits o
       (behind_then left (Ended (d + 1) right) (token_found left ts i is) o x))
 
@@ -219,7 +219,7 @@ module _ (ts : List TokenKind) (d i : ℕ) where
     abbrev Signed : Rel ExpressionTree
     Signed = Behind sign.0 (OneOperand (d + 1))
 
-    unary_as : (o : Outcome ExpressionTree) → Right (At (Deeper d Signed) i) Anywhere ts i o → RightOperand ts d i (map_outcome (unary op) o)
+    unary_as : (o : ParseResult ExpressionTree) → Right (At (Deeper d Signed) i) Anywhere ts i o → RightOperand ts d i (map_result (unary op) o)
     unary_as o x = right_as (Deeper d Signed) (OneOperand d) (unary op)
         (λ us limit e j r. a_unary r.0 (ap (option_and_then unary_of) r.1.1.0 ∙ sign.2, r.1.1.1) r.1.2)
         (λ us limit e j at r ends. let b = unary_back us limit d i sign.0 op (at ∙ sign.1) sign.2 r in (b.0, b.1, b.2, tt)) o x
@@ -227,5 +227,5 @@ module _ (ts : List TokenKind) (d i : ℕ) where
     pub unary_deep : 64 ≤ d → RightOperand ts d i (stopped i Depth)
     unary_deep deep = unary_as (stopped i Depth) (deeper_deep d sign.0 (OneOperand (d + 1)) (operand_fills (d + 1)) sign.1 deep)
 
-    pub unary_then : d < 64 → (o : Outcome ExpressionTree) → RightOperand ts (d + 1) (i + 1) o → RightOperand ts d i (map_outcome (unary op) o)
+    pub unary_then : d < 64 → (o : ParseResult ExpressionTree) → RightOperand ts (d + 1) (i + 1) o → RightOperand ts d i (map_result (unary op) o)
     unary_then fits o x = unary_as o (deeper_then d Signed fits o (behind_then sign.0 (OneOperand (d + 1)) (token_found sign.0 ts i sign.1) o x))

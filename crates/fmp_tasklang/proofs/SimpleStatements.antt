@@ -2,7 +2,7 @@
 use Rattle.std.proofs.Common.{◌≡◌, ℕ, ◌+◌, ◌<◌, ◌≤◌, Bool, List, length, slice_get, Some, None, option_and_then, refl, sym, ap, ◌∙◌, arith}
 use Rattle.fmp_lex.specs.declared.reading.GrammarFault.{GrammarFault}
 use Rattle.fmp_lex.specs.declared.token.TokenKind.{TokenKind}
-use Rattle.fmp_lex.specs.Reading.{Rel, At, Seq, Item, Outcome, found, stopped, map_outcome, Right, Anywhere, RightToken, Same}
+use Rattle.fmp_lex.specs.Reading.{Rel, At, Seq, Item, ParseResult, found, stopped, map_result, Right, Anywhere, RightToken, Same}
 use Rattle.fmp_lex.proofs.Sequences.{Framed, Fills, item_framed, item_found, seq_then, seq_stop, right_as}
 use Rattle.fmp_lex.proofs.Repetitions.{Behind, Closed, behind_fills, behind_then, behind_stop, closed_fills, closed_found, closed_missing, closed_stop}
 use Rattle.fmp_tasklang.specs.declared.trees.Word.{Word}
@@ -40,7 +40,7 @@ module _ (ts : List TokenKind) (d : ℕ) where
     call_back us limit (by_value e) j at r = let f = expression_family us limit r in absurd (omega arith)
     call_back us limit (by_call c) j at r = (c, refl, r, tt)
 
-    pub source_call : (s : _) → option_and_then service_of (slice_get ts i) ≡ Some s → (o : Outcome Called) → RightCall ts d i o → RightSource ts d i (map_outcome by_call o)
+    pub source_call : (s : _) → option_and_then service_of (slice_get ts i) ≡ Some s → (o : ParseResult Called) → RightCall ts d i o → RightSource ts d i (map_result by_call o)
     source_call s is o x = right_as (OneCall d) (OneSource d) by_call (λ us limit c j r. r)
         (λ us limit e j at r ends. call_back us limit e j (ap family at ∙ service_family (slice_get ts i) s is) r) o x
 
@@ -49,7 +49,7 @@ module _ (ts : List TokenKind) (d : ℕ) where
     value_back us limit (by_value e) j none r ends = (e, refl, r, ends)
     value_back us limit (by_call c) j none r ends = let e : None ≡ Some c.service = sym none ∙ r.3.0 in absurd (cc)
 
-    pub source_value : None ≡ option_and_then service_of (slice_get ts i) → (o : Outcome ExpressionTree) → RightExpression ts d loosest i o → RightSource ts d i (map_outcome by_value o)
+    pub source_value : None ≡ option_and_then service_of (slice_get ts i) → (o : ParseResult ExpressionTree) → RightExpression ts d loosest i o → RightSource ts d i (map_result by_value o)
     source_value none o x = right_as (OneExpression d loosest) (OneSource d) by_value (λ us limit v j r. r)
         (λ us limit e j at r ends. value_back us limit e j (ap (option_and_then service_of) at ∙ sym none) r ends) o x
 
@@ -79,8 +79,8 @@ module _ (ts : List TokenKind) (d : ℕ) where
   Assigning = Seq OneWord (Behind equals Stored)
 
   module _ (i : ℕ) where
-    assignment_as : (o : Outcome (Word × SourceTree)) → Right (At Assigning i) Anywhere ts i o →
-        RightAssignment ts d i (map_outcome (λ (p : Word × SourceTree). assigned p.0 p.1) o)
+    assignment_as : (o : ParseResult (Word × SourceTree)) → Right (At Assigning i) Anywhere ts i o →
+        RightAssignment ts d i (map_result (λ (p : Word × SourceTree). assigned p.0 p.1) o)
     assignment_as o x = right_as Assigning (Assignment d) (λ p. assigned p.0 p.1)
         (λ us limit p j s. (p.0, p.1, refl, s.0, s.1, s.2.0, s.2.1, s.2.2.0, s.2.2.1, s.2.2.2))
         (λ us limit e j at r ends. ((r.0, r.1), r.2, (r.3, r.4, (r.5, r.6, (r.7, r.8, r.9))), tt)) o x
@@ -89,7 +89,7 @@ module _ (ts : List TokenKind) (d : ℕ) where
     target_stop j why x = assignment_as (stopped j why) (seq_stop OneWord (Behind equals Stored) word_framed (behind_fills equals Stored stored_fills) (λ us limit n b m y ends. tt) x)
 
     module _ (w : Word) (k : ℕ) (x : RightWord ts i (found w k)) where
-      after_target : (o : Outcome SourceTree) → Right (At (Behind equals Stored) k) Anywhere ts k o → RightAssignment ts d i (map_outcome (assigned w) o)
+      after_target : (o : ParseResult SourceTree) → Right (At (Behind equals Stored) k) Anywhere ts k o → RightAssignment ts d i (map_result (assigned w) o)
       after_target (found r j) y = assignment_as (found (w, r) j) (seq_then OneWord (Behind equals Stored) word_framed (λ us limit n b m y ends. tt) x (found r j) y)
       after_target (stopped j why) y = assignment_as (stopped j why) (seq_then OneWord (Behind equals Stored) word_framed (λ us limit n b m y ends. tt) x (stopped j why) y)
 
@@ -112,8 +112,8 @@ module _ (ts : List TokenKind) (d : ℕ) where
 
   -- call ;
   module _ (i : ℕ) where
-    plain_as : (o : Outcome Called) → Right (At (Closed (OneCall d) semicolon) i) Anywhere ts i o →
-        RightPlainCall ts d i (map_outcome (λ (c : Called). service_call (call_tree None c)) o)
+    plain_as : (o : ParseResult Called) → Right (At (Closed (OneCall d) semicolon) i) Anywhere ts i o →
+        RightPlainCall ts d i (map_result (λ (c : Called). service_call (call_tree None c)) o)
     plain_as o x = right_as (Closed (OneCall d) semicolon) (PlainCall d) (λ c. service_call (call_tree None c))
         (λ us limit c j r. (c, refl, r.0, r.1, r.2)) (λ us limit e j at r ends. (r.0, r.1, (r.2, r.3, r.4), tt)) o x
 

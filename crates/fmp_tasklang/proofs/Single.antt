@@ -10,7 +10,7 @@ use Rattle.fmp_tasklang.specs.declared.forms.Part.TheVariants as part
 use Rattle.fmp_tasklang.specs.declared.trees.Word.{Word}
 use Rattle.fmp_tasklang.specs.Trees.{ExpressionTree, number, StatementTree, service_call, Block, BodyTree}
 use Rattle.fmp_tasklang.specs.Views.{LinkTree}
-use Rattle.fmp_tasklang.specs.Expressions.{number_of, name_of, unary_of, loosest, IsWord, IsOperand, a_number, a_name, a_group, a_unary, IsExpression, an_operand, a_chain, AreLinks, no_link, a_link}
+use Rattle.fmp_tasklang.specs.Expressions.{token_number, name_of, unary_of, loosest, IsWord, IsOperand, a_number, a_name, a_group, a_unary, IsExpression, an_operand, a_chain, AreLinks, no_link, a_link}
 use Rattle.fmp_tasklang.specs.Calls.{service_of, call_parts, ArgumentTree, value, out, Called, called, call_tree, OnePart, Parts, OneCall}
 use Rattle.fmp_tasklang.specs.Statements.{jump_of, IsCondition, IsStatement, an_assignment, a_call, a_jump, an_if, a_while, IsIf, if_chosen, IsElse, no_else, an_else, IsOther, a_block, another_if, IsBlock, braces, AreStatements, no_statement, a_statement}
 use Rattle.fmp_tasklang.specs.Grammar.{body_kind_of, OneVariable, OneBody, Bodies}
@@ -46,7 +46,7 @@ module _ (ts : List TokenKind) where
   mutual
     operand_right : {d i : ℕ} {e : ExpressionTree} {j : ℕ} → IsOperand ts l d i e j → RightOperand ts d i (found e j)
     operand_right {d = d} {i = i} {j = j} (a_number {n = n} x) =
-        subst (λ k. RightOperand ts d i (found (number n) k)) (sym x.1) (number_found ts d i n (there number_of i n x.0) x.0)
+        subst (λ k. RightOperand ts d i (found (number n) k)) (sym x.1) (number_found ts d i n (there token_number i n x.0) x.0)
     operand_right {d = d} {i = i} {j = j} (a_name {w = w} x) =
         let no = name_excludes (slice_get ts i) w.name x.1.0 in
         name_as ts d i no.0 no.1 no.2 (found w j) (word_right i w j x)

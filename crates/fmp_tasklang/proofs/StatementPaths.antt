@@ -4,7 +4,7 @@ use Rattle.fmp_base.specs.declared.services.Service.{Service}
 use Rattle.fmp_lex.specs.declared.reading.GrammarFault.{GrammarFault}
 use Rattle.fmp_lex.specs.declared.reading.GrammarFault.TheVariants.{Syntax, Depth}
 use Rattle.fmp_lex.specs.declared.token.TokenKind.{TokenKind}
-use Rattle.fmp_lex.specs.Reading.{Rel, At, Seq, Star, OneToken, Outcome, found, stopped, map_outcome, Right, Anywhere, RightToken}
+use Rattle.fmp_lex.specs.Reading.{Rel, At, Seq, Star, OneToken, ParseResult, found, stopped, map_result, Right, Anywhere, RightToken}
 use Rattle.fmp_lex.proofs.Sequences.{Framed, Fills, Follows, token_found, seq_fills, seq_then, seq_stop, right_as}
 use Rattle.fmp_lex.proofs.Repetitions.{Behind, behind_then, closed_found, closed_missing, closed_stop, star_framed, star_none, star_more, star_stop}
 use Rattle.fmp_tasklang.specs.Trees.{ExpressionTree, StatementTree, while, Block}
@@ -87,20 +87,20 @@ module _ (us : List TokenKind) (limit d : ℕ) (loop : Bool) (i : ℕ) where
   assignment_to (w, by_call c, is, k, word, a, equals, b, x, semi) = a_call (Some w) a c b (k, word, equals) x semi is
 
 module _ (ts : List TokenKind) (d : ℕ) (loop : Bool) (i : ℕ) where
-  pub statement_call : (s : Service) → option_and_then service_of (slice_get ts i) ≡ Some s → (o : Outcome StatementTree) → RightPlainCall ts d i o → RightStatement ts d loop i o
+  pub statement_call : (s : Service) → option_and_then service_of (slice_get ts i) ≡ Some s → (o : ParseResult StatementTree) → RightPlainCall ts d i o → RightStatement ts d loop i o
   statement_call s is o x = right_same (PlainCall d) (OneStatement d loop) (λ us limit e j r. a_call None i r.0 r.2 refl r.3 r.4 r.1)
       (λ us limit e j at r ends. (call_back us limit d loop i (ap family at ∙ service_family (slice_get ts i) s is) r, tt)) o x
 
-  pub statement_jump : (a : StatementTree) → option_and_then (jump_of loop) (slice_get ts i) ≡ Some a → (o : Outcome StatementTree) → RightJump ts loop i o → RightStatement ts d loop i o
+  pub statement_jump : (a : StatementTree) → option_and_then (jump_of loop) (slice_get ts i) ≡ Some a → (o : ParseResult StatementTree) → RightJump ts loop i o → RightStatement ts d loop i o
   statement_jump a is o x = right_same (Jump loop) (OneStatement d loop) (λ us limit e j r. a_jump r.1 r.2)
       (λ us limit e j at r ends. (jump_back us limit d loop i a (ap (option_and_then (jump_of loop)) at ∙ is) r, tt)) o x
 
-  pub statement_if : slice_get ts i ≡ Some if_word → (o : Outcome StatementTree) → RightIf ts d loop i o → RightStatement ts d loop i o
+  pub statement_if : slice_get ts i ≡ Some if_word → (o : ParseResult StatementTree) → RightIf ts d loop i o → RightStatement ts d loop i o
   statement_if is o x = right_same (OneIf d loop) (OneStatement d loop) (λ us limit e j r. an_if r)
       (λ us limit e j at r ends. (if_back us limit d loop i (at ∙ is) r, ends)) o x
 
   pub statement_assignment : option_and_then service_of (slice_get ts i) ≡ None → option_and_then (jump_of loop) (slice_get ts i) ≡ None →
-      (slice_get ts i ≡ Some if_word → ⊥) → (slice_get ts i ≡ Some while_word → ⊥) → (o : Outcome StatementTree) → RightAssignment ts d i o → RightStatement ts d loop i o
+      (slice_get ts i ≡ Some if_word → ⊥) → (slice_get ts i ≡ Some while_word → ⊥) → (o : ParseResult StatementTree) → RightAssignment ts d i o → RightStatement ts d loop i o
   statement_assignment no_call no_jump no_if no_while o x = right_same (Assignment d) (OneStatement d loop) (λ us limit e j r. assignment_to us limit d loop i r)
       (λ us limit e j at r ends. (
         assignment_back us limit d loop i (ap (option_and_then service_of) at ∙ no_call) (ap (option_and_then (jump_of loop)) at ∙ no_jump)
@@ -113,8 +113,8 @@ module _ (ts : List TokenKind) (d : ℕ) (loop : Bool) (i : ℕ) where
     abbrev Looped : Rel (ExpressionTree × Block)
     Looped = Seq (Condition d) (OneBlock d true)
 
-    while_as : (o : Outcome (ExpressionTree × Block)) → Right (At Looped (i + 1)) Anywhere ts (i + 1) o →
-        RightStatement ts d loop i (map_outcome (λ (p : ExpressionTree × Block). while p.0 p.1) o)
+    while_as : (o : ParseResult (ExpressionTree × Block)) → Right (At Looped (i + 1)) Anywhere ts (i + 1) o →
+        RightStatement ts d loop i (map_result (λ (p : ExpressionTree × Block). while p.0 p.1) o)
     while_as o x = right_as (Behind while_word Looped) (OneStatement d loop) (λ p. while p.0 p.1)
         (λ us limit p j r. a_while r.1 r.2.1 r.2.2)
         (λ us limit e j at r ends. let b = while_back us limit d loop i (at ∙ is) r in (b.0, b.1, b.2, tt)) o
@@ -123,8 +123,8 @@ module _ (ts : List TokenKind) (d : ℕ) (loop : Bool) (i : ℕ) where
     pub while_test : (j : ℕ) (why : GrammarFault) → RightCondition ts d (i + 1) (stopped j why) → RightStatement ts d loop i (stopped j why)
     while_test j why x = while_as (stopped j why) (seq_stop (Condition d) (OneBlock d true) (condition_framed d) (block_fills d true) (λ us limit n b m y ends. tt) x)
 
-    pub while_body : (e : ExpressionTree) (k : ℕ) → RightCondition ts d (i + 1) (found e k) → (o : Outcome Block) → RightBlock ts d true k o →
-        RightStatement ts d loop i (map_outcome (while e) o)
+    pub while_body : (e : ExpressionTree) (k : ℕ) → RightCondition ts d (i + 1) (found e k) → (o : ParseResult Block) → RightBlock ts d true k o →
+        RightStatement ts d loop i (map_result (while e) o)
     while_body e k x (found b j) y = while_as (found (e, b) j) (seq_then (Condition d) (OneBlock d true) (condition_framed d) (λ us limit n b m y ends. tt) x (found b j) y)
     while_body e k x (stopped j why) y = while_as (stopped j why) (seq_then (Condition d) (OneBlock d true) (condition_framed d) (λ us limit n b m y ends. tt) x (stopped j why) y)
 
@@ -151,7 +151,7 @@ module _ (d : ℕ) (loop : Bool) where
       ((e, (body, other)), is, (a, x, (b, test, (c, block, o))))
 
   module _ (ts : List TokenKind) (i : ℕ) (is : slice_get ts i ≡ Some if_word) where
-    if_as : (o : Outcome (ExpressionTree × (Block × Option Block))) → Right (At Chosen (i + 1)) EndsElse ts (i + 1) o → RightIf ts d loop i (map_outcome choice_of o)
+    if_as : (o : ParseResult (ExpressionTree × (Block × Option Block))) → Right (At Chosen (i + 1)) EndsElse ts (i + 1) o → RightIf ts d loop i (map_result choice_of o)
     if_as o x = right_as (Behind if_word Chosen) (OneIf d loop) choice_of (λ us limit p j r. if_chosen r.1 r.2.1 r.2.2.1 r.2.2.2 refl)
         (λ us limit e j at r ends. let b = chosen_from us limit i e j r in (b.0, b.1, b.2, ends)) o
         (behind_then if_word Chosen (token_found if_word ts i is) o x)
@@ -164,8 +164,8 @@ module _ (d : ℕ) (loop : Bool) where
       if_then_stop j why y = if_as (stopped j why) (seq_then (Condition d) Branches (condition_framed d) (λ us limit n b m y ends. tt) x (stopped j why)
           (seq_stop (OneBlock d loop) (Else d loop) (block_framed d loop) (else_fills d loop) (λ us limit n b m y ends. tt) y))
 
-      pub if_otherwise : (body : Block) (l : ℕ) → RightBlock ts d loop k (found body l) → (o : Outcome (Option Block)) → RightElse ts d loop l o →
-          RightIf ts d loop i (map_outcome (choice e body) o)
+      pub if_otherwise : (body : Block) (l : ℕ) → RightBlock ts d loop k (found body l) → (o : ParseResult (Option Block)) → RightElse ts d loop l o →
+          RightIf ts d loop i (map_result (choice e body) o)
       if_otherwise body l y (found other j) z =
           if_as (found (e, (body, other)) j) (seq_then (Condition d) Branches (condition_framed d)
           (λ us limit n b m y ends. tt) x (found (body, other) j)
@@ -193,7 +193,7 @@ module _ (d : ℕ) (loop : Bool) where
       decides = λ us limit e j same low r ends. else_none us limit i e j (λ is. is_not (same i (omega arith) ∙ is)) r;
     }
 
-    pub with_else : slice_get ts i ≡ Some else_word → (o : Outcome Block) → RightOther ts d loop (i + 1) o → RightElse ts d loop i (map_outcome Some o)
+    pub with_else : slice_get ts i ≡ Some else_word → (o : ParseResult Block) → RightOther ts d loop (i + 1) o → RightElse ts d loop i (map_result Some o)
     with_else is o x = right_as (Behind else_word (Other d loop)) (Else d loop) Some (λ us limit b j r. an_else r.1 r.2)
         (λ us limit e j at r ends. let b = else_some us limit i e j (at ∙ is) ends r in (b.0, b.1, b.2, ends)) o
         (behind_then else_word (Other d loop) (token_found else_word ts i is) o x)
@@ -203,7 +203,7 @@ module _ (d : ℕ) (loop : Bool) where
     other_block us limit b j is_not (a_block x) = x
     other_block us limit b j is_not (another_if fits (if_chosen x test body o is) eq) = absurd (is_not x.0)
 
-    pub block_other : (slice_get ts i ≡ Some if_word → ⊥) → (o : Outcome Block) → RightBlock ts d loop i o → RightOther ts d loop i o
+    pub block_other : (slice_get ts i ≡ Some if_word → ⊥) → (o : ParseResult Block) → RightBlock ts d loop i o → RightOther ts d loop i o
     block_other is_not o x = right_same (OneBlock d loop) (Other d loop) (λ us limit b j r. a_block r)
         (λ us limit e j at r ends. (other_block us limit e j (λ is. is_not (sym at ∙ is)) r, tt)) o x
 
@@ -216,7 +216,7 @@ module _ (d : ℕ) (loop : Bool) where
     other_if us limit b j at (another_if {s = s} fits x is) = (s, is, (fits, x))
 
     module _ (is : slice_get ts i ≡ Some if_word) where
-      pub if_other : d < 64 → (o : Outcome StatementTree) → RightIf ts (d + 1) loop i o → RightOther ts d loop i (map_outcome alone o)
+      pub if_other : d < 64 → (o : ParseResult StatementTree) → RightIf ts (d + 1) loop i o → RightOther ts d loop i (map_result alone o)
       if_other fits o x = right_as (Deeper d (OneIf (d + 1) loop)) (Other d loop) alone (λ us limit s j r. another_if r.0 r.1 refl)
           (λ us limit e j at r ends. let b = other_if us limit e j (at ∙ is) r in (b.0, b.1, b.2, ends)) o (deeper_then d (OneIf (d + 1) loop) fits o x)
 
@@ -245,8 +245,8 @@ module _ (d : ℕ) (loop : Bool) where
         (λ us limit s k at x. none_begins us limit d loop (brace_begins_none loop (slice_get us i) (at ∙ is)) x) within
 
     module _ (is_not : slice_get ts i ≡ Some close_brace → ⊥) where
-      pub statements_more : (s : StatementTree) (k : ℕ) → RightStatement ts d loop i (found s k) → (o : Outcome (List StatementTree)) → RightStatements ts d loop k o →
-          RightStatements ts d loop i (map_outcome (λ (more : List StatementTree). s ∷ more) o)
+      pub statements_more : (s : StatementTree) (k : ℕ) → RightStatement ts d loop i (found s k) → (o : ParseResult (List StatementTree)) → RightStatements ts d loop k o →
+          RightStatements ts d loop i (map_result (λ (more : List StatementTree). s ∷ more) o)
       statements_more s k x o rest = star_more (OneStatement d loop) EndsElse EndsStatements ts i (statement_framed d loop) statements_follow
           (λ us at ends. is_not (sym at ∙ ends)) s k x o rest
 
@@ -266,7 +266,7 @@ module _ (d : ℕ) (loop : Bool) where
   braces_from us limit i b j (braces {a = a} {b = k} {ss = ss} fits x inner y is) = (ss, is, (fits, (a, x, (k, to_star us limit (d + 1) loop inner, y))), tt)
 
   module _ (ts : List TokenKind) (i : ℕ) where
-    block_as : (o : Outcome (List StatementTree)) → Right (At (Braces d loop) i) Anywhere ts i o → RightBlock ts d loop i (map_outcome block_of o)
+    block_as : (o : ParseResult (List StatementTree)) → Right (At (Braces d loop) i) Anywhere ts i o → RightBlock ts d loop i (map_result block_of o)
     block_as o x = right_as (Braces d loop) (OneBlock d loop) block_of (λ us limit ss j r. braces_to d loop us limit i ss j r)
         (λ us limit b j at r ends. braces_from us limit i b j r) o x
 
@@ -277,7 +277,7 @@ module _ (d : ℕ) (loop : Bool) where
       pub block_deep : 64 ≤ d → RightBlock ts d loop i (stopped i Depth)
       block_deep deep = block_as (stopped i Depth) (deeper_deep d open_brace (Inside d loop) (inside_fills d loop) is deep)
 
-      block_inside : d < 64 → (o : Outcome (List StatementTree)) → Right (At (Inside d loop) (i + 1)) Anywhere ts (i + 1) o → RightBlock ts d loop i (map_outcome block_of o)
+      block_inside : d < 64 → (o : ParseResult (List StatementTree)) → Right (At (Inside d loop) (i + 1)) Anywhere ts (i + 1) o → RightBlock ts d loop i (map_result block_of o)
       block_inside fits o x = block_as o (deeper_then d (Behind open_brace (Inside d loop)) fits o (behind_then open_brace (Inside d loop) (token_found open_brace ts i is) o x))
 
       pub block_stop : d < 64 → (j : ℕ) (why : GrammarFault) → RightStatements ts (d + 1) loop (i + 1) (stopped j why) → RightBlock ts d loop i (stopped j why)

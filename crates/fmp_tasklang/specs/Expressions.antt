@@ -16,10 +16,10 @@ use Rattle.fmp_tasklang.specs.Trees.{ExpressionTree, number, named, unary}
 use Rattle.fmp_tasklang.specs.Views.{LinkTree, chain_tree}
 
 -- the number that a token stands for: a constant is its value
-abbrev pub number_of : TokenKind → Option ℤ
-number_of (kind.Number n) = Some n
-number_of (kind.Constant c) = Some (constant_value c)
-number_of _ = None
+abbrev pub token_number : TokenKind → Option ℤ
+token_number (kind.Number n) = Some n
+token_number (kind.Constant c) = Some (constant_value c)
+token_number _ = None
 
 -- the name that a token is; words are none
 abbrev pub name_of : TokenKind → Option Name
@@ -66,7 +66,7 @@ module _ (ts : List TokenKind) (limit : ℕ) where
   mutual
     -- a number, a constant, a name, an expression in parentheses, or an operand behind a unary operator
     pub data IsOperand : ℕ → ℕ → ExpressionTree → ℕ → Type 0 where
-      a_number : {d i j : ℕ} {n : ℤ} → IsItem number_of ts i n j → IsOperand d i (number n) j
+      a_number : {d i j : ℕ} {n : ℤ} → IsItem token_number ts i n j → IsOperand d i (number n) j
       a_name : {d i j : ℕ} {w : Word} → IsWord ts i w j → IsOperand d i (named w) j
       a_group : {d i a b j : ℕ} {e : ExpressionTree} → Allows limit i d
           → IsToken ts (kind.Symbol symbol.LeftParen) i a →

@@ -13,7 +13,7 @@ use Rattle.fmp_lex.specs.declared.token.TokenKind.{TokenKind}
 use Rattle.fmp_lex.specs.declared.token.TokenKind.TheVariants as kind
 use Rattle.fmp_base.specs.declared.words.Keyword.TheVariants as keyword
 use Rattle.fmp_lex.specs.Faults.{Spells, IsSyntaxFault}
-use Rattle.fmp_lex.specs.Reading.{Rel, At, IsToken, IsItem, Item, Star, Outcome, Right, Anywhere, IsWhole, IsFirstFault}
+use Rattle.fmp_lex.specs.Reading.{Rel, At, IsToken, IsItem, Item, Star, ParseResult, Right, Anywhere, IsWhole, IsFirstFault}
 use Rattle.fmp_base.specs.declared.services.Service.{Service}
 use Rattle.fmp_tasklang.specs.declared.calls.Argument.{Argument}
 use Rattle.fmp_tasklang.specs.declared.calls.Argument.TheVariants as argument
@@ -72,7 +72,7 @@ assigned w (by_call c) = service_call (call_tree (Some w) c)
 abbrev pub Jump : Bool → Rel StatementTree
 Jump loop ts limit i s j = (a : ℕ) × IsItem (jump_of loop) ts i s a × IsToken ts (kind.Symbol symbol.Semicolon) a j
 
-abbrev pub RightJump : List TokenKind → Bool → ℕ → Outcome StatementTree → Type 0
+abbrev pub RightJump : List TokenKind → Bool → ℕ → ParseResult StatementTree → Type 0
 RightJump ts loop i = Right (At (Jump loop) i) Anywhere ts i
 
 -- the relations of the grammar as readings
@@ -137,73 +137,73 @@ module _ (d : ℕ) where
 
 -- when the outcome of reading from i on is right
 module _ (ts : List TokenKind) where
-  abbrev pub RightWord : ℕ → Outcome Word → Type 0
+  abbrev pub RightWord : ℕ → ParseResult Word → Type 0
   RightWord i = Right (At OneWord i) Anywhere ts i
 
-  abbrev pub RightVariable : ℕ → Outcome Word → Type 0
+  abbrev pub RightVariable : ℕ → ParseResult Word → Type 0
   RightVariable i = Right (At OneVariable i) Anywhere ts i
 
-  abbrev pub RightVariables : ℕ → Outcome (List Word) → Type 0
+  abbrev pub RightVariables : ℕ → ParseResult (List Word) → Type 0
   RightVariables i = Right (At (Star OneVariable) i) EndsVariables ts i
 
-  abbrev pub RightBody : ℕ → Outcome BodyTree → Type 0
+  abbrev pub RightBody : ℕ → ParseResult BodyTree → Type 0
   RightBody i = Right (At OneBody i) Anywhere ts i
 
-  abbrev pub RightBodies : ℕ → Outcome (List BodyTree) → Type 0
+  abbrev pub RightBodies : ℕ → ParseResult (List BodyTree) → Type 0
   RightBodies i = Right (At Bodies i) EndsBodies ts i
 
   module _ (d : ℕ) where
-    abbrev pub RightOperand : ℕ → Outcome ExpressionTree → Type 0
+    abbrev pub RightOperand : ℕ → ParseResult ExpressionTree → Type 0
     RightOperand i = Right (At (OneOperand d) i) Anywhere ts i
 
-    abbrev pub RightExpression : ℕ → ℕ → Outcome ExpressionTree → Type 0
+    abbrev pub RightExpression : ℕ → ℕ → ParseResult ExpressionTree → Type 0
     RightExpression l i = Right (At (OneExpression d l) i) (EndsExpression l) ts i
 
-    abbrev pub RightLinks : ℕ → ℕ → Outcome (List LinkTree) → Type 0
+    abbrev pub RightLinks : ℕ → ℕ → ParseResult (List LinkTree) → Type 0
     RightLinks m i = Right (At (Star (OneLink d m)) i) (EndsExpression (m + 1)) ts i
 
-    abbrev pub RightCondition : ℕ → Outcome ExpressionTree → Type 0
+    abbrev pub RightCondition : ℕ → ParseResult ExpressionTree → Type 0
     RightCondition i = Right (At (Condition d) i) Anywhere ts i
 
-    abbrev pub RightPart : Part → ℕ → Outcome (Option ArgumentTree) → Type 0
+    abbrev pub RightPart : Part → ℕ → ParseResult (Option ArgumentTree) → Type 0
     RightPart p i = Right (At (OnePart d p) i) Anywhere ts i
 
-    abbrev pub RightParts : List Part → ℕ → Outcome (List ArgumentTree) → Type 0
+    abbrev pub RightParts : List Part → ℕ → ParseResult (List ArgumentTree) → Type 0
     RightParts ps i = Right (At (Parts d ps) i) Anywhere ts i
 
-    abbrev pub RightCall : ℕ → Outcome Called → Type 0
+    abbrev pub RightCall : ℕ → ParseResult Called → Type 0
     RightCall i = Right (At (OneCall d) i) Anywhere ts i
 
     -- the outcome of the arguments of a call, in the call
-    abbrev pub RightArguments : Service → List Part → ℕ → Outcome Called → Type 0
+    abbrev pub RightArguments : Service → List Part → ℕ → ParseResult Called → Type 0
     RightArguments s ps i = Right (At (Arguments d s ps) i) Anywhere ts i
 
-    abbrev pub RightSource : ℕ → Outcome SourceTree → Type 0
+    abbrev pub RightSource : ℕ → ParseResult SourceTree → Type 0
     RightSource i = Right (At (OneSource d) i) (EndsExpression loosest) ts i
 
-    abbrev pub RightAssignment : ℕ → Outcome StatementTree → Type 0
+    abbrev pub RightAssignment : ℕ → ParseResult StatementTree → Type 0
     RightAssignment i = Right (At (Assignment d) i) Anywhere ts i
 
-    abbrev pub RightPlainCall : ℕ → Outcome StatementTree → Type 0
+    abbrev pub RightPlainCall : ℕ → ParseResult StatementTree → Type 0
     RightPlainCall i = Right (At (PlainCall d) i) Anywhere ts i
 
     module _ (loop : Bool) where
-      abbrev pub RightStatement : ℕ → Outcome StatementTree → Type 0
+      abbrev pub RightStatement : ℕ → ParseResult StatementTree → Type 0
       RightStatement i = Right (At (OneStatement d loop) i) EndsElse ts i
 
-      abbrev pub RightIf : ℕ → Outcome StatementTree → Type 0
+      abbrev pub RightIf : ℕ → ParseResult StatementTree → Type 0
       RightIf i = Right (At (OneIf d loop) i) EndsElse ts i
 
-      abbrev pub RightElse : ℕ → Outcome (Option Block) → Type 0
+      abbrev pub RightElse : ℕ → ParseResult (Option Block) → Type 0
       RightElse i = Right (At (Else d loop) i) EndsElse ts i
 
-      abbrev pub RightOther : ℕ → Outcome Block → Type 0
+      abbrev pub RightOther : ℕ → ParseResult Block → Type 0
       RightOther i = Right (At (Other d loop) i) EndsElse ts i
 
-      abbrev pub RightBlock : ℕ → Outcome Block → Type 0
+      abbrev pub RightBlock : ℕ → ParseResult Block → Type 0
       RightBlock i = Right (At (OneBlock d loop) i) Anywhere ts i
 
-      abbrev pub RightStatements : ℕ → Outcome (List StatementTree) → Type 0
+      abbrev pub RightStatements : ℕ → ParseResult (List StatementTree) → Type 0
       RightStatements i = Right (At (Star (OneStatement d loop)) i) EndsStatements ts i
 
 -- what the vectors of the code hold

@@ -19,8 +19,8 @@ pub const LOOSEST: usize = 9;
 /// How many levels of nesting may be open at once.
 pub const MAX_DEPTH: usize = 64;
 
-fn number_of(kind: TokenKind) -> Option<i32>
-    ensures { result ≡ expressions.number_of kind }
+fn token_number(kind: TokenKind) -> Option<i32>
+    ensures { result ≡ expressions.token_number kind }
 {
     match kind {
         TokenKind::Number(number) => Some(number),
@@ -113,11 +113,11 @@ fn body_kind_of(kind: TokenKind) -> Option<BodyKind>
 
 /// The number that the token at a place stands for.
 pub fn number_at(tokens: &Tokens<'_>, at: usize) -> Option<i32>
-    ensures value { result ≡ option_and_then expressions.number_of (slice_get (kinds_of tokens.now) at) }
+    ensures value { result ≡ option_and_then expressions.token_number (slice_get (kinds_of tokens.now) at) }
     ensures within { IfSome result (λ _. at < length tokens.now) }
     ensures room { IfSome result (λ _. at + 1 < 2 ^ 64) }
 {
-    number_of(kind_at(tokens, at)?)
+    token_number(kind_at(tokens, at)?)
 }
 
 /// The name at a place.

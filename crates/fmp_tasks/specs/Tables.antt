@@ -7,7 +7,7 @@ use Rattle.fmp_base.specs.declared.events.Line.{Line}
 use Rattle.fmp_base.specs.declared.states.Handler.{Handler}
 use Rattle.fmp_base.specs.declared.states.Handler.TheVariants as handler
 use Rattle.fmp_base.specs.declared.states.TaskBlock.{TaskBlock}
-use Rattle.fmp_base.specs.Outcomes.{Outcome}
+use Rattle.fmp_base.specs.Outcomes.{CallOutcome}
 use Rattle.fmp_base.specs.Ranges.{IsInRange}
 use Rattle.fmp_base.specs.States.{KernelState, Progress}
 use Rattle.fmp_base.specs.Systems.{SystemTables, tables_of}
@@ -91,7 +91,7 @@ abbrev pub progress : TablesView → List Line → Progress
 progress h lines = record { state = h.state; lines = lines }
 
 -- what a call answered, and its progress
-abbrev pub outcome : Answer → TablesView → List Line → Outcome
+abbrev pub outcome : Answer → TablesView → List Line → CallOutcome
 outcome answer h lines = record { answer = answer; progress = progress h lines }
 
 -- what every call leaves alone: the tables of the system, and the clock

@@ -9,10 +9,10 @@ use Rattle.fmp_base.specs.declared.events.Event.{Event}
 use Rattle.fmp_base.specs.declared.events.Event.TheVariants as event
 use Rattle.fmp_steps.specs.declared.faults.Flaw.TheVariants as flaw
 use Rattle.fmp_steps.specs.declared.faults.StepsFault.TheVariants as fault
-use Rattle.fmp_steps.specs.Steps.{lines_of, number_of, ranged_number, numbered_event, line_meaning, event_of_line, fault_at, in_front, events_of, event_text, steps_text}
+use Rattle.fmp_steps.specs.Steps.{lines_of, numeral_value, ranged_number, numbered_event, line_meaning, event_of_line, fault_at, in_front, events_of, event_text, steps_text}
 use Rattle.fmp_trace.specs.StepsLaws.{IsStep, PrintedStepsReadBack}
 use Rattle.fmp_steps.proofs.LinesOf.{IsLine, lines_of-ended}
-use Rattle.fmp_steps.proofs.Numbers.{number_of-decimal, decimal_digits}
+use Rattle.fmp_steps.proofs.Numbers.{numeral_value-decimal, decimal_digits}
 
 -- no digit is a line feed
 digit_in_line : (d : ℕ) (rest : Bool) → (is_ascii_digit d && rest) ≡ true → (nat_eq d 10 ≡ false) × (rest ≡ true)
@@ -24,9 +24,9 @@ digits_in_line (d ∷ ds) h =
     let p = digit_in_line d (all_ascii_digits ds) h in (p.0, digits_in_line ds p.1)
 
 -- a number from 1 to most is in range
-ranged_number-decimal : (most n : ℕ) → 1 ≤ n → n ≤ most → most < 256 → ranged_number most (number_of (decimal n)) ≡ Ok n
+ranged_number-decimal : (most n : ℕ) → 1 ≤ n → n ≤ most → most < 256 → ranged_number most (numeral_value (decimal n)) ≡ Ok n
 ranged_number-decimal most n low high small =
-    ap (ranged_number most) (number_of-decimal n low (omega arith))
+    ap (ranged_number most) (numeral_value-decimal n low (omega arith))
     ∙ (ap (λ t. cond (t && nat_le n most) (Ok n) (Err flaw.Range)) (le-leb 1 n low) ∙ ap (λ t. cond t (Ok n) (Err flaw.Range)) (le-leb n most high))
 
 line_meaning-event_text : (processors : ℕ) (e : Event) → processors < 256 → IsStep processors e → line_meaning processors (event_text e) ≡ Ok e

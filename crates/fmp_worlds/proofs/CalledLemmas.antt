@@ -7,7 +7,7 @@ use Rattle.fmp_base.specs.declared.states.Caller.TheVariants as caller
 use Rattle.fmp_base.specs.declared.states.Handler.{Handler}
 use Rattle.fmp_base.specs.declared.states.TimeLimit.TheVariants.{Forever, Poll}
 use Rattle.fmp_base.specs.Calls.{case_of, called}
-use Rattle.fmp_base.specs.Outcomes.{Outcome, refused_if}
+use Rattle.fmp_base.specs.Outcomes.{CallOutcome, refused_if}
 use Rattle.fmp_base.specs.Permissions.{permission, is_barred, is_caller}
 use Rattle.fmp_base.specs.ProcessorCalls.{is_cpu_locked}
 use Rattle.fmp_base.specs.Services.{service_of}
@@ -87,7 +87,7 @@ by_task sys s p me (call.UnlSpn lock) h = keeps-unl_spn sys s p lock
 by_task sys s p me c h = cc
 
 -- a call for handlers
-unless_locked : (sys : SystemTables) (s : KernelState) (p : ℕ) (o : Outcome) → Keeps (Unit {0}) p None sys s o
+unless_locked : (sys : SystemTables) (s : KernelState) (p : ℕ) (o : CallOutcome) → Keeps (Unit {0}) p None sys s o
     → Keeps (Unit {0}) p None sys s (refused_if (is_cpu_locked (processor_at s p)) s er.Ctx o)
 unless_locked sys s p o h = keeps-refused_if sys s (is_cpu_locked (processor_at s p)) er.Ctx o (λ e. h)
 

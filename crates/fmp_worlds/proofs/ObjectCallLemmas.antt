@@ -9,7 +9,7 @@ use Rattle.fmp_base.specs.declared.states.WaitCause.TheVariants as cause
 use Rattle.fmp_base.specs.declared.states.WaitQueue.TheVariants as queue
 use Rattle.fmp_base.specs.FlagCalls as flags
 use Rattle.fmp_base.specs.FlagCalls.{walk, walked, is_satisfied, satisfies, mode_of, pattern_at, is_empty, bits_set, with_pattern}
-use Rattle.fmp_base.specs.Outcomes.{Outcome, code, given, limit_of, numbered, ranged}
+use Rattle.fmp_base.specs.Outcomes.{CallOutcome, code, given, limit_of, numbered, ranged}
 use Rattle.fmp_base.specs.Queues.{first_waiting, wait_queue}
 use Rattle.fmp_base.specs.SemaphoreCalls as semaphores
 use Rattle.fmp_base.specs.States.{KernelState, Progress, unchanged, task_at}
@@ -138,7 +138,7 @@ module _ {K : Type 0} {own : ℕ} {who : Option ℕ} (sys : SystemTables) (s : K
       keeps-refused_if sys s (not (flag_config sys f).multiple && not (is_empty (wait_queue sys s (queue.Flag f)))) er.Iluse _
       (λ e. awaited_by (satisfies m pattern (pattern_at s f)) me limit f pattern m w)
 
-  flag_tested : (f b o : ℤ) (go : ℕ → ℕ → FlagMode → Outcome) → ((i bits : ℕ) (m : FlagMode) → Keeps K own who sys s (go i bits m))
+  flag_tested : (f b o : ℤ) (go : ℕ → ℕ → FlagMode → CallOutcome) → ((i bits : ℕ) (m : FlagMode) → Keeps K own who sys s (go i bits m))
       → Keeps K own who sys s (flags.flag_tested s f b o go)
   flag_tested f b o go h =
       keeps-tested sys s er.Id (numbered (length s.flags) f) _ (λ i. keeps-tested sys s er.Par (ranged 1 65535 b) _ (λ bits. keeps-tested sys s er.Par (mode_of o) _ (λ m. h i bits m)))

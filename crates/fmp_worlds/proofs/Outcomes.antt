@@ -11,7 +11,7 @@ use Rattle.fmp_base.specs.declared.states.TaskBlock.{TaskBlock}
 use Rattle.fmp_base.specs.declared.states.TimeLimit.{TimeLimit}
 use Rattle.fmp_base.specs.declared.states.TimeLimit.TheVariants as limit
 use Rattle.fmp_base.specs.declared.states.WaitCause.{WaitCause}
-use Rattle.fmp_base.specs.Outcomes.{Outcome, refused, succeeds, succeeds_in, gives, waits, waits_within, tested, refused_if, on_task}
+use Rattle.fmp_base.specs.Outcomes.{CallOutcome, refused, succeeds, succeeds_in, gives, waits, waits_within, tested, refused_if, on_task}
 use Rattle.fmp_base.specs.Settles.{pending_handler}
 use Rattle.fmp_base.specs.States.{KernelState, Progress, unchanged, task_at, processor_at, with_last}
 use Rattle.fmp_base.specs.Systems.{SystemTables}
@@ -32,7 +32,7 @@ IsEnded None g = ⊥
 IsEnded (Some t) g = IsReady g.state t → IsTold t g.lines
 
 -- where K is known of the caller, on processor own; it is the task `who`, or a handler
-pub record Keeps (K : Type 0) (own : ℕ) (who : Option ℕ) (sys : SystemTables) (s : KernelState) (o : Outcome) : Type 0 where
+pub record Keeps (K : Type 0) (own : ℕ) (who : Option ℕ) (sys : SystemTables) (s : KernelState) (o : CallOutcome) : Type 0 where
   pub settles : K → Holds s → CanSettle sys o.progress.state
   pub spins : o.answer ≡ Spins → o.progress ≡ unchanged s
   pub waits : o.answer ≡ Waits → IsAway who o.progress.state
@@ -133,21 +133,21 @@ module _ {K : Type 0} {own : ℕ} {who : Option ℕ} (sys : SystemTables) (s : K
   keeps-within limit.Poll t c w = keeps-refused er.Tmout
   keeps-within (limit.Ticks n) t c w = keeps-waits t c _ w
 
-  pub keeps-tested : {A : Type 0} (e : Er) (o : Option A) (go : A → Outcome) → ((a : A) → Keeps K own who sys s (go a))
+  pub keeps-tested : {A : Type 0} (e : Er) (o : Option A) (go : A → CallOutcome) → ((a : A) → Keeps K own who sys s (go a))
       → Keeps K own who sys s (tested s e o go)
   keeps-tested e None go h = keeps-refused e
   keeps-tested e (Some a) go h = h a
 
-  pub keeps-refused_if : (b : Bool) (e : Er) (o : Outcome) → (b ≡ false → Keeps K own who sys s o)
+  pub keeps-refused_if : (b : Bool) (e : Er) (o : CallOutcome) → (b ≡ false → Keeps K own who sys s o)
       → Keeps K own who sys s (refused_if b s e o)
   keeps-refused_if true e o h = keeps-refused e
   keeps-refused_if false e o h = h refl
 
-  pub keeps-on_task : (o : Option ℕ) (go : ℕ → TaskBlock → Outcome)
+  pub keeps-on_task : (o : Option ℕ) (go : ℕ → TaskBlock → CallOutcome)
       → ((t : ℕ) → o ≡ Some t → Keeps K own who sys s (go t (task_at s.tasks t))) → Keeps K own who sys s (on_task s o go)
   keeps-on_task None go h = keeps-refused er.Id
   keeps-on_task (Some t) go h = h t refl
 
-  pub keeps-if : (b : Bool) (o p : Outcome) → Keeps K own who sys s o → Keeps K own who sys s p → Keeps K own who sys s (if b then o else p)
+  pub keeps-if : (b : Bool) (o p : CallOutcome) → Keeps K own who sys s o → Keeps K own who sys s p → Keeps K own who sys s (if b then o else p)
   keeps-if true o p h k = h
   keeps-if false o p h k = k

@@ -1,7 +1,7 @@
 use Rattle.std.proofs.Common.{◌≡◌, ◌≤◌, ◌++◌, ◌∷◌, List, [], length, map, sym, arith, append-nil}
 use Rattle.std.proofs.lemmas.List.{length-map, map-append}
 use Rattle.std.proofs.lemmas.Result.{err_from_is_err_and}
-use Rattle.fmp_lex.specs.Reading.{kinds_of, found, stopped, map_outcome}
+use Rattle.fmp_lex.specs.Reading.{kinds_of, found, stopped, map_result}
 use Rattle.fmp_lex.proofs.Answered.{err_as}
 use Rattle.fmp_cfgparse.specs.Reading.{RightApi, RightApis}
 use Rattle.fmp_cfgparse.specs.Trees.{ApiTree, api_view, apis_view}
@@ -40,7 +40,7 @@ apis-preserved c =
     let pushed : map api_view c.push.new.self.items ≡ xs ++ a ∷ [] = rw c.in_ok-push.ensures.items (map-append api_view c.apis.found.items (c.in_ok-one.one ∷ [])) in
     record {
       within = within;
-      goes = rw pushed (λ o rest. push_before xs a o (RightApis ts i) (c.apis.invariant.goes (map_outcome (λ (more : List ApiTree). a ∷ more) o)
+      goes = rw pushed (λ o rest. push_before xs a o (RightApis ts i) (c.apis.invariant.goes (map_result (λ (more : List ApiTree). a ∷ more) o)
           (more_apis ts m c.in-Some.kind (sym c.in-Some.ensures.value) a k x o rest)));
     }
 

@@ -1,5 +1,5 @@
 use Rattle.std.proofs.Common.{◌≤◌, ◌-◌, List, length}
-use Rattle.fmp_lex.specs.Reading.{kinds_of, Outcome, map_outcome}
+use Rattle.fmp_lex.specs.Reading.{kinds_of, ParseResult, map_result}
 use Rattle.fmp_cfgparse.specs.Reading.{RightApis}
 use Rattle.fmp_cfgparse.specs.Trees.{ApiTree, apis_view}
 use Rattle.fmp_lex.proofs.Repetitions.{put_before}
@@ -8,7 +8,7 @@ use Rattle.fmp_cfgparse.proofs.syntax.apis.Given as goal
 abbrev pub invariant-apis : goal.invariant-apis
 invariant-apis l = record {
   within : l.i ≤ length l.tokens;
-  goes : (o : Outcome (List ApiTree)) → RightApis (kinds_of l.tokens) l.i o → RightApis (kinds_of l.tokens) l.at (map_outcome (put_before (apis_view l.found)) o);
+  goes : (o : ParseResult (List ApiTree)) → RightApis (kinds_of l.tokens) l.i o → RightApis (kinds_of l.tokens) l.at (map_result (put_before (apis_view l.found)) o);
 }
 
 abbrev pub decreases-apis : goal.decreases-apis

@@ -1,7 +1,7 @@
 use Rattle.std.proofs.Common.{◌≡◌, ◌≤◌, ◌++◌, ◌∷◌, List, [], length, map, refl, arith, rules, append-nil}
 use Rattle.std.proofs.lemmas.List.{length-map, map-append}
 use Rattle.std.proofs.lemmas.Result.{err_from_is_err_and}
-use Rattle.fmp_lex.specs.Reading.{kinds_of, found, stopped, map_outcome}
+use Rattle.fmp_lex.specs.Reading.{kinds_of, found, stopped, map_result}
 use Rattle.fmp_lex.proofs.Answered.{err_as}
 use Rattle.fmp_cfgparse.specs.Reading.{RightClass, RightClasses}
 use Rattle.fmp_cfgparse.specs.Trees.{ClassTree, class_view, classes_view}
@@ -40,7 +40,7 @@ classes-preserved c =
     let pushed : map class_view c.push.new.self.items ≡ xs ++ a ∷ [] = rw c.in_ok-push.ensures.items (map-append class_view c.classes.found.items (c.in_ok-one.one ∷ [])) in
     record {
       within = within;
-      goes = rw pushed (λ o rest. push_before xs a o (RightClasses ts i) (c.classes.invariant.goes (map_outcome (λ (more : List ClassTree). a ∷ more) o)
+      goes = rw pushed (λ o rest. push_before xs a o (RightClasses ts i) (c.classes.invariant.goes (map_result (λ (more : List ClassTree). a ∷ more) o)
           (more_classes ts m (c.classes-test.ensures.yes (search rules)) a k x o rest)));
     }
 

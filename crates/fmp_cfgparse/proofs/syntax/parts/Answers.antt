@@ -1,7 +1,7 @@
 use Rattle.std.proofs.Common.{◌≡◌, ◌+◌, ◌≤◌, [], ◌∷◌, ◌++◌, length, drop, get_or, arith, sym, subst, append-nil, add-one, drop-cons}
 use Rattle.std.proofs.lemmas.List.{length-map}
 use Rattle.std.proofs.lemmas.Result.{err_from_is_err_and}
-use Rattle.fmp_lex.specs.Reading.{kinds_of, found, stopped, map_outcome}
+use Rattle.fmp_lex.specs.Reading.{kinds_of, found, stopped, map_result}
 use Rattle.fmp_lex.proofs.Answered.{err_as}
 use Rattle.fmp_lex.specs.Forms.{put}
 use Rattle.fmp_lex.specs.declared.marks.Mark.TheVariants as mark
@@ -41,8 +41,8 @@ loop-one-preserved c =
     let pushed : fields_view c.put.new.fields ≡ xs ++ put f [] = c.in_ok-put.ensures.fields in
     record {
       within = within;
-      goes = rw pushed (λ o rest. push_put xs f o (RightParts ps ts at) (c.loop-one.invariant.goes (map_outcome (put f) o)
-          (subst (λ rows. RightParts rows ts i (map_outcome (put f) o)) (sym split) (parts_then p (drop (n + 1) ps) ts i f k x o rest))));
+      goes = rw pushed (λ o rest. push_put xs f o (RightParts ps ts at) (c.loop-one.invariant.goes (map_result (put f) o)
+          (subst (λ rows. RightParts rows ts i (map_result (put f) o)) (sym split) (parts_then p (drop (n + 1) ps) ts i f k x o rest))));
     }
 
 pub returns : goal.returns

@@ -1,7 +1,7 @@
 use Rattle.std.proofs.Common.{◌≡◌, ◌≤◌, ◌+◌, ◌++◌, ◌∷◌, List, [], length, refl, ap, ◌∙◌, rules, append-nil}
 use Rattle.std.proofs.lemmas.List.{length-map}
 use Rattle.std.proofs.lemmas.Result.{err_from_is_err_and}
-use Rattle.fmp_lex.specs.Reading.{kinds_of, Outcome, found, stopped, map_outcome}
+use Rattle.fmp_lex.specs.Reading.{kinds_of, ParseResult, found, stopped, map_result}
 use Rattle.fmp_lex.proofs.Answered.{find_as}
 use Rattle.fmp_cfgparse.specs.declared.tree.Item.{Item}
 use Rattle.fmp_cfgparse.specs.Reading.{itself, RightItem, RightValue}
@@ -10,8 +10,8 @@ use Rattle.fmp_cfgparse.proofs.Items.{value_then, value_stop, more_items, more_i
 use Rattle.fmp_lex.proofs.Repetitions.{put_before, push_before}
 use Rattle.fmp_cfgparse.proofs.syntax.value.Goals as goal
 
-first_of_value : (a : Item) (o : Outcome (List Item)) (P : Outcome (List Item) → Type 0) → P (map_outcome (λ (more : List Item). a ∷ more) o) →
-    P (map_outcome (put_before (a ∷ [])) o)
+first_of_value : (a : Item) (o : ParseResult (List Item)) (P : ParseResult (List Item) → Type 0) → P (map_result (λ (more : List Item). a ∷ more) o) →
+    P (map_result (put_before (a ∷ [])) o)
 first_of_value a (found more j) P x = x
 first_of_value a (stopped j why) P x = x
 
@@ -55,7 +55,7 @@ items-preserved c =
     let pushed : c.push-in-items.new.self.items ≡ c.items.items.items ++ a ∷ [] = c.in_ok-push-2.ensures.items in
     record {
       within = within;
-      goes = rw pushed (λ o rest. push_before c.items.items.items a o (RightValue ts i) (c.items.invariant.goes (map_outcome (λ (more : List Item). a ∷ more) o)
+      goes = rw pushed (λ o rest. push_before c.items.items.items a o (RightValue ts i) (c.items.invariant.goes (map_result (λ (more : List Item). a ∷ more) o)
           (more_items ts m (c.items-test.ensures.yes (search rules)) a k x o rest)));
     }
 

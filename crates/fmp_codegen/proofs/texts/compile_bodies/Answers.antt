@@ -2,7 +2,7 @@ use Rattle.std.proofs.Common.{◌≤◌, ◌++◌, ◌∷◌, List, [], length, 
 use Rattle.std.proofs.lemmas.List.{length-map}
 use Rattle.std.proofs.lemmas.Result.{err_from_is_err_and}
 use Rattle.fmp_base.specs.Systems.{tables_of}
-use Rattle.fmp_lex.specs.Reading.{kinds_of, found, stopped, map_outcome}
+use Rattle.fmp_lex.specs.Reading.{kinds_of, found, stopped, map_result}
 use Rattle.fmp_lex.proofs.Repetitions.{push_before}
 use Rattle.fmp_tasklang.specs.Reading.{RightBody, RightBodies}
 use Rattle.fmp_tasklang.specs.Trees.{BodyTree}
@@ -44,7 +44,7 @@ bodies-preserved c =
       goes = (
         before.0 ++ a ∷ [],
         c.in_ok-add_body.ensures before.0 before.1,
-        λ o rest. push_before before.0 a o (RightBodies ts 0) (before.2 (map_outcome (λ (more : List BodyTree). a ∷ more) o)
+        λ o rest. push_before before.0 a o (RightBodies ts 0) (before.2 (map_result (λ (more : List BodyTree). a ∷ more) o)
             (bodies_more ts k c.in-Some.kind is a n x o rest)),
       );
     }

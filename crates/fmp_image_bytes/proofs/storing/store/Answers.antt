@@ -1,7 +1,7 @@
 use Rattle.std.proofs.Common.{◌≡◌, ◌++◌, [], append_assoc, rules}
 use Rattle.fmp_base.specs.Systems.{tables_of}
 use Rattle.fmp_instructions.specs.Instructions.{code_tables}
-use Rattle.fmp_image_rows.specs.Rows.{frame_of}
+use Rattle.fmp_image_rows.specs.Rows.{context_of}
 use Rattle.fmp_image_parts.specs.Bodies.{bodies}
 use Rattle.fmp_image_bytes.specs.Images.{header, magic, tables, tables_in, spelling}
 use Rattle.fmp_image_bytes.proofs.storing.store.Goals as goal
@@ -12,7 +12,7 @@ returns c =
     let i = c.image.inside in
     let h = header.spell (magic, (1, i.system.processors)) in
     let b = bodies.spell (i.heads.items, code_tables i.code) in
-    let t = (tables (frame_of 0 []) []).spell (tables_in (tables_of i.system)) in
+    let t = (tables (context_of 0 []) []).spell (tables_in (tables_of i.system)) in
     let e1 : c.put_header.new.out.items ≡ h = search rules in
     let e2 : c.put_bodies.new.out.items ≡ c.put_header.new.out.items ++ b = search rules in
     let e3 : c.put_tables.new.out.items ≡ c.put_bodies.new.out.items ++ t = search rules in

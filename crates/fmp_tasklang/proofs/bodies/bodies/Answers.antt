@@ -1,7 +1,7 @@
 use Rattle.std.proofs.Common.{◌≡◌, ◌≤◌, ◌++◌, ◌∷◌, List, [], length, map, sym, arith, append-nil}
 use Rattle.std.proofs.lemmas.List.{length-map, map-append}
 use Rattle.std.proofs.lemmas.Result.{err_from_is_err_and}
-use Rattle.fmp_lex.specs.Reading.{kinds_of, found, stopped, map_outcome}
+use Rattle.fmp_lex.specs.Reading.{kinds_of, found, stopped, map_result}
 use Rattle.fmp_lex.proofs.Answered.{err_as}
 use Rattle.fmp_lex.proofs.Repetitions.{push_before}
 use Rattle.fmp_tasklang.specs.Reading.{bodies_view, RightBody, RightBodies}
@@ -45,7 +45,7 @@ bodies-preserved c =
     let pushed : map body_view c.push.new.self.items ≡ xs ++ a ∷ [] = rw c.in_ok-push.ensures.items (map-append body_view c.bodies.found.items (c.in_ok-one.one ∷ [])) in
     record {
       within = within;
-      goes = rw pushed (λ o rest. push_before xs a o (RightBodies ts i) (c.bodies.invariant.goes (map_outcome (λ (more : List BodyTree). a ∷ more) o)
+      goes = rw pushed (λ o rest. push_before xs a o (RightBodies ts i) (c.bodies.invariant.goes (map_result (λ (more : List BodyTree). a ∷ more) o)
           (bodies_more ts k c.in-Some.kind is a n x o rest)));
     }
 

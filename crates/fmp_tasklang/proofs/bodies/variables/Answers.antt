@@ -1,7 +1,7 @@
 use Rattle.std.proofs.Common.{◌≡◌, ◌≤◌, ◌++◌, ◌∷◌, List, [], length, refl, arith, rules, append-nil}
 use Rattle.std.proofs.lemmas.List.{length-map}
 use Rattle.std.proofs.lemmas.Result.{err_from_is_err_and}
-use Rattle.fmp_lex.specs.Reading.{kinds_of, found, stopped, map_outcome}
+use Rattle.fmp_lex.specs.Reading.{kinds_of, found, stopped, map_result}
 use Rattle.fmp_lex.proofs.Answered.{find_as}
 use Rattle.fmp_lex.proofs.Repetitions.{push_before}
 use Rattle.fmp_tasklang.specs.Reading.{itself, words_view, RightVariable, RightVariables}
@@ -44,7 +44,7 @@ variables-preserved c =
     let pushed : c.push.new.self.items ≡ xs ++ a ∷ [] = c.in_ok-push.ensures.items in
     record {
       within = within;
-      goes = rw pushed (λ o rest. push_before xs a o (RightVariables ts i) (c.variables.invariant.goes (map_outcome (λ (more : List Word). a ∷ more) o)
+      goes = rw pushed (λ o rest. push_before xs a o (RightVariables ts i) (c.variables.invariant.goes (map_result (λ (more : List Word). a ∷ more) o)
           (variables_more ts k is a n x o rest)));
     }
 

@@ -1,7 +1,7 @@
 use Rattle.std.proofs.Common.{◌≡◌, ◌+◌, ◌≤◌, ◌++◌, ◌∷◌, [], None, length, map, refl, sym, ap, ◌∙◌, arith, rules, append-nil}
 use Rattle.std.proofs.lemmas.List.{length-map}
 use Rattle.std.proofs.lemmas.Result.{err_from_is_err_and}
-use Rattle.fmp_lex.specs.Reading.{kinds_of, found, stopped, map_outcome}
+use Rattle.fmp_lex.specs.Reading.{kinds_of, found, stopped, map_result}
 use Rattle.fmp_lex.proofs.Answered.{err_as}
 use Rattle.fmp_lex.specs.Forms.{put}
 use Rattle.fmp_tasklang.specs.Reading.{argument_view, called_view, RightPart, RightParts, RightArguments}
@@ -68,8 +68,8 @@ loop-one-preserved c =
       seen = seen ++ put a [];
       values = c.in_ok-put.ensures.arguments ∙ (ap (λ z. z ++ values_of (put a [])) c.loop-one.invariant.values ∙ sym (values_of-append seen (put a [])));
       out = c.in_ok-put.ensures.out ∙ (ap (λ w. out_from w (put a [])) c.loop-one.invariant.out ∙ sym (out_from-append None seen (put a [])));
-      goes = λ o rest. push_put seen a o (RightParts ts d ps i) (c.loop-one.invariant.goes (map_outcome (put a) o)
-          (subst (λ rows. RightParts ts d rows k (map_outcome (put a) o)) (sym split) (parts_then d row (drop (n + 1) ps) ts k a m x o rest)));
+      goes = λ o rest. push_put seen a o (RightParts ts d ps i) (c.loop-one.invariant.goes (map_result (put a) o)
+          (subst (λ rows. RightParts ts d rows k (map_result (put a) o)) (sym split) (parts_then d row (drop (n + 1) ps) ts k a m x o rest)));
     }
 
 pub returns : goal.returns

@@ -1,5 +1,5 @@
 use Rattle.std.proofs.Common.{◌≡◌, ◌≤◌, List, length, drop, map}
-use Rattle.fmp_lex.specs.Reading.{kinds_of, Outcome, map_outcome}
+use Rattle.fmp_lex.specs.Reading.{kinds_of, ParseResult, map_result}
 use Rattle.fmp_lex.proofs.Repetitions.{put_before}
 use Rattle.fmp_tasklang.specs.Calls.{ArgumentTree, values_of, out_of}
 use Rattle.fmp_tasklang.specs.Reading.{RightParts}
@@ -13,6 +13,6 @@ invariant-loop-one l = record {
   seen : List ArgumentTree;
   values : map expression_view l.call.arguments.items ≡ values_of seen;
   out : l.call.out ≡ out_of seen;
-  goes : (o : Outcome (List ArgumentTree)) → RightParts (kinds_of l.tokens) l.depth (drop l.one-index l.parts) l.i o →
-      RightParts (kinds_of l.tokens) l.depth l.parts l.at (map_outcome (put_before seen) o);
+  goes : (o : ParseResult (List ArgumentTree)) → RightParts (kinds_of l.tokens) l.depth (drop l.one-index l.parts) l.i o →
+      RightParts (kinds_of l.tokens) l.depth l.parts l.at (map_result (put_before seen) o);
 }

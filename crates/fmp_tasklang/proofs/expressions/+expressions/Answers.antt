@@ -1,7 +1,7 @@
 use Rattle.std.proofs.Common.{◌≡◌, ◌+◌, ◌-◌, ◌≤◌, ◌<◌, ◌++◌, ◌∷◌, List, [], length, refl, sym, arith, rules, append-nil}
 use Rattle.std.proofs.lemmas.List.{length-map}
 use Rattle.std.proofs.lemmas.Result.{err_from_is_err_and}
-use Rattle.fmp_lex.specs.Reading.{kinds_of, found, stopped, map_outcome, RightToken}
+use Rattle.fmp_lex.specs.Reading.{kinds_of, found, stopped, map_result, RightToken}
 use Rattle.fmp_lex.proofs.Answered.{err_as, find_as, step_as}
 use Rattle.fmp_lex.proofs.Repetitions.{push_before}
 use Rattle.fmp_tasklang.specs.Expressions.{loosest}
@@ -138,7 +138,7 @@ links-links-preserved m0 c =
     let pushed : links_view c.push.new.self ≡ xs ++ a ∷ [] = rw c.in_ok-push.ensures.items (links_push c.links.found.items _) in
     record {
       within = within;
-      goes = rw pushed (λ o rest. push_before xs a o (RightLinks ts d m i) (c.links.invariant.goes (map_outcome (λ (more : List LinkTree). a ∷ more) o)
+      goes = rw pushed (λ o rest. push_before xs a o (RightLinks ts d m i) (c.links.invariant.goes (map_result (λ (more : List LinkTree). a ∷ more) o)
           (links_more d m ts k c.in-Some.operator c.in-Some.ensures.value.0 e n x o rest)));
     }
 

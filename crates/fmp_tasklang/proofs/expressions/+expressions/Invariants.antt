@@ -1,5 +1,5 @@
 use Rattle.std.proofs.Common.{◌+◌, ◌*◌, ◌-◌, ◌≤◌, List, length}
-use Rattle.fmp_lex.specs.Reading.{kinds_of, Outcome, found, map_outcome}
+use Rattle.fmp_lex.specs.Reading.{kinds_of, ParseResult, found, map_result}
 use Rattle.fmp_lex.proofs.Repetitions.{put_before}
 use Rattle.fmp_tasklang.specs.Reading.{links_view, RightExpression, RightLinks}
 use Rattle.fmp_tasklang.specs.Views.{LinkTree, expression_view}
@@ -33,8 +33,8 @@ decreases-expression-levels l = l.level - l.read
 abbrev pub invariant-links-links : goal.invariant-links-links
 invariant-links-links l = record {
   within : l.i ≤ length l.tokens;
-  goes : (o : Outcome (List LinkTree)) → RightLinks (kinds_of l.tokens) l.depth l.level l.i o →
-      RightLinks (kinds_of l.tokens) l.depth l.level l.at (map_outcome (put_before (links_view l.found)) o);
+  goes : (o : ParseResult (List LinkTree)) → RightLinks (kinds_of l.tokens) l.depth l.level l.i o →
+      RightLinks (kinds_of l.tokens) l.depth l.level l.at (map_result (put_before (links_view l.found)) o);
 }
 
 abbrev pub decreases-links-links : goal.decreases-links-links

@@ -1,7 +1,7 @@
 use Rattle.std.proofs.Common.{◌≡◌, ◌+◌, ◌≤◌, ◌++◌, ◌∷◌, List, [], None, option_and_then, length, slice_get, map, sym, ap, ◌∙◌, arith, rules, append-nil, true}
 use Rattle.std.proofs.lemmas.List.{length-map, map-append}
 use Rattle.std.proofs.lemmas.Result.{err_from_is_err_and}
-use Rattle.fmp_lex.specs.Reading.{kinds_of, found, stopped, map_outcome, RightToken}
+use Rattle.fmp_lex.specs.Reading.{kinds_of, found, stopped, map_result, RightToken}
 use Rattle.fmp_lex.proofs.Answered.{answers_as, err_as, step_as}
 use Rattle.fmp_lex.proofs.Repetitions.{push_before}
 use Rattle.fmp_tasklang.specs.Reading.{statements_view, block_view, else_view, RightCondition, RightAssignment, RightPlainCall, RightJump, RightStatement, RightIf, RightElse, RightOther, RightBlock, RightStatements}
@@ -277,7 +277,7 @@ statements-statements-preserved m0 c =
     let pushed : map statement_view c.push.new.self.items ≡ xs ++ a ∷ [] = rw c.in_ok-push.ensures.items (map-append statement_view c.statements.found.items (c.in_ok-one.one ∷ [])) in
     record {
       within = within;
-      goes = rw pushed (λ o rest. push_before xs a o (RightStatements ts d loop i) (c.statements.invariant.goes (map_outcome (λ (more : List StatementTree). a ∷ more) o)
+      goes = rw pushed (λ o rest. push_before xs a o (RightStatements ts d loop i) (c.statements.invariant.goes (map_result (λ (more : List StatementTree). a ∷ more) o)
           (statements_more d loop ts k is_not a n x o rest)));
     }
 

@@ -1,5 +1,5 @@
 use Rattle.std.proofs.Common.{◌+◌, ◌*◌, ◌-◌, ◌≤◌, List, length}
-use Rattle.fmp_lex.specs.Reading.{kinds_of, Outcome, map_outcome}
+use Rattle.fmp_lex.specs.Reading.{kinds_of, ParseResult, map_result}
 use Rattle.fmp_lex.proofs.Repetitions.{put_before}
 use Rattle.fmp_tasklang.specs.Reading.{statements_view, RightStatements}
 use Rattle.fmp_tasklang.specs.Trees.{StatementTree}
@@ -29,8 +29,8 @@ decreases-block l = (65 - l.depth) * 8 + 1
 abbrev pub invariant-statements-statements : goal.invariant-statements-statements
 invariant-statements-statements l = record {
   within : l.i ≤ length l.tokens;
-  goes : (o : Outcome (List StatementTree)) → RightStatements (kinds_of l.tokens) l.depth l.looped l.i o →
-      RightStatements (kinds_of l.tokens) l.depth l.looped l.at (map_outcome (put_before (statements_view l.found)) o);
+  goes : (o : ParseResult (List StatementTree)) → RightStatements (kinds_of l.tokens) l.depth l.looped l.i o →
+      RightStatements (kinds_of l.tokens) l.depth l.looped l.at (map_result (put_before (statements_view l.found)) o);
 }
 
 abbrev pub decreases-statements-statements : goal.decreases-statements-statements

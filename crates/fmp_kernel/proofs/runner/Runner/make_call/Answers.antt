@@ -1,7 +1,7 @@
 use Rattle.std.proofs.Common.{◌≡◌, ◌∙◌, ap, refl, sym}
 use Rattle.fmp_base.specs.declared.calls.Answer.TheVariants.{Spins}
 use Rattle.fmp_base.specs.Calls.{called}
-use Rattle.fmp_base.specs.Outcomes.{Outcome}
+use Rattle.fmp_base.specs.Outcomes.{CallOutcome}
 use Rattle.fmp_base.specs.States.{Progress}
 use Rattle.fmp_worlds.proofs.SettledLaws.{called-spins}
 use Rattle.fmp_contexts.proofs.ContextLemmas.{fitting_set, places_set}
@@ -12,8 +12,8 @@ returns-in-Spins-clause-after g c =
     let h = c.self.inside.tables in
     let o = called h.system h.state c.args.p c.args.who c.args.made.now in
     let e = c.call.ensures.outcome in
-    let k : o.answer ≡ Spins = sym (ap (λ (o : Outcome). o.answer) e) ∙ c.in-Spins.is in
-    let same = ap (λ (o : Outcome). o.progress.state) e
+    let k : o.answer ≡ Spins = sym (ap (λ (o : CallOutcome). o.answer) e) ∙ c.in-Spins.is in
+    let same = ap (λ (o : CallOutcome). o.progress.state) e
     ∙ ap (λ (g : Progress). g.state) (called-spins h.system h.state c.args.p c.args.who c.args.made.now k) in
     rw (c.put.ensures, ← c.self.view_is, k, same) refl
 

@@ -24,7 +24,7 @@ pub enum Lane {
 
 /// A lane at its place, in whole pixels.
 #[derive(Clone, Copy)]
-pub struct Row {
+pub struct Strip {
     pub lane: Lane,
     pub top: u32,
     pub height: u32,
@@ -32,8 +32,8 @@ pub struct Row {
 
 /// The lanes of a panel, and the tasks that have none because nothing happens to them.
 #[derive(Drop)]
-pub struct Rows {
-    pub rows: Vec<Row>,
+pub struct Strips {
+    pub strips: Vec<Strip>,
     pub asleep: Vec<u8>,
     pub bottom: u32,
 }
@@ -64,7 +64,7 @@ impl Lane {
     }
 }
 
-impl Row {
+impl Strip {
     /// The top of the lane, lowered by this many tenths.
     pub fn y(&self, lower: i32) -> Tenths {
         px(self.top) + Tenths(lower)
@@ -151,10 +151,10 @@ fn handles(sys: &System, processor: u8, place: u8) -> bool {
     false
 }
 
-impl Rows {
+impl Strips {
     fn add(&mut self, lane: Lane) -> Result<(), AllocError> {
         let height = lane.height();
-        self.rows.push(Row {
+        self.strips.push(Strip {
             lane,
             top: self.bottom,
             height,
@@ -294,14 +294,14 @@ impl Rows {
         run: &Run,
         span: &Span,
         top: u32,
-    ) -> Result<Rows, AllocError> {
-        let mut rows = Rows {
-            rows: Vec::new(alloc),
+    ) -> Result<Strips, AllocError> {
+        let mut strips = Strips {
+            strips: Vec::new(alloc),
             asleep: Vec::new(alloc),
             bottom: top,
         };
-        rows.add_all(sys, run, span)?;
-        Ok(rows)
+        strips.add_all(sys, run, span)?;
+        Ok(strips)
     }
 
     /// The lower end, with a line for tasks without lanes.
@@ -312,22 +312,22 @@ impl Rows {
         self.bottom.saturating_add(14)
     }
 
-    fn of_lane(&self, lane: Lane) -> Option<Row> {
-        for row in &self.rows {
-            if row.lane == lane {
-                return Some(*row);
+    fn of_lane(&self, lane: Lane) -> Option<Strip> {
+        for strip in &self.strips {
+            if strip.lane == lane {
+                return Some(*strip);
             }
         }
         None
     }
 
     /// The lane of a task on a processor.
-    pub fn of_task(&self, task: u8, processor: u8) -> Option<Row> {
+    pub fn of_task(&self, task: u8, processor: u8) -> Option<Strip> {
         self.of_lane(Lane::Task(task, processor))
     }
 
     /// The lane of an actor; that of a task is where the task is after this event.
-    pub fn of_actor(&self, run: &Run, actor: Caller, event: u32) -> Option<Row> {
+    pub fn of_actor(&self, run: &Run, actor: Caller, event: u32) -> Option<Strip> {
         match actor {
             Caller::Task(task) => {
                 let shown = run.tasks.get(usize::from(task))?.at(event)?;
