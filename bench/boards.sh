@@ -21,7 +21,7 @@ cd "$room"
 events=1200
 row=1048576
 
-# So many processors that share nothing, with a task each of this body.
+# This many processors that share nothing, with a task each of this body.
 apart() { # apart CASE PROCESSORS BODY
     awk -v processors="$2" 'BEGIN {
         print "NUM_PRC(" processors ");"
@@ -31,7 +31,7 @@ apart() { # apart CASE PROCESSORS BODY
     "$fmp" build "$1.cfg" "$1.src" "$1.img" > output
 }
 
-# The least microseconds that a line of the program tells, of so many runs.
+# The least microseconds that a line of the program tells, of this many runs.
 least() { # least LINE CASE OPTION..
     local line=$1 image=$2
     shift 2

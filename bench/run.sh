@@ -17,7 +17,7 @@ cd "$room"
 
 events=1048576
 
-# So many lines of a step.
+# This many lines of a step.
 repeated() { awk -v count="$1" -v step="$2" 'BEGIN { for (i = 0; i < count; i++) print step }'; }
 
 # A configuration of one processor around the static APIs on standard input.
@@ -58,7 +58,7 @@ TEXT
         } }' > eight_processors.steps
 }
 
-# So many tasks of one priority that take turns. Their names are of one length, whatever their number.
+# This many tasks of one priority that take turns. Their names are of one length, whatever their number.
 turns_of() { # turns_of CASE TASKS
     awk -v tasks="$2" 'BEGIN { for (i = 1; i <= tasks; i++) printf "CRE_TSK(T%03d,{TA_ACT,0,t,10,256,NULL});\n", i }' | configuration > "$1.cfg"
     echo 'task t { while (1) { rot_rdq(10); } }' > "$1.src"
@@ -74,7 +74,7 @@ delays() {
     awk -v count=$events 'BEGIN { for (i = 0; i < count; i++) print i % 7 == 6 ? "tick" : "run 1" }' > delays.steps
 }
 
-# So many tasks with one delay, of which four are released at each tick and call again: the delay is one less than a
+# This many tasks with one delay, of which four are released at each tick and call again: the delay is one less than a
 # quarter of their number. No event does nothing.
 equal_delays_of() { # equal_delays_of CASE TASKS
     awk -v tasks="$2" 'BEGIN { for (i = 1; i <= tasks; i++) printf "CRE_TSK(T%03d,{TA_ACT,%d,t,10,256,NULL});\n", i, tasks / 4 - 1 }' | configuration > "$1.cfg"
@@ -105,7 +105,7 @@ arithmetic() {
     echo 'run 1' > arithmetic.steps
 }
 
-# So many processors that share nothing: each has a task that counts to 500 between two calls.
+# This many processors that share nothing: each has a task that counts to 500 between two calls.
 turns_by_threads=16000
 apart() { # apart PROCESSORS
     awk -v processors="$1" 'BEGIN {
@@ -115,7 +115,7 @@ apart() { # apart PROCESSORS
     echo 'task t { var i; while (1) { i = 0; while (i < 500) { i = i + 1; } put(i); } }' > "apart$1.src"
 }
 
-# A text of so many bodies, each of just under 256 KiB, and no steps.
+# A text of this many bodies, each of just under 256 KiB, and no steps.
 text() {
     echo 'CRE_TSK(T,{TA_ACT,0,b0,10,256,NULL});' | configuration > "text$1.cfg"
     awk -v bodies="$1" 'BEGIN {
@@ -179,7 +179,7 @@ objects() {
 }
 
 # The least real, user and system times of a command in seconds, by user and system time, and the most memory that it
-# held in KiB. So many runs in a row are timed as one.
+# held in KiB. This many runs in a row are timed as one.
 best() { # best IN_A_ROW COMMAND..
     local in_a_row=$1
     shift

@@ -183,7 +183,7 @@ def compare_batch(path, batch):
 
 
 def parts(images, size):
-    """So many at a time."""
+    """This many at a time."""
     images = iter(images)
     while part := list(islice(images, size)):
         yield part

@@ -1,7 +1,7 @@
 #!/usr/bin/env python3
 """Drives random systems, and runs each of them over the steps that the drive prints: each step does something, so the
-trace has as many events as there are steps; and a drive that stops before so many events are done stops where no
-processor goes on, so that to run any of them once more does nothing.
+trace has as many events as there are steps; and a drive that stops before the number of events asked for is done stops
+where no processor goes on, so that to run any of them once more does nothing.
 
     checks/model/drives.py [COUNT [SEED]] [--view PATH] [--program PATH]
 """

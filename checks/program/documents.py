@@ -18,7 +18,7 @@ says what a block is, and how it is checked:
     bytes                            the image of the last system of blocks, in hexadecimal digits
     grammar, sh                      not checked: rules of a grammar, and commands of the toolchain
 
-In a row `[N times: PIECE]` stands for so many pieces, with the numbers from 1 in place of `#`, and `\\n` for a line
+In a row `[N times: PIECE]` stands for N pieces, with the numbers from 1 in place of `#`, and `\\n` for a line
 feed. The reference's table of contexts is tried with each call that its other tables tell, in each context. Each name
 of code in docs/PROVED.md, and each file in docs/MAP.md, is one that the repository has, and each crate is told in both.
 The kit that README.md and docs/PROVED.md name is what `rt version` prints, but for the letter of the kit. Each file of

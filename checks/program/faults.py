@@ -4,7 +4,7 @@
     checks/program/faults.py [PROGRAM]
 
 PROGRAM is crates/fmp_view/out/fmp_view where it is not given. Line, column, width and sentence of each row were worked
-out by hand from docs/LANGUAGE.md, never taken from the program. In a row `[N times: PIECE]` stands for so many pieces,
+out by hand from docs/LANGUAGE.md, never taken from the program. In a row `[N times: PIECE]` stands for N pieces,
 with the numbers from 1 in place of `#`.
 """
 

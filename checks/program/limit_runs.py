@@ -270,7 +270,7 @@ def extended_information():
 # Stretches
 
 def stretch(name, statements, size, bound=None):
-    """A body that ends after so many instructions, at that bound and at one less."""
+    """A body that ends after this many instructions, at that bound and at one less."""
     source = f"task m {{ var v; {statements} }}"
     done, nothing = "1 p1 T end\nT DORMANT p1 10\n", "T RUNNING p1 10\n"
     yield lone(f"{name}, bound {size}", source, "run 1\nrun 1\n", done, size)

@@ -78,7 +78,7 @@ KINDS = (
 
 
 def lines(piece, count, first=1):
-    """So many lines, each with its number in place of `#`."""
+    """This many lines, each with its number in place of `#`."""
     return "\n".join(piece.replace("#", str(number)) for number in range(first, first + count))
 
 
@@ -157,7 +157,7 @@ def numbers():
 # Lengths
 
 def padded(before, filler, after, size):
-    """A text of so many bytes."""
+    """A text of this many bytes."""
     return before + filler * (size - len(before) - len(after)) + after
 
 
@@ -203,7 +203,7 @@ def operands():
     def deep(count, inner="1"):
         return "1+(" * count + inner + ")" * count
 
-    # So many parentheses make one operand more.
+    # This many parentheses make one operand more.
     yield body(f"\ntask m {{ put({deep(63)}); }}", OK)
     yield body(f"\ntask\nm {{ put({deep(64)}); }}", "src:2: B5")
     yield body(f"\ntask m {{ put({deep(63, '1+1')}); }}", "src:2: B5")

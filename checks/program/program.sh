@@ -185,7 +185,7 @@ writes 'a word that is no text' 2 errors check "$(printf '\377')" b.src
 
 # ---- texts at their limit, 1048576 bytes
 
-padded() { # padded FILE BYTES: the file, and spaces up to so many bytes
+padded() { # padded FILE BYTES: the file, and spaces up to this many bytes
     cat "$1"
     head -c $(($2 - $(wc -c < "$1"))) /dev/zero | tr '\0' ' '
 }
@@ -302,7 +302,7 @@ awk '{ print } /CRE_TSK\(T255/ { print "CRE_TSK(T256,{TA_ACT,0,d,1,256,NULL});" 
 line=$(awk '/CRE_TSK\(T256/ { print NR }' too_many.cfg)
 says 'one task more' 1 "cfg:$line: B5" check too_many.cfg many.src
 
-# ---- want of memory: 12 MiB are enough for a short text, and not for the calls of a long one
+# ---- out of memory: 12 MiB are enough for a short text, and not for the calls of a long one
 
 printf '#!/bin/sh\nulimit -v 12288\nexec "%s" "$@"\n' "$subject" > scant
 chmod +x scant

@@ -1,8 +1,8 @@
 #!/bin/bash
 # Refuses each allocation of the proved program in turn, for each of its commands: it must then answer `memory` with
 # status 3, print nothing and write no file, or else answer as it does with memory. So it does with tests of boards,
-# which ask again where making a board or a follower, or running a board, was refused for want of memory, and then want
-# what they want with memory; and it refuses all from the Nth on: the calls of a board that is made take none. Then it
+# which ask again where memory ran out for making a board or a follower, or for running a board, and then expect what
+# they expect with memory; and it refuses all from the Nth on: the calls of a board that is made take none. Then it
 # counts the allocations of longer and longer runs: events take none, so only the growth of the text that is read is
 # seen.
 #

@@ -23,7 +23,7 @@ def apart(first, second):
 
 
 def runs(count, ticks=0):
-    """The steps of so many stretches of processor 1 and then so many ticks."""
+    """The steps of this many stretches of processor 1 and then this many ticks."""
     return count * "run 1\n" + ticks * "tick\n"
 
 

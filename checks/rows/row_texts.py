@@ -254,7 +254,7 @@ ORDERS = (
     ("NUM_PRC(1);\nCLASS(TCL_1) { CRE_TSK(T,{0,0,m,10,4,NULL}); }", "task m { put(1+2); }", "cfg:2: B6"),
 )
 
-# So many levels: what stands before, what opens each, what stands within, what closes each, and the end.
+# This many levels: what stands before, what opens each, what stands within, what closes each, and the end.
 PUT, CHOICE = "task m { put(", "task m { if (1) { }"
 LEVELS = (
     (63, PUT, "1+(", "1", ")", "); }", "ok"),
@@ -277,7 +277,7 @@ LEVELS = (
     (64, "task m {", "if (1) {\n", "if (2) \n{ } else\nif (3) { }", "}", "}", "src:66: B5"),
 )
 
-# Long texts: so many pieces in the second place and in the fourth.
+# Long texts: this many pieces in the second place and in the fourth.
 LENGTHS = (
     (300, "task m { put(1", " + 1", "); put(1", " && 1", "); }", "ok"),
     (32_766, "task m { put(1", "+1", "); }", "", "", "ok"),
@@ -295,7 +295,7 @@ STACKS = ((256, "ok"), (255, "cfg:1: B6"))
 
 
 def numbered(count, piece):
-    """So many pieces, numbered from 0: `#` stands for the number."""
+    """This many pieces, numbered from 0: `#` stands for the number."""
     return "".join(piece.replace("#", str(number)) for number in range(count))
 
 
