@@ -4,6 +4,8 @@
 -- may be carried out before those of another: setup is defined over the tables, the tasks in order of number, which is
 -- the order of the text.
 use Rattle.std.specs.Prelude.{ℕ, ◌+◌, List, [], ◌∷◌, Option, Some, None, Bool, true, false, replicate, length, map, if◌then◌else◌}
+use Rattle.fmp_base.specs.declared.bodies.Held.{Held}
+use Rattle.fmp_base.specs.declared.bodies.Held.TheVariants.{Goes}
 use Rattle.fmp_base.specs.declared.states.Phase.TheVariants.{Dormant}
 use Rattle.fmp_base.specs.declared.states.TaskBlock.{TaskBlock}
 use Rattle.fmp_base.specs.declared.systems.CyclicConfig.{CyclicConfig}
@@ -12,7 +14,7 @@ use Rattle.fmp_base.specs.Changes.{started}
 use Rattle.fmp_base.specs.Meanings.{Meaning, Contexts}
 use Rattle.fmp_base.specs.States.{KernelState, Progress, unchanged, task_at, idle, places_from}
 use Rattle.fmp_base.specs.Steps.{Done, finished}
-use Rattle.fmp_base.specs.Systems.{SystemTables, task_config}
+use Rattle.fmp_base.specs.Systems.{SystemTables, body_of, task_config}
 
 -- a task that has been created and not started
 abbrev pub created : TaskConfig → TaskBlock
@@ -59,12 +61,16 @@ abbrev pub all_started : SystemTables → Progress → List ℕ → Progress
 all_started sys g [] = g
 all_started sys g (t ∷ ts) = all_started sys (started_if (task_config sys t).activated sys g t) ts
 
--- no context yet
-abbrev pub no_contexts : {C : Type 0} → SystemTables → Contexts C
-no_contexts sys = record { tasks = replicate (length sys.tasks) None; handlers = replicate sys.processors None }
+-- the contexts at first: each task has a fresh one, and no handler runs
+abbrev pub first_contexts : {C : Type 0} → SystemTables → Meaning C → Contexts (Held C)
+first_contexts sys M =
+    record {
+      tasks = map (λ c. Some (Goes (M.start (body_of c.entry) c.exinf))) sys.tasks;
+      handlers = replicate sys.processors None;
+    }
 
 -- setup: the objects are made, the tasks with TA_ACT start, and all processors settle
 abbrev pub setup : {C : Type 0} → SystemTables → Meaning C → Done C
 setup sys M =
-    finished sys M (no_contexts sys) []
+    finished sys M (first_contexts sys M) []
     (all_started sys (unchanged (created_state sys)) (places_from 0 (length sys.tasks)))

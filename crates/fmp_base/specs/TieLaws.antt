@@ -1,7 +1,7 @@
 -- The laws of ties: from one stretch to whole runs. No case for any service call is needed, since no call looks
 -- into a context.
-use Rattle.std.specs.Prelude.{ℕ, zero, suc, ◌+◌, ◌≡◌, refl, List, [], ◌∷◌, ◌++◌, Option, Some, None, Bool, true, false, slice_set, replicate, length}
-use Rattle.std.proofs.Common.{subst, ap, ◌∙◌}
+use Rattle.std.specs.Prelude.{ℕ, zero, suc, ◌+◌, ◌≡◌, refl, List, [], ◌∷◌, ◌++◌, Option, Some, None, Bool, true, false, map, slice_get, slice_set, replicate, length}
+use Rattle.std.proofs.Common.{subst, sym, ap, ◌∙◌}
 use Rattle.fmp_base.specs.declared.bodies.HandlerContext.{HandlerContext}
 use Rattle.fmp_base.specs.declared.bodies.HandlerStart.{HandlerStart}
 use Rattle.fmp_base.specs.declared.bodies.Held.{Held}
@@ -18,15 +18,16 @@ use Rattle.fmp_base.specs.declared.states.Caller.{Caller}
 use Rattle.fmp_base.specs.declared.states.Caller.TheVariants as caller
 use Rattle.fmp_base.specs.declared.states.Handler.{Handler}
 use Rattle.fmp_base.specs.declared.systems.InterruptConfig.{InterruptConfig}
+use Rattle.fmp_base.specs.declared.systems.TaskConfig.{TaskConfig}
 use Rattle.fmp_base.specs.Calls.{called}
 use Rattle.fmp_base.specs.Meanings.{Meaning, Contexts, World, task_body, handler_start, fresh_context, context_at, context_in, body_in, context_of, caller_body, context_for, with_context, told, delivered_to, called_back, task_begun, handler_begun, contexts_after, contexts_after_all}
 use Rattle.fmp_base.specs.Runs.{Trace, run, run_on, done_events, done_on, completed_by, completed_on, complete_run}
 use Rattle.fmp_base.specs.Settles.{settled}
-use Rattle.fmp_base.specs.Setups.{setup, no_contexts, all_started, created_state}
+use Rattle.fmp_base.specs.Setups.{setup, first_contexts, all_started, created_state}
 use Rattle.fmp_base.specs.States.{KernelState, Progress, unchanged, processor_at, places_from}
 use Rattle.fmp_base.specs.Steps.{Reaction, Nothing, Did, finished, actor_of, actor_ended, answered, stretched, run_in, run_by, interrupted, interrupted_by, step}
 use Rattle.fmp_base.specs.Stretches.{Ending}
-use Rattle.fmp_base.specs.Systems.{SystemTables, task_config, interrupt_config}
+use Rattle.fmp_base.specs.Systems.{SystemTables, body_of, task_config, interrupt_config}
 use Rattle.fmp_base.specs.Ticks.{ticked, with_interrupt_pending}
 use Rattle.fmp_base.specs.Ties.{OptionTied, AllTied, StretchTied, over, call, end_, fault, Any, KeepsTie, HandlerTied, HeldTied, ContextsTied, WorldTied, BothDone, DoneTied, TraceAgrees}
 
@@ -51,6 +52,13 @@ pub AllTied-replicate : {C D : Type 0} (R : ℕ → C → D → Type 0) (n : ℕ
     → AllTied R (replicate n None) (replicate n None)
 AllTied-replicate R zero = tt
 AllTied-replicate R (suc n) = (tt, AllTied-replicate (λ i. R (suc i)) n)
+
+-- contexts that are made of each entry of a table are tied where each entry's two are
+pub AllTied-map : {A C D : Type 0} (R : ℕ → C → D → Type 0) (f : A → C) (g : A → D) (xs : List A)
+    → ((i : ℕ) (x : A) → slice_get xs i ≡ Some x → R i (f x) (g x))
+    → AllTied R (map (λ x. Some (f x)) xs) (map (λ x. Some (g x)) xs)
+AllTied-map R f g [] h = tt
+AllTied-map R f g (x ∷ xs) h = (h zero x refl, AllTied-map (λ i. R (suc i)) f g xs (λ i y e. h (suc i) y e))
 
 -- handlers' contexts that are tied are of one body
 pub body_in-tied : {C D : Type 0} (R : ℕ → C → D → Type 0) (c : Option (HandlerContext C))
@@ -312,15 +320,20 @@ step-tied {C} {D} sys R M m N n k v w e h =
     (step sys N n (record { state = s; contexts = w.contexts }) e)) h.states
     (step-tied_in sys R M m N n k v.state v.contexts w.contexts e h.contexts)
 
+body_at : (sys : SystemTables) (t : ℕ) (c : TaskConfig) → slice_get sys.tasks t ≡ Some c → body_of c.entry ≡ task_body sys t
+body_at sys t c e = rw e refl
+
 -- setup gives both the same lines and ties them
 pub setup-tied : {C D : Type 0} (sys : SystemTables) (R : ℕ → C → D → Type 0) (M : Meaning C) (m : ℕ) (N : Meaning D)
     (n : ℕ) → KeepsTie R M m N n
     → BothDone sys R (setup sys M) (setup sys N)
 setup-tied sys R M m N n k =
-    finished-tied sys R M m N n k (no_contexts sys) (no_contexts sys) []
+    finished-tied sys R M m N n k (first_contexts sys M) (first_contexts sys N) []
     (all_started sys (unchanged (created_state sys)) (places_from 0 (length sys.tasks)))
     (record {
-      tasks = AllTied-replicate (λ t. HeldTied R (task_body sys t)) (length sys.tasks);
+      tasks = AllTied-map (λ t. HeldTied R (task_body sys t)) _ _ sys.tasks
+          (λ t c e. subst (λ (b : ℕ). R b (M.start (body_of c.entry) c.exinf) (N.start (body_of c.entry) c.exinf))
+          (body_at sys t c e) (k.starts (body_of c.entry) c.exinf));
       handlers = AllTied-replicate (λ p. HandlerTied (HeldTied R)) sys.processors;
     })
 
