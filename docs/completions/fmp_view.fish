@@ -1,7 +1,7 @@
 # Completion of fmp_view for fish. Made by checks/program/manual.py from the program's help.
 complete -c fmp_view -f -n __fish_use_subcommand -a code -d 'Says what a code means, when it comes, and an example'
 complete -c fmp_view -f -n __fish_use_subcommand -a fault -d 'Shows the fault of two texts and what was expected there; else their warnings, if any'
-complete -c fmp_view -f -n __fish_use_subcommand -a drive -d 'Prints a steps text that runs a system until it is quiet, or so many events are done'
+complete -c fmp_view -f -n __fish_use_subcommand -a drive -d 'Prints a steps text that runs a system until it is quiet, or N events are done'
 complete -c fmp_view -f -n __fish_use_subcommand -a stats -d 'Prints a table of what each task of a run did, with its share of the events'
 complete -c fmp_view -f -n __fish_use_subcommand -a waves -d 'Writes a run as a value change dump, which waveform viewers show'
 complete -c fmp_view -f -n __fish_use_subcommand -a timeline -d 'Writes a run as a picture for browsers: states, calls, and who did what to whom'

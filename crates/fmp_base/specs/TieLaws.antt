@@ -320,7 +320,8 @@ step-tied {C} {D} sys R M m N n k v w e h =
     (step sys N n (record { state = s; contexts = w.contexts }) e)) h.states
     (step-tied_in sys R M m N n k v.state v.contexts w.contexts e h.contexts)
 
-body_at : (sys : SystemTables) (t : ℕ) (c : TaskConfig) → slice_get sys.tasks t ≡ Some c → body_of c.entry ≡ task_body sys t
+body_at : (sys : SystemTables) (t : ℕ) (c : TaskConfig) → slice_get sys.tasks t ≡ Some c
+    → body_of c.entry ≡ task_body sys t
 body_at sys t c e = rw e refl
 
 -- setup gives both the same lines and ties them

@@ -115,8 +115,8 @@ impl<'a> Blank<'a> {
     /// A board of an image that is not yet open, and its seats, numbered from 0: stretches of bodies take at most n
     /// instructions, 1 to 2^48; there is room for k events, 1 to 2^20; and there are m seats, 1 to 64.
     ///
-    /// `BoardFault::Limit`, exactly where n, k or m is out of its range, and else `BoardFault::Memory` for want of
-    /// memory.
+    /// `BoardFault::Limit`, exactly where n, k or m is out of its range, and else `BoardFault::Memory`, where
+    /// memory runs out.
     pub fn new(
         alloc: Global,
         image: &'a Image,

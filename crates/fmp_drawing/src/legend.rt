@@ -105,7 +105,7 @@ static MARKS: [Item; 13] = [
         "wait broken off (E_RLWAI)",
         12,
     ),
-    Item("<use href=\"#poll\" x=\"6\"/>", "polled in vain", 12),
+    Item("<use href=\"#poll\" x=\"6\"/>", "polling failed", 12),
     Item("<use href=\"#refused\" x=\"6\"/>", "refused", 12),
     Item("<use href=\"#fault\" x=\"6\"/>", "fault", 12),
     Item("<use href=\"#end\" x=\"6\"/>", "end", 12),

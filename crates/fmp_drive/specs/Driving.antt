@@ -51,8 +51,8 @@ DoesFirst meaning before after source first end None = AllStand meaning before s
 DoesFirst meaning before after source first end (Some e) =
     HasDone meaning before after e × IsFirstFrom meaning before source first end e
 
--- What is wished from outside of the tasks was done: a tick, or the first interrupt that does something, from the number
--- wished on; of processors nothing is wished here.
+-- What is wished from outside of the tasks was done: a tick, or the first interrupt that does something, from the
+-- number wished on. Nothing is wished here of processors.
 abbrev pub IsStirred : {B C : Type 0} → (B → Meaning C) → (before after : KernelView B C) → Wish → Option Event → Type 0
 IsStirred meaning before after (wish.Run first) done = (done ≡ None) × (after ≡ before)
 IsStirred meaning before after wish.Tick done = (done ≡ Some event.Tick) × HasDone meaning before after event.Tick

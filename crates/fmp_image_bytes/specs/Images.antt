@@ -61,7 +61,8 @@ abbrev pub table_of : {F A : Type 0} → RowForm F A → RowContext → List Key
 table_of form context taken = table (row form context) form.key_of taken
 
 -- a table, and what stands behind it with its keys taken too
-abbrev pub also : {F A B : Type 0} → RowForm F A → (RowContext → List Key → Field B) → RowContext → List Key → Field (List A × B)
+abbrev pub also : {F A B : Type 0} → RowForm F A → (RowContext → List Key → Field B) → RowContext → List Key
+    → Field (List A × B)
 also form behind context taken =
     chained (table_of form context taken) (λ rows. behind context (taken ++ map form.key_of rows))
 
