@@ -1,9 +1,9 @@
--- Rows of links, and counts of the steps over them.
+-- Arrays of links, and counts of the steps over them.
 use Rattle.std.specs.Prelude.{ℕ, ◌+◌, ◌≤◌, List, slice_index_or}
 
 -- the link at a place
 abbrev pub link_at : List ℕ → ℕ → ℕ
-link_at row place = slice_index_or row place 0
+link_at links place = slice_index_or links place 0
 
 -- a count of steps grew, by at most n
 abbrev pub AddsAtMost : ℕ → ℕ → ℕ → Type 0

@@ -1,4 +1,4 @@
-//! A count of steps, and a row of links of which each read and each write is a step.
+//! A count of steps, and an array of links of which each read and each write is a step.
 ghost use Rattle.std.specs.Prelude.{◌≡◌, ◌+◌, ◌<◌, length, slice_set, true, IfOk};
 ghost use Rattle.std.specs.List.{range_with_len};
 ghost use Rattle.fmp_base.specs.Links.{link_at};
@@ -53,7 +53,7 @@ pub fn steps_are_ghost() -> bool
     true
 }
 
-/// A row of links, each from its own place to some place. Only `get` and `set` read and write them.
+/// An array of links, each from its own place to some place. Only `get` and `set` read and write them.
 #[derive(Drop)]
 pub struct Counted {
     links: Vec<u32>,
@@ -68,7 +68,7 @@ impl Model for Counted {
 }
 
 impl Counted {
-    /// A row of this many links, each to its own place. `AllocError` if memory runs out.
+    /// An array of this many links, each to its own place. `AllocError` if memory runs out.
     pub fn new(alloc: Global, length: u32) -> Result<Counted, AllocError>
         ensures { IfOk result (λ c. c ≡ range_with_len 0 length) }
     {

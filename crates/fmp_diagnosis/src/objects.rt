@@ -27,7 +27,7 @@ pub struct Object {
 pub struct Objects {
     names: IndexSet<ObjectName>,
     /// The objects, in order of text.
-    pub rows: Vec<Object>,
+    pub list: Vec<Object>,
 }
 
 impl Objects {
@@ -35,7 +35,7 @@ impl Objects {
     pub fn of(alloc: Global, tokens: &Tokens<'_>) -> Result<Objects, AllocError> {
         let mut objects = Objects {
             names: IndexSet::new(alloc),
-            rows: Vec::new(alloc),
+            list: Vec::new(alloc),
         };
         for at in 0..tokens.len() {
             if let (Some(api), Some(name)) = (api_at(tokens, at), object_name(tokens, at)) {
@@ -47,7 +47,7 @@ impl Objects {
 
     fn add(&mut self, api: Api, name: Name, at: usize) -> Result<(), AllocError> {
         self.names.insert(ObjectName { name })?;
-        self.rows.push(Object {
+        self.list.push(Object {
             name,
             api,
             at,
@@ -64,15 +64,15 @@ impl Objects {
 
     /// What makes the object of this name.
     pub fn api_of(&self, name: Name) -> Option<Api> {
-        let row = self.rows.get(self.place(name)?)?;
-        Some(row.api)
+        let object = self.list.get(self.place(name)?)?;
+        Some(object.api)
     }
 
     /// The name stands in the task text.
     pub fn note_named(&mut self, name: Name) {
         if let Some(place) = self.place(name) {
-            if let Some(row) = self.rows.get_mut(place) {
-                row.is_named = true;
+            if let Some(object) = self.list.get_mut(place) {
+                object.is_named = true;
             }
         }
     }
@@ -80,8 +80,8 @@ impl Objects {
     /// A call has the name as its first argument.
     pub fn note_call(&mut self, service: Service, name: Name) {
         if let Some(place) = self.place(name) {
-            if let Some(row) = self.rows.get_mut(place) {
-                row.is_raised = row.is_raised || raised_by(service) == Some(row.api);
+            if let Some(object) = self.list.get_mut(place) {
+                object.is_raised = object.is_raised || raised_by(service) == Some(object.api);
             }
         }
     }

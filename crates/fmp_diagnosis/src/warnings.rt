@@ -471,7 +471,7 @@ impl Warnings {
 
     /// Warns of the objects of a configuration that nothing uses, signals or sets.
     fn neglected(&self, name: &str, cfg: &Tokens<'_>, out: &mut Vec<u8>) -> Result<(), AllocError> {
-        for object in &self.objects.rows {
+        for object in &self.objects.list {
             if let Some(text) = self.neglect(cfg, object) {
                 begin(name, line_of(cfg, object.at), out)?;
                 say(

@@ -114,7 +114,7 @@ static MARKS: [Item; 13] = [
     Item("<use href=\"#due\" x=\"6\"/>", "cyclic handler due", 12),
 ];
 
-/// Where the items of a row begin.
+/// Where the items of a line begin.
 const ITEMS: u32 = 74;
 
 /// An item at its place.
@@ -126,7 +126,7 @@ fn put_item(item: &Item, x: Tenths, y: u32, out: &mut Canvas) {
     );
 }
 
-/// Where the next item stands, and the height of its row.
+/// Where the next item stands, and the height of its line.
 #[derive(Clone, Copy)]
 struct Pen {
     x: Tenths,
@@ -134,14 +134,14 @@ struct Pen {
 }
 
 impl Pen {
-    /// The beginning of a row of items with this head.
+    /// The beginning of a line of items with this head.
     fn new(head: &str, y: u32, out: &mut Canvas) -> Pen {
         let place = (px(12), px(y.saturating_add(3)));
         put_text(Raw("m k"), place, Raw(head), out);
         Pen { x: px(ITEMS), y }
     }
 
-    /// An item, in a new row where it does not fit into this one.
+    /// An item, in a new line where it does not fit into this one.
     fn put(&mut self, scene: &Scene<'_>, item: &Item, out: &mut Canvas) {
         let wide = px(item.2) + width(item.1.as_bytes(), Tenths(90));
         if (px(scene.page.wide) - px(20)).is_below(self.x + wide) {
@@ -159,7 +159,7 @@ impl Pen {
         }
     }
 
-    /// The height below the row.
+    /// The height below the line.
     fn below(&self) -> u32 {
         self.y.saturating_add(20)
     }

@@ -2,4 +2,4 @@ pub mod ChainLemmas
 pub mod ChangeLemmas
 pub mod ListLemmas
 pub mod RingLemmas
-pub mod RowLemmas
+pub mod LinkLemmas

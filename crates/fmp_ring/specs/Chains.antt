@@ -34,10 +34,10 @@ lists_of nodes heads next = walks (link_at next) nodes nodes heads
 abbrev pub ring_lists : Inside → RingLists
 ring_lists a = record { nodes = a.nodes; lists = lists_of a.nodes a.heads a.next }
 
--- rows of links for this many nodes and heads, which are rings
+-- arrays of links for this many nodes and heads, which are rings
 pub record AreRings (nodes heads : ℕ) (next previous : List ℕ) : Type 0 where
-  pub next_row : length next ≡ nodes + heads
-  pub previous_row : length previous ≡ nodes + heads
+  pub next_count : length next ≡ nodes + heads
+  pub previous_count : length previous ≡ nodes + heads
   pub chains : AreChains nodes (link_at next) (link_at previous) (lists_of nodes heads next)
   pub marked : AreMarked nodes (link_at next) (lists_of nodes heads next)
 

@@ -12,7 +12,7 @@ use std::marker::Model;
 
 /// A list of nodes for each head, heads and nodes being numbered from 0. A node stands in at most one list.
 ///
-/// In the rows of links, the place of a node is its number, and the places of the heads come after all nodes. Each
+/// In the arrays of links, the place of a node is its number, and the places of the heads come after all nodes. Each
 /// list is a ring: from its head over its nodes and back. A node that stands in no list links to itself.
 #[derive(Drop)]
 pub struct Rings {

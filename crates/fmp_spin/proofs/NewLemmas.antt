@@ -1,4 +1,4 @@
--- The rows of bits of a system in which no handler is pending.
+-- The bitmaps of a system in which no handler is pending.
 use Rattle.std.proofs.Common.{◌≡◌, ℕ, zero, suc, ◌+◌, ◌*◌, ◌-◌, ◌/◌, ◌%◌, ◌<◌, List, [], ◌∷◌, length, Option, Some, None, Bool, true, false, nat_eq, nat_lt, refl, ap, ◌∙◌, subst, arith, map, replicate, ◌++◌, append_assoc}
 use Rattle.std.specs.Prelude.{slice_get, slice_index_or}
 use Rattle.std.specs.List.{AllByRecursion}
@@ -10,7 +10,7 @@ use Rattle.fmp_base.specs.Ranges.{IsInRange, CyclicInRange, InterruptInRange}
 use Rattle.fmp_base.specs.States.{places_from}
 use Rattle.fmp_base.specs.Systems.{SystemTables, defined_for, found, interrupt_config}
 use Rattle.fmp_base.specs.Ticks.{is_pending}
-use Rattle.fmp_spin.specs.Pending.{AreRows, handler_processors, mark_at_slot, processor_at_slot, processor_of}
+use Rattle.fmp_spin.specs.Pending.{AreBitmaps, handler_processors, mark_at_slot, processor_at_slot, processor_of}
 
 zeros : (n k : ℕ) → ◌≡◌ {A = ℕ} (slice_index_or (replicate n 0) k 0) 0
 zeros zero k = refl
@@ -28,9 +28,9 @@ no_mark-at n m i = by_test (nat_lt i 64) refl where
   by_test true e = rw e (no_mark n i)
   by_test false e = rw e (no_mark m (i - 64))
 
-pub AreRows-none : (count : ℕ) (words : List ℕ) (on : ℕ → Option ℕ) (is cs : List Bool) (k n m : ℕ) → words ≡ replicate k 0
-    → is ≡ replicate n false → cs ≡ replicate m false → AreRows count words on (mark_at_slot is cs)
-AreRows-none count words on is cs k n m clear none unmarked = λ p i l b.
+pub AreBitmaps-none : (count : ℕ) (words : List ℕ) (on : ℕ → Option ℕ) (is cs : List Bool) (k n m : ℕ) → words ≡ replicate k 0
+    → is ≡ replicate n false → cs ≡ replicate m false → AreBitmaps count words on (mark_at_slot is cs)
+AreBitmaps-none count words on is cs k n m clear none unmarked = λ p i l b.
     rw (clear, none, unmarked, zeros k ((p * 320 + i) / 64), no_mark-at n m i) (bit_at-zero ((p * 320 + i) % 64))
 
 length-places : (k n : ℕ) → length (places_from k n) ≡ n

@@ -1,4 +1,4 @@
--- How the rows of bits stay exact, and what the first bit of a row says.
+-- How the bitmaps stay exact, and what the first bit of a bitmap says.
 use Rattle.std.proofs.Common.{◌≡◌, ◌≢◌, ℕ, zero, suc, ◌+◌, ◌-◌, ◌*◌, ◌<◌, ◌≤◌, List, [], ◌∷◌, length, Option, Some, None, Bool, true, false, ◌&&◌, nat_eq, nat_lt, refl, ap, ◌∙◌, sym, arith, get_or, take, drop, ◌++◌, append-nil}
 use Rattle.std.specs.Prelude.{slice_get, slice_set, if◌then◌else◌, IfSome}
 use Rattle.std.proofs.Math.Bool.{and-true}
@@ -10,7 +10,7 @@ use Rattle.fmp_base.specs.Settles.{first_pending, cyclic_handler, interrupt_or}
 use Rattle.fmp_base.specs.Systems.{found}
 use Rattle.fmp_base.specs.Ticks.{is_pending}
 use Rattle.fmp_spin.specs.Bits.{bit_in, as_bit, IsFirst}
-use Rattle.fmp_spin.specs.Pending.{HandlerProcessors, PendingMarks, AreRows, IsSetAt, is_on, interrupts_there, cycles_there, first_handler, processor_at_slot, mark_at_slot}
+use Rattle.fmp_spin.specs.Pending.{HandlerProcessors, PendingMarks, AreBitmaps, IsSetAt, is_on, interrupts_there, cycles_there, first_handler, processor_at_slot, mark_at_slot}
 
 nat_same : (a b : ℕ) → nat_eq a b ≡ true → a ≡ b
 nat_same a b h = grind (arith, nat_tests)
@@ -44,10 +44,10 @@ left-true true b h = refl
 left-true false b h = cc
 
 -- one slot is marked anew, with its bit
-pub AreRows-set : (count : ℕ) (old new : List ℕ) (on : ℕ → Option ℕ) (mark mark_new : ℕ → Bool) (s : ℕ) (b : Bool)
-    → AreRows count old on mark → IsSetAt old new (on s) s b → mark_new s ≡ b → ((n : ℕ) → n ≢ s → mark_new n ≡ mark n)
-    → AreRows count new on mark_new
-AreRows-set count old new on mark mark_new s b rows set here others = λ p n l m. by_slot p n l m (nat_eq n s) refl (is_on (on s) p) refl where
+pub AreBitmaps-set : (count : ℕ) (old new : List ℕ) (on : ℕ → Option ℕ) (mark mark_new : ℕ → Bool) (s : ℕ) (b : Bool)
+    → AreBitmaps count old on mark → IsSetAt old new (on s) s b → mark_new s ≡ b → ((n : ℕ) → n ≢ s → mark_new n ≡ mark n)
+    → AreBitmaps count new on mark_new
+AreBitmaps-set count old new on mark mark_new s b rows set here others = λ p n l m. by_slot p n l m (nat_eq n s) refl (is_on (on s) p) refl where
   by_slot : (p n : ℕ) → p < count → n < 320 → (t : Bool) → nat_eq n s ≡ t → (w : Bool) → is_on (on s) p ≡ w
       → bit_in new (p * 320 + n) ≡ as_bit (mark_new n && is_on (on n) p)
   by_slot p n l m false e w k =
@@ -165,12 +165,12 @@ slot-cyclic on is cs p c =
     let e : 64 + c - 64 ≡ c = omega arith in
     rw (above (64 + c) 64 (omega arith), e) refl
 
-bit-of : (count : ℕ) (words : List ℕ) (on : ℕ → Option ℕ) (mark : ℕ → Bool) (p n : ℕ) → AreRows count words on mark → p < count → n < 320
+bit-of : (count : ℕ) (words : List ℕ) (on : ℕ → Option ℕ) (mark : ℕ → Bool) (p n : ℕ) → AreBitmaps count words on mark → p < count → n < 320
     → bit_in words (p * 5 * 64 + n) ≡ as_bit (mark n && is_on (on n) p)
 bit-of count words on mark p n rows l m = let e : p * 5 * 64 + n ≡ p * 320 + n = omega arith in rw e (rows p n l m)
 
 pub first-is_interrupt : (count : ℕ) (words : List ℕ) (marks : PendingMarks) (p k : ℕ)
-    → AreRows count words (processor_at_slot marks.processors) (mark_at_slot marks.interrupts marks.cyclics) → p < count
+    → AreBitmaps count words (processor_at_slot marks.processors) (mark_at_slot marks.interrupts marks.cyclics) → p < count
     → IsFirst (λ i. bit_in words (p * 5 * 64 + i)) 320 (Some k) → k < 64
     → (Some (handler.Interrupt k) ≡ first_handler marks p) × (k < length marks.interrupts)
 first-is_interrupt count words marks p k rows l first low = (
@@ -188,7 +188,7 @@ first-is_interrupt count words marks p k rows l first low = (
 
 -- no interrupt, where no bit below 64 is set
 no_interrupt : (count : ℕ) (words : List ℕ) (marks : PendingMarks) (p : ℕ)
-    → AreRows count words (processor_at_slot marks.processors) (mark_at_slot marks.interrupts marks.cyclics) → p < count
+    → AreBitmaps count words (processor_at_slot marks.processors) (mark_at_slot marks.interrupts marks.cyclics) → p < count
     → ((i : ℕ) → i < 64 → bit_in words (p * 5 * 64 + i) ≡ 0) → length marks.interrupts ≤ 64
     → first_pending (interrupts_there marks.processors p) 0 marks.interrupts ≡ None
 no_interrupt count words marks p rows l none few = first-none_start (interrupts_there marks.processors p) marks.interrupts clear where
@@ -198,7 +198,7 @@ no_interrupt count words marks p rows l none few = first-none_start (interrupts_
       sym (bit-of count words _ _ p j rows l (omega arith)) ∙ none j (omega arith))
 
 pub first-is_cyclic : (count : ℕ) (words : List ℕ) (marks : PendingMarks) (p k c : ℕ)
-    → AreRows count words (processor_at_slot marks.processors) (mark_at_slot marks.interrupts marks.cyclics) → p < count
+    → AreBitmaps count words (processor_at_slot marks.processors) (mark_at_slot marks.interrupts marks.cyclics) → p < count
     → length marks.interrupts ≤ 64 → IsFirst (λ i. bit_in words (p * 5 * 64 + i)) 320 (Some k) → k ≡ 64 + c
     → (Some (handler.Cyclic c) ≡ first_handler marks p) × (c < length marks.cyclics)
 first-is_cyclic count words marks p k c rows l few first is = (
@@ -219,7 +219,7 @@ first-is_cyclic count words marks p k c rows l few first is = (
   clear j m = clear-bit _ (sym (bit j (omega (arith, is, first.0))) ∙ first.2 (64 + j) (omega (arith, is)))
 
 pub first-is_none : (count : ℕ) (words : List ℕ) (marks : PendingMarks) (p : ℕ)
-    → AreRows count words (processor_at_slot marks.processors) (mark_at_slot marks.interrupts marks.cyclics) → p < count
+    → AreBitmaps count words (processor_at_slot marks.processors) (mark_at_slot marks.interrupts marks.cyclics) → p < count
     → length marks.interrupts ≤ 64 → length marks.cyclics ≤ 255 → IsFirst (λ i. bit_in words (p * 5 * 64 + i)) 320 None
     → None ≡ first_handler marks p
 first-is_none count words marks p rows l few short none =
@@ -232,10 +232,10 @@ first-is_none count words marks p rows l few short none =
       clear j m =
           clear-bit _ (ap as_bit (sym (slot-cyclic marks.processors marks.interrupts marks.cyclics p j)) ∙ sym (bit-of count words _ _ p (64 + j) rows l (omega arith)) ∙ none (64 + j) (omega arith))
 
--- the row of a processor that is there
-pub row-there : (count long : ℕ) (x : Option ℕ) → long ≡ count * 5 → ((q : ℕ) → x ≡ Some q → q < count) → IfSome x (λ q. q * 5 + 5 ≤ long)
-row-there count long None e h = tt
-row-there count long (Some q) e h = let l : q < count = h q refl in omega arith
+-- the bitmap of a processor that is there
+pub bitmap-there : (count long : ℕ) (x : Option ℕ) → long ≡ count * 5 → ((q : ℕ) → x ≡ Some q → q < count) → IfSome x (λ q. q * 5 + 5 ≤ long)
+bitmap-there count long None e h = tt
+bitmap-there count long (Some q) e h = let l : q < count = h q refl in omega arith
 
 -- what is written over all items of a vector is what it then holds
 pub written_whole : (items new : List ℕ) (n : ℕ) → length new ≡ length items → n ≡ length items → take n (new ++ drop (length new) items) ≡ new

@@ -1,4 +1,4 @@
--- Rows of bits, kept in words of 64.
+-- Bitmaps, kept in words of 64.
 use Rattle.std.specs.Prelude.{◌≡◌, ℕ, ◌/◌, ◌%◌, ◌<◌, List, Option, Some, None, Bool, true, false, slice_index_or}
 use Rattle.std.specs.Int.{bit_at}
 

@@ -1,4 +1,4 @@
--- Which handlers are pending, on which processor each handler runs, and the rows of bits in which they are found.
+-- Which handlers are pending, on which processor each handler runs, and the bitmaps in which they are found.
 use Rattle.std.specs.Prelude.{◌≡◌, ℕ, ◌+◌, ◌-◌, ◌*◌, ◌<◌, ◌≤◌, List, Option, Some, None, Bool, false, ◌&&◌, nat_eq, nat_lt, length, map, replicate, slice_get, slice_set, if◌then◌else◌}
 use Rattle.fmp_base.specs.declared.states.Handler.{Handler}
 use Rattle.fmp_base.specs.declared.states.Handler.TheVariants as handler
@@ -81,16 +81,16 @@ marks_view a =
       cyclics = a.cyclics.items;
     }
 
--- A row of bits has a slot for each handler: those of interrupts from 0 on, those of cyclic handlers from 64 on.
+-- A bitmap has a slot for each handler: those of interrupts from 0 on, those of cyclic handlers from 64 on.
 abbrev pub processor_at_slot : HandlerProcessors → ℕ → Option ℕ
 processor_at_slot on n = if nat_lt n 64 then found None (slice_get on.interrupts n) else slice_get on.cyclics (n - 64)
 
 abbrev pub mark_at_slot : List Bool → List Bool → ℕ → Bool
 mark_at_slot interrupts cyclics n = if nat_lt n 64 then is_pending interrupts n else is_pending cyclics (n - 64)
 
--- a bit of a processor's row is set exactly if the handler runs there and is pending
-abbrev pub AreRows : ℕ → List ℕ → (ℕ → Option ℕ) → (ℕ → Bool) → Type 0
-AreRows count words on mark =
+-- a bit of a processor's bitmap is set exactly if the handler runs there and is pending
+abbrev pub AreBitmaps : ℕ → List ℕ → (ℕ → Option ℕ) → (ℕ → Bool) → Type 0
+AreBitmaps count words on mark =
     (p n : ℕ) → p < count → n < 320 → bit_in words (p * 320 + n) ≡ as_bit (mark n && is_on (on n) p)
 
 pub record IsExact (a : Inside) : Type 0 where
@@ -100,10 +100,10 @@ pub record IsExact (a : Inside) : Type 0 where
   pub few : length a.cyclics.items ≤ 255
   pub there : (n q : ℕ) → processor_at_slot (marks_view a).processors n ≡ Some q → q < a.processors
   pub words : length a.words.items ≡ a.processors * 5
-  pub rows : AreRows a.processors a.words.items (processor_at_slot (marks_view a).processors)
+  pub bitmaps : AreBitmaps a.processors a.words.items (processor_at_slot (marks_view a).processors)
       (mark_at_slot a.interrupts.items a.cyclics.items)
 
--- the bit of a slot is set or cleared in the row of the processor, if any; all others stay
+-- the bit of a slot is set or cleared in the bitmap of the processor, if any; all others stay
 abbrev pub IsSetAt : List ℕ → List ℕ → Option ℕ → ℕ → Bool → Type 0
 IsSetAt old new on slot pending =
     (p n : ℕ) → n < 320

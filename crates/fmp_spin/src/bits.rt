@@ -1,4 +1,4 @@
-//! Rows of bits, kept in words of 64.
+//! Bitmaps, kept in words of 64.
 ghost use Rattle.std.specs.Prelude.{◌≡◌, ◌≢◌, ℕ, ◌+◌, ◌*◌, ◌≤◌, ◌<◌, length, true};
 ghost use Rattle.std.specs.Int.{bit_at};
 ghost use Rattle.fmp_spin.specs.Bits.{bit_in, as_bit, IsFirst};

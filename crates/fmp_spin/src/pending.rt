@@ -13,13 +13,13 @@ use std::alloc::{AllocError, Global};
 use std::marker::Model;
 
 /// How many words of bits a processor has: one for interrupts, four for cyclic handlers.
-const ROW: usize = 5;
+const BITMAP_WORDS: usize = 5;
 
-/// The slot of the first cyclic handler in a row of bits; the interrupts stand before it, from 0.
+/// The slot of the first cyclic handler in a bitmap; the interrupts stand before it, from 0.
 const CYCLICS: usize = 64;
 
 /// For each handler whether it is pending (uITRON 4.0, sections 4.7.2 and 4.9). Interrupts go by their places, their
-/// numbers less 1, and cyclic handlers by theirs. Each processor has a row of bits, in which its first pending handler
+/// numbers less 1, and cyclic handlers by theirs. Each processor has a bitmap, in which its first pending handler
 /// is found at once. It is seen as the marks, with the processor of each handler, which never changes.
 #[derive(Drop)]
 pub struct PendingHandlers {
@@ -41,7 +41,7 @@ impl Model for PendingHandlers {
     ghost invariant = { IsExact };
 }
 
-/// Sets or clears the bit of a slot in the row of a processor, if any.
+/// Sets or clears the bit of a slot in the bitmap of a processor, if any.
 fn set_slot(words: &mut [u64], processor: Option<u8>, slot: usize, pending: bool)
     requires slot { slot < 320 }
     requires there { IfSome processor (λ q. q * 5 + 5 ≤ length words.old) }
@@ -49,7 +49,7 @@ fn set_slot(words: &mut [u64], processor: Option<u8>, slot: usize, pending: bool
     ensures words { length words.new ≡ length words.old }
 {
     if let Some(q) = processor {
-        set_bit(words, q as usize * ROW * 64 + slot, pending);
+        set_bit(words, q as usize * BITMAP_WORDS * 64 + slot, pending);
     }
 }
 
@@ -105,7 +105,7 @@ fn clear_words(alloc: Global, count: usize) -> Result<Vec<u64>, AllocError>
     vec![in alloc; 0; count]
 }
 
-/// The first slot of a row whose bit is set, if any. Usually there is none, which is seen at once.
+/// The first slot of a bitmap whose bit is set, if any. Usually there is none, which is seen at once.
 fn first_slot(words: &[u64], from: usize) -> Option<usize>
     requires inside { from + 5 ≤ length words.now }
     ensures { IsFirst (λ i. bit_in words.now (from * 64 + i)) 320 result }
@@ -113,7 +113,7 @@ fn first_slot(words: &[u64], from: usize) -> Option<usize>
     if is_clear(words, from) {
         None
     } else {
-        first_bit(words, from, ROW)
+        first_bit(words, from, BITMAP_WORDS)
     }
 }
 
@@ -127,7 +127,7 @@ impl PendingHandlers {
         let cyclic_processors = cyclic_processors(alloc, sys.cyclics.as_slice())?;
         let interrupts = clear_marks(alloc, 32)?;
         let cyclics = clear_marks(alloc, sys.cyclics.len())?;
-        let words = clear_words(alloc, sys.processors as usize * ROW)?;
+        let words = clear_words(alloc, sys.processors as usize * BITMAP_WORDS)?;
         Ok(PendingHandlers {
             processors: sys.processors,
             interrupt_processors,
@@ -220,7 +220,7 @@ impl PendingHandlers {
         ensures value { result ≡ first_handler self.now p }
         ensures there { IfSome result (λ h. HasMark self.now h) }
     {
-        match first_slot(self.words.as_slice(), p as usize * ROW) {
+        match first_slot(self.words.as_slice(), p as usize * BITMAP_WORDS) {
             Some(slot) if slot < CYCLICS => Some(Handler::Interrupt(slot as u8)),
             Some(slot) => Some(Handler::Cyclic((slot - CYCLICS) as u8)),
             None => None,

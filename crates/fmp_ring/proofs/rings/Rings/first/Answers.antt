@@ -1,6 +1,6 @@
 use Rattle.std.proofs.Common.{◌<◌, length, arith}
 use Rattle.fmp_ring.specs.Chains.{lists_of}
-use Rattle.fmp_ring.proofs.RowLemmas.{length-lists_of, AreRings-some, AreRings-none, AreRings-order}
+use Rattle.fmp_ring.proofs.LinkLemmas.{length-lists_of, AreRings-some, AreRings-none, AreRings-order}
 use Rattle.fmp_ring.proofs.rings.Rings.first.Goals as goal
 
 pub overflow_add-self-inside : goal.overflow_add-self-inside

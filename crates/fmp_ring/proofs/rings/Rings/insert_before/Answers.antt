@@ -2,7 +2,7 @@ use Rattle.std.proofs.Common.{◌≡◌, ◌<◌, ◌∙◌, ap, arith, true, fa
 use Rattle.std.proofs.Math.ListN.{length-set}
 use Rattle.fmp_ring.specs.Chains.{lists_of}
 use Rattle.fmp_ring.specs.RingLists.{is_linked}
-use Rattle.fmp_ring.proofs.RowLemmas.{AreRings-node, AreRings-meets, AreRings-before, AreRings-joins, lists_for}
+use Rattle.fmp_ring.proofs.LinkLemmas.{AreRings-node, AreRings-meets, AreRings-before, AreRings-joins, lists_for}
 use Rattle.fmp_ring.proofs.rings.Rings.insert_before.Goals as goal
 
 pub get-before-requires : goal.get-before-requires
@@ -14,7 +14,7 @@ get-before-requires c =
 pub link-requires-clause-from : goal.link-requires-clause-from
 link-requires-clause-from c =
     let there : is_linked c.args.at (lists_of c.self.inside.nodes c.self.inside.heads c.self.inside.next) ≡ true = rw (← c.self.view_is) at c.requires.there in
-    rw (c.get-before.ensures.link, c.self.invariant.next_row) (AreRings-meets _ _ _ _ _ c.self.invariant there).before
+    rw (c.get-before.ensures.link, c.self.invariant.next_count) (AreRings-meets _ _ _ _ _ c.self.invariant there).before
 
 pub link-requires-2-clause-to : goal.link-requires-2-clause-to
 link-requires-2-clause-to c =

@@ -1,4 +1,4 @@
-use Rattle.fmp_ring.proofs.RowLemmas.{AreRings-is_linked, AreRings-outside}
+use Rattle.fmp_ring.proofs.LinkLemmas.{AreRings-is_linked, AreRings-outside}
 use Rattle.fmp_ring.proofs.rings.Rings.is_linked.Goals as goal
 
 pub returns-then-self-x-clause-value : goal.returns-then-self-x-clause-value

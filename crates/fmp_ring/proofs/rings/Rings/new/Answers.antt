@@ -1,5 +1,5 @@
 use Rattle.std.proofs.Common.{ap}
-use Rattle.fmp_ring.proofs.RowLemmas.{AreRings-new, lists_for}
+use Rattle.fmp_ring.proofs.LinkLemmas.{AreRings-new, lists_for}
 use Rattle.fmp_ring.proofs.rings.Rings.new.Goals as goal
 
 pub invariant_of-result : goal.invariant_of-result

@@ -1,7 +1,7 @@
 use Rattle.std.proofs.Common.{◌≡◌, ◌<◌, arith, true}
 use Rattle.fmp_ring.specs.Chains.{lists_of}
 use Rattle.fmp_ring.specs.RingLists.{is_linked}
-use Rattle.fmp_ring.proofs.RowLemmas.{AreRings-node, AreRings-follower, AreRings-no_follower}
+use Rattle.fmp_ring.proofs.LinkLemmas.{AreRings-node, AreRings-follower, AreRings-no_follower}
 use Rattle.fmp_ring.proofs.rings.Rings.next.Goals as goal
 
 pub get-y-requires : goal.get-y-requires

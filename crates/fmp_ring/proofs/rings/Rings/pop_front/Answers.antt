@@ -2,7 +2,7 @@ use Rattle.std.proofs.Common.{◌≡◌, ◌<◌, ◌∙◌, sym, ap, Some, leng
 use Rattle.fmp_base.specs.Queues.{first_of}
 use Rattle.fmp_ring.specs.Chains.{lists_of}
 use Rattle.fmp_ring.specs.RingLists.{list_at}
-use Rattle.fmp_ring.proofs.RowLemmas.{AreRings-popped, lists_for}
+use Rattle.fmp_ring.proofs.LinkLemmas.{AreRings-popped, lists_for}
 use Rattle.fmp_ring.proofs.rings.Rings.pop_front.Goals as goal
 
 pub returns-in-Some-clause-lists : goal.returns-in-Some-clause-lists

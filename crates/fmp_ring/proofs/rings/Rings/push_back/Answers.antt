@@ -2,7 +2,7 @@ use Rattle.std.proofs.Common.{◌≡◌, ◌<◌, ap, arith, false}
 use Rattle.std.proofs.Math.ListN.{length-set}
 use Rattle.fmp_ring.specs.Chains.{lists_of}
 use Rattle.fmp_ring.specs.RingLists.{is_linked}
-use Rattle.fmp_ring.proofs.RowLemmas.{length-lists_of, AreRings-end, AreRings-pushed, lists_for}
+use Rattle.fmp_ring.proofs.LinkLemmas.{length-lists_of, AreRings-end, AreRings-pushed, lists_for}
 use Rattle.fmp_ring.proofs.rings.Rings.push_back.Goals as goal
 
 pub overflow_add-head : goal.overflow_add-head
@@ -18,7 +18,7 @@ get-last-requires c =
 pub link-requires-clause-from : goal.link-requires-clause-from
 link-requires-clause-from c =
     let there : c.args.h < c.self.inside.heads = rw (← c.self.view_is, length-lists_of) at c.requires.head in
-    rw (c.get-last.ensures.link, c.self.invariant.next_row) (AreRings-end _ _ _ _ _ c.self.invariant there).1
+    rw (c.get-last.ensures.link, c.self.invariant.next_count) (AreRings-end _ _ _ _ _ c.self.invariant there).1
 
 pub link-requires-2-clause-to : goal.link-requires-2-clause-to
 link-requires-2-clause-to c =

@@ -2,7 +2,7 @@ use Rattle.std.proofs.Math.ListN.{length-set}
 use Rattle.std.proofs.Common.{◌≡◌, ◌<◌, ◌∙◌, ap, arith, true}
 use Rattle.fmp_ring.specs.Chains.{lists_of}
 use Rattle.fmp_ring.specs.RingLists.{is_linked}
-use Rattle.fmp_ring.proofs.RowLemmas.{AreRings-node, AreRings-meets, AreRings-without, AreRings-leaves, lists_for}
+use Rattle.fmp_ring.proofs.LinkLemmas.{AreRings-node, AreRings-meets, AreRings-without, AreRings-leaves, lists_for}
 use Rattle.fmp_ring.specs.LinkedLaws.{is_linked-without}
 use Rattle.fmp_ring.proofs.rings.Rings.remove.Goals as goal
 
@@ -27,12 +27,12 @@ set-requires c =
 pub link-requires-clause-from : goal.link-requires-clause-from
 link-requires-clause-from c =
     let there : is_linked c.args.x (lists_of c.self.inside.nodes c.self.inside.heads c.self.inside.next) ≡ true = rw (← c.self.view_is) at c.requires in
-    rw (c.set.ensures.links, length-set, c.get-before.ensures.link, c.self.invariant.next_row) (AreRings-meets _ _ _ _ _ c.self.invariant there).before
+    rw (c.set.ensures.links, length-set, c.get-before.ensures.link, c.self.invariant.next_count) (AreRings-meets _ _ _ _ _ c.self.invariant there).before
 
 pub link-requires-clause-to : goal.link-requires-clause-to
 link-requires-clause-to c =
     let there : is_linked c.args.x (lists_of c.self.inside.nodes c.self.inside.heads c.self.inside.next) ≡ true = rw (← c.self.view_is) at c.requires in
-    rw (c.get-after.ensures.link, c.self.invariant.previous_row) (AreRings-meets _ _ _ _ _ c.self.invariant there).after
+    rw (c.get-after.ensures.link, c.self.invariant.previous_count) (AreRings-meets _ _ _ _ _ c.self.invariant there).after
 
 pub invariant_of-self : goal.invariant_of-self
 invariant_of-self c =

@@ -3,7 +3,7 @@ use Rattle.fmp_base.specs.Queues.{first_of}
 use Rattle.fmp_ring.specs.Chains.{lists_of}
 use Rattle.fmp_ring.specs.RingLists.{list_at}
 use Rattle.fmp_ring.proofs.RingLemmas.{popped-pushed}
-use Rattle.fmp_ring.proofs.RowLemmas.{AreRings-popped, lists_for}
+use Rattle.fmp_ring.proofs.LinkLemmas.{AreRings-popped, lists_for}
 use Rattle.fmp_ring.specs.LinkedLaws.{is_linked-without}
 use Rattle.fmp_ring.proofs.rings.Rings.rotate.Goals as goal
 

@@ -1,8 +1,8 @@
 use Rattle.std.proofs.Common.{◌≡◌, ◌<◌, ◌+◌, ℕ, length, ◌∙◌, sym, arith, subst, ap, List, vec_len}
 use Rattle.std.specs.Prelude.{slice_set, Option, Some}
 use Rattle.std.proofs.Math.ListN.{length-set}
-use Rattle.fmp_spin.specs.Pending.{marks_view, processor_at_slot, mark_at_slot, AreRows, IsSetAt}
-use Rattle.fmp_spin.proofs.PendingLemmas.{AreRows-set, mark-cyclic_same, mark-cyclic_other, processor-cyclic, row-there, written_whole}
+use Rattle.fmp_spin.specs.Pending.{marks_view, processor_at_slot, mark_at_slot, AreBitmaps, IsSetAt}
+use Rattle.fmp_spin.proofs.PendingLemmas.{AreBitmaps-set, mark-cyclic_same, mark-cyclic_other, processor-cyclic, bitmap-there, written_whole}
 use Rattle.fmp_spin.proofs.pending.PendingHandlers.mark_cyclic.Goals as goal
 
 pub set_slot-requires-clause-there : goal.set_slot-requires-clause-there
@@ -10,7 +10,7 @@ set_slot-requires-clause-there c =
     let there : c.args.c < length c.self.inside.cyclics.items = rw (← c.self.view_is) at c.requires in
     let is : processor_at_slot (marks_view c.self.inside).processors (64 + c.args.c) ≡ Some c.index.result.now =
     processor-cyclic c.self.inside.processors c.self.inside.interrupt_processors.items _ c.args.c _ (omega (arith, c.self.invariant.cyclics)) c.index.ensures in
-    row-there c.self.inside.processors _ (Some c.index.result.now) (rw c.as_mut_slice.ensures.value c.self.invariant.words) (λ q e. c.self.invariant.there (64 + c.args.c) q (is ∙ e))
+    bitmap-there c.self.inside.processors _ (Some c.index.result.now) (rw c.as_mut_slice.ensures.value c.self.invariant.words) (λ q e. c.self.invariant.there (64 + c.args.c) q (is ∙ e))
 
 pub invariant_of-self : goal.invariant_of-self
 invariant_of-self c =
@@ -27,12 +27,12 @@ invariant_of-self c =
       few = rw (length-set c.self.inside.cyclics.items c.args.c c.args.pending) c.self.invariant.few;
       there = c.self.invariant.there;
       words = ap length whole ∙ same ∙ c.self.invariant.words;
-      rows =
-          subst (λ (ws : List ℕ). AreRows c.self.inside.processors ws
+      bitmaps =
+          subst (λ (ws : List ℕ). AreBitmaps c.self.inside.processors ws
           (processor_at_slot (marks_view c.self.inside).processors)
           (mark_at_slot c.self.inside.interrupts.items (slice_set c.self.inside.cyclics.items c.args.c c.args.pending)))
           (sym whole)
-          (AreRows-set _ _ _ _ _ _ (64 + c.args.c) c.args.pending c.self.invariant.rows
+          (AreBitmaps-set _ _ _ _ _ _ (64 + c.args.c) c.args.pending c.self.invariant.bitmaps
           (subst (λ (x : Option ℕ). IsSetAt c.self.inside.words.items c.set_slot.new.words x (64 + c.args.c) c.args.pending) (sym is) (rw c.as_mut_slice.ensures.value at c.set_slot.ensures.bits))
           (mark-cyclic_same c.self.inside.interrupts.items c.self.inside.cyclics.items c.args.c c.args.pending there)
           (mark-cyclic_other c.self.inside.interrupts.items c.self.inside.cyclics.items c.args.c c.args.pending));

@@ -1,8 +1,8 @@
 use Rattle.std.proofs.Common.{◌≡◌, ◌<◌, ℕ, length, ◌∙◌, sym, arith, subst, ap, List, vec_len}
 use Rattle.std.specs.Prelude.{slice_set, Option}
 use Rattle.std.proofs.Math.ListN.{length-set}
-use Rattle.fmp_spin.specs.Pending.{marks_view, processor_at_slot, mark_at_slot, AreRows, IsSetAt}
-use Rattle.fmp_spin.proofs.PendingLemmas.{AreRows-set, mark-interrupt_same, mark-interrupt_other, processor-interrupt, row-there, written_whole}
+use Rattle.fmp_spin.specs.Pending.{marks_view, processor_at_slot, mark_at_slot, AreBitmaps, IsSetAt}
+use Rattle.fmp_spin.proofs.PendingLemmas.{AreBitmaps-set, mark-interrupt_same, mark-interrupt_other, processor-interrupt, bitmap-there, written_whole}
 use Rattle.fmp_spin.proofs.pending.PendingHandlers.mark_interrupt.Goals as goal
 
 pub set_slot-requires-clause-there : goal.set_slot-requires-clause-there
@@ -12,7 +12,7 @@ set_slot-requires-clause-there c =
     processor-interrupt c.self.inside.processors _ _ c.args.i _
     (omega (arith, c.self.invariant.interrupts, c.self.invariant.interrupt_processors))
     (omega (arith, c.self.invariant.interrupts)) c.index-processor.ensures in
-    row-there c.self.inside.processors _ _ (rw c.as_mut_slice.ensures.value c.self.invariant.words) (λ q e. c.self.invariant.there c.args.i q (is ∙ e))
+    bitmap-there c.self.inside.processors _ _ (rw c.as_mut_slice.ensures.value c.self.invariant.words) (λ q e. c.self.invariant.there c.args.i q (is ∙ e))
 
 pub invariant_of-self : goal.invariant_of-self
 invariant_of-self c =
@@ -31,12 +31,12 @@ invariant_of-self c =
       few = c.self.invariant.few;
       there = c.self.invariant.there;
       words = ap length whole ∙ same ∙ c.self.invariant.words;
-      rows =
-          subst (λ (ws : List ℕ). AreRows c.self.inside.processors ws
+      bitmaps =
+          subst (λ (ws : List ℕ). AreBitmaps c.self.inside.processors ws
           (processor_at_slot (marks_view c.self.inside).processors)
           (mark_at_slot (slice_set c.self.inside.interrupts.items c.args.i c.args.pending) c.self.inside.cyclics.items))
           (sym whole)
-          (AreRows-set _ _ _ _ _ _ c.args.i c.args.pending c.self.invariant.rows
+          (AreBitmaps-set _ _ _ _ _ _ c.args.i c.args.pending c.self.invariant.bitmaps
           (subst (λ (x : Option ℕ). IsSetAt c.self.inside.words.items c.set_slot.new.words x c.args.i c.args.pending) (sym is) (rw c.as_mut_slice.ensures.value at c.set_slot.ensures.bits))
           (mark-interrupt_same c.self.inside.interrupts.items c.self.inside.cyclics.items c.args.i c.args.pending there (omega (arith, c.self.invariant.interrupts)))
           (mark-interrupt_other c.self.inside.interrupts.items c.self.inside.cyclics.items c.args.i c.args.pending));

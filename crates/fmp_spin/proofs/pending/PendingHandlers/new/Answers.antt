@@ -2,7 +2,7 @@ use Rattle.std.proofs.Common.{◌≡◌, ◌*◌, length, ap, ◌∙◌, sym, ar
 use Rattle.std.proofs.lemmas.List.{length-map, length-replicate}
 use Rattle.fmp_base.specs.Systems.{tables_of}
 use Rattle.fmp_spin.specs.Pending.{handler_processors, processor_at_slot}
-use Rattle.fmp_spin.proofs.NewLemmas.{AreRows-none, length-interrupts, processor-below}
+use Rattle.fmp_spin.proofs.NewLemmas.{AreBitmaps-none, length-interrupts, processor-below}
 use Rattle.fmp_spin.proofs.pending.PendingHandlers.new.Goals as goal
 
 pub invariant_of-result : goal.invariant_of-result
@@ -20,8 +20,8 @@ invariant_of-result c =
       few = omega (arith, few, c.requires.cyclics.count);
       there = λ n q e. processor-below sys c.requires n q (rw (is, cs) at e);
       words = ap length c.in_ok-words.ensures ∙ length-replicate _ _;
-      rows =
-          AreRows-none c.args.sys.now.processors c.in_ok-words.words.items
+      bitmaps =
+          AreBitmaps-none c.args.sys.now.processors c.in_ok-words.words.items
           (processor_at_slot (record {
             count = c.args.sys.now.processors;
             interrupts =

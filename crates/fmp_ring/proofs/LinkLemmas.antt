@@ -1,4 +1,4 @@
--- What becomes of rows of links that are rings, as the code writes them.
+-- What becomes of arrays of links that are rings, as the code writes them.
 use Rattle.std.proofs.Common.{◌≡◌, ◌≢◌, ℕ, ◌+◌, ◌<◌, ◌≤◌, List, [], ◌∷◌, ◌++◌, length, true, false, Some, None, replicate, refl, ◌∙◌, sym, subst, arith, ap, Bool, not, nat_eq}
 use Rattle.std.specs.Prelude.{slice_set}
 use Rattle.std.proofs.Math.ListN.{length-set}
@@ -27,7 +27,7 @@ unfolding lists_of
 AreRings-from_chains n heads next previous lists rows rows_back count chains marked =
     let found : walks (link_at next) n n (length lists) ≡ lists = AreChains-walks n (link_at next) (link_at previous) lists chains in
     let e : walks (link_at next) n n heads ≡ lists = rw count at found in
-    (e, record { next_row = rows; previous_row = rows_back; chains = rw e chains; marked = rw e marked })
+    (e, record { next_count = rows; previous_count = rows_back; chains = rw e chains; marked = rw e marked })
 
 pub length-lists_of : (n heads : ℕ) (next : List ℕ) → length (lists_of n heads next) ≡ heads
 unfolding lists_of
@@ -102,10 +102,10 @@ AreRings-without n heads next previous x r there =
     let k = AreRings-meets n heads next previous x r there in
     let low = AreRings-node n heads next previous x r there in
     let moves = AreChains-moves n (link_at next) (link_at previous) (lists_of n heads next) x r.chains there in
-    let u = unlinked-rows (n + heads) next previous x r.next_row r.previous_row (omega arith) moves k in
+    let u = unlinked-rows (n + heads) next previous x r.next_count r.previous_count (omega arith) moves k in
     AreRings-from_chains n heads (slice_set (slice_set next x x) (link_at previous x) (link_at next x)) (slice_set previous (link_at next x) (link_at previous x))
-    (without_node x (lists_of n heads next)) (length-set (slice_set next x x) (link_at previous x) (link_at next x) ∙ (length-set next x x ∙ r.next_row))
-    (length-set previous (link_at next x) (link_at previous x) ∙ r.previous_row)
+    (without_node x (lists_of n heads next)) (length-set (slice_set next x x) (link_at previous x) (link_at next x) ∙ (length-set next x x ∙ r.next_count))
+    (length-set previous (link_at next x) (link_at previous x) ∙ r.previous_count)
     (length-map (lists_of n heads next) (λ q. without q x) ∙ length-lists_of n heads next)
     (AreChains-without n (link_at next) (link_at previous) _ _ (lists_of n heads next) x r.chains low u)
     (AreMarked-without n (link_at next) (link_at previous) _ _ (lists_of n heads next) x r.marked moves u)
@@ -131,10 +131,10 @@ AreRings-before n heads next previous x b r low free there =
     let k = AreRings-meets n heads next previous b r there in
     let lowb = AreRings-node n heads next previous b r there in
     let a = link_at previous b in
-    let u = linked_in-rows (n + heads) next previous x b r.next_row r.previous_row (omega arith) (omega arith) k.before k.forward
+    let u = linked_in-rows (n + heads) next previous x b r.next_count r.previous_count (omega arith) (omega arith) k.before k.forward
     (nodes-apart x b (lists_of n heads next) free there) (before-apart n heads next previous x b r low free there) in
     AreRings-from_chains n heads (slice_set (slice_set next a x) x b) (slice_set (slice_set previous x a) b x) (with_before b x (lists_of n heads next))
-    (length-set (slice_set next a x) x b ∙ (length-set next a x ∙ r.next_row)) (length-set (slice_set previous x a) b x ∙ (length-set previous x a ∙ r.previous_row))
+    (length-set (slice_set next a x) x b ∙ (length-set next a x ∙ r.next_count)) (length-set (slice_set previous x a) b x ∙ (length-set previous x a ∙ r.previous_count))
     (length-map (lists_of n heads next) (inserted_before b x) ∙ length-lists_of n heads next)
     (AreChains-before n (link_at next) (link_at previous) _ _ (lists_of n heads next) x b r.chains low lowb free u)
     (AreMarked-before n (link_at next) (link_at previous) _ _ (lists_of n heads next) x b r.marked there u)
@@ -159,9 +159,9 @@ AreRings-pushed n heads next previous h x r low lowh free =
     let apart : n + h ≢ x = omega arith in
     let apart_back : x ≢ n + h = omega arith in
     let last = Chain-last n (link_at next) (link_at previous) x (n + h) (list_at (lists_of n heads next) h) (n + h) apart (is_linked-none x (lists_of n heads next) free h) (r.chains.each h l) in
-    let u = linked_in-rows (n + heads) next previous x (n + h) r.next_row r.previous_row (omega arith) (omega arith) k.1 k.0 apart_back last in
+    let u = linked_in-rows (n + heads) next previous x (n + h) r.next_count r.previous_count (omega arith) (omega arith) k.1 k.0 apart_back last in
     AreRings-from_chains n heads (slice_set (slice_set next a x) x b) (slice_set (slice_set previous x a) b x) (slice_set (lists_of n heads next) h (list_at (lists_of n heads next) h ++ x ∷ []))
-    (length-set (slice_set next a x) x b ∙ (length-set next a x ∙ r.next_row)) (length-set (slice_set previous x a) b x ∙ (length-set previous x a ∙ r.previous_row))
+    (length-set (slice_set next a x) x b ∙ (length-set next a x ∙ r.next_count)) (length-set (slice_set previous x a) b x ∙ (length-set previous x a ∙ r.previous_count))
     (length-set (lists_of n heads next) h (list_at (lists_of n heads next) h ++ x ∷ []) ∙ length-lists_of n heads next)
     (AreChains-pushed n (link_at next) (link_at previous) _ _ (lists_of n heads next) h x r.chains low l free u)
     (AreMarked-pushed n (link_at next) (link_at previous) _ _ (lists_of n heads next) h x r.marked l u)
