@@ -6,6 +6,8 @@ It is written from the rules of the format alone and shares nothing with the pro
 import re
 import struct
 
+from common.services import SERVICES
+
 MAGIC, VERSION = b"FMPI", 1
 NUMBERS = {"u8": "<B", "u16": "<H", "u32": "<I", "i32": "<i"}
 
@@ -24,21 +26,11 @@ LAYOUTS = {
 }
 LAYOUTS = {table: [field.split(":") for field in row.split()] for table, row in LAYOUTS.items()}
 
-# The service calls by number, from 1: the arguments of each, `&` being an out place.
-SERVICES = """
-put v; ld_shr w &; st_shr w v; act_tsk t; can_act t; ext_tsk; ter_tsk t; chg_pri t p; get_pri t &; mact_tsk t c;
-mig_tsk t c; slp_tsk; tslp_tsk m; wup_tsk t; can_wup t; rel_wai t; sus_tsk t; rsm_tsk t; dly_tsk d; sig_sem s;
-wai_sem s; pol_sem s; twai_sem s m; set_flg f b; clr_flg f b; wai_flg f b o &; pol_flg f b o &; twai_flg f b o & m;
-snd_dtq d v; psnd_dtq d v; tsnd_dtq d v m; fsnd_dtq d v; rcv_dtq d &; prcv_dtq d &; trcv_dtq d & m; snd_mbx x g;
-rcv_mbx x &; prcv_mbx x &; trcv_mbx x & m; sta_cyc c; stp_cyc c; rot_rdq p; get_tid &; loc_cpu; unl_cpu; dis_dsp;
-ena_dsp; loc_spn l; try_spn l; unl_spn l; iact_tsk t; iwup_tsk t; irel_wai t; isig_sem s; iset_flg f b; ipsnd_dtq d v;
-ifsnd_dtq d v; irot_rdq p
-"""
-SERVICES = [service.split() for service in SERVICES.split(";")]
-ARGUMENT_COUNTS = {number: len(words) - 1 - words.count("&") for number, words in enumerate(SERVICES, 1)}
-HAS_PLACE = {number: "&" in words for number, words in enumerate(SERVICES, 1)}
+# By function code, from 1: how many arguments a service call passes, and whether it has an out place.
+ARGUMENT_COUNTS = {number: len(service.form) - service.form.count("&") for number, service in enumerate(SERVICES, 1)}
+HAS_PLACE = {number: "&" in service.form for number, service in enumerate(SERVICES, 1)}
 
-WORDS = {words[0] for words in SERVICES} | set("""
+WORDS = {service.name for service in SERVICES} | set("""
 E_OK E_SYS E_NOSPT E_RSATR E_PAR E_ID E_CTX E_ILUSE E_OBJ E_QOVR E_RLWAI E_TMOUT TA_NULL TA_HLNG TA_TFIFO TA_TPRI
 TA_MFIFO TA_MPRI TA_ACT TA_WSGL TA_WMUL TA_CLR TA_STA TWF_ANDW TWF_ORW TMO_POL TMO_FEVR TSK_SELF TPRI_INI TPRI_SELF
 CRE_TSK CRE_SEM CRE_FLG CRE_DTQ CRE_MBX CRE_MSG CRE_SHR CRE_SPN CRE_CYC DEF_INH

@@ -3,53 +3,24 @@
 import random
 from dataclasses import dataclass
 
+from common.services import SERVICES
 from model.bodies import LOCALS, Assignment, Body, Call, Endless, Return, Statement
 from model.world import (
     GREATEST_TIME, CyclicHandler, DataQueue, EventFlag, InterruptHandler, Mailbox, Semaphore, System, Task, WaitQueue,
 )
 
-# The calls of random bodies by group: a service and the kinds of its arguments. What stands twice is twice as
-# likely.
-GROUPS = {
-    "tasks": (
-        "act_tsk task", "act_tsk task", "can_act task", "ext_tsk", "ter_tsk task", "ter_tsk task",
-        "chg_pri task priority", "chg_pri task usual_priority", "get_pri task", "rot_rdq priority", "get_tid",
-    ),
-    "migration": (
-        "mact_tsk task processor", "mact_tsk task processor", "mig_tsk task processor", "mig_tsk task processor",
-        "mig_tsk task processor", "can_act task", "sus_tsk task", "rsm_tsk task", "act_tsk task",
-    ),
-    "waits": (
-        "slp_tsk", "tslp_tsk limit", "wup_tsk task", "wup_tsk task", "can_wup task", "rel_wai task",
-        "sus_tsk task", "rsm_tsk task", "rsm_tsk task", "dly_tsk delay",
-    ),
-    "semaphores": (
-        "sig_sem semaphore", "sig_sem semaphore", "wai_sem semaphore", "wai_sem semaphore",
-        "pol_sem semaphore", "twai_sem semaphore limit",
-    ),
-    "flags": (
-        "set_flg flag bits", "set_flg flag bits", "clr_flg flag mask", "wai_flg flag bits mode",
-        "wai_flg flag bits mode", "pol_flg flag bits mode", "twai_flg flag bits mode limit",
-    ),
-    "data queues": (
-        "snd_dtq data_queue word", "psnd_dtq data_queue word", "tsnd_dtq data_queue word limit",
-        "fsnd_dtq data_queue word", "rcv_dtq data_queue", "prcv_dtq data_queue", "trcv_dtq data_queue limit",
-        "snd_dtq data_queue word", "rcv_dtq data_queue",
-    ),
-    "mailboxes": (
-        "snd_mbx mailbox message", "snd_mbx mailbox message", "rcv_mbx mailbox", "prcv_mbx mailbox",
-        "trcv_mbx mailbox limit",
-    ),
-    "processors": (
-        "loc_cpu", "unl_cpu", "unl_cpu", "dis_dsp", "ena_dsp", "ena_dsp", "loc_spn spin_lock", "try_spn spin_lock",
-        "unl_spn spin_lock", "unl_spn spin_lock", "sta_cyc cyclic", "stp_cyc cyclic", "stp_cyc cyclic",
-    ),
-    "words": ("put word", "put v", "put r", "ld_shr shared_word", "st_shr shared_word word"),
-    "handlers": (
-        "iact_tsk other", "iact_tsk other", "iwup_tsk other", "irel_wai other", "isig_sem semaphore",
-        "iset_flg flag bits", "ipsnd_dtq data_queue word", "ifsnd_dtq data_queue word", "irot_rdq priority",
-    ),
-}
+
+def calls_by_group():
+    """The calls of random bodies: a service and the kinds of its arguments. What stands twice is twice as likely."""
+    groups = {}
+    for service in SERVICES:
+        for group, tries in service.tries.items():
+            groups.setdefault(group, []).extend(" ".join([service.name, *kinds]) for kinds in tries)
+    return groups
+
+
+GROUPS = calls_by_group()
+
 WAITING = ("waits", "semaphores", "flags", "data queues", "mailboxes")
 FOR_TASKS = ("tasks", "migration", "processors", *WAITING)
 
