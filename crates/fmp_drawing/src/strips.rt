@@ -76,19 +76,21 @@ impl Strip {
     }
 }
 
-/// Whether a state of a track holds after some event of these.
-fn any_state<S: Copy + PartialEq + Drop>(
+/// Whether a track, if there is one, has a state of this kind after some event of these.
+fn any_state<S: Copy + PartialEq + Drop, F: Fn(S) -> bool>(
     track: Option<&Track<S>>,
     first: u32,
     last: u32,
-    idle: S,
-) -> bool {
+    is_meant: F,
+) -> bool
+    requires { (state : S) → F.pre is_meant state }
+{
     let Some(track) = track else {
         return false;
     };
     for place in track.places(first, last) {
         if let Some(stay) = track.stay(place)
-            && stay.state != idle
+            && is_meant(stay.state)
         {
             return true;
         }
@@ -98,17 +100,8 @@ fn any_state<S: Copy + PartialEq + Drop>(
 
 /// Whether a task is assigned to a processor after some event of these.
 fn is_here(run: &Run, task: u8, processor: u8, first: u32, last: u32) -> bool {
-    let Some(track) = run.tasks.get(usize::from(task)) else {
-        return false;
-    };
-    for place in track.places(first, last) {
-        if let Some(stay) = track.stay(place)
-            && stay.state.processor == processor
-        {
-            return true;
-        }
-    }
-    false
+    let track = run.tasks.get(usize::from(task));
+    any_state(track, first, last, |shown| shown.processor == processor)
 }
 
 /// Whether something happens to a task in a panel: it runs, changes or has a mark.
@@ -168,10 +161,10 @@ impl Strips {
         let (first, last) = (span.first, span.last);
         self.add(Lane::Processor(processor))?;
         let spins = run.spins.meet(processor, first, last);
-        if spins || any_state(run.locks.get(place), first, last, Lock::Free) {
+        if spins || any_state(run.locks.get(place), first, last, |lock| lock != Lock::Free) {
             self.add(Lane::Lock(processor))?;
         }
-        if any_state(run.dispatches.get(place), first, last, true) {
+        if any_state(run.dispatches.get(place), first, last, |enabled| !enabled) {
             self.add(Lane::Dispatch(processor))?;
         }
         Ok(())
