@@ -1,5 +1,5 @@
 -- What a processor runs is assigned to it: how this comes through a change of a task or a processor.
-use Rattle.std.proofs.Common.{◌≡◌, ℕ, zero, suc, ◌<◌, List, [], ◌∷◌, length, Some, true, false, slice_get, slice_set, refl, sym, subst, ap, ◌∙◌, arith}
+use Rattle.std.proofs.Common.{◌≡◌, ℕ, zero, suc, ◌<◌, List, [], ◌∷◌, length, Some, true, slice_get, slice_set, refl, sym, subst, ap, ◌∙◌, arith}
 use Rattle.fmp_base.specs.declared.states.Phase.TheVariants.{Ready}
 use Rattle.fmp_base.specs.declared.states.Processor.{Processor}
 use Rattle.fmp_base.specs.declared.states.TaskBlock.{TaskBlock}

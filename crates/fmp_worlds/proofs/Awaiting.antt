@@ -1,5 +1,5 @@
 -- No actor awaits a reply: a task that is ready, and a handler, go on or have no context.
-use Rattle.std.proofs.Common.{◌≡◌, ℕ, zero, suc, ◌+◌, List, [], ◌∷◌, ◌++◌, Option, Some, None, Bool, true, false, ◌⊎◌, inl, inr, nat_eq, length, replicate, refl, sym, subst, ap, ◌∙◌, arith, append_assoc, if◌then◌else◌}
+use Rattle.std.proofs.Common.{◌≡◌, ℕ, zero, suc, ◌+◌, ◌≤◌, List, [], ◌∷◌, ◌++◌, Option, Some, None, Bool, true, false, ◌⊎◌, inl, inr, nat_eq, length, map, replicate, refl, sym, subst, ap, ◌∙◌, arith, append_assoc, if◌then◌else◌}
 use Rattle.std.proofs.lemmas.Bool.{eqb-true}
 use Rattle.std.proofs.lemmas.Bool.Decides.{nat_tests}
 use Rattle.std.proofs.lemmas.List.{append-nil}
@@ -21,41 +21,35 @@ use Rattle.fmp_base.specs.declared.states.Handler.{Handler}
 use Rattle.fmp_base.specs.declared.states.Handler.TheVariants as handler
 use Rattle.fmp_base.specs.declared.states.TaskBlock.{TaskBlock}
 use Rattle.fmp_base.specs.declared.systems.InterruptConfig.{InterruptConfig}
+use Rattle.fmp_base.specs.declared.systems.TaskConfig.{TaskConfig}
 use Rattle.fmp_base.specs.Calls.{called}
-use Rattle.fmp_base.specs.Meanings.{Meaning, Contexts, World, context_at, context_in, body_in, context_of, context_for, fresh_context, handler_start, task_body, told, delivered_to, contexts_after, contexts_after_all, with_context}
+use Rattle.fmp_base.specs.Meanings.{Meaning, Contexts, World, context_at, context_in, body_in, context_of, context_for, fresh_context, handler_start, told, delivered_to, contexts_after, contexts_after_all, with_context}
 use Rattle.fmp_base.specs.Queues.{top}
 use Rattle.fmp_base.specs.Runs.{Trace, run, run_on}
 use Rattle.fmp_base.specs.Settles.{begun, dispatched, dispatch_lines, is_same_task, is_dispatch_held, handler_to_begin, settled_with, settled_on, all_settled, settled}
-use Rattle.fmp_base.specs.Setups.{setup, all_started, created_state, no_contexts}
+use Rattle.fmp_base.specs.Setups.{setup, all_started, created_state, first_contexts}
 use Rattle.fmp_base.specs.States.{KernelState, Progress, unchanged, task_at, processor_at, places_from}
-use Rattle.fmp_base.specs.Steps.{Reaction, Nothing, Did, actor_by, actor_ended, actor_of, finished, answered, stretched, run_in, run_by, interrupted, interrupted_by, step}
+use Rattle.fmp_base.specs.Steps.{Done, Reaction, Nothing, Did, actor_by, actor_ended, actor_of, finished, answered, stretched, run_in, run_by, interrupted, interrupted_by, step}
 use Rattle.fmp_base.specs.Stretches.{Ending}
 use Rattle.fmp_base.specs.Stretches as ends
-use Rattle.fmp_base.specs.Systems.{SystemTables, interrupt_config}
+use Rattle.fmp_base.specs.Systems.{SystemTables, body_of, interrupt_config}
 use Rattle.fmp_base.specs.Ticks.{ticked, is_pending, with_interrupt_pending}
-use Rattle.fmp_worlds.specs.Settled.{IsSettled}
+use Rattle.fmp_worlds.specs.Settled.{AwaitsNone, IsSettled, IsSettledWorld, IsWorldOf, NoneAwaits}
+use Rattle.fmp_worlds.specs.Stamps.{applied_by, applied_in}
 use Rattle.fmp_worlds.proofs.Assigned.{set_at, set_over, set_other}
 use Rattle.fmp_worlds.proofs.CalledLemmas.{keeps-task_call, keeps-handler_call}
-use Rattle.fmp_worlds.proofs.SettledLaws.{run-settled, setup-settled}
+use Rattle.fmp_worlds.proofs.Kept.{LeavesKept, applied-kept, setup-kept, step-kept}
+use Rattle.fmp_worlds.proofs.SettledLaws.{run-settled, setup-settled, step-settled}
+use Rattle.fmp_worlds.proofs.StampLaws.{applied-leaves_settled}
+use Rattle.fmp_worlds.proofs.StepLemmas.{LeavesSettled}
 use Rattle.fmp_worlds.proofs.TickLemmas.{woken-ticked}
 use Rattle.fmp_worlds.proofs.Told.{IsReady, IsTold, Tells, Woken, still, woken-ended_itself}
-
--- what is kept awaits no reply
-abbrev AwaitsNone : {C : Type 0} → Option (Held C) → Type 0
-AwaitsNone None = Unit {0}
-AwaitsNone (Some (Goes c)) = Unit {0}
-AwaitsNone (Some (Awaits c)) = ⊥
 
 abbrev IsFree : {C : Type 0} → Contexts (Held C) → ℕ → Type 0
 IsFree cs t = AwaitsNone (context_at cs.tasks t)
 
 abbrev IsFreeOn : {C : Type 0} → Contexts (Held C) → ℕ → Type 0
 IsFreeOn cs p = AwaitsNone (context_in (context_at cs.handlers p))
-
--- no ready task and no handler awaits a reply
-pub record NoneAwaits {C : Type 0} (w : World C) : Type 0 where
-  pub tasks : (t : ℕ) → IsReady w.state t → IsFree w.contexts t
-  pub handlers : (p : ℕ) → IsFreeOn w.contexts p
 
 -- contexts through lines
 
@@ -198,6 +192,26 @@ follows-all sys g [] = follows-same g
 follows-all sys g (p ∷ ps) =
     let next = settled_on sys g p (processor_at g.state p) in
     follows-on g next (all_settled sys next ps) (follows-with (handler_to_begin sys g.state p (processor_at g.state p)) g p) (follows-all sys next ps)
+
+-- actors
+
+module _ {C : Type 0} (sys : SystemTables) where
+  actor-free : (w : World C) (p : ℕ) (i : Option Handler) (t : Option ℕ) (who : Caller) (c : C) → IsSettled sys w.state → NoneAwaits w
+      → (processor_at w.state p).run ≡ t → actor_by i t ≡ Some who → context_of w.contexts p who ≡ Some (Awaits c) → ⊥
+  actor-free w p None None who c s h r a e = cc
+  actor-free w p None (Some t) (caller.Task u) c s h r a e =
+      let same : t ≡ u = cc in
+      let free = h.tasks u (s.ready p u (r ∙ ap (λ (v : ℕ). Some v) same)) in
+      subst (λ (o : Option (Held C)). AwaitsNone o) e free
+  actor-free w p None (Some t) (caller.Handler j) c s h r a e = cc
+  actor-free w p (Some j) t (caller.Task u) c s h r a e = cc
+  actor-free w p (Some j) t (caller.Handler k) c s h r a e = subst (λ (o : Option (Held C)). AwaitsNone o) e (h.handlers p)
+
+  -- in a settled world no actor awaits a reply
+  pub settled-free : (w : World C) (p : ℕ) (who : Caller) (c : C) → IsSettledWorld sys w
+      → actor_of (processor_at w.state p) ≡ Some who → context_of w.contexts p who ≡ Some (Awaits c) → ⊥
+  settled-free w p who c h a e =
+      actor-free w p (processor_at w.state p).handler (processor_at w.state p).run who c h.state h.free refl a e
 
 -- events
 
@@ -352,29 +366,62 @@ module _ {C : Type 0} (sys : SystemTables) (M : Meaning C) where
   run-free n w [] h = h
   run-free n w (e ∷ es) h = run_on-free w (step sys M n w e) _ h (step-free n w e h) (λ v k. run-free n v es k)
 
-  none_kept : {A : Type 0} (n i : ℕ) → context_at {A = A} (replicate n None) i ≡ None
-  none_kept zero i = refl
-  none_kept (suc n) zero = refl
-  none_kept (suc n) (suc i) = none_kept n i
+  first-free : (cs : List TaskConfig) (t : ℕ)
+      → AwaitsNone (context_at (map (λ c. Some (Goes (M.start (body_of c.entry) c.exinf))) cs) t)
+  first-free [] t = tt
+  first-free (c ∷ cs) zero = tt
+  first-free (c ∷ cs) (suc t) = first-free cs t
+
+  no_handler-free : (n p : ℕ) → AwaitsNone (context_in (context_at {A = HandlerContext (Held C)} (replicate n None) p))
+  no_handler-free zero p = tt
+  no_handler-free (suc n) zero = tt
+  no_handler-free (suc n) (suc p) = no_handler-free n p
 
   setup-free : NoneAwaits (setup sys M).world
   setup-free =
       let g = all_started sys (unchanged (created_state sys)) (places_from 0 (length sys.tasks)) in
-      finished-free (no_contexts sys) [] g
-      (λ t r. free-all sys M (no_contexts sys) t g.lines (subst (λ (o : Option (Held C)). AwaitsNone o) (sym (none_kept (length sys.tasks) t)) tt))
-      (λ p. free-all_on sys M (no_contexts sys) p g.lines
-      (subst (λ (o : Option (HandlerContext (Held C))). AwaitsNone (context_in o)) (sym (none_kept sys.processors p)) tt))
+      finished-free (first_contexts sys M) [] g
+      (λ t r. free-all sys M (first_contexts sys M) t g.lines (first-free sys.tasks t))
+      (λ p. free-all_on sys M (first_contexts sys M) p g.lines (no_handler-free sys.processors p))
 
-  actor-free : (w : World C) (p : ℕ) (i : Option Handler) (t : Option ℕ) (who : Caller) (c : C) → IsSettled sys w.state → NoneAwaits w
-      → (processor_at w.state p).run ≡ t → actor_by i t ≡ Some who → context_of w.contexts p who ≡ Some (Awaits c) → ⊥
-  actor-free w p None None who c s h r a e = cc
-  actor-free w p None (Some t) (caller.Task u) c s h r a e =
-      let same : t ≡ u = cc in
-      let free = h.tasks u (s.ready p u (r ∙ ap (λ (v : ℕ). Some v) same)) in
-      subst (λ (o : Option (Held C)). AwaitsNone o) e free
-  actor-free w p None (Some t) (caller.Handler j) c s h r a e = cc
-  actor-free w p (Some j) t (caller.Task u) c s h r a e = cc
-  actor-free w p (Some j) t (caller.Handler k) c s h r a e = subst (λ (o : Option (Held C)). AwaitsNone o) e (h.handlers p)
+  applied_in-free : (w : World C) (p : ℕ) (who : Caller) (o : Option (Held C)) (x : Ending C) → NoneAwaits w
+      → LeavesFree (applied_in sys M w p who o x)
+  applied_in-free w p who None x h = tt
+  applied_in-free w p who (Some (Awaits c)) x h = tt
+  applied_in-free w p who (Some (Goes c)) x h = stretched-free w p who x h
+
+  applied_by-free : (w : World C) (p : ℕ) (o : Option Caller) (x : Ending C) → NoneAwaits w
+      → LeavesFree (applied_by sys M w p o x)
+  applied_by-free w p None x h = tt
+  applied_by-free w p (Some who) x h = applied_in-free w p who (context_of w.contexts p who) x h
+
+  few_in : (w : World C) → IsWorldOf sys w → length w.state.pending_cyclics ≤ length sys.cyclics
+  few_in w whole = let same = whole.cyclics in omega (arith, same)
+
+  -- setup leaves a settled world
+  pub setup-settled_world : IsWorldOf sys (setup sys M).world → IsSettledWorld sys (setup sys M).world
+  setup-settled_world whole =
+      record { state = setup-settled sys M; kept = setup-kept sys M (few_in (setup sys M).world whole); free = setup-free }
+
+  -- so does each event that does something in one
+  pub step-settled_world : (n : ℕ) (w : World C) (e : Event) (d : Done C) → IsSettledWorld sys w
+      → IsWorldOf sys d.world → step sys M n w e ≡ Did d → IsSettledWorld sys d.world
+  step-settled_world n w e d h whole k =
+      record {
+        state = step-settled sys M n w e d h.state k;
+        kept = subst (λ (r : Reaction C). LeavesKept sys M r) k (step-kept sys M n w e h.state h.kept) (few_in d.world whole);
+        free = subst (λ (r : Reaction C). LeavesFree r) k (step-free n w e h.free);
+      }
+
+  -- and each stretch that is handed in
+  pub applied-settled_world : (w : World C) (p : ℕ) (x : Ending C) (d : Done C) → IsSettledWorld sys w
+      → IsWorldOf sys d.world → applied_by sys M w p (actor_of (processor_at w.state p)) x ≡ Did d → IsSettledWorld sys d.world
+  applied-settled_world w p x d h whole k =
+      record {
+        state = subst (λ (r : Reaction C). LeavesSettled sys r) k (applied-leaves_settled sys M w p x h.state);
+        kept = subst (λ (r : Reaction C). LeavesKept sys M r) k (applied-kept sys M w p x h.state h.kept) (few_in d.world whole);
+        free = subst (λ (r : Reaction C). LeavesFree r) k (applied_by-free w p (actor_of (processor_at w.state p)) x h.free);
+      }
 
   -- in no world that setup and events reach does an actor await a reply
   pub actors-free : (n : ℕ) (es : List Event) (p : ℕ) (who : Caller) (c : C)
@@ -382,5 +429,5 @@ module _ {C : Type 0} (sys : SystemTables) (M : Meaning C) where
       → context_of (run sys M n (setup sys M).world es).world.contexts p who ≡ Some (Awaits c) → ⊥
   actors-free n es p who c a e =
       let w = (run sys M n (setup sys M).world es).world in
-      actor-free w p (processor_at w.state p).handler (processor_at w.state p).run who c
+      actor-free sys w p (processor_at w.state p).handler (processor_at w.state p).run who c
       (run-settled sys M n (setup sys M).world es (setup-settled sys M)) (run-free n (setup sys M).world es setup-free) refl a e

@@ -16,7 +16,7 @@ use Rattle.fmp_base.specs.Systems.{SystemTables}
 use Rattle.fmp_base.specs.TaskCalls.{self_or, by_number, is_dormant, moved_by, assigned_by, allowed_processor, ter_tsk, mig_tsk, migrated, terminated}
 use Rattle.fmp_worlds.proofs.Assigned.{Runs, Fits, Holds, IsRunNowhere, fits-task}
 use Rattle.fmp_worlds.proofs.Bools.{or-false, not-false}
-use Rattle.fmp_worlds.proofs.Changes.{SameActors, actors-moved, holds-ended, holds-ended_itself, actors-ended_by, actors-ended_itself, lines-ended_by, lines-ended_itself}
+use Rattle.fmp_worlds.proofs.Changes.{SameActors, actors-moved, holds-ended, holds-ended_itself, actors-ended_by, actors-ended_itself, handlers-ended_itself, handlers-same, lines-ended_by, lines-ended_itself}
 use Rattle.fmp_worlds.proofs.Lines.{IsOwn}
 use Rattle.fmp_worlds.proofs.Told.{IsReady, changed, ended-told, still, woken-ended, woken-ended_itself}
 use Rattle.fmp_worlds.proofs.Outcomes.{Keeps, MayWait, keeps-succeeds, keeps-tested, keeps-refused_if, keeps-on_task}
@@ -77,6 +77,7 @@ keeps-ext_tsk sys s p me =
       waits = λ h. cc;
       ends = λ h. ended-told (task_at s.tasks me).activations sys (unchanged (with_nothing_run s p)) me _ refl;
       actors = actors-ended_itself sys s p me (task_at s.tasks me);
+      handlers = handlers-ended_itself sys s p me (task_at s.tasks me);
       lines = λ k a. lines-ended_itself sys s p me (task_at s.tasks me) k.runs a;
       woken = woken-ended_itself sys s p me (task_at s.tasks me);
     }
@@ -155,6 +156,7 @@ keeps-mig_tsk sys s p me t c may =
             waits = λ h. cc;
             ends = λ h. cc;
             actors = λ v n. actors-assigned (nat_eq x.processor q) s u x q v;
+            handlers = handlers-same s (assigned_by (nat_eq x.processor q) s u x q) (actors-assigned (nat_eq x.processor q) s u x q);
             lines = λ k a. tt;
             woken = still (assigned-still (nat_eq x.processor q) s u q);
           })

@@ -86,6 +86,13 @@ SameActors s u = (q : ℕ) → acting (processor_at u q) ≡ acting (processor_a
 abbrev pub SameActorsBeside : ℕ → KernelState → KernelState → Type 0
 SameActorsBeside p s u = (q : ℕ) → (p ≡ q → ⊥) → acting (processor_at u q) ≡ acting (processor_at s q)
 
+-- the handlers that run on the processors stay
+abbrev pub SameHandlers : KernelState → KernelState → Type 0
+SameHandlers s u = (q : ℕ) → (processor_at u q).handler ≡ (processor_at s q).handler
+
+pub handlers-same : (s u : KernelState) → SameActors s u → SameHandlers s u
+handlers-same s u h q = ap (λ (x : Option Handler × Option ℕ). x.0) (h q)
+
 pub actors-processor : (s : KernelState) (p : ℕ) (cpu : Processor) → acting cpu ≡ acting (processor_at s p)
     → SameActors s (with_processor s p cpu)
 actors-processor s p cpu e q =
@@ -114,6 +121,13 @@ pub actors-ended_itself : (sys : SystemTables) (s : KernelState) (p t : ℕ) (x 
 actors-ended_itself sys s p t x q apart =
     actors-ended_by x.activations sys (unchanged (with_nothing_run s p)) t _ q
     ∙ ap acting (set_other idle s.processors p _ q apart)
+
+pub handlers-ended_itself : (sys : SystemTables) (s : KernelState) (p t : ℕ) (x : TaskBlock)
+    → SameHandlers s (ended_itself sys s p t x).state
+handlers-ended_itself sys s p t x q =
+    ap (λ (y : Option Handler × Option ℕ). y.0) (actors-ended_by x.activations sys (unchanged (with_nothing_run s p)) t _ q)
+    ∙ set_at idle (λ (c : Processor). c.handler ≡ (processor_at s q).handler) s.processors p _ q
+    (λ same. ap (λ (v : ℕ). (processor_at s v).handler) same) refl
 
 pub actors-suspended : (phase : Phase) (s : KernelState) (t : ℕ) (y : TaskBlock)
     → SameActors s (suspended_by phase s t y)

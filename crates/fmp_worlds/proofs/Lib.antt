@@ -1,3 +1,4 @@
+pub mod ActorLaws
 pub mod Assigned
 pub mod Awaiting
 pub mod Bools
@@ -5,6 +6,7 @@ pub mod CalledLemmas
 pub mod CallerLemmas
 pub mod Changes
 pub mod Going
+pub mod Kept
 pub mod Lines
 pub mod ObjectCallLemmas
 pub mod Outcomes

@@ -16,7 +16,7 @@ use Rattle.fmp_base.specs.Settles.{pending_handler}
 use Rattle.fmp_base.specs.States.{KernelState, Progress, unchanged, task_at, processor_at, with_last}
 use Rattle.fmp_base.specs.Systems.{SystemTables}
 use Rattle.fmp_worlds.proofs.Assigned.{Fits, Holds, Runs, fits-task, run-once, set_over}
-use Rattle.fmp_worlds.proofs.Changes.{SameActors, SameActorsBeside}
+use Rattle.fmp_worlds.proofs.Changes.{SameActors, SameActorsBeside, SameHandlers, handlers-same}
 use Rattle.fmp_worlds.proofs.Lines.{IsOwn}
 use Rattle.fmp_worlds.proofs.Settling.{CanSettle, Dispatches, can_settle}
 use Rattle.fmp_worlds.proofs.Told.{IsReady, IsTold, Woken, left, still}
@@ -38,6 +38,7 @@ pub record Keeps (K : Type 0) (own : ℕ) (who : Option ℕ) (sys : SystemTables
   pub waits : o.answer ≡ Waits → IsAway who o.progress.state
   pub ends : o.answer ≡ Ends → IsEnded who o.progress
   pub actors : SameActorsBeside own s o.progress.state
+  pub handlers : SameHandlers s o.progress.state
   pub lines : K → Holds s → AllByRecursion (IsOwn s own) o.progress.lines
   pub woken : Woken s o.progress
 
@@ -67,6 +68,7 @@ module _ {K : Type 0} {own : ℕ} {who : Option ℕ} (sys : SystemTables) (s : K
         waits = λ h. cc;
         ends = λ h. cc;
         actors = λ q n. refl;
+        handlers = λ q. refl;
         lines = λ k a. tt;
         woken = still (λ t r. r);
       }
@@ -80,6 +82,7 @@ module _ {K : Type 0} {own : ℕ} {who : Option ℕ} (sys : SystemTables) (s : K
         waits = λ e. cc;
         ends = λ e. cc;
         actors = λ q n. same q;
+        handlers = handlers-same s g.state same;
         lines = own_lines;
         woken = woken;
       }
@@ -97,6 +100,7 @@ module _ {K : Type 0} {own : ℕ} {who : Option ℕ} (sys : SystemTables) (s : K
         waits = λ e. cc;
         ends = λ e. cc;
         actors = λ q n. same q;
+        handlers = handlers-same s g.state same;
         lines = λ k a. own_lines;
         woken = woken;
       }
@@ -109,6 +113,7 @@ module _ {K : Type 0} {own : ℕ} {who : Option ℕ} (sys : SystemTables) (s : K
     waits = λ e. subst (λ (o : Option ℕ). IsAway o (with_last s t y)) (sym w.is) away;
     ends = λ e. cc;
     actors = λ q n. refl;
+    handlers = λ q. refl;
     lines = λ k a. tt;
     woken = record { each = left s (unchanged s) t y (λ r. cc) (still (λ u r. r)) };
   } where

@@ -53,6 +53,7 @@ module _ {K : Type 0} {own : ℕ} {who : Option ℕ} (sys : SystemTables) (s : K
         waits = λ h. cc;
         ends = λ h. cc;
         actors = λ q n. refl;
+        handlers = λ q. refl;
         lines = λ k a. tt;
         woken = still (λ t r. r);
       }
