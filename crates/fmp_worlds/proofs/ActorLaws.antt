@@ -12,7 +12,7 @@ use Rattle.fmp_base.specs.Meanings.{World, caller_body, context_at, context_of}
 use Rattle.fmp_base.specs.States.{idle, processor_at, task_at}
 use Rattle.fmp_base.specs.Steps.{actor_by, actor_of}
 use Rattle.fmp_base.specs.Systems.{SystemTables, found}
-use Rattle.fmp_worlds.specs.Settled.{IsSettledWorld, IsThere, IsWorldOf}
+use Rattle.fmp_worlds.specs.Settled.{IsSettledWorld, IsThere}
 use Rattle.fmp_worlds.specs.Stamps.{actor_at, going_by, going_from}
 use Rattle.fmp_worlds.proofs.Awaiting.{settled-free}
 use Rattle.fmp_worlds.proofs.Kept.{in-there}
@@ -30,20 +30,20 @@ handled-within (c ∷ cpus) (suc p) i h = let l = handled-within cpus p i h in o
 
 module _ {C : Type 0} (sys : SystemTables) where
   -- a context is kept of an actor
-  actor-kept : (w : World C) (p : ℕ) (i : Option Handler) (t : Option ℕ) (who : Caller) → IsSettledWorld sys w → IsWorldOf sys w
+  actor-kept : (w : World C) (p : ℕ) (i : Option Handler) (t : Option ℕ) (who : Caller) → IsSettledWorld sys w
       → (processor_at w.state p).handler ≡ i → (processor_at w.state p).run ≡ t → actor_by i t ≡ Some who
       → IsThere (context_of w.contexts p who)
-  actor-kept w p None None who h whole e r a = cc
-  actor-kept w p None (Some t) (caller.Handler j) h whole e r a = cc
-  actor-kept w p None (Some t) (caller.Task u) h whole e r a =
+  actor-kept w p None None who h e r a = cc
+  actor-kept w p None (Some t) (caller.Handler j) h e r a = cc
+  actor-kept w p None (Some t) (caller.Task u) h e r a =
       let same : t ≡ u = cc in
       let l = ready-within w.state.tasks u (h.state.ready p u (r ∙ ap (λ (v : ℕ). Some v) same)) in
-      let count = whole.tasks in
+      let count = h.whole.tasks in
       h.kept.tasks u (omega (arith, l, count))
-  actor-kept w p (Some i) t (caller.Task u) h whole e r a = cc
-  actor-kept w p (Some i) t (caller.Handler j) h whole e r a =
+  actor-kept w p (Some i) t (caller.Task u) h e r a = cc
+  actor-kept w p (Some i) t (caller.Handler j) h e r a =
       let l = handled-within w.state.processors p i e in
-      let count = whole.handlers in
+      let count = h.whole.handlers in
       in-there (context_at w.contexts.handlers p)
       (h.kept.handlers p (omega (arith, l, count)) (subst (λ (o : Option Handler). IsThere o) (sym e) tt))
 
@@ -53,15 +53,14 @@ module _ {C : Type 0} (sys : SystemTables) where
   goes-on b (Some (Goes c)) there free e = cc
   goes-on b (Some (Awaits c)) there free e = free c refl
 
-  none-by : (w : World C) (p : ℕ) (o : Option Caller) → IsSettledWorld sys w → IsWorldOf sys w
-      → actor_of (processor_at w.state p) ≡ o → going_by sys w.contexts p o ≡ None → o ≡ None
-  none-by w p None h whole a e = refl
-  none-by w p (Some who) h whole a e =
+  none-by : (w : World C) (p : ℕ) (o : Option Caller) → IsSettledWorld sys w → actor_of (processor_at w.state p) ≡ o → going_by sys w.contexts p o ≡ None → o ≡ None
+  none-by w p None h a e = refl
+  none-by w p (Some who) h a e =
       absurd (goes-on (caller_body sys w.contexts p who) (context_of w.contexts p who)
-      (actor-kept w p (processor_at w.state p).handler (processor_at w.state p).run who h whole refl refl a)
+      (actor-kept w p (processor_at w.state p).handler (processor_at w.state p).run who h refl refl a)
       (λ c k. settled-free sys w p who c h a k) e)
 
   -- so a processor of which no actor goes on has none
-  pub none-acts : (w : World C) (p : ℕ) → IsSettledWorld sys w → IsWorldOf sys w → actor_at sys w p ≡ None
+  pub none-acts : (w : World C) (p : ℕ) → IsSettledWorld sys w → actor_at sys w p ≡ None
       → actor_of (processor_at w.state p) ≡ None
-  none-acts w p h whole e = none-by w p (actor_of (processor_at w.state p)) h whole refl e
+  none-acts w p h e = none-by w p (actor_of (processor_at w.state p)) h refl e

@@ -401,13 +401,19 @@ module _ {C : Type 0} (sys : SystemTables) (M : Meaning C) where
   -- setup leaves a settled world
   pub setup-settled_world : IsWorldOf sys (setup sys M).world → IsSettledWorld sys (setup sys M).world
   setup-settled_world whole =
-      record { state = setup-settled sys M; kept = setup-kept sys M (few_in (setup sys M).world whole); free = setup-free }
+      record {
+        whole = whole;
+        state = setup-settled sys M;
+        kept = setup-kept sys M (few_in (setup sys M).world whole);
+        free = setup-free;
+      }
 
   -- so does each event that does something in one
   pub step-settled_world : (n : ℕ) (w : World C) (e : Event) (d : Done C) → IsSettledWorld sys w
       → IsWorldOf sys d.world → step sys M n w e ≡ Did d → IsSettledWorld sys d.world
   step-settled_world n w e d h whole k =
       record {
+        whole = whole;
         state = step-settled sys M n w e d h.state k;
         kept = subst (λ (r : Reaction C). LeavesKept sys M r) k (step-kept sys M n w e h.state h.kept) (few_in d.world whole);
         free = subst (λ (r : Reaction C). LeavesFree r) k (step-free n w e h.free);
@@ -418,6 +424,7 @@ module _ {C : Type 0} (sys : SystemTables) (M : Meaning C) where
       → IsWorldOf sys d.world → applied_by sys M w p (actor_of (processor_at w.state p)) x ≡ Did d → IsSettledWorld sys d.world
   applied-settled_world w p x d h whole k =
       record {
+        whole = whole;
         state = subst (λ (r : Reaction C). LeavesSettled sys r) k (applied-leaves_settled sys M w p x h.state);
         kept = subst (λ (r : Reaction C). LeavesKept sys M r) k (applied-kept sys M w p x h.state h.kept) (few_in d.world whole);
         free = subst (λ (r : Reaction C). LeavesFree r) k (applied_by-free w p (actor_of (processor_at w.state p)) x h.free);

@@ -45,16 +45,17 @@ pub record AreKept {C : Type 0} (sys : SystemTables) (w : World C) : Type 0 wher
       (p : ℕ) → p < length w.contexts.handlers → IsThere (processor_at w.state p).handler →
       IsThere (context_at w.contexts.handlers p)
 
--- What the world is between events: its state is settled, a context is kept of each body that may run, and none of these
--- awaits a reply.
-pub record IsSettledWorld {C : Type 0} (sys : SystemTables) (w : World C) : Type 0 where
-  pub state : IsSettled sys w.state
-  pub kept : AreKept sys w
-  pub free : NoneAwaits w
-
 -- a world of this system: a block for each task, a flag for each cyclic handler, and for each processor a place for the
 -- context of its handler
 pub record IsWorldOf {C : Type 0} (sys : SystemTables) (w : World C) : Type 0 where
   pub tasks : length w.state.tasks ≡ length sys.tasks
   pub cyclics : length w.state.pending_cyclics ≡ length sys.cyclics
   pub handlers : length w.contexts.handlers ≡ length w.state.processors
+
+-- What the world is between events: its state is settled, a context is kept of each body that may run, and none of these
+-- awaits a reply.
+pub record IsSettledWorld {C : Type 0} (sys : SystemTables) (w : World C) : Type 0 where
+  pub whole : IsWorldOf sys w
+  pub state : IsSettled sys w.state
+  pub kept : AreKept sys w
+  pub free : NoneAwaits w
