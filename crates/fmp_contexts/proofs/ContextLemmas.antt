@@ -1,18 +1,21 @@
 -- Contexts that fit, after one of them is written or read.
-use Rattle.std.proofs.Common.{◌≡◌, ◌<◌, ℕ, zero, suc, List, [], ◌∷◌, Option, Some, None, slice_set, replicate, length, subst, sym, ◌∙◌, arith}
+use Rattle.std.proofs.Common.{◌≡◌, ◌+◌, ◌<◌, ℕ, zero, suc, List, [], ◌∷◌, ◌++◌, Option, Some, None, slice_get, slice_set, drop, map, replicate, length, refl, append_assoc, ap, subst, sym, ◌∙◌, arith}
 use Rattle.std.proofs.Math.ListN.{length-set}
-use Rattle.std.proofs.lemmas.List.{length-replicate}
+use Rattle.std.proofs.lemmas.List.{length-map, length-replicate}
 use Rattle.fmp_base.specs.declared.bodies.HandlerContext.{HandlerContext}
 use Rattle.fmp_base.specs.declared.bodies.Held.{Held}
 use Rattle.fmp_base.specs.declared.bodies.Held.TheVariants.{Goes}
 use Rattle.fmp_base.specs.declared.states.Caller.{Caller}
 use Rattle.fmp_base.specs.declared.states.Caller.TheVariants as caller
-use Rattle.fmp_base.specs.Meanings.{Contexts, task_body, context_at, context_in, body_in, context_of, caller_body, context_for, with_context}
-use Rattle.fmp_base.specs.Systems.{SystemTables}
+use Rattle.fmp_base.specs.declared.systems.TaskConfig.{TaskConfig}
+use Rattle.fmp_base.specs.Meanings.{Meaning, Contexts, task_body, context_at, context_in, body_in, context_of, caller_body, context_for, with_context}
+use Rattle.fmp_base.specs.Setups.{first_contexts}
+use Rattle.fmp_base.specs.Systems.{SystemTables, body_of, found, task_config}
 use Rattle.fmp_base.specs.Stretches.{Ending}
 use Rattle.fmp_base.specs.Contexts.{OfCall}
-use Rattle.fmp_contexts.specs.Contexts.{AllContexts, OfOption, OfHeld, HandlerFits, Fitting, Entered, IsThere, HasContext, HasPlaces, IsFor}
+use Rattle.fmp_contexts.specs.Contexts.{AllContexts, OfOption, OfHeld, HandlerFits, Fitting, Entered, HasContext, HasPlaces, IsFor}
 use Rattle.fmp_tasks.specs.Callers.{IsTaskOf}
+use Rattle.fmp_worlds.specs.Settled.{IsThere}
 use Rattle.fmp_worlds.specs.Stamps.{going_from, going_by}
 
 AllContexts-set : {A : Type 0} (P : ℕ → A → Type 0) (cs : List (Option A)) (i : ℕ) (c : Option A)
@@ -36,6 +39,43 @@ AllContexts-get P (Some d ∷ cs) (suc i) h = AllContexts-get (λ j. P (suc j)) 
 AllContexts-nothing : {A : Type 0} (P : ℕ → A → Type 0) (n : ℕ) → AllContexts P (replicate n None)
 AllContexts-nothing P zero = tt
 AllContexts-nothing P (suc n) = AllContexts-nothing (λ i. P (suc i)) n
+
+-- one more behind
+pub more_fits : {A : Type 0} (P : ℕ → A → Type 0) (cs : List (Option A)) (c : A) → AllContexts P cs → P (length cs) c
+    → AllContexts P (cs ++ Some c ∷ [])
+more_fits P [] c h k = (k, tt)
+more_fits P (None ∷ cs) c h k = more_fits (λ i. P (suc i)) cs c h k
+more_fits P (Some d ∷ cs) c h k = (h.0, more_fits (λ i. P (suc i)) cs c h.1 k)
+
+-- the first contexts of the tasks from place t on: that of task t, and the rest
+first_from : {C : Type 0} (M : Meaning C) (cs : List TaskConfig) (t : ℕ) (c : TaskConfig) → t < length cs
+    → drop t (map (λ d. Some (Goes (M.start (body_of d.entry) d.exinf))) cs)
+    ≡ Some (Goes (M.start (body_of (found c (slice_get cs t)).entry) (found c (slice_get cs t)).exinf))
+    ∷ drop (suc t) (map (λ d. Some (Goes (M.start (body_of d.entry) d.exinf))) cs)
+first_from M [] t c l = absurd (omega (arith, l))
+first_from M (d ∷ cs) zero c l = refl
+first_from M (d ∷ cs) (suc t) c l = first_from M cs t c (omega (arith, l))
+
+first_next : {C : Type 0} (sys : SystemTables) (M : Meaning C) (t : ℕ) → t < length sys.tasks
+    → drop t (first_contexts sys M).tasks
+    ≡ Some (Goes (M.start (task_body sys t) (task_config sys t).exinf)) ∷ drop (t + 1) (first_contexts sys M).tasks
+first_next sys M t l = let next : t + 1 ≡ suc t = omega arith in rw next (first_from M sys.tasks t _ l)
+
+-- one more of the first contexts of tasks
+pub one_more : {C : Type 0} (sys : SystemTables) (M : Meaning C) (t : ℕ) (cs : List (Option (Held C))) → t < length sys.tasks
+    → cs ++ drop t (first_contexts sys M).tasks ≡ (first_contexts sys M).tasks
+    → (cs ++ Some (Goes (M.start (task_body sys t) (task_config sys t).exinf)) ∷ []) ++ drop (t + 1) (first_contexts sys M).tasks
+    ≡ (first_contexts sys M).tasks
+one_more {C} sys M t cs l h =
+    append_assoc cs _ (drop (t + 1) (first_contexts sys M).tasks)
+    ∙ ap (λ (ds : List (Option (Held C))). cs ++ ds) (sym (first_next sys M t l)) ∙ h
+
+none_behind : {A B : Type 0} (f : A → B) (xs : List A) → drop (length xs) (map f xs) ≡ []
+none_behind f [] = refl
+none_behind f (x ∷ xs) = none_behind f xs
+
+pub first_none : {C : Type 0} (sys : SystemTables) (M : Meaning C) → drop (length sys.tasks) (first_contexts sys M).tasks ≡ []
+first_none sys M = none_behind _ sys.tasks
 
 -- what is kept of a caller fits its body
 fits_in : {B C : Type 0} (has_entry : B → ℕ → Type 0) (is_context : B → ℕ → C → Type 0) (body : B) (o : Option (HandlerContext (Held C))) → OfOption (HandlerFits has_entry is_context body) o
@@ -62,18 +102,15 @@ inside [] i h = absurd h
 inside (c ∷ cs) zero h = omega arith
 inside (c ∷ cs) (suc i) h = let k = inside cs i h in omega (arith, k)
 
--- where nothing is kept
-pub fitting_nothing : {B C : Type 0} {has_entry : B → ℕ → Type 0} {is_context : B → ℕ → C → Type 0} {body : B} {sys : SystemTables}
-    (n m : ℕ) → Fitting has_entry is_context body sys (record { tasks = replicate n None; handlers = replicate m None })
-fitting_nothing {has_entry} {is_context} {body} {sys} n m =
-    record {
-      tasks = AllContexts-nothing (λ t. OfHeld (is_context body (task_body sys t))) n;
-      handlers = AllContexts-nothing (λ p. HandlerFits has_entry is_context body) m;
-    }
+-- where no handler runs
+pub first_fits : {B C : Type 0} {has_entry : B → ℕ → Type 0} {is_context : B → ℕ → C → Type 0} {body : B} {sys : SystemTables}
+    (tasks : List (Option (Held C))) (n : ℕ) → AllContexts (λ t. OfHeld (is_context body (task_body sys t))) tasks
+    → Fitting has_entry is_context body sys (record { tasks = tasks; handlers = replicate n None })
+first_fits {has_entry} {is_context} {body} tasks n h =
+    record { tasks = h; handlers = AllContexts-nothing (λ p. HandlerFits has_entry is_context body) n }
 
-pub places_of_nothing : {C : Type 0} {sys : SystemTables} (n m : ℕ) → n ≡ length sys.tasks → m ≡ sys.processors
-    → HasPlaces {C = Held C} sys (record { tasks = replicate n None; handlers = replicate m None })
-places_of_nothing n m h k = record { tasks = length-replicate _ _ ∙ h; handlers = length-replicate _ _ ∙ k }
+pub first_places : {C : Type 0} (sys : SystemTables) (M : Meaning C) → HasPlaces sys (first_contexts sys M)
+first_places sys M = record { tasks = length-map sys.tasks _; handlers = length-replicate sys.processors None }
 
 pub fitting_task : {B C : Type 0} {has_entry : B → ℕ → Type 0} {is_context : B → ℕ → C → Type 0} {body : B} {sys : SystemTables}
     (cs : Contexts (Held C)) (t : ℕ) (c : Option (Held C)) → Fitting has_entry is_context body sys cs

@@ -10,7 +10,8 @@ use Rattle.fmp_base.specs.Meanings.{Meaning, Contexts, context_at, context_in, b
 use Rattle.fmp_base.specs.Stretches.{Ending}
 use Rattle.fmp_base.specs.Stretches as ends
 use Rattle.fmp_base.specs.Systems.{SystemTables}
-use Rattle.fmp_contexts.specs.Contexts.{IsThere, HasContext, HasNoCall, kept_after, stop_of}
+use Rattle.fmp_contexts.specs.Contexts.{HasContext, HasNoCall, kept_after, stop_of}
+use Rattle.fmp_worlds.specs.Settled.{IsThere}
 
 -- a place is written twice, or with what stands there
 set_twice : {A : Type 0} (xs : List A) (i : ℕ) (x y : A) → slice_set (slice_set xs i x) i y ≡ slice_set xs i y

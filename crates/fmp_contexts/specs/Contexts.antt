@@ -13,6 +13,7 @@ use Rattle.fmp_base.specs.Systems.{SystemTables}
 use Rattle.fmp_base.specs.Contexts.{OfCall}
 use Rattle.fmp_base.specs.declared.stop.Stop.{Stop}
 use Rattle.fmp_base.specs.declared.stop.Stop.TheVariants as stop
+use Rattle.fmp_worlds.specs.Settled.{IsThere}
 use Rattle.fmp_worlds.specs.Stamps.{Going}
 
 -- P i holds of what is at each place i, where something is
@@ -56,10 +57,6 @@ pub record Entered {B : Type 0} (has_entry : B → ℕ → Type 0) (body : B) (s
 pub record HasPlaces {C : Type 0} (sys : SystemTables) (cs : Contexts C) : Type 0 where
   pub tasks : length cs.tasks ≡ length sys.tasks
   pub handlers : length cs.handlers ≡ sys.processors
-
-abbrev pub IsThere : {A : Type 0} → Option A → Type 0
-IsThere None = ⊥
-IsThere (Some a) = Unit {0}
 
 -- something is kept of the caller on processor p
 abbrev pub HasContext : {C : Type 0} → Contexts C → ℕ → Caller → Type 0

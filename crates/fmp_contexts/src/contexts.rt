@@ -1,13 +1,16 @@
 //! What is kept of the bodies between their stretches.
-ghost use Rattle.std.specs.Prelude.{◌≡◌, length, replicate, slice_set, IfOk, Some, None};
+ghost use Rattle.std.specs.Prelude.{◌≡◌, ◌<◌, length, replicate, slice_set, IfOk, Some, None};
 ghost use Rattle.std.specs.Option.{option_copied};
 ghost use Rattle.fmp_base.specs.declared.bodies.Held.TheVariants.{Goes};
-ghost use Rattle.fmp_base.specs.Meanings.{body_in, context_at, context_for, context_in, context_of, told as told_by, with_context, with_handler_context};
-ghost use Rattle.fmp_base.specs.Systems.{body_of};
-ghost use Rattle.fmp_contexts.specs.Contexts.{HasContext, IsThere, OfHeld, OfOption, going_context, held_by, kept_after, stop_of};
+ghost use Rattle.fmp_base.specs.Meanings.{body_in, context_at, context_for, context_in, context_of, task_body, told as told_by, with_context, with_handler_context};
+ghost use Rattle.fmp_base.specs.Setups.{first_contexts};
+ghost use Rattle.fmp_base.specs.Systems.{body_of, task_config};
+ghost use Rattle.fmp_contexts.specs.Contexts.{AllContexts, Entered, Fitting, HasContext, OfHeld, OfOption, going_context, held_by, kept_after, stop_of};
+ghost use Rattle.fmp_worlds.specs.Settled.{IsThere};
 
 use crate::kept::{self, Kept};
 use fmp_base::{Body, Caller, Entry, Reply, Stop};
+use fmp_tasks::Tables;
 use std::alloc::{AllocError, Global};
 use std::marker::Model;
 
@@ -65,14 +68,54 @@ pub fn body_number(entry: Entry) -> u8
     }
 }
 
+/// A fresh context of task t.
+pub fn fresh_context<B: Body>(body: &B, tables: &Tables, t: u8) -> B::Ctx
+    requires there { t < length tables.now.system.tasks }
+    requires entries { Entered B.has_entry body.now tables.now.system }
+    ensures value { result
+        ≡ (B.meaning body.now).start (task_body tables.now.system t) (task_config tables.now.system t).exinf }
+    ensures context { B.is_context body.now (task_body tables.now.system t) result }
+{
+    let config = tables.task_config(t);
+    body.start(body_number(config.entry), config.exinf)
+}
+
+/// What is kept of each task at first: a fresh context. `AllocError` if memory runs out.
+#[tactic(auto, using(crate::proofs::ContextLemmas::first_none))]
+fn fresh_tasks<B: Body>(
+    alloc: Global,
+    body: &B,
+    tables: &Tables,
+) -> Result<Vec<Option<Kept<B::Ctx>>>, AllocError>
+    requires entries { Entered B.has_entry body.now tables.now.system }
+    ensures items { IfOk result
+        (λ v. v.items ≡ (first_contexts tables.now.system (B.meaning body.now)).tasks) }
+    ensures fits { IfOk result
+        (λ v. AllContexts (λ t. OfHeld (B.is_context body.now (task_body tables.now.system t))) v.items) }
+{
+    let count = tables.task_count() as u8;
+    let mut places = Vec::with_capacity(alloc, count as usize)?;
+    for t in 0..count {
+        let context = fresh_context(body, tables, t);
+        places.push_reserved(Some(Kept::going_from(context)));
+    }
+    Ok(places)
+}
+
 impl<C: Copy> BodyContexts<C> {
-    /// Nothing kept yet, for this many tasks and processors. `AllocError` if memory runs out.
-    pub fn new(alloc: Global, tasks: usize, processors: usize) -> Result<Self, AllocError>
-        ensures { IfOk result
-            (λ cs. cs ≡ record { tasks = replicate tasks None; handlers = replicate processors None }) }
+    /// What is kept at first: a fresh context of each task, and nothing of handlers, since none runs. `AllocError` if
+    /// memory runs out.
+    pub fn new<B: Body<Ctx = C>>(
+        alloc: Global,
+        body: &B,
+        tables: &Tables,
+    ) -> Result<Self, AllocError>
+        requires entries { Entered B.has_entry body.now tables.now.system }
+        ensures contexts { IfOk result (λ cs. cs ≡ first_contexts tables.now.system (B.meaning body.now)) }
+        ensures fitting { IfOk result (λ cs. Fitting B.has_entry B.is_context body.now tables.now.system cs) }
     {
-        let tasks = empty_places(alloc, tasks)?;
-        let handlers = empty_places(alloc, processors)?;
+        let tasks = fresh_tasks(alloc, body, tables)?;
+        let handlers = empty_places(alloc, tables.processor_count())?;
         Ok(BodyContexts { tasks, handlers })
     }
 

@@ -4,7 +4,7 @@ ghost use Rattle.fmp_base.specs.Meanings.{caller_body, contexts_after, contexts_
 ghost use Rattle.fmp_base.specs.Ranges.{IsInRange};
 ghost use Rattle.fmp_contexts.specs.Contexts.{Entered, Fitting, HasPlaces};
 
-use crate::contexts::{self, BodyContexts, body_number};
+use crate::contexts::{self, BodyContexts, body_number, fresh_context};
 use fmp_base::{Body, Caller, Handler, HandlerStart, Line, Reply};
 use fmp_tasks::Tables;
 
@@ -62,8 +62,7 @@ fn begin_task<B: Body>(body: &B, tables: &Tables, contexts: &mut BodyContexts<B:
     ensures fitting { Fitting B.has_entry B.is_context body.now tables.now.system contexts.new }
 {
     if (t as usize) < tables.task_count() {
-        let config = tables.task_config(t);
-        let context = body.start(body_number(config.entry), config.exinf);
+        let context = fresh_context(body, tables, t);
         contexts.begin_task(t, context);
     }
 }
