@@ -1,5 +1,5 @@
 -- What was taken of known bytes is their front, and one more read takes more of it.
-use Rattle.std.proofs.Common.{◌≡◌, ◌≤◌, ◌<◌, ◌+◌, ◌++◌, ◌⊎◌, inl, inr, ℕ, List, Option, None, Some, IfSome, length, take, sym, ap, ◌∙◌, append-nil, take_all, arith, subst, length-append}
+use Rattle.std.proofs.Common.{◌≡◌, ◌≤◌, ◌+◌, ◌++◌, ◌⊎◌, inl, inr, ℕ, List, Option, None, Some, IfSome, length, take, sym, ap, ◌∙◌, append-nil, take_all, arith, subst, length-append}
 use Rattle.std.specs.Io.KnownBytes.{Consumes, IsAtEnd}
 use Rattle.std.proofs.KnownBytes.{Consumes-trans}
 use Rattle.std.proofs.lemmas.List.{take_at}
