@@ -178,10 +178,11 @@ pub entry_of : {B C : Type 0} {has_entry : B → ℕ → Type 0} {is_context : B
     → HasPlaces sys cs → context_of cs p who ≡ Some c → has_entry body (caller_body sys cs p who)
 entry_of cs p who c h k n e = entry_of_context cs p who h k n (has_context cs p who c e)
 
-pub goes_fits : {B C : Type 0} {has_entry : B → ℕ → Type 0} {is_context : B → ℕ → C → Type 0} {body : B} {sys : SystemTables}
+-- a caller goes on from a context of its body
+pub goes_in : {B C : Type 0} {has_entry : B → ℕ → Type 0} {is_context : B → ℕ → C → Type 0} {body : B} {sys : SystemTables}
     (cs : Contexts (Held C)) (p : ℕ) (who : Caller) (c : C) → Fitting has_entry is_context body sys cs
     → context_of cs p who ≡ Some (Goes c) → is_context body (caller_body sys cs p who) c
-goes_fits {C = C} {is_context = is_context} {body} {sys} cs p who c h e =
+goes_in {C = C} {is_context = is_context} {body} {sys} cs p who c h e =
     subst (λ (o : Option (Held C)). OfOption (OfHeld (is_context body (caller_body sys cs p who))) o) e (fits_of cs p who h)
 
 -- the places stay, whatever is kept

@@ -1,4 +1,5 @@
 mod ActorLemmas
+mod ActorNone
 pub mod Crossing
 mod CyclicLemmas
 mod FrontLemmas

@@ -7,24 +7,25 @@ use Rattle.fmp_base.specs.States.{processor_at}
 use Rattle.fmp_base.specs.Steps.{Done, Reaction, Nothing, Did, actor_of, effect_of, step}
 use Rattle.fmp_base.specs.Stretches.{Ending}
 use Rattle.fmp_base.specs.Systems.{SystemTables}
-use Rattle.fmp_worlds.specs.Settled.{IsSettled}
+use Rattle.fmp_worlds.specs.Settled.{IsSettledWorld, IsWorldOf}
 use Rattle.fmp_worlds.specs.Stamps.{applied_by, applied}
-use Rattle.fmp_worlds.proofs.SettledLaws.{step-settled}
-use Rattle.fmp_worlds.proofs.StampLaws.{applied-leaves_settled}
-use Rattle.fmp_worlds.proofs.StepLemmas.{LeavesSettled}
+use Rattle.fmp_worlds.proofs.Awaiting.{applied-settled_world, step-settled_world}
 use Rattle.fmp_kernel.specs.KernelViews.{done_or}
 
-by_reaction : {C : Type 0} (sys : SystemTables) (old : Done C) (x : Reaction C) → IsSettled sys old.world.state
-    → ((d : Done C) → x ≡ Did d → IsSettled sys d.world.state) → IsSettled sys (done_or old x).world.state
-by_reaction sys old Nothing h k = h
-by_reaction sys old (Did d) h k = k d refl
+by_reaction : {C : Type 0} (sys : SystemTables) (old : Done C) (x : Reaction C) → IsSettledWorld sys old.world
+    → IsWorldOf sys (done_or old x).world
+    → ((d : Done C) → IsWorldOf sys d.world → x ≡ Did d → IsSettledWorld sys d.world) → IsSettledWorld sys (done_or old x).world
+by_reaction sys old Nothing h whole k = h
+by_reaction sys old (Did d) h whole k = k d whole refl
 
 -- a settled world is settled after every event
 pub settled_after : {C : Type 0} (sys : SystemTables) (M : Meaning C) (n : ℕ) (old new : Done C) (e : Event)
-    → IsSettled sys old.world.state → new ≡ done_or old (step sys M n old.world e) → IsSettled sys new.world.state
-settled_after {C} sys M n old new e h k =
-    subst (λ (d : Done C). IsSettled sys d.world.state) (sym k)
-    (by_reaction sys old (step sys M n old.world e) h (λ d s. step-settled sys M n old.world e d h s))
+    → IsSettledWorld sys old.world → IsWorldOf sys new.world → new ≡ done_or old (step sys M n old.world e)
+    → IsSettledWorld sys new.world
+settled_after {C} sys M n old new e h whole k =
+    subst (λ (d : Done C). IsSettledWorld sys d.world) (sym k)
+    (by_reaction sys old (step sys M n old.world e) h (subst (λ (d : Done C). IsWorldOf sys d.world) k whole)
+    (λ d w s. step-settled_world sys M n old.world e d h w s))
 
 -- an event that did nothing leaves everything as it was
 pub same_after : {C : Type 0} (x : Reaction C) (old : Done C) → effect.Nothing ≡ effect_of x → done_or old x ≡ old
@@ -32,12 +33,15 @@ same_after Nothing old h = refl
 same_after (Did d) old h = absurd (cc h)
 
 -- and after every stretch that is applied
-pub settled_applied : {C : Type 0} (sys : SystemTables) (M : Meaning C) (old new : Done C) (p : ℕ) (x : Ending C) → IsSettled sys old.world.state
-    → new ≡ done_or old (applied_by sys M old.world p (actor_of (processor_at old.world.state p)) x) → IsSettled sys new.world.state
-settled_applied {C} sys M old new p x h k =
-    subst (λ (d : Done C). IsSettled sys d.world.state) (sym k)
+pub settled_applied : {C : Type 0} (sys : SystemTables) (M : Meaning C) (old new : Done C) (p : ℕ) (x : Ending C)
+    → IsSettledWorld sys old.world → IsWorldOf sys new.world
+    → new ≡ done_or old (applied_by sys M old.world p (actor_of (processor_at old.world.state p)) x)
+    → IsSettledWorld sys new.world
+settled_applied {C} sys M old new p x h whole k =
+    subst (λ (d : Done C). IsSettledWorld sys d.world) (sym k)
     (by_reaction sys old (applied_by sys M old.world p (actor_of (processor_at old.world.state p)) x) h
-    (λ d s. subst (λ (r : Reaction C). LeavesSettled sys r) s (applied-leaves_settled sys M old.world p x h)))
+    (subst (λ (d : Done C). IsWorldOf sys d.world) k whole)
+    (λ d w s. applied-settled_world sys M old.world p x d h w s))
 
 -- a processor by its place, or by its number
 pub by_number : {C : Type 0} (sys : SystemTables) (M : Meaning C) (w : World C) (p : ℕ) (x : Ending C) → 1 ≤ p

@@ -7,8 +7,8 @@ use Rattle.fmp_base.specs.declared.events.Line.TheVariants as line
 use Rattle.fmp_base.specs.declared.states.Caller.{Caller}
 use Rattle.fmp_base.specs.Calls.{called}
 use Rattle.fmp_base.specs.Meanings.{Contexts, Meaning, World}
-use Rattle.fmp_base.specs.States.{Progress}
-use Rattle.fmp_base.specs.Steps.{Done, Reaction, Nothing, Did, actor_ended, call_made, finished, step}
+use Rattle.fmp_base.specs.States.{Progress, processor_at}
+use Rattle.fmp_base.specs.Steps.{Done, Reaction, Nothing, Did, actor_ended, actor_of, call_made, finished, step}
 use Rattle.fmp_base.specs.Systems.{SystemTables}
 use Rattle.fmp_base.specs.declared.stop.Stop.{Stop}
 use Rattle.fmp_base.specs.declared.stop.Stop.TheVariants as stop
@@ -126,3 +126,8 @@ with_stamp stamp (Some a) = Some (record { entry = a.entry; context = a.context;
 abbrev pub actor_in : {B C : Type 0} → KernelView B C → ℕ → Option (Actor C)
 actor_in k zero = None
 actor_in k (suc p) = with_stamp (get_or k.stamps p 0) (actor_at k.system k.world p)
+
+-- the processor of this number is not there, or neither a handler nor a task runs on it
+abbrev pub HasNoActor : {B C : Type 0} → KernelView B C → ℕ → Type 0
+HasNoActor k zero = Unit {0}
+HasNoActor k (suc p) = actor_of (processor_at k.world.state p) ≡ None

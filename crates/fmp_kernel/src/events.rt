@@ -103,7 +103,7 @@ impl<B: Body> Runner<B> {
 
     /// The actor of processor p makes a stretch from this context, from which it goes on. Where it makes a call, its
     /// context awaits the reply, else it is the first one again.
-    #[tactic(auto, using(fmp_contexts::proofs::ContextLemmas::task_of, fmp_contexts::proofs::ContextLemmas::entry_of, fmp_contexts::proofs::ContextLemmas::goes_fits))]
+    #[tactic(auto, using(fmp_contexts::proofs::ContextLemmas::task_of, fmp_contexts::proofs::ContextLemmas::entry_of, fmp_contexts::proofs::ContextLemmas::goes_in))]
     fn go_on(&mut self, p: u8, who: Caller, first: &B::Ctx) -> Stop
         requires { context_of self.old.world.contexts p who ≡ Some (Goes first.now) }
         ensures stop { result ≡ stop_of ((B.meaning self.old.body).stretch
@@ -129,7 +129,7 @@ impl<B: Body> Runner<B> {
 
     /// The stretch of the actor of processor p, which goes on from this context, is handed in. Where it makes a call,
     /// its context awaits the reply.
-    #[tactic(auto, using(fmp_contexts::proofs::ContextLemmas::task_of, fmp_contexts::proofs::ContextLemmas::goes_fits, fmp_contexts::proofs::ContextLemmas::has_context, fmp_contexts::proofs::HeldLemmas::context_back))]
+    #[tactic(auto, using(fmp_contexts::proofs::ContextLemmas::task_of, fmp_contexts::proofs::ContextLemmas::goes_in, fmp_contexts::proofs::ContextLemmas::has_context, fmp_contexts::proofs::HeldLemmas::context_back))]
     fn take(&mut self, p: u8, who: Caller, first: &B::Ctx, stretch: Stretch<B::Ctx>) -> Stop
         requires goes { context_of self.old.world.contexts p who ≡ Some (Goes first.now) }
         requires context { OfCall
@@ -142,6 +142,7 @@ impl<B: Body> Runner<B> {
         ensures first { B.is_context self.old.body (caller_body self.old.system self.old.world.contexts p who)
             first.now }
     {
+        // Only a look at a field tells the proof that the contexts fit.
         let _ = &self.tables;
         match stretch {
             Stretch::Over => Stop::Over,

@@ -1,5 +1,5 @@
 //! The kernel over lawful bodies: setup, and one event after the other.
-ghost use Rattle.std.specs.Prelude.{◌≡◌, ◌+◌, ◌<◌, ◌≤◌, ◌^◌, length, IfOk, IfSome};
+ghost use Rattle.std.specs.Prelude.{◌≡◌, ◌+◌, ◌<◌, ◌≤◌, ◌^◌, length, IfNone, IfOk, IfSome};
 ghost use Rattle.fmp_base.specs.Ranges.{IsInRange};
 ghost use Rattle.fmp_base.specs.Runs.{task_state};
 ghost use Rattle.fmp_base.specs.Setups.{setup};
@@ -7,7 +7,7 @@ ghost use Rattle.fmp_base.specs.Steps.{effect_of, step};
 ghost use Rattle.fmp_base.specs.Stretches.{ending};
 ghost use Rattle.fmp_base.specs.Systems.{tables_of};
 ghost use Rattle.fmp_contexts.specs.Contexts.{Entered, IsFor};
-ghost use Rattle.fmp_kernel.specs.KernelViews.{actor_in, view_after, view_of_setup};
+ghost use Rattle.fmp_kernel.specs.KernelViews.{HasNoActor, actor_in, view_after, view_of_setup};
 ghost use Rattle.fmp_worlds.specs.Settled.{RunOnce};
 ghost use Rattle.fmp_worlds.specs.Stamps.{actor_at_number, applied};
 
@@ -46,14 +46,14 @@ impl<B: Body> Model for Kernel<B> {
     ghost use Rattle.fmp_kernel.specs.KernelViews.{KernelView, kernel_of};
     ghost use Rattle.fmp_kernel.specs.Rooms.{IsEarly};
     ghost use Rattle.fmp_kernel.specs.Stamps.{AreStamps};
-    ghost use Rattle.fmp_worlds.specs.Settled.{IsSettled};
+    ghost use Rattle.fmp_worlds.specs.Settled.{IsSettledWorld};
 
     ghost Value = { KernelView B B.Ctx };
 
     ghost view = { λ k. kernel_of k.runner k.stamps.counts k.done };
 
     ghost invariant = { λ k. IsEarly k.runner.world.state.clock k.done
-        × IsSettled k.runner.system k.runner.world.state
+        × IsSettledWorld k.runner.system k.runner.world
         × AreStamps k.stamps k.runner.system.processors k.runner.world.state k.done };
 }
 
@@ -71,6 +71,7 @@ impl<B: Body + Drop> Kernel<B> {
     {
         let mut runner = Runner::new(alloc, body, sys, n)?;
         runner.set_up();
+        runner.world_is_whole();
         let stamps = runner.stamps(alloc)?;
         Ok(Kernel {
             runner,
@@ -123,14 +124,17 @@ impl<B: Body> Kernel<B> {
     pub fn no_task_runs_twice(&self)
         ensures { RunOnce self.now.world.state }
     {
+        // Only a look at a field tells the proof that the world is settled.
         let _ = &self.runner;
     }
 
-    /// The actor of the processor of this number, from 1: its running handler, else the task that it runs. None if
-    /// there is no such processor, or it has no actor. The stamp is how many done events ran the processor or left it
-    /// another actor than they found: along one run equal stamps mean the same actor in the same context.
+    /// The actor of the processor of this number, from 1: its running handler, else the task that it runs. None exactly
+    /// where there is no such processor, or it has no actor. The stamp is how many done events ran the processor or
+    /// left it another actor than they found: along one run equal stamps mean the same actor in the same context.
+    #[tactic(auto, using(crate::proofs::ActorNone::no_actor))]
     pub fn actor(&self, p: u8) -> Option<Actor<B::Ctx>>
         ensures value { result ≡ actor_in self.now p }
+        ensures exact { IfNone result (HasNoActor self.now p) }
         ensures entry { IfSome result (λ a. B.has_entry self.now.body a.entry) }
         ensures context { IfSome result (λ a. B.is_context self.now.body a.entry a.context) }
     {
@@ -150,6 +154,7 @@ impl<B: Body> Kernel<B> {
             ≡ view_after self.old (step self.old.system (B.meaning self.old.body) self.old.bound self.old.world e) }
     {
         let effect = self.runner.react(e);
+        self.runner.world_is_whole();
         match effect {
             Effect::Nothing => Effect::Nothing,
             Effect::Done => {
@@ -175,6 +180,7 @@ impl<B: Body> Kernel<B> {
             return Effect::Nothing;
         }
         let effect = self.runner.apply(p - 1, s);
+        self.runner.world_is_whole();
         match effect {
             Effect::Nothing => Effect::Nothing,
             Effect::Done => {

@@ -2,7 +2,7 @@
 ghost use Rattle.std.specs.Prelude.{◌≡◌, ◌+◌, ◌≤◌, ◌<◌, ◌^◌, ◌++◌, ◌∷◌, ℕ, [], get_or, length, replicate, vec_len, vec_capacity, false, IfOk, IfSome, Some, None};
 ghost use Rattle.fmp_base.specs.Runs.{task_state, state_word as word_of_state};
 ghost use Rattle.fmp_base.specs.Ranges.{IsInRange};
-ghost use Rattle.fmp_base.specs.Setups.{created_state, no_contexts, setup};
+ghost use Rattle.fmp_base.specs.Setups.{created_state, first_contexts, setup};
 ghost use Rattle.fmp_base.specs.States.{processor_at};
 ghost use Rattle.fmp_base.specs.Settles.{is_same_task as is_same_place};
 ghost use Rattle.fmp_base.specs.Steps.{actor_of, finished};
@@ -10,6 +10,7 @@ ghost use Rattle.fmp_base.specs.Systems.{tables_of};
 ghost use Rattle.fmp_contexts.specs.Contexts.{Entered};
 ghost use Rattle.fmp_kernel.specs.KernelViews.{SameBodies, done_of, progress_of, with_stamp};
 ghost use Rattle.fmp_kernel.specs.Stamps.{AreActors, AreCounted, is_given};
+ghost use Rattle.fmp_worlds.specs.Settled.{IsWorldOf};
 ghost use Rattle.fmp_worlds.specs.Stamps.{actor_at, place_run as place_of_lines};
 
 use crate::actors::{Actor, actor_on};
@@ -99,20 +100,18 @@ impl<B: Body + Drop> Runner<B> {
               body = body;
               bound = n;
               system = tables_of sys.now;
-              world = record
-                  { state = created_state (tables_of sys.now); contexts = no_contexts (tables_of sys.now) };
+              world = record {
+                state = created_state (tables_of sys.now);
+                contexts = first_contexts (tables_of sys.now) (B.meaning body);
+              };
               caused = [];
               lines = [];
             }) }
     {
-        let contexts = BodyContexts::new(
-            alloc,
-            sys.tasks.as_slice().len(),
-            usize::from(sys.processors),
-        )?;
         let caused = Vec::with_capacity(alloc, 510)?;
         let lines = Vec::with_capacity(alloc, 519)?;
         let tables = Tables::new(alloc, sys)?;
+        let contexts = BodyContexts::new(alloc, &body, &tables)?;
         Ok(Runner {
             body,
             bound: n,
@@ -155,8 +154,19 @@ impl<B: Body> Runner<B> {
         }
     }
 
-    /// The actor of processor p, with this stamp: none if it has no actor, or one that awaits a reply.
-    #[tactic(auto, using(fmp_contexts::proofs::ContextLemmas::entry_of, fmp_contexts::proofs::ContextLemmas::goes_fits))]
+    /// The state has a block for each task and a flag for each cyclic handler, and the contexts have a place for the
+    /// handler of each processor.
+    pub fn world_is_whole(&self)
+        ensures { IsWorldOf self.now.system self.now.world }
+    {
+        let _ = self.tables.task_count();
+        let _ = self.tables.cyclic_count();
+        let _ = self.tables.processor_count();
+    }
+
+    /// The actor of processor p, with this stamp: None if it has no actor, or one that awaits a reply or of which
+    /// nothing is kept.
+    #[tactic(auto, using(fmp_contexts::proofs::ContextLemmas::entry_of, fmp_contexts::proofs::ContextLemmas::goes_in))]
     pub fn actor(&self, p: u8, stamp: u32) -> Option<Actor<B::Ctx>>
         ensures value { result ≡ with_stamp stamp (actor_at self.now.system self.now.world p) }
         ensures entry { IfSome result (λ a. B.has_entry self.now.body a.entry) }
@@ -228,7 +238,7 @@ impl<B: Body> Runner<B> {
     /// processors settle (uITRON 4.0, section 3.7).
     pub fn set_up(&mut self)
         requires state { self.old.world.state ≡ created_state self.old.system }
-        requires contexts { self.old.world.contexts ≡ no_contexts self.old.system }
+        requires contexts { self.old.world.contexts ≡ first_contexts self.old.system (B.meaning self.old.body) }
         requires caused { self.old.caused ≡ [] }
         requires lines { self.old.lines ≡ [] }
         ensures after { done_of self.new ≡ setup self.old.system (B.meaning self.old.body) }

@@ -1,8 +1,9 @@
 //! Setup: the tasks with TA_ACT start.
-ghost use Rattle.std.specs.Prelude.{◌≡◌, ◌+◌, ◌≤◌, ◌<◌, length, vec_len, vec_capacity, []};
+ghost use Rattle.std.specs.Prelude.{◌≡◌, ◌+◌, ◌≤◌, ◌<◌, length, vec_len, vec_capacity};
 ghost use Rattle.fmp_base.specs.Setups.{started_if, all_started};
 ghost use Rattle.fmp_base.specs.States.{unchanged, places_from};
 ghost use Rattle.fmp_base.specs.Systems.{task_config};
+ghost use Rattle.fmp_tasks.specs.Lines.{AreEmptyWithRoom};
 ghost use Rattle.fmp_tasks.specs.Tables.{progress, SameShape};
 
 use fmp_base::Line;
@@ -29,8 +30,7 @@ fn start_if_active(tables: &mut Tables, caused: &mut Vec<Line>, t: u8)
 /// Of all tasks, in order of number, those with TA_ACT start.
 #[tactic(auto, using(crate::proofs::PlaceLemmas::places_next))]
 pub fn start_active(tables: &mut Tables, caused: &mut Vec<Line>)
-    requires empty { caused.old.items ≡ [] }
-    requires room { length tables.old.system.tasks ≤ vec_capacity caused.old }
+    requires caused { AreEmptyWithRoom (length tables.old.system.tasks) caused.old }
     ensures progress { progress tables.new caused.new.items
         ≡ all_started tables.old.system (unchanged tables.old.state)
         (places_from 0 (length tables.old.system.tasks)) }

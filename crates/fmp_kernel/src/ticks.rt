@@ -1,11 +1,12 @@
 //! What the clock does: the ends of limited waits, and cyclic handlers that become pending (uITRON 4.0, section 4.7).
-ghost use Rattle.std.specs.Prelude.{◌≡◌, ◌+◌, ◌<◌, ◌≤◌, ◌^◌, length, vec_len, vec_capacity, [], map, None};
+ghost use Rattle.std.specs.Prelude.{◌≡◌, ◌+◌, ◌<◌, ◌≤◌, ◌^◌, length, vec_len, vec_capacity, map, None};
 ghost use Rattle.fmp_base.specs.Changes.{released};
 ghost use Rattle.fmp_base.specs.Outcomes.{code as code_of};
 ghost use Rattle.fmp_base.specs.Ranges.{IsInRange};
 ghost use Rattle.fmp_base.specs.States.{task_at, unchanged, places_from};
 ghost use Rattle.fmp_base.specs.Ticks.{timeout_code as code_at_timeout, all_timed_out, all_cycled, cycled, pended, ticked, with_clock_advanced};
 ghost use Rattle.fmp_kernel.specs.NextTicks.{at_tick};
+ghost use Rattle.fmp_tasks.specs.Lines.{AreEmptyWithRoom};
 ghost use Rattle.fmp_tasks.specs.Tables.{progress, SameShape};
 ghost use Rattle.fmp_ticks.specs.Times.{first_due};
 
@@ -40,8 +41,7 @@ fn time_out(tables: &mut Tables, caused: &mut Vec<Line>, t: u8)
 
 /// Of all tasks, in order of number, those whose deadline is the next tick are released.
 fn time_out_all(tables: &mut Tables, caused: &mut Vec<Line>)
-    requires empty { caused.old.items ≡ [] }
-    requires room { length tables.old.system.tasks ≤ vec_capacity caused.old }
+    requires caused { AreEmptyWithRoom (length tables.old.system.tasks) caused.old }
     ensures progress { at_tick (progress tables.new caused.new.items)
         ≡ all_timed_out (unchanged (with_clock_advanced tables.old.state))
         (places_from 0 (length tables.old.state.tasks)) }
@@ -117,9 +117,8 @@ fn cycle_all(tables: &mut Tables, caused: &mut Vec<Line>, count: u8)
 /// that are due become pending.
 pub fn advance(tables: &mut Tables, caused: &mut Vec<Line>)
     requires time { tables.old.state.clock < 2 ^ 20 }
-    requires empty { caused.old.items ≡ [] }
     requires range { IsInRange tables.old.system }
-    requires room { 510 ≤ vec_capacity caused.old }
+    requires caused { AreEmptyWithRoom 510 caused.old }
     ensures progress { progress tables.new caused.new.items ≡ ticked tables.old.system tables.old.state }
     ensures shape { SameShape (record tables.old { state = with_clock_advanced tables.old.state }) tables.new }
     ensures capacity { vec_capacity caused.new ≡ vec_capacity caused.old }

@@ -52,8 +52,8 @@ pub record IsWorldOf {C : Type 0} (sys : SystemTables) (w : World C) : Type 0 wh
   pub cyclics : length w.state.pending_cyclics ≡ length sys.cyclics
   pub handlers : length w.contexts.handlers ≡ length w.state.processors
 
--- What the world is between events: its state is settled, a context is kept of each body that may run, and none of these
--- awaits a reply.
+-- What the world is between events: its state is settled, a context is kept of each body that may run, and none of
+-- these awaits a reply.
 pub record IsSettledWorld {C : Type 0} (sys : SystemTables) (w : World C) : Type 0 where
   pub whole : IsWorldOf sys w
   pub state : IsSettled sys w.state

@@ -3,7 +3,7 @@ use Rattle.fmp_base.specs.Steps.{Done, effect_of}
 use Rattle.fmp_base.specs.Stretches.{ending}
 use Rattle.fmp_base.specs.Systems.{SystemTables}
 use Rattle.fmp_kernel.specs.KernelViews.{done_of, done_or}
-use Rattle.fmp_worlds.specs.Settled.{IsSettled}
+use Rattle.fmp_worlds.specs.Settled.{IsSettledWorld}
 use Rattle.fmp_worlds.specs.Stamps.{applied}
 use Rattle.fmp_kernel.specs.Stamps.{AreStamps}
 use Rattle.fmp_kernel.proofs.ActorLemmas.{left_applied}
@@ -62,7 +62,8 @@ invariant_of-self-in-Done g c =
     let n = by_number r.system (g.B.Body.meaning r.body) r.world c.args.p (ending c.args.s) (omega arith) in
     let sys : SystemTables = r.system in (
       record { time = omega (arith, early.time, e.clock); early = omega (arith, few) },
-      rw e.bodies.system (settled_applied sys (g.B.Body.meaning r.body) (done_of r) (done_of c.apply-effect.new.self) _ (ending c.args.s) settled e.after),
+      rw e.bodies.system (settled_applied sys (g.B.Body.meaning r.body) (done_of r) (done_of c.apply-effect.new.self) _ (ending c.args.s) settled
+          (rw (← e.bodies.system) c.world_is_whole.ensures) e.after),
       rw e.bodies.system (stamps_after k.stamps c.count.new.stamps sys.processors k.done r.world.state c.apply-effect.new.self.world.state _ stamps c.count.ensures.counts
           (rw (← e.bodies.system) c.count.ensures.actors)),
     )
@@ -76,6 +77,6 @@ invariant_of-self g c =
     let sys : SystemTables = r.system in
     let same = e.after ∙ same_after _ (done_of r) (sym c.in-Nothing.is ∙ e.effect) in (
       record { time = omega (arith, early.time, e.clock); early = early.early },
-      rw e.bodies.system (subst (λ (d : Done _). IsSettled sys d.world.state) (sym same) settled),
+      rw e.bodies.system (subst (λ (d : Done _). IsSettledWorld sys d.world) (sym same) settled),
       rw e.bodies.system (subst (λ (d : Done _). AreStamps k.stamps sys.processors d.world.state k.done) (sym same) stamps),
     )

@@ -54,7 +54,8 @@ invariant_of-self-in-Done g c =
     let e = c.react-effect.ensures in
     let sys : SystemTables = r.system in (
       record { time = omega (arith, early.time, e.clock); early = omega (arith, few) },
-      rw e.bodies.system (settled_after sys (g.B.Body.meaning r.body) r.bound (done_of r) (done_of c.react-effect.new.self) c.args.e settled e.after),
+      rw e.bodies.system (settled_after sys (g.B.Body.meaning r.body) r.bound (done_of r) (done_of c.react-effect.new.self) c.args.e settled
+          (rw (← e.bodies.system) c.world_is_whole.ensures) e.after),
       rw e.bodies.system (stamps_after k.stamps c.count.new.stamps sys.processors k.done r.world.state c.react-effect.new.self.world.state _ stamps c.count.ensures.counts
           (rw (← e.bodies.system) c.count.ensures.actors)),
     )
