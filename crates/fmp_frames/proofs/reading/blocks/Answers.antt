@@ -1,7 +1,8 @@
+use Rattle.std.proofs.Common.{of_calls}
 use Rattle.fmp_base.specs.States.{task_at}
-use Rattle.fmp_frames.proofs.EachLemmas.{each-more}
 use Rattle.fmp_frames.proofs.reading.blocks.Goals as goal
 
-pub loop-i-preserved : goal.loop-i-preserved
-loop-i-preserved c =
-    each-more (task_at c.args.tables.now.state.tasks) _ _ _ _ c.loop-i.invariant c.in_ok-push.ensures.items c.task.ensures.value
+pub returns : goal.returns
+returns c =
+    rw c.task_count.ensures.configs at
+    (c.each.ensures (task_at c.args.tables.now.state.tasks) (λ i x below post. search of_calls))

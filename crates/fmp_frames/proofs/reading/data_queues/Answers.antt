@@ -1,7 +1,8 @@
+use Rattle.std.proofs.Common.{of_calls}
 use Rattle.fmp_frames.specs.Frames.{word_count}
-use Rattle.fmp_frames.proofs.EachLemmas.{each-more}
 use Rattle.fmp_frames.proofs.reading.data_queues.Goals as goal
 
-pub loop-i-preserved : goal.loop-i-preserved
-loop-i-preserved c =
-    each-more (word_count c.args.tables.now.state) _ _ _ _ c.loop-i.invariant c.in_ok-push.ensures.items c.data_queue_length.ensures
+pub returns : goal.returns
+returns c =
+    rw c.data_queue_count.ensures.system at
+    (c.each.ensures (word_count c.args.tables.now.state) (λ i x below post. search of_calls))

@@ -1,7 +1,6 @@
+use Rattle.std.proofs.Common.{of_calls}
 use Rattle.fmp_base.specs.Ticks.{is_pending}
-use Rattle.fmp_frames.proofs.EachLemmas.{each-more}
 use Rattle.fmp_frames.proofs.reading.pending_interrupts.Goals as goal
 
-pub loop-i-preserved : goal.loop-i-preserved
-loop-i-preserved c =
-    each-more (is_pending c.args.tables.now.state.pending_interrupts) _ _ _ _ c.loop-i.invariant c.in_ok-push.ensures.items c.is_interrupt_pending.ensures
+pub returns : goal.returns
+returns c = c.each.ensures (is_pending c.args.tables.now.state.pending_interrupts) (λ i x below post. search of_calls)
