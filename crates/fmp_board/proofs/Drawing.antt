@@ -1,26 +1,30 @@
 -- Actors that were drawn after a beginning of a journal, and their stretches.
-use Rattle.std.proofs.Common.{◌≡◌, ◌≢◌, ℕ, zero, suc, ◌<◌, ◌≤◌, List, [], ◌∷◌, ◌++◌, Option, Some, None, Bool, true, false, nat_eq, MatchBool, get_or, refl, sym, ap, ◌∙◌, subst, arith}
+use Rattle.std.proofs.Common.{◌≡◌, ◌≢◌, ℕ, zero, suc, ◌<◌, ◌≤◌, List, [], ◌∷◌, ◌++◌, Option, Some, None, Bool, true, false, nat_eq, MatchBool, get_or, length, refl, sym, ap, ◌∙◌, subst, arith}
 use Rattle.std.proofs.lemmas.Bool.{eqb-true}
 use Rattle.std.proofs.lemmas.Bool.Decides.{nat_tests}
+use Rattle.std.proofs.lemmas.Option.{slice_get_past}
 use Rattle.fmp_base.specs.declared.events.Event.{Event}
 use Rattle.fmp_base.specs.declared.events.Event.TheVariants.{Run}
 use Rattle.fmp_base.specs.Runs.{run}
 use Rattle.fmp_base.specs.Setups.{setup}
-use Rattle.fmp_base.specs.Steps.{step}
+use Rattle.fmp_base.specs.States.{idle}
+use Rattle.fmp_base.specs.Systems.{found}
+use Rattle.fmp_base.specs.declared.states.Processor.{Processor}
+use Rattle.fmp_base.specs.Steps.{actor_of, step}
 use Rattle.fmp_base.specs.Stretches.{Ending}
 use Rattle.fmp_instructions.specs.declared.instructions.MachineContext.{MachineContext}
 use Rattle.fmp_instructions.specs.Instructions.{BodyTables}
 use Rattle.fmp_instructions.specs.Machine.{code_meaning}
 use Rattle.fmp_image_bytes.specs.Images.{ImageTables}
 use Rattle.fmp_kernel.specs.declared.actors.Actor.{Actor}
-use Rattle.fmp_kernel.specs.KernelViews.{KernelView, actor_in, with_stamp}
+use Rattle.fmp_kernel.specs.KernelViews.{HasNoActor, KernelView, actor_in, with_stamp}
 use Rattle.fmp_journal.specs.declared.entry.JournalEntry.{JournalEntry}
 use Rattle.fmp_journal.specs.Seats.{events}
 use Rattle.fmp_worlds.specs.Stamps.{EndsSo, Going, actor_at, applied, stamp}
 use Rattle.fmp_worlds.proofs.SettledLaws.{run-settled, setup-settled}
 use Rattle.fmp_worlds.proofs.StampLaws.{applied-runs, equal_stamps}
 use Rattle.fmp_board.specs.Boards.{IsReplay}
-use Rattle.fmp_board.specs.Outcomes.{TicketState, IsDrawn, IsTicketOf, OutcomeState, IsOutcome, actor_after, stamp_after, stamp_at}
+use Rattle.fmp_board.specs.Outcomes.{HasNoActorAfter, TicketState, IsDrawn, IsTicketOf, OutcomeState, IsOutcome, actor_after, stamp_after, stamp_at}
 use Rattle.fmp_replay.specs.Replays.{kernel_after, reaction, replay, stamps_after}
 use Rattle.fmp_replay.proofs.Replaying.{stamp_of, step_of_replay, world_of}
 
@@ -64,6 +68,17 @@ applied_runs k (suc q) a x h e =
 pub actor_there : (i : ImageTables) (n k m : ℕ) (kernel : Kernels) (journal : List JournalEntry) (p : ℕ) → IsReplay i n k m kernel journal
     → actor_in kernel p ≡ actor_after i n journal p
 actor_there i n k m kernel journal p r = ap (λ (v : Kernels). actor_in v p) r.kernel_is
+
+-- and no actor where it has none
+pub no_actor_there : (i : ImageTables) (n k m : ℕ) (kernel : Kernels) (journal : List JournalEntry) (p : ℕ) → IsReplay i n k m kernel journal
+    → HasNoActor kernel p → HasNoActorAfter i n journal p
+no_actor_there i n k m kernel journal p r none = subst (λ (v : Kernels). HasNoActor v p) r.kernel_is none
+
+-- there is no actor past the last processor
+pub past_last : (kernel : Kernels) (p : ℕ) → length kernel.world.state.processors < p → HasNoActor kernel p
+past_last kernel zero past = tt
+past_last kernel (suc q) past =
+    ap (λ (o : Option Processor). actor_of (found idle o)) (slice_get_past kernel.world.state.processors q (omega (arith, past)))
 
 pub outcome_runs : (i : ImageTables) (n k m : ℕ) (kernel : Kernels) (journal : List JournalEntry) (o : OutcomeState) → IsReplay i n k m kernel journal
     → IsOutcome o → IsTicketOf i n o.ticket → actor_after i n journal o.ticket.processor ≡ Some o.ticket.actor

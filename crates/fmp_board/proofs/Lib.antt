@@ -3,4 +3,5 @@ pub mod Copying
 pub mod Crossing
 pub mod Drawing
 pub mod Entering
+pub mod Untouched
 pub mod Visiting

@@ -1,5 +1,5 @@
 -- What contracts see of boards and their seats, and what their calls answer.
-use Rattle.std.specs.Prelude.{◌≡◌, ℕ, ◌≤◌, ◌<◌, ◌^◌, List, length}
+use Rattle.std.specs.Prelude.{◌≡◌, ℕ, ◌≤◌, ◌<◌, ◌^◌, List, [], length}
 use Rattle.std.specs.List.{All}
 use mathlib.Core.List.{IsPrefix}
 use Rattle.fmp_base.specs.declared.events.Event.{Event}
@@ -18,11 +18,12 @@ pub record BookState : Type 0 where
   pub journal : List JournalEntry
   pub marks : List ℕ
 
--- a board that is not yet open: its image, the instructions that a stretch may take, and its row
+-- a board that is not yet open: its image, the instructions that a stretch may take, its row, and what is written there
 pub record BlankState : Type 0 where
   pub image : ImageTables
   pub bound : ℕ
   pub row : RowId
+  pub journal : List JournalEntry
 
 -- a closed board: the kernel, and the events of the journal
 pub record ClosedState : Type 0 where
@@ -60,8 +61,9 @@ pub record InRange (n k m : ℕ) : Type 0 where
 abbrev pub IsAt : RowId → SeatState → Type 0
 IsAt row s = s.row ≡ row
 
+-- a board that is not yet open, in whose row nothing is written
 abbrev pub blank : ImageTables → (n : ℕ) → RowId → BlankState
-blank i n row = record { image = i; bound = n; row = row }
+blank i n row = record { image = i; bound = n; row = row; journal = [] }
 
 -- a closed board: its kernel is the replay of its journal
 pub record IsClosed (i : ImageTables) (n k m : ℕ) (closed : ClosedState) : Type 0 where

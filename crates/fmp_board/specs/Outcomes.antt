@@ -1,5 +1,5 @@
 -- Tickets, the outcomes of their stretches, and the answers to outcomes.
-use Rattle.std.specs.Prelude.{◌≡◌, ◌≢◌, ℕ, zero, suc, ◌<◌, ◌≤◌, List, Some, None, Option, Result, get_or, length, MatchOption, MatchResult}
+use Rattle.std.specs.Prelude.{◌≡◌, ◌≢◌, ℕ, zero, suc, ◌<◌, ◌≤◌, List, Some, Option, Result, get_or, length, MatchOption, MatchResult}
 use mathlib.Core.List.{IsPrefix}
 use Rattle.fmp_base.specs.declared.events.Event.TheVariants.{Run}
 use Rattle.fmp_base.specs.Stretches.{Ending}
@@ -9,7 +9,7 @@ use Rattle.fmp_instructions.specs.Machine.{code_meaning}
 use Rattle.fmp_code.specs.Vms.{IsContext}
 use Rattle.fmp_image_bytes.specs.Images.{ImageTables}
 use Rattle.fmp_kernel.specs.declared.actors.Actor.{Actor}
-use Rattle.fmp_kernel.specs.KernelViews.{actor_in}
+use Rattle.fmp_kernel.specs.KernelViews.{HasNoActor, actor_in}
 use Rattle.fmp_journal.specs.declared.entry.JournalEntry.{JournalEntry}
 use Rattle.fmp_journal.specs.Seats.{RowId, SeatState, events}
 use Rattle.fmp_journal.specs.Words.{entry}
@@ -73,10 +73,14 @@ pub record IsDrawn (i : ImageTables) (n : ℕ) (journal : List JournalEntry) (t 
   pub begins : IsPrefix begin journal
   pub actor_is : actor_after i n begin t.processor ≡ Some t.actor
 
--- the answer to a request for a ticket for processor p, after a journal: its actor there, if it has one
+-- after a journal, processor p is not there, or has no actor
+abbrev pub HasNoActorAfter : ImageTables → (n : ℕ) → List JournalEntry → (p : ℕ) → Type 0
+HasNoActorAfter i n journal p = HasNoActor (kernel_after i n (events journal)) p
+
+-- the answer to a request for a ticket for processor p, after a journal: its actor there, or none if it has none
 abbrev pub Drew : ImageTables → (n : ℕ) → List JournalEntry → (p : ℕ) → Option TicketState → Type 0
 Drew i n journal p result =
-    MatchOption result (actor_after i n journal p ≡ None)
+    MatchOption result (HasNoActorAfter i n journal p)
     (λ t. IsTicketOf i n t × (t.processor ≡ p) × (actor_after i n journal p ≡ Some t.actor))
 
 -- why an outcome is refused after a journal: the stamp of its processor is another one, or else the journal is full

@@ -45,7 +45,7 @@ impl<'a> Model for Blank<'a> {
 
     ghost Value = { BlankState };
 
-    ghost view = { λ b. record { image = b.image.now; bound = b.bound; row = b.row } };
+    ghost view = { λ b. record { image = b.image.now; bound = b.bound; row = b.row; journal = b.scribe.journal } };
 
     ghost invariant = { λ b. InRange b.bound b.row.capacity b.row.seats
         × IsReplay b.image.now b.bound b.row.capacity b.row.seats b.kernel [] × (b.scribe ≡ new_scribe b.row)
@@ -145,7 +145,7 @@ impl<'a> Blank<'a> {
         }
     }
 
-    /// Opens the board, for the site that stands for it.
+    /// Opens the board, for the site that stands for it. Nothing is journaled on it yet.
     pub fn open<S: Site>(self) -> Board<'a, S>
         requires { self ≡ blank S.image S.bound S.row_id }
     {

@@ -32,13 +32,14 @@ pub struct Board<'a, S: Site> {
 impl<'a, S: Site> Board<'a, S> {
     ghost use Rattle.std.specs.Prelude.{◌≡◌, ◌+◌, ◌^◌, ◌<◌, ◌≤◌, ◌⊎◌, ◌++◌, [], ◌∷◌, All, length, None, IfNone, IfSome, vec_capacity};
     ghost use mathlib.Core.List.{IsPrefix};
-    ghost use Rattle.fmp_journal.specs.Seats.{events, given};
+    ghost use Rattle.fmp_journal.specs.Seats.{AreNew, events, given};
     ghost use Rattle.fmp_journal.specs.Views.{looked_at};
     ghost use Rattle.fmp_journal.specs.Words.{event_in};
     ghost use Rattle.fmp_board.specs.Boards.{IsAt, IsClosed, IsCountedBy};
     ghost use Rattle.fmp_board.specs.Outcomes.{Drew, IsDrawn, Submitted};
     ghost use Rattle.fmp_board.specs.Visits.{Fed, Visited, journaled};
 
+    /// A board over a book in which nothing is journaled.
     pub(crate) fn new(
         image: &'a Image,
         row: Row,
@@ -49,7 +50,7 @@ impl<'a, S: Site> Board<'a, S> {
         requires image { image.now ≡ S.image }
         requires row { row ≡ S.row_id }
         requires room { (room.items ≡ []) × (S.row_id.capacity ≤ vec_capacity room) }
-        requires book { book.marks ≡ [] }
+        requires book { (book.journal ≡ []) × (book.marks ≡ []) }
         requires bound { (bound ≡ S.bound) × (1 ≤ bound) × (bound ≤ 2 ^ 48) }
         requires most { S.row_id.capacity ≤ 2 ^ 20 }
     {
@@ -93,8 +94,8 @@ impl<'a, S: Site> Board<'a, S> {
         self.row.capacity()
     }
 
-    /// A ticket for the stretch that the actor of processor p makes next. None if there is no such processor, or it has
-    /// no actor. The seat has then seen the whole journal.
+    /// A ticket for the stretch that the actor of processor p makes next. None exactly if there is no such processor, or
+    /// it has no actor. The seat has then seen the whole journal.
     pub fn ticket<R: Wait>(&self, rt: &R, seat: &mut Seat, p: u8) -> Option<Ticket<'a>>
         requires at { IsAt S.row_id seat.old }
         ensures at { IsAt S.row_id seat.new }
@@ -198,21 +199,26 @@ impl<'a, S: Site> Board<'a, S> {
         ensures closed { IsClosed S.image S.bound S.row_id.capacity S.row_id.seats result }
         ensures journal { result.events ≡ events seat.new.seen }
     {
-        let Board {
-            image: _,
-            row: _,
-            room,
-            bound: _,
-            desk,
-        } = self;
-        desk.into_inner().close(seat, room)
+        let (desk, room) = self.into_parts();
+        desk.close(seat, room)
     }
+
     /// Ends the board and these seats of it. Each of them has counted all of its own entries in the journal, however
-    /// much of it it had seen. It never waits, and takes no memory.
+    /// much of it it had seen. With all seats of a board that was just opened the journal is empty. It never waits, and
+    /// takes no memory.
     pub fn close_all(self, seats: Vec<Seat>) -> Closed<'a>
         requires at { All (IsAt S.row_id) seats.items }
         ensures closed { IsClosed S.image S.bound S.row_id.capacity S.row_id.seats result }
         ensures counted { IsCountedBy S.image S.bound S.row_id.capacity S.row_id.seats seats.items result }
+        ensures empty { AreNew S.row_id seats.items → result.events ≡ [] }
+    {
+        let (desk, room) = self.into_parts();
+        desk.close_all(seats, room)
+    }
+
+    /// What lay under the lock, and room for the events of its journal.
+    fn into_parts(self) -> (Desk<'a, S>, Vec<Event>)
+        ensures { (result.1.items ≡ []) × (S.row_id.capacity ≤ vec_capacity result.1) }
     {
         let Board {
             image: _,
@@ -221,6 +227,6 @@ impl<'a, S: Site> Board<'a, S> {
             bound: _,
             desk,
         } = self;
-        desk.into_inner().close_all(seats, room)
+        (desk.into_inner(), room)
     }
 }
