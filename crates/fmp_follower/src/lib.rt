@@ -3,4 +3,4 @@
 
 mod follower;
 
-pub use follower::{Follower, followed_text_is_front};
+pub use follower::{Follower, Start, followed_text_is_front};
