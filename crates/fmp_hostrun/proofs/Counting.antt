@@ -20,7 +20,7 @@ use Rattle.fmp_board.specs.Boards.{ClosedState, HasCounted, IsCountedBy}
 use Rattle.fmp_hostrun.specs.declared.turns.Load.{Load}
 use Rattle.fmp_hostrun.specs.declared.turns.Part.{Part}
 use Rattle.fmp_hostrun.specs.Counts.{AreCounted, IsTurnOrTick, is_run, is_tick}
-use Rattle.fmp_hostrun.specs.Works.{AllAdded, Added, CameBackAs, IsAnswer, Job, jobs_of, part_at}
+use Rattle.fmp_hostrun.specs.Works.{AllAdded, Added, CameBackAs, IsAnswer, IsRun, Job, jobs_of, load_of, part_at}
 use Rattle.fmp_hostrun.proofs.Joining.{stopped, why_seen}
 use Rattle.fmp_hostrun.proofs.Working.{own_same}
 
@@ -349,3 +349,20 @@ pub not_full : (i : ImageTables) (n : ℕ) (row : RowId) (always : Type 0) (load
 not_full i n row always load seats back closed f new size room came c answer is =
     never_full i n row always load seats back closed new size room (came.all (λ e. absurd (cc (e, is)))) c
     (subst (λ (g : BoardFault). IsAnswer i n row always load seats back (Err g)) is answer)
+
+-- what threads journaled that were joined
+pub is_run_of : (i : ImageTables) (n : ℕ) (row : RowId) (always : Type 0) (turns ticks : ℕ) (seats back : List SeatState) (closed : ClosedState) (count : ℕ) → AreNew row seats
+    → row.seats ≡ i.system.processors + 1 → IsAnswer i n row always (load_of i turns ticks) seats back (Ok count) → IsCountedBy i n row.capacity row.seats back closed
+    → IsRun i n always turns ticks closed.events
+is_run_of i n row always turns ticks seats back closed count new size answer c = record {
+  row = row;
+  seats = seats;
+  new = new;
+  size = size;
+  back = back;
+  count = count;
+  joined = answer;
+  journal = c.journal;
+  counted = c.counted;
+  events_are = c.events_are;
+}

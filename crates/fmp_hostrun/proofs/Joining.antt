@@ -67,17 +67,17 @@ total_last (x ∷ answers) answer = ap (both x) (total_last answers answer) ∙ 
 pub none_joined : (i : ImageTables) (n : ℕ) (row : RowId) (always : Type 0) (back : List SeatState) → back ≡ [] → Joined i n row always [] back (Ok 0)
 none_joined i n row always back is = record { all = []; each = tt; back_is = is; answer_is = refl }
 
-pub one_joined : (i : ImageTables) (n : ℕ) (row : RowId) (always : Type 0) (first : List Job) (back now : List SeatState) (j : Job) (s : SeatState) (times : ℕ)
-    (answer more result : Result ℕ BoardFault) → Joined i n row always first back answer → GaveBack i n row always j (gave s times more) → now ≡ back ++ s ∷ [] → result ≡ both answer more
+pub one_joined : (i : ImageTables) (n : ℕ) (row : RowId) (always : Type 0) (first : List Job) (back now : List SeatState) (j : Job) (s : SeatState)
+    (answer more result : Result ℕ BoardFault) → Joined i n row always first back answer → GaveBack i n row always j (gave s more) → now ≡ back ++ s ∷ [] → result ≡ both answer more
     → Joined i n row always (first ++ j ∷ []) now result
-one_joined i n row always first back now j s times answer more result w g is r =
+one_joined i n row always first back now j s answer more result w g is r =
     record {
-      all = w.all ++ gave s times more ∷ [];
-      each = zip_push (GaveBack i n row always) first w.all j (gave s times more) w.each g;
-      back_is = is ∙ ap (λ (xs : List SeatState). xs ++ s ∷ []) w.back_is ∙ sym (map-append (λ (x : Gave). x.seat) w.all (gave s times more ∷ []));
+      all = w.all ++ gave s more ∷ [];
+      each = zip_push (GaveBack i n row always) first w.all j (gave s more) w.each g;
+      back_is = is ∙ ap (λ (xs : List SeatState). xs ++ s ∷ []) w.back_is ∙ sym (map-append (λ (x : Gave). x.seat) w.all (gave s more ∷ []));
       answer_is =
           r ∙ ap (λ (a : Result ℕ BoardFault). both a more) w.answer_is ∙ sym (total_last (map (λ (x : Gave). x.answer) w.all) more)
-          ∙ ap total (sym (map-append (λ (x : Gave). x.answer) w.all (gave s times more ∷ [])));
+          ∙ ap total (sym (map-append (λ (x : Gave). x.answer) w.all (gave s more ∷ [])));
     }
 
 pub joined_as : (i : ImageTables) (n : ℕ) (row : RowId) (always : Type 0) (first jobs : List Job) (back : List SeatState) (answer : Result ℕ BoardFault) → first ≡ jobs
@@ -245,10 +245,10 @@ IsCount threads jobs back count = (mine_of back ≡ mine_of (seats_of jobs) + co
 abbrev pub IsMore : (capacity : ℕ) → Job → SeatState → (count : ℕ) → Type 0
 IsMore capacity j s count = (s.mine ≡ j.seat.mine + count) × (count ≤ capacity)
 
-pub more_of : (i : ImageTables) (n : ℕ) (row : RowId) (always : Type 0) (j : Job) (s : SeatState) (times : ℕ) (answer : Result ℕ BoardFault) → GaveBack i n row always j (gave s times answer)
+pub more_of : (i : ImageTables) (n : ℕ) (row : RowId) (always : Type 0) (j : Job) (s : SeatState) (answer : Result ℕ BoardFault) → GaveBack i n row always j (gave s answer)
     → IfOk answer (IsMore row.capacity j s)
-more_of i n row always j s times (Ok count) g = (g.finished.1, g.finished.2)
-more_of i n row always j s times (Err f) g = tt
+more_of i n row always j s (Ok count) g = (g.finished.1, g.finished.2)
+more_of i n row always j s (Err f) g = tt
 
 pub counts_fit : (capacity threads : ℕ) (jobs : List Job) (back : List SeatState) (j : Job) (s : SeatState) (journaled more : Result ℕ BoardFault) → capacity ≤ 2 ^ 20 → threads ≤ 255
     → IfOk journaled (IsCount threads jobs back) → IfOk more (IsMore capacity j s) → IfOk journaled (λ count. IfOk more (λ further. count + further < 2 ^ 32))

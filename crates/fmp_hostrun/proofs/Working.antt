@@ -17,12 +17,12 @@ use Rattle.fmp_journal.specs.Words.{entry}
 use Rattle.fmp_board.specs.declared.fault.BoardFault.{BoardFault}
 use Rattle.fmp_board.specs.declared.fault.BoardFault.TheVariants as fault
 use Rattle.fmp_board.specs.declared.receipt.Receipt.{Receipt}
-use Rattle.fmp_board.specs.Outcomes.{AnsweredAfter, IsDrawn, IsWhyRefused, Submitted, TicketState, stamp_after}
+use Rattle.fmp_board.specs.Outcomes.{AnsweredAfter, HasNoActorAfter, IsDrawn, IsWhyRefused, Submitted, TicketState, stamp_after}
 use Rattle.fmp_board.specs.Receipts.{receipt_of}
 use Rattle.fmp_replay.specs.Replays.{reaction}
 use Rattle.fmp_board.specs.Visits.{FedAfter, Fed, Kept, Visited, entered, journaled}
-use Rattle.fmp_hostrun.specs.Works.{Added, IsCounted, IsIdle, IsWhyStopped}
-use Rattle.fmp_board.proofs.Visiting.{kept_none, kept_more, kept_on}
+use Rattle.fmp_hostrun.specs.Works.{Added, CameToNothing, DidOnce, DidTimes, IsCounted, IsIdle, IsWhyStopped}
+use Rattle.fmp_board.proofs.Visiting.{kept_none, kept_more, kept_on, visited_on}
 
 -- entries of one seat
 
@@ -238,6 +238,46 @@ feed_refused i n row e was now f s mine = let full = full_fed i n row e was now 
 
 -- turns in which nothing was journaled
 
-pub idle_turn : (i : ImageTables) (n : ℕ) (row : RowId) (p : ℕ) (t : TicketState) (drawn now : SeatState) (answer : Result Receipt BoardFault) → t.processor ≡ p → IsDrawn i n drawn.seen t
+idle_turn : (i : ImageTables) (n : ℕ) (row : RowId) (p : ℕ) (t : TicketState) (drawn now : SeatState) (answer : Result Receipt BoardFault) → t.processor ≡ p → IsDrawn i n drawn.seen t
     → Submitted i n row t drawn now answer → journaled answer ≡ 0 → IsIdle i n row p now
 idle_turn i n row p t drawn now answer is d s none = inr (t, is, (drawn, d, (answer, s, none)))
+
+-- a thread's part, one time after the other
+
+none_or_one : (count : ℕ) → count ≤ 1 → (count ≡ 0) ⊎ (count ≡ 1)
+none_or_one count few = grind (arith, few)
+
+-- a turn of a processor with no actor
+pub did_none : (i : ImageTables) (n : ℕ) (row : RowId) (p : ℕ) (was now : SeatState) → Visited i n row was now → HasNoActorAfter i n now.seen p → DidOnce i n row (Run p) was now
+did_none i n row p was now v none = (v, inr (inr (p, refl, inl none)))
+
+-- a turn in which an outcome was submitted
+pub did_submitted : (i : ImageTables) (n : ℕ) (row : RowId) (p : ℕ) (t : TicketState) (was drawn now : SeatState) (answer : Result Receipt BoardFault) → Visited i n row was drawn
+    → drawn.mine ≡ was.mine → t.processor ≡ p → IsDrawn i n drawn.seen t → Visited i n row drawn now → now.mine ≡ drawn.mine + journaled answer → Submitted i n row t drawn now answer
+    → DidOnce i n row (Run p) was now
+did_submitted i n row p t was drawn now answer v same is d w mine s = (visited_on i n row was drawn now v w, by_count (none_or_one (journaled answer) (few_journaled answer)))
+  where
+    by_count : (journaled answer ≡ 0) ⊎ (journaled answer ≡ 1) → (now.mine ≡ was.mine + 1) ⊎ CameToNothing i n row (Run p) now
+    by_count (inl none) = inr (inr (p, refl, idle_turn i n row p t drawn now answer is d s none))
+    by_count (inr one) = inl (omega (arith, same, mine, one))
+
+-- an event that was fed
+pub did_fed : (i : ImageTables) (n : ℕ) (row : RowId) (e : Event) (was now : SeatState) (receipt : Receipt) → Visited i n row was now → now.mine ≡ was.mine + journaled (Ok receipt)
+    → Fed i n row e was now (Ok receipt) → DidOnce i n row e was now
+did_fed i n row e was now receipt v mine fed = (v, by_count (none_or_one (journaled (Ok receipt)) (few_journaled (Ok receipt))))
+  where
+    by_count : (journaled (Ok receipt) ≡ 0) ⊎ (journaled (Ok receipt) ≡ 1) → (now.mine ≡ was.mine + 1) ⊎ CameToNothing i n row e now
+    by_count (inl none) = inr (inl (was, (receipt, fed, none)))
+    by_count (inr one) = inl (omega (arith, mine, one))
+
+pub did_begin : (i : ImageTables) (n : ℕ) (row : RowId) (e : Event) (was now : SeatState) → now ≡ was → DidTimes i n row e 0 was now
+did_begin i n row e was now is = is
+
+pub did_more : (i : ImageTables) (n : ℕ) (row : RowId) (e : Event) (times : ℕ) (was mid now : SeatState) → DidTimes i n row e times was mid → DidOnce i n row e mid now
+    → DidTimes i n row e (times + 1) was now
+did_more i n row e times was mid now all once =
+    let next : suc times ≡ times + 1 = omega arith in
+    subst (λ (k : ℕ). DidTimes i n row e k was now) next (mid, all, once)
+
+pub did_all : (i : ImageTables) (n : ℕ) (row : RowId) (e : Event) (times all : ℕ) (was now : SeatState) → DidTimes i n row e times was now → times ≡ all → DidTimes i n row e all was now
+did_all i n row e times all was now did is = subst (λ (k : ℕ). DidTimes i n row e k was now) is did

@@ -1,17 +1,19 @@
 -- The effect of a board's threads on their seats.
-use Rattle.std.specs.Prelude.{◌≡◌, ◌≢◌, ◌⊎◌, ℕ, ◌+◌, ◌<◌, ◌≤◌, nat_lt, if◌then◌else◌, List, [], ◌∷◌, ◌++◌, length, map, replicate, slice_get, Some, None, Result, Ok, Err, IfErr, IfOk}
-use Rattle.std.specs.List.{AllZip}
+use Rattle.std.specs.Prelude.{◌≡◌, ◌≢◌, ◌⊎◌, ℕ, ◌+◌, zero, suc, ◌<◌, ◌≤◌, nat_lt, if◌then◌else◌, List, [], ◌∷◌, ◌++◌, length, map, replicate, slice_get, Some, Result, Ok, Err, IfErr, IfOk}
+use Rattle.std.specs.List.{All, AllZip}
 use Rattle.fmp_base.specs.declared.events.Event.{Event}
 use Rattle.fmp_base.specs.declared.events.Event.TheVariants.{Run, Tick}
 use Rattle.fmp_image_bytes.specs.Images.{ImageTables}
-use Rattle.fmp_journal.specs.Seats.{RowId, SeatState}
+use Rattle.fmp_journal.specs.declared.entry.JournalEntry.{JournalEntry}
+use Rattle.fmp_journal.specs.Seats.{AreNew, RowId, SeatState, events}
 use Rattle.fmp_journal.specs.Views.{own}
 use Rattle.fmp_journal.specs.Words.{entry}
 use Rattle.fmp_board.specs.declared.fault.BoardFault.{BoardFault}
 use Rattle.fmp_board.specs.declared.fault.BoardFault.TheVariants as fault
 use Rattle.fmp_board.specs.declared.receipt.Receipt.{Receipt}
-use Rattle.fmp_board.specs.Outcomes.{IsDrawn, Submitted, TicketState, actor_after}
-use Rattle.fmp_board.specs.Visits.{Kept, journaled}
+use Rattle.fmp_board.specs.Outcomes.{HasNoActorAfter, IsDrawn, Submitted, TicketState}
+use Rattle.fmp_board.specs.Boards.{HasCounted}
+use Rattle.fmp_board.specs.Visits.{Fed, Kept, Visited, journaled}
 use Rattle.fmp_hostrun.specs.declared.turns.Load.{Load}
 use Rattle.fmp_hostrun.specs.declared.turns.Part.{Part}
 
@@ -49,10 +51,26 @@ AllAdded i n row load place (s ∷ seats) [] = ⊥
 -- did nothing
 abbrev pub IsIdle : ImageTables → (n : ℕ) → RowId → (p : ℕ) → (now : SeatState) → Type 0
 IsIdle i n row p now =
-    (actor_after i n now.seen p ≡ None)
+    HasNoActorAfter i n now.seen p
     ⊎ ((t : TicketState) × (t.processor ≡ p)
     × ((drawn : SeatState) × IsDrawn i n drawn.seen t
     × ((answer : Result Receipt BoardFault) × Submitted i n row t drawn now answer × (journaled answer ≡ 0))))
+
+-- nothing was journaled of an event: it was fed and did nothing, or it is the run of a processor whose turn was idle
+abbrev pub CameToNothing : ImageTables → (n : ℕ) → RowId → Event → (now : SeatState) → Type 0
+CameToNothing i n row e now =
+    ((was : SeatState) × ((receipt : Receipt) × Fed i n row e was now (Ok receipt) × (journaled (Ok receipt) ≡ 0)))
+    ⊎ ((p : ℕ) × (e ≡ Run p) × IsIdle i n row p now)
+
+-- one time of a thread's part: its seat has visited the board, and has counted one event more, or nothing was journaled
+abbrev pub DidOnce : ImageTables → (n : ℕ) → RowId → Event → (was now : SeatState) → Type 0
+DidOnce i n row e was now = Visited i n row was now × ((now.mine ≡ was.mine + 1) ⊎ CameToNothing i n row e now)
+
+-- its part as often as asked, one time after the other
+abbrev pub DidTimes : ImageTables → (n : ℕ) → RowId → Event → (times : ℕ) → (was now : SeatState) → Type 0
+DidTimes i n row e zero was now = now ≡ was
+DidTimes i n row e (suc times) was now =
+    (mid : SeatState) × DidTimes i n row e times was mid × DidOnce i n row e mid now
 
 -- the job of a thread: its part, and the seat with which it does it
 pub record Job : Type 0 where
@@ -77,22 +95,21 @@ IsWhyStopped row always event now f =
     ((f ≡ fault.Full) × (length now.seen ≡ row.capacity))
     ⊎ ((f ≡ fault.Held) × (always → ⊥) × ((p : ℕ) × (event ≡ Run p)))
 
--- What a thread gives back: its seat; how many turns it took, or how many ticks it fed; and how many of its events were
--- journaled, which it answers only at the end of its part, or why it stopped before.
+-- what a thread gives back: its seat, and how many of its events were journaled, which it answers only at the end of
+-- its part, or why it stopped before
 pub record Gave : Type 0 where
   pub seat : SeatState
-  pub times : ℕ
   pub answer : Result ℕ BoardFault
 
-abbrev pub gave : SeatState → (times : ℕ) → Result ℕ BoardFault → Gave
-gave seat times answer = record { seat = seat; times = times; answer = answer }
+abbrev pub gave : SeatState → Result ℕ BoardFault → Gave
+gave seat answer = record { seat = seat; answer = answer }
 
 -- a thread did its part, or stopped, and gave this back
 pub record GaveBack (i : ImageTables) (n : ℕ) (row : RowId) (always : Type 0) (job : Job) (g : Gave) : Type 0 where
   pub added : Added i n row job.part.event job.part.times job.seat g.seat
   pub finished :
       IfOk g.answer
-      (λ count. (g.times ≡ job.part.times) × (g.seat.mine ≡ job.seat.mine + count) × (count ≤ row.capacity))
+      (λ count. DidTimes i n row job.part.event job.part.times job.seat g.seat × (g.seat.mine ≡ job.seat.mine + count) × (count ≤ row.capacity))
   pub stopped :
       IfErr g.answer
       (λ f. (g.seat.mine < job.seat.mine + job.part.times) × IsWhyStopped row always job.part.event g.seat f)
@@ -170,3 +187,21 @@ pub record HasFull (row : RowId) (seats : List SeatState) : Type 0 where
   pub seat : SeatState
   pub found : slice_get seats place ≡ Some seat
   pub full : length seat.seen ≡ row.capacity
+
+-- what the threads of an image's board are to do
+abbrev pub load_of : ImageTables → (turns ticks : ℕ) → Load
+load_of i turns ticks = record { processors = i.system.processors; turns = turns; ticks = ticks }
+
+-- What threads journal on a board of new seats, one for each processor and one for the ticks: the threads were joined,
+-- none of them had stopped, and these are the events that their seats have counted.
+pub record IsRun (i : ImageTables) (n : ℕ) (always : Type 0) (turns ticks : ℕ) (es : List Event) : Type 0 where
+  pub row : RowId
+  pub seats : List SeatState
+  pub new : AreNew row seats
+  pub size : row.seats ≡ i.system.processors + 1
+  pub back : List SeatState
+  pub count : ℕ
+  pub joined : Joined i n row always (jobs_of (load_of i turns ticks) 0 seats) back (Ok count)
+  pub journal : List JournalEntry
+  pub counted : All (HasCounted journal) back
+  pub events_are : es ≡ events journal

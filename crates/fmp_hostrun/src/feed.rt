@@ -1,7 +1,7 @@
 //! A taker of events from many threads.
-ghost use Rattle.std.specs.Prelude.{◌≡◌, ◌+◌, ℕ, IfNone, IfSome, None};
+ghost use Rattle.std.specs.Prelude.{◌≡◌, ◌+◌, ℕ, IfNone, IfSome};
 ghost use Rattle.fmp_board.specs.Boards.{IsAt};
-ghost use Rattle.fmp_board.specs.Outcomes.{IsDrawn, Submitted, actor_after};
+ghost use Rattle.fmp_board.specs.Outcomes.{HasNoActorAfter, IsDrawn, Submitted};
 ghost use Rattle.fmp_board.specs.Visits.{Fed, Visited, journaled};
 ghost use Rattle.fmp_image_bytes.specs.Images.{ImageTables};
 ghost use Rattle.fmp_journal.specs.Seats.{RowId};
@@ -28,7 +28,7 @@ pub(crate) trait Feed {
         ensures at { IsAt row_id seat.new }
         ensures visited { Visited image bound row_id seat.old seat.new }
         ensures mine { seat.new.mine ≡ seat.old.mine }
-        ensures none { IfNone result (actor_after image bound seat.new.seen p ≡ None) }
+        ensures none { IfNone result (HasNoActorAfter image bound seat.new.seen p) }
         ensures drawn { IfSome result (λ o. IsDrawn image bound seat.new.seen o.ticket) }
         ensures processor { IfSome result (λ o. o.ticket.processor ≡ p) };
 

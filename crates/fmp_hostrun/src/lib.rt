@@ -7,6 +7,6 @@ mod running;
 mod turns;
 
 pub use fmp_board::{Blank, Board, BoardFault, Book, Closed, Outcome, Receipt, Seat, Site, Ticket};
-pub use fmp_follower::{Follower, followed_text_is_front};
+pub use fmp_follower::{Follower, Start, followed_text_is_front};
 pub use running::run_all;
 pub use turns::Gate;

@@ -29,7 +29,7 @@ impl<B: Feed, G: Gate> Promise<Worked> for GivesBack<B, G> {
     ghost use Rattle.fmp_hostrun.specs.Works.{GaveBack, gave, job_of};
 
     ghost kept_by = { λ p r. GaveBack B.image B.bound B.row_id G.is_open (job_of p.part p.seat.value)
-        (gave r.seat r.times r.journaled) };
+        (gave r.seat r.journaled) };
 }
 
 type Handles<B, G> = Vec<PromisedHandle<Worked, GivesBack<B, G>>>;
@@ -156,7 +156,7 @@ fn run_threads<B: Feed + Sync, G: Gate, R: Threads + Wait + Sync>(
                     move || -> Worked
                         requires { IsAt B.row_id seat }
                         ensures { GaveBack B.image B.bound B.row_id G.is_open (job_of part seat)
-                            (gave result.seat result.times result.journaled) }
+                            (gave result.seat result.journaled) }
                     { work(rt, board, gate, seat, part) },
                 );
                 match started {

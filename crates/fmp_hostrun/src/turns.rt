@@ -1,9 +1,9 @@
 //! What one thread of a board does: the turns of a processor, or the ticks.
-ghost use Rattle.std.specs.Prelude.{◌≡◌, ◌+◌, ◌<◌, ◌^◌, cond, false, true, length, Ok, IfOk, IfErr};
+ghost use Rattle.std.specs.Prelude.{◌≡◌, ◌+◌, ◌<◌, cond, true, length, IfOk, IfErr};
 ghost use Rattle.fmp_base.specs.declared.events.Event.TheVariants.{Run};
 ghost use Rattle.fmp_board.specs.declared.fault.BoardFault.TheVariants.{Full};
 ghost use Rattle.fmp_board.specs.Boards.{IsAt};
-ghost use Rattle.fmp_hostrun.specs.Works.{Added, GaveBack, IsIdle, IsWhyStopped, gave, job_of};
+ghost use Rattle.fmp_hostrun.specs.Works.{Added, DidOnce, DidTimes, GaveBack, IsWhyStopped, gave, job_of};
 
 use crate::feed::Feed;
 use fmp_base::Event;
@@ -83,36 +83,33 @@ fn is_let<G: Gate>(gate: &G, p: u8, turn: u32) -> bool
     false
 }
 
-/// The next turn of processor p, one more than were taken: whether an event was journaled. Its stretch is made outside
-/// the board's lock, and handed in once the gate lets the turn go on; a stale one is dropped. Without an actor the turn
-/// is over.
+/// A turn of processor p, counted from 1: whether an event was journaled. Its stretch is made outside the board's lock,
+/// and handed in once the gate lets the turn go on; a stale one is dropped. Without an actor the turn is over.
+#[tactic(auto, using(crate::proofs::Working::did_none))]
 fn take_turn<B: Feed, G: Gate, R: Wait>(
     rt: &R,
     board: &B,
     gate: &G,
     seat: &mut Seat,
     p: u8,
-    taken: &mut u32,
+    turn: u32,
 ) -> Result<bool, BoardFault>
-    requires at { IsAt B.row_id seat.old }
-    requires room { taken.old + 1 < 2 ^ 32 }
+    requires { IsAt B.row_id seat.old }
     ensures at { IsAt B.row_id seat.new }
     ensures added { Added B.image B.bound B.row_id (Run p) 1 seat.old seat.new }
-    ensures taken { taken.new ≡ taken.old + 1 }
+    ensures did { IfOk result (λ _. DidOnce B.image B.bound B.row_id (Run p) seat.old seat.new) }
     ensures mine { IfOk result (λ entered. seat.new.mine ≡ seat.old.mine + cond entered 1 0) }
-    ensures idle { result ≡ Ok false → IsIdle B.image B.bound B.row_id p seat.new }
     ensures stopped { IfErr result (λ f. (seat.new.mine ≡ seat.old.mine)
         × IsWhyStopped B.row_id G.is_open (Run p) seat.new f) }
 {
-    *taken += 1;
     let Some(outcome) = board.outcome(rt, seat, p) else {
         return Ok(false);
     };
-    if !is_let(gate, p, *taken) {
+    if !is_let(gate, p, turn) {
         return Err(BoardFault::Held);
     }
     let answer = board.submit(rt, seat, outcome);
-    gate.answered(p, *taken);
+    gate.answered(p, turn);
     match answer {
         Ok(receipt) => Ok(receipt.number > 0),
         Err(BoardFault::Stale) => Ok(false),
@@ -121,7 +118,7 @@ fn take_turn<B: Feed, G: Gate, R: Wait>(
 }
 
 /// The turns of processor p: how many of its events were journaled.
-#[tactic(auto, using(crate::proofs::Working::added_begin, crate::proofs::Working::added_more, crate::proofs::Working::added_last, crate::proofs::Working::added_enough))]
+#[tactic(auto, using(crate::proofs::Working::added_begin, crate::proofs::Working::added_more, crate::proofs::Working::added_last, crate::proofs::Working::added_enough, crate::proofs::Working::did_begin, crate::proofs::Working::did_more, crate::proofs::Working::did_all))]
 fn run_turns<B: Feed, G: Gate, R: Wait>(
     rt: &R,
     board: &B,
@@ -129,92 +126,84 @@ fn run_turns<B: Feed, G: Gate, R: Wait>(
     seat: &mut Seat,
     p: u8,
     turns: u32,
-    taken: &mut u32,
 ) -> Result<u32, BoardFault>
-    requires at { IsAt B.row_id seat.old }
-    requires none { taken.old ≡ 0 }
+    requires { IsAt B.row_id seat.old }
     ensures at { IsAt B.row_id seat.new }
     ensures added { Added B.image B.bound B.row_id (Run p) turns seat.old seat.new }
-    ensures finished { IfOk result (λ journaled. (taken.new ≡ turns) × (seat.new.mine ≡ seat.old.mine + journaled)) }
+    ensures finished { IfOk result (λ journaled. DidTimes B.image B.bound B.row_id (Run p) turns seat.old seat.new
+        × (seat.new.mine ≡ seat.old.mine + journaled)) }
     ensures stopped { IfErr result (λ f. (seat.new.mine < seat.old.mine + turns)
         × IsWhyStopped B.row_id G.is_open (Run p) seat.new f) }
 {
     let mut journaled = 0;
-    for _turn in 0..turns {
-        if take_turn(rt, board, gate, seat, p, taken)? {
+    for turn in 0..turns {
+        if take_turn(rt, board, gate, seat, p, turn + 1)? {
             journaled += 1;
         }
     }
     Ok(journaled)
 }
 
-/// Feeds an event once more than it was fed: whether it was journaled.
+/// Feeds an event: whether it was journaled.
 fn feed_once<B: Feed, R: Wait>(
     rt: &R,
     board: &B,
     seat: &mut Seat,
     event: Event,
-    fed: &mut u32,
 ) -> Result<bool, BoardFault>
-    requires at { IsAt B.row_id seat.old }
-    requires room { fed.old + 1 < 2 ^ 32 }
+    requires { IsAt B.row_id seat.old }
     ensures at { IsAt B.row_id seat.new }
     ensures added { Added B.image B.bound B.row_id event 1 seat.old seat.new }
-    ensures fed { fed.new ≡ fed.old + 1 }
+    ensures did { IfOk result (λ _. DidOnce B.image B.bound B.row_id event seat.old seat.new) }
     ensures mine { IfOk result (λ entered. seat.new.mine ≡ seat.old.mine + cond entered 1 0) }
     ensures stopped { IfErr result (λ f. (seat.new.mine ≡ seat.old.mine) × (f ≡ Full)
         × (length seat.new.seen ≡ B.row_id.capacity)) }
 {
-    *fed += 1;
     let receipt = board.feed(rt, seat, event)?;
     Ok(receipt.number > 0)
 }
 
 /// Feeds an event as often as asked: how many times it was journaled.
-#[tactic(auto, using(crate::proofs::Working::added_begin, crate::proofs::Working::added_more, crate::proofs::Working::added_last, crate::proofs::Working::added_enough))]
+#[tactic(auto, using(crate::proofs::Working::added_begin, crate::proofs::Working::added_more, crate::proofs::Working::added_last, crate::proofs::Working::added_enough, crate::proofs::Working::did_begin, crate::proofs::Working::did_more, crate::proofs::Working::did_all))]
 fn feed_all<B: Feed, R: Wait>(
     rt: &R,
     board: &B,
     seat: &mut Seat,
     event: Event,
     times: u32,
-    fed: &mut u32,
 ) -> Result<u32, BoardFault>
-    requires at { IsAt B.row_id seat.old }
-    requires none { fed.old ≡ 0 }
+    requires { IsAt B.row_id seat.old }
     ensures at { IsAt B.row_id seat.new }
     ensures added { Added B.image B.bound B.row_id event times seat.old seat.new }
-    ensures finished { IfOk result (λ journaled. (fed.new ≡ times) × (seat.new.mine ≡ seat.old.mine + journaled)) }
+    ensures finished { IfOk result (λ journaled. DidTimes B.image B.bound B.row_id event times seat.old seat.new
+        × (seat.new.mine ≡ seat.old.mine + journaled)) }
     ensures stopped { IfErr result (λ f. (seat.new.mine < seat.old.mine + times)
         × (f ≡ Full) × (length seat.new.seen ≡ B.row_id.capacity)) }
 {
     let mut journaled = 0;
     for _time in 0..times {
-        if feed_once(rt, board, seat, event, fed)? {
+        if feed_once(rt, board, seat, event)? {
             journaled += 1;
         }
     }
     Ok(journaled)
 }
 
-/// Does a thread's part: how many of its events were journaled. It counts how many turns it takes, or how many times it
-/// feeds its event.
+/// Does a thread's part: how many of its events were journaled.
 fn run_part<B: Feed, G: Gate, R: Wait>(
     rt: &R,
     board: &B,
     gate: &G,
     seat: &mut Seat,
     part: Part,
-    times: &mut u32,
 ) -> Result<u32, BoardFault>
-    requires at { IsAt B.row_id seat.old }
-    requires none { times.old ≡ 0 }
+    requires { IsAt B.row_id seat.old }
     ensures at { IsAt B.row_id seat.new }
-    ensures gave { GaveBack B.image B.bound B.row_id G.is_open (job_of part seat.old) (gave seat.new times.new result) }
+    ensures gave { GaveBack B.image B.bound B.row_id G.is_open (job_of part seat.old) (gave seat.new result) }
 {
     match part.event {
-        Event::Run(p) => run_turns(rt, board, gate, seat, p, part.times, times),
-        event => feed_all(rt, board, seat, event, part.times, times),
+        Event::Run(p) => run_turns(rt, board, gate, seat, p, part.times),
+        event => feed_all(rt, board, seat, event, part.times),
     }
 }
 
@@ -222,8 +211,6 @@ fn run_part<B: Feed, G: Gate, R: Wait>(
 #[derive(Drop)]
 pub(crate) struct Worked {
     pub seat: Seat,
-    /// How many turns it took, or how many times it fed its event.
-    pub times: u32,
     /// How many of its events were journaled.
     pub journaled: Result<u32, BoardFault>,
 }
@@ -238,13 +225,8 @@ pub(crate) fn work<B: Feed, G: Gate, R: Wait>(
 ) -> Worked
     requires { IsAt B.row_id seat }
     ensures { GaveBack B.image B.bound B.row_id G.is_open (job_of part seat)
-        (gave result.seat result.times result.journaled) }
+        (gave result.seat result.journaled) }
 {
-    let mut times = 0;
-    let journaled = run_part(rt, board, gate, &mut seat, part, &mut times);
-    Worked {
-        seat,
-        times,
-        journaled,
-    }
+    let journaled = run_part(rt, board, gate, &mut seat, part);
+    Worked { seat, journaled }
 }

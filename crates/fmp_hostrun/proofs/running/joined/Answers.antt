@@ -20,7 +20,7 @@ pub with_more-journaled-requires : goal.with_more-journaled-requires
 with_more-journaled-requires g c =
     let i = c.loop-handle.invariant in
     counts_fit _ _ _ _ (job_of c.in-Some.handle.promise.part c.in-Some.handle.promise.seat.value) c.join-worked.result.seat _ _ c.requires.room (search rules) i.mine
-    (more_of g.B.Feed.image g.B.Feed.bound g.B.Feed.row_id g.G.Gate.is_open (job_of c.in-Some.handle.promise.part c.in-Some.handle.promise.seat.value) c.join-worked.result.seat c.join-worked.result.times c.join-worked.result.journaled c.join-worked.ensures)
+    (more_of g.B.Feed.image g.B.Feed.bound g.B.Feed.row_id g.G.Gate.is_open (job_of c.in-Some.handle.promise.part c.in-Some.handle.promise.seat.value) c.join-worked.result.seat c.join-worked.result.journaled c.join-worked.ensures)
 
 pub loop-handle-preserved : goal.loop-handle-preserved
 loop-handle-preserved g c =
@@ -31,10 +31,10 @@ loop-handle-preserved g c =
     record {
       first = i.first ++ x ∷ [];
       are = one_fewer (λ h. job_of h.promise.part h.promise.seat.value) i.first _ _ _ _ i.are step.0;
-      joined = one_joined g.B.Feed.image g.B.Feed.bound g.B.Feed.row_id g.G.Gate.is_open _ _ _ x c.join-worked.result.seat c.join-worked.result.times _ c.join-worked.result.journaled _ i.joined c.join-worked.ensures c.push_reserved.ensures.items c.with_more-journaled.ensures;
+      joined = one_joined g.B.Feed.image g.B.Feed.bound g.B.Feed.row_id g.G.Gate.is_open _ _ _ x c.join-worked.result.seat _ c.join-worked.result.journaled _ i.joined c.join-worked.ensures c.push_reserved.ensures.items c.with_more-journaled.ensures;
       mine =
           rw more
-          (one_counted _ _ _ _ _ x _ _ _ _ c.requires.room i.mine (more_of g.B.Feed.image g.B.Feed.bound g.B.Feed.row_id g.G.Gate.is_open (job_of c.in-Some.handle.promise.part c.in-Some.handle.promise.seat.value) c.join-worked.result.seat c.join-worked.result.times c.join-worked.result.journaled c.join-worked.ensures) c.push_reserved.ensures.items c.with_more-journaled.ensures);
+          (one_counted _ _ _ _ _ x _ _ _ _ c.requires.room i.mine (more_of g.B.Feed.image g.B.Feed.bound g.B.Feed.row_id g.G.Gate.is_open (job_of c.in-Some.handle.promise.part c.in-Some.handle.promise.seat.value) c.join-worked.result.seat c.join-worked.result.journaled c.join-worked.ensures) c.push_reserved.ensures.items c.with_more-journaled.ensures);
       size = search rules;
       count = search rules;
       room = search rules;

@@ -1,5 +1,5 @@
 use Rattle.std.proofs.Common.{rules}
-use Rattle.fmp_hostrun.proofs.Working.{added_submitted, added_turn, turn_refused}
+use Rattle.fmp_hostrun.proofs.Working.{added_submitted, added_turn, did_submitted, turn_refused}
 use Rattle.fmp_hostrun.proofs.turns.take_turn.Goals as goal
 
 pub returns-in-Ok-clause-added : goal.returns-in-Ok-clause-added
@@ -12,6 +12,16 @@ returns-in-Err-Stale-clause-added g c =
     added_turn _ _ _ _ _ _ _ _ c.outcome.ensures.visited c.outcome.ensures.mine c.in-Some.ensures.processor
     (added_submitted _ _ _ _ _ _ _ c.submit-answer.ensures.visited c.submit-answer.ensures.mine c.submit-answer.ensures.submitted)
 
+pub returns-in-Ok-clause-did : goal.returns-in-Ok-clause-did
+returns-in-Ok-clause-did g c =
+    did_submitted _ _ _ _ _ _ _ _ _ c.outcome.ensures.visited c.outcome.ensures.mine c.in-Some.ensures.processor c.in-Some.ensures.drawn
+    c.submit-answer.ensures.visited c.submit-answer.ensures.mine c.submit-answer.ensures.submitted
+
+pub returns-in-Err-Stale-clause-did : goal.returns-in-Err-Stale-clause-did
+returns-in-Err-Stale-clause-did g c =
+    did_submitted _ _ _ _ _ _ _ _ _ c.outcome.ensures.visited c.outcome.ensures.mine c.in-Some.ensures.processor c.in-Some.ensures.drawn
+    c.submit-answer.ensures.visited c.submit-answer.ensures.mine c.submit-answer.ensures.submitted
+
 pub returns-in-Err : goal.returns-in-Err
 returns-in-Err g c =
     record {
@@ -19,9 +29,8 @@ returns-in-Err g c =
       added =
           added_turn _ _ _ _ _ _ _ _ c.outcome.ensures.visited c.outcome.ensures.mine c.in-Some.ensures.processor
           (added_submitted _ _ _ _ _ _ _ c.submit-answer.ensures.visited c.submit-answer.ensures.mine c.submit-answer.ensures.submitted);
-      taken = search rules;
+      did = tt;
       mine = tt;
-      idle = λ e. absurd (cc (e));
       stopped =
           turn_refused g.B.Feed.image g.B.Feed.bound g.B.Feed.row_id g.G.Gate.is_open c.args.p c.in-Some.outcome.ticket c.args.seat.now c.outcome.new.seat c.submit-answer.new.seat c.in-Err.fault
           c.in-Err.ensures.submitted (search rules) c.outcome.ensures.mine c.in-Err.ensures.mine;
