@@ -10,6 +10,7 @@ use Rattle.fmp_codegen.specs.Tie.{longest}
 use Rattle.fmp_board.specs.declared.fault.BoardFault.{BoardFault}
 use Rattle.fmp_board.specs.declared.fault.BoardFault.TheVariants as board
 use Rattle.fmp_hostrun.specs.Counts.{AreCounted}
+use Rattle.fmp_hostrun.specs.Works.{IsRun}
 use Rattle.fmp_replay.specs.Replays.{IsLegal}
 use Rattle.fmp_image_parts.specs.declared.fault.LoadFault.TheVariants as load
 use Rattle.fmp_image_bytes.specs.Images.{ImageTables, Spells, image_at}
@@ -37,13 +38,14 @@ pub record FitsBoard (i : ImageTables) (work : Workload) : Type 0 where
   pub some : 1 ≤ most_events i work
   pub most : most_events i work ≤ 2 ^ 20
 
--- a journal that the threads of an image's board can make: each of its events did something at its place, and they are
--- at most `turns` runs of each processor, and at most `ticks` ticks
+-- a journal that the threads of an image's board made, which no gate held: each of its events did something at its
+-- place, and they are at most `turns` runs of each processor, and at most `ticks` ticks
 pub record IsHosted (i : ImageTables) (work : Workload) (journal : List Event) : Type 0 where
   pub fits : FitsBoard i work
   pub legal : IsLegal i work.bound journal
   pub count : length journal ≤ most_events i work
   pub counted : AreCounted i.system.processors work.turns work.ticks journal
+  pub ran : IsRun i work.bound (Unit {0}) work.turns work.ticks journal
 
 -- The bytes spell an image, and its threads made a journal. What was appended to the file is the steps text of the
 -- journal, and what was appended to the output is all that the image prints over it, within the bound of a stretch.

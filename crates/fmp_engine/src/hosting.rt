@@ -9,7 +9,7 @@ ghost use Rattle.fmp_engine.specs.declared.hosting.HostFault.TheVariants as host
 ghost use Rattle.fmp_board.specs.Boards.{IsAt, IsClosed, blank as blank_of};
 ghost use Rattle.fmp_board.specs.declared.fault.BoardFault.TheVariants.{Full, Held, Limit, Stale};
 ghost use Rattle.fmp_hostrun.specs.Counts.{AreCounted};
-ghost use Rattle.fmp_hostrun.specs.Works.{AllAdded, CameBackAs, IsAnswer};
+ghost use Rattle.fmp_hostrun.specs.Works.{AllAdded, CameBackAs, IsAnswer, IsRun};
 ghost use Rattle.fmp_image_bytes.specs.Images.{ImageTables, Spells};
 ghost use Rattle.fmp_journal.specs.Seats.{AreNew};
 ghost use Rattle.fmp_steps.specs.Steps.{steps_text};
@@ -115,6 +115,7 @@ fn run_board<'a, S: Site + Send + Sync, R: Threads + Wait + Sync>(
     ensures closed { IfOk result (IsClosed S.image S.bound S.row_id.capacity S.row_id.seats) }
     ensures counted { IfOk result
         (λ closed. AreCounted S.image.system.processors work.turns work.ticks closed.events) }
+    ensures ran { IfOk result (λ closed. IsRun S.image S.bound (Unit {0}) work.turns work.ticks closed.events) }
     ensures fault { IfErr result (λ f. (f ≢ Limit) × (f ≢ Stale) × (f ≢ Held) × (f ≢ Full)) }
 {
     let board: Board<'a, S> = blank.open();
