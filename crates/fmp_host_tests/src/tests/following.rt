@@ -7,7 +7,7 @@ use crate::tests::hosting::TWO_TASKS;
 use crate::tests::playing::{Play, Told, fed, played};
 use crate::tests::showing::{Seen, one};
 use fmp_base::Event;
-use fmp_hostrun::{Board, Follower, Seat, Site, followed_text_is_front, run_all};
+use fmp_hostrun::{Board, Follower, Seat, Site, Start, followed_text_is_front, run_all};
 use std::alloc::{AllocError, Global};
 use std::process::Abort;
 use std::sync::Wait;
@@ -159,8 +159,9 @@ pub fn watch<S: Site + Send + Sync, R: Threads + Wait + Sync>(
     }
     let writers = mem::replace(seats, Vec::new(alloc));
     let mut text = Vec::new(alloc);
-    let printed = match Follower::new(alloc, board, &mut reader, &mut text) {
-        Ok(mut follower) => {
+    let printed = match Start::new(alloc, board, &mut text) {
+        Ok(start) => {
+            let mut follower = start.follow(&mut reader);
             written_and_pulled(rt, alloc, board, writers, &mut follower, events, text)
         }
         Err(fault) => Err(fault),
