@@ -94,8 +94,8 @@ impl<'a, S: Site> Board<'a, S> {
         self.row.capacity()
     }
 
-    /// A ticket for the stretch that the actor of processor p makes next. None exactly if there is no such processor, or
-    /// it has no actor. The seat has then seen the whole journal.
+    /// A ticket for the stretch that the actor of processor p makes next. None exactly if there is no such processor,
+    /// or it has no actor. The seat has then seen the whole journal.
     pub fn ticket<R: Wait>(&self, rt: &R, seat: &mut Seat, p: u8) -> Option<Ticket<'a>>
         requires at { IsAt S.row_id seat.old }
         ensures at { IsAt S.row_id seat.new }

@@ -16,8 +16,8 @@ use crate::site::Site;
 use fmp_base::{Effect, Event};
 
 impl<'a, S: Site> Book<'a, S> {
-    /// A ticket for the stretch that the actor of processor p makes next. None exactly if there is no such processor, or
-    /// it has no actor.
+    /// A ticket for the stretch that the actor of processor p makes next. None exactly if there is no such processor,
+    /// or it has no actor.
     #[tactic(auto, using(crate::proofs::Drawing::no_actor_there, crate::proofs::Drawing::past_last))]
     pub fn ticket(&self, p: u8) -> Option<Ticket<'a>>
         ensures ticket { Drew S.image S.bound self.now.journal p result }
