@@ -109,7 +109,8 @@ pub record GaveBack (i : ImageTables) (n : ℕ) (row : RowId) (always : Type 0) 
   pub added : Added i n row job.part.event job.part.times job.seat g.seat
   pub finished :
       IfOk g.answer
-      (λ count. DidTimes i n row job.part.event job.part.times job.seat g.seat × (g.seat.mine ≡ job.seat.mine + count) × (count ≤ row.capacity))
+      (λ count. DidTimes i n row job.part.event job.part.times job.seat g.seat
+      × (g.seat.mine ≡ job.seat.mine + count) × (count ≤ row.capacity))
   pub stopped :
       IfErr g.answer
       (λ f. (g.seat.mine < job.seat.mine + job.part.times) × IsWhyStopped row always job.part.event g.seat f)
