@@ -1,8 +1,10 @@
 mod Carried
 mod Entering
 mod Given
+mod Giving
 mod Growing
+mod Performing
 mod Printed
 mod Rows
 mod RunLemmas
-mod Simulated
+mod Shows

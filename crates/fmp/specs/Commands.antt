@@ -1,5 +1,5 @@
 -- The files of a command.
-use Rattle.std.specs.Prelude.{ℕ, ◌≡◌, List, [], ◌∷◌, Option, None, Some, string_bytes, ⊤}
+use Rattle.std.specs.Prelude.{ℕ, List, [], ◌∷◌, Option, None, Some, string_bytes, ⊤}
 use Rattle.fmp_lex.specs.Faults.{text_max}
 use Rattle.fmp.specs.declared.asking.Cmd.{Cmd}
 use Rattle.fmp.specs.declared.asking.Cmd.TheVariants.{Check, Build, Sim, Host, Stored}
@@ -11,14 +11,6 @@ IsAlone (Build _ _ _) = ⊤
 IsAlone (Sim _ _ _) = ⊤
 IsAlone (Host _ _ _ _ _) = ⊥
 IsAlone Stored = ⊤
-
--- a command that runs an image over steps, within this bound
-abbrev pub IsSimulation : Cmd → (bound : ℕ) → Type 0
-IsSimulation (Check _ _) n = ⊥
-IsSimulation (Build _ _ _) n = ⊥
-IsSimulation (Sim _ _ bound) n = bound ≡ n
-IsSimulation (Host _ _ _ _ _) n = ⊥
-IsSimulation Stored n = ⊥
 
 -- how many files a command reads
 abbrev pub input_count : Cmd → ℕ

@@ -1,5 +1,6 @@
 -- What carrying out a command gives, or why it gives nothing.
-use Rattle.std.specs.Prelude.{ℕ, List, [], ◌≡◌, ◌++◌, ⊤, codes, decimal, length, slice_get, string_bytes, unwrap_or}
+use Rattle.std.specs.Prelude.{ℕ, List, [], ◌≡◌, ◌++◌, codes, decimal, length, slice_get, unwrap_or}
+use Rattle.fmp_files.specs.Endings.{IsMemory}
 use Rattle.fmp_image.specs.Building.{Builds, IsBuildFault}
 use Rattle.fmp_engine.specs.Built.{CanBuild}
 use Rattle.fmp_engine.specs.declared.fault.SimFault.TheVariants as sim
@@ -12,24 +13,15 @@ use Rattle.fmp_lex.specs.declared.fault.BuildFault.TheVariants as build
 use Rattle.fmp.specs.declared.asking.Cmd.{Cmd}
 use Rattle.fmp.specs.declared.asking.Cmd.TheVariants as cmd
 use Rattle.fmp.specs.declared.perform.Exit.{Exit}
-use Rattle.fmp.specs.declared.perform.Exit.TheVariants.{Build, Sim, Host, File, Memory}
+use Rattle.fmp.specs.declared.perform.Exit.TheVariants.{Build, Sim, Host, Failed}
 use Rattle.fmp.specs.declared.perform.TheConstants.{STORED_CONFIG, STORED_TASKS, STORED_STEPS, STORED_BOUND}
 
--- the status of an end: 1 for a fault of what was read, 3 for a file, or if memory runs out
+-- the status of an end: 1 for a fault of what was read, 3 for a failure
 abbrev pub status_of : Exit → ℕ
 status_of (Build _) = 1
 status_of (Sim _) = 1
 status_of (Host _) = 1
-status_of (File _) = 3
-status_of (Memory _) = 3
-
--- an end that names this file, or says that memory ran out
-abbrev pub IsFor : List ℕ → Exit → Type 0
-IsFor name (Build _) = ⊥
-IsFor name (Sim _) = ⊥
-IsFor name (Host _) = ⊥
-IsFor name (File text) = string_bytes text ≡ name
-IsFor name (Memory _) = ⊤
+status_of (Failed _) = 3
 
 -- what was read k-th, counted from 0
 abbrev pub input_at : List (List ℕ) → ℕ → List ℕ
@@ -88,8 +80,7 @@ IsWhyNoImage cfg src (Build (build.At file place why)) = IsBuildFault cfg src (b
 IsWhyNoImage cfg src (Build build.Memory) = ⊥
 IsWhyNoImage cfg src (Sim f) = ⊥
 IsWhyNoImage cfg src (Host f) = ⊥
-IsWhyNoImage cfg src (File name) = ⊥
-IsWhyNoImage cfg src (Memory _) = ⊤
+IsWhyNoImage cfg src (Failed f) = IsMemory f
 
 -- why an image is not run
 abbrev pub IsWhyNoRun : (image steps : List ℕ) → Exit → Type 0
@@ -97,8 +88,7 @@ IsWhyNoRun image steps (Build f) = ⊥
 IsWhyNoRun image steps (Sim sim.Memory) = ⊥
 IsWhyNoRun image steps (Sim f) = IsWhySim f image steps
 IsWhyNoRun image steps (Host f) = ⊥
-IsWhyNoRun image steps (File name) = ⊥
-IsWhyNoRun image steps (Memory _) = ⊤
+IsWhyNoRun image steps (Failed f) = IsMemory f
 
 -- why an image is not run by threads
 abbrev pub IsWhyNotHosted : (image : List ℕ) → Workload → Exit → Type 0
@@ -106,8 +96,7 @@ IsWhyNotHosted image work (Build f) = ⊥
 IsWhyNotHosted image work (Sim f) = ⊥
 IsWhyNotHosted image work (Host host.Memory) = ⊥
 IsWhyNotHosted image work (Host f) = IsWhyHost f image work
-IsWhyNotHosted image work (File name) = ⊥
-IsWhyNotHosted image work (Memory _) = ⊤
+IsWhyNotHosted image work (Failed f) = IsMemory f
 
 -- why two texts are not built and run
 pub data IsWhyNotRun (cfg src steps : List ℕ) (e : Exit) : Type 0 where

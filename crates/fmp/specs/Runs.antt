@@ -1,17 +1,17 @@
 -- What a run of the program reads, writes, prints and says, and the status that it ends with.
-use Rattle.std.specs.Prelude.{ℕ, ◌≡◌, ◌≢◌, ◌⊎◌, ◌++◌, Bool, IsTrue, List, [], ◌∷◌, Option, None, Some, IfSome, IsSomeAnd, string_bytes, ⊤}
+use Rattle.std.specs.Prelude.{ℕ, ◌≡◌, ◌⊎◌, Bool, IsTrue, List, [], ◌∷◌, Option, None, Some, IfSome, IsSomeAnd, ⊤}
 use Rattle.fmp.specs.Asked.{AsksFor, IsRefused}
 use Rattle.fmp.specs.declared.asking.Cmd.{Cmd}
 use Rattle.fmp_files.specs.Deeds.{Begins, Deed, Does, Says, wrote}
+use Rattle.fmp_files.specs.declared.failure.Failure.{Failure}
+use Rattle.fmp_files.specs.Endings.{EndsPrinting, EndsRefused, IsFailureAt, IsFailureOf, IsOneOf}
 use Rattle.fmp_files.specs.Files.{front}
 use Rattle.fmp_files.specs.Outside.{Files}
 use Rattle.clap.specs.declared.error.kind.ErrorKind.{ErrorKind}
-use Rattle.clap.specs.declared.error.kind.ErrorKind.TheVariants.{DisplayHelp, DisplayVersion, OutOfMemory}
 use Rattle.fmp.specs.Commands.{inputs_of, limit_of, output_of}
 use Rattle.fmp.specs.Performed.{CarriesOut, IsWhyNot, status_of}
-use Rattle.fmp.specs.Prints.{Prints}
 use Rattle.fmp.specs.declared.perform.Exit.{Exit}
-use Rattle.fmp.specs.declared.perform.Exit.TheVariants.{Build, Sim, Host, File, Memory}
+use Rattle.fmp.specs.declared.perform.Exit.TheVariants.{Build, Sim, Host, Failed}
 
 -- each text is the front of the file of its name, as far as a reading under this limit goes
 abbrev pub AreFronts : Files → (limit : Option ℕ) → (names texts : List (List ℕ)) → Type 0
@@ -25,23 +25,12 @@ AreFronts files limit (name ∷ names) (text ∷ texts) =
 abbrev pub AreInputs : Files → Cmd → (texts : List (List ℕ)) → Type 0
 AreInputs files cmd texts = AreFronts files (limit_of cmd) (inputs_of cmd) texts
 
--- a name is one of these
-abbrev pub IsOneOf : (names : List (List ℕ)) → List ℕ → Type 0
-IsOneOf [] name = ⊥
-IsOneOf (first ∷ names) name = (name ≡ first) ⊎ IsOneOf names name
-
--- an end that names a file on which a call can fail, and which is one of these; or that says that memory ran out
-abbrev pub IsFailureOf : Files → (names : List (List ℕ)) → Exit → Type 0
-IsFailureOf files names (Build _) = ⊥
-IsFailureOf files names (Sim _) = ⊥
-IsFailureOf files names (Host _) = ⊥
-IsFailureOf files names (File name) = IsOneOf names (string_bytes name) × IsTrue (files.can_fail (string_bytes name))
-IsFailureOf files names (Memory _) = ⊤
-
--- the same of the file that a command writes
-abbrev pub IsFailureAt : Files → (output : Option (List ℕ)) → Exit → Type 0
-IsFailureAt files None exit = ⊥
-IsFailureAt files (Some name) exit = IsFailureOf files (name ∷ []) exit
+-- an end for a failure of which this holds
+abbrev pub IsFailed : (Failure → Type 0) → Exit → Type 0
+IsFailed Holds (Build _) = ⊥
+IsFailed Holds (Sim _) = ⊥
+IsFailed Holds (Host _) = ⊥
+IsFailed Holds (Failed failure) = Holds failure
 
 -- what is written for a command
 abbrev pub writes_to : (output : Option (List ℕ)) → List ℕ → List Deed
@@ -81,37 +70,13 @@ pub record CarriedOut (files : Files) (cmd : Cmd) (before after : Option (List D
 -- why a command was not carried out, and what was done
 pub data Fails (files : Files) (cmd : Cmd) (before after : Option (List Deed)) (exit : Exit) : Type 0 where
   -- a file could not be read
-  unread : IsFailureOf files (inputs_of cmd) exit → Does before [] after → Fails files cmd before after exit
+  unread : IsFailed (IsFailureOf files (inputs_of cmd)) exit → Does before [] after → Fails files cmd before after exit
   -- what was read has a fault
   faulty : (inputs : List (List ℕ)) → AreInputs files cmd inputs → IsWhyNot cmd inputs exit → Does before [] after
       → Fails files cmd before after exit
   -- the file could not be written
-  unwritten : (file out : List ℕ) → Performs files cmd file out → IsFailureAt files (output_of cmd) exit
+  unwritten : (file out : List ℕ) → Performs files cmd file out → IsFailed (IsFailureAt files (output_of cmd)) exit
       → BeginsFile (output_of cmd) file before after → Fails files cmd before after exit
-
--- how printing ends: all of it stands on standard output, or that can fail, has done so with this left, and this was
--- said
-pub data EndsPrinting (bytes : List ℕ) (can_fail : Bool) (before after : Option (List Deed)) (status : ℕ) : Type 0 where
-  all_printed : Prints before bytes after → status ≡ 0 → EndsPrinting bytes can_fail before after status
-  some_printed : IsTrue can_fail → (front left : List ℕ) → bytes ≡ front ++ left → (between : Option (List Deed))
-      → Prints before front between → Says between after → status ≡ 3 → EndsPrinting bytes can_fail before after status
-
--- help or the version is asked for
-abbrev pub IsShown : ErrorKind → Type 0
-IsShown kind = (kind ≡ DisplayHelp) ⊎ (kind ≡ DisplayVersion)
-
--- how a run ends whose words are refused with an error of this kind
-pub data EndsRefused (kind : ErrorKind) (can_fail : Bool) (before after : Option (List Deed)) (status : ℕ)
-    : Type 0 where
-  -- what was asked for is printed
-  shown : (text : List ℕ) → IsShown kind → EndsPrinting text can_fail before after status
-      → EndsRefused kind can_fail before after status
-  -- the mistake is said
-  told : ¬ IsShown kind → kind ≢ OutOfMemory → Says before after → status ≡ 2
-      → EndsRefused kind can_fail before after status
-  -- memory ran out
-  no_memory : IsShown kind ⊎ (kind ≡ OutOfMemory) → Says before after → status ≡ 3
-      → EndsRefused kind can_fail before after status
 
 -- how a run of a command ends, where standard output can or can not fail
 pub data EndsCommand (files : Files) (can_fail : Bool) (cmd : Cmd) (before after : Option (List Deed)) (status : ℕ)

@@ -1,17 +1,15 @@
 //! What the program is asked to do, and the words that say so.
-ghost use Rattle.std.specs.Prelude.{◌≡◌, ◌≢◌, ◌≤◌, ◌⊎◌, ◌↔◌, IfErr, IfOk, length, map};
+ghost use Rattle.std.specs.Prelude.{◌≡◌, ◌≤◌, ◌↔◌, IfErr, IfOk, length, map};
 ghost use Rattle.clap.specs.Words.{kind_of};
+ghost use Rattle.clap.specs.declared.error.kind.ErrorKind.TheVariants.{ValueValidation};
 ghost use Rattle.fmp.specs.Asked.{AsksFor, IsRefused};
 ghost use Rattle.fmp.specs.CommandRanges.{KeepsRanges};
 
 use crate::form::{build_command, host_command, program};
 use crate::reading::{asked, entered};
-use clap::error::ErrorKind;
-use clap::{Command, Error};
+use clap::Error;
+use fmp_files::mistake_of;
 use std::alloc::{AllocError, Global};
-
-/// The message for words that are not UTF-8.
-const NOT_TEXT: &str = "invalid UTF-8 was detected in one or more arguments";
 
 /// The message for an image that would replace a text from which it is built.
 const IMAGE_OVER_TEXT: &str = "the file OUT is one of the two that are read";
@@ -54,38 +52,18 @@ pub enum Cmd {
     Stored,
 }
 
-/// The error for a mistake in the words of a command of this name, which has the status 2.
-fn mistake(
-    command: Result<Command<'_>, AllocError>,
-    name: &str,
-    text: &str,
-) -> Result<Error, AllocError>
-    ensures { IfOk result (λ e. kind_of e ≡ ErrorKind.ValueValidation) }
-{
-    command?
-        .bin_name(name)?
-        .error(ErrorKind::ValueValidation, text)
-}
-
-/// The error for words that are not UTF-8, which has the status 2.
-pub fn not_text(alloc: Global) -> Result<Error, AllocError>
-    ensures { IfOk result (λ e. kind_of e ≡ ErrorKind.ValueValidation) }
-{
-    mistake(program(alloc), "fmp", NOT_TEXT)
-}
-
 /// The error for an image that would replace a text from which it is built, which has the status 2.
 pub fn image_over_text(alloc: Global) -> Result<Error, AllocError>
-    ensures { IfOk result (λ e. kind_of e ≡ ErrorKind.ValueValidation) }
+    ensures { IfOk result (λ e. kind_of e ≡ ValueValidation) }
 {
-    mistake(build_command(alloc), "fmp build", IMAGE_OVER_TEXT)
+    mistake_of(build_command(alloc), "fmp build", IMAGE_OVER_TEXT)
 }
 
 /// The error for a journal that would replace the image that is run, which has the status 2.
 pub fn journal_over_image(alloc: Global) -> Result<Error, AllocError>
-    ensures { IfOk result (λ e. kind_of e ≡ ErrorKind.ValueValidation) }
+    ensures { IfOk result (λ e. kind_of e ≡ ValueValidation) }
 {
-    mistake(host_command(alloc), "fmp host", JOURNAL_OVER_IMAGE)
+    mistake_of(host_command(alloc), "fmp host", JOURNAL_OVER_IMAGE)
 }
 
 /// What the words of a command line ask for, of which the first is the program's name. With nothing else it is the run
@@ -103,20 +81,4 @@ pub fn command<'a>(alloc: Global, words: &'a [&'a str]) -> Result<Cmd, Error>
     let matches = program(alloc)?.try_get_matches_from(words)?;
     let (name, words) = entered(&matches).unwrap();
     Ok(asked(alloc, name, words)?)
-}
-
-/// The status that the program ends with after an error of the command line: 2 for a mistake, 0 if help or the version
-/// was asked for, and 3 if memory runs out.
-pub fn status_of(error: &Error) -> u8
-    ensures memory { kind_of error.now ≡ ErrorKind.OutOfMemory → result ≡ 3 }
-    ensures shown { (kind_of error.now ≡ ErrorKind.DisplayHelp)
-        ⊎ (kind_of error.now ≡ ErrorKind.DisplayVersion) → result ≡ 0 }
-    ensures mistake { kind_of error.now ≢ ErrorKind.OutOfMemory → kind_of error.now ≢ ErrorKind.DisplayHelp
-        → kind_of error.now ≢ ErrorKind.DisplayVersion → result ≡ 2 }
-{
-    match error.kind() {
-        ErrorKind::OutOfMemory => 3,
-        ErrorKind::DisplayHelp | ErrorKind::DisplayVersion => 0,
-        _ => 2,
-    }
 }

@@ -1,15 +1,15 @@
 //! Carrying out a command over files: what it reads is judged, and then its file is written.
-ghost use Rattle.std.specs.Prelude.{◌≡◌, ◌∷◌, [], IfErr, IfOk, IfSome, OnErr, OnOk, length, map};
+ghost use Rattle.std.specs.Prelude.{◌≡◌, ◌∷◌, [], IfErr, IfOk, OnErr, OnOk, length, map};
 ghost use Rattle.fmp.specs.CommandRanges.{KeepsRanges};
 ghost use Rattle.fmp_files.specs.Deeds.{Does};
-ghost use Rattle.fmp_files.specs.Files.{front};
+ghost use Rattle.fmp_files.specs.Endings.{IsFailureAt, IsFailureOf};
 ghost use Rattle.fmp.specs.Commands.{input_count, inputs_of, output_of};
-ghost use Rattle.fmp.specs.Performed.{CarriesOut, IsFor, IsWhyNot};
-ghost use Rattle.fmp.specs.Runs.{AreFronts, AreInputs, BeginsFile, CarriedOut, Fails, IsFailureAt, IsFailureOf, writes_to};
+ghost use Rattle.fmp.specs.Performed.{CarriesOut, IsWhyNot};
+ghost use Rattle.fmp.specs.Runs.{AreFronts, AreInputs, BeginsFile, CarriedOut, Fails, writes_to};
 
 use crate::asking::Cmd;
 use crate::perform::{Exit, perform};
-use fmp_files::{Outside, ReadFault, WriteFault};
+use fmp_files::{Failure, Outside, read_file, write_file};
 use std::alloc::{AllocError, Global};
 use std::sync::Wait;
 use std::thread::Threads;
@@ -17,47 +17,19 @@ use std::thread::Threads;
 /// The limit of a text, in bytes. At most one byte more is read of it.
 const TEXT_MAX: usize = 1_048_576;
 
-/// The end of a program that could not read or write this file.
-pub fn failed(alloc: Global, name: &str) -> Exit
-    ensures { IsFor name.now result }
-{
-    match String::from_str(alloc, name) {
-        Ok(name) => Exit::File(name),
-        Err(error) => Exit::Memory(error),
-    }
-}
-
-/// The front of a file, as far as its limit goes.
-fn read<O: Outside>(
-    alloc: Global,
-    outside: &O,
-    name: &str,
-    limit: Option<usize>,
-) -> Result<Vec<u8>, Exit>
-    ensures bytes { IfOk result (λ bytes.
-        IfSome ((O.files outside.now).bytes name.now) (λ all. bytes.items ≡ front limit all)) }
-    ensures failure { IfErr result (IsFailureOf (O.files outside.now) (name.now ∷ [])) }
-{
-    match outside.read(alloc, name, limit) {
-        Ok(bytes) => Ok(bytes),
-        Err(ReadFault::Device) => Err(failed(alloc, name)),
-        Err(ReadFault::Memory) => Err(Exit::Memory(AllocError)),
-    }
-}
-
 /// The front of one file, as the only text.
 fn read_one<O: Outside>(
     alloc: Global,
     outside: &O,
     name: &str,
     limit: Option<usize>,
-) -> Result<Vec<Vec<u8>>, Exit>
+) -> Result<Vec<Vec<u8>>, Failure>
     ensures texts { IfOk result (λ texts.
         AreFronts (O.files outside.now) limit (name.now ∷ []) (map (λ t. t.items) texts.items)) }
     ensures failure { IfErr result (IsFailureOf (O.files outside.now) (name.now ∷ [])) }
 {
-    let texts = [read(alloc, outside, name, limit)?];
-    Vec::from_array(alloc, texts).map_err(|_| Exit::Memory(AllocError))
+    let texts = [read_file(alloc, outside, name, limit)?];
+    Vec::from_array(alloc, texts).map_err(|_| Failure::Memory(AllocError))
 }
 
 /// The fronts of two files.
@@ -67,21 +39,25 @@ fn read_two<O: Outside>(
     first: &str,
     second: &str,
     limit: Option<usize>,
-) -> Result<Vec<Vec<u8>>, Exit>
+) -> Result<Vec<Vec<u8>>, Failure>
     ensures texts { IfOk result (λ texts.
         AreFronts (O.files outside.now) limit (first.now ∷ second.now ∷ []) (map (λ t. t.items) texts.items)) }
     ensures failure { IfErr result (IsFailureOf (O.files outside.now) (first.now ∷ second.now ∷ [])) }
 {
     let texts = [
-        read(alloc, outside, first, limit)?,
-        read(alloc, outside, second, limit)?,
+        read_file(alloc, outside, first, limit)?,
+        read_file(alloc, outside, second, limit)?,
     ];
-    Vec::from_array(alloc, texts).map_err(|_| Exit::Memory(AllocError))
+    Vec::from_array(alloc, texts).map_err(|_| Failure::Memory(AllocError))
 }
 
 /// Reads the files that a command names, in order of its words: of a text up to one byte past its limit, of an image or
 /// steps all. An error names one of the files, on which a call failed, or is out of memory.
-pub fn read_inputs<O: Outside>(alloc: Global, outside: &O, cmd: &Cmd) -> Result<Vec<Vec<u8>>, Exit>
+pub fn read_inputs<O: Outside>(
+    alloc: Global,
+    outside: &O,
+    cmd: &Cmd,
+) -> Result<Vec<Vec<u8>>, Failure>
     ensures texts { IfOk result (λ texts. AreInputs (O.files outside.now) cmd.now (map (λ t. t.items) texts.items)) }
     ensures failure { IfErr result (IsFailureOf (O.files outside.now) (inputs_of cmd.now)) }
 {
@@ -96,7 +72,7 @@ pub fn read_inputs<O: Outside>(alloc: Global, outside: &O, cmd: &Cmd) -> Result<
 }
 
 /// The same texts, borrowed.
-fn borrowed<'a>(alloc: Global, texts: &'a [Vec<u8>]) -> Result<Vec<&'a [u8]>, AllocError>
+pub fn borrowed<'a>(alloc: Global, texts: &'a [Vec<u8>]) -> Result<Vec<&'a [u8]>, AllocError>
     ensures { IfOk result (λ inputs. map (λ s. s.now) inputs.items ≡ map (λ t. t.items) texts.now) }
 {
     let mut inputs = Vec::new(alloc);
@@ -121,7 +97,7 @@ fn performed<R: Threads + Wait + Sync>(
 {
     let inputs = match borrowed(alloc, texts) {
         Ok(inputs) => inputs,
-        Err(error) => return Err(Exit::Memory(error)),
+        Err(error) => return Err(Exit::Failed(Failure::Memory(error))),
     };
     let mut file = Vec::new(alloc);
     let mut out = Vec::new(alloc);
@@ -138,7 +114,7 @@ pub fn write_output<O: Outside>(
     outside: &mut O,
     cmd: &Cmd,
     bytes: &[u8],
-) -> Result<(), Exit>
+) -> Result<(), Failure>
     ensures ok { OnOk result
         (Does (O.done outside.old) (writes_to (output_of cmd.now) bytes.now) (O.done outside.new)) }
     ensures begun { OnErr result (BeginsFile (output_of cmd.now) bytes.now (O.done outside.old) (O.done outside.new)) }
@@ -148,10 +124,7 @@ pub fn write_output<O: Outside>(
     let (Cmd::Build { image: name, .. } | Cmd::Host { journal: name, .. }) = cmd else {
         return Ok(());
     };
-    match outside.write(name, bytes) {
-        Ok(()) => Ok(()),
-        Err(WriteFault::Device) => Err(failed(alloc, name)),
-    }
+    write_file(alloc, outside, name, bytes)
 }
 
 /// Reads the files of a command, carries it out, writes its file, and gives what is to be printed. An error is why what

@@ -1,14 +1,21 @@
 //! Carrying out a command, from the bytes that were read to those that are to be written.
-ghost use Rattle.std.specs.Prelude.{◌≡◌, ◌++◌, ℕ, List, OnOk, OnErr, IfErr, codes, decimal, length, map};
+ghost use Rattle.std.specs.Prelude.{◌≡◌, ◌++◌, ℕ, List, [], OnOk, OnErr, IfErr, IfOk, codes, decimal, length, map, string_bytes};
 ghost use Rattle.fmp_image.specs.Building.{IsBuildFault};
 ghost use Rattle.fmp_engine.specs.Hosting.{IsWhyHost, IsWorkload};
 ghost use Rattle.fmp_engine.specs.Simulations.{IsWhySim};
 ghost use Rattle.fmp.specs.CommandRanges.{IsBound, KeepsRanges};
 ghost use Rattle.fmp.specs.Commands.{IsAlone, input_count};
 ghost use Rattle.fmp.specs.Performed.{BuildsFile, CarriesOut, Checks, HostsImage, IsWhyNoImage, IsWhyNoRun, IsWhyNot, IsWhyNotHosted, IsWhyNotRun, RunsImage, RunsTexts, status_of};
+ghost use Rattle.fmp.specs.declared.perform.Exit.TheVariants.{Failed};
+ghost use Rattle.fmp.specs.Giving.{GivesText, IsStopped, IsWhyCut, Makes};
+ghost use Rattle.fmp.specs.Runs.{IsFailed};
+ghost use Rattle.fmp_files.specs.Endings.{IsMemory};
 
 use crate::asking::Cmd;
-use fmp_engine::{HostFault, SimFault, Workload, build_image, check, host, sim};
+use fmp_engine::{
+    HostFault, Outlet, SimCut, SimFault, Workload, build_image, check, host, sim_into,
+};
+use fmp_files::{Failure, Reason};
 use fmp_lex::BuildFault;
 use std::alloc::{AllocError, Global};
 use std::sync::Wait;
@@ -40,25 +47,39 @@ pub enum Exit {
     /// The image is not run by threads.
     #[error("{0}")]
     Host(HostFault),
-    /// A file could not be read or written.
-    #[error("file: {0}")]
-    File(String),
-    /// Memory ran out.
-    #[error("memory")]
-    Memory(#[from(alloc)] AllocError),
+    /// A file could not be read or written, or memory ran out.
+    #[error("{0}")]
+    Failed(Failure),
 }
 
-impl Exit {
+impl From<Failure> for Exit {
+    ghost from_gives = { λ failure exit. exit ≡ Failed failure };
+
+    fn from(failure: Failure) -> Self {
+        Exit::Failed(failure)
+    }
+}
+
+impl Reason for Exit {
+    ghost status_of = { λ exit. status_of exit };
+
     /// The status that the program ends with: 1 for a fault of what was read or if there is no host for what was asked,
-    /// 3 for a file on which a call failed, or if memory runs out.
-    pub fn status(&self) -> u8
-        ensures { result ≡ status_of self.now }
-    {
+    /// 3 for a failure.
+    fn status(&self) -> u8 {
         match self {
             Exit::Build(_) | Exit::Sim(_) | Exit::Host(_) => 1,
-            Exit::File(_) | Exit::Memory(_) => 3,
+            Exit::Failed(_) => 3,
         }
     }
+}
+
+/// Why an outlet was not given all that a command prints.
+#[derive(Drop)]
+pub enum Cut {
+    /// The command was not carried out, and the outlet was given nothing.
+    Refused(Exit),
+    /// The outlet took no more.
+    Stopped,
 }
 
 /// The end of a program whose texts build no image.
@@ -67,18 +88,18 @@ fn no_image(fault: BuildFault) -> Exit
 {
     match fault {
         BuildFault::At(file, place, why) => Exit::Build(BuildFault::At(file, place, why)),
-        BuildFault::Memory => Exit::Memory(AllocError),
+        BuildFault::Memory => Exit::Failed(Failure::Memory(AllocError)),
     }
 }
 
 /// The end of a program that does not run an image.
-pub fn no_run(fault: SimFault) -> Exit
+fn no_run(fault: SimFault) -> Exit
     ensures { (image steps : List ℕ) → IsWhySim fault image steps → IsWhyNoRun image steps result }
 {
     match fault {
         SimFault::Load(fault) => Exit::Sim(SimFault::Load(fault)),
         SimFault::Steps(fault) => Exit::Sim(SimFault::Steps(fault)),
-        SimFault::Memory => Exit::Memory(AllocError),
+        SimFault::Memory => Exit::Failed(Failure::Memory(AllocError)),
     }
 }
 
@@ -89,78 +110,97 @@ fn no_host(fault: HostFault) -> Exit
     match fault {
         HostFault::Load(fault) => Exit::Host(HostFault::Load(fault)),
         HostFault::Board(fault) => Exit::Host(HostFault::Board(fault)),
-        HostFault::Memory => Exit::Memory(AllocError),
+        HostFault::Memory => Exit::Failed(Failure::Memory(AllocError)),
     }
 }
 
-/// Checks two texts, and appends `ok` if they build an image.
-fn checked(alloc: Global, cfg: &[u8], src: &[u8], out: &mut Vec<u8>) -> Result<(), Exit>
-    ensures ok { OnOk result (Checks cfg.now src.now out.old.items out.new.items) }
-    ensures refused { IfErr result (IsWhyNoImage cfg.now src.now) }
-    ensures err { OnErr result (out.new.items ≡ out.old.items) }
+/// Gives an outlet a text.
+fn give<T: Outlet>(outlet: &mut T, text: &[u8]) -> Result<(), Cut>
+    ensures ok { OnOk result (T.gave outlet.old outlet.new text.now) }
+    ensures err { IfErr result (IsStopped T.stopped outlet.old outlet.new text.now) }
+{
+    match outlet.give(text) {
+        Ok(()) => Ok(()),
+        Err(_stopped) => Err(Cut::Stopped),
+    }
+}
+
+/// Checks two texts, and gives an outlet `ok` where they build an image.
+fn checked<T: Outlet>(alloc: Global, cfg: &[u8], src: &[u8], outlet: &mut T) -> Result<(), Cut>
+    ensures ok { OnOk result (GivesText T.gave (Checks cfg.now src.now []) outlet.old outlet.new []) }
+    ensures err { IfErr result (IsWhyCut T.gave T.stopped (IsWhyNoImage cfg.now src.now) (Checks cfg.now src.now [])
+        outlet.old outlet.new) }
 {
     match check(alloc, cfg, src) {
-        Ok(()) => {}
-        Err(fault) => return Err(no_image(fault)),
-    }
-    match out.extend_from_slice(b"ok\n") {
-        Ok(()) => Ok(()),
-        Err(error) => Err(Exit::Memory(error)),
+        Ok(()) => give(outlet, b"ok\n"),
+        Err(fault) => Err(Cut::Refused(no_image(fault))),
     }
 }
 
-/// Appends `ok` and the number of bytes of an image.
-fn append_size(alloc: Global, size: usize, out: &mut Vec<u8>) -> Result<(), AllocError>
-    ensures ok { OnOk result (out.new.items ≡ out.old.items ++ (codes "ok " ++ (decimal size ++ codes "\n"))) }
-    ensures err { OnErr result (out.new.items ≡ out.old.items) }
+/// `ok` and the number of bytes of an image.
+fn size_line(alloc: Global, size: usize) -> Result<String, AllocError>
+    ensures { IfOk result (λ line. string_bytes line ≡ codes "ok " ++ (decimal size ++ codes "\n")) }
 {
-    let line = format!(in alloc; "ok {size}\n")?;
-    out.extend_from_slice(line.as_bytes())?;
-    Ok(())
+    format!(in alloc; "ok {size}\n")
 }
 
-/// Builds the image of two texts: the file gains its bytes, and what is printed says how many they are.
-fn built(
+/// Gives an outlet `ok` and the number of bytes of an image.
+fn give_size<T: Outlet>(alloc: Global, size: usize, outlet: &mut T) -> Result<(), Cut>
+    ensures ok { OnOk result (T.gave outlet.old outlet.new (codes "ok " ++ (decimal size ++ codes "\n"))) }
+    ensures err { IfErr result (IsWhyCut T.gave T.stopped (IsFailed IsMemory)
+        (λ text. text ≡ codes "ok " ++ (decimal size ++ codes "\n")) outlet.old outlet.new) }
+{
+    match size_line(alloc, size) {
+        Ok(line) => give(outlet, line.as_bytes()),
+        Err(error) => Err(Cut::Refused(Exit::Failed(Failure::Memory(error)))),
+    }
+}
+
+/// Builds the image of two texts: the file gains its bytes, and an outlet is given how many they are.
+fn built<T: Outlet>(
     alloc: Global,
     cfg: &[u8],
     src: &[u8],
     file: &mut Vec<u8>,
-    out: &mut Vec<u8>,
-) -> Result<(), Exit>
-    ensures ok { OnOk result (BuildsFile cfg.now src.now file.old.items file.new.items out.old.items out.new.items) }
-    ensures refused { IfErr result (IsWhyNoImage cfg.now src.now) }
-    ensures err { OnErr result ((file.new.items ≡ file.old.items) × (out.new.items ≡ out.old.items)) }
+    outlet: &mut T,
+) -> Result<(), Cut>
+    ensures ok { OnOk result (GivesText T.gave (BuildsFile cfg.now src.now file.old.items file.new.items [])
+        outlet.old outlet.new []) }
+    ensures err { IfErr result (IsWhyCut T.gave T.stopped (IsWhyNoImage cfg.now src.now)
+        (λ text. (after : List ℕ) × BuildsFile cfg.now src.now file.old.items after [] text) outlet.old outlet.new) }
+    ensures file { OnErr result (file.new.items ≡ file.old.items) }
 {
     let before = file.len();
     match build_image(alloc, cfg, src, file) {
         Ok(()) => {}
-        Err(fault) => return Err(no_image(fault)),
+        Err(fault) => return Err(Cut::Refused(no_image(fault))),
     }
-    match append_size(alloc, file.len() - before, out) {
+    match give_size(alloc, file.len() - before, outlet) {
         Ok(()) => Ok(()),
-        Err(error) => {
+        Err(cut) => {
             file.truncate(before);
-            Err(Exit::Memory(error))
+            Err(cut)
         }
     }
 }
 
-/// Runs an image over steps, and appends what it prints.
-fn simulated(
+/// Runs an image over steps, and gives an outlet what the run prints, while it goes on.
+fn simulated<T: Outlet>(
     alloc: Global,
     image: &[u8],
     steps: &[u8],
     bound: u64,
-    out: &mut Vec<u8>,
-) -> Result<(), Exit>
+    outlet: &mut T,
+) -> Result<(), Cut>
     requires { IsBound bound }
-    ensures ok { OnOk result (RunsImage image.now steps.now bound out.old.items out.new.items) }
-    ensures refused { IfErr result (IsWhyNoRun image.now steps.now) }
-    ensures err { OnErr result (out.new.items ≡ out.old.items) }
+    ensures ok { OnOk result (GivesText T.gave (RunsImage image.now steps.now bound []) outlet.old outlet.new []) }
+    ensures err { IfErr result (IsWhyCut T.gave T.stopped (IsWhyNoRun image.now steps.now)
+        (RunsImage image.now steps.now bound []) outlet.old outlet.new) }
 {
-    match sim(alloc, image, steps, bound, out) {
+    match sim_into(alloc, image, steps, bound, outlet) {
         Ok(()) => Ok(()),
-        Err(fault) => Err(no_run(fault)),
+        Err(SimCut::Refused(fault)) => Err(Cut::Refused(no_run(fault))),
+        Err(SimCut::Stopped) => Err(Cut::Stopped),
     }
 }
 
@@ -184,29 +224,65 @@ fn hosted<R: Threads + Wait + Sync>(
     }
 }
 
-/// Builds two texts and runs their image over steps, and appends what the run prints.
-fn built_and_run(
+/// Builds two texts and runs their image over steps, and gives an outlet what the run prints, while it goes on.
+fn built_and_run<T: Outlet>(
     alloc: Global,
     cfg: &[u8],
     src: &[u8],
     steps: &[u8],
     bound: u64,
-    out: &mut Vec<u8>,
-) -> Result<(), Exit>
+    outlet: &mut T,
+) -> Result<(), Cut>
     requires { IsBound bound }
-    ensures ok { OnOk result (RunsTexts cfg.now src.now steps.now bound out.old.items out.new.items) }
-    ensures refused { IfErr result (IsWhyNotRun cfg.now src.now steps.now) }
-    ensures err { OnErr result (out.new.items ≡ out.old.items) }
+    ensures ok { OnOk result (GivesText T.gave (RunsTexts cfg.now src.now steps.now bound [])
+        outlet.old outlet.new []) }
+    ensures err { IfErr result (IsWhyCut T.gave T.stopped (IsWhyNotRun cfg.now src.now steps.now)
+        (RunsTexts cfg.now src.now steps.now bound []) outlet.old outlet.new) }
 {
     let mut image = Vec::new(alloc);
     match build_image(alloc, cfg, src, &mut image) {
-        Ok(()) => simulated(alloc, &image, steps, bound, out),
-        Err(fault) => Err(no_image(fault)),
+        Ok(()) => simulated(alloc, &image, steps, bound, outlet),
+        Err(fault) => Err(Cut::Refused(no_image(fault))),
+    }
+}
+
+/// Carries out a command that starts no threads, on the bytes of its files, in order of its words: `file` gains what is
+/// to be written, and an outlet is given what is printed, what a run prints while it goes on. After an error the file
+/// has gained nothing.
+pub fn perform_into<T: Outlet>(
+    alloc: Global,
+    cmd: &Cmd,
+    inputs: &[&[u8]],
+    file: &mut Vec<u8>,
+    outlet: &mut T,
+) -> Result<(), Cut>
+    requires alone { IsAlone cmd.now }
+    requires inputs { length inputs.now ≡ input_count cmd.now }
+    requires ranges { KeepsRanges cmd.now }
+    ensures ok { OnOk result (GivesText T.gave
+        (CarriesOut cmd.now (map (λ s. s.now) inputs.now) file.old.items file.new.items []) outlet.old outlet.new []) }
+    ensures err { IfErr result (IsWhyCut T.gave T.stopped (IsWhyNot cmd.now (map (λ s. s.now) inputs.now))
+        (Makes cmd.now (map (λ s. s.now) inputs.now) file.old.items) outlet.old outlet.new) }
+    ensures file { OnErr result (file.new.items ≡ file.old.items) }
+{
+    match cmd {
+        Cmd::Check { .. } => checked(alloc, inputs[0], inputs[1], outlet),
+        Cmd::Build { .. } => built(alloc, inputs[0], inputs[1], file, outlet),
+        Cmd::Sim { bound, .. } => simulated(alloc, inputs[0], inputs[1], *bound, outlet),
+        Cmd::Stored => built_and_run(
+            alloc,
+            STORED_CONFIG.as_bytes(),
+            STORED_TASKS.as_bytes(),
+            STORED_STEPS.as_bytes(),
+            STORED_BOUND,
+            outlet,
+        ),
+        Cmd::Host { .. } => unreachable!(),
     }
 }
 
 /// Carries out a command that starts no threads, as `perform` does.
-pub fn perform_alone(
+fn perform_alone(
     alloc: Global,
     cmd: &Cmd,
     inputs: &[&[u8]],
@@ -221,19 +297,14 @@ pub fn perform_alone(
     ensures refused { IfErr result (IsWhyNot cmd.now (map (λ s. s.now) inputs.now)) }
     ensures err { OnErr result ((file.new.items ≡ file.old.items) × (out.new.items ≡ out.old.items)) }
 {
-    match cmd {
-        Cmd::Check { .. } => checked(alloc, inputs[0], inputs[1], out),
-        Cmd::Build { .. } => built(alloc, inputs[0], inputs[1], file, out),
-        Cmd::Sim { bound, .. } => simulated(alloc, inputs[0], inputs[1], *bound, out),
-        Cmd::Stored => built_and_run(
-            alloc,
-            STORED_CONFIG.as_bytes(),
-            STORED_TASKS.as_bytes(),
-            STORED_STEPS.as_bytes(),
-            STORED_BOUND,
-            out,
-        ),
-        Cmd::Host { .. } => unreachable!(),
+    let before = out.len();
+    match perform_into(alloc, cmd, inputs, file, out) {
+        Ok(()) => Ok(()),
+        Err(Cut::Refused(exit)) => Err(exit),
+        Err(Cut::Stopped) => {
+            out.truncate(before);
+            Err(Exit::Failed(Failure::Memory(AllocError)))
+        }
     }
 }
 

@@ -1,9 +1,12 @@
-//! Printing what a simulation prints, piece by piece.
-ghost use Rattle.std.specs.Prelude.{◌≡◌, [], List, ℕ, IfErr, IsTrue, OnOk};
-ghost use Rattle.fmp.specs.CommandRanges.{IsBound};
-ghost use Rattle.fmp.specs.Printing.{IsWhyNotPrinted, PrintsRun};
+//! Printing what a command prints, piece by piece.
+ghost use Rattle.std.specs.Prelude.{◌≡◌, [], List, ℕ, IfErr, IsTrue, OnOk, length, map};
+ghost use Rattle.fmp.specs.CommandRanges.{KeepsRanges};
+ghost use Rattle.fmp.specs.Commands.{IsAlone, input_count};
+ghost use Rattle.fmp.specs.Printing.{IsWhyNotPrinted, PrintsFront};
 
-use fmp_engine::{Outlet, SimCut, Stopped, sim_into};
+use crate::asking::Cmd;
+use crate::perform::{Cut, perform_into};
+use fmp_engine::{Outlet, Stopped};
 use fmp_files::{Outside, WriteFault};
 use std::alloc::Global;
 
@@ -15,8 +18,8 @@ struct Printer<'a, O> {
 
 impl<O: Outside> Outlet for Printer<'_, O> {
     ghost use Rattle.std.proofs.Common.{refl, ◌∙◌};
-    ghost use Rattle.fmp.specs.Prints.{Prints, PrintsPieces};
-    ghost use Rattle.fmp.specs.PrintsLaws.{pieces_more, pieces_nothing, prints_more, still_fails};
+    ghost use Rattle.fmp_files.specs.Prints.{Prints, PrintsPieces};
+    ghost use Rattle.fmp_files.specs.PrintsLaws.{pieces_more, pieces_nothing, prints_more, still_fails};
 
     ghost gave = { λ a b bytes. (b.outside.ghost_name ≡ a.outside.ghost_name)
         × (O.output_can_fail b.outside.now ≡ O.output_can_fail a.outside.now)
@@ -52,24 +55,27 @@ impl<O: Outside> Outlet for Printer<'_, O> {
     }
 }
 
-/// Runs an image over steps, and prints what the run prints, piece by piece. Where the image or the steps are refused
-/// or memory runs out, nothing has been printed; where standard output fails, a front of it.
-pub fn print_simulation<O: Outside>(
+/// Carries out a command that starts no threads, and prints what it prints, piece by piece. Where it is not carried
+/// out, nothing has been printed; where standard output fails, a front of it.
+pub fn print_performed<O: Outside>(
     alloc: Global,
     outside: &mut O,
-    image: &[u8],
-    steps: &[u8],
-    bound: u64,
-) -> Result<(), SimCut>
-    requires { IsBound bound }
-    ensures ok { OnOk result (PrintsRun image.now steps.now bound (O.done outside.old) (O.done outside.new) []) }
-    ensures err { IfErr result (IsWhyNotPrinted (O.output_can_fail outside.old) image.now steps.now bound
+    cmd: &Cmd,
+    inputs: &[&[u8]],
+) -> Result<(), Cut>
+    requires alone { IsAlone cmd.now }
+    requires inputs { length inputs.now ≡ input_count cmd.now }
+    requires ranges { KeepsRanges cmd.now }
+    ensures ok { OnOk result (PrintsFront cmd.now (map (λ s. s.now) inputs.now)
+        (O.done outside.old) (O.done outside.new) []) }
+    ensures err { IfErr result (IsWhyNotPrinted (O.output_can_fail outside.old) cmd.now (map (λ s. s.now) inputs.now)
         (O.done outside.old) (O.done outside.new)) }
 {
+    let mut file = Vec::new(alloc);
     let mut printer = Printer { outside };
-    let simulated = sim_into(alloc, image, steps, bound, &mut printer);
+    let performed = perform_into(alloc, cmd, inputs, &mut file, &mut printer);
     let Printer { outside } = printer;
     // No effect at run time. The proof reads what `outside` holds from this use of it.
     let _ = &*outside;
-    simulated
+    performed
 }

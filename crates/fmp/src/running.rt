@@ -1,61 +1,18 @@
 //! A run of the program, from the words of its command line to its status.
-ghost use Rattle.std.specs.Prelude.{◌≡◌, ◌⊎◌, IsTrue, IsFalse, IfOk, length, map, string_bytes};
-ghost use Rattle.clap.specs.Words.{kind_of};
-ghost use Rattle.fmp.specs.CommandRanges.{IsBound, KeepsRanges};
+ghost use Rattle.std.specs.Prelude.{◌≡◌, ◌⊎◌, IsTrue, IsFalse, IfOk, None, length, map, string_bytes};
+ghost use Rattle.fmp.specs.CommandRanges.{KeepsRanges};
 ghost use Rattle.fmp_files.specs.Deeds.{Says};
-ghost use Rattle.fmp.specs.Commands.{IsSimulation};
-ghost use Rattle.fmp.specs.Performed.{status_of};
-ghost use Rattle.fmp.specs.Runs.{AreInputs, CanBeOver, Ends, EndsCommand, EndsPrinting, EndsRefused, KeepsInputs};
+ghost use Rattle.fmp.specs.Commands.{IsAlone, input_count, output_of};
+ghost use Rattle.fmp.specs.Runs.{AreInputs, CanBeOver, Ends, EndsCommand, KeepsInputs};
 
 use crate::asking::{Cmd, command, image_over_text, journal_over_image};
-use crate::carrying::{carry_out, failed, read_inputs};
-use crate::perform::{Exit, no_run};
-use crate::printing::print_simulation;
-use clap::Error;
-use clap::error::ErrorKind;
-use fmp_engine::SimCut;
-use fmp_files::{Outside, WriteFault};
+use crate::carrying::{borrowed, carry_out, read_inputs};
+use crate::perform::Cut;
+use crate::printing::print_performed;
+use fmp_files::{Failure, Outside, end, failed, print, refuse, refuse_mistake};
 use std::alloc::{AllocError, Global};
 use std::sync::Wait;
 use std::thread::Threads;
-
-/// Says why the program ends, and gives its status.
-pub fn end<O: Outside>(outside: &mut O, exit: &Exit) -> u8
-    ensures said { Says (O.done outside.old) (O.done outside.new) }
-    ensures status { result ≡ status_of exit.now }
-{
-    outside.say(format_args!("{exit}\n"));
-    exit.status()
-}
-
-/// Prints all that there is to print, and gives the status.
-fn print<O: Outside>(alloc: Global, outside: &mut O, bytes: &[u8]) -> u8
-    ensures { EndsPrinting bytes.now (O.output_can_fail outside.old)
-        (O.done outside.old) (O.done outside.new) result }
-{
-    match outside.print(bytes) {
-        Ok(()) => 0,
-        Err(WriteFault::Device) => end(outside, &failed(alloc, "-")),
-    }
-}
-
-/// Says what is wrong with the words of the command line, or prints what they ask to be shown.
-pub fn refuse<O: Outside>(alloc: Global, outside: &mut O, error: &Error) -> u8
-    ensures { EndsRefused (kind_of error.now) (O.output_can_fail outside.old)
-        (O.done outside.old) (O.done outside.new) result }
-{
-    match error.kind() {
-        ErrorKind::OutOfMemory => end(outside, &Exit::Memory(AllocError)),
-        ErrorKind::DisplayHelp | ErrorKind::DisplayVersion => match error.to_string(alloc) {
-            Ok(text) => print(alloc, outside, text.as_bytes()),
-            Err(_) => end(outside, &Exit::Memory(AllocError)),
-        },
-        _ => {
-            outside.say(format_args!("{error}"));
-            2
-        }
-    }
-}
 
 /// Whether the file that a command writes is one that it reads.
 fn is_over_input<O: Outside>(outside: &O, cmd: &Cmd) -> bool
@@ -78,55 +35,68 @@ fn refuse_over_input<O: Outside>(alloc: Global, outside: &mut O, cmd: &Cmd) -> u
     ensures said { Says (O.done outside.old) (O.done outside.new) }
     ensures status { (result ≡ 2) ⊎ (result ≡ 3) }
 {
-    let refusal = match cmd {
+    let mistake = match cmd {
         Cmd::Host { .. } => journal_over_image(alloc),
         _ => image_over_text(alloc),
     };
-    match refusal {
-        Ok(error) => {
-            outside.say(format_args!("{error}"));
-            2
-        }
-        Err(error) => end(outside, &Exit::Memory(error)),
-    }
+    refuse_mistake(outside, mistake)
 }
 
-/// Prints the run of the image of a command over its steps, and gives the status.
-fn simulate<O: Outside>(
-    alloc: Global,
-    outside: &mut O,
-    cmd: &Cmd,
-    texts: &[Vec<u8>],
-    bound: u64,
-) -> u8
-    requires bound { IsBound bound }
-    requires inputs { length texts.now ≡ 2 }
-    requires command { IsSimulation cmd.now bound }
+/// Carries out a command that writes no file, prints what it prints while it goes on, and gives the status.
+fn show<O: Outside>(alloc: Global, outside: &mut O, cmd: &Cmd, texts: &[Vec<u8>]) -> u8
+    requires alone { IsAlone cmd.now }
+    requires fileless { output_of cmd.now ≡ None }
+    requires inputs { length texts.now ≡ input_count cmd.now }
+    requires ranges { KeepsRanges cmd.now }
     requires read { AreInputs (O.files outside.old) cmd.now (map (λ t. t.items) texts.now) }
     ensures { EndsCommand (O.files outside.old) (O.output_can_fail outside.old) cmd.now
         (O.done outside.old) (O.done outside.new) result }
 {
-    match print_simulation(alloc, outside, &texts[0], &texts[1], bound) {
+    let inputs = match borrowed(alloc, texts) {
+        Ok(inputs) => inputs,
+        Err(error) => return end(outside, &Failure::Memory(error)),
+    };
+    match print_performed(alloc, outside, cmd, &inputs) {
         Ok(()) => 0,
-        Err(SimCut::Refused(fault)) => end(outside, &no_run(fault)),
-        Err(SimCut::Stopped) => end(outside, &failed(alloc, "-")),
+        Err(Cut::Refused(exit)) => end(outside, &exit),
+        Err(Cut::Stopped) => end(outside, &failed(alloc, "-")),
     }
 }
 
-/// Reads the files of a command that simulates, prints the run, and gives the status.
-fn run_simulation<O: Outside>(alloc: Global, outside: &mut O, cmd: &Cmd, bound: u64) -> u8
-    requires bound { IsBound bound }
-    requires command { IsSimulation cmd.now bound }
+/// Reads the files of a command that writes none, carries it out and prints, and gives the status.
+fn read_and_show<O: Outside>(alloc: Global, outside: &mut O, cmd: &Cmd) -> u8
+    requires alone { IsAlone cmd.now }
+    requires fileless { output_of cmd.now ≡ None }
+    requires ranges { KeepsRanges cmd.now }
     ensures { EndsCommand (O.files outside.old) (O.output_can_fail outside.old) cmd.now
         (O.done outside.old) (O.done outside.new) result }
 {
     match read_inputs(alloc, outside, cmd) {
-        Ok(texts) => simulate(alloc, outside, cmd, &texts, bound),
-        Err(exit) => end(outside, &exit),
+        Ok(texts) => show(alloc, outside, cmd, &texts),
+        Err(failure) => end(outside, &failure),
     }
 }
 
 /// Carries out a command, writes its file and then prints, and gives the status.
+fn write_and_print<O: Outside, R: Threads + Wait + Sync>(
+    rt: &R,
+    alloc: Global,
+    outside: &mut O,
+    cmd: &Cmd,
+) -> u8
+    requires ranges { KeepsRanges cmd.now }
+    requires kept { KeepsInputs cmd.now }
+    ensures { EndsCommand (O.files outside.old) (O.output_can_fail outside.old) cmd.now
+        (O.done outside.old) (O.done outside.new) result }
+{
+    match carry_out(rt, alloc, outside, cmd) {
+        Ok(out) => print(alloc, outside, &out),
+        Err(exit) => end(outside, &exit),
+    }
+}
+
+/// Does what a command asks for, and gives the status. Where it writes a file, it prints once that is written, and else
+/// while it goes on.
 fn run_command<O: Outside, R: Threads + Wait + Sync>(
     rt: &R,
     alloc: Global,
@@ -140,17 +110,14 @@ fn run_command<O: Outside, R: Threads + Wait + Sync>(
     if is_over_input(outside, cmd) {
         return refuse_over_input(alloc, outside, cmd);
     }
-    if let Cmd::Sim { bound, .. } = cmd {
-        return run_simulation(alloc, outside, cmd, *bound);
-    }
-    match carry_out(rt, alloc, outside, cmd) {
-        Ok(out) => print(alloc, outside, &out),
-        Err(exit) => end(outside, &exit),
+    match cmd {
+        Cmd::Build { .. } | Cmd::Host { .. } => write_and_print(rt, alloc, outside, cmd),
+        Cmd::Check { .. } | Cmd::Sim { .. } | Cmd::Stored => read_and_show(alloc, outside, cmd),
     }
 }
 
 /// The same words, borrowed.
-fn borrowed<'a>(alloc: Global, words: &'a [String]) -> Result<Vec<&'a str>, AllocError>
+fn borrowed_words<'a>(alloc: Global, words: &'a [String]) -> Result<Vec<&'a str>, AllocError>
     ensures { IfOk result (λ texts. map (λ text. text.now) texts.items ≡ map string_bytes words.now) }
 {
     let mut texts = Vec::new(alloc);
@@ -172,9 +139,9 @@ pub fn run<O: Outside, R: Threads + Wait + Sync>(
     ensures { Ends (O.files outside.old) (O.output_can_fail outside.old) (map string_bytes words.now)
         (O.done outside.old) (O.done outside.new) result }
 {
-    let texts = match borrowed(alloc, words) {
+    let texts = match borrowed_words(alloc, words) {
         Ok(texts) => texts,
-        Err(error) => return end(outside, &Exit::Memory(error)),
+        Err(error) => return end(outside, &Failure::Memory(error)),
     };
     match command(alloc, &texts) {
         Ok(cmd) => run_command(rt, alloc, outside, &cmd),

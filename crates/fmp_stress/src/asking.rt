@@ -1,11 +1,7 @@
 //! What the program is asked to do.
 use crate::form::program;
-use clap::error::ErrorKind;
 use clap::{ArgMatches, Error};
-use std::alloc::{AllocError, Global};
-
-/// The message for words that are not UTF-8.
-const NOT_TEXT: &str = "invalid UTF-8 was detected in one or more arguments";
+use std::alloc::Global;
 
 /// What the seats of a board are to do.
 #[derive(Clone, Copy)]
@@ -73,9 +69,4 @@ pub fn asked_of<'a>(alloc: Global, words: &'a [String]) -> Result<Asked<'a>, Err
         plan: plan_of(&words),
         timed: words.get_flag("time"),
     })
-}
-
-/// The error for words that are not UTF-8, which has the status 2.
-pub fn not_text(alloc: Global) -> Result<Error, AllocError> {
-    program(alloc)?.error(ErrorKind::ValueValidation, NOT_TEXT)
 }

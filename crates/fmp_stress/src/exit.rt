@@ -1,7 +1,9 @@
 //! Why the program ends with nothing printed.
+ghost use Rattle.fmp_stress.specs.Exits.{status_of};
+
+use fmp_files::{Failure, Reason};
 use fmp_hostrun::BoardFault;
 use fmp_image_bytes::LoadFault;
-use std::alloc::{AllocError, Global};
 use std::fmt;
 
 /// Why the program ends with nothing printed: its message is one line.
@@ -11,10 +13,14 @@ pub enum Exit {
     Load(LoadFault),
     /// There is no such board.
     Board(BoardFault),
-    /// A file could not be read or written.
-    File(String),
-    /// Memory ran out.
-    Memory(AllocError),
+    /// A file could not be read or written, or memory ran out.
+    Failed(Failure),
+}
+
+impl From<Failure> for Exit {
+    fn from(failure: Failure) -> Self {
+        Exit::Failed(failure)
+    }
 }
 
 impl fmt::Display for Exit {
@@ -22,27 +28,21 @@ impl fmt::Display for Exit {
         match self {
             Exit::Load(fault) => write!(f, "{fault}"),
             Exit::Board(fault) => write!(f, "board: {fault}"),
-            Exit::File(name) => write!(f, "file: {name}"),
-            Exit::Memory(_) => f.write_str("memory"),
+            Exit::Failed(failure) => write!(f, "{failure}"),
         }
     }
 }
 
-impl Exit {
-    /// What the program ends with.
-    pub fn status(&self) -> u8 {
+impl Reason for Exit {
+    ghost status_of = { λ exit. status_of exit };
+
+    /// The status that the program ends with: 1 for a fault of what was read or if there is no such board, 3 for a
+    /// failure or if memory ran out.
+    fn status(&self) -> u8 {
         match self {
             Exit::Load(LoadFault::Memory) | Exit::Board(BoardFault::Memory) => 3,
             Exit::Load(_) | Exit::Board(_) => 1,
-            Exit::File(_) | Exit::Memory(_) => 3,
+            Exit::Failed(_) => 3,
         }
-    }
-}
-
-/// The end of a program that could not read or write this file.
-pub fn failed(alloc: Global, name: &str) -> Exit {
-    match String::from_str(alloc, name) {
-        Ok(name) => Exit::File(name),
-        Err(error) => Exit::Memory(error),
     }
 }

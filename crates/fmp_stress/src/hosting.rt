@@ -7,6 +7,7 @@ use crate::exit::Exit;
 use crate::place::{Answers, Place, Record};
 use crate::threads::{Party, Team, Times, Worked, run};
 use fmp_base::Event;
+use fmp_files::Failure;
 use fmp_hostrun::{Blank, Board, BoardFault, Closed, Seat, Site};
 use fmp_image_bytes::Image;
 use std::alloc::{AllocError, Global};
@@ -223,7 +224,7 @@ pub fn host<R: Threads + Wait + Clock + Sync>(
 ) -> Result<Hosted, Exit> {
     match run_board(rt, alloc, image, plan) {
         Ok(Ok(hosted)) => Ok(hosted),
-        Ok(Err(error)) => Err(Exit::Memory(error)),
+        Ok(Err(error)) => Err(Exit::Failed(Failure::Memory(error))),
         Err(fault) => Err(Exit::Board(fault)),
     }
 }

@@ -15,29 +15,16 @@ mod running;
 mod threads;
 mod turns;
 
-use asking::not_text;
-use clap::Error;
-use fmp_files::Host;
-use running::{refuse, run};
-use std::alloc::AllocError;
-use std::env;
-use std::io::ErrorKind;
+use fmp_files::{Host, refuse_words, words_of};
+use form::program;
+use running::run;
 use std::process::ExitCode;
-
-/// The words of the command line.
-fn words_of(rt: &HostRuntime) -> Result<Vec<String>, Error> {
-    match env::args(rt) {
-        Ok(words) => Ok(words.collect(rt.alloc())?),
-        Err(error) if error.kind() == ErrorKind::OutOfMemory => Err(Error::from(AllocError)),
-        Err(_) => Err(not_text(rt.alloc())?),
-    }
-}
 
 fn main(rt: HostRuntime) -> ExitCode {
     let mut host = Host::new(&rt);
     let status = match words_of(&rt) {
         Ok(words) => run(&rt, rt.alloc(), &mut host, &words),
-        Err(error) => refuse(rt.alloc(), &mut host, &error),
+        Err(fault) => refuse_words(&mut host, program(rt.alloc()), fault),
     };
     ExitCode::from(status)
 }

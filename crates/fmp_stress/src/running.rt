@@ -1,12 +1,10 @@
 //! A run of the program, from the words of its command line to its status.
 use crate::asking::{Asked, asked_of};
-use crate::exit::{Exit, failed};
+use crate::exit::Exit;
 use crate::hosting::{Hosted, host};
 use crate::place::Record;
-use clap::Error;
-use clap::error::ErrorKind;
 use fmp_base::Event;
-use fmp_files::{Outside, ReadFault, WriteFault};
+use fmp_files::{Failure, Outside, end, print, read_file, refuse, write_file};
 use fmp_image_bytes::{Image, load};
 use fmp_trace::print_steps;
 use std::alloc::{AllocError, Global};
@@ -15,57 +13,11 @@ use std::sync::Wait;
 use std::thread::Threads;
 use std::time::Clock;
 
-/// Says why the program ends, and gives its status.
-fn end<O: Outside>(outside: &mut O, exit: &Exit) -> u8 {
-    outside.say(format_args!("{exit}\n"));
-    exit.status()
-}
-
-/// Prints all that there is to print, and gives the status.
-fn print<O: Outside>(alloc: Global, outside: &mut O, text: &str) -> u8 {
-    match outside.print(text.as_bytes()) {
-        Ok(()) => 0,
-        Err(WriteFault::Device) => end(outside, &failed(alloc, "-")),
-    }
-}
-
-/// Says what is wrong with the words of the command line, or prints what they ask to be shown.
-pub fn refuse<O: Outside>(alloc: Global, outside: &mut O, error: &Error) -> u8 {
-    match error.kind() {
-        ErrorKind::OutOfMemory => end(outside, &Exit::Memory(AllocError)),
-        ErrorKind::DisplayHelp | ErrorKind::DisplayVersion => match error.to_string(alloc) {
-            Ok(text) => print(alloc, outside, text.as_str()),
-            Err(_) => end(outside, &Exit::Memory(AllocError)),
-        },
-        _ => {
-            outside.say(format_args!("{error}"));
-            2
-        }
-    }
-}
-
-/// The bytes of a file.
-fn read<O: Outside>(alloc: Global, outside: &O, name: &str) -> Result<Vec<u8>, Exit> {
-    match outside.read(alloc, name, None) {
-        Ok(bytes) => Ok(bytes),
-        Err(ReadFault::Device) => Err(failed(alloc, name)),
-        Err(ReadFault::Memory) => Err(Exit::Memory(AllocError)),
-    }
-}
-
 /// The image of a file.
 fn read_image<O: Outside>(alloc: Global, outside: &O, name: &str) -> Result<Image, Exit> {
-    match load(alloc, &read(alloc, outside, name)?) {
+    match load(alloc, &read_file(alloc, outside, name, None)?) {
         Ok(image) => Ok(image),
         Err(fault) => Err(Exit::Load(fault)),
-    }
-}
-
-/// Writes a file.
-fn write<O: Outside>(alloc: Global, outside: &mut O, name: &str, bytes: &[u8]) -> Result<(), Exit> {
-    match outside.write(name, bytes) {
-        Ok(()) => Ok(()),
-        Err(WriteFault::Device) => Err(failed(alloc, name)),
     }
 }
 
@@ -75,19 +27,19 @@ fn write_steps<O: Outside>(
     outside: &mut O,
     name: &str,
     events: &[Event],
-) -> Result<(), Exit> {
+) -> Result<(), Failure> {
     let mut text = Vec::new(alloc);
     if print_steps(events, &mut text).is_err() {
-        return Err(Exit::Memory(AllocError));
+        return Err(Failure::Memory(AllocError));
     }
-    write(alloc, outside, name, &text)
+    write_file(alloc, outside, name, &text)
 }
 
 /// The name of a file of the follower of this number.
-fn name_of(alloc: Global, journal: &str, number: usize, ending: &str) -> Result<String, Exit> {
+fn name_of(alloc: Global, journal: &str, number: usize, ending: &str) -> Result<String, Failure> {
     match format!(in alloc; "{journal}.{number}{ending}") {
         Ok(name) => Ok(name),
-        Err(_) => Err(Exit::Memory(AllocError)),
+        Err(_) => Err(Failure::Memory(AllocError)),
     }
 }
 
@@ -98,14 +50,14 @@ fn write_follower<O: Outside>(
     journal: &str,
     number: usize,
     team: &[Record],
-) -> Result<(), Exit> {
+) -> Result<(), Failure> {
     let [record, ..] = team else {
-        return Err(Exit::Memory(AllocError));
+        return Err(Failure::Memory(AllocError));
     };
     let name = name_of(alloc, journal, number, "")?;
     write_steps(alloc, outside, name.as_str(), &record.followed)?;
     let name = name_of(alloc, journal, number, ".trace")?;
-    write(alloc, outside, name.as_str(), &record.printed)
+    write_file(alloc, outside, name.as_str(), &record.printed)
 }
 
 /// Writes what each follower read and printed: they are the first teams.
@@ -115,7 +67,7 @@ fn write_followed<O: Outside>(
     journal: &str,
     teams: &[Vec<Record>],
     followers: u8,
-) -> Result<(), Exit> {
+) -> Result<(), Failure> {
     for (place, team) in teams.iter().enumerate() {
         if place >= usize::from(followers) {
             break;
@@ -171,7 +123,7 @@ fn write_all<O: Outside>(
     outside: &mut O,
     asked: Asked<'_>,
     hosted: &Hosted,
-) -> Result<String, Exit> {
+) -> Result<String, Failure> {
     let journal = asked.journal;
     write_steps(alloc, outside, journal, &hosted.journal)?;
     write_followed(alloc, outside, journal, &hosted.teams, asked.plan.followers)?;
@@ -181,7 +133,7 @@ fn write_all<O: Outside>(
     };
     match summary.to_string(alloc) {
         Ok(text) => Ok(text),
-        Err(_) => Err(Exit::Memory(AllocError)),
+        Err(_) => Err(Failure::Memory(AllocError)),
     }
 }
 
@@ -194,7 +146,7 @@ fn host_image<O: Outside, R: Threads + Wait + Clock + Sync>(
     asked: Asked<'_>,
 ) -> Result<String, Exit> {
     let hosted = host(rt, alloc, image, &asked.plan)?;
-    write_all(alloc, outside, asked, &hosted)
+    Ok(write_all(alloc, outside, asked, &hosted)?)
 }
 
 /// Does what was asked for: what is to be printed.
@@ -216,7 +168,7 @@ fn perform<O: Outside, R: Threads + Wait + Clock + Sync>(
     asked: Asked<'_>,
 ) -> u8 {
     match carry_out(rt, alloc, outside, asked) {
-        Ok(text) => print(alloc, outside, text.as_str()),
+        Ok(text) => print(alloc, outside, text.as_bytes()),
         Err(exit) => end(outside, &exit),
     }
 }

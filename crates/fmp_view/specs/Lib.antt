@@ -1,3 +1,4 @@
 pub mod Drives
+pub mod Exits
 pub mod Faults
 pub mod Shown

@@ -2,13 +2,10 @@
 ghost use Rattle.std.specs.Prelude.{◌≤◌, ◌^◌, IfOk};
 
 use crate::form::{BOUND_MAX, EVENTS_MAX, program, timeline_command, waves_command};
-use clap::error::ErrorKind;
-use clap::{ArgMatches, Command, Error};
+use clap::{ArgMatches, Error};
+use fmp_files::{mistake, mistake_of};
 use fmp_timeline::Choice;
 use std::alloc::{AllocError, Global};
-
-/// The message for words that are not UTF-8.
-const NOT_TEXT: &str = "invalid UTF-8 was detected in one or more arguments";
 
 /// The message for a word that is no code.
 const NO_CODE: &str = "no code is printed so";
@@ -107,25 +104,6 @@ fn asked<'a>(name: &str, words: &ArgMatches<'a>) -> Cmd<'a> {
         "timeline" => Cmd::Timeline(run_of(words), word_of(words, "OUT"), drawing_of(words)),
         _ => Cmd::Waves(run_of(words), word_of(words, "OUT")),
     }
-}
-
-/// The error for a mistake in the words of a command, which has the status 2.
-fn mistake(command: Result<Command<'_>, AllocError>, text: &str) -> Result<Error, AllocError> {
-    command?.error(ErrorKind::ValueValidation, text)
-}
-
-/// The error for a mistake in the words of the subcommand of this name, which has the status 2.
-fn mistake_of(
-    command: Result<Command<'_>, AllocError>,
-    name: &str,
-    text: &str,
-) -> Result<Error, AllocError> {
-    mistake(command?.bin_name(name), text)
-}
-
-/// The error for words that are not UTF-8, which has the status 2.
-pub fn not_text(alloc: Global) -> Result<Error, AllocError> {
-    mistake(program(alloc), NOT_TEXT)
 }
 
 /// The error for a word that is no code, which has the status 2.

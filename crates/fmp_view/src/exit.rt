@@ -1,37 +1,46 @@
 //! Why the program ends with nothing printed.
+ghost use Rattle.fmp_view.specs.Exits.{status_of};
+
 use crate::timeline::TimelineFault;
 use fmp_engine::SimFault;
+use fmp_files::{Failure, Reason};
 use std::fmt;
 
 /// Why the program ends with nothing printed: its message is one line.
-#[derive(Clone, Copy)]
-pub enum Exit<'a> {
+#[derive(Drop)]
+pub enum Exit {
     /// The image is not run.
     Sim(SimFault),
     /// There is no such picture of the run.
     Picture(TimelineFault),
-    /// The file of this name could not be read or written; `-` is the standard output.
-    File(&'a str),
-    /// Memory ran out.
-    Memory,
+    /// A file could not be read or written, or memory ran out.
+    Failed(Failure),
 }
 
-impl fmt::Display for Exit<'_> {
+impl From<Failure> for Exit {
+    fn from(failure: Failure) -> Self {
+        Exit::Failed(failure)
+    }
+}
+
+impl fmt::Display for Exit {
     fn fmt<W: fmt::Write>(&self, f: &mut fmt::Formatter<W>) -> fmt::Result {
         match self {
             Exit::Sim(fault) => write!(f, "{fault}"),
             Exit::Picture(fault) => write!(f, "{fault}"),
-            Exit::File(name) => write!(f, "file: {name}"),
-            Exit::Memory => f.write_str("memory"),
+            Exit::Failed(failure) => write!(f, "{failure}"),
         }
     }
 }
 
-impl Exit<'_> {
-    /// The status with which the program ends.
-    pub fn status(self) -> u8 {
+impl Reason for Exit {
+    ghost status_of = { λ exit. status_of exit };
+
+    /// The status that the program ends with: 1 for a fault of what was read, 2 if the run has no such picture, 3 for a
+    /// failure or if memory ran out.
+    fn status(&self) -> u8 {
         match self {
-            Exit::Sim(SimFault::Memory) | Exit::File(_) | Exit::Memory => 3,
+            Exit::Sim(SimFault::Memory) | Exit::Failed(_) => 3,
             Exit::Sim(_) => 1,
             Exit::Picture(_) => 2,
         }

@@ -115,8 +115,7 @@ fn code_command<'a>(alloc: Global) -> Made<'a> {
 }
 
 fn drive_command<'a>(alloc: Global) -> Made<'a> {
-    let about =
-        "Prints a steps text that runs a system until it is quiet, or N events are done";
+    let about = "Prints a steps text that runs a system until it is quiet, or N events are done";
     let most = u64::from(EVENTS_MAX);
     let events = number(alloc, "events", "N", 0, most, EVENTS).default_value("1000");
     let command = with_argument(Ok(named(alloc, "drive", about)), image(alloc));

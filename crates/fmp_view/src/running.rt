@@ -6,109 +6,50 @@ use crate::commands::{Ending, code, stats, steps, waves};
 use crate::exit::Exit;
 use crate::faults::{Shown, shown_fault};
 use crate::timeline::{TimelineFault, timeline};
-use clap::Error;
-use clap::error::ErrorKind;
 use fmp_base::Call;
 use fmp_diagnosis::{FileNames, Texts};
 use fmp_drive::{NextRun, Stop};
 use fmp_engine::SimFault;
-use fmp_files::{Outside, ReadFault, WriteFault};
+use fmp_files::{Failure, Outside, end, print, read_file, refuse, refuse_mistake, write_file};
 use std::alloc::{AllocError, Global};
 
-/// Says why the program ends, and gives its status.
-fn end<O: Outside>(outside: &mut O, exit: Exit<'_>) -> u8 {
-    outside.say(format_args!("{exit}\n"));
-    exit.status()
-}
-
-/// Prints all that there is to print, and gives the status.
-fn print<O: Outside>(outside: &mut O, bytes: &[u8]) -> u8 {
-    match outside.print(bytes) {
-        Ok(()) => 0,
-        Err(WriteFault::Device) => end(outside, Exit::File("-")),
-    }
-}
-
-/// Says what is wrong with the words of the command line, or prints what they ask to be shown.
-pub fn refuse<O: Outside>(alloc: Global, outside: &mut O, error: &Error) -> u8 {
-    match error.kind() {
-        ErrorKind::OutOfMemory => end(outside, Exit::Memory),
-        ErrorKind::DisplayHelp | ErrorKind::DisplayVersion => match error.to_string(alloc) {
-            Ok(text) => print(outside, text.as_bytes()),
-            Err(_) => end(outside, Exit::Memory),
-        },
-        _ => {
-            outside.say(format_args!("{error}"));
-            2
-        }
-    }
-}
-
-/// Refuses words that have the right form.
-fn refuse_so<O: Outside>(alloc: Global, outside: &mut O, refusal: Result<Error, AllocError>) -> u8 {
-    match refusal {
-        Ok(error) => refuse(alloc, outside, &error),
-        Err(_) => end(outside, Exit::Memory),
-    }
-}
-
-/// The bytes of a file.
-fn read<'a, O: Outside>(alloc: Global, outside: &O, name: &'a str) -> Result<Vec<u8>, Exit<'a>> {
-    match outside.read(alloc, name, None) {
-        Ok(bytes) => Ok(bytes),
-        Err(ReadFault::Device) => Err(Exit::File(name)),
-        Err(ReadFault::Memory) => Err(Exit::Memory),
-    }
-}
-
 /// What was made of files, or the fault of what was read.
-fn or_fault<T>(made: Result<T, SimFault>) -> Result<T, Exit<'static>> {
-    match made {
-        Ok(x) => Ok(x),
-        Err(fault) => Err(Exit::Sim(fault)),
-    }
+fn or_fault<T>(made: Result<T, SimFault>) -> Result<T, Exit> {
+    made.map_err(|fault| Exit::Sim(fault))
 }
 
 /// What a drive prints, and how it ended.
-fn driven_steps<'a, O: Outside>(
+fn driven_steps<O: Outside>(
     alloc: Global,
     outside: &O,
-    image: &'a str,
+    image: &str,
     events: u32,
     seed: Option<u64>,
     bound: u64,
-) -> Result<(Vec<u8>, Ending), Exit<'a>> {
-    let image = read(alloc, outside, image)?;
+) -> Result<(Vec<u8>, Ending), Exit> {
+    let image = read_file(alloc, outside, image, None)?;
     or_fault(steps(alloc, &image, events, seed, bound))
 }
 
 /// The bytes of two files.
-fn read_both<'a, O: Outside>(
+fn read_both<O: Outside>(
     alloc: Global,
     outside: &O,
-    one: &'a str,
-    other: &'a str,
-) -> Result<(Vec<u8>, Vec<u8>), Exit<'a>> {
-    let first = read(alloc, outside, one)?;
-    Ok((first, read(alloc, outside, other)?))
+    one: &str,
+    other: &str,
+) -> Result<(Vec<u8>, Vec<u8>), Failure> {
+    let first = read_file(alloc, outside, one, None)?;
+    Ok((first, read_file(alloc, outside, other, None)?))
 }
 
 /// The table of a run.
-fn run_stats<'a, O: Outside>(
-    alloc: Global,
-    outside: &O,
-    run: Run<'a>,
-) -> Result<Vec<u8>, Exit<'a>> {
+fn run_stats<O: Outside>(alloc: Global, outside: &O, run: Run<'_>) -> Result<Vec<u8>, Exit> {
     let (image, steps) = read_both(alloc, outside, run.image, run.steps)?;
     or_fault(stats(alloc, &image, &steps, run.bound))
 }
 
 /// The waveform of a run.
-fn run_waves<'a, O: Outside>(
-    alloc: Global,
-    outside: &O,
-    run: Run<'a>,
-) -> Result<Vec<u8>, Exit<'a>> {
+fn run_waves<O: Outside>(alloc: Global, outside: &O, run: Run<'_>) -> Result<Vec<u8>, Exit> {
     let (image, steps) = read_both(alloc, outside, run.image, run.steps)?;
     or_fault(waves(alloc, &image, &steps, run.bound))
 }
@@ -146,21 +87,25 @@ fn say_end<O: Outside>(outside: &mut O, ending: Ending) {
     }
 }
 
-fn run_drive<O: Outside>(outside: &mut O, made: Result<(Vec<u8>, Ending), Exit<'_>>) -> u8 {
+fn run_drive<O: Outside>(
+    alloc: Global,
+    outside: &mut O,
+    made: Result<(Vec<u8>, Ending), Exit>,
+) -> u8 {
     match made {
         Ok((text, ending)) => {
             say_end(outside, ending);
-            print(outside, &text)
+            print(alloc, outside, &text)
         }
-        Err(exit) => end(outside, exit),
+        Err(exit) => end(outside, &exit),
     }
 }
 
 /// Writes all that there is to write to a file, and gives the status.
-fn write<O: Outside>(outside: &mut O, out: &str, bytes: &[u8]) -> u8 {
-    match outside.write(out, bytes) {
+fn write<O: Outside>(alloc: Global, outside: &mut O, out: &str, bytes: &[u8]) -> u8 {
+    match write_file(alloc, outside, out, bytes) {
         Ok(()) => 0,
-        Err(WriteFault::Device) => end(outside, Exit::File(out)),
+        Err(failure) => end(outside, &failure),
     }
 }
 
@@ -172,11 +117,11 @@ fn is_read<O: Outside>(outside: &O, out: &str, run: Run<'_>) -> bool {
 /// Writes a dump to its file.
 fn write_waves<O: Outside>(alloc: Global, outside: &mut O, run: Run<'_>, out: &str) -> u8 {
     if is_read(outside, out, run) {
-        return refuse_so(alloc, outside, dump_over_input(alloc));
+        return refuse_mistake(outside, dump_over_input(alloc));
     }
     match run_waves(alloc, outside, run) {
-        Ok(dump) => write(outside, out, &dump),
-        Err(exit) => end(outside, exit),
+        Ok(dump) => write(alloc, outside, out, &dump),
+        Err(exit) => end(outside, &exit),
     }
 }
 
@@ -193,12 +138,12 @@ fn title_of(image: &str) -> &str {
 }
 
 /// The picture of a run.
-fn run_timeline<'a, O: Outside>(
+fn run_timeline<O: Outside>(
     alloc: Global,
     outside: &O,
-    run: Run<'a>,
+    run: Run<'_>,
     drawing: Drawing,
-) -> Result<Vec<u8>, Exit<'a>> {
+) -> Result<Vec<u8>, Exit> {
     let (image, steps) = read_both(alloc, outside, run.image, run.steps)?;
     let title = title_of(run.image).as_bytes();
     match timeline(alloc, &image, &steps, run.bound, title, drawing) {
@@ -217,32 +162,27 @@ fn write_timeline<O: Outside>(
     drawing: Drawing,
 ) -> u8 {
     if is_read(outside, out, run) {
-        return refuse_so(alloc, outside, picture_over_input(alloc));
+        return refuse_mistake(outside, picture_over_input(alloc));
     }
     if drawing.choice.first > drawing.choice.last {
-        return refuse_so(alloc, outside, picture_of_nothing(alloc));
+        return refuse_mistake(outside, picture_of_nothing(alloc));
     }
     match run_timeline(alloc, outside, run, drawing) {
-        Ok(picture) => write(outside, out, &picture),
-        Err(exit) => end(outside, exit),
+        Ok(picture) => write(alloc, outside, out, &picture),
+        Err(exit) => end(outside, &exit),
     }
 }
 
 fn say_code<O: Outside>(alloc: Global, outside: &mut O, word: &str) -> u8 {
     match code(alloc, word) {
-        Ok(Some(text)) => print(outside, &text),
-        Ok(None) => refuse_so(alloc, outside, no_code(alloc)),
-        Err(_) => end(outside, Exit::Memory),
+        Ok(Some(text)) => print(alloc, outside, &text),
+        Ok(None) => refuse_mistake(outside, no_code(alloc)),
+        Err(_) => end(outside, &Failure::Memory(AllocError)),
     }
 }
 
 /// What is shown of the texts of two files.
-fn shown_of<'a, O: Outside>(
-    alloc: Global,
-    outside: &O,
-    cfg: &'a str,
-    src: &'a str,
-) -> Result<Shown, Exit<'a>> {
+fn shown_of<O: Outside>(alloc: Global, outside: &O, cfg: &str, src: &str) -> Result<Shown, Exit> {
     let (cfg_text, src_text) = read_both(alloc, outside, cfg, src)?;
     let texts = Texts {
         cfg: &cfg_text,
@@ -250,15 +190,15 @@ fn shown_of<'a, O: Outside>(
     };
     match shown_fault(alloc, FileNames { cfg, src }, texts) {
         Ok(shown) => Ok(shown),
-        Err(_) => Err(Exit::Memory),
+        Err(error) => Err(Exit::Failed(Failure::Memory(error))),
     }
 }
 
 /// Prints the fault of the texts of two files, with status 1, or their warnings.
 fn print_fault<O: Outside>(alloc: Global, outside: &mut O, cfg: &str, src: &str) -> u8 {
     match shown_of(alloc, outside, cfg, src) {
-        Ok(shown) => print(outside, shown.text()).max(shown.status()),
-        Err(exit) => end(outside, exit),
+        Ok(shown) => print(alloc, outside, shown.text()).max(shown.status()),
+        Err(exit) => end(outside, &exit),
     }
 }
 
@@ -274,11 +214,11 @@ fn carry_out<O: Outside>(alloc: Global, outside: &mut O, cmd: Cmd<'_>) -> u8 {
             bound,
         } => {
             let made = driven_steps(alloc, outside, image, events, seed, bound);
-            run_drive(outside, made)
+            run_drive(alloc, outside, made)
         }
         Cmd::Stats(run) => match run_stats(alloc, outside, run) {
-            Ok(table) => print(outside, &table),
-            Err(exit) => end(outside, exit),
+            Ok(table) => print(alloc, outside, &table),
+            Err(exit) => end(outside, &exit),
         },
         Cmd::Waves(run, out) => write_waves(alloc, outside, run, out),
         Cmd::Timeline(run, out, drawing) => write_timeline(alloc, outside, run, out, drawing),

@@ -1,8 +1,8 @@
 use Rattle.std.proofs.Common.{map, subst, sym}
 use Rattle.fmp.specs.Commands.{output_of}
 use Rattle.fmp.specs.Runs.{AreInputs, BeginsFile, Performs, faulty, unwritten}
-use Rattle.fmp.specs.PrintsLaws.{does_nothing}
-use Rattle.fmp.proofs.Carried.{err_is}
+use Rattle.fmp_files.specs.PrintsLaws.{does_nothing}
+use Rattle.fmp.proofs.Carried.{err_from, err_is, failed_is}
 use Rattle.fmp.proofs.carrying.carry_out.Goals as goal
 
 pub returns-in_err-file-clause-err : goal.returns-in_err-file-clause-err
@@ -26,4 +26,5 @@ returns-in_err-write_output-clause-err g c =
     subst (λ bytes. BeginsFile (output_of cmd) bytes (g.O.Outside.done c.args.outside.now)
     (g.O.Outside.done c.write_output.new.outside)) c.deref-2.ensures.value
     c.in_err-write_output.ensures.begun in
-    err_is _ _ _ c.from_residual-in_err-write_output.ensures.1 (unwritten file out performs c.in_err-write_output.ensures.failure begun)
+    err_from _ _ _ c.from_residual-in_err-write_output.ensures.1
+    (λ exit is. unwritten file out performs (failed_is _ exit _ is c.in_err-write_output.ensures.failure) begun)

@@ -1,23 +1,32 @@
-use Rattle.std.proofs.Common.{◌≡◌, ◌∙◌, ◌++◌, ap, subst, List, ℕ, IfErr}
+use Rattle.std.proofs.Common.{◌≡◌, ◌∙◌, ◌++◌, [], ap, subst, List, ℕ, IfErr, OnOk}
+use Rattle.fmp.proofs.Giving.{given_then, why_then}
 use Rattle.fmp.proofs.RunLemmas.{run_refused, run_means}
 use Rattle.fmp.proofs.perform.built_and_run.Goals as goal
-use Rattle.fmp.specs.Performed.{IsWhyNoRun, no_image}
+use Rattle.fmp.specs.Giving.{GivesText, IsWhyCut}
+use Rattle.fmp.specs.Performed.{IsWhyNoRun, IsWhyNotRun, RunsImage, RunsTexts, no_image}
 
-pub returns-clause-refused : goal.returns-clause-refused
-returns-clause-refused c = no_image (c.no_image.ensures c.args.cfg.now c.args.src.now c.in-Err.ensures.refused)
+pub returns-clause-err : goal.returns-clause-err
+returns-clause-err g c =
+    (no_image (c.no_image.ensures c.args.cfg.now c.args.src.now c.in-Err.ensures.refused), g.met.T.Outlet.gave_nothing _)
 
 pub returns-in-Ok-clause-ok : goal.returns-in-Ok-clause-ok
-returns-in-Ok-clause-ok c =
+returns-in-Ok-clause-ok g c =
     let b = c.in-Ok.ensures.ok in
     let same : c.deref.result.now ≡ b.bytes =
     c.deref.ensures.value ∙ b.text ∙ ap (λ (before : List ℕ). before ++ b.bytes) c.new-image.ensures.items in
-    run_means c.simulated.result c.args.cfg.now c.args.src.now c.args.steps.now b.bytes c.args.bound _ _ b.image b.built b.spelled
-    (rw same at c.simulated.ensures.ok)
+    given_then g.T.Outlet.gave g.T.Outlet.stopped _ _ c.simulated.result
+    (RunsImage b.bytes c.args.steps.now c.args.bound []) (RunsTexts c.args.cfg.now c.args.src.now c.args.steps.now c.args.bound [])
+    (run_means c.args.cfg.now c.args.src.now c.args.steps.now b.bytes b.image b.built b.spelled c.args.bound)
+    (subst (λ (image : List ℕ). OnOk c.simulated.result (GivesText g.T.Outlet.gave (RunsImage image c.args.steps.now c.args.bound []) c.args.outlet.now c.simulated.new.outlet [])) same c.simulated.ensures.ok)
 
-pub returns-in-Ok-clause-refused : goal.returns-in-Ok-clause-refused
-returns-in-Ok-clause-refused c =
+pub returns-in-Ok-clause-err : goal.returns-in-Ok-clause-err
+returns-in-Ok-clause-err g c =
     let b = c.in-Ok.ensures.ok in
     let same : c.deref.result.now ≡ b.bytes =
     c.deref.ensures.value ∙ b.text ∙ ap (λ (before : List ℕ). before ++ b.bytes) c.new-image.ensures.items in
-    run_refused c.simulated.result c.args.cfg.now c.args.src.now c.args.steps.now b.bytes b.image b.built b.spelled
-    (subst (λ (image : List ℕ). IfErr c.simulated.result (IsWhyNoRun image c.args.steps.now)) same c.simulated.ensures.refused)
+    why_then g.T.Outlet.gave g.T.Outlet.stopped _ _ c.simulated.result
+    (IsWhyNoRun b.bytes c.args.steps.now) (IsWhyNotRun c.args.cfg.now c.args.src.now c.args.steps.now)
+    (RunsImage b.bytes c.args.steps.now c.args.bound []) (RunsTexts c.args.cfg.now c.args.src.now c.args.steps.now c.args.bound [])
+    (run_refused c.args.cfg.now c.args.src.now c.args.steps.now b.bytes b.image b.built b.spelled)
+    (run_means c.args.cfg.now c.args.src.now c.args.steps.now b.bytes b.image b.built b.spelled c.args.bound)
+    (subst (λ (image : List ℕ). IfErr c.simulated.result (IsWhyCut g.T.Outlet.gave g.T.Outlet.stopped (IsWhyNoRun image c.args.steps.now) (RunsImage image c.args.steps.now c.args.bound []) c.args.outlet.now c.simulated.new.outlet)) same c.simulated.ensures.err)

@@ -1,5 +1,5 @@
 use Rattle.std.proofs.Common.{refl, sym, ◌∙◌}
-use Rattle.fmp.specs.PrintsLaws.{prints_front}
+use Rattle.fmp_files.specs.PrintsLaws.{prints_front}
 use Rattle.fmp.proofs.Printed.{pieces_of_none, pieces_one}
 use Rattle.fmp.proofs.printing.PrinterOutlet.give.Goals as goal
 

@@ -1,6 +1,6 @@
 -- The words so far are borrowed.
 use Rattle.std.proofs.Common.{◌≡◌, map, string_bytes, take}
-use Rattle.fmp.proofs.running.borrowed.Given as goal
+use Rattle.fmp.proofs.running.borrowed_words.Given as goal
 
 abbrev pub invariant-loop-word : goal.invariant-loop-word
 invariant-loop-word l = map (λ text. text.now) l.texts.items ≡ map string_bytes (take l.word-index l.words)

@@ -1,0 +1,36 @@
+-- What an outlet was given of a text, and why not all.
+use Rattle.std.proofs.Common.{ℕ, List, [], append-nil, sym, Result, IfErr, OnOk}
+use Rattle.std.proofs.lemmas.Result.{IfErr-weaker, on_ok_weaker}
+use Rattle.fmp.specs.Giving.{GivesText, IsWhyCut}
+use Rattle.fmp.specs.declared.perform.Cut.{Cut}
+use Rattle.fmp.specs.declared.perform.Cut.TheVariants.{Refused, Stopped}
+use Rattle.fmp.specs.declared.perform.Exit.{Exit}
+
+module _ {T : Type 0} (gave stopped : T → T → List ℕ → Type 0) (from to : T) where
+  -- all of a text
+  pub gives_all : (Holds : List ℕ → Type 0) (text : List ℕ) → Holds text → gave from to text → GivesText gave Holds from to []
+  gives_all Holds text holds given =
+      record { text = text; holds = holds; given = record { front = text; is_given = given; whole_is = sym (append-nil text) } }
+
+  -- a text of which more holds
+  pub gives_then : (P Q : List ℕ → Type 0) (left : List ℕ) → ((text : List ℕ) → P text → Q text) → GivesText gave P from to left
+      → GivesText gave Q from to left
+  gives_then P Q left f h = record { text = h.text; holds = f h.text h.holds; given = h.given }
+
+  stopped_then : (P Q : List ℕ → Type 0) (left : List ℕ) → ((text : List ℕ) → P text → Q text) → GivesText stopped P from to left
+      → GivesText stopped Q from to left
+  stopped_then P Q left f h = record { text = h.text; holds = f h.text h.holds; given = h.given }
+
+  pub cut_then : (Why Why' : Exit → Type 0) (P Q : List ℕ → Type 0) → ((exit : Exit) → Why exit → Why' exit)
+      → ((text : List ℕ) → P text → Q text) → (cut : Cut) → IsWhyCut gave stopped Why P from to cut → IsWhyCut gave stopped Why' Q from to cut
+  cut_then Why Why' P Q why f (Refused exit) h = (why exit h.0, h.1)
+  cut_then Why Why' P Q why f Stopped h = (h.0, stopped_then P Q h.0 f h.1)
+
+  pub given_then : {A : Type 0} (r : Result A Cut) (P Q : List ℕ → Type 0) → ((text : List ℕ) → P text → Q text)
+      → OnOk r (GivesText gave P from to []) → OnOk r (GivesText gave Q from to [])
+  given_then r P Q f h = on_ok_weaker r (gives_then P Q [] f) h
+
+  pub why_then : {A : Type 0} (r : Result A Cut) (Why Why' : Exit → Type 0) (P Q : List ℕ → Type 0)
+      → ((exit : Exit) → Why exit → Why' exit) → ((text : List ℕ) → P text → Q text)
+      → IfErr r (IsWhyCut gave stopped Why P from to) → IfErr r (IsWhyCut gave stopped Why' Q from to)
+  why_then r Why Why' P Q why f h = IfErr-weaker r _ _ (cut_then Why Why' P Q why f) h

@@ -1,0 +1,53 @@
+-- How a run ends of a command that writes no file.
+use Rattle.std.proofs.Common.{◌≡◌, ℕ, sym, subst, ◌∙◌, append-nil, Bool, IsTrue, List, [], Option, None, IfSome}
+use Rattle.fmp.specs.declared.asking.Cmd.{Cmd}
+use Rattle.fmp_files.specs.Deeds.{Deed, Does, Says}
+use Rattle.fmp_files.specs.declared.failure.Failure.{Failure}
+use Rattle.fmp_files.specs.Endings.{IsFailureOf, IsOneOf, all_printed, some_printed}
+use Rattle.fmp_files.specs.Outside.{Files}
+use Rattle.fmp_files.specs.Prints.{Prints}
+use Rattle.fmp_files.specs.PrintsLaws.{does_nothing}
+use Rattle.fmp.specs.Commands.{inputs_of, output_of}
+use Rattle.fmp.specs.declared.perform.Exit.{Exit}
+use Rattle.fmp.specs.declared.perform.Exit.TheVariants.{Failed}
+use Rattle.fmp.specs.Performed.{IsWhyNot, status_of}
+use Rattle.fmp.specs.Printing.{PrintsFront}
+use Rattle.fmp.specs.Runs.{AreInputs, CarriedOut, EndsCommand, KeepsInputs, done, failed, faulty, unread, writes_to}
+
+module _ (files : Files) (can_fail : Bool) (before : Option (List Deed)) (cmd : Cmd) (fileless : output_of cmd ≡ None) where
+  -- it writes over nothing that it reads
+  pub kept : KeepsInputs cmd
+  kept = subst (λ (o : Option (List ℕ)). IfSome o (λ name. ¬ IsOneOf (inputs_of cmd) name)) (sym fileless) tt
+
+  no_file : (file : List ℕ) → Does before (writes_to (output_of cmd) file) before
+  no_file file = subst (λ (o : Option (List ℕ)). Does before (writes_to o file) before) (sym fileless) (does_nothing before)
+
+  module _ (inputs : List (List ℕ)) (read : AreInputs files cmd inputs) where
+    carried : (after : Option (List Deed)) (left : List ℕ) (p : PrintsFront cmd inputs before after left)
+        → CarriedOut files cmd before before p.text
+    carried after left p =
+        record { file = p.file; performed = record { inputs = inputs; read = read; made = p.made }; written = no_file p.file }
+
+    -- all of it is printed
+    pub ends_all : (after : Option (List Deed)) (status : ℕ) → PrintsFront cmd inputs before after [] → status ≡ 0
+        → EndsCommand files can_fail cmd before after status
+    ends_all after status p zero =
+        done p.text before kept (carried after [] p)
+        (all_printed (subst (λ (bytes : List ℕ). Prints before bytes after) (sym (p.text_is ∙ append-nil p.front)) p.printed) zero)
+
+    -- standard output has failed
+    pub ends_cut : (between after : Option (List Deed)) (left : List ℕ) (status : ℕ) → IsTrue can_fail
+        → PrintsFront cmd inputs before between left → Says between after → status ≡ 3 → EndsCommand files can_fail cmd before after status
+    ends_cut between after left status fails p said three =
+        done p.text before kept (carried between left p) (some_printed fails p.front left p.text_is between p.printed said three)
+
+    -- it is not carried out
+    pub ends_refused : (exit : Exit) (between after : Option (List Deed)) (status : ℕ) → IsWhyNot cmd inputs exit
+        → Does before [] between → Says between after → status ≡ status_of exit → EndsCommand files can_fail cmd before after status
+    ends_refused exit between after status why nothing said same = failed exit between kept (faulty inputs read why nothing) said same
+
+  -- a file could not be read, or memory ran out
+  pub ends_failed : (failure : Failure) (after : Option (List Deed)) (status : ℕ) → IsFailureOf files (inputs_of cmd) failure
+      → Says before after → status ≡ 3 → EndsCommand files can_fail cmd before after status
+  ends_failed failure after status of said same =
+      failed (Failed failure) before kept (unread of (does_nothing before)) said same
