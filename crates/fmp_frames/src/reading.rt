@@ -42,7 +42,8 @@ pub fn states<B: Body>(alloc: Global, kernel: &Kernel<B>) -> Result<Vec<TaskStat
 
 /// What is kept of all tasks.
 pub fn blocks(alloc: Global, tables: &Tables) -> Result<Vec<TaskBlock>, AllocError>
-    ensures { IfOk result (λ xs. xs.items ≡ spec.each (task_at tables.now.state.tasks) (length tables.now.system.tasks)) }
+    ensures { IfOk result (λ xs. xs.items ≡ spec.each (task_at tables.now.state.tasks)
+        (length tables.now.system.tasks)) }
 {
     each(alloc, tables.task_count() as u8, |i| tables.task(i))
 }
