@@ -1,8 +1,8 @@
 -- What the operators of the task language give: exact arithmetic, then the test of 32 bits.
-use Rattle.std.specs.Prelude.{zero, suc, ◌^◌, Bool, true, false, not, nat_lt, if◌then◌else◌, ℤ, pos, negsuc, ◌+ℤ◌, ◌-ℤ◌, ◌*ℤ◌, neg_ℤ, int_div, int_rem, int_lt, Result, Ok, Err}
+use Rattle.std.specs.Prelude.{ℕ, zero, suc, ◌^◌, Bool, true, false, not, nat_lt, if◌then◌else◌, ℤ, pos, negsuc, ◌+ℤ◌, ◌-ℤ◌, ◌*ℤ◌, neg_ℤ, int_div, int_rem, int_lt, Result, Ok, Err}
 use Rattle.std.specs.Int.{w32, int_bit_and, int_bit_or, int_bit_xor}
 use Rattle.fmp_base.specs.declared.bodies.Fault.{Fault}
-use Rattle.fmp_base.specs.declared.bodies.Fault.TheVariants.{Overflow, Division}
+use Rattle.fmp_base.specs.declared.bodies.Fault.TheVariants.{Overflow, Division, Index}
 use Rattle.fmp_base.specs.declared.operators.UnaryOperator.{UnaryOperator}
 use Rattle.fmp_base.specs.declared.operators.UnaryOperator.TheVariants.{Negate, Not, Complement}
 use Rattle.fmp_base.specs.declared.operators.BinaryOperator.{BinaryOperator}
@@ -59,3 +59,8 @@ binary_value Less x y = Ok (truth (int_lt x y))
 binary_value LessOrEqual x y = Ok (truth (not (int_lt y x)))
 binary_value Greater x y = Ok (truth (int_lt y x))
 binary_value GreaterOrEqual x y = Ok (truth (not (int_lt x y)))
+
+-- the place of an array of this many places that an index names, or the fault of an index out of range
+abbrev pub place_in : ℕ → ℤ → Result ℕ Fault
+place_in places (pos i) = if nat_lt i places then Ok i else Err Index
+place_in places (negsuc i) = Err Index

@@ -2,7 +2,7 @@
 use Rattle.std.specs.Prelude.{ℕ, ◌+◌, ℤ, List, [], ◌∷◌, ◌++◌, Option, Some, None, codes, decimal, length}
 use Rattle.std.specs.Fmt.{signed_decimal}
 use Rattle.fmp_base.specs.declared.bodies.Fault.{Fault}
-use Rattle.fmp_base.specs.declared.bodies.Fault.TheVariants.{Overflow, Division}
+use Rattle.fmp_base.specs.declared.bodies.Fault.TheVariants.{Overflow, Division, Index}
 use Rattle.fmp_base.specs.declared.calls.Call.{Call}
 use Rattle.fmp_base.specs.declared.calls.Reply.{Reply}
 use Rattle.fmp_base.specs.declared.events.Event.{Event}
@@ -63,6 +63,7 @@ answer_text (Some r) = reply_text r
 abbrev pub fault_text : Fault → List ℕ
 fault_text Overflow = codes "F_OVF"
 fault_text Division = codes "F_DIV"
+fault_text Index = codes "F_IDX"
 
 -- the number of the processor at place p, with the blanks around it
 abbrev pub processor_text : ℕ → List ℕ

@@ -9,6 +9,8 @@ pub enum Fault {
     Overflow,
     /// A division or remainder by 0.
     Division,
+    /// An index below 0, or not below the number of an array's places.
+    Index,
 }
 
 /// A stretch of a body: what it does up to its next service call, its end or its fault, with the context

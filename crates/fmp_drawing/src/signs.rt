@@ -70,6 +70,7 @@ fn tag_text(sign: Sign) -> &'static str {
         Sign::Refused(code) => code.name(),
         Sign::Faulted(Fault::Overflow) => "F_OVF",
         Sign::Faulted(Fault::Division) => "F_DIV",
+        Sign::Faulted(Fault::Index) => "F_IDX",
         Sign::Priority(priority) => priority_tag(priority),
         _ => "",
     }

@@ -3,7 +3,9 @@ use Rattle.std.proofs.Common.{◌≡◌, ℕ, ℤ, pos, negsuc, ◌<◌, ◌≤�
 use Rattle.std.specs.Prelude.{◌==◌, if◌then◌else◌}
 use Rattle.std.specs.Int.{w32, cast_unsigned}
 use Rattle.std.proofs.lemmas.Bool.{le-ltb, ne_eqb}
-use Rattle.fmp_image_parts.specs.Instructions.{below, unary_of, binary_operator_of, call_of, instruction_of, numbered, signed_numbered}
+use Rattle.fmp_instructions.specs.declared.instructions.Instruction.{Instruction}
+use Rattle.fmp_instructions.specs.declared.instructions.Instruction.TheVariants.{LoadIndexed, StoreIndexed}
+use Rattle.fmp_image_parts.specs.Instructions.{array_of, below, unary_of, binary_operator_of, call_of, instruction_of, numbered, signed_numbered}
 
 unlike : (k m : ℕ) → k < m → eqb k m ≡ false
 unlike k m lt = ne_eqb k m (λ e. omega (arith, lt, e))
@@ -41,6 +43,9 @@ no_call m le = rw (le-ltb m 16777216 le) refl
 no_place : (limit m : ℕ) → limit ≤ m → below limit m ≡ None
 no_place limit m le = rw (le-ltb m limit le) refl
 
+no_array : (make : ℕ → ℕ → Instruction) (m : ℕ) → 65536 ≤ m → array_of make m ≡ None
+no_array make m le = rw (le-ltb m 65536 le) refl
+
 not_zero : (b : Bool) (m : ℕ) → 1 ≤ m → (b && (m == 0)) ≡ false
 not_zero true m le = ne_eqb m 0 (λ e. omega (arith, le, e))
 not_zero false m le = refl
@@ -59,9 +64,12 @@ not_numbered opcode m le =
     let binary = no_binary m (omega (arith, le)) in
     let call = no_call m le in
     let end = not_zero (opcode == 9) m (omega (arith, le)) in
-    rw (bytes, places, unary, binary, call, end)
+    let loaded = no_array LoadIndexed m (omega (arith, le)) in
+    let stored = no_array StoreIndexed m (omega (arith, le)) in
+    rw (bytes, places, unary, binary, call, loaded, stored, end)
     (either_way (opcode == 2) _ (either_way (opcode == 3) _ (either_way (opcode == 4) _ (either_way (opcode == 5) _
-    (either_way (opcode == 6) _ (either_way (opcode == 7) _ (either_way (opcode == 8) _ refl)))))))
+    (either_way (opcode == 6) _ (either_way (opcode == 7) _ (either_way (opcode == 8) _
+    (either_way (opcode == 10) _ (either_way (opcode == 11) _ refl)))))))))
 
 -- the bits of an argument tell the instruction as its value does
 numbered_of_bits : (opcode : ℕ) (argument : ℤ) → FitsSigned w32 argument → numbered opcode (cast_unsigned w32 argument) ≡ signed_numbered opcode argument

@@ -12,10 +12,10 @@ use Rattle.fmp_base.specs.declared.operators.BinaryOperator.{BinaryOperator}
 use Rattle.fmp_base.specs.declared.operators.BinaryOperator.TheVariants as binary
 use Rattle.fmp_base.specs.Services.{service_number}
 use Rattle.fmp_instructions.specs.declared.instructions.Instruction.{Instruction}
-use Rattle.fmp_instructions.specs.declared.instructions.Instruction.TheVariants.{Push, Load, Store, Unary, Truth, Binary, Jump, JumpIfZero, Call, End}
+use Rattle.fmp_instructions.specs.declared.instructions.Instruction.TheVariants.{Push, Load, Store, LoadIndexed, StoreIndexed, Unary, Truth, Binary, Jump, JumpIfZero, Call, End}
 use Rattle.fmp_base.specs.declared.services.TheConstants.{SERVICES}
 use Rattle.fmp_image_parts.specs.declared.instructions.TheConstants.{UNARY_OPERATORS, BINARY_OPERATORS}
-use Rattle.fmp_image_parts.specs.Instructions.{unary_number, binary_number, local_number, call_number, opcode_of, argument_of, local_of, service_of_number, unary_of, binary_operator_of, call_of, below, numbered, instruction_of, HasRoom}
+use Rattle.fmp_image_parts.specs.Instructions.{unary_number, binary_number, local_number, call_number, opcode_of, argument_of, local_of, service_of_number, unary_of, binary_operator_of, call_of, array_number, array_of, below, numbered, instruction_of, HasRoom}
 use Rattle.fmp_image_parts.proofs.Names.{and_true}
 
 -- which way a test went
@@ -97,6 +97,25 @@ call_named n i e =
     let whole : call_number m.0 (local_of (n / 256 % 256)) (local_of (n / 65536)) ≡ n = rw (s-is, out.0, receiver.0) (omega arith) in
     subst (Names 8 n) m.2 (record { opcode_is = refl; argument_is = ap pos (sym whole); room = (out.1, receiver.1) })
 
+-- an array of a number
+array_named : (opcode n : ℕ) (make : ℕ → ℕ → Instruction) (i : Instruction)
+    → ((base places : ℕ) → base < 256 → places < 256 → Names opcode (array_number base places) (make base places))
+    → array_of make n ≡ Some i → Names opcode n i
+array_named opcode n make i names e =
+    let g = guarded (ltb n 65536) (make (n % 256) (n / 256)) i e in
+    let lt : n < 65536 = ltb-true _ _ g.0 in
+    let whole : array_number (n % 256) (n / 256) ≡ n = omega arith in
+    subst (λ k. Names opcode k i) whole
+    (subst (Names opcode (array_number (n % 256) (n / 256))) g.1 (names (n % 256) (n / 256) (omega arith) (omega arith)))
+
+array_again : (make : ℕ → ℕ → Instruction) (base places : ℕ) → base < 256 → places < 256
+    → array_of make (array_number base places) ≡ Some (make base places)
+array_again make base places lb lp =
+    let fits : ltb (array_number base places) 65536 ≡ true = lt-ltb _ _ (omega arith) in
+    let first : array_number base places % 256 ≡ base = omega arith in
+    let second : array_number base places / 256 ≡ places = omega arith in
+    rw (fits, first, second) refl
+
 -- which way a test of an opcode went
 by_opcode : {P : Type 0} (k opcode : ℕ) (x y : Option Instruction) (i : Instruction) → cond (eqb opcode k) x y ≡ Some i → (opcode ≡ k → x ≡ Some i → P) → (y ≡ Some i → P) → P
 by_opcode k opcode x y i e here there =
@@ -118,12 +137,14 @@ numbered_named opcode n i e =
     rw o (subst (Names 6 n) m.2 (record { opcode_is = refl; argument_is = ap pos b.1; room = subst (λ k. k < 65536) b.1 b.0 }))) (λ e7.
     by_opcode 7 opcode _ _ i e7 (λ o h. let m = map_is JumpIfZero (below 65536 n) i h in let b = below_is 65536 n m.0 m.1 in
     rw o (subst (Names 7 n) m.2 (record { opcode_is = refl; argument_is = ap pos b.1; room = subst (λ k. k < 65536) b.1 b.0 }))) (λ e8.
-    by_opcode 8 opcode _ _ i e8 (λ o h. rw o (call_named n i h)) (λ e9.
+    by_opcode 8 opcode _ _ i e8 (λ o h. rw o (call_named n i h)) (λ e10.
+    by_opcode 10 opcode _ _ i e10 (λ o h. rw o (array_named 10 n LoadIndexed i (λ b p lb lp. record { opcode_is = refl; argument_is = refl; room = (lb, lp) }) h)) (λ e11.
+    by_opcode 11 opcode _ _ i e11 (λ o h. rw o (array_named 11 n StoreIndexed i (λ b p lb lp. record { opcode_is = refl; argument_is = refl; room = (lb, lp) }) h)) (λ e9.
     let g = guarded (eqb opcode 9 && eqb n 0) End i e9 in
     let t = and_true _ _ g.0 in
     let o : opcode ≡ 9 = eqb-true _ _ t.0 in
     let z : n ≡ 0 = eqb-true _ _ t.1 in
-    rw (o, z) (subst (Names 9 0) g.1 (record { opcode_is = refl; argument_is = refl; room = tt })))))))))
+    rw (o, z) (subst (Names 9 0) g.1 (record { opcode_is = refl; argument_is = refl; room = tt })))))))))))
 
 pub instruction_named : (opcode : ℕ) (z : ℤ) (i : Instruction) → FitsSigned w32 z → instruction_of opcode z ≡ Some i → (opcode ≡ opcode_of i) × (z ≡ argument_of i) × HasRoom i
 instruction_named opcode (pos n) i fits e =
@@ -212,6 +233,8 @@ instruction_again (Jump a) h = rw (below_again 65536 a h) refl
 instruction_again (JumpIfZero a) h = rw (below_again 65536 a h) refl
 instruction_again (Call s out receiver) h = call_again s out receiver h.0 h.1
 instruction_again End h = refl
+instruction_again (LoadIndexed base places) h = array_again LoadIndexed base places h.0 h.1
+instruction_again (StoreIndexed base places) h = array_again StoreIndexed base places h.0 h.1
 
 pub binary_small : (op : BinaryOperator) → binary_number op < 2 ^ 31
 binary_small binary.Add = lit< tt

@@ -7,7 +7,7 @@ use Rattle.byteorder.specs.Endian.{little_number}
 use Rattle.fmp_instructions.specs.declared.instructions.Instruction.{Instruction}
 use Rattle.fmp_image_parts.specs.declared.fault.ImageFault.TheVariants as fault
 use Rattle.fmp_image_parts.specs.Fields.{◌>>=◌}
-use Rattle.fmp_image_parts.specs.Instructions.{instruction_of}
+use Rattle.fmp_image_parts.specs.Instructions.{instruction_in}
 use Rattle.fmp_image_parts.specs.Bodies.{named, step, step_at}
 
 -- the fields of an instruction that is there
@@ -22,10 +22,10 @@ fields_at (a ∷ b ∷ c ∷ d ∷ e ∷ []) h = absurd (omega (arith, h))
 fields_at (a ∷ b ∷ c ∷ d ∷ e ∷ f ∷ rest) h = rw (le-ltb (length (b ∷ c ∷ d ∷ e ∷ f ∷ rest)) 4 (omega arith)) refl
 
 -- the instruction that six bytes spell, with its depth
-pub step_of_six : (bytes : List ℕ) → 6 ≤ length bytes → step_at bytes
-    ≡ (named (instruction_of (get_or bytes 0 0) (cast_signed w32 (little_number 4 (drop 1 bytes)))) >>= λ i. Ok ((i, get_or bytes 5 0), drop 6 bytes))
+pub step_of_six : (version : ℕ) (bytes : List ℕ) → 6 ≤ length bytes → step_at version bytes
+    ≡ (named (instruction_in version (get_or bytes 0 0) (cast_signed w32 (little_number 4 (drop 1 bytes)))) >>= λ i. Ok ((i, get_or bytes 5 0), drop 6 bytes))
 unfolding step_at
-step_of_six bytes h = rw (fields_at bytes h) refl
+step_of_six version bytes h = rw (fields_at bytes h) refl
 
 -- what was appended, where there is an instruction
 pub six_pushed : (fit : ℕ → Instruction → Bool) (o : Option Instruction) (entry depth : ℕ) (after : List ℕ) (t : Bool) (is is' : List Instruction)

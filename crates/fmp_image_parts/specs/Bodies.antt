@@ -10,9 +10,10 @@ use Rattle.fmp_image_parts.specs.declared.heads.BodyKind.{BodyKind}
 use Rattle.fmp_image_parts.specs.declared.heads.BodyKind.TheVariants as kind
 use Rattle.fmp_image_parts.specs.declared.heads.BodyHead.{BodyHead}
 use Rattle.fmp_image_parts.specs.Fields.{Field, ◌>>=◌, ◌⊗◌, byte, byte_at, short, word}
-use Rattle.fmp_image_parts.specs.Instructions.{opcode_of, argument_of, instruction_of, HasWord}
+use Rattle.fmp_image_parts.specs.Instructions.{opcode_of, argument_of, instruction_in, HasWord}
 use Rattle.fmp_image_parts.specs.Pairs.{pairs_at, pairs_spelled, pairs_pass, AllPairs}
 use Rattle.fmp_image_parts.specs.Fields.{in_range}
+use Rattle.fmp_image_parts.specs.Versions.{has}
 
 abbrev pub kind_number : BodyKind → ℕ
 kind_number kind.Task = 0
@@ -39,15 +40,16 @@ abbrev pub named : Option Instruction → Result Instruction ImageFault
 named None = Err fault.Code
 named (Some i) = Ok i
 
-unfoldable pub step_at : List ℕ → Result ((Instruction × ℕ) × List ℕ) ImageFault
-step_at bytes = do
+unfoldable pub step_at : (version : ℕ) → List ℕ → Result ((Instruction × ℕ) × List ℕ) ImageFault
+step_at version bytes = do
   fields ← step.read bytes
-  i ← named (instruction_of fields.0.0 fields.0.1.0)
+  i ← named (instruction_in version fields.0.0 fields.0.1.0)
   Ok ((i, fields.0.1.1), fields.1)
 
 -- Each instruction has six bytes. That all of them are there is judged before any of them.
-abbrev pub code_at : ℕ → List ℕ → Result ((List Instruction × List ℕ) × List ℕ) ImageFault
-code_at size bytes = if nat_lt (length bytes) (6 * size) then Err fault.Short else pairs_at step_at size bytes
+abbrev pub code_at : (version size : ℕ) → List ℕ → Result ((List Instruction × List ℕ) × List ℕ) ImageFault
+code_at version size bytes =
+    if nat_lt (length bytes) (6 * size) then Err fault.Short else pairs_at (step_at version) size bytes
 
 -- how many operands stand before each of n instructions: the last of its six bytes
 abbrev pub AreDepths : ℕ → List ℕ → List ℕ → Type 0
@@ -90,10 +92,10 @@ judged kind locals depth code rest =
     fault.Table)
     else Err fault.Code
 
-unfoldable pub body_at : List ℕ → Result ((BodyHead × BodyTables) × List ℕ) ImageFault
-body_at bytes = do
+unfoldable pub body_at : (version : ℕ) → List ℕ → Result ((BodyHead × BodyTables) × List ℕ) ImageFault
+body_at version bytes = do
   head ← body_head.read bytes
-  code ← code_at head.0.1.1.1 head.1
+  code ← code_at version head.0.1.1.1 head.1
   judged head.0.0 head.0.1.0 head.0.1.1.0 code.0 code.1
 
 abbrev pub body_spelled : BodyHead → BodyTables → List ℕ
@@ -101,17 +103,18 @@ body_spelled h b =
     body_head.spell (kind_number h.kind, (b.locals, (h.depth, length b.instructions)))
     ++ pairs_spelled step_spelled b.instructions b.depths
 
--- a body that an image can have
-pub record IsBody (h : BodyHead) (b : BodyTables) : Type 0 where
+-- a body that an image of a version can have
+pub record IsBody (version : ℕ) (h : BodyHead) (b : BodyTables) : Type 0 where
   pub verified : VerifiedBody b
   pub locals : 1 ≤ b.locals
   pub depth : h.depth ≡ greatest b.depths
   pub words : AllByRecursion HasWord b.instructions
+  pub known : AllByRecursion (λ i. has version i ≡ true) b.instructions
 
--- all bodies behind their number
-abbrev pub bodies : Field (List BodyHead × List BodyTables)
-bodies = record {
-  fits = λ x. (length x.1 < 256) × AllPairs IsBody x.0 x.1;
+-- all bodies of an image of a version behind their number
+abbrev pub bodies : (version : ℕ) → Field (List BodyHead × List BodyTables)
+bodies version = record {
+  fits = λ x. (length x.1 < 256) × AllPairs (IsBody version) x.0 x.1;
   spell = λ x. length x.1 ∷ pairs_spelled body_spelled x.0 x.1;
-  read = λ bytes. byte_at bytes >>= λ n. pairs_at body_at n.0 n.1;
+  read = λ bytes. byte_at bytes >>= λ n. pairs_at (body_at version) n.0 n.1;
 }

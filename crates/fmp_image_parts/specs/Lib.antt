@@ -4,3 +4,4 @@ pub mod Instructions
 pub mod KeyLaws
 pub mod Keys
 pub mod Pairs
+pub mod Versions

@@ -83,6 +83,7 @@ fn read_depths(alloc: Global, size: u16, bytes: &[u8]) -> Result<Vec<u8>, LoadFa
 /// body: whether they do. There is room for it.
 #[inline(always)]
 fn push_step(
+    version: u16,
     locals: u8,
     depths: &[u8],
     place: usize,
@@ -94,20 +95,29 @@ fn push_step(
     requires depth { get_or depths.now place 0 ≡ get_or bytes.now 5 0 }
     requires low { AreLow depths.now }
     requires room { vec_len instructions.old < vec_capacity instructions.old }
-    ensures pushed { IfOk (step_at bytes.now) (λ x. (result ≡ fits locals depths.now place x.0.1 x.0.0)
+    ensures pushed { IfOk (step_at version bytes.now) (λ x. (result ≡ fits locals depths.now place x.0.1 x.0.0)
         × (x.0.1 ≡ get_or depths.now place 0) × (x.1 ≡ drop 6 bytes.now)
         × (instructions.new.items ≡ instructions.old.items ++ x.0.0 ∷ [])) }
-    ensures refused { IfErr (step_at bytes.now) (λ fault. (result ≡ false) × (fault ≡ Code)) }
+    ensures refused { IfErr (step_at version bytes.now) (λ fault. (result ≡ false) × (fault ≡ Code)) }
     ensures size { vec_len instructions.new ≤ vec_len instructions.old + 1 }
     ensures capacity { vec_capacity instructions.new ≡ vec_capacity instructions.old }
 {
     let argument = LittleEndian::read_i32(&bytes[1..]);
-    push_instruction(locals, depths, place, bytes[0], argument, instructions)
+    push_instruction(
+        version,
+        locals,
+        depths,
+        place,
+        bytes[0],
+        argument,
+        instructions,
+    )
 }
 
 /// The instructions of a body with these depths. Each is judged as it is read.
 fn read_steps(
     alloc: Global,
+    version: u16,
     locals: u8,
     depths: &[u8],
     bytes: &[u8],
@@ -118,11 +128,12 @@ fn read_steps(
     requires first { slice_get depths.now 0 ≡ Some 0 }
     requires low { AreLow depths.now }
     ensures { Gives (λ x. ((x.items, depths.now), drop (6 * length depths.now) bytes.now)) result
-        (kept_code locals (pairs_at step_at (length depths.now) bytes.now)) }
+        (kept_code locals (pairs_at (step_at version) (length depths.now) bytes.now)) }
 {
     let mut instructions = Vec::with_capacity(alloc, depths.len())?;
     for place in 0..depths.len() {
         if !push_step(
+            version,
             locals,
             depths,
             place,
@@ -160,11 +171,12 @@ fn is_depth_table(depths: &[u8]) -> bool
 
 fn read_code<'a>(
     alloc: Global,
+    version: u16,
     locals: u8,
     size: u16,
     bytes: &'a [u8],
 ) -> Result<((Vec<Instruction>, Vec<u8>), &'a [u8]), LoadFault>
-    ensures { Gives (λ x. ((x.0.0.items, x.0.1.items), x.1.now)) result (kept_code locals (code_at size bytes.now)) }
+    ensures { Gives (λ x. ((x.0.0.items, x.0.1.items), x.1.now)) result (kept_code locals (code_at version size bytes.now)) }
 {
     let end = 6 * size as usize;
     if bytes.len() < end {
@@ -174,7 +186,7 @@ fn read_code<'a>(
     if !is_depth_table(&depths) {
         return Err(CODE);
     }
-    let instructions = read_steps(alloc, locals, &depths, bytes)?;
+    let instructions = read_steps(alloc, version, locals, &depths, bytes)?;
     Ok(((instructions, depths), &bytes[end..]))
 }
 
@@ -197,15 +209,16 @@ fn kind_of(is_handler: bool) -> BodyKind
 #[tactic(auto, unfolding(crate::specs::Bodies::body_at))]
 fn read_body<'a>(
     alloc: Global,
+    version: u16,
     bytes: &'a [u8],
 ) -> Result<((BodyHead, BodyCode), &'a [u8]), LoadFault>
-    ensures { Gives (λ x. ((x.0.0, body_tables x.0.1), x.1.now)) result (body_at bytes.now) }
+    ensures { Gives (λ x. ((x.0.0, body_tables x.0.1), x.1.now)) result (body_at version bytes.now) }
 {
     let (kind, rest) = byte_at(bytes)?;
     let (locals, rest) = byte_at(rest)?;
     let (depth, rest) = byte_at(rest)?;
     let (size, rest) = short_at(rest)?;
-    let ((instructions, depths), rest) = read_code(alloc, locals, size, rest)?;
+    let ((instructions, depths), rest) = read_code(alloc, version, locals, size, rest)?;
     let body = BodyCode {
         locals,
         instructions,
@@ -223,17 +236,18 @@ fn read_body<'a>(
 
 fn read_some_bodies<'a>(
     alloc: Global,
+    version: u16,
     count: u8,
     bytes: &'a [u8],
 ) -> Result<((Vec<BodyHead>, Vec<BodyCode>), &'a [u8]), LoadFault>
     ensures { Gives (λ x. ((x.0.0.items, map body_tables x.0.1.items), x.1.now)) result
-        (pairs_at body_at count bytes.now) }
+        (pairs_at (body_at version) count bytes.now) }
 {
     let mut heads = Vec::new(alloc);
     let mut bodies = Vec::new(alloc);
     let mut rest = bytes;
     for _ in 0..count {
-        let ((head, body), after) = read_body(alloc, rest)?;
+        let ((head, body), after) = read_body(alloc, version, rest)?;
         heads.push(head)?;
         bodies.push(body)?;
         rest = after;
@@ -241,17 +255,18 @@ fn read_some_bodies<'a>(
     Ok(((heads, bodies), rest))
 }
 
-/// Reads all bodies behind their number. `ImageFault::Short` if a field ends past the bytes, `ImageFault::Code` if the
+/// Reads all bodies of an image of a version behind their number. `ImageFault::Short` if a field ends past the bytes, `ImageFault::Code` if the
 /// code of a body is not fit to run, `ImageFault::Table` if another value of a body breaks a rule, and
 /// `LoadFault::Memory` if memory runs out.
 pub fn read_bodies<'a>(
     alloc: Global,
+    version: u16,
     bytes: &'a [u8],
 ) -> Result<((Vec<BodyHead>, Vec<BodyCode>), &'a [u8]), LoadFault>
-    ensures { Gives (λ x. ((x.0.0.items, map body_tables x.0.1.items), x.1.now)) result (all_bodies.read bytes.now) }
+    ensures { Gives (λ x. ((x.0.0.items, map body_tables x.0.1.items), x.1.now)) result ((all_bodies version).read bytes.now) }
 {
     let (count, rest) = byte_at(bytes)?;
-    read_some_bodies(alloc, count, rest)
+    read_some_bodies(alloc, version, count, rest)
 }
 
 /// Puts all bodies, at most 255, behind their number. `AllocError` if memory runs out.
@@ -261,8 +276,8 @@ pub fn put_bodies(
     bodies: &[BodyCode],
 ) -> Result<(), AllocError>
     requires count { length bodies.now < 256 }
-    requires bodies { AllPairs IsBody heads.now (map body_tables bodies.now) }
-    ensures { OnOk result (out.new.items ≡ out.old.items ++ all_bodies.spell (heads.now, map body_tables bodies.now)) }
+    requires bodies { (version : ℕ) × AllPairs (IsBody version) heads.now (map body_tables bodies.now) }
+    ensures { OnOk result (out.new.items ≡ out.old.items ++ (all_bodies 1).spell (heads.now, map body_tables bodies.now)) }
 {
     put_byte(out, bodies.len() as u8)?;
     for place in 0..bodies.len() {

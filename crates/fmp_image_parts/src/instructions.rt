@@ -2,8 +2,10 @@
 
 ghost use Rattle.std.specs.Prelude.{◌≡◌, ◌<◌, ◌≤◌, ◌+◌, ◌++◌, ◌∷◌, [], get_or, length, pos, true, false, vec_len, vec_capacity, MatchOption};
 ghost use Rattle.fmp_instructions.specs.Verify.{AreLow, fits};
-ghost use Rattle.fmp_image_parts.specs.Instructions.{unary_number, binary_number, local_number, call_number, opcode_of, argument_of, local_of, service_of_number, unary_of, binary_operator_of, call_of, numbered, instruction_of};
+ghost use Rattle.fmp_image_parts.specs.Instructions.{unary_number, binary_number, local_number, call_number, opcode_of, argument_of, local_of, service_of_number, unary_of, binary_operator_of, call_of, array_number, numbered, instruction_in};
+ghost use Rattle.fmp_image_parts.specs.Versions.{of_version};
 
+use crate::versions::has;
 use fmp_base::{BinaryOperator, SERVICES, Service, UnaryOperator};
 use fmp_instructions::{Instruction, is_fit};
 
@@ -82,6 +84,12 @@ fn call_number(service: Service, out: Option<u8>, receiver: Option<u8>) -> i32
     number + 256 * out + 65536 * receiver
 }
 
+fn array_number(base: u8, places: u8) -> i32
+    ensures { result ≡ pos (array_number base places) }
+{
+    base as i32 + 256 * places as i32
+}
+
 /// The opcode of an instruction.
 pub fn opcode_of(instruction: Instruction) -> u8
     ensures { result ≡ opcode_of instruction }
@@ -97,6 +105,8 @@ pub fn opcode_of(instruction: Instruction) -> u8
         Instruction::JumpIfZero(_) => 7,
         Instruction::Call { .. } => 8,
         Instruction::End => 9,
+        Instruction::LoadIndexed { .. } => 10,
+        Instruction::StoreIndexed { .. } => 11,
     }
 }
 
@@ -119,6 +129,8 @@ pub fn argument_of(instruction: Instruction) -> i32
             result: receiver,
         } => call_number(service, out, receiver),
         Instruction::End => 0,
+        Instruction::LoadIndexed { base, places } => array_number(base, places),
+        Instruction::StoreIndexed { base, places } => array_number(base, places),
     }
 }
 
@@ -205,11 +217,35 @@ fn push_fit(
     is_fit(locals, depths, place, depths[place] as usize, instruction)
 }
 
-/// Appends the instruction of an opcode, but for `Push`, and an argument, if there is one: whether there is, and it is
-/// fit to stand at this place of a body. There is room for it. Each is judged where its kind is known.
+/// Appends an instruction if the version has it: whether it does, and the instruction is fit to stand at this place of
+/// a body. There is room for it.
+#[inline(always)]
+fn push_of_version(
+    version: u16,
+    locals: u8,
+    depths: &[u8],
+    place: usize,
+    instruction: Instruction,
+    out: &mut Vec<Instruction>,
+) -> bool
+    requires room { vec_len out.old < vec_capacity out.old }
+    requires place { place < length depths.now }
+    requires low { AreLow depths.now }
+    ensures pushed { MatchOption (of_version version (Some instruction)) (result ≡ false)
+        (λ i. (result ≡ fits locals depths.now place (get_or depths.now place 0) i)
+        × (out.new.items ≡ out.old.items ++ i ∷ [])) }
+    ensures size { vec_len out.new ≤ vec_len out.old + 1 }
+    ensures capacity { vec_capacity out.new ≡ vec_capacity out.old }
+{
+    has(version, instruction) && push_fit(locals, depths, place, instruction, out)
+}
+
+/// Appends the instruction of an opcode, but for `Push`, and an argument, if the version has one: whether it has, and it
+/// is fit to stand at this place of a body. There is room for it. Each is judged where its kind is known.
 #[inline(always)]
 #[tactic(auto, unfolding(crate::specs::Instructions::numbered))]
 fn push_numbered(
+    version: u16,
     locals: u8,
     depths: &[u8],
     place: usize,
@@ -220,7 +256,7 @@ fn push_numbered(
     requires room { vec_len out.old < vec_capacity out.old }
     requires place { place < length depths.now }
     requires low { AreLow depths.now }
-    ensures pushed { MatchOption (numbered opcode number) (result ≡ false)
+    ensures pushed { MatchOption (of_version version (numbered opcode number)) (result ≡ false)
         (λ i. (result ≡ fits locals depths.now place (get_or depths.now place 0) i)
         × (out.new.items ≡ out.old.items ++ i ∷ [])) }
     ensures size { vec_len out.new ≤ vec_len out.old + 1 }
@@ -234,7 +270,7 @@ fn push_numbered(
             number < 256 && push_fit(locals, depths, place, Instruction::Store(number as u8), out)
         }
         4 => match unary_of(number) {
-            Some(instruction) => push_fit(locals, depths, place, instruction, out),
+            Some(instruction) => push_of_version(version, locals, depths, place, instruction, out),
             None => false,
         },
         5 => match binary_operator_of(number) {
@@ -257,18 +293,49 @@ fn push_numbered(
                 )
         }
         8 => match call_of(number) {
-            Some(instruction) => push_fit(locals, depths, place, instruction, out),
+            Some(instruction) => push_of_version(version, locals, depths, place, instruction, out),
             None => false,
         },
+        10 => {
+            let base = (number % 256) as u8;
+            number < 65536
+                && push_of_version(
+                    version,
+                    locals,
+                    depths,
+                    place,
+                    Instruction::LoadIndexed {
+                        base,
+                        places: (number / 256) as u8,
+                    },
+                    out,
+                )
+        }
+        11 => {
+            let base = (number % 256) as u8;
+            number < 65536
+                && push_of_version(
+                    version,
+                    locals,
+                    depths,
+                    place,
+                    Instruction::StoreIndexed {
+                        base,
+                        places: (number / 256) as u8,
+                    },
+                    out,
+                )
+        }
         9 => number == 0 && push_fit(locals, depths, place, Instruction::End, out),
         _ => false,
     }
 }
 
-/// Appends the instruction of an opcode and an argument, if there is one: whether there is, and it is fit to stand at
-/// this place of a body. There is room for it.
+/// Appends the instruction of an opcode and an argument, if the version has one: whether it has, and it is fit to stand
+/// at this place of a body. There is room for it.
 #[inline(always)]
 pub fn push_instruction(
+    version: u16,
     locals: u8,
     depths: &[u8],
     place: usize,
@@ -279,7 +346,7 @@ pub fn push_instruction(
     requires room { vec_len out.old < vec_capacity out.old }
     requires place { place < length depths.now }
     requires low { AreLow depths.now }
-    ensures pushed { MatchOption (instruction_of opcode argument) (result ≡ false)
+    ensures pushed { MatchOption (instruction_in version opcode argument) (result ≡ false)
         (λ i. (result ≡ fits locals depths.now place (get_or depths.now place 0) i)
         × (out.new.items ≡ out.old.items ++ i ∷ [])) }
     ensures size { vec_len out.new ≤ vec_len out.old + 1 }
@@ -288,5 +355,13 @@ pub fn push_instruction(
     if opcode == 1 {
         return push_fit(locals, depths, place, Instruction::Push(argument), out);
     }
-    push_numbered(locals, depths, place, opcode, argument.cast_unsigned(), out)
+    push_numbered(
+        version,
+        locals,
+        depths,
+        place,
+        opcode,
+        argument.cast_unsigned(),
+        out,
+    )
 }

@@ -7,6 +7,7 @@ pub mod fields;
 pub mod heads;
 mod instructions;
 pub mod keys;
+pub mod versions;
 
 pub use bodies::{put_bodies, read_bodies};
 pub use fault::{ImageFault, LoadFault};

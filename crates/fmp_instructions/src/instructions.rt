@@ -10,6 +10,20 @@ pub enum Instruction {
     Load(u8),
     /// Pops into a local.
     Store(u8),
+    /// Pops an index and pushes the local at that place of an array.
+    LoadIndexed {
+        /// The first local of the array.
+        base: u8,
+        /// How many places the array has.
+        places: u8,
+    },
+    /// Pops a value, then an index, and puts the value into the local at that place of an array.
+    StoreIndexed {
+        /// The first local of the array.
+        base: u8,
+        /// How many places the array has.
+        places: u8,
+    },
     /// Pops an operand and pushes what the operator gives.
     Unary(UnaryOperator),
     /// Pops an operand and pushes 0 for 0, else 1.

@@ -13,5 +13,5 @@ pub mod verified;
 mod verifier;
 
 pub use instructions::{BodyCode, Code, Instruction, MachineContext};
-pub use operators::{apply_binary, apply_unary};
+pub use operators::{apply_binary, apply_unary, place_of};
 pub use verifier::{is_fit, keeps_table, verify, verify_body};

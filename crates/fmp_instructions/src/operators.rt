@@ -1,6 +1,6 @@
 //! What the operators give, and their faults.
 ghost use Rattle.std.specs.Prelude.{◌≡◌, false, OnOk, int_rem};
-ghost use Rattle.fmp_base.specs.Operators.{fit, unary_value, binary_value, quotient, is_zero};
+ghost use Rattle.fmp_base.specs.Operators.{fit, place_in, unary_value, binary_value, quotient, is_zero};
 
 use fmp_base::{BinaryOperator, Fault, UnaryOperator};
 
@@ -45,6 +45,18 @@ fn remainder(x: i32, y: i32) -> i32
     ensures { result ≡ int_rem x y }
 {
     if y == -1 { 0 } else { x % y }
+}
+
+/// The place of an array of this many places that an index names.
+#[inline(always)]
+pub fn place_of(places: u8, index: i32) -> Result<u8, Fault>
+    ensures { result ≡ place_in places index }
+{
+    if index < 0 || index >= places as i32 {
+        Err(Fault::Index)
+    } else {
+        Ok(index as u8)
+    }
 }
 
 /// What a binary operator gives.

@@ -1,7 +1,7 @@
 //! Code is verified before it runs: depths, locals and jumps.
 ghost use Rattle.std.specs.Prelude.{◌≡◌, ◌+◌, ◌<◌, ◌≤◌, ◌↔◌, ◌^◌, IsTrue, Some, length, slice_get};
 ghost use Rattle.fmp_instructions.specs.Instructions.{body_tables, code_tables};
-ghost use Rattle.fmp_instructions.specs.Verify.{AreLow, entry_is, local_fits, places_fit, fits, EachFits, KeepsTable, VerifiedBody, Verified};
+ghost use Rattle.fmp_instructions.specs.Verify.{AreLow, array_fits, entry_is, local_fits, places_fit, fits, EachFits, KeepsTable, VerifiedBody, Verified};
 
 use crate::instructions::{BodyCode, Code, Instruction};
 use fmp_base::Service;
@@ -34,6 +34,12 @@ fn has_places(locals: u8, service: Service, out: Option<u8>, receiver: Option<u8
         && is_local(locals, receiver)
 }
 
+fn has_array(locals: u8, base: u8, places: u8) -> bool
+    ensures { result ≡ array_fits locals base places }
+{
+    1 <= base && 1 <= places && base as u16 + places as u16 <= locals as u16
+}
+
 /// Whether a body's code may have an instruction at a place before which this many operands stand: it finds its
 /// operands and its locals, and the places where it goes on have the depths that it leaves. No depth is above 64.
 #[inline(always)]
@@ -54,6 +60,12 @@ pub fn is_fit(
         Instruction::Push(_) => is_entry(depths, next, depth + 1),
         Instruction::Load(v) => v < locals && is_entry(depths, next, depth + 1),
         Instruction::Store(v) => v < locals && 1 <= depth && is_entry(depths, next, depth - 1),
+        Instruction::LoadIndexed { base, places } => {
+            has_array(locals, base, places) && 1 <= depth && is_entry(depths, next, depth)
+        }
+        Instruction::StoreIndexed { base, places } => {
+            has_array(locals, base, places) && 2 <= depth && is_entry(depths, next, depth - 2)
+        }
         Instruction::Unary(_) => 1 <= depth && is_entry(depths, next, depth),
         Instruction::Truth => 1 <= depth && is_entry(depths, next, depth),
         Instruction::Binary(_) => 2 <= depth && is_entry(depths, next, depth - 1),

@@ -138,6 +138,7 @@ fn fault_name(fault: Fault) -> [u8; 5]
     match fault {
         Fault::Overflow => *b"F_OVF",
         Fault::Division => *b"F_DIV",
+        Fault::Index => *b"F_IDX",
     }
 }
 

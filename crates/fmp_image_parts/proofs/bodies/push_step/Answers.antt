@@ -6,7 +6,7 @@ use Rattle.std.proofs.lemmas.List.{take_rest}
 use Rattle.fmp_instructions.specs.Verify.{fits}
 use Rattle.fmp_image_parts.specs.Bodies.{named, step_at}
 use Rattle.fmp_image_parts.specs.Fields.{◌>>=◌}
-use Rattle.fmp_image_parts.specs.Instructions.{instruction_of}
+use Rattle.fmp_image_parts.specs.Instructions.{instruction_in}
 use Rattle.fmp_image_parts.proofs.StepReads.{step_of_six, six_pushed, six_refused}
 use Rattle.fmp_image_parts.proofs.bodies.push_step.Goals as goal
 
@@ -17,10 +17,10 @@ returns-clause-pushed c =
     c.read_i32-argument.ensures ∙ ap (λ (xs : List ℕ). cast_signed w32 (little_number 4 xs)) (take_rest bytes 1) in
     let number = cast_signed w32 (cast_unsigned w32 c.read_i32-argument.result) in
     let same : number ≡ c.read_i32-argument.result = to_z-of_z w32 c.read_i32-argument.result (search rules) in
-    let o = instruction_of (get_or bytes 0 0) number in
-    let is : step_at bytes ≡ (named o >>= λ i. Ok ((i, get_or bytes 5 0), drop 6 bytes)) =
-    step_of_six bytes c.requires.bytes
-    ∙ ap (λ (k : ℤ). named (instruction_of (get_or bytes 0 0) k) >>= λ i. Ok ((i, get_or bytes 5 0), drop 6 bytes))
+    let o = instruction_in c.args.version (get_or bytes 0 0) number in
+    let is : step_at c.args.version bytes ≡ (named o >>= λ i. Ok ((i, get_or bytes 5 0), drop 6 bytes)) =
+    step_of_six c.args.version bytes c.requires.bytes
+    ∙ ap (λ (k : ℤ). named (instruction_in c.args.version (get_or bytes 0 0) k) >>= λ i. Ok ((i, get_or bytes 5 0), drop 6 bytes))
     (sym (same ∙ value)) in
     rw is (six_pushed (fits c.args.locals c.args.depths.now c.args.place) o (get_or c.args.depths.now c.args.place 0) (get_or bytes 5 0) (drop 6 bytes)
     c.push_instruction.result _ _ c.push_instruction.ensures.pushed c.requires.depth)
@@ -32,10 +32,10 @@ returns-clause-refused c =
     c.read_i32-argument.ensures ∙ ap (λ (xs : List ℕ). cast_signed w32 (little_number 4 xs)) (take_rest bytes 1) in
     let number = cast_signed w32 (cast_unsigned w32 c.read_i32-argument.result) in
     let same : number ≡ c.read_i32-argument.result = to_z-of_z w32 c.read_i32-argument.result (search rules) in
-    let o = instruction_of (get_or bytes 0 0) number in
-    let is : step_at bytes ≡ (named o >>= λ i. Ok ((i, get_or bytes 5 0), drop 6 bytes)) =
-    step_of_six bytes c.requires.bytes
-    ∙ ap (λ (k : ℤ). named (instruction_of (get_or bytes 0 0) k) >>= λ i. Ok ((i, get_or bytes 5 0), drop 6 bytes))
+    let o = instruction_in c.args.version (get_or bytes 0 0) number in
+    let is : step_at c.args.version bytes ≡ (named o >>= λ i. Ok ((i, get_or bytes 5 0), drop 6 bytes)) =
+    step_of_six c.args.version bytes c.requires.bytes
+    ∙ ap (λ (k : ℤ). named (instruction_in c.args.version (get_or bytes 0 0) k) >>= λ i. Ok ((i, get_or bytes 5 0), drop 6 bytes))
     (sym (same ∙ value)) in
     rw is (six_refused (fits c.args.locals c.args.depths.now c.args.place) o (get_or c.args.depths.now c.args.place 0) (get_or bytes 5 0) (drop 6 bytes)
     c.push_instruction.result _ _ c.push_instruction.ensures.pushed)

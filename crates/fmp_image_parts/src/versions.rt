@@ -1,0 +1,31 @@
+//! The versions of images, and what each of them has.
+ghost use Rattle.std.specs.Prelude.{◌≡◌};
+ghost use Rattle.fmp_image_parts.specs.Versions.{has, is_version, newest};
+
+use fmp_instructions::Instruction;
+
+/// The version of the images that are built.
+pub fn newest() -> u16
+    ensures { result ≡ newest }
+{
+    2
+}
+
+/// Whether there are images of a version: 1 or 2.
+pub fn is_version(version: u16) -> bool
+    ensures { result ≡ is_version version }
+{
+    1 <= version && version <= newest()
+}
+
+/// Whether images of a version have an instruction.
+#[inline(always)]
+pub fn has(version: u16, instruction: Instruction) -> bool
+    ensures { result ≡ has version instruction }
+{
+    match instruction {
+        Instruction::LoadIndexed { .. } => version >= 2,
+        Instruction::StoreIndexed { .. } => version >= 2,
+        _ => true,
+    }
+}
