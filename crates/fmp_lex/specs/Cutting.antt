@@ -39,6 +39,8 @@ short_symbol b =
     else (if b == 41 then Some symbol.RightParen
     else (if b == 123 then Some symbol.LeftBrace
     else (if b == 125 then Some symbol.RightBrace
+    else (if b == 91 then Some symbol.LeftBracket
+    else (if b == 93 then Some symbol.RightBracket
     else (if b == 44 then Some symbol.Comma
     else (if b == 59 then Some symbol.Semicolon
     else (if b == 124 then Some symbol.Or
@@ -53,7 +55,7 @@ short_symbol b =
     else (if b == 45 then Some symbol.Minus
     else (if b == 42 then Some symbol.Star
     else (if b == 47 then Some symbol.Slash
-    else (if b == 37 then Some symbol.Percent else None))))))))))))))))))
+    else (if b == 37 then Some symbol.Percent else None))))))))))))))))))))
 
 -- whether a letter, a digit or `_` stands at j
 abbrev pub is_followed : List ℕ → ℕ → Bool

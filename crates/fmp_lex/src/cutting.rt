@@ -62,6 +62,8 @@ fn short_sign(b: u8) -> Option<Symbol>
         b')' => Some(Symbol::RightParen),
         b'{' => Some(Symbol::LeftBrace),
         b'}' => Some(Symbol::RightBrace),
+        b'[' => Some(Symbol::LeftBracket),
+        b']' => Some(Symbol::RightBracket),
         b',' => Some(Symbol::Comma),
         b';' => Some(Symbol::Semicolon),
         b'|' => Some(Symbol::Or),

@@ -38,6 +38,8 @@ pub enum FaultKind {
     StackTooSmall,
     /// The entry is a body of the other kind.
     WrongEntryKind,
+    /// An array without an index, or a variable or an object with one.
+    Shape,
 }
 
 impl Display for FaultKind {
@@ -50,6 +52,7 @@ impl Display for FaultKind {
             FaultKind::Limit => f.write_str("B5"),
             FaultKind::StackTooSmall => f.write_str("B6"),
             FaultKind::WrongEntryKind => f.write_str("B7"),
+            FaultKind::Shape => f.write_str("B9"),
         }
     }
 }

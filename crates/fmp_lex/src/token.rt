@@ -31,6 +31,8 @@ pub enum Symbol {
     RightParen,
     LeftBrace,
     RightBrace,
+    LeftBracket,
+    RightBracket,
     Comma,
     Semicolon,
     Or,

@@ -15,23 +15,23 @@ use Rattle.fmp_tasklang.specs.declared.forms.Part.{Part}
 use Rattle.fmp_tasklang.specs.declared.forms.Part.TheVariants as part
 use Rattle.fmp_tasklang.specs.declared.trees.Word.{Word}
 use Rattle.fmp_tasklang.specs.Trees.{ExpressionTree}
-use Rattle.fmp_tasklang.specs.Expressions.{operator_of, loosest}
+use Rattle.fmp_tasklang.specs.Expressions.{loosest}
 use Rattle.fmp_tasklang.specs.Calls.{service_of, call_parts, ArgumentTree, value, out, values_of, out_from, Called, called, OnePart, Parts, OneCall}
 use Rattle.fmp_tasklang.specs.Reading.{OneWord, OneExpression, RightWord, RightExpression, RightPart, RightParts, RightArguments, RightCall, Arguments}
 use Rattle.fmp_tasklang.proofs.Layers.{token_there}
-use Rattle.fmp_tasklang.proofs.Operands.{word_framed, word_fills, expression_framed, Ended, ended_fills, ended_stop, ended_then}
+use Rattle.fmp_tasklang.proofs.Operands.{Closer, word_framed, word_fills, expression_framed, Ended, ended_fills, ended_stop, ended_then}
 
 abbrev pub ampersand : TokenKind
 ampersand = kind.Symbol symbol.And
 
-pub no_operator : (m : Mark) → operator_of (mark_kind m) ≡ None
-no_operator mark.LeftParen = refl
-no_operator mark.RightParen = refl
-no_operator mark.LeftBrace = refl
-no_operator mark.RightBrace = refl
-no_operator mark.Comma = refl
-no_operator mark.Semicolon = refl
-no_operator mark.Null = refl
+pub mark_closes : (m : Mark) → Closer (mark_kind m)
+mark_closes mark.LeftParen = (refl, refl)
+mark_closes mark.RightParen = (refl, refl)
+mark_closes mark.LeftBrace = (refl, refl)
+mark_closes mark.RightBrace = (refl, refl)
+mark_closes mark.Comma = (refl, refl)
+mark_closes mark.Semicolon = (refl, refl)
+mark_closes mark.Null = (refl, refl)
 
 module _ (d : ℕ) where
   -- `&`, a word and a mark
@@ -108,14 +108,14 @@ module _ (d : ℕ) where
         (λ us limit e j at r ends. value_back us limit e j r) o x
 
     pub value_stop : (j : ℕ) (why : GrammarFault) → RightExpression ts d loosest i (stopped j why) → RightPart ts d (part.Value m) i (stopped j why)
-    value_stop j why x = value_as (stopped j why) (ended_stop d (mark_kind m) (no_operator m) ts i j why x)
+    value_stop j why x = value_as (stopped j why) (ended_stop d (mark_kind m) (mark_closes m) ts i j why x)
 
     module _ (e : ExpressionTree) (k : ℕ) (x : RightExpression ts d loosest i (found e k)) where
       pub value_unmarked : (j : ℕ) (why : GrammarFault) → RightToken ts (mark_kind m) k (stopped j why) → RightPart ts d (part.Value m) i (stopped j why)
-      value_unmarked j why y = value_as (stopped j why) (ended_then d (mark_kind m) (no_operator m) ts i e k x (stopped j why) y)
+      value_unmarked j why y = value_as (stopped j why) (ended_then d (mark_kind m) (mark_closes m) ts i e k x (stopped j why) y)
 
       pub value_found : (j : ℕ) → RightToken ts (mark_kind m) k (found tt j) → RightPart ts d (part.Value m) i (found (Some (value e)) j)
-      value_found j y = value_as (found e j) (ended_then d (mark_kind m) (no_operator m) ts i e k x (found tt j) y)
+      value_found j y = value_as (found e j) (ended_then d (mark_kind m) (mark_closes m) ts i e k x (found tt j) y)
 
     out_back : (us : List TokenKind) (limit : ℕ) (e : Option ArgumentTree) (j : ℕ) → OnePart d (part.Out m) us limit i e j →
         (a : Word) × (e ≡ Some (out a)) × Outs m us limit i a j × Unit {0}

@@ -1,5 +1,5 @@
 -- Variables, bodies and the whole text: what is right about reading them.
-use Rattle.std.proofs.Common.{◌≡◌, ℕ, ◌+◌, ◌<◌, ◌≤◌, false, List, [], ◌∷◌, length, slice_get, Some, None, option_and_then, refl, sym, ap, ap₂, subst, ◌∙◌, arith, Err}
+use Rattle.std.proofs.Common.{◌≡◌, ℕ, ℤ, pos, ◌+◌, ◌<◌, ◌≤◌, false, List, [], ◌∷◌, length, slice_get, Option, Some, None, option_and_then, refl, sym, ap, ap₂, subst, ◌∙◌, arith, Err}
 use Rattle.std.proofs.lemmas.Option.{slice_get_past}
 use Rattle.fmp_lex.specs.declared.reading.GrammarFault.{GrammarFault}
 use Rattle.fmp_lex.specs.declared.reading.GrammarFault.TheVariants.{Syntax}
@@ -8,55 +8,174 @@ use Rattle.fmp_lex.specs.declared.reading.ReadError.TheVariants.{Memory, Fault}
 use Rattle.fmp_lex.specs.declared.token.TokenKind.{TokenKind}
 use Rattle.fmp_lex.specs.declared.token.TokenKind.TheVariants as kind
 use Rattle.fmp_base.specs.declared.words.Keyword.TheVariants as keyword
-use Rattle.fmp_lex.specs.Reading.{Rel, At, Seq, Star, ParseResult, found, stopped, map_result, Right, Anywhere, RightToken, IsWhole, IsFirstFault, Answers}
-use Rattle.fmp_lex.proofs.Sequences.{Framed, Fills, Follows, fewer, item_framed, token_found, seq_framed, seq_fills, seq_then, seq_stop, right_as}
+use Rattle.fmp_lex.specs.Reading.{Rel, At, Seq, Star, OneToken, Item, Same, ParseResult, found, stopped, map_result, Right, Anywhere, RightToken, IsWhole, IsFirstFault, Answers}
+use Rattle.fmp_lex.proofs.Sequences.{Framed, Fills, Follows, fewer, item_framed, item_fills, item_found, item_missing, token_found, seq_framed, seq_fills, seq_then, seq_stop, right_as}
 use Rattle.fmp_lex.proofs.Repetitions.{Behind, Closed, behind_framed, behind_fills, behind_then, behind_stop, closed_framed, closed_fills, closed_found, closed_missing, closed_stop, star_framed, star_fills, star_none, star_more, star_stop}
 use Rattle.fmp_lex.proofs.Wholes.{whole_found, whole_longer, whole_stopped}
 use Rattle.fmp_tasklang.specs.declared.trees.BodyKind.{BodyKind}
+use Rattle.fmp_tasklang.specs.declared.trees.Declaration.{Declaration}
+use Rattle.fmp_tasklang.specs.declared.trees.Length.{Length}
 use Rattle.fmp_tasklang.specs.declared.trees.Word.{Word}
 use Rattle.fmp_tasklang.specs.Trees.{StatementTree, BodyTree}
 use Rattle.fmp_tasklang.specs.Blocks.{block_of}
-use Rattle.fmp_tasklang.specs.Grammar.{body_kind_of, OneVariable, OneBody, Bodies}
-use Rattle.fmp_tasklang.specs.Reading.{EndsVariables, EndsBodies, OneWord, OneStatement, bodies_view, RightWord, RightStatements, RightVariable, RightVariables, RightBody, RightBodies, IsVerdict}
+use Rattle.fmp_tasklang.specs.Grammar.{body_kind_of, number_of, OneLength, OneVariable, OneBody, Bodies}
+use Rattle.fmp_tasklang.specs.Reading.{EndsOperand, EndsVariables, EndsBodies, OneWord, OneCount, OneStatement, bodies_view, RightWord, RightCount, RightLength, RightStatements, RightVariable, RightVariables, RightBody, RightBodies, IsVerdict}
 use Rattle.fmp_tasklang.proofs.Layers.{token_there}
-use Rattle.fmp_tasklang.proofs.Operands.{word_framed, word_fills}
+use Rattle.fmp_tasklang.proofs.Operands.{open_bracket, close_bracket, word_framed, word_fills}
 use Rattle.fmp_tasklang.proofs.StatementFrames.{open_brace, close_brace, semicolon, statement_framed, to_star, from_star, BeginsNone, none_begins}
 
 abbrev pub var_word : TokenKind
 var_word = kind.Keyword keyword.Var
 
--- var name ;
-abbrev Ended : Rel Word
-Ended = Closed OneWord semicolon
+-- nothing, or [ number ]
+abbrev Counted : Rel Length
+Counted = Behind open_bracket (Closed OneCount close_bracket)
 
-ended_framed : Framed Ended
-ended_framed = closed_framed OneWord semicolon word_framed
+count_framed : Framed OneCount
+count_framed = record {
+  up = λ us limit i l j x. omega (arith, x.1.1);
+  same = λ ts us limit lower i l j low x same. (x.0, (item_framed number_of).same ts us limit lower i l.places j low x.1 same);
+}
 
-ended_fills : Fills Ended
-ended_fills = closed_fills OneWord semicolon word_framed word_fills
+abbrev pub count_here : ℕ → ℤ → Length
+count_here i n = record { places = n; at = i }
 
-pub variable_framed : Framed OneVariable
-variable_framed = behind_framed var_word Ended ended_framed
+count_as : (ts : List TokenKind) (i : ℕ) (o : ParseResult ℤ) → Right (At (Item number_of) i) Anywhere ts i o → RightCount ts i (map_result (count_here i) o)
+count_as ts i o x = right_as (Item number_of) OneCount (count_here i) (λ us limit n j r. (refl, r))
+    (λ us limit l j at r ends. (l.places, ap (λ k. record { places = l.places; at = k }) r.0, r.1, tt)) o x
+
+zero_number : Fills (Item number_of)
+zero_number = item_fills number_of (kind.Number (pos 0)) (pos 0) refl
+
+pub count_missing : (ts : List TokenKind) (i : ℕ) → None ≡ option_and_then number_of (slice_get ts i) → i ≤ length ts → RightCount ts i (stopped i Syntax)
+count_missing ts i none within = count_as ts i (stopped i Syntax) (item_missing number_of ts i zero_number
+    (λ a is. let e : None ≡ Some a = none ∙ is in absurd (cc)) within)
+
+pub count_found : (ts : List TokenKind) (i : ℕ) (n : ℤ) → i < length ts → option_and_then number_of (slice_get ts i) ≡ Some n → RightCount ts i (found (count_here i n) (i + 1))
+count_found ts i n lt is = count_as ts i (found n (i + 1)) (item_found number_of ts i n lt is)
+
+count_fills : Fills OneCount
+count_fills us limit low = let x = zero_number us limit low in
+    record { other = x.other; same = x.same; long = x.long; tree = record { places = x.tree; at = length us }; reads = (refl, x.reads) }
+
+counted_framed : Framed Counted
+counted_framed = behind_framed open_bracket (Closed OneCount close_bracket) (closed_framed OneCount close_bracket count_framed)
+
+length_up : (us : List TokenKind) (limit i : ℕ) (o : Option Length) (j : ℕ) → OneLength us limit i o j → i ≤ j
+length_up us limit i None j x = omega (arith, x)
+length_up us limit i (Some l) j x = counted_framed.up us limit i l j x
+
+length_same : (ts us : List TokenKind) (limit lower i : ℕ) (o : Option Length) (j : ℕ) → lower ≤ limit → OneLength ts limit i o j → Same j ts us → OneLength us lower i o j
+length_same ts us limit lower i None j low x same = x
+length_same ts us limit lower i (Some l) j low x same = counted_framed.same ts us limit lower i l j low x same
+
+length_framed : Framed OneLength
+length_framed = record { up = length_up; same = length_same }
+
+length_fills : Fills OneLength
+length_fills us limit low = record { other = us; same = λ k lt. refl; long = omega arith; tree = None; reads = refl }
 
 module _ (ts : List TokenKind) (i : ℕ) where
+  no_length : (us : List TokenKind) (limit : ℕ) (o : Option Length) (j : ℕ) → (slice_get us i ≡ Some open_bracket → ⊥) → OneLength us limit i o j → (o ≡ None) × (j ≡ i)
+  no_length us limit None j is_not x = (refl, x)
+  no_length us limit (Some l) j is_not x = absurd (is_not x.1.0)
+
+  some_length : (us : List TokenKind) (limit : ℕ) (o : Option Length) (j : ℕ) → slice_get us i ≡ Some open_bracket → EndsOperand us j → OneLength us limit i o j →
+      (l : Length) × (o ≡ Some l) × Counted us limit i l j × Unit {0}
+  some_length us limit None j is ends x = absurd (ends (subst (λ n. slice_get us n ≡ Some open_bracket) (sym x) is))
+  some_length us limit (Some l) j is ends x = (l, refl, x, tt)
+
+  pub length_none : (slice_get ts i ≡ Some open_bracket → ⊥) → i ≤ length ts → RightLength ts i (found None i)
+  length_none is_not within = record {
+    from = omega arith;
+    within = within;
+    reads = λ limit. refl;
+    decides = λ us limit e j same low r ends. no_length us limit e j (λ is. is_not (same i (omega arith) ∙ is)) r;
+  }
+
+  module _ (is : slice_get ts i ≡ Some open_bracket) where
+    length_as : (o : ParseResult Length) → Right (At (Closed OneCount close_bracket) (i + 1)) Anywhere ts (i + 1) o → RightLength ts i (map_result Some o)
+    length_as o x = right_as Counted OneLength Some (λ us limit l j r. r)
+        (λ us limit e j at r ends. some_length us limit e j (at ∙ is) ends r) o
+        (behind_then open_bracket (Closed OneCount close_bracket) (token_found open_bracket ts i is) o x)
+
+    pub length_stop : (j : ℕ) (why : GrammarFault) → RightCount ts (i + 1) (stopped j why) → RightLength ts i (stopped j why)
+    length_stop j why x = length_as (stopped j why) (closed_stop OneCount close_bracket count_framed (λ us limit n b m y ends. tt) x)
+
+    module _ (l : Length) (k : ℕ) (x : RightCount ts (i + 1) (found l k)) where
+      pub length_open : (j : ℕ) (why : GrammarFault) → RightToken ts close_bracket k (stopped j why) → RightLength ts i (stopped j why)
+      length_open j why y = length_as (stopped j why) (closed_missing OneCount close_bracket count_framed (λ us limit n b m y ends. tt) x y)
+
+      pub length_found : (j : ℕ) → RightToken ts close_bracket k (found tt j) → RightLength ts i (found (Some l) j)
+      length_found j y = length_as (found l j) (closed_found OneCount close_bracket count_framed (λ us limit n b m y ends. tt) x y)
+
+-- var name ; | var name [ number ] ;
+abbrev Named : Rel (Word × Option Length)
+Named = Seq OneWord (Closed OneLength semicolon)
+
+abbrev declaration : Word × Option Length → Declaration
+declaration p = record { name = p.0; length = p.1 }
+
+last_framed : Framed (Closed OneLength semicolon)
+last_framed = closed_framed OneLength semicolon length_framed
+
+last_fills : Fills (Closed OneLength semicolon)
+last_fills = closed_fills OneLength semicolon length_framed length_fills
+
+named_framed : Framed Named
+named_framed = seq_framed OneWord (Closed OneLength semicolon) word_framed last_framed
+
+named_fills : Fills Named
+named_fills = seq_fills OneWord (Closed OneLength semicolon) word_framed word_fills last_fills
+
+-- behind a length there is no other one
+pub length_ends : Follows EndsOperand (OneToken semicolon) Anywhere
+length_ends us limit k b j y ends = λ is. let e : Some semicolon ≡ Some open_bracket = sym y.0 ∙ is in absurd (cc)
+
+variable_from : (us : List TokenKind) (limit i : ℕ) (v : Declaration) (j : ℕ) → OneVariable us limit i v j → Behind var_word Named us limit i (v.name, v.length) j
+variable_from us limit i v j x = (x.0, x.1, (x.2.0, x.2.1, x.2.2))
+
+pub variable_framed : Framed OneVariable
+variable_framed = let f = behind_framed var_word Named named_framed in record {
+  up = λ us limit i v j x. f.up us limit i (v.name, v.length) j (variable_from us limit i v j x);
+  same = λ ts us limit lower i v j low x same. f.same ts us limit lower i (v.name, v.length) j low (variable_from ts limit i v j x) same;
+}
+
+module _ (ts : List TokenKind) (i : ℕ) where
+  variable_as : (o : ParseResult (Word × Option Length)) → Right (At (Behind var_word Named) i) Anywhere ts i o → RightVariable ts i (map_result declaration o)
+  variable_as o x = right_as (Behind var_word Named) OneVariable declaration (λ us limit p j r. r)
+      (λ us limit v j at r ends. ((v.name, v.length), refl, r, tt)) o x
+
   pub variable_missing : (j : ℕ) (why : GrammarFault) → RightToken ts var_word i (stopped j why) → RightVariable ts i (stopped j why)
-  variable_missing j why x = behind_stop var_word Ended ended_fills x
+  variable_missing j why x = variable_as (stopped j why) (behind_stop var_word Named named_fills x)
 
   module _ (k : ℕ) (x : RightToken ts var_word i (found tt k)) where
+    after_var : (o : ParseResult (Word × Option Length)) → Right (At Named k) Anywhere ts k o → RightVariable ts i (map_result declaration o)
+    after_var o y = variable_as o (behind_then var_word Named x o y)
+
     pub variable_stop : (j : ℕ) (why : GrammarFault) → RightWord ts k (stopped j why) → RightVariable ts i (stopped j why)
-    variable_stop j why y = behind_then var_word Ended x (stopped j why) (closed_stop OneWord semicolon word_framed (λ us limit n b m y ends. tt) y)
+    variable_stop j why y = after_var (stopped j why) (seq_stop OneWord (Closed OneLength semicolon) word_framed last_fills (λ us limit n b m y ends. tt) y)
 
     module _ (w : Word) (l : ℕ) (y : RightWord ts k (found w l)) where
-      pub variable_open : (j : ℕ) (why : GrammarFault) → RightToken ts semicolon l (stopped j why) → RightVariable ts i (stopped j why)
-      variable_open j why z = behind_then var_word Ended x (stopped j why) (closed_missing OneWord semicolon word_framed (λ us limit n b m y ends. tt) y z)
+      after_word : (o : ParseResult (Option Length)) → Right (At (Closed OneLength semicolon) l) Anywhere ts l o →
+          RightVariable ts i (map_result (λ (n : Option Length). declaration (w, n)) o)
+      after_word (found n j) z = after_var (found (w, n) j) (seq_then OneWord (Closed OneLength semicolon) word_framed (λ us limit n b m y ends. tt) y (found n j) z)
+      after_word (stopped j why) z = after_var (stopped j why) (seq_then OneWord (Closed OneLength semicolon) word_framed (λ us limit n b m y ends. tt) y (stopped j why) z)
 
-      pub variable_found : (j : ℕ) → RightToken ts semicolon l (found tt j) → RightVariable ts i (found w j)
-      variable_found j z = behind_then var_word Ended x (found w j) (closed_found OneWord semicolon word_framed (λ us limit n b m y ends. tt) y z)
+      pub variable_length : (j : ℕ) (why : GrammarFault) → RightLength ts l (stopped j why) → RightVariable ts i (stopped j why)
+      variable_length j why z = after_word (stopped j why) (closed_stop OneLength semicolon length_framed length_ends z)
+
+      module _ (n : Option Length) (m : ℕ) (z : RightLength ts l (found n m)) where
+        pub variable_open : (j : ℕ) (why : GrammarFault) → RightToken ts semicolon m (stopped j why) → RightVariable ts i (stopped j why)
+        variable_open j why v = after_word (stopped j why) (closed_missing OneLength semicolon length_framed length_ends z v)
+
+        pub variable_found : (j : ℕ) → RightToken ts semicolon m (found tt j) → RightVariable ts i (found (declaration (w, n)) j)
+        variable_found j v = after_word (found n j) (closed_found OneLength semicolon length_framed length_ends z v)
 
   module _ (is : slice_get ts i ≡ Some var_word) where
-    pub variables_more : (w : Word) (k : ℕ) → RightVariable ts i (found w k) → (o : ParseResult (List Word)) → RightVariables ts k o →
-        RightVariables ts i (map_result (λ (more : List Word). w ∷ more) o)
-    variables_more w k x o rest = star_more OneVariable Anywhere EndsVariables ts i variable_framed (λ us limit n b m y ends. tt) (λ us at ends. ends (at ∙ is)) w k x o rest
+    pub variables_more : (v : Declaration) (k : ℕ) → RightVariable ts i (found v k) → (o : ParseResult (List Declaration)) → RightVariables ts k o →
+        RightVariables ts i (map_result (λ (more : List Declaration). v ∷ more) o)
+    variables_more v k x o rest = star_more OneVariable Anywhere EndsVariables ts i variable_framed (λ us limit n b m y ends. tt) (λ us at ends. ends (at ∙ is)) v k x o rest
 
     pub variables_stop : (j : ℕ) (why : GrammarFault) → RightVariable ts i (stopped j why) → RightVariables ts i (stopped j why)
     variables_stop j why x = star_stop OneVariable Anywhere EndsVariables ts i variable_framed (λ us limit n b m y ends. tt) (λ us at ends. ends (at ∙ is)) j why x
@@ -64,17 +183,17 @@ module _ (ts : List TokenKind) (i : ℕ) where
   pub variables_none : (slice_get ts i ≡ Some var_word → ⊥) → i ≤ length ts → RightVariables ts i (found [] i)
   variables_none is_not within = star_none OneVariable ts i (λ us limit a k at x. is_not (sym at ∙ x.1.0)) within
 
-pub variable_longer : (us : List TokenKind) (limit i : ℕ) (w : Word) (j : ℕ) → OneVariable us limit i w j → i < j
-variable_longer us limit i w j x = let up = ended_framed.up us limit x.0 w j x.2 in omega (arith, x.1.1)
+pub variable_longer : (us : List TokenKind) (limit i : ℕ) (v : Declaration) (j : ℕ) → OneVariable us limit i v j → i < j
+variable_longer us limit i v j x = let up = named_framed.up us limit x.0 (v.name, v.length) j x.2 in omega (arith, x.1.1)
 
--- name { {var name ;} {stmt} }
+-- name { {variable} {stmt} }
 abbrev Inner : Rel (List StatementTree)
 Inner = Closed (Star (OneStatement 0 false)) close_brace
 
-abbrev Declared : Rel (List Word × List StatementTree)
+abbrev Declared : Rel (List Declaration × List StatementTree)
 Declared = Seq (Star OneVariable) Inner
 
-abbrev Rest : Rel (Word × (List Word × List StatementTree))
+abbrev Rest : Rel (Word × (List Declaration × List StatementTree))
 Rest = Seq OneWord (Behind open_brace Declared)
 
 statements_framed : Framed (Star (OneStatement 0 false))
@@ -114,11 +233,11 @@ variables_follow us limit k [] j x ends = λ is.
     let e : Some close_brace ≡ Some var_word = sym x.2.0 ∙ (ap (slice_get us) x.1 ∙ is) in absurd (cc)
 variables_follow us limit k (s ∷ ss) j x ends = λ is. none_begins us limit 0 false (subst (λ o. BeginsNone false o) (sym is) no_jump_var) x.1.1
 
-abbrev body_of : ℕ → BodyKind → Word × (List Word × List StatementTree) → BodyTree
+abbrev body_of : ℕ → BodyKind → Word × (List Declaration × List StatementTree) → BodyTree
 body_of i b p = record { kind = b; at = i; name = p.0; variables = p.1.0; statements = block_of p.1.1 }
 
 -- what stands behind the first word of a body
-abbrev rest_tree : BodyTree → List StatementTree → Word × (List Word × List StatementTree)
+abbrev rest_tree : BodyTree → List StatementTree → Word × (List Declaration × List StatementTree)
 rest_tree b ss = (b.name, (b.variables, ss))
 
 rest_from : (us : List TokenKind) (limit i : ℕ) (b : BodyTree) (j : ℕ) (x : OneBody us limit i b j) → Rest us limit x.1 (rest_tree b x.9) j
@@ -141,7 +260,7 @@ module _ (ts : List TokenKind) (i : ℕ) (b : BodyKind) (is : option_and_then bo
   one_kind : (a : BodyKind) → Some a ≡ Some b → a ≡ b
   one_kind a e = cc
 
-  body_to : (us : List TokenKind) (limit : ℕ) (p : Word × (List Word × List StatementTree)) (j : ℕ) → Behind word.0 Rest us limit i p j → OneBody us limit i (body_of i b p) j
+  body_to : (us : List TokenKind) (limit : ℕ) (p : Word × (List Declaration × List StatementTree)) (j : ℕ) → Behind word.0 Rest us limit i p j → OneBody us limit i (body_of i b p) j
   body_to us limit p j r = (
     refl,
     r.0,
@@ -160,7 +279,7 @@ module _ (ts : List TokenKind) (i : ℕ) (b : BodyKind) (is : option_and_then bo
   )
 
   body_back : (us : List TokenKind) (limit : ℕ) (e : BodyTree) (j : ℕ) → slice_get us i ≡ slice_get ts i → OneBody us limit i e j →
-      (p : Word × (List Word × List StatementTree)) × (e ≡ body_of i b p) × Behind word.0 Rest us limit i p j × Unit {0}
+      (p : Word × (List Declaration × List StatementTree)) × (e ≡ body_of i b p) × Behind word.0 Rest us limit i p j × Unit {0}
   body_back us limit e j at r =
       let one = one_kind e.kind (sym r.2.0 ∙ (ap (option_and_then body_kind_of) at ∙ is)) in (
         rest_tree e r.9,
@@ -169,7 +288,7 @@ module _ (ts : List TokenKind) (i : ℕ) (b : BodyKind) (is : option_and_then bo
         tt,
       )
 
-  body_as : (o : ParseResult (Word × (List Word × List StatementTree))) → Right (At Rest (i + 1)) Anywhere ts (i + 1) o → RightBody ts i (map_result (body_of i b) o)
+  body_as : (o : ParseResult (Word × (List Declaration × List StatementTree))) → Right (At Rest (i + 1)) Anywhere ts (i + 1) o → RightBody ts i (map_result (body_of i b) o)
   body_as o x = right_as (Behind word.0 Rest) OneBody (body_of i b) (λ us limit p j r. body_to us limit p j r)
       (λ us limit e j at r ends. body_back us limit e j at r) o (behind_then word.0 Rest (token_found word.0 ts i word.1) o x)
 
@@ -177,8 +296,8 @@ module _ (ts : List TokenKind) (i : ℕ) (b : BodyKind) (is : option_and_then bo
   body_name j why x = body_as (stopped j why) (seq_stop OneWord (Behind open_brace Declared) word_framed braces_fills (λ us limit n b m y ends. tt) x)
 
   module _ (w : Word) (k : ℕ) (x : RightWord ts (i + 1) (found w k)) where
-    after_name : (o : ParseResult (List Word × List StatementTree)) → Right (At (Behind open_brace Declared) k) Anywhere ts k o →
-        RightBody ts i (map_result (λ (q : List Word × List StatementTree). body_of i b (w, q)) o)
+    after_name : (o : ParseResult (List Declaration × List StatementTree)) → Right (At (Behind open_brace Declared) k) Anywhere ts k o →
+        RightBody ts i (map_result (λ (q : List Declaration × List StatementTree). body_of i b (w, q)) o)
     after_name (found q j) y = body_as (found (w, q) j) (seq_then OneWord (Behind open_brace Declared) word_framed (λ us limit n b m y ends. tt) x (found q j) y)
     after_name (stopped j why) y = body_as (stopped j why) (seq_then OneWord (Behind open_brace Declared) word_framed (λ us limit n b m y ends. tt) x (stopped j why) y)
 
@@ -190,7 +309,7 @@ module _ (ts : List TokenKind) (i : ℕ) (b : BodyKind) (is : option_and_then bo
       body_variables j why z = after_name (stopped j why) (behind_then open_brace Declared y (stopped j why)
           (seq_stop (Star OneVariable) Inner variables_framed inner_fills variables_follow z))
 
-      module _ (vs : List Word) (m : ℕ) (z : RightVariables ts l (found vs m)) where
+      module _ (vs : List Declaration) (m : ℕ) (z : RightVariables ts l (found vs m)) where
         after_variables : (o : ParseResult (List StatementTree)) → Right (At Inner m) Anywhere ts m o →
             RightBody ts i (map_result (λ (ss : List StatementTree). body_of i b (w, (vs, ss))) o)
         after_variables (found ss j) v = after_name (found (vs, ss) j) (behind_then open_brace Declared y (found (vs, ss) j)

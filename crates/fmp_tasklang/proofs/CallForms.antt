@@ -14,7 +14,7 @@ use Rattle.fmp_tasklang.specs.Trees.{ExpressionTree, StatementTree, Block, BodyT
 use Rattle.fmp_tasklang.specs.Blocks.{block_of, choice}
 use Rattle.fmp_tasklang.specs.Calls.{call_parts, ArgumentTree, value, out, values_of, out_from, Called, call_tree, OnePart, Parts, OneCall}
 use Rattle.fmp_tasklang.specs.CallForms.{CallFits, StatementFits, BlockFits, CallsFit}
-use Rattle.fmp_tasklang.specs.Statements.{jump_of, IsStatement, an_assignment, a_call, a_jump, an_if, a_while, IsIf, if_chosen, IsElse, no_else, an_else, IsOther, a_block, another_if, IsBlock, braces, AreStatements, no_statement, a_statement}
+use Rattle.fmp_tasklang.specs.Statements.{jump_of, IsStatement, an_assignment, an_element_assignment, a_call, a_jump, an_if, a_while, IsIf, if_chosen, IsElse, no_else, an_else, IsOther, a_block, another_if, IsBlock, braces, AreStatements, no_statement, a_statement}
 use Rattle.fmp_tasklang.specs.Grammar.{Bodies}
 
 -- how many values a form has, and whether it has an out place
@@ -121,6 +121,7 @@ module _ (ts : List TokenKind) (limit : ℕ) where
     pub statement_fits :
         {d : ℕ} {loop : Bool} {i : ℕ} {s : StatementTree} {j : ℕ} → IsStatement ts limit d loop i s j → StatementFits s
     statement_fits (an_assignment a r e semi) = tt
+    statement_fits (an_element_assignment a w x eq e semi) = tt
     statement_fits {d = d} (a_call r a c b res call semi is) =
         subst StatementFits (sym is) (call_fits d ts limit r c a b call)
     statement_fits {loop = loop} {i = i} (a_jump x semi) = subst FitsIf x.0 (token_fits loop (slice_get ts i))

@@ -5,7 +5,7 @@ use Rattle.fmp_lex.specs.declared.reading.GrammarFault.TheVariants.{Syntax, Dept
 use Rattle.std.proofs.lemmas.Option.{slice_get_within}
 use Rattle.fmp_lex.specs.Reading.{Rel, At, Same, Allows, ParseResult, found, stopped, Right}
 use Rattle.fmp_lex.proofs.Lists.{get_take, take_long}
-use Rattle.fmp_lex.proofs.Sequences.{Fills, right_as, token_stopped}
+use Rattle.fmp_lex.proofs.Sequences.{Framed, Fills, right_as, token_stopped}
 use Rattle.fmp_lex.proofs.Repetitions.{Behind, behind_stop}
 
 -- the token that a reader's function read something of
@@ -33,6 +33,12 @@ module _ {A : Type 0} (d : ℕ) (X : Rel A) where
   pub deeper_then : {EndX : List TokenKind → ℕ → Type 0} {ts : List TokenKind} {i : ℕ} → d < 64 → (o : ParseResult A) →
       Right (At X i) EndX ts i o → Right (At (Deeper d X) i) EndX ts i o
   deeper_then fits o x = right_same X (Deeper d X) (λ us limit a j r. ((λ lt. fits), r)) (λ us limit e j at r ends. (r.1, ends)) o x
+
+  pub deeper_framed : Framed X → Framed (Deeper d X)
+  deeper_framed fx = record {
+    up = λ us limit i a j x. fx.up us limit i a j x.1;
+    same = λ ts us limit lower i a j low x same. ((λ lt. x.0 (omega (arith, lt, low))), fx.same ts us limit lower i a j low x.1 same);
+  }
 
   pub deeper_fills : Fills X → Fills (Deeper d X)
   deeper_fills gx us limit low = let x = gx us limit low in

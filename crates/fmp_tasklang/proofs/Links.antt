@@ -1,5 +1,5 @@
 -- Chains of operators of one level.
-use Rattle.std.proofs.Common.{◌≡◌, ℕ, zero, suc, ◌+◌, ◌-◌, ◌≤◌, ◌<◌, List, [], ◌∷◌, length, slice_get, Option, Some, option_and_then, refl, sym, ap, subst, ◌∙◌, arith}
+use Rattle.std.proofs.Common.{◌≡◌, ℕ, zero, suc, ◌+◌, ◌-◌, ◌≤◌, ◌<◌, List, [], ◌∷◌, length, slice_get, Option, Some, None, option_and_then, refl, sym, ap, subst, ◌∙◌, arith}
 use Rattle.fmp_lex.specs.declared.reading.GrammarFault.{GrammarFault}
 use Rattle.fmp_lex.specs.declared.token.TokenKind.{TokenKind}
 use Rattle.fmp_lex.specs.Reading.{Rel, At, Seq, Star, ParseResult, found, stopped, map_result, Right}
@@ -11,7 +11,7 @@ use Rattle.fmp_tasklang.specs.Views.{LinkTree, chain_tree}
 use Rattle.fmp_tasklang.specs.Expressions.{operator_of, IsOperand, IsExpression, an_operand, a_chain, AreLinks, no_link, a_link}
 use Rattle.fmp_tasklang.specs.Reading.{EndsExpression, OneOperand, OneExpression, OneLink, RightOperand, RightExpression, RightLinks}
 use Rattle.fmp_tasklang.proofs.Layers.{token_there, right_same}
-use Rattle.fmp_tasklang.proofs.Operands.{expression_framed, link_framed}
+use Rattle.fmp_tasklang.proofs.Operands.{open_bracket, expression_framed, link_framed}
 
 one_operator : (a b : ℕ) (x y : Operator) → ◌≡◌ {A = Option (ℕ × Operator)} (Some (a, x)) (Some (b, y)) → (a ≡ b) × (x ≡ y)
 one_operator a b x y e =
@@ -45,14 +45,19 @@ module _ (us : List TokenKind) (limit d m : ℕ) where
 -- an operand is an expression of the tightest level
 pub expression_zero : (ts : List TokenKind) (d l i : ℕ) → l ≡ 0 → (o : ParseResult ExpressionTree) → RightOperand ts d i o → RightExpression ts d l i o
 expression_zero ts d l i at o x = right_same (OneOperand d) (OneExpression d l) (λ us limit e j r. an_operand at r)
-    (λ us limit e j same r ends. (expression_zero_back us limit d 0 at r, tt)) o x
+    (λ us limit e j same r ends. (expression_zero_back us limit d 0 at r, ends.0)) o x
 
 module _ (d m : ℕ) where
   -- where a chain ends, or another link of it begins, an operand of it ends
   pub links_follow : Follows (EndsExpression m) (Star (OneLink d m)) (EndsExpression (m + 1))
-  links_follow us limit k [] j s ends = λ n op is. let le = ends n op (subst (λ p. option_and_then operator_of (slice_get us p) ≡ Some (n, op)) (sym s) is) in omega arith
-  links_follow us limit k (l ∷ links) j s ends = λ n op is.
-      let one = one_operator m n l.operator op (sym s.1.1.0 ∙ is) in let e = one.0 in omega arith
+  links_follow us limit k [] j s ends = (
+    (λ is. ends.0 (subst (λ p. slice_get us p ≡ Some open_bracket) (sym s) is)),
+    (λ n op is. let le = ends.1 n op (subst (λ p. option_and_then operator_of (slice_get us p) ≡ Some (n, op)) (sym s) is) in omega arith),
+  )
+  links_follow us limit k (l ∷ links) j s ends = (
+    (λ is. let e : ◌≡◌ {A = Option (ℕ × Operator)} None (Some (m, l.operator)) = ap (option_and_then operator_of) (sym is) ∙ s.1.1.0 in absurd (cc)),
+    (λ n op is. let one = one_operator m n l.operator op (sym s.1.1.0 ∙ is) in let e = one.0 in omega arith),
+  )
 
   module _ (ts : List TokenKind) (l i : ℕ) (at : l ≡ m + 1) where
     chain_as : (o : ParseResult (ExpressionTree × List LinkTree)) → Right (At (Seq (OneExpression d m) (Star (OneLink d m))) i) (EndsExpression (m + 1)) ts i o →
@@ -98,7 +103,7 @@ module _ (d m : ℕ) where
       link_right o x = link_as o (behind_then sign.0 (OneExpression d m) (token_found sign.0 ts i sign.1) o x)
 
       goes_on : (us : List TokenKind) → slice_get us i ≡ slice_get ts i → EndsExpression (m + 1) us i → ⊥
-      goes_on us at ends = let le = ends m op (ap (option_and_then operator_of) at ∙ is) in absurd (omega arith)
+      goes_on us at ends = let le = ends.1 m op (ap (option_and_then operator_of) at ∙ is) in absurd (omega arith)
 
       pub links_more : (e : ExpressionTree) (k : ℕ) → RightExpression ts d m (i + 1) (found e k) → (o : ParseResult (List LinkTree)) → RightLinks ts d m k o →
           RightLinks ts d m i (map_result (λ (more : List LinkTree). record { operator = op; operand = e } ∷ more) o)

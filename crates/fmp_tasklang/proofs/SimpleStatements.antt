@@ -2,18 +2,18 @@
 use Rattle.std.proofs.Common.{◌≡◌, ℕ, ◌+◌, ◌<◌, ◌≤◌, Bool, List, length, slice_get, Some, None, option_and_then, refl, sym, ap, ◌∙◌, arith}
 use Rattle.fmp_lex.specs.declared.reading.GrammarFault.{GrammarFault}
 use Rattle.fmp_lex.specs.declared.token.TokenKind.{TokenKind}
-use Rattle.fmp_lex.specs.Reading.{Rel, At, Seq, Item, ParseResult, found, stopped, map_result, Right, Anywhere, RightToken, Same}
-use Rattle.fmp_lex.proofs.Sequences.{Framed, Fills, item_framed, item_found, seq_then, seq_stop, right_as}
+use Rattle.fmp_lex.specs.Reading.{Rel, At, Seq, OneToken, Item, ParseResult, found, stopped, map_result, Right, Anywhere, RightToken, Same}
+use Rattle.fmp_lex.proofs.Sequences.{Framed, Fills, Follows, item_framed, item_found, seq_then, seq_stop, right_as}
 use Rattle.fmp_lex.proofs.Repetitions.{Behind, Closed, behind_fills, behind_then, behind_stop, closed_fills, closed_found, closed_missing, closed_stop}
 use Rattle.fmp_tasklang.specs.declared.trees.Word.{Word}
 use Rattle.fmp_tasklang.specs.Trees.{ExpressionTree, StatementTree, service_call}
 use Rattle.fmp_tasklang.specs.Expressions.{loosest}
 use Rattle.fmp_tasklang.specs.Calls.{service_of, Called, call_tree, OneCall}
 use Rattle.fmp_tasklang.specs.Statements.{jump_of}
-use Rattle.fmp_tasklang.specs.Reading.{SourceTree, by_value, by_call, assigned, EndsExpression, OneWord, OneExpression, OneSource, Assignment, PlainCall, RightWord, RightExpression, RightCall, RightCondition, RightSource, RightAssignment, RightPlainCall, RightJump}
+use Rattle.fmp_tasklang.specs.Reading.{SourceTree, by_value, by_call, ChangeTree, to_variable, to_element, changed, EndsExpression, OneWord, Bracketed, OneExpression, OneSource, OneVariableChange, OneElementChange, OneChange, Assignment, PlainCall, RightWord, RightBracketed, RightExpression, RightCall, RightCondition, RightSource, RightVariableChange, RightElementChange, RightChange, RightAssignment, RightPlainCall, RightJump}
 use Rattle.fmp_tasklang.proofs.Arguments.{call_framed}
 use Rattle.fmp_tasklang.proofs.Families.{family, service_family}
-use Rattle.fmp_tasklang.proofs.Operands.{left, right, word_framed, expression_framed, expression_fills, closes, Ended, ended_fills, ended_stop, ended_then}
+use Rattle.fmp_tasklang.proofs.Operands.{left, right, open_bracket, word_framed, bracketed_framed, expression_framed, expression_fills, closes, Ended, ended_fills, ended_stop, ended_then}
 use Rattle.fmp_tasklang.proofs.StatementFrames.{semicolon, equals, expression_family}
 
 module _ (ts : List TokenKind) (d : ℕ) where
@@ -24,14 +24,14 @@ module _ (ts : List TokenKind) (d : ℕ) where
 
     module _ (k : ℕ) (x : RightToken ts left i (found tt k)) where
       pub condition_stop : (j : ℕ) (why : GrammarFault) → RightExpression ts d loosest k (stopped j why) → RightCondition ts d i (stopped j why)
-      condition_stop j why y = behind_then left (Ended d right) x (stopped j why) (ended_stop d right refl ts k j why y)
+      condition_stop j why y = behind_then left (Ended d right) x (stopped j why) (ended_stop d right (refl, refl) ts k j why y)
 
       module _ (e : ExpressionTree) (l : ℕ) (y : RightExpression ts d loosest k (found e l)) where
         pub condition_open : (j : ℕ) (why : GrammarFault) → RightToken ts right l (stopped j why) → RightCondition ts d i (stopped j why)
-        condition_open j why z = behind_then left (Ended d right) x (stopped j why) (ended_then d right refl ts k e l y (stopped j why) z)
+        condition_open j why z = behind_then left (Ended d right) x (stopped j why) (ended_then d right (refl, refl) ts k e l y (stopped j why) z)
 
         pub condition_found : (j : ℕ) → RightToken ts right l (found tt j) → RightCondition ts d i (found e j)
-        condition_found j z = behind_then left (Ended d right) x (found e j) (ended_then d right refl ts k e l y (found tt j) z)
+        condition_found j z = behind_then left (Ended d right) x (found e j) (ended_then d right (refl, refl) ts k e l y (found tt j) z)
 
   -- expr | call
   module _ (i : ℕ) where
@@ -68,47 +68,106 @@ module _ (ts : List TokenKind) (d : ℕ) where
   source_fills us limit low = let x = expression_fills d loosest us limit low in
       record { other = x.other; same = x.same; long = x.long; tree = by_value x.tree; reads = x.reads }
 
-  -- name = source ;
+  -- = source ;
   abbrev Stored : Rel SourceTree
   Stored = Closed (OneSource d) semicolon
 
   stored_fills : Fills Stored
   stored_fills = closed_fills (OneSource d) semicolon source_framed source_fills
 
-  abbrev Assigning : Rel (Word × SourceTree)
-  Assigning = Seq OneWord (Behind equals Stored)
+  source_closed : Follows (EndsExpression loosest) (OneToken semicolon) Anywhere
+  source_closed = closes semicolon (refl, refl)
 
   module _ (i : ℕ) where
-    assignment_as : (o : ParseResult (Word × SourceTree)) → Right (At Assigning i) Anywhere ts i o →
-        RightAssignment ts d i (map_result (λ (p : Word × SourceTree). assigned p.0 p.1) o)
-    assignment_as o x = right_as Assigning (Assignment d) (λ p. assigned p.0 p.1)
-        (λ us limit p j s. (p.0, p.1, refl, s.0, s.1, s.2.0, s.2.1, s.2.2.0, s.2.2.1, s.2.2.2))
-        (λ us limit e j at r ends. ((r.0, r.1), r.2, (r.3, r.4, (r.5, r.6, (r.7, r.8, r.9))), tt)) o x
+    pub equals_stop : (j : ℕ) (why : GrammarFault) → RightToken ts equals i (stopped j why) → RightVariableChange ts d i (stopped j why)
+    equals_stop j why y = behind_stop equals Stored stored_fills y
 
-    pub target_stop : (j : ℕ) (why : GrammarFault) → RightWord ts i (stopped j why) → RightAssignment ts d i (stopped j why)
-    target_stop j why x = assignment_as (stopped j why) (seq_stop OneWord (Behind equals Stored) word_framed (behind_fills equals Stored stored_fills) (λ us limit n b m y ends. tt) x)
+    module _ (l : ℕ) (y : RightToken ts equals i (found tt l)) where
+      pub source_stop : (j : ℕ) (why : GrammarFault) → RightSource ts d l (stopped j why) → RightVariableChange ts d i (stopped j why)
+      source_stop j why z = behind_then equals Stored y (stopped j why) (closed_stop (OneSource d) semicolon source_framed source_closed z)
 
-    module _ (w : Word) (k : ℕ) (x : RightWord ts i (found w k)) where
-      after_target : (o : ParseResult SourceTree) → Right (At (Behind equals Stored) k) Anywhere ts k o → RightAssignment ts d i (map_result (assigned w) o)
-      after_target (found r j) y = assignment_as (found (w, r) j) (seq_then OneWord (Behind equals Stored) word_framed (λ us limit n b m y ends. tt) x (found r j) y)
-      after_target (stopped j why) y = assignment_as (stopped j why) (seq_then OneWord (Behind equals Stored) word_framed (λ us limit n b m y ends. tt) x (stopped j why) y)
+      module _ (r : SourceTree) (m : ℕ) (z : RightSource ts d l (found r m)) where
+        pub source_open : (j : ℕ) (why : GrammarFault) → RightToken ts semicolon m (stopped j why) → RightVariableChange ts d i (stopped j why)
+        source_open j why v = behind_then equals Stored y (stopped j why) (closed_missing (OneSource d) semicolon source_framed source_closed z v)
 
-      pub equals_stop : (j : ℕ) (why : GrammarFault) → RightToken ts equals k (stopped j why) → RightAssignment ts d i (stopped j why)
-      equals_stop j why y = after_target (stopped j why) (behind_stop equals Stored stored_fills y)
+        pub source_found : (j : ℕ) → RightToken ts semicolon m (found tt j) → RightVariableChange ts d i (found r j)
+        source_found j v = behind_then equals Stored y (found r j) (closed_found (OneSource d) semicolon source_framed source_closed z v)
+
+  -- [ expr ] = expr ;
+  abbrev Valued : Rel ExpressionTree
+  Valued = Behind equals (Ended d semicolon)
+
+  valued_fills : Fills Valued
+  valued_fills = behind_fills equals (Ended d semicolon) (ended_fills d semicolon)
+
+  module _ (i : ℕ) where
+    pub element_stop : (j : ℕ) (why : GrammarFault) → RightBracketed ts d i (stopped j why) → RightElementChange ts d i (stopped j why)
+    element_stop j why x = seq_stop (Bracketed d) Valued (bracketed_framed d) valued_fills (λ us limit n b m y ends. tt) x
+
+    module _ (index : ExpressionTree) (k : ℕ) (x : RightBracketed ts d i (found index k)) where
+      after_index : (o : ParseResult ExpressionTree) → Right (At Valued k) Anywhere ts k o → RightElementChange ts d i (map_result (λ (e : ExpressionTree). (index, e)) o)
+      after_index (found e j) y = seq_then (Bracketed d) Valued (bracketed_framed d) (λ us limit n b m y ends. tt) x (found e j) y
+      after_index (stopped j why) y = seq_then (Bracketed d) Valued (bracketed_framed d) (λ us limit n b m y ends. tt) x (stopped j why) y
+
+      pub element_equals : (j : ℕ) (why : GrammarFault) → RightToken ts equals k (stopped j why) → RightElementChange ts d i (stopped j why)
+      element_equals j why y = after_index (stopped j why) (behind_stop equals (Ended d semicolon) (ended_fills d semicolon) y)
 
       module _ (l : ℕ) (y : RightToken ts equals k (found tt l)) where
-        pub source_stop : (j : ℕ) (why : GrammarFault) → RightSource ts d l (stopped j why) → RightAssignment ts d i (stopped j why)
-        source_stop j why z = after_target (stopped j why) (behind_then equals Stored y (stopped j why)
-            (closed_stop (OneSource d) semicolon source_framed (closes semicolon refl) z))
+        pub element_value_stop : (j : ℕ) (why : GrammarFault) → RightExpression ts d loosest l (stopped j why) → RightElementChange ts d i (stopped j why)
+        element_value_stop j why z = after_index (stopped j why) (behind_then equals (Ended d semicolon) y (stopped j why) (ended_stop d semicolon (refl, refl) ts l j why z))
 
-        module _ (r : SourceTree) (m : ℕ) (z : RightSource ts d l (found r m)) where
-          pub assignment_open : (j : ℕ) (why : GrammarFault) → RightToken ts semicolon m (stopped j why) → RightAssignment ts d i (stopped j why)
-          assignment_open j why v = after_target (stopped j why) (behind_then equals Stored y (stopped j why)
-              (closed_missing (OneSource d) semicolon source_framed (closes semicolon refl) z v))
+        module _ (e : ExpressionTree) (m : ℕ) (z : RightExpression ts d loosest l (found e m)) where
+          pub element_open : (j : ℕ) (why : GrammarFault) → RightToken ts semicolon m (stopped j why) → RightElementChange ts d i (stopped j why)
+          element_open j why v = after_index (stopped j why) (behind_then equals (Ended d semicolon) y (stopped j why)
+              (ended_then d semicolon (refl, refl) ts l e m z (stopped j why) v))
 
-          pub assignment_found : (j : ℕ) → RightToken ts semicolon m (found tt j) → RightAssignment ts d i (found (assigned w r) j)
-          assignment_found j v = after_target (found r j) (behind_then equals Stored y (found r j)
-              (closed_found (OneSource d) semicolon source_framed (closes semicolon refl) z v))
+          pub element_found : (j : ℕ) → RightToken ts semicolon m (found tt j) → RightElementChange ts d i (found (index, e) j)
+          element_found j v = after_index (found e j) (behind_then equals (Ended d semicolon) y (found e j)
+              (ended_then d semicolon (refl, refl) ts l e m z (found tt j) v))
+
+  -- which of the two it is
+  module _ (i : ℕ) where
+    variable_back : (us : List TokenKind) (limit : ℕ) (e : ChangeTree) (j : ℕ) → (slice_get us i ≡ Some open_bracket → ⊥) → OneChange d us limit i e j →
+        (r : SourceTree) × (e ≡ to_variable r) × OneVariableChange d us limit i r j × Unit {0}
+    variable_back us limit (to_variable r) j is_not x = (r, refl, x, tt)
+    variable_back us limit (to_element p) j is_not x = absurd (is_not x.1.1.1.0)
+
+    pub change_variable : (slice_get ts i ≡ Some open_bracket → ⊥) → (o : ParseResult SourceTree) → RightVariableChange ts d i o → RightChange ts d i (map_result to_variable o)
+    change_variable is_not o x = right_as (OneVariableChange d) (OneChange d) to_variable (λ us limit r j x. x)
+        (λ us limit e j at r ends. variable_back us limit e j (λ is. is_not (sym at ∙ is)) r) o x
+
+    element_back : (us : List TokenKind) (limit : ℕ) (e : ChangeTree) (j : ℕ) → slice_get us i ≡ Some open_bracket → OneChange d us limit i e j →
+        (p : ExpressionTree × ExpressionTree) × (e ≡ to_element p) × OneElementChange d us limit i p j × Unit {0}
+    element_back us limit (to_variable r) j is x = let e : Some open_bracket ≡ Some equals = sym is ∙ x.1.0 in absurd (cc)
+    element_back us limit (to_element p) j is x = (p, refl, x, tt)
+
+    pub change_element : slice_get ts i ≡ Some open_bracket → (o : ParseResult (ExpressionTree × ExpressionTree)) → RightElementChange ts d i o →
+        RightChange ts d i (map_result to_element o)
+    change_element is o x = right_as (OneElementChange d) (OneChange d) to_element (λ us limit p j x. x)
+        (λ us limit e j at r ends. element_back us limit e j (at ∙ is) r) o x
+
+  change_fills : Fills (OneChange d)
+  change_fills us limit low = let x = behind_fills equals Stored stored_fills us limit low in
+      record { other = x.other; same = x.same; long = x.long; tree = to_variable x.tree; reads = x.reads }
+
+  -- name = source ; | name [ expr ] = expr ;
+  abbrev Assigning : Rel (Word × ChangeTree)
+  Assigning = Seq OneWord (OneChange d)
+
+  module _ (i : ℕ) where
+    assignment_as : (o : ParseResult (Word × ChangeTree)) → Right (At Assigning i) Anywhere ts i o →
+        RightAssignment ts d i (map_result (λ (p : Word × ChangeTree). changed p.0 p.1) o)
+    assignment_as o x = right_as Assigning (Assignment d) (λ p. changed p.0 p.1)
+        (λ us limit p j s. (p.0, p.1, refl, s.0, s.1, s.2))
+        (λ us limit e j at r ends. ((r.0, r.1), r.2, (r.3, r.4, r.5), tt)) o x
+
+    pub target_stop : (j : ℕ) (why : GrammarFault) → RightWord ts i (stopped j why) → RightAssignment ts d i (stopped j why)
+    target_stop j why x = assignment_as (stopped j why) (seq_stop OneWord (OneChange d) word_framed change_fills (λ us limit n b m y ends. tt) x)
+
+    pub assignment_then : (w : Word) (k : ℕ) → RightWord ts i (found w k) → (o : ParseResult ChangeTree) → RightChange ts d k o →
+        RightAssignment ts d i (map_result (changed w) o)
+    assignment_then w k x (found c j) y = assignment_as (found (w, c) j) (seq_then OneWord (OneChange d) word_framed (λ us limit n b m y ends. tt) x (found c j) y)
+    assignment_then w k x (stopped j why) y = assignment_as (stopped j why) (seq_then OneWord (OneChange d) word_framed (λ us limit n b m y ends. tt) x (stopped j why) y)
 
   -- call ;
   module _ (i : ℕ) where

@@ -7,24 +7,26 @@ use Rattle.fmp_lex.proofs.Sequences.{token_found}
 use Rattle.fmp_lex.specs.Forms.{mark_kind}
 use Rattle.fmp_tasklang.specs.declared.forms.Part.{Part}
 use Rattle.fmp_tasklang.specs.declared.forms.Part.TheVariants as part
+use Rattle.fmp_tasklang.specs.declared.trees.Declaration.{Declaration}
+use Rattle.fmp_tasklang.specs.declared.trees.Length.{Length}
 use Rattle.fmp_tasklang.specs.declared.trees.Word.{Word}
 use Rattle.fmp_tasklang.specs.Trees.{ExpressionTree, number, StatementTree, service_call, Block, BodyTree}
 use Rattle.fmp_tasklang.specs.Views.{LinkTree}
-use Rattle.fmp_tasklang.specs.Expressions.{token_number, name_of, unary_of, loosest, IsWord, IsOperand, a_number, a_name, a_group, a_unary, IsExpression, an_operand, a_chain, AreLinks, no_link, a_link}
+use Rattle.fmp_tasklang.specs.Expressions.{token_number, name_of, unary_of, loosest, IsWord, IsOperand, a_number, a_name, a_group, a_unary, IsIndex, no_index, an_index, IsExpression, an_operand, a_chain, AreLinks, no_link, a_link}
 use Rattle.fmp_tasklang.specs.Calls.{service_of, call_parts, ArgumentTree, value, out, Called, called, call_tree, OnePart, Parts, OneCall}
-use Rattle.fmp_tasklang.specs.Statements.{jump_of, IsCondition, IsStatement, an_assignment, a_call, a_jump, an_if, a_while, IsIf, if_chosen, IsElse, no_else, an_else, IsOther, a_block, another_if, IsBlock, braces, AreStatements, no_statement, a_statement}
-use Rattle.fmp_tasklang.specs.Grammar.{body_kind_of, OneVariable, OneBody, Bodies}
-use Rattle.fmp_tasklang.specs.Reading.{EndsExpression, EndsElse, EndsStatements, EndsVariables, EndsBodies, RightWord, RightOperand, RightExpression, RightLinks, RightPart, RightParts, RightCall, RightCondition, assigned, by_value, by_call, RightStatement, RightIf, RightElse, RightOther, RightBlock, RightStatements, RightVariable, RightVariables, RightBody, RightBodies}
+use Rattle.fmp_tasklang.specs.Statements.{jump_of, IsCondition, IsBracketed, IsStatement, an_assignment, an_element_assignment, a_call, a_jump, an_if, a_while, IsIf, if_chosen, IsElse, no_else, an_else, IsOther, a_block, another_if, IsBlock, braces, AreStatements, no_statement, a_statement}
+use Rattle.fmp_tasklang.specs.Grammar.{body_kind_of, number_of, OneLength, OneVariable, OneBody, Bodies}
+use Rattle.fmp_tasklang.specs.Reading.{EndsOperand, EndsExpression, EndsElse, EndsStatements, EndsVariables, EndsBodies, RightWord, RightOperand, RightExpression, RightLinks, RightPart, RightParts, RightCall, RightCondition, assigned, by_value, by_call, changed, to_variable, to_element, OneCount, RightIndex, RightBracketed, RightCount, RightLength, RightStatement, RightIf, RightElse, RightOther, RightBlock, RightStatements, RightVariable, RightVariables, RightBody, RightBodies}
 use Rattle.fmp_tasklang.proofs.Layers.{token_there}
-use Rattle.fmp_tasklang.proofs.Operands.{left, right, word_here, word_found, number_found, name_as, group_then, unary_then, ended_then, closes, links_up}
+use Rattle.fmp_tasklang.proofs.Operands.{left, right, open_bracket, close_bracket, word_here, word_found, number_found, name_then, without_index, with_index, bracketed_then, index_up, group_then, unary_then, ended_then, closes, links_up}
 use Rattle.fmp_tasklang.proofs.Links.{expression_zero, chain_then, links_follow, links_more, links_none, to_star}
-use Rattle.fmp_tasklang.proofs.Arguments.{ampersand, no_operator, mark_as, value_found, out_found, parts_then, parts_none, arguments_as, call_as}
+use Rattle.fmp_tasklang.proofs.Arguments.{ampersand, mark_closes, mark_as, value_found, out_found, parts_then, parts_none, arguments_as, call_as}
 use Rattle.fmp_tasklang.proofs.Families.{family, service_family, name_excludes, name_starts}
 use Rattle.fmp_tasklang.proofs.StatementFrames.{open_brace, close_brace, semicolon, equals, if_word, none_begins, brace_begins_none, statements_up, expression_family}
 use Rattle.fmp_tasklang.proofs.StatementFrames as frames
-use Rattle.fmp_tasklang.proofs.SimpleStatements.{condition_found, source_call, source_value, assignment_found, plain_found, jump_found}
+use Rattle.fmp_tasklang.proofs.SimpleStatements.{condition_found, source_call, source_value, source_found, element_found, change_variable, change_element, assignment_then, plain_found, jump_found}
 use Rattle.fmp_tasklang.proofs.StatementPaths.{statement_call, statement_jump, statement_if, statement_assignment, while_body, if_otherwise, without_else, with_else, block_other, if_other, block_found, statements_none, statements_more, statements_follow}
-use Rattle.fmp_tasklang.proofs.BodyPaths.{var_word, variable_found, variables_more, variables_none, body_found, bodies_more, bodies_none, body_framed, ends_there}
+use Rattle.fmp_tasklang.proofs.BodyPaths.{var_word, count_here, count_found, length_none, length_found, length_ends, variable_found, variables_more, variables_none, body_found, bodies_more, bodies_none, body_framed, ends_there}
 use Rattle.fmp_tasklang.proofs.BodyPaths as paths
 
 module _ (ts : List TokenKind) where
@@ -43,25 +45,38 @@ module _ (ts : List TokenKind) where
       let base = word_found ts i w.name (there name_of i w.name x.1.0) x.1.0 in
       subst (λ k. RightWord ts i (found w k)) (sym x.1.1) (subst (λ v. RightWord ts i (found v (i + 1))) same base)
 
+  bracketed_right : (d i a b : ℕ) (e : ExpressionTree) (j : ℕ) → (i < l → d < 64) → IsToken ts open_bracket i a → RightExpression ts (d + 1) loosest a (found e b) →
+      IsToken ts close_bracket b j → RightBracketed ts d i (found e j)
+  bracketed_right d i a b e j fits x r y =
+      bracketed_then ts d i x.0 (fits (slice_get_within ts i open_bracket x.0)) (found e j) (ended_then (d + 1) close_bracket (refl, refl) ts (i + 1) e b
+      (subst (λ n. RightExpression ts (d + 1) loosest n (found e b)) x.1 r) (found tt j) (token_right close_bracket b j y))
+
   mutual
-    operand_right : {d i : ℕ} {e : ExpressionTree} {j : ℕ} → IsOperand ts l d i e j → RightOperand ts d i (found e j)
-    operand_right {d = d} {i = i} {j = j} (a_number {n = n} x) =
+    operand_right : {d i : ℕ} {e : ExpressionTree} {j : ℕ} → IsOperand ts l d i e j → EndsOperand ts j → j ≤ l → RightOperand ts d i (found e j)
+    operand_right {d = d} {i = i} {j = j} (a_number {n = n} x) ends within =
         subst (λ k. RightOperand ts d i (found (number n) k)) (sym x.1) (number_found ts d i n (there token_number i n x.0) x.0)
-    operand_right {d = d} {i = i} {j = j} (a_name {w = w} x) =
+    operand_right {d = d} {i = i} {j = j} (a_name {a = a} {w = w} {index = index} x y is) ends within =
         let no = name_excludes (slice_get ts i) w.name x.1.0 in
-        name_as ts d i no.0 no.1 no.2 (found w j) (word_right i w j x)
-    operand_right {d = d} {i = i} {e = e} {j = j} (a_group {a = a} {b = b} fits x inner y) =
+        subst (λ t. RightOperand ts d i (found t j)) (sym is)
+        (name_then ts d i no.0 no.1 no.2 w a (word_right i w a x) (found index j) (index_right y ends within))
+    operand_right {d = d} {i = i} {e = e} {j = j} (a_group {a = a} {b = b} fits x inner y) ends within =
         let lt = slice_get_within ts i left x.0 in
         let lb = slice_get_within ts b right y.0 in
-        let r = expression_right inner (closes right refl ts 0 b tt j y tt) (omega arith) in
-        group_then ts d i x.0 (fits lt) (found e j) (ended_then (d + 1) right refl ts (i + 1) e b
+        let r = expression_right inner (closes right (refl, refl) ts 0 b tt j y tt) (omega arith) in
+        group_then ts d i x.0 (fits lt) (found e j) (ended_then (d + 1) right (refl, refl) ts (i + 1) e b
         (subst (λ n. RightExpression ts (d + 1) loosest n (found e b)) x.1 r) (found tt j) (token_right right b j y))
-    operand_right {d = d} {i = i} {j = j} (a_unary {a = a} {op = op} {e = e} fits x inner) =
+    operand_right {d = d} {i = i} {j = j} (a_unary {a = a} {op = op} {e = e} fits x inner) ends within =
         let lt = there unary_of i op x.0 in
-        unary_then ts d i op x.0 (fits lt) (found e j) (subst (λ n. RightOperand ts (d + 1) n (found e j)) x.1 (operand_right inner))
+        unary_then ts d i op x.0 (fits lt) (found e j) (subst (λ n. RightOperand ts (d + 1) n (found e j)) x.1 (operand_right inner ends within))
+
+    index_right : {d i : ℕ} {o : Option ExpressionTree} {j : ℕ} → IsIndex ts l d i o j → EndsOperand ts j → j ≤ l → RightIndex ts d i (found o j)
+    index_right {d = d} {i = i} no_index ends within = without_index ts d i ends within
+    index_right {d = d} {i = i} {j = j} (an_index {a = a} {b = b} {e = e} fits x inner y) ends within =
+        let lb = slice_get_within ts b close_bracket y.0 in
+        with_index ts d i x.0 (found e j) (bracketed_right d i a b e j fits x (expression_right inner (closes close_bracket (refl, refl) ts 0 b tt j y tt) (omega arith)) y)
 
     pub expression_right : {d m i : ℕ} {e : ExpressionTree} {j : ℕ} → IsExpression ts l d m i e j → EndsExpression m ts j → j ≤ l → RightExpression ts d m i (found e j)
-    expression_right {d = d} {m = m} {i = i} {e = e} {j = j} (an_operand z x) ends within = expression_zero ts d m i z (found e j) (operand_right x)
+    expression_right {d = d} {m = m} {i = i} {e = e} {j = j} (an_operand z x) ends within = expression_zero ts d m i z (found e j) (operand_right x ends.0 within)
     expression_right {d = d} {m = m} {i = i} {e = e} {j = j} (a_chain {m = n} {a = a} {first = first} {links = links} z x more is) ends within =
         let after : EndsExpression (n + 1) ts j = subst (λ k. EndsExpression k ts j) z ends in
         let up = links_up ts l more in
@@ -69,7 +84,7 @@ module _ (ts : List TokenKind) where
         subst (λ t. RightExpression ts d m i (found t j)) (sym is) (chain_then d n ts m i z first a r (found links j) (links_right more after within))
 
     links_right : {d m i : ℕ} {links : List LinkTree} {j : ℕ} → AreLinks ts l d m i links j → EndsExpression (m + 1) ts j → j ≤ l → RightLinks ts d m i (found links j)
-    links_right {d = d} {m = m} {i = i} no_link ends within = links_none d m ts i (λ op is. let le = ends m op is in absurd (omega arith)) within
+    links_right {d = d} {m = m} {i = i} no_link ends within = links_none d m ts i (λ op is. let le = ends.1 m op is in absurd (omega arith)) within
     links_right {d = d} {m = m} {i = i} {j = j} (a_link {a = a} {b = b} {l = k} {links = links} x e more) ends within =
         let up = links_up ts l more in
         let r = expression_right e (links_follow d m ts l b links j (to_star ts l d m more) ends) (omega arith) in
@@ -82,7 +97,7 @@ module _ (ts : List TokenKind) where
   part_right d (part.Value m) i None j x = absurd x
   part_right d (part.Value m) i (Some (value e)) j x =
       let lb = slice_get_within ts x.0 (mark_kind m) x.2.0 in
-      value_found d ts i m e x.0 (expression_right x.1 (closes (mark_kind m) (no_operator m) ts 0 x.0 tt j x.2 tt) (omega arith)) j (token_right (mark_kind m) x.0 j x.2)
+      value_found d ts i m e x.0 (expression_right x.1 (closes (mark_kind m) (mark_closes m) ts 0 x.0 tt j x.2 tt) (omega arith)) j (token_right (mark_kind m) x.0 j x.2)
   part_right d (part.Value m) i (Some (out w)) j x = absurd x
   part_right d (part.Out m) i None j x = absurd x
   part_right d (part.Out m) i (Some (value e)) j x = absurd x
@@ -109,7 +124,7 @@ module _ (ts : List TokenKind) where
   condition_right d i e j x =
       let lb = slice_get_within ts x.2.0 right x.2.2.0 in
       condition_found ts d i x.0 (token_right left i x.0 x.1) e x.2.0
-      (expression_right x.2.1 (closes right refl ts 0 x.2.0 tt j x.2.2 tt) (omega arith)) j (token_right right x.2.0 j x.2.2)
+      (expression_right x.2.1 (closes right (refl, refl) ts 0 x.2.0 tt j x.2.2 tt) (omega arith)) j (token_right right x.2.0 j x.2.2)
 
   -- an expression begins with no call
   not_service : (i : ℕ) (o : Option _) → family (slice_get ts i) ≤ 2 → o ≡ option_and_then service_of (slice_get ts i) → None ≡ o
@@ -118,6 +133,10 @@ module _ (ts : List TokenKind) where
 
   no_call : {d m : ℕ} (i : ℕ) {e : ExpressionTree} {j : ℕ} → IsExpression ts l d m i e j → None ≡ option_and_then service_of (slice_get ts i)
   no_call i x = not_service i (option_and_then service_of (slice_get ts i)) (expression_family ts l x) refl
+
+  -- `=` is no `[`
+  not_open : (i j : ℕ) → IsToken ts equals i j → slice_get ts i ≡ Some open_bracket → ⊥
+  not_open i j x is = let e : Some equals ≡ Some open_bracket = sym x.0 ∙ is in absurd (cc)
 
   if_first : {d : ℕ} {loop : Bool} {i : ℕ} {s : StatementTree} {j : ℕ} → IsIf ts l d loop i s j → slice_get ts i ≡ Some if_word
   if_first (if_chosen x test body o is) = x.0
@@ -132,14 +151,24 @@ module _ (ts : List TokenKind) where
         let lb = slice_get_within ts b semicolon semi.0 in
         let not_call : None ≡ option_and_then service_of (slice_get ts a) = no_call a x in
         statement_assignment ts d loop i no.0 no.1 no.2 no.3 (found (assigned w (by_value e)) j)
-        (assignment_found ts d i w r.0 (word_right i w r.0 r.1) a (token_right equals r.0 a r.2) (by_value e) b
-        (source_value ts d a not_call (found e b) (expression_right x (closes semicolon refl ts 0 b tt j semi tt) (omega arith))) j (token_right semicolon b j semi))
+        (assignment_then ts d i w r.0 (word_right i w r.0 r.1) (found (to_variable (by_value e)) j) (change_variable ts d r.0 (not_open r.0 a r.2) (found (by_value e) j)
+        (source_found ts d r.0 a (token_right equals r.0 a r.2) (by_value e) b
+        (source_value ts d a not_call (found e b) (expression_right x (closes semicolon (refl, refl) ts 0 b tt j semi tt) (omega arith))) j (token_right semicolon b j semi))))
+    statement_right {d = d} {loop = loop} {i = i} {j = j} (an_element_assignment {b = b} {c = c} {k = k} {w = w} {index = index} {e = e} a name x eq y semi) ends within =
+        let no = name_starts loop (slice_get ts i) w.name name.1.0 in
+        let lk = slice_get_within ts k semicolon semi.0 in
+        let lb = slice_get_within ts x.1.2.0 close_bracket x.1.2.2.0 in
+        statement_assignment ts d loop i no.0 no.1 no.2 no.3 (found (changed w (to_element (index, e))) j)
+        (assignment_then ts d i w a (word_right i w a name) (found (to_element (index, e)) j) (change_element ts d a x.1.1.0 (found (index, e) j)
+        (element_found ts d a index b (bracketed_right d a x.1.0 x.1.2.0 index b x.0 x.1.1 (expression_right x.1.2.1 (closes close_bracket (refl, refl) ts 0 x.1.2.0 tt b x.1.2.2 tt) (omega (arith, lb, x.1.2.2.1))) x.1.2.2) c (token_right equals b c eq) e k
+        (expression_right y (closes semicolon (refl, refl) ts 0 k tt j semi tt) (omega arith)) j (token_right semicolon k j semi))))
     statement_right {d = d} {loop = loop} {i = i} {j = j} (a_call (Some w) a c b r call semi is) ends within =
         let no = name_starts loop (slice_get ts i) w.name r.1.1.0 in
         subst (λ s. RightStatement ts d loop i (found s j)) (sym is)
         (statement_assignment ts d loop i no.0 no.1 no.2 no.3 (found (assigned w (by_call c)) j)
-        (assignment_found ts d i w r.0 (word_right i w r.0 r.1) a (token_right equals r.0 a r.2) (by_call c) b
-        (source_call ts d a c.service call.3.0 (found c b) (call_right d a c b call)) j (token_right semicolon b j semi)))
+        (assignment_then ts d i w r.0 (word_right i w r.0 r.1) (found (to_variable (by_call c)) j) (change_variable ts d r.0 (not_open r.0 a r.2) (found (by_call c) j)
+        (source_found ts d r.0 a (token_right equals r.0 a r.2) (by_call c) b
+        (source_call ts d a c.service call.3.0 (found c b) (call_right d a c b call)) j (token_right semicolon b j semi)))))
     statement_right {d = d} {loop = loop} {i = i} {j = j} (a_call None a c b r call semi is) ends within =
         let here = subst (λ n. OneCall d ts l n c b) r call in
         subst (λ s. RightStatement ts d loop i (found s j)) (sym is)
@@ -188,10 +217,26 @@ module _ (ts : List TokenKind) where
         statements_more d loop ts i (λ is. none_begins ts l d loop (brace_begins_none loop (slice_get ts i) is) x) s a
         (statement_right x (statements_follow d loop ts l a ss j (frames.to_star ts l d loop more) ends) (omega arith)) (found ss j) (statements_right more ends within)
 
-  variable_right : (i : ℕ) (w : Word) (j : ℕ) → OneVariable ts l i w j → RightVariable ts i (found w j)
-  variable_right i w j x = variable_found ts i x.0 (token_right var_word i x.0 x.1) w x.2.0 (word_right x.0 w x.2.0 x.2.1) j (token_right semicolon x.2.0 j x.2.2)
+  count_right : (i : ℕ) (n : Length) (j : ℕ) → OneCount ts l i n j → RightCount ts i (found n j)
+  count_right i n j x =
+      let same : count_here i n.places ≡ n = ap (λ k. record { places = n.places; at = k }) (sym x.0) in
+      let base = count_found ts i n.places (there number_of i n.places x.1.0) x.1.0 in
+      subst (λ k. RightCount ts i (found n k)) (sym x.1.1) (subst (λ v. RightCount ts i (found v (i + 1))) same base)
 
-  variables_right : (i : ℕ) (ws : List Word) (j : ℕ) → Star OneVariable ts l i ws j → EndsVariables ts j → j ≤ l → RightVariables ts i (found ws j)
+  length_right : (i : ℕ) (o : Option Length) (j : ℕ) → OneLength ts l i o j → EndsOperand ts j → j ≤ l → RightLength ts i (found o j)
+  length_right i None j x ends within =
+      subst (λ n. RightLength ts i (found None n)) (sym x) (length_none ts i (λ is. ends (subst (λ n. slice_get ts n ≡ Some open_bracket) (sym x) is)) (omega (arith, x)))
+  length_right i (Some n) j x ends within =
+      length_found ts i x.1.0 n x.2.0 (subst (λ k. RightCount ts k (found n x.2.0)) x.1.1 (count_right x.0 n x.2.0 x.2.1)) j (token_right close_bracket x.2.0 j x.2.2)
+
+  variable_right : (i : ℕ) (v : Declaration) (j : ℕ) → OneVariable ts l i v j → RightVariable ts i (found v j)
+  variable_right i v j x =
+      let c = x.2.2.0 in
+      let lc = slice_get_within ts c semicolon x.2.2.2.0 in
+      variable_found ts i x.0 (token_right var_word i x.0 x.1) v.name x.2.0 (word_right x.0 v.name x.2.0 x.2.1) v.length c
+      (length_right x.2.0 v.length c x.2.2.1 (length_ends ts 0 c tt j x.2.2.2 tt) (omega arith)) j (token_right semicolon c j x.2.2.2)
+
+  variables_right : (i : ℕ) (ws : List Declaration) (j : ℕ) → Star OneVariable ts l i ws j → EndsVariables ts j → j ≤ l → RightVariables ts i (found ws j)
   variables_right i [] j x ends within =
       subst (λ n. RightVariables ts i (found [] n)) (sym x) (variables_none ts i (λ is. ends (subst (λ n. slice_get ts n ≡ Some var_word) (sym x) is)) (omega (arith, x)))
   variables_right i (w ∷ ws) j x ends within =

@@ -12,12 +12,12 @@ use Rattle.fmp_tasklang.specs.Trees.{ExpressionTree, StatementTree, Block}
 use Rattle.fmp_tasklang.specs.Blocks.{block_of}
 use Rattle.fmp_tasklang.specs.Expressions.{name_of, loosest, IsOperand, a_number, a_name, a_group, a_unary, IsExpression, an_operand, a_chain}
 use Rattle.fmp_tasklang.specs.Calls.{service_of, OneCall}
-use Rattle.fmp_tasklang.specs.Statements.{jump_of, IsResult, IsStatement, an_assignment, a_call, a_jump, an_if, a_while, IsIf, if_chosen, IsElse, no_else, an_else, IsOther, a_block, another_if, IsBlock, braces, AreStatements, no_statement, a_statement}
-use Rattle.fmp_tasklang.specs.Reading.{OneExpression, Condition, OneStatement, Else, OneBlock}
+use Rattle.fmp_tasklang.specs.Statements.{jump_of, IsResult, IsStatement, an_assignment, an_element_assignment, a_call, a_jump, an_if, a_while, IsIf, if_chosen, IsElse, no_else, an_else, IsOther, a_block, another_if, IsBlock, braces, AreStatements, no_statement, a_statement}
+use Rattle.fmp_tasklang.specs.Reading.{OneWord, Bracketed, OneExpression, Condition, OneStatement, Else, OneBlock}
 use Rattle.fmp_tasklang.proofs.Arguments.{call_framed}
 use Rattle.fmp_tasklang.proofs.Families.{family, number_family, name_family, unary_family}
 use Rattle.fmp_tasklang.proofs.Layers.{Deeper, deeper_fills}
-use Rattle.fmp_tasklang.proofs.Operands.{left, right, word_framed, expression_framed, expression_up, Ended, ended_fills}
+use Rattle.fmp_tasklang.proofs.Operands.{left, right, word_framed, bracketed_framed, bracketed_up, expression_framed, expression_up, Ended, ended_fills}
 
 abbrev pub open_brace : TokenKind
 open_brace = kind.Symbol symbol.LeftBrace
@@ -68,6 +68,10 @@ module _ (ts : List TokenKind) (limit : ℕ) where
   mutual
     pub statement_up : {d : ℕ} {loop : Bool} {i : ℕ} {s : StatementTree} {j : ℕ} → IsStatement ts limit d loop i s j → i < j
     statement_up (an_assignment a r e semi) = let up = expression_up ts limit e in omega (arith, r.1.1.1, r.2.1, semi.1)
+    statement_up {d = d} (an_element_assignment {b = b} {index = index} a w x eq e semi) =
+        let first = bracketed_up ts limit d a index b x in
+        let up = expression_up ts limit e in
+        omega (arith, w.1.1, eq.1, semi.1)
     statement_up {d = d} {i = i} (a_call r a c b res call semi is) =
         let first = result_up ts limit i r a res in
         let up = (call_framed d).up ts limit a c b call in
@@ -113,6 +117,14 @@ module _ (ts us : List TokenKind) (limit lower : ℕ) (low : lower ≤ limit) wh
         an_assignment a (piece Result result_framed i (Some w) a j (omega (arith, semi.1)) r same)
         (piece (OneExpression d loosest) (expression_framed d loosest) a e b j (omega (arith, semi.1)) x same)
         (piece (OneToken semicolon) (token_framed semicolon) b tt j j (omega arith) semi same)
+    statement_same {d = d} {i = i} {j = j} (an_element_assignment {b = b} {c = c} {k = k} {w = w} {index = index} {e = e} a name x eq y semi) same =
+        let first = bracketed_up ts limit d a index b x in
+        let up = expression_up ts limit y in
+        an_element_assignment a (piece OneWord word_framed i w a j (omega (arith, eq.1, semi.1)) name same)
+        (piece (Bracketed d) (bracketed_framed d) a index b j (omega (arith, eq.1, semi.1)) x same)
+        (piece (OneToken equals) (token_framed equals) b tt c j (omega (arith, semi.1)) eq same)
+        (piece (OneExpression d loosest) (expression_framed d loosest) c e k j (omega (arith, semi.1)) y same)
+        (piece (OneToken semicolon) (token_framed semicolon) k tt j j (omega arith) semi same)
     statement_same {d = d} {i = i} {j = j} (a_call r a c b res call semi is) same =
         let up = (call_framed d).up ts limit a c b call in
         a_call r a c b (piece Result result_framed i r a j (omega (arith, semi.1)) res same)
@@ -214,6 +226,7 @@ pub record BeginsNone (loop : Bool) (o : Option TokenKind) : Type 0 where
 
 pub none_begins : (us : List TokenKind) (limit d : ℕ) (loop : Bool) {i : ℕ} {s : StatementTree} {j : ℕ} → BeginsNone loop (slice_get us i) → IsStatement us limit d loop i s j → ⊥
 none_begins us limit d loop none (an_assignment {w = w} a r e semi) = let e : None ≡ Some w.name = sym none.no_name ∙ r.1.1.0 in absurd (cc)
+none_begins us limit d loop none (an_element_assignment {w = w} a name x eq y semi) = let e : None ≡ Some w.name = sym none.no_name ∙ name.1.0 in absurd (cc)
 none_begins us limit d loop none (a_call (Some w) a c b res call semi is) = let e : None ≡ Some w.name = sym none.no_name ∙ res.1.1.0 in absurd (cc)
 none_begins us limit d loop none (a_call None a c b res call semi is) =
     let e : None ≡ Some c.service = sym none.no_service ∙ (ap (λ n. option_and_then service_of (slice_get us n)) (sym res) ∙ call.3.0) in absurd (cc)
@@ -251,7 +264,7 @@ brace_begins_none loop o is = record {
 module _ (us : List TokenKind) (limit : ℕ) where
   operand_family : {d i : ℕ} {e : ExpressionTree} {j : ℕ} → IsOperand us limit d i e j → family (slice_get us i) ≤ 2
   operand_family {i = i} (a_number {n = n} x) = let f = number_family (slice_get us i) n x.0 in omega arith
-  operand_family {i = i} (a_name {w = w} x) = let f = name_family (slice_get us i) w.name x.1.0 in omega arith
+  operand_family {i = i} (a_name {w = w} x index is) = let f = name_family (slice_get us i) w.name x.1.0 in omega arith
   operand_family {i = i} (a_group fits a e b) = let f : family (slice_get us i) ≡ 2 = ap family a.0 in omega arith
   operand_family {i = i} (a_unary {op = op} fits a e) = let f = unary_family (slice_get us i) op a.0 in omega arith
 

@@ -11,8 +11,8 @@ use Rattle.fmp_tasklang.specs.Trees.{ExpressionTree, StatementTree, while, Block
 use Rattle.fmp_tasklang.specs.Blocks.{block_of, choice}
 use Rattle.fmp_tasklang.specs.Expressions.{name_of}
 use Rattle.fmp_tasklang.specs.Calls.{service_of, OneCall}
-use Rattle.fmp_tasklang.specs.Statements.{jump_of, IsStatement, an_assignment, a_call, a_jump, an_if, a_while, IsIf, if_chosen, IsElse, no_else, an_else, IsOther, a_block, another_if, braces}
-use Rattle.fmp_tasklang.specs.Reading.{by_value, by_call, EndsElse, EndsStatements, Assignment, PlainCall, Jump, Condition, OneStatement, OneIf, Else, Other, OneBlock, RightCondition, RightAssignment, RightPlainCall, RightJump, RightStatement, RightIf, RightElse, RightOther, RightBlock, RightStatements}
+use Rattle.fmp_tasklang.specs.Statements.{jump_of, IsStatement, an_assignment, an_element_assignment, a_call, a_jump, an_if, a_while, IsIf, if_chosen, IsElse, no_else, an_else, IsOther, a_block, another_if, braces}
+use Rattle.fmp_tasklang.specs.Reading.{by_value, by_call, to_variable, to_element, EndsElse, EndsStatements, Assignment, PlainCall, Jump, Condition, OneStatement, OneIf, Else, Other, OneBlock, RightCondition, RightAssignment, RightPlainCall, RightJump, RightStatement, RightIf, RightElse, RightOther, RightBlock, RightStatements}
 use Rattle.fmp_tasklang.proofs.Families.{family, name_family, service_family, jump_family}
 use Rattle.fmp_tasklang.proofs.Layers.{right_same, Deeper, deeper_then, deeper_missing, deeper_deep}
 use Rattle.fmp_tasklang.proofs.StatementFrames.{open_brace, close_brace, if_word, else_word, while_word, condition_framed, condition_fills, statement_framed, block_framed, block_fills, else_fills, to_star, Inside, Braces, braces_to, inside_fills, none_begins, else_begins_none, brace_begins_none}
@@ -29,6 +29,7 @@ no_jump_while false = refl
 module _ (us : List TokenKind) (limit d : ℕ) (loop : Bool) (i : ℕ) where
   call_back : {s : StatementTree} {j : ℕ} → family (slice_get us i) ≡ 3 → IsStatement us limit d loop i s j → PlainCall d us limit i s j
   call_back at (an_assignment {w = w} a r e semi) = let f = name_family (slice_get us i) w.name r.1.1.0 in absurd (omega arith)
+  call_back at (an_element_assignment {w = w} a name x eq y semi) = let f = name_family (slice_get us i) w.name name.1.0 in absurd (omega arith)
   call_back at (a_call (Some w) a c b res call semi is) = let f = name_family (slice_get us i) w.name res.1.1.0 in absurd (omega arith)
   call_back at (a_call None a c b res call semi is) = (c, is, b, subst (λ n. OneCall d us limit n c b) res call, semi)
   call_back at (a_jump {s = s} x semi) = let f = jump_family loop (slice_get us i) s x.0 in absurd (omega arith)
@@ -38,6 +39,8 @@ module _ (us : List TokenKind) (limit d : ℕ) (loop : Bool) (i : ℕ) where
   jump_back : (a : StatementTree) {s : StatementTree} {j : ℕ} → option_and_then (jump_of loop) (slice_get us i) ≡ Some a → IsStatement us limit d loop i s j → Jump loop us limit i s j
   jump_back a at (an_assignment {w = w} k r e semi) =
       let f = name_family (slice_get us i) w.name r.1.1.0 in let g = jump_family loop (slice_get us i) a at in absurd (omega arith)
+  jump_back a at (an_element_assignment {w = w} k name x eq y semi) =
+      let f = name_family (slice_get us i) w.name name.1.0 in let g = jump_family loop (slice_get us i) a at in absurd (omega arith)
   jump_back a at (a_call (Some w) k c b res call semi is) =
       let f = name_family (slice_get us i) w.name res.1.1.0 in let g = jump_family loop (slice_get us i) a at in absurd (omega arith)
   jump_back a at (a_call None k c b res call semi is) =
@@ -51,6 +54,7 @@ module _ (us : List TokenKind) (limit d : ℕ) (loop : Bool) (i : ℕ) where
 
   if_back : {s : StatementTree} {j : ℕ} → slice_get us i ≡ Some if_word → IsStatement us limit d loop i s j → IsIf us limit d loop i s j
   if_back at (an_assignment {w = w} a r e semi) = let f : None ≡ Some w.name = ap (option_and_then name_of) (sym at) ∙ r.1.1.0 in absurd (cc)
+  if_back at (an_element_assignment {w = w} a name x eq y semi) = let f : None ≡ Some w.name = ap (option_and_then name_of) (sym at) ∙ name.1.0 in absurd (cc)
   if_back at (a_call (Some w) a c b res call semi is) = let f : None ≡ Some w.name = ap (option_and_then name_of) (sym at) ∙ res.1.1.0 in absurd (cc)
   if_back at (a_call None a c b res call semi is) =
       let f : None ≡ Some c.service = ap (option_and_then service_of) (sym at) ∙ (ap (λ n. option_and_then service_of (slice_get us n)) (sym res) ∙ call.3.0) in absurd (cc)
@@ -64,6 +68,7 @@ module _ (us : List TokenKind) (limit d : ℕ) (loop : Bool) (i : ℕ) where
   while_back : {s : StatementTree} {j : ℕ} → slice_get us i ≡ Some while_word → IsStatement us limit d loop i s j →
       (p : ExpressionTree × Block) × (s ≡ while p.0 p.1) × Whiles us limit i p j
   while_back at (an_assignment {w = w} a r e semi) = let f : None ≡ Some w.name = ap (option_and_then name_of) (sym at) ∙ r.1.1.0 in absurd (cc)
+  while_back at (an_element_assignment {w = w} a name x eq y semi) = let f : None ≡ Some w.name = ap (option_and_then name_of) (sym at) ∙ name.1.0 in absurd (cc)
   while_back at (a_call (Some w) a c b res call semi is) = let f : None ≡ Some w.name = ap (option_and_then name_of) (sym at) ∙ res.1.1.0 in absurd (cc)
   while_back at (a_call None a c b res call semi is) =
       let f : None ≡ Some c.service = ap (option_and_then service_of) (sym at) ∙ (ap (λ n. option_and_then service_of (slice_get us n)) (sym res) ∙ call.3.0) in absurd (cc)
@@ -73,8 +78,10 @@ module _ (us : List TokenKind) (limit d : ℕ) (loop : Bool) (i : ℕ) where
 
   assignment_back : {s : StatementTree} {j : ℕ} → option_and_then service_of (slice_get us i) ≡ None → option_and_then (jump_of loop) (slice_get us i) ≡ None →
       (slice_get us i ≡ Some if_word → ⊥) → (slice_get us i ≡ Some while_word → ⊥) → IsStatement us limit d loop i s j → Assignment d us limit i s j
-  assignment_back no_call no_jump no_if no_while (an_assignment {b = b} {w = w} {e = e} a r x semi) = (w, by_value e, refl, r.0, r.1, a, r.2, b, x, semi)
-  assignment_back no_call no_jump no_if no_while (a_call (Some w) a c b res call semi is) = (w, by_call c, is, res.0, res.1, a, res.2, b, call, semi)
+  assignment_back no_call no_jump no_if no_while (an_assignment {b = b} {w = w} {e = e} a r x semi) = (w, to_variable (by_value e), refl, r.0, r.1, (a, r.2, (b, x, semi)))
+  assignment_back no_call no_jump no_if no_while (an_element_assignment {b = b} {c = c} {k = k} {w = w} {index = index} {e = e} a name x eq y semi) =
+      (w, to_element (index, e), refl, a, name, (b, x, (c, eq, (k, y, semi))))
+  assignment_back no_call no_jump no_if no_while (a_call (Some w) a c b res call semi is) = (w, to_variable (by_call c), is, res.0, res.1, (a, res.2, (b, call, semi)))
   assignment_back no_call no_jump no_if no_while (a_call None a c b res call semi is) =
       let f : None ≡ Some c.service = sym no_call ∙ (ap (λ n. option_and_then service_of (slice_get us n)) (sym res) ∙ call.3.0) in absurd (cc)
   assignment_back no_call no_jump no_if no_while (a_jump {s = s} x semi) = let f : None ≡ Some s = sym no_jump ∙ x.0 in absurd (cc)
@@ -82,9 +89,11 @@ module _ (us : List TokenKind) (limit d : ℕ) (loop : Bool) (i : ℕ) where
   assignment_back no_call no_jump no_if no_while (a_while x test body) = absurd (no_while x.0)
 
   assignment_to : {s : StatementTree} {j : ℕ} → Assignment d us limit i s j → IsStatement us limit d loop i s j
-  assignment_to {j = j} (w, by_value e, is, k, word, a, equals, b, x, semi) =
+  assignment_to {j = j} (w, to_variable (by_value e), is, k, word, (a, equals, (b, x, semi))) =
       subst (λ z. IsStatement us limit d loop i z j) (sym is) (an_assignment a (k, word, equals) x semi)
-  assignment_to (w, by_call c, is, k, word, a, equals, b, x, semi) = a_call (Some w) a c b (k, word, equals) x semi is
+  assignment_to (w, to_variable (by_call c), is, k, word, (a, equals, (b, x, semi))) = a_call (Some w) a c b (k, word, equals) x semi is
+  assignment_to {j = j} (w, to_element p, is, k, word, (b, x, (c, eq, (n, y, semi)))) =
+      subst (λ z. IsStatement us limit d loop i z j) (sym is) (an_element_assignment k word x eq y semi)
 
 module _ (ts : List TokenKind) (d : ℕ) (loop : Bool) (i : ℕ) where
   pub statement_call : (s : Service) → option_and_then service_of (slice_get ts i) ≡ Some s → (o : ParseResult StatementTree) → RightPlainCall ts d i o → RightStatement ts d loop i o

@@ -1,14 +1,15 @@
 -- More turns change no stretch that is within its bound.
-use Rattle.std.proofs.Common.{◌≡◌, ℕ, zero, suc, ◌≤◌, ℤ, List, false, refl, arith}
+use Rattle.std.proofs.Common.{◌≡◌, ℕ, zero, suc, ◌≤◌, List, false, refl, arith}
 use Rattle.fmp_tasklang.specs.Scopes.{Scope}
 use Rattle.fmp_tasklang.specs.Contexts.{Item}
+use Rattle.fmp_tasklang.specs.Values.{Values}
 use Rattle.fmp_base.specs.Stretches.{is_over}
 use Rattle.fmp_tasklang.specs.Stretches.{Way, Next, Goes, Turns, Stops, after_item, follow, out_of_turns, walk, weight, turns}
 use Rattle.fmp_tasklang.specs.Laws.{MoreTurnsChangeNothing}
 
 -- where f is not over its bound, g is the same
 abbrev Extends : (f g : Way) → Type 0
-Extends f g = (locals : List ℤ) (todo : List Item) → is_over (f locals todo) ≡ false → g locals todo ≡ f locals todo
+Extends f g = (locals : Values) (todo : List Item) → is_over (f locals todo) ≡ false → g locals todo ≡ f locals todo
 
 over_extends : (g : Way) → Extends out_of_turns g
 over_extends g locals todo e = absurd (cc e)

@@ -4,12 +4,12 @@ use Rattle.std.proofs.lemmas.List.{map-append}
 use Rattle.std.specs.declared.alloc.Global.{Global}
 use Rattle.std.specs.declared.vec.Vec.{Vec}
 use Rattle.fmp_base.specs.declared.operators.UnaryOperator.{UnaryOperator}
-use Rattle.fmp_tasklang.specs.declared.trees.Expression.{Expression, Name, Unary, Chain}
+use Rattle.fmp_tasklang.specs.declared.trees.Expression.{Expression, Name, Element, Unary, Chain}
 use Rattle.fmp_tasklang.specs.declared.trees.Expression as expression
 use Rattle.fmp_tasklang.specs.declared.trees.Link.{Link}
 use Rattle.fmp_tasklang.specs.declared.trees.Statement.{Statement, If, IfElse, While, Row_of-Statement, end_of-Statement, more_of-Statement, items-the_row-Statement, the_lemmas}
 use Rattle.fmp_tasklang.specs.declared.trees.Word.{Word}
-use Rattle.fmp_tasklang.specs.Trees.{named, unary, if_then, if_else, while, next}
+use Rattle.fmp_tasklang.specs.Trees.{named, element, unary, if_then, if_else, while, next}
 use Rattle.fmp_tasklang.specs.Views.{chain_tree, expression_view, link_view, statement_view, row_view, block_view}
 use Rattle.fmp_tasklang.specs.Blocks.{block_of}
 use Rattle.fmp_tasklang.specs.Reading as reading
@@ -17,6 +17,10 @@ use Rattle.fmp_tasklang.specs.Laws.{ViewsOfParts}
 
 pub expression_view-Name : (w : Word) → expression_view (Name w) ≡ named w
 expression_view-Name w = search (rules, expression.the_lemmas)
+
+pub expression_view-Element :
+    (w : Word) (e : Box Expression Global) → expression_view (Element w e) ≡ element w (expression_view e.value)
+expression_view-Element w e = search (rules, expression.the_lemmas)
 
 pub expression_view-Unary :
     (op : UnaryOperator) (e : Box Expression Global) →
@@ -75,6 +79,7 @@ if_else_view e s r = statement_view-IfElse e s r ∙ ap₂ (if_else (expression_
 pub views_of_parts : ViewsOfParts
 views_of_parts =
     record {
+      array_element = expression_view-Element;
       unary_operator = expression_view-Unary;
       chain = expression_view-Chain;
       link = link_view-is;

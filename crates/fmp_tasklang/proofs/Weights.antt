@@ -1,17 +1,18 @@
 -- The weight of what is to do bounds the items before the next mark, so that only turns bound a stretch.
-use Rattle.std.proofs.Common.{◌≡◌, ℕ, zero, suc, ◌+◌, ◌≤◌, ◌<◌, ℤ, List, [], ◌∷◌, Bool, true, false, Result, Ok, Err, refl, ◌∙◌, arith}
+use Rattle.std.proofs.Common.{◌≡◌, ℕ, zero, suc, ◌+◌, ◌≤◌, ◌<◌, List, [], ◌∷◌, Bool, true, false, Result, Ok, Err, refl, ◌∙◌, arith}
 use Rattle.std.specs.Prelude.{if◌then◌else◌}
 use Rattle.fmp_base.specs.declared.bodies.Fault.{Fault}
-use Rattle.fmp_base.specs.Operators.{is_zero}
-use Rattle.fmp_tasklang.specs.Trees.{StatementTree, assign, service_call, if_then, if_else, while, break, continue, return, Block, empty, next}
-use Rattle.fmp_tasklang.specs.Scopes.{Scope}
-use Rattle.fmp_tasklang.specs.Values.{value, values}
+use Rattle.fmp_base.specs.Operators.{is_zero, place_in}
+use Rattle.fmp_tasklang.specs.Trees.{StatementTree, assign, assign_element, service_call, if_then, if_else, while, break, continue, return, Block, empty, next}
+use Rattle.fmp_tasklang.specs.Scopes.{Scope, meaning_of}
+use Rattle.fmp_tasklang.specs.Values.{Values, array_places, value, values}
 use Rattle.fmp_tasklang.specs.Contexts.{Item, Do, Mark, items_before}
 use Rattle.fmp_tasklang.specs.Stretches.{Way, Next, Goes, Turns, Stops, with_value, after_mark, from_mark, after_statement, after_item, statement_weight, block_weight, weight, follow, out_of_turns, walk, turns}
 use Rattle.fmp_tasklang.specs.Laws.{FollowsEachItem}
 
 one-le-statement_weight : (s : StatementTree) → 1 ≤ statement_weight s
 one-le-statement_weight (assign w e) = omega arith
+one-le-statement_weight (assign_element w i e) = omega arith
 one-le-statement_weight (service_call c) = omega arith
 one-le-statement_weight (if_then e b) = omega arith
 one-le-statement_weight (if_else e b d) = omega arith
@@ -47,7 +48,7 @@ Lighter w (Turns locals todo) = Unit {0}
 Lighter w (Stops s) = Unit {0}
 
 with_value_lighter :
-    {A : Type 0} (w : ℕ) (v : Result A Fault) (locals : List ℤ) (rest : List Item) (go : A → Next) →
+    {A : Type 0} (w : ℕ) (v : Result A Fault) (locals : Values) (rest : List Item) (go : A → Next) →
     ((x : A) → Lighter w (go x)) →
     Lighter w (with_value v locals rest go)
 with_value_lighter w (Ok x) locals rest go h = h x
@@ -60,10 +61,15 @@ one_is_lighter w false a b p q = q
 
 module _ (scope : Scope) where
   statement_lighter :
-      (s : StatementTree) (locals : List ℤ) (rest : List Item) →
+      (s : StatementTree) (locals : Values) (rest : List Item) →
       Lighter (statement_weight s + weight rest) (after_statement scope s locals rest)
   statement_lighter (assign t e) locals rest =
       with_value_lighter (1 + weight rest) (value scope locals e) locals rest _ (λ x. omega arith)
+  statement_lighter (assign_element t i e) locals rest =
+      with_value_lighter (1 + weight rest) (value scope locals i) locals rest _ (λ i.
+      with_value_lighter (1 + weight rest) (value scope locals e) locals rest _ (λ x.
+      with_value_lighter (1 + weight rest) (place_in (array_places scope (meaning_of scope t.name)) i) locals rest _
+      (λ place. omega arith)))
   statement_lighter (service_call c) locals rest =
       with_value_lighter (1 + weight rest) (values scope locals c.arguments) locals rest _ (λ x. tt)
   statement_lighter (if_then e b) locals rest =
@@ -86,14 +92,14 @@ module _ (scope : Scope) where
   statement_lighter continue locals rest = omega (arith, weight-from_mark rest)
   statement_lighter return locals rest = omega (arith, one-le-weight rest)
 
-  item_lighter : (locals : List ℤ) (todo : List Item) → Lighter (weight todo) (after_item scope locals todo)
+  item_lighter : (locals : Values) (todo : List Item) → Lighter (weight todo) (after_item scope locals todo)
   item_lighter locals [] = tt
   item_lighter locals (Do s ∷ rest) = statement_lighter s locals rest
   item_lighter locals (Mark e b ∷ rest) = tt
 
   -- the two ways agree on all that weighs less than w
   abbrev SameBelow : ℕ → (go go' : Way) → Type 0
-  SameBelow w go go' = (locals : List ℤ) (todo : List Item) → weight todo < w → go locals todo ≡ go' locals todo
+  SameBelow w go go' = (locals : Values) (todo : List Item) → weight todo < w → go locals todo ≡ go' locals todo
 
   follow_same :
       (again go go' : Way) (w : ℕ) →
@@ -107,7 +113,7 @@ module _ (scope : Scope) where
 
   -- more items than the weight change nothing
   walk_same :
-      (again : Way) (m n : ℕ) (locals : List ℤ) (todo : List Item) →
+      (again : Way) (m n : ℕ) (locals : Values) (todo : List Item) →
       weight todo ≤ m →
       weight todo ≤ n →
       walk scope again m locals todo ≡ walk scope again n locals todo
@@ -125,7 +131,7 @@ module _ (scope : Scope) where
   by_weight again locals todo = walk scope again (weight todo) locals todo
 
   walk_follows :
-      (again : Way) (locals : List ℤ) (todo : List Item) →
+      (again : Way) (locals : Values) (todo : List Item) →
       by_weight again locals todo ≡ follow again (by_weight again) (after_item scope locals todo)
   walk_follows again locals todo =
       let n = weight todo in

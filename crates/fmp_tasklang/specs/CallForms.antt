@@ -1,7 +1,7 @@
 -- The calls of a tree as the grammar has them.
 use Rattle.std.specs.Prelude.{◌≡◌, List, [], ◌∷◌, length, is_some}
 use Rattle.fmp_base.specs.Services.{arity, out_place}
-use Rattle.fmp_tasklang.specs.Trees.{CallTree, StatementTree, assign, service_call, if_then, if_else, while, break, continue, return, Block, empty, next, BodyTree}
+use Rattle.fmp_tasklang.specs.Trees.{CallTree, StatementTree, assign, assign_element, service_call, if_then, if_else, while, break, continue, return, Block, empty, next, BodyTree}
 
 -- as many arguments as the service takes, and a variable at the out place exactly if the service has one
 abbrev pub CallFits : CallTree → Type 0
@@ -11,6 +11,7 @@ CallFits c = (length c.arguments ≡ arity c.service) × (is_some c.out ≡ is_s
 abbrev mutual
   pub StatementFits : StatementTree → Type 0
   StatementFits (assign w e) = Unit {0}
+  StatementFits (assign_element w i e) = Unit {0}
   StatementFits (service_call c) = CallFits c
   StatementFits (if_then e s) = BlockFits s
   StatementFits (if_else e s r) = BlockFits s × BlockFits r

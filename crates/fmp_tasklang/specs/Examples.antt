@@ -1,6 +1,7 @@
 -- Small bodies, and what they do.
-use Rattle.std.specs.Prelude.{◌≡◌, ℕ, ℤ, pos, negsuc, List, [], ◌∷◌, Some, Ok, Err, true, replicate, codes}
-use Rattle.fmp_base.specs.declared.bodies.Fault.TheVariants.{Overflow, Division}
+use Rattle.std.specs.Prelude.{◌≡◌, ℕ, ℤ, pos, negsuc, List, [], ◌∷◌, Some, None, Ok, Err, true, codes}
+use Rattle.fmp_base.specs.declared.bodies.Fault.{Fault}
+use Rattle.fmp_base.specs.declared.bodies.Fault.TheVariants.{Overflow, Division, Index}
 use Rattle.fmp_base.specs.declared.services.Service.TheVariants as service
 use Rattle.fmp_base.specs.declared.calls.Call.TheVariants as calls
 use Rattle.fmp_base.specs.declared.calls.Reply.{Reply}
@@ -10,16 +11,16 @@ use Rattle.fmp_base.specs.declared.operators.UnaryOperator.TheVariants.{Negate}
 use Rattle.fmp_base.specs.declared.operators.BinaryOperator.TheVariants.{Add, Divide, Remainder, Equal, Less}
 use Rattle.fmp_base.specs.declared.systems.SharedWordConfig.{SharedWordConfig}
 use Rattle.fmp_base.specs.declared.systems.QueueOrder.TheVariants.{Fifo}
-use Rattle.fmp_base.specs.Deliveries.{Places}
 use Rattle.fmp_base.specs.Names.{name_from}
 use Rattle.fmp_base.specs.Operators.{Value}
 use Rattle.fmp_base.specs.Systems.{SystemTables}
 use Rattle.fmp_tasklang.specs.declared.trees.BodyKind.TheVariants.{Task}
+use Rattle.fmp_tasklang.specs.declared.trees.Declaration.{Declaration}
 use Rattle.fmp_tasklang.specs.declared.trees.Word.{Word}
-use Rattle.fmp_tasklang.specs.Trees.{ExpressionTree, number, named, unary, binary, both, either, CallTree, StatementTree, assign, service_call, if_then, if_else, while, break, continue, return, Block, empty, next, BodyTree}
+use Rattle.fmp_tasklang.specs.Trees.{ExpressionTree, number, named, element, unary, binary, both, either, CallTree, StatementTree, assign, assign_element, service_call, if_then, if_else, while, break, continue, return, Block, empty, next, BodyTree}
 use Rattle.fmp_tasklang.specs.Scopes.{Scope, scope_of}
-use Rattle.fmp_tasklang.specs.Values.{value}
-use Rattle.fmp_tasklang.specs.Contexts.{TextContext, Do, going, calling, start}
+use Rattle.fmp_tasklang.specs.Values.{Values, value}
+use Rattle.fmp_tasklang.specs.Contexts.{TextContext, Do, Receivers, going, calling, start}
 use Rattle.fmp_base.specs.Stretches.{Ending, is_over}
 use Rattle.fmp_base.specs.Stretches as ends
 use Rattle.fmp_tasklang.specs.Stretches.{stretch}
@@ -64,6 +65,14 @@ abbrev pub block_of : List StatementTree → Block
 block_of [] = empty
 block_of (s ∷ ss) = next s (block_of ss)
 
+-- var of this name;
+abbrev pub plain : List ℕ → Declaration
+plain text = record { name = word text; length = None }
+
+-- var a[3];
+abbrev pub three : Declaration
+three = record { name = word (codes "a"); length = Some (record { places = pos 3; at = 0 }) }
+
 -- a task with the variables `i` and `n`
 abbrev pub task : List StatementTree → BodyTree
 task statements =
@@ -71,7 +80,7 @@ task statements =
       kind = Task;
       at = 0;
       name = word (codes "main");
-      variables = word (codes "i") ∷ word (codes "n") ∷ [];
+      variables = plain (codes "i") ∷ plain (codes "n") ∷ [];
       statements = block_of statements;
     }
 
@@ -81,7 +90,7 @@ scope = scope_of tables (task [])
 
 -- the value where `exinf` is 9, `i` is 5 and `n` is 0
 abbrev pub value_here : ExpressionTree → Value
-value_here e = value scope (pos 9 ∷ pos 5 ∷ pos 0 ∷ []) e
+value_here e = value scope ((pos 9 ∷ []) ∷ (pos 5 ∷ []) ∷ (pos 0 ∷ []) ∷ []) e
 
 -- 1 / 0
 abbrev pub division_by_zero : ExpressionTree
@@ -162,8 +171,8 @@ abbrev pub loads : List StatementTree
 loads = service_call load ∷ count ∷ []
 
 -- the locals of `task` where it began with 9
-abbrev pub locals_are : (i n : ℤ) → List ℤ
-locals_are i n = pos 9 ∷ i ∷ n ∷ replicate 61 (pos 0)
+abbrev pub locals_are : (i n : ℤ) → Values
+locals_are i n = (pos 9 ∷ []) ∷ (i ∷ []) ∷ (n ∷ []) ∷ []
 
 -- the context of a task that has ended
 abbrev pub ended : (i n : ℤ) → TextContext
@@ -176,8 +185,8 @@ counting i n = going (locals_are i n) (Do count ∷ [])
 -- the context after the call of `loads`, with these locals
 abbrev pub called_with : (i n : ℤ) → TextContext
 called_with i n =
-    let places : Places = record { service = service.LdShr; out = Some 2; result = Some 1 } in
-    calling (locals_are i n) (Do count ∷ []) places
+    let receivers : Receivers = record { service = service.LdShr; out = Some 2; result = Some 1 } in
+    calling (locals_are i n) (Do count ∷ []) receivers
 
 -- the same before a reply
 abbrev pub loading : TextContext
@@ -194,6 +203,47 @@ first_stretch t statements = stretch scope t (start (task statements) (pos 9))
 -- the bodies of a text
 abbrev pub two_bodies : List BodyTree
 two_bodies = task two_turns ∷ task loads ∷ []
+
+-- a task with the variables `a[3]`, `i` and `n`
+abbrev pub task_with_array : List StatementTree → BodyTree
+task_with_array statements =
+    record {
+      kind = Task;
+      at = 0;
+      name = word (codes "main");
+      variables = three ∷ plain (codes "i") ∷ plain (codes "n") ∷ [];
+      statements = block_of statements;
+    }
+
+-- its locals where it began with 9
+abbrev pub with_array : List ℤ → (i n : ℤ) → Values
+with_array a i n = (pos 9 ∷ []) ∷ a ∷ (i ∷ []) ∷ (n ∷ []) ∷ []
+
+-- a[index] = e;
+abbrev pub store : ExpressionTree → ExpressionTree → StatementTree
+store index e = assign_element (word (codes "a")) index e
+
+-- a[index]
+abbrev pub loaded : ExpressionTree → ExpressionTree
+loaded index = element (word (codes "a")) index
+
+-- i = 2; a[i] = 7; n = a[2] + a[0];
+abbrev pub stores : List StatementTree
+stores =
+    assign (word (codes "i")) (whole 2) ∷
+    store (spelled (codes "i")) (whole 7) ∷
+    add_to_n (binary Add (loaded (whole 2)) (loaded (whole 0))) ∷
+    []
+
+-- the stretch of such a task that starts with 9
+abbrev pub array_stretch : List StatementTree → Ending TextContext
+array_stretch statements =
+    let body = task_with_array statements in
+    stretch (scope_of tables body) 0 (start body (pos 9))
+
+-- a stretch of it that ends with this fault before anything is done
+abbrev pub faults_at_once : Fault → Ending TextContext
+faults_at_once fault = ends.Fault (going (with_array (pos 0 ∷ pos 0 ∷ pos 0 ∷ []) (pos 0) (pos 0)) []) fault
 
 -- each holds by computing
 pub record Examples : Type 0 where
@@ -220,3 +270,11 @@ pub record Examples : Type 0 where
       text_stretch tables two_bodies 1 0 (text_start two_bodies 1 (pos 9)) ≡ ends.Call loading (calls.LdShr (pos 2))
   pub reply_with_value : text_deliver two_bodies 1 loading (reply er.Ok) ≡ called_with (pos 0) (pos 7)
   pub reply_with_error : text_deliver two_bodies 1 loading (reply er.Par) ≡ called_with (negsuc 16) (pos 0)
+  pub element_is_stored :
+      array_stretch stores ≡
+      ends.End (going (with_array (pos 0 ∷ pos 0 ∷ pos 7 ∷ []) (pos 2) (pos 7)) [])
+  pub index_too_great : array_stretch (store (whole 3) (whole 1) ∷ []) ≡ faults_at_once Index
+  pub negative_index : array_stretch (store minus_one (whole 1) ∷ []) ≡ faults_at_once Index
+  pub value_before_index_test : array_stretch (store (whole 3) division_by_zero ∷ []) ≡ faults_at_once Division
+  pub index_before_value : array_stretch (store division_by_zero too_great ∷ []) ≡ faults_at_once Division
+  pub read_out_of_range : array_stretch (assign (word (codes "n")) (loaded (whole 3)) ∷ []) ≡ faults_at_once Index

@@ -12,7 +12,7 @@ use Rattle.fmp_base.specs.Words.{constant_value}
 use Rattle.fmp_tasklang.specs.declared.trees.Operator.{Operator}
 use Rattle.fmp_tasklang.specs.declared.trees.Operator.TheVariants as operator
 use Rattle.fmp_tasklang.specs.declared.trees.Word.{Word}
-use Rattle.fmp_tasklang.specs.Trees.{ExpressionTree, number, named, unary}
+use Rattle.fmp_tasklang.specs.Trees.{ExpressionTree, number, named, element, unary}
 use Rattle.fmp_tasklang.specs.Views.{LinkTree, chain_tree}
 
 -- the number that a token stands for: a constant is its value
@@ -61,19 +61,33 @@ loosest = 9
 abbrev pub IsWord : List TokenKind → ℕ → Word → ℕ → Type 0
 IsWord ts i w j = (w.at ≡ i) × IsItem name_of ts i w.name j
 
+-- a name as an operand, and the element of an array where an index stands behind the name
+abbrev pub reference : Word → Option ExpressionTree → ExpressionTree
+reference w None = named w
+reference w (Some index) = element w index
+
 -- d is how many levels of nesting are open before the first token
 module _ (ts : List TokenKind) (limit : ℕ) where
   mutual
-    -- a number, a constant, a name, an expression in parentheses, or an operand behind a unary operator
+    -- a number, a constant, a name with or without an index, an expression in parentheses, or an operand behind a
+    -- unary operator
     pub data IsOperand : ℕ → ℕ → ExpressionTree → ℕ → Type 0 where
       a_number : {d i j : ℕ} {n : ℤ} → IsItem token_number ts i n j → IsOperand d i (number n) j
-      a_name : {d i j : ℕ} {w : Word} → IsWord ts i w j → IsOperand d i (named w) j
+      a_name : {d i a j : ℕ} {w : Word} {index : Option ExpressionTree} {e : ExpressionTree} → IsWord ts i w a
+          → IsIndex d a index j → e ≡ reference w index → IsOperand d i e j
       a_group : {d i a b j : ℕ} {e : ExpressionTree} → Allows limit i d
           → IsToken ts (kind.Symbol symbol.LeftParen) i a →
           IsExpression (d + 1) loosest a e b → IsToken ts (kind.Symbol symbol.RightParen) b j → IsOperand d i e j
       a_unary : {d i a j : ℕ} {op : UnaryOperator} {e : ExpressionTree} → Allows limit i d → IsItem unary_of ts i op a
           →
           IsOperand (d + 1) a e j → IsOperand d i (unary op e) j
+
+    -- nothing, or [ expr ]
+    pub data IsIndex : ℕ → ℕ → Option ExpressionTree → ℕ → Type 0 where
+      no_index : {d i : ℕ} → IsIndex d i None i
+      an_index : {d i a b j : ℕ} {e : ExpressionTree} → Allows limit i d
+          → IsToken ts (kind.Symbol symbol.LeftBracket) i a →
+          IsExpression (d + 1) loosest a e b → IsToken ts (kind.Symbol symbol.RightBracket) b j → IsIndex d i (Some e) j
 
     -- operands with operators between them whose levels are below l; those of one level are grouped to the left
     pub data IsExpression : ℕ → ℕ → ℕ → ExpressionTree → ℕ → Type 0 where

@@ -1,5 +1,5 @@
 -- Laws of views, of the grammar and of stretches.
-use Rattle.std.specs.Prelude.{◌≡◌, ℕ, zero, suc, ◌≤◌, ℤ, List, map, false}
+use Rattle.std.specs.Prelude.{◌≡◌, ℕ, zero, suc, ◌≤◌, List, map, false}
 use Rattle.std.specs.Box.{box_value}
 use Rattle.std.specs.declared.alloc.Global.{Global}
 use Rattle.std.specs.declared.vec.Vec.{Vec}
@@ -7,19 +7,23 @@ use Rattle.std.specs.Global.{Box}
 use Rattle.fmp_base.specs.declared.operators.UnaryOperator.{UnaryOperator}
 use Rattle.fmp_lex.specs.declared.token.TokenKind.{TokenKind}
 use Rattle.fmp_lex.specs.Reading.{IsWhole}
-use Rattle.fmp_tasklang.specs.declared.trees.Expression.{Expression, Unary, Chain}
+use Rattle.fmp_tasklang.specs.declared.trees.Expression.{Expression, Element, Unary, Chain}
 use Rattle.fmp_tasklang.specs.declared.trees.Link.{Link}
 use Rattle.fmp_tasklang.specs.declared.trees.Statement.{Statement, If, IfElse, While}
-use Rattle.fmp_tasklang.specs.Trees.{unary, if_then, if_else, while, BodyTree}
+use Rattle.fmp_tasklang.specs.declared.trees.Word.{Word}
+use Rattle.fmp_tasklang.specs.Trees.{element, unary, if_then, if_else, while, BodyTree}
 use Rattle.fmp_tasklang.specs.Grammar.{Bodies}
 use Rattle.fmp_tasklang.specs.Views.{chain_tree, expression_view, link_view, statement_view, block_view}
 use Rattle.fmp_tasklang.specs.Scopes.{Scope}
 use Rattle.fmp_tasklang.specs.Contexts.{Item, TextContext}
+use Rattle.fmp_tasklang.specs.Values.{Values}
 use Rattle.fmp_base.specs.Stretches.{is_over}
 use Rattle.fmp_tasklang.specs.Stretches.{Way, after_item, follow, out_of_turns, turns, stretch}
 
 -- the view of a tree is made of the views of what its boxes and vectors hold
 pub record ViewsOfParts : Type 0 where
+  pub array_element :
+      (w : Word) (e : Box Expression) → expression_view (Element w e) ≡ element w (expression_view (box_value e))
   pub unary_operator :
       (op : UnaryOperator) (e : Box Expression) →
       expression_view (Unary op e) ≡ unary op (expression_view (box_value e))
@@ -53,7 +57,7 @@ after_turn scope (suc t) locals todo = turns scope t locals todo
 -- every item is followed, however many come before the next mark: the turns alone are bounded
 abbrev pub FollowsEachItem : Type 0
 FollowsEachItem =
-    (scope : Scope) (t : ℕ) (locals : List ℤ) (todo : List Item) →
+    (scope : Scope) (t : ℕ) (locals : Values) (todo : List Item) →
     turns scope t locals todo ≡ follow (after_turn scope t) (turns scope t) (after_item scope locals todo)
 
 -- a list of tokens spells at most one program

@@ -5,6 +5,7 @@ pub mod Contexts
 pub mod Examples
 pub mod Expressions
 pub mod Grammar
+pub mod Layout
 pub mod Laws
 pub mod Reading
 pub mod Scopes

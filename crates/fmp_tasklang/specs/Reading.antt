@@ -18,29 +18,41 @@ use Rattle.fmp_base.specs.declared.services.Service.{Service}
 use Rattle.fmp_tasklang.specs.declared.calls.Argument.{Argument}
 use Rattle.fmp_tasklang.specs.declared.calls.Argument.TheVariants as argument
 use Rattle.fmp_tasklang.specs.declared.forms.Part.{Part}
+use Rattle.fmp_tasklang.specs.declared.statements.Change.{Change}
+use Rattle.fmp_tasklang.specs.declared.statements.Change.TheVariants as change
+use Rattle.fmp_tasklang.specs.declared.statements.ElementChange.{ElementChange}
 use Rattle.fmp_tasklang.specs.declared.statements.Given.{Given}
 use Rattle.fmp_tasklang.specs.declared.statements.Given.TheVariants as given
 use Rattle.fmp_tasklang.specs.declared.trees.Body.{Body}
+use Rattle.fmp_tasklang.specs.declared.trees.Declaration.{Declaration}
+use Rattle.fmp_tasklang.specs.declared.trees.Expression.{Expression}
+use Rattle.fmp_tasklang.specs.declared.trees.Length.{Length}
 use Rattle.fmp_tasklang.specs.declared.trees.Link.{Link}
 use Rattle.fmp_tasklang.specs.declared.trees.Operator.{Operator}
 use Rattle.fmp_tasklang.specs.declared.trees.Program.{Program}
 use Rattle.fmp_tasklang.specs.declared.trees.ServiceCall.{ServiceCall}
 use Rattle.fmp_tasklang.specs.declared.trees.Statement.{Statement}
 use Rattle.fmp_tasklang.specs.declared.trees.Word.{Word}
-use Rattle.fmp_tasklang.specs.Trees.{ExpressionTree, StatementTree, assign, service_call, Block, BodyTree}
+use Rattle.fmp_tasklang.specs.Trees.{ExpressionTree, StatementTree, assign, assign_element, service_call, Block, BodyTree}
 use Rattle.fmp_tasklang.specs.Views.{LinkTree, expression_view, link_view, statement_view, body_view, program_view}
 use Rattle.fmp_tasklang.specs.Blocks.{block_of}
-use Rattle.fmp_tasklang.specs.Expressions.{operator_of, loosest, IsWord, IsOperand, IsExpression}
+use Rattle.fmp_tasklang.specs.Expressions.{operator_of, loosest, IsWord, IsOperand, IsIndex, IsExpression}
 use Rattle.fmp_tasklang.specs.Calls.{ArgumentTree, value, out, Called, called, call_tree, OnePart, Parts, OneCall}
-use Rattle.fmp_tasklang.specs.Statements.{jump_of, IsCondition, IsStatement, IsIf, IsElse, IsOther, IsBlock}
-use Rattle.fmp_tasklang.specs.Grammar.{body_kind_of, OneVariable, OneBody, Bodies}
+use Rattle.fmp_tasklang.specs.Statements.{jump_of, IsBracketed, IsCondition, IsStatement, IsIf, IsElse, IsOther, IsBlock}
+use Rattle.fmp_tasklang.specs.Grammar.{body_kind_of, number_of, OneLength, OneVariable, OneBody, Bodies}
 
 abbrev pub itself : {A : Type 0} → A → A
 itself a = a
 
--- no operator follows that binds tighter than l
+-- no `[` follows
+abbrev pub EndsOperand : List TokenKind → ℕ → Type 0
+EndsOperand ts j = slice_get ts j ≡ Some (kind.Symbol symbol.LeftBracket) → ⊥
+
+-- no `[` follows, and no operator that binds tighter than l
 abbrev pub EndsExpression : ℕ → List TokenKind → ℕ → Type 0
-EndsExpression l ts j = (m : ℕ) (op : Operator) → option_and_then operator_of (slice_get ts j) ≡ Some (m, op) → l ≤ m
+EndsExpression l ts j =
+    EndsOperand ts j
+    × ((m : ℕ) (op : Operator) → option_and_then operator_of (slice_get ts j) ≡ Some (m, op) → l ≤ m)
 
 -- no `else` follows
 abbrev pub EndsElse : List TokenKind → ℕ → Type 0
@@ -68,6 +80,16 @@ abbrev pub assigned : Word → SourceTree → StatementTree
 assigned w (by_value e) = assign w e
 assigned w (by_call c) = service_call (call_tree (Some w) c)
 
+-- what stands behind the name with which an assignment begins: `=` and a source, or an index, `=` and an expression
+pub data ChangeTree : Type 0 where
+  to_variable : SourceTree → ChangeTree
+  to_element : ExpressionTree × ExpressionTree → ChangeTree
+
+-- the statement of both
+abbrev pub changed : Word → ChangeTree → StatementTree
+changed w (to_variable r) = assigned w r
+changed w (to_element p) = assign_element w p.0 p.1
+
 -- a jump and `;`
 abbrev pub Jump : Bool → Rel StatementTree
 Jump loop ts limit i s j = (a : ℕ) × IsItem (jump_of loop) ts i s a × IsToken ts (kind.Symbol symbol.Semicolon) a j
@@ -79,9 +101,19 @@ RightJump ts loop i = Right (At (Jump loop) i) Anywhere ts i
 abbrev pub OneWord : Rel Word
 OneWord ts limit i w j = IsWord ts i w j
 
+-- the number of places in a declaration, with its place
+abbrev pub OneCount : Rel Length
+OneCount ts limit i l j = (l.at ≡ i) × IsItem number_of ts i l.places j
+
 module _ (d : ℕ) where
   abbrev pub OneOperand : Rel ExpressionTree
   OneOperand ts limit i e j = IsOperand ts limit d i e j
+
+  abbrev pub OneIndex : Rel (Option ExpressionTree)
+  OneIndex ts limit i o j = IsIndex ts limit d i o j
+
+  abbrev pub Bracketed : Rel ExpressionTree
+  Bracketed ts limit i e j = IsBracketed ts limit d i e j
 
   abbrev pub OneExpression : ℕ → Rel ExpressionTree
   OneExpression l ts limit i e j = IsExpression ts limit d l i e j
@@ -103,14 +135,32 @@ module _ (d : ℕ) where
   OneSource ts limit i (by_value e) j = IsExpression ts limit d loosest i e j
   OneSource ts limit i (by_call c) j = OneCall d ts limit i c j
 
-  -- name = source ;
+  -- = source ;
+  abbrev pub OneVariableChange : Rel SourceTree
+  OneVariableChange ts limit i r j =
+      (a : ℕ)
+      × IsToken ts (kind.Symbol symbol.Assign) i a
+      × ((b : ℕ) × OneSource ts limit a r b × IsToken ts (kind.Symbol symbol.Semicolon) b j)
+
+  -- [ expr ] = expr ;
+  abbrev pub OneElementChange : Rel (ExpressionTree × ExpressionTree)
+  OneElementChange ts limit i p j =
+      (a : ℕ)
+      × IsBracketed ts limit d i p.0 a
+      × ((b : ℕ) × IsToken ts (kind.Symbol symbol.Assign) a b
+      × ((c : ℕ) × IsExpression ts limit d loosest b p.1 c × IsToken ts (kind.Symbol symbol.Semicolon) c j))
+
+  abbrev pub OneChange : Rel ChangeTree
+  OneChange ts limit i (to_variable r) j = OneVariableChange ts limit i r j
+  OneChange ts limit i (to_element p) j = OneElementChange ts limit i p j
+
+  -- name = source ; | name [ expr ] = expr ;
   abbrev pub Assignment : Rel StatementTree
   Assignment ts limit i s j =
       (w : Word)
-      × (r : SourceTree)
-      × (s ≡ assigned w r)
-      × (a : ℕ) × IsWord ts i w a × (b : ℕ) × IsToken ts (kind.Symbol symbol.Assign) a b ×
-      (c : ℕ) × OneSource ts limit b r c × IsToken ts (kind.Symbol symbol.Semicolon) c j
+      × (c : ChangeTree)
+      × (s ≡ changed w c)
+      × (a : ℕ) × IsWord ts i w a × OneChange ts limit a c j
 
   -- call ;
   abbrev pub PlainCall : Rel StatementTree
@@ -140,10 +190,16 @@ module _ (ts : List TokenKind) where
   abbrev pub RightWord : ℕ → ParseResult Word → Type 0
   RightWord i = Right (At OneWord i) Anywhere ts i
 
-  abbrev pub RightVariable : ℕ → ParseResult Word → Type 0
+  abbrev pub RightCount : ℕ → ParseResult Length → Type 0
+  RightCount i = Right (At OneCount i) Anywhere ts i
+
+  abbrev pub RightLength : ℕ → ParseResult (Option Length) → Type 0
+  RightLength i = Right (At OneLength i) EndsOperand ts i
+
+  abbrev pub RightVariable : ℕ → ParseResult Declaration → Type 0
   RightVariable i = Right (At OneVariable i) Anywhere ts i
 
-  abbrev pub RightVariables : ℕ → ParseResult (List Word) → Type 0
+  abbrev pub RightVariables : ℕ → ParseResult (List Declaration) → Type 0
   RightVariables i = Right (At (Star OneVariable) i) EndsVariables ts i
 
   abbrev pub RightBody : ℕ → ParseResult BodyTree → Type 0
@@ -154,7 +210,13 @@ module _ (ts : List TokenKind) where
 
   module _ (d : ℕ) where
     abbrev pub RightOperand : ℕ → ParseResult ExpressionTree → Type 0
-    RightOperand i = Right (At (OneOperand d) i) Anywhere ts i
+    RightOperand i = Right (At (OneOperand d) i) EndsOperand ts i
+
+    abbrev pub RightIndex : ℕ → ParseResult (Option ExpressionTree) → Type 0
+    RightIndex i = Right (At (OneIndex d) i) EndsOperand ts i
+
+    abbrev pub RightBracketed : ℕ → ParseResult ExpressionTree → Type 0
+    RightBracketed i = Right (At (Bracketed d) i) Anywhere ts i
 
     abbrev pub RightExpression : ℕ → ℕ → ParseResult ExpressionTree → Type 0
     RightExpression l i = Right (At (OneExpression d l) i) (EndsExpression l) ts i
@@ -180,6 +242,15 @@ module _ (ts : List TokenKind) where
 
     abbrev pub RightSource : ℕ → ParseResult SourceTree → Type 0
     RightSource i = Right (At (OneSource d) i) (EndsExpression loosest) ts i
+
+    abbrev pub RightVariableChange : ℕ → ParseResult SourceTree → Type 0
+    RightVariableChange i = Right (At (OneVariableChange d) i) Anywhere ts i
+
+    abbrev pub RightElementChange : ℕ → ParseResult (ExpressionTree × ExpressionTree) → Type 0
+    RightElementChange i = Right (At (OneElementChange d) i) Anywhere ts i
+
+    abbrev pub RightChange : ℕ → ParseResult ChangeTree → Type 0
+    RightChange i = Right (At (OneChange d) i) Anywhere ts i
 
     abbrev pub RightAssignment : ℕ → ParseResult StatementTree → Type 0
     RightAssignment i = Right (At (Assignment d) i) Anywhere ts i
@@ -207,8 +278,12 @@ module _ (ts : List TokenKind) where
       RightStatements i = Right (At (Star (OneStatement d loop)) i) EndsStatements ts i
 
 -- what the vectors of the code hold
-abbrev pub words_view : Vec Word Global → List Word
-words_view v = v.items
+abbrev pub declarations_view : Vec Declaration Global → List Declaration
+declarations_view v = v.items
+
+abbrev pub index_view : Option Expression → Option ExpressionTree
+index_view None = None
+index_view (Some e) = Some (expression_view e)
 
 abbrev pub links_view : Vec Link Global → List LinkTree
 links_view v = map link_view v.items
@@ -238,6 +313,13 @@ argument_view (Some (argument.Out w)) = Some (out w)
 abbrev pub source_view : Given → SourceTree
 source_view (given.Value e) = by_value (expression_view e)
 source_view (given.Call c) = by_call (called_view c)
+
+abbrev pub element_view : ElementChange → ExpressionTree × ExpressionTree
+element_view c = (expression_view c.index, expression_view c.value)
+
+abbrev pub change_view : Change → ChangeTree
+change_view (change.Variable g) = to_variable (source_view g)
+change_view (change.Element c) = to_element (element_view c)
 
 -- the tokens are bodies that spell this program and no other one, or else the first fault stands at this place
 abbrev pub IsVerdict : List TokenKind → Result Program ReadError → Type 0

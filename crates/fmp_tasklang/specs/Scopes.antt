@@ -1,19 +1,21 @@
--- What a name means in a body: a local variable, or an object of the configuration.
-use Rattle.std.specs.Prelude.{ℕ, ◌+◌, List, [], ◌∷◌, Option, Some, None, map, position, codes}
+-- What a name means in a body: a local variable or array, or an object of the configuration.
+use Rattle.std.specs.Prelude.{ℕ, ◌+◌, List, [], ◌∷◌, Option, Some, None, map, position, slice_get, Bool, true, false, if◌then◌else◌}
 use Rattle.std.specs.Str.{bytes_eq}
 use Rattle.fmp_base.specs.declared.names.Name.{Name}
-use Rattle.fmp_base.specs.Names.{name_text, name_from}
+use Rattle.fmp_base.specs.Names.{name_text}
 use Rattle.fmp_base.specs.Systems.{SystemTables}
+use Rattle.fmp_tasklang.specs.Layout.{Local, locals_of}
 use Rattle.fmp_tasklang.specs.Trees.{BodyTree}
 
--- the names of the objects, a table after another, and the local variables in order of place
+-- the names of the objects, a table after another, and the locals in order of declaration
 pub record Scope : Type 0 where
   pub objects : List (List Name)
-  pub variables : List Name
+  pub locals : List Local
 
--- a variable by its place among the locals, or an object by its number
+-- a variable or an array by its number among the locals, from 0, or an object by its number
 pub data NameMeaning : Type 0 where
   Variable : ℕ → NameMeaning
+  Array : ℕ → NameMeaning
   Object : ℕ → NameMeaning
   Unknown : NameMeaning
 
@@ -45,20 +47,26 @@ abbrev pub object_number : List ℕ → List (List Name) → NameMeaning
 object_number text [] = Unknown
 object_number text (names ∷ rest) = number_or (place_of text names) (object_number text rest)
 
--- a local variable, or else an object
-abbrev pub variable_or : Option ℕ → List (List Name) → List ℕ → NameMeaning
-variable_or (Some place) objects text = Variable place
-variable_or None objects text = object_number text objects
+-- whether there is an array of this number
+abbrev pub is_array_or_none : Option Local → Bool
+is_array_or_none None = false
+is_array_or_none (Some l) = l.is_array
 
--- what a name means: a local variable of that text, else an object, else nothing
+-- the local of a number
+abbrev pub local_meaning : List Local → ℕ → NameMeaning
+local_meaning locals number = if is_array_or_none (slice_get locals number) then Array number else Variable number
+
+-- a local, or else an object
+abbrev pub local_or : Option ℕ → Scope → List ℕ → NameMeaning
+local_or (Some number) scope text = local_meaning scope.locals number
+local_or None scope text = object_number text scope.objects
+
+-- what a name means: a local of that text, else an object, else nothing
 abbrev pub meaning_of : Scope → Name → NameMeaning
-meaning_of scope n = let text = name_text n in variable_or (place_of text scope.variables) scope.objects text
+meaning_of scope n =
+    let text = name_text n in
+    local_or (place_of text (map (λ (l : Local). l.name) scope.locals)) scope text
 
--- the extended information of a task or a handler is its local 0
-abbrev pub exinf_name : Name
-exinf_name = name_from (codes "exinf")
-
--- `exinf`, and then the declared variables in order
+-- the objects of a configuration and the locals of a body
 abbrev pub scope_of : SystemTables → BodyTree → Scope
-scope_of tables body =
-    record { objects = object_names tables; variables = exinf_name ∷ map (λ w. w.name) body.variables }
+scope_of tables body = record { objects = object_names tables; locals = locals_of body }

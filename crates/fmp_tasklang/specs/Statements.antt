@@ -6,7 +6,7 @@ use Rattle.fmp_lex.specs.declared.token.TokenKind.TheVariants as kind
 use Rattle.fmp_base.specs.declared.words.Keyword.TheVariants as keyword
 use Rattle.fmp_lex.specs.Reading.{Allows, IsToken, IsItem}
 use Rattle.fmp_tasklang.specs.declared.trees.Word.{Word}
-use Rattle.fmp_tasklang.specs.Trees.{ExpressionTree, StatementTree, assign, service_call, while, break, continue, return, Block}
+use Rattle.fmp_tasklang.specs.Trees.{ExpressionTree, StatementTree, assign, assign_element, service_call, while, break, continue, return, Block}
 use Rattle.fmp_tasklang.specs.Blocks.{block_of, choice}
 use Rattle.fmp_tasklang.specs.Expressions.{loosest, IsWord, IsExpression}
 use Rattle.fmp_tasklang.specs.Calls.{Called, call_tree, OneCall}
@@ -25,6 +25,13 @@ module _ (ts : List TokenKind) (limit : ℕ) where
       (a : ℕ) × IsToken ts (kind.Symbol symbol.LeftParen) i a ×
       ((b : ℕ) × IsExpression ts limit d loosest a e b × IsToken ts (kind.Symbol symbol.RightParen) b j)
 
+  -- [ expr ], where the brackets open a level
+  abbrev pub IsBracketed : ℕ → ℕ → ExpressionTree → ℕ → Type 0
+  IsBracketed d i e j =
+      Allows limit i d ×
+      ((a : ℕ) × IsToken ts (kind.Symbol symbol.LeftBracket) i a ×
+      ((b : ℕ) × IsExpression ts limit (d + 1) loosest a e b × IsToken ts (kind.Symbol symbol.RightBracket) b j))
+
   -- [name =]
   abbrev pub IsResult : ℕ → Option Word → ℕ → Type 0
   IsResult i None j = j ≡ i
@@ -32,11 +39,16 @@ module _ (ts : List TokenKind) (limit : ℕ) where
 
   -- d is how many levels of nesting are open, and `loop` whether a loop is
   mutual
-    -- name = expr ; | [name =] call ; | return ; | in a loop break ; and continue ; | if | while ( expr ) block
+    -- name = expr ; | name [ expr ] = expr ; | [name =] call ; | return ; | in a loop break ; and continue ; | if |
+    -- while ( expr ) block
     pub data IsStatement : ℕ → Bool → ℕ → StatementTree → ℕ → Type 0 where
       an_assignment : {d i b j : ℕ} {loop : Bool} {w : Word} {e : ExpressionTree} (a : ℕ) → IsResult i (Some w) a →
           IsExpression ts limit d loosest a e b → IsToken ts (kind.Symbol symbol.Semicolon) b j
           → IsStatement d loop i (assign w e) j
+      an_element_assignment : {d i b c k j : ℕ} {loop : Bool} {w : Word} {index e : ExpressionTree} (a : ℕ)
+          → IsWord ts i w a → IsBracketed d a index b → IsToken ts (kind.Symbol symbol.Assign) b c →
+          IsExpression ts limit d loosest c e k → IsToken ts (kind.Symbol symbol.Semicolon) k j
+          → IsStatement d loop i (assign_element w index e) j
       a_call : {d i j : ℕ} {loop : Bool} {s : StatementTree} (r : Option Word) (a : ℕ) (c : Called) (b : ℕ)
           → IsResult i r a →
           OneCall d ts limit a c b → IsToken ts (kind.Symbol symbol.Semicolon) b j

@@ -4,12 +4,14 @@ use Rattle.fmp_base.specs.declared.services.Service.{Service}
 use Rattle.fmp_base.specs.declared.operators.UnaryOperator.{UnaryOperator}
 use Rattle.fmp_base.specs.declared.operators.BinaryOperator.{BinaryOperator}
 use Rattle.fmp_tasklang.specs.declared.trees.BodyKind.{BodyKind}
+use Rattle.fmp_tasklang.specs.declared.trees.Declaration.{Declaration}
 use Rattle.fmp_tasklang.specs.declared.trees.Word.{Word}
 
 -- an expression
 pub data ExpressionTree : Type 0 where
   number : ℤ → ExpressionTree
   named : Word → ExpressionTree
+  element : Word → ExpressionTree → ExpressionTree
   unary : UnaryOperator → ExpressionTree → ExpressionTree
   binary : BinaryOperator → ExpressionTree → ExpressionTree → ExpressionTree
   both : ExpressionTree → ExpressionTree → ExpressionTree
@@ -26,6 +28,7 @@ pub record CallTree : Type 0 where
 mutual
   pub data StatementTree : Type 0 where
     assign : Word → ExpressionTree → StatementTree
+    assign_element : Word → ExpressionTree → ExpressionTree → StatementTree
     service_call : CallTree → StatementTree
     if_then : ExpressionTree → Block → StatementTree
     if_else : ExpressionTree → Block → Block → StatementTree
@@ -43,5 +46,5 @@ pub record BodyTree : Type 0 where
   pub kind : BodyKind
   pub at : ℕ
   pub name : Word
-  pub variables : List Word
+  pub variables : List Declaration
   pub statements : Block

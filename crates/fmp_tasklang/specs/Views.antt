@@ -7,10 +7,10 @@ use Rattle.fmp_tasklang.specs.declared.trees.Expression.TheOpen.{Expression-F, L
 use Rattle.fmp_tasklang.specs.declared.trees.Link.{Link, fold-Link}
 use Rattle.fmp_tasklang.specs.declared.trees.ServiceCall.{ServiceCall}
 use Rattle.fmp_tasklang.specs.declared.trees.Statement.{Statement, Row_of-Statement, end_of-Statement, more_of-Statement}
-use Rattle.fmp_tasklang.specs.declared.trees.Statement.TheVariants.{Assign, Call, If', IfElse', While', Break, Continue, Return}
+use Rattle.fmp_tasklang.specs.declared.trees.Statement.TheVariants.{Assign, AssignElement, Call, If', IfElse', While', Break, Continue, Return}
 use Rattle.fmp_tasklang.specs.declared.trees.Body.{Body}
 use Rattle.fmp_tasklang.specs.declared.trees.Program.{Program}
-use Rattle.fmp_tasklang.specs.Trees.{ExpressionTree, number, named, unary, binary, both, either, CallTree, StatementTree, assign, service_call, if_then, if_else, while, break, continue, return, Block, empty, next, BodyTree}
+use Rattle.fmp_tasklang.specs.Trees.{ExpressionTree, number, named, element, unary, binary, both, either, CallTree, StatementTree, assign, assign_element, service_call, if_then, if_else, while, break, continue, return, Block, empty, next, BodyTree}
 
 -- an operator between two trees
 abbrev pub join : Operator → ExpressionTree → ExpressionTree → ExpressionTree
@@ -32,6 +32,7 @@ chain_tree a (l ∷ more) = chain_tree (join l.operator a l.operand) more
 abbrev pub expression_step : Expression-F ExpressionTree LinkTree → ExpressionTree
 expression_step (Expression-F.Number k) = number k
 expression_step (Expression-F.Name w) = named w
+expression_step (Expression-F.Element w e) = element w e.value
 expression_step (Expression-F.Unary op e) = unary op e.value
 expression_step (Expression-F.Chain a links) = chain_tree a.value links.items
 
@@ -55,6 +56,7 @@ call_view c =
 abbrev mutual
   pub statement_view : Statement → StatementTree
   statement_view (Assign w e) = assign w (expression_view e)
+  statement_view (AssignElement w i e) = assign_element w (expression_view i) (expression_view e)
   statement_view (Call c) = service_call (call_view c)
   statement_view (If' e m s) = if_then (expression_view e) (row_view s)
   statement_view (IfElse' e m s n r) = if_else (expression_view e) (row_view s) (row_view r)

@@ -2,29 +2,47 @@
 ghost use Rattle.std.specs.Prelude.{◌≡◌, ◌^◌, ◌+◌, ◌≤◌, ◌<◌, Some, length, slice_get, option_and_then};
 ghost use Rattle.fmp_lex.specs.Reading.{kinds_of, Answers, Finds};
 ghost use Rattle.fmp_tasklang.specs.Grammar.{body_kind_of};
-ghost use Rattle.fmp_tasklang.specs.Reading.{itself, words_view, bodies_view, RightVariable, RightVariables, RightBody, RightBodies, IsVerdict};
+ghost use Rattle.fmp_tasklang.specs.Reading.{itself, declarations_view, bodies_view, RightLength, RightVariable, RightVariables, RightBody, RightBodies, IsVerdict};
 ghost use Rattle.fmp_tasklang.specs.Views.{body_view};
 
 use crate::statements::statements;
-use crate::trees::{Body, BodyKind, Program, Word};
-use crate::words::{body_kind_at, expect_word};
-use fmp_lex::reading::{expect_keyword, expect_symbol, is_keyword_at};
+use crate::trees::{Body, BodyKind, Declaration, Length, Program};
+use crate::words::{body_kind_at, expect_count, expect_word};
+use fmp_lex::reading::{expect_keyword, expect_symbol, is_keyword_at, is_symbol_at};
 use fmp_lex::{FirstFault, GrammarFault, Keyword, ReadError, Symbol, Tokens};
 use std::alloc::Global;
 
-fn variable(tokens: &Tokens<'_>, at: usize) -> Result<(Word, usize), FirstFault>
+/// The number of places between brackets, if it stands at a place.
+fn length(tokens: &Tokens<'_>, at: usize) -> Result<(Option<Length>, usize), FirstFault>
+    requires { at ≤ length tokens.now }
+    ensures { Finds itself result (RightLength (kinds_of tokens.now) at) }
+{
+    if !is_symbol_at(tokens, at, Symbol::LeftBracket) {
+        return Ok((None, at));
+    }
+    let (number, next) = expect_count(tokens, at + 1)?;
+    let next = expect_symbol(tokens, next, Symbol::RightBracket)?;
+    Ok((Some(number), next))
+}
+
+fn variable(tokens: &Tokens<'_>, at: usize) -> Result<(Declaration, usize), FirstFault>
     requires { at ≤ length tokens.now }
     ensures { Finds itself result (RightVariable (kinds_of tokens.now) at) }
 {
     let next = expect_keyword(tokens, at, Keyword::Var)?;
     let (name, next) = expect_word(tokens, next)?;
+    let (length, next) = length(tokens, next)?;
     let next = expect_symbol(tokens, next, Symbol::Semicolon)?;
-    Ok((name, next))
+    Ok((Declaration { name, length }, next))
 }
 
-fn variables(alloc: Global, tokens: &Tokens<'_>, at: usize) -> Result<(Vec<Word>, usize), ReadError>
+fn variables(
+    alloc: Global,
+    tokens: &Tokens<'_>,
+    at: usize,
+) -> Result<(Vec<Declaration>, usize), ReadError>
     requires { at ≤ length tokens.now }
-    ensures { Answers words_view result (RightVariables (kinds_of tokens.now) at) }
+    ensures { Answers declarations_view result (RightVariables (kinds_of tokens.now) at) }
 {
     let mut found = Vec::new(alloc);
     let mut i = at;

@@ -1,13 +1,13 @@
 //! Expressions of the task language.
-ghost use Rattle.std.specs.Prelude.{◌≡◌, ◌^◌, ◌≤◌, ◌<◌, ◌+◌, Some, length, slice_get, option_and_then};
+ghost use Rattle.std.specs.Prelude.{◌≡◌, ◌^◌, ◌≤◌, ◌<◌, ◌+◌, Some, length, slice_get, option_and_then, IfOk, IfErr};
 ghost use Rattle.fmp_lex.specs.Reading.{kinds_of, max_depth, Answers};
 ghost use Rattle.fmp_lex.specs.declared.token.Symbol.TheVariants as symbol;
-ghost use Rattle.fmp_tasklang.specs.Expressions.{loosest, unary_of};
-ghost use Rattle.fmp_tasklang.specs.Reading.{links_view, RightOperand, RightExpression, RightLinks};
+ghost use Rattle.fmp_tasklang.specs.Expressions.{loosest, reference, unary_of};
+ghost use Rattle.fmp_tasklang.specs.Reading.{index_view, links_view, RightOperand, RightIndex, RightBracketed, RightExpression, RightLinks};
 ghost use Rattle.fmp_tasklang.specs.Trees as trees;
 ghost use Rattle.fmp_tasklang.specs.Views.{expression_view};
 
-use crate::trees::{Expression, Link};
+use crate::trees::{Expression, Link, Word};
 use crate::words::{LOOSEST, MAX_DEPTH, expect_word, level_at, number_at, operator_at, unary_at};
 use fmp_base::UnaryOperator;
 use fmp_lex::reading::{expect_symbol, is_symbol_at};
@@ -18,6 +18,20 @@ fn literal(number: i32) -> Expression
     ensures { expression_view result ≡ trees.number number }
 {
     Expression::Number(number)
+}
+
+/// A name, or the element of an array if an index stands behind the name.
+fn refer(alloc: Global, word: Word, index: Option<Expression>) -> Result<Expression, ReadError>
+    ensures tree { IfOk result (λ e. expression_view e ≡ reference word (index_view index)) }
+    ensures memory { IfErr result (λ e. e ≡ ReadError.Memory) }
+{
+    match index {
+        None => Ok(Expression::Name(word)),
+        Some(inner) => {
+            let index = Box::new(alloc, inner)?;
+            Ok(Expression::Element { array: word, index })
+        }
+    }
 }
 
 /// The operand at a place, given the number of open levels of nesting, and the place behind it.
@@ -43,7 +57,53 @@ fn operand(
         return group(alloc, tokens, depth, at);
     }
     let (word, next) = expect_word(tokens, at)?;
-    Ok((Expression::Name(word), next))
+    let (index, next) = index(alloc, tokens, depth, next)?;
+    let operand = refer(alloc, word, index)?;
+    Ok((operand, next))
+}
+
+/// An index between brackets, if one stands at a place.
+#[cycle(expressions)]
+fn index(
+    alloc: Global,
+    tokens: &Tokens<'_>,
+    depth: usize,
+    at: usize,
+) -> Result<(Option<Expression>, usize), ReadError>
+    requires depth { depth ≤ max_depth }
+    requires at { at ≤ length tokens.now }
+    ensures { Answers index_view result (RightIndex (kinds_of tokens.now) depth at) }
+{
+    if !is_symbol_at(tokens, at, Symbol::LeftBracket) {
+        return Ok((None, at));
+    }
+    let (inner, next) = bracketed(alloc, tokens, depth, at)?;
+    Ok((Some(inner), next))
+}
+
+/// `[`, an expression a level deeper and `]`.
+#[cycle(expressions)]
+pub fn bracketed(
+    alloc: Global,
+    tokens: &Tokens<'_>,
+    depth: usize,
+    at: usize,
+) -> Result<(Expression, usize), ReadError>
+    requires depth { depth ≤ max_depth }
+    requires at { at < length tokens.now }
+    requires room { at + 1 < 2 ^ 64 }
+    requires first { slice_get (kinds_of tokens.now) at ≡ Some (TokenKind.Symbol symbol.LeftBracket) }
+    ensures { Answers expression_view result (RightBracketed (kinds_of tokens.now) depth at) }
+{
+    if depth == MAX_DEPTH {
+        return Err(ReadError::Fault(FirstFault {
+            at,
+            why: GrammarFault::Depth,
+        }));
+    }
+    let (inner, next) = expression(alloc, tokens, depth + 1, LOOSEST, at + 1)?;
+    let next = expect_symbol(tokens, next, Symbol::RightBracket)?;
+    Ok((inner, next))
 }
 
 #[cycle(expressions)]

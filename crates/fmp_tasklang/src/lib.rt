@@ -15,6 +15,7 @@ mod words;
 pub use bodies::body;
 pub use reading::read_tasks;
 pub use trees::{
-    Body, BodyKind, Expression, Link, Operator, Program, ServiceCall, Statement, Word,
+    Body, BodyKind, Declaration, Expression, Length, Link, Operator, Program, ServiceCall,
+    Statement, Word,
 };
 pub use words::body_kind_at;

@@ -2,15 +2,16 @@
 ghost use Rattle.std.specs.Prelude.{◌≡◌, ◌^◌, ◌≤◌, ◌<◌, ◌+◌, Some, true, length, slice_get, option_and_then};
 ghost use Rattle.fmp_lex.specs.Reading.{kinds_of, max_depth, Answers};
 ghost use Rattle.fmp_base.specs.declared.words.Keyword.TheVariants as keyword;
+ghost use Rattle.fmp_lex.specs.declared.token.Symbol.TheVariants as symbol;
 ghost use Rattle.fmp_tasklang.specs.Blocks.{choice};
 ghost use Rattle.fmp_tasklang.specs.Calls.{service_of, call_tree};
-ghost use Rattle.fmp_tasklang.specs.Reading.{statements_view, block_view, else_view, source_view, called_view, assigned, RightCondition, RightSource, RightAssignment, RightPlainCall, RightJump, RightStatement, RightIf, RightElse, RightOther, RightBlock, RightStatements};
+ghost use Rattle.fmp_tasklang.specs.Reading.{statements_view, block_view, else_view, source_view, element_view, change_view, called_view, assigned, changed, RightCondition, RightSource, RightVariableChange, RightElementChange, RightChange, RightAssignment, RightPlainCall, RightJump, RightStatement, RightIf, RightElse, RightOther, RightBlock, RightStatements};
 ghost use Rattle.fmp_tasklang.specs.Statements.{jump_of};
 ghost use Rattle.fmp_tasklang.specs.Trees.{service_call};
 ghost use Rattle.fmp_tasklang.specs.Views.{expression_view, statement_view};
 
 use crate::calls::call;
-use crate::expressions::expression;
+use crate::expressions::{bracketed, expression};
 use crate::trees::{Expression, ServiceCall, Statement, Word};
 use crate::words::{LOOSEST, MAX_DEPTH, expect_word, jump_at, service_at};
 use fmp_base::Service;
@@ -23,6 +24,22 @@ use std::alloc::Global;
 pub enum Given {
     Value(Expression),
     Call(ServiceCall),
+}
+
+/// What stands behind the name with which an assignment begins.
+#[derive(Drop)]
+pub enum Change {
+    /// `= given ;`
+    Variable(Given),
+    /// `[index] = value ;`
+    Element(ElementChange),
+}
+
+/// `[index] = value ;`
+#[derive(Drop)]
+pub struct ElementChange {
+    pub index: Expression,
+    pub value: Expression,
 }
 
 fn condition(
@@ -79,6 +96,73 @@ fn assign(target: Word, source: Given) -> Statement
     }
 }
 
+fn make(target: Word, change: Change) -> Statement
+    ensures { statement_view result ≡ changed target (change_view change) }
+{
+    match change {
+        Change::Variable(source) => assign(target, source),
+        Change::Element(element) => Statement::AssignElement {
+            array: target,
+            index: element.index,
+            value: element.value,
+        },
+    }
+}
+
+fn variable_change(
+    alloc: Global,
+    tokens: &Tokens<'_>,
+    depth: usize,
+    at: usize,
+) -> Result<(Given, usize), ReadError>
+    requires depth { depth ≤ max_depth }
+    requires at { at ≤ length tokens.now }
+    ensures { Answers source_view result (RightVariableChange (kinds_of tokens.now) depth at) }
+{
+    let next = expect_symbol(tokens, at, Symbol::Assign)?;
+    let (source, next) = source(alloc, tokens, depth, next)?;
+    let next = expect_symbol(tokens, next, Symbol::Semicolon)?;
+    Ok((source, next))
+}
+
+fn element_change(
+    alloc: Global,
+    tokens: &Tokens<'_>,
+    depth: usize,
+    at: usize,
+) -> Result<(ElementChange, usize), ReadError>
+    requires depth { depth ≤ max_depth }
+    requires at { at < length tokens.now }
+    requires room { at + 1 < 2 ^ 64 }
+    requires first { slice_get (kinds_of tokens.now) at ≡ Some (TokenKind.Symbol symbol.LeftBracket) }
+    ensures { Answers element_view result (RightElementChange (kinds_of tokens.now) depth at) }
+{
+    let (index, next) = bracketed(alloc, tokens, depth, at)?;
+    let next = expect_symbol(tokens, next, Symbol::Assign)?;
+    let (value, next) = expression(alloc, tokens, depth, LOOSEST, next)?;
+    let next = expect_symbol(tokens, next, Symbol::Semicolon)?;
+    Ok((ElementChange { index, value }, next))
+}
+
+/// What an assignment changes, and how: the rest of the statement behind its first name.
+fn one_change(
+    alloc: Global,
+    tokens: &Tokens<'_>,
+    depth: usize,
+    at: usize,
+) -> Result<(Change, usize), ReadError>
+    requires depth { depth ≤ max_depth }
+    requires at { at ≤ length tokens.now }
+    ensures { Answers change_view result (RightChange (kinds_of tokens.now) depth at) }
+{
+    if is_symbol_at(tokens, at, Symbol::LeftBracket) {
+        let (element, next) = element_change(alloc, tokens, depth, at)?;
+        return Ok((Change::Element(element), next));
+    }
+    let (source, next) = variable_change(alloc, tokens, depth, at)?;
+    Ok((Change::Variable(source), next))
+}
+
 fn assignment(
     alloc: Global,
     tokens: &Tokens<'_>,
@@ -90,10 +174,8 @@ fn assignment(
     ensures { Answers statement_view result (RightAssignment (kinds_of tokens.now) depth at) }
 {
     let (target, next) = expect_word(tokens, at)?;
-    let next = expect_symbol(tokens, next, Symbol::Assign)?;
-    let (source, next) = source(alloc, tokens, depth, next)?;
-    let next = expect_symbol(tokens, next, Symbol::Semicolon)?;
-    Ok((assign(target, source), next))
+    let (change, next) = one_change(alloc, tokens, depth, next)?;
+    Ok((make(target, change), next))
 }
 
 fn plain_call(

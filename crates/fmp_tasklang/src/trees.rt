@@ -28,6 +28,11 @@ pub enum Expression {
     Number(i32),
     /// A variable or an object.
     Name(Word),
+    /// The element of an array that the value of an expression names, counted from 0.
+    Element {
+        array: Word,
+        index: Box<Expression>,
+    },
     /// An operator before its operand.
     Unary {
         operator: UnaryOperator,
@@ -68,6 +73,12 @@ pub enum Statement {
         target: Word,
         value: Expression,
     },
+    /// `array[index] = value;`
+    AssignElement {
+        array: Word,
+        index: Expression,
+        value: Expression,
+    },
     /// A service call, with or without a variable before `=`.
     Call(ServiceCall),
     /// An `if` without an `else`.
@@ -102,6 +113,23 @@ pub enum BodyKind {
     Handler,
 }
 
+/// The number between the brackets of a declaration.
+#[derive(Clone, Copy)]
+pub struct Length {
+    /// How many places the array has, as the text says it. Only 1 to 63 are allowed, which the compiler judges.
+    pub places: i32,
+    /// The place of its token in the list of tokens.
+    pub at: u32,
+}
+
+/// A declared variable.
+#[derive(Clone, Copy)]
+pub struct Declaration {
+    pub name: Word,
+    /// The length of an array; none for a plain variable.
+    pub length: Option<Length>,
+}
+
 /// The body of a task or of a handler.
 #[derive(Drop)]
 pub struct Body {
@@ -110,7 +138,7 @@ pub struct Body {
     pub at: u32,
     pub name: Word,
     /// The declared variables, in order.
-    pub variables: Vec<Word>,
+    pub variables: Vec<Declaration>,
     pub statements: Vec<Statement>,
 }
 

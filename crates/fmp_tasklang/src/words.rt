@@ -4,11 +4,11 @@ ghost use Rattle.fmp_lex.specs.Reading.{kinds_of, Finds};
 ghost use Rattle.fmp_tasklang.specs.Calls as calls;
 ghost use Rattle.fmp_tasklang.specs.Expressions as expressions;
 ghost use Rattle.fmp_tasklang.specs.Grammar as grammar;
-ghost use Rattle.fmp_tasklang.specs.Reading.{itself, RightWord};
+ghost use Rattle.fmp_tasklang.specs.Reading.{itself, RightWord, RightCount};
 ghost use Rattle.fmp_tasklang.specs.Statements as statements;
 ghost use Rattle.fmp_tasklang.specs.Views.{statement_view};
 
-use crate::trees::{BodyKind, Operator, Statement, Word};
+use crate::trees::{BodyKind, Length, Operator, Statement, Word};
 use fmp_base::{BinaryOperator, Name, Service, UnaryOperator};
 use fmp_lex::reading::kind_at;
 use fmp_lex::{FirstFault, GrammarFault, Keyword, Symbol, TokenKind, Tokens};
@@ -25,6 +25,15 @@ fn token_number(kind: TokenKind) -> Option<i32>
     match kind {
         TokenKind::Number(number) => Some(number),
         TokenKind::Constant(constant) => Some(constant.value()),
+        _ => None,
+    }
+}
+
+fn number_of(kind: TokenKind) -> Option<i32>
+    ensures { result ≡ grammar.number_of kind }
+{
+    match kind {
+        TokenKind::Number(number) => Some(number),
         _ => None,
     }
 }
@@ -120,6 +129,16 @@ pub fn number_at(tokens: &Tokens<'_>, at: usize) -> Option<i32>
     token_number(kind_at(tokens, at)?)
 }
 
+/// The number at a place; a constant is none.
+pub fn plain_number_at(tokens: &Tokens<'_>, at: usize) -> Option<i32>
+    ensures value { result ≡ option_and_then grammar.number_of (slice_get (kinds_of tokens.now) at) }
+    ensures within { IfSome result (λ _. at < length tokens.now) }
+    ensures room { IfSome result (λ _. at + 1 < 2 ^ 64) }
+    ensures few { IfSome result (λ _. at < 2 ^ 32) }
+{
+    number_of(kind_at(tokens, at)?)
+}
+
 /// The name at a place.
 pub fn name_at(tokens: &Tokens<'_>, at: usize) -> Option<Name>
     ensures value { result ≡ option_and_then expressions.name_of (slice_get (kinds_of tokens.now) at) }
@@ -211,6 +230,26 @@ pub fn expect_word(tokens: &Tokens<'_>, at: usize) -> Result<(Word, usize), Firs
         Some(name) => Ok((
             Word {
                 name,
+                at: at as u32,
+            },
+            at + 1,
+        )),
+        None => Err(FirstFault {
+            at,
+            why: GrammarFault::Syntax,
+        }),
+    }
+}
+
+/// The number that has to stand between the brackets of a declaration, and the place behind it.
+pub fn expect_count(tokens: &Tokens<'_>, at: usize) -> Result<(Length, usize), FirstFault>
+    requires { at ≤ length tokens.now }
+    ensures { Finds itself result (RightCount (kinds_of tokens.now) at) }
+{
+    match plain_number_at(tokens, at) {
+        Some(places) => Ok((
+            Length {
+                places,
                 at: at as u32,
             },
             at + 1,

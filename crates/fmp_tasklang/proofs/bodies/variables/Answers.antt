@@ -4,8 +4,8 @@ use Rattle.std.proofs.lemmas.Result.{err_from_is_err_and}
 use Rattle.fmp_lex.specs.Reading.{kinds_of, found, stopped, map_result}
 use Rattle.fmp_lex.proofs.Answered.{find_as}
 use Rattle.fmp_lex.proofs.Repetitions.{push_before}
-use Rattle.fmp_tasklang.specs.Reading.{itself, words_view, RightVariable, RightVariables}
-use Rattle.fmp_tasklang.specs.declared.trees.Word.{Word}
+use Rattle.fmp_tasklang.specs.Reading.{itself, declarations_view, RightVariable, RightVariables}
+use Rattle.fmp_tasklang.specs.declared.trees.Declaration.{Declaration}
 use Rattle.fmp_tasklang.proofs.BodyPaths.{variable_longer, variables_more, variables_stop, variables_none}
 use Rattle.fmp_tasklang.proofs.bodies.variables.Goals as goal
 
@@ -16,7 +16,7 @@ returns-in_err-one c =
     let k = c.variables.i in
     let is = c.variables-test.ensures.yes (search rules) in
     let p = err_from_is_err_and c.from_residual.result c.from_residual.ensures.1 in
-    rw (p.1, p.2) (find_as itself words_view c.in_err-one.field-0.0 (RightVariable ts k) (RightVariables ts i)
+    rw (p.1, p.2) (find_as itself declarations_view c.in_err-one.field-0.0 (RightVariable ts k) (RightVariables ts i)
     (λ j why x. c.variables.invariant.goes (stopped j why) (variables_stop ts k is j why x)) c.in_err-one.ensures)
 
 pub variables-smaller : goal.variables-smaller
@@ -40,11 +40,11 @@ variables-preserved c =
     let n = c.in_ok-one.next in
     let x : RightVariable ts k (found a n) = c.in_ok-one.ensures in
     let within = simp length-map at x.within in
-    let xs = words_view c.variables.found in
+    let xs = declarations_view c.variables.found in
     let pushed : c.push.new.self.items ≡ xs ++ a ∷ [] = c.in_ok-push.ensures.items in
     record {
       within = within;
-      goes = rw pushed (λ o rest. push_before xs a o (RightVariables ts i) (c.variables.invariant.goes (map_result (λ (more : List Word). a ∷ more) o)
+      goes = rw pushed (λ o rest. push_before xs a o (RightVariables ts i) (c.variables.invariant.goes (map_result (λ (more : List Declaration). a ∷ more) o)
           (variables_more ts k is a n x o rest)));
     }
 

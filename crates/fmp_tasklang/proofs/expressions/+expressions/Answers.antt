@@ -5,12 +5,12 @@ use Rattle.fmp_lex.specs.Reading.{kinds_of, found, stopped, map_result, RightTok
 use Rattle.fmp_lex.proofs.Answered.{err_as, find_as, step_as}
 use Rattle.fmp_lex.proofs.Repetitions.{push_before}
 use Rattle.fmp_tasklang.specs.Expressions.{loosest}
-use Rattle.fmp_tasklang.specs.Reading.{itself, links_view, RightWord, RightOperand, RightExpression, RightLinks}
+use Rattle.fmp_tasklang.specs.Reading.{itself, index_view, links_view, RightWord, RightOperand, RightIndex, RightBracketed, RightExpression, RightLinks}
 use Rattle.fmp_tasklang.specs.Trees.{number}
 use Rattle.fmp_tasklang.specs.Views.{LinkTree, chain_tree, expression_view}
 use Rattle.fmp_tasklang.proofs.Links.{expression_zero, raised, raised_stop, raised_to, chain_then, links_more, links_stop, links_none}
-use Rattle.fmp_tasklang.proofs.Operands.{right, ended_stop, ended_then, number_found, name_as, group_deep, group_then, unary_deep, unary_then}
-use Rattle.fmp_tasklang.proofs.Views.{expression_view-Name, expression_view-Unary, expression_view-Chain, links_push}
+use Rattle.fmp_tasklang.proofs.Operands.{right, close_bracket, ended_stop, ended_then, number_found, name_stop, name_then, without_index, with_index, bracketed_deep, bracketed_then, group_deep, group_then, unary_deep, unary_then}
+use Rattle.fmp_tasklang.proofs.Views.{expression_view-Unary, expression_view-Chain, links_push}
 use Rattle.fmp_tasklang.proofs.expressions.+expressions.Goals as goal
 
 pub expression-returns-in_err-tree : goal.expression-returns-in_err-tree
@@ -90,7 +90,7 @@ group-returns-in_err-inner m0 c =
     let i = c.args.at in
     let p = err_from_is_err_and c.from_residual.result c.from_residual.ensures.1 in
     rw (p.1, p.2) (err_as expression_view expression_view c.in_err-inner.field-0.0 (RightExpression ts (d + 1) loosest (i + 1)) (RightOperand ts d i)
-    (λ j why x. group_then ts d i c.requires.first (omega arith) (stopped j why) (ended_stop (d + 1) right refl ts (i + 1) j why x)) c.in_err-inner.ensures)
+    (λ j why x. group_then ts d i c.requires.first (omega arith) (stopped j why) (ended_stop (d + 1) right (refl, refl) ts (i + 1) j why x)) c.in_err-inner.ensures)
 
 pub group-returns-in_err-next : goal.group-returns-in_err-next
 group-returns-in_err-next m0 c =
@@ -100,7 +100,7 @@ group-returns-in_err-next m0 c =
     let p = err_from_is_err_and c.from_residual-in_err-next.result c.from_residual-in_err-next.ensures.1 in
     rw (p.1, p.2) (step_as expression_view c.in_err-next.field-0.0 (RightToken ts right c.in_ok-inner.next) (RightOperand ts d i)
     (λ j why x. group_then ts d i c.requires.first (omega arith) (stopped j why)
-    (ended_then (d + 1) right refl ts (i + 1) (expression_view c.in_ok-inner.inner) c.in_ok-inner.next c.in_ok-inner.ensures (stopped j why) x))
+    (ended_then (d + 1) right (refl, refl) ts (i + 1) (expression_view c.in_ok-inner.inner) c.in_ok-inner.next c.in_ok-inner.ensures (stopped j why) x))
     c.in_err-next.ensures)
 
 pub group-returns : goal.group-returns
@@ -109,7 +109,7 @@ group-returns m0 c =
     let d = c.args.depth in
     let i = c.args.at in
     group_then ts d i c.requires.first (omega arith) (found (expression_view c.in_ok-inner.inner) c.in_ok-next.next)
-    (ended_then (d + 1) right refl ts (i + 1) (expression_view c.in_ok-inner.inner) c.in_ok-inner.next c.in_ok-inner.ensures (found tt c.in_ok-next.next) c.in_ok-next.ensures)
+    (ended_then (d + 1) right (refl, refl) ts (i + 1) (expression_view c.in_ok-inner.inner) c.in_ok-inner.next c.in_ok-inner.ensures (found tt c.in_ok-next.next) c.in_ok-next.ensures)
 
 pub links-returns-in_err-operand : goal.links-returns-in_err-operand
 links-returns-in_err-operand m0 c =
@@ -168,17 +168,87 @@ operand-returns-in_err-word m0 c =
     let i = c.args.at in
     let p = err_from_is_err_and c.from_residual.result c.from_residual.ensures.1 in
     rw (p.1, p.2) (find_as itself expression_view c.in_err-word.field-0.0 (RightWord ts i) (RightOperand ts d i)
-    (λ j why x. name_as ts d i (sym c.in_default.ensures.value) (sym c.in_default-unary_at.ensures.value)
-    (c.is_symbol_at.ensures.no c.if-is_symbol_at.false) (stopped j why) x) c.in_err-word.ensures)
+    (λ j why x. name_stop ts d i (sym c.in_default.ensures.value) (sym c.in_default-unary_at.ensures.value)
+    (c.is_symbol_at.ensures.no c.if-is_symbol_at.false) j why x) c.in_err-word.ensures)
 
 pub operand-returns : goal.operand-returns
 operand-returns m0 c =
     let ts = kinds_of c.args.tokens.now in
     let d = c.args.depth in
     let i = c.args.at in
-    rw (expression_view-Name c.in_ok-word.word) (name_as ts d i (sym c.in_default.ensures.value)
+    rw c.in_ok-operand.ensures.tree (name_then ts d i (sym c.in_default.ensures.value)
     (sym c.in_default-unary_at.ensures.value) (c.is_symbol_at.ensures.no c.if-is_symbol_at.false)
-    (found c.in_ok-word.word c.in_ok-word.next) c.in_ok-word.ensures)
+    c.in_ok-word.word c.in_ok-word.next c.in_ok-word.ensures
+    (found (index_view c.in_ok-index.index) c.in_ok-index.next) c.in_ok-index.ensures)
+
+pub operand-returns-in_err-index : goal.operand-returns-in_err-index
+operand-returns-in_err-index m0 c =
+    let ts = kinds_of c.args.tokens.now in
+    let d = c.args.depth in
+    let i = c.args.at in
+    let p = err_from_is_err_and c.from_residual-in_err-index.result c.from_residual-in_err-index.ensures.1 in
+    rw (p.1, p.2) (err_as index_view expression_view c.in_err-index.field-0.0 (RightIndex ts d c.in_ok-word.next) (RightOperand ts d i)
+    (λ j why x. name_then ts d i (sym c.in_default.ensures.value) (sym c.in_default-unary_at.ensures.value)
+    (c.is_symbol_at.ensures.no c.if-is_symbol_at.false) c.in_ok-word.word c.in_ok-word.next c.in_ok-word.ensures (stopped j why) x) c.in_err-index.ensures)
+
+pub index-returns-then-not-is_symbol_at : goal.index-returns-then-not-is_symbol_at
+index-returns-then-not-is_symbol_at m0 c =
+    let ts = kinds_of c.args.tokens.now in
+    let within : c.args.at ≤ length ts = simp length-map c.requires.at in
+    without_index ts c.args.depth c.args.at (c.is_symbol_at.ensures.no (search rules)) within
+
+pub index-returns-in_err-inner : goal.index-returns-in_err-inner
+index-returns-in_err-inner m0 c =
+    let ts = kinds_of c.args.tokens.now in
+    let d = c.args.depth in
+    let i = c.args.at in
+    let is = c.is_symbol_at.ensures.yes (search rules) in
+    let p = err_from_is_err_and c.from_residual.result c.from_residual.ensures.1 in
+    rw (p.1, p.2) (err_as expression_view index_view c.in_err-inner.field-0.0 (RightBracketed ts d i) (RightIndex ts d i)
+    (λ j why x. with_index ts d i is (stopped j why) x) c.in_err-inner.ensures)
+
+pub index-returns : goal.index-returns
+index-returns m0 c =
+    let ts = kinds_of c.args.tokens.now in
+    let d = c.args.depth in
+    let i = c.args.at in
+    let is = c.is_symbol_at.ensures.yes (search rules) in
+    with_index ts d i is (found (expression_view c.in_ok-inner.inner) c.in_ok-inner.next) c.in_ok-inner.ensures
+
+pub bracketed-returns-then-depth-eq-MAX_DEPTH : goal.bracketed-returns-then-depth-eq-MAX_DEPTH
+bracketed-returns-then-depth-eq-MAX_DEPTH m0 c =
+    let ts = kinds_of c.args.tokens.now in
+    bracketed_deep ts c.args.depth c.args.at c.requires.first (omega arith)
+
+pub bracketed-returns-in_err-inner : goal.bracketed-returns-in_err-inner
+bracketed-returns-in_err-inner m0 c =
+    let ts = kinds_of c.args.tokens.now in
+    let d = c.args.depth in
+    let i = c.args.at in
+    let p = err_from_is_err_and c.from_residual.result c.from_residual.ensures.1 in
+    rw (p.1, p.2) (err_as expression_view expression_view c.in_err-inner.field-0.0 (RightExpression ts (d + 1) loosest (i + 1)) (RightBracketed ts d i)
+    (λ j why x. bracketed_then ts d i c.requires.first (omega arith) (stopped j why) (ended_stop (d + 1) close_bracket (refl, refl) ts (i + 1) j why x))
+    c.in_err-inner.ensures)
+
+pub bracketed-returns-in_err-next : goal.bracketed-returns-in_err-next
+bracketed-returns-in_err-next m0 c =
+    let ts = kinds_of c.args.tokens.now in
+    let d = c.args.depth in
+    let i = c.args.at in
+    let p = err_from_is_err_and c.from_residual-in_err-next.result c.from_residual-in_err-next.ensures.1 in
+    rw (p.1, p.2) (step_as expression_view c.in_err-next.field-0.0 (RightToken ts close_bracket c.in_ok-inner.next) (RightBracketed ts d i)
+    (λ j why x. bracketed_then ts d i c.requires.first (omega arith) (stopped j why)
+    (ended_then (d + 1) close_bracket (refl, refl) ts (i + 1) (expression_view c.in_ok-inner.inner) c.in_ok-inner.next c.in_ok-inner.ensures (stopped j why) x))
+    c.in_err-next.ensures)
+
+pub bracketed-returns : goal.bracketed-returns
+bracketed-returns m0 c =
+    let ts = kinds_of c.args.tokens.now in
+    let d = c.args.depth in
+    let i = c.args.at in
+    bracketed_then ts d i c.requires.first (omega arith) (found (expression_view c.in_ok-inner.inner) c.in_ok-next.next)
+    (ended_then (d + 1) close_bracket (refl, refl) ts (i + 1) (expression_view c.in_ok-inner.inner) c.in_ok-inner.next c.in_ok-inner.ensures
+    (found tt c.in_ok-next.next) c.in_ok-next.ensures)
 
 pub unary-returns-then-depth-eq-MAX_DEPTH : goal.unary-returns-then-depth-eq-MAX_DEPTH
 unary-returns-then-depth-eq-MAX_DEPTH m0 c =

@@ -26,4 +26,10 @@ returns c =
       call_in_second_body = refl;
       reply_with_value = refl;
       reply_with_error = refl;
+      element_is_stored = refl;
+      index_too_great = refl;
+      negative_index = refl;
+      value_before_index_test = refl;
+      index_before_value = refl;
+      read_out_of_range = refl;
     }

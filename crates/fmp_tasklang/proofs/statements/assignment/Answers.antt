@@ -1,10 +1,9 @@
 use Rattle.std.proofs.lemmas.Result.{err_from_is_err_and}
-use Rattle.fmp_lex.specs.Reading.{kinds_of, RightToken}
-use Rattle.fmp_lex.proofs.Answered.{err_as, find_as, step_as}
-use Rattle.fmp_tasklang.specs.Reading.{itself, source_view, RightWord, RightSource, RightAssignment}
+use Rattle.fmp_lex.specs.Reading.{kinds_of, found, stopped}
+use Rattle.fmp_lex.proofs.Answered.{err_as, find_as}
+use Rattle.fmp_tasklang.specs.Reading.{itself, change_view, RightWord, RightChange, RightAssignment}
 use Rattle.fmp_tasklang.specs.Views.{statement_view}
-use Rattle.fmp_tasklang.proofs.StatementFrames.{equals, semicolon}
-use Rattle.fmp_tasklang.proofs.SimpleStatements.{target_stop, equals_stop, source_stop, assignment_open, assignment_found}
+use Rattle.fmp_tasklang.proofs.SimpleStatements.{target_stop, assignment_then}
 use Rattle.fmp_tasklang.proofs.statements.assignment.Goals as goal
 
 pub returns-in_err-target : goal.returns-in_err-target
@@ -16,40 +15,19 @@ returns-in_err-target c =
     rw (p.1, p.2) (find_as itself statement_view c.in_err-target.field-0.0 (RightWord ts i) (RightAssignment ts d i)
     (λ j why x. target_stop ts d i j why x) c.in_err-target.ensures)
 
-pub returns-in_err-next : goal.returns-in_err-next
-returns-in_err-next c =
+pub returns-in_err-change : goal.returns-in_err-change
+returns-in_err-change c =
     let ts = kinds_of c.args.tokens.now in
     let d = c.args.depth in
     let i = c.args.at in
-    let p = err_from_is_err_and c.from_residual-in_err-next.result c.from_residual-in_err-next.ensures.1 in
-    rw (p.1, p.2) (step_as statement_view c.in_err-next.field-0.0 (RightToken ts equals c.in_ok-target.next) (RightAssignment ts d i)
-    (λ j why x. equals_stop ts d i c.in_ok-target.target c.in_ok-target.next c.in_ok-target.ensures j why x) c.in_err-next.ensures)
-
-pub returns-in_err-source : goal.returns-in_err-source
-returns-in_err-source c =
-    let ts = kinds_of c.args.tokens.now in
-    let d = c.args.depth in
-    let i = c.args.at in
-    let p = err_from_is_err_and c.from_residual-in_err-source.result c.from_residual-in_err-source.ensures.1 in
-    rw (p.1, p.2) (err_as source_view statement_view c.in_err-source.field-0.0 (RightSource ts d c.in_ok-next.next) (RightAssignment ts d i)
-    (λ j why x. source_stop ts d i c.in_ok-target.target c.in_ok-target.next c.in_ok-target.ensures c.in_ok-next.next c.in_ok-next.ensures j why x) c.in_err-source.ensures)
-
-pub returns-in_err-next-2 : goal.returns-in_err-next-2
-returns-in_err-next-2 c =
-    let ts = kinds_of c.args.tokens.now in
-    let d = c.args.depth in
-    let i = c.args.at in
-    let p = err_from_is_err_and c.from_residual-in_err-next-2.result c.from_residual-in_err-next-2.ensures.1 in
-    rw (p.1, p.2) (step_as statement_view c.in_err-next-2.field-0.0 (RightToken ts semicolon c.in_ok-source.next) (RightAssignment ts d i)
-    (λ j why x. assignment_open ts d i c.in_ok-target.target c.in_ok-target.next c.in_ok-target.ensures
-    c.in_ok-next.next c.in_ok-next.ensures (source_view c.in_ok-source.source) c.in_ok-source.next
-    c.in_ok-source.ensures j why x) c.in_err-next-2.ensures)
+    let p = err_from_is_err_and c.from_residual-in_err-change.result c.from_residual-in_err-change.ensures.1 in
+    rw (p.1, p.2) (err_as change_view statement_view c.in_err-change.field-0.0 (RightChange ts d c.in_ok-target.next) (RightAssignment ts d i)
+    (λ j why x. assignment_then ts d i c.in_ok-target.target c.in_ok-target.next c.in_ok-target.ensures (stopped j why) x) c.in_err-change.ensures)
 
 pub returns : goal.returns
 returns c =
     let ts = kinds_of c.args.tokens.now in
     let d = c.args.depth in
     let i = c.args.at in
-    rw c.assign.ensures (assignment_found ts d i c.in_ok-target.target c.in_ok-target.next c.in_ok-target.ensures
-    c.in_ok-next.next c.in_ok-next.ensures (source_view c.in_ok-source.source) c.in_ok-source.next
-    c.in_ok-source.ensures c.in_ok-next-2.next c.in_ok-next-2.ensures)
+    rw c.make.ensures (assignment_then ts d i c.in_ok-target.target c.in_ok-target.next c.in_ok-target.ensures
+    (found (change_view c.in_ok-change.change) c.in_ok-change.next) c.in_ok-change.ensures)
