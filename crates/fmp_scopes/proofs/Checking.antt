@@ -8,8 +8,8 @@ use Rattle.fmp_lex.specs.declared.token.Token.{Token}
 use Rattle.fmp_lex.specs.Faults.{offence_fault}
 use Rattle.fmp_tasklang.specs.Trees.{BodyTree}
 use Rattle.fmp_scopes.specs.declared.entries.EntryUse.{EntryUse}
-use Rattle.fmp_scopes.specs.Entries.{at_token, body_place, entry_fault, entries_offence, IsChecked}
-use Rattle.fmp_scopes.specs.Naming.{first_offence}
+use Rattle.fmp_scopes.specs.Entries.{body_place, entry_fault, entries_offence, IsChecked}
+use Rattle.fmp_scopes.specs.Naming.{at_token, first_offence}
 
 -- the fault of an entry
 pub checked-stopped :

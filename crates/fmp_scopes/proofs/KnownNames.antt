@@ -1,15 +1,15 @@
 -- Where no name of a tree is unknown, none of its parts has one.
-use Rattle.std.proofs.Common.{◌≡◌, List, [], ◌∷◌, ◌++◌, Option, Some, None, refl, ap, ◌∙◌, sym}
-use Rattle.std.specs.Prelude.{if◌then◌else◌, take, drop}
+use Rattle.std.proofs.Common.{◌≡◌, ℕ, zero, suc, List, [], ◌∷◌, ◌++◌, Option, Some, None, refl, ap, ◌∙◌, sym}
+use Rattle.std.specs.Prelude.{take, drop}
 use Rattle.fmp_base.specs.Services.{out_place}
 use Rattle.fmp_base.specs.Systems.{found}
 use Rattle.fmp_tasklang.specs.declared.trees.Word.{Word}
-use Rattle.fmp_tasklang.specs.Trees.{CallTree}
-use Rattle.fmp_tasklang.specs.Scopes.{Scope, NameMeaning, Variable, Object, Unknown, meaning_of}
-use Rattle.fmp_tasklang.specs.Stretches.{variable_place, word_place}
+use Rattle.fmp_tasklang.specs.Trees.{ExpressionTree, CallTree}
+use Rattle.fmp_tasklang.specs.Scopes.{Scope, NameMeaning, Variable, Array, Object, Unknown, meaning_of}
+use Rattle.fmp_tasklang.specs.Stretches.{variable_number, word_number}
+use Rattle.fmp_tasklang.specs.Values.{array_number}
 use Rattle.fmp_scopes.specs.declared.offences.Offence.{Offence}
-use Rattle.fmp_scopes.specs.Naming.{word_uses, arguments_uses, call_uses, first_offence, NameUse, Writes, writes, use_offence, uses_offence}
-use Rattle.fmp_scopes.specs.Scheme.{target_place}
+use Rattle.fmp_scopes.specs.Naming.{expression_uses, word_uses, arguments_uses, call_uses, first_offence, NameUse, Writes, ReadsElement, WritesElement, write_fault, read_element_fault, write_element_fault, at_token, use_offence, uses_offence}
 
 pub none-first : (a b : Option Offence) → first_offence a b ≡ None → a ≡ None
 none-first None b h = refl
@@ -33,18 +33,55 @@ module _ (scope : Scope) where
   uses_back [] b h = h
   uses_back (u ∷ a) b h = uses_back a b (none-second (use_offence scope u) (uses_offence scope (a ++ b)) h)
 
-written_place :
-    (m : NameMeaning) (o : Offence) → (if writes m then None else Some o) ≡ None →
-    variable_place m ≡ Some (found 0 (variable_place m))
-written_place (Variable v) o h = refl
-written_place (Object k) o h = absurd (cc h)
-written_place Unknown o h = absurd (cc h)
+written_number :
+    (m : NameMeaning) (at : ℕ) → at_token at (write_fault m) ≡ None →
+    variable_number m ≡ Some (found 0 (variable_number m))
+written_number (Variable v) at h = refl
+written_number (Array v) at h = absurd (cc h)
+written_number (Object k) at h = absurd (cc h)
+written_number Unknown at h = absurd (cc h)
 
--- a variable that is written has a place
+-- a variable that is written has a number
 pub target_is :
     (scope : Scope) (w : Word) → use_offence scope (Writes w) ≡ None →
-    word_place scope (Some w) ≡ Some (target_place scope w)
-target_is scope w h = written_place (meaning_of scope w.name) _ h
+    word_number scope (Some w) ≡ Some (found 0 (variable_number (meaning_of scope w.name)))
+target_is scope w h = written_number (meaning_of scope w.name) w.at h
+
+written_variable :
+    (m : NameMeaning) (at : ℕ) → at_token at (write_fault m) ≡ None → m ≡ Variable (found 0 (variable_number m))
+written_variable (Variable v) at h = refl
+written_variable (Array v) at h = absurd (cc h)
+written_variable (Object k) at h = absurd (cc h)
+written_variable Unknown at h = absurd (cc h)
+
+-- a name that is written is a variable
+pub target_means :
+    (scope : Scope) (w : Word) → use_offence scope (Writes w) ≡ None →
+    meaning_of scope w.name ≡ Variable (found 0 (variable_number (meaning_of scope w.name)))
+target_means scope w h = written_variable (meaning_of scope w.name) w.at h
+
+element_read : (m : NameMeaning) (at : ℕ) → at_token at (read_element_fault m) ≡ None → m ≡ Array (array_number m)
+element_read (Variable v) at h = absurd (cc h)
+element_read (Array v) at h = refl
+element_read (Object k) at h = absurd (cc h)
+element_read Unknown at h = absurd (cc h)
+
+-- a name with an index is an array
+pub read_array :
+    (scope : Scope) (w : Word) → use_offence scope (ReadsElement w) ≡ None →
+    meaning_of scope w.name ≡ Array (array_number (meaning_of scope w.name))
+read_array scope w h = element_read (meaning_of scope w.name) w.at h
+
+element_written : (m : NameMeaning) (at : ℕ) → at_token at (write_element_fault m) ≡ None → m ≡ Array (array_number m)
+element_written (Variable v) at h = absurd (cc h)
+element_written (Array v) at h = refl
+element_written (Object k) at h = absurd (cc h)
+element_written Unknown at h = absurd (cc h)
+
+pub written_array :
+    (scope : Scope) (w : Word) → use_offence scope (WritesElement w) ≡ None →
+    meaning_of scope w.name ≡ Array (array_number (meaning_of scope w.name))
+written_array scope w h = element_written (meaning_of scope w.name) w.at h
 
 -- the variables that a call writes
 pub call-named :
@@ -108,3 +145,35 @@ pub two-parts :
     z ≡ first_offence x y → z ≡ uses_offence scope (a ++ b)
 two-parts scope a b x y z first second both =
     both ∙ ap (λ o. first_offence o y) first ∙ ap (first_offence (uses_offence scope a)) second ∙ sym (uses-append scope a b)
+
+none-both : (a b : Option Offence) → a ≡ None → b ≡ None → first_offence a b ≡ None
+none-both a b p q = ap (λ o. first_offence o b) p ∙ q
+
+uses-both :
+    (scope : Scope) (a b : List NameUse) → uses_offence scope a ≡ None → uses_offence scope b ≡ None →
+    uses_offence scope (a ++ b) ≡ None
+uses-both scope a b p q = uses-append scope a b ∙ none-both (uses_offence scope a) (uses_offence scope b) p q
+
+arguments-joined :
+    (scope : Scope) (n : ℕ) (es : List ExpressionTree) → uses_offence scope (arguments_uses (take n es)) ≡ None →
+    uses_offence scope (arguments_uses (drop n es)) ≡ None → uses_offence scope (arguments_uses es) ≡ None
+arguments-joined scope zero [] p q = refl
+arguments-joined scope zero (e ∷ es) p q = q
+arguments-joined scope (suc n) [] p q = refl
+arguments-joined scope (suc n) (e ∷ es) p q =
+    let first = arguments_uses (take n es) in
+    uses-both scope (expression_uses e) (arguments_uses es) (uses_front scope (expression_uses e) first p)
+    (arguments-joined scope n es (uses_back scope (expression_uses e) first p) q)
+
+-- the arguments of a call
+pub arguments-named :
+    (scope : Scope) (c : CallTree) → uses_offence scope (call_uses c) ≡ None →
+    uses_offence scope (arguments_uses c.arguments) ≡ None
+arguments-named scope c h =
+    let before = found 0 (out_place c.service) in
+    let first = arguments_uses (take before c.arguments) in
+    let last = arguments_uses (drop before c.arguments) in
+    let rest = uses_back scope (word_uses c.result) (first ++ (word_uses c.out ++ last)) h in
+    let later = uses_back scope first (word_uses c.out ++ last) rest in
+    arguments-joined scope before c.arguments (uses_front scope first (word_uses c.out ++ last) rest)
+    (uses_back scope (word_uses c.out) last later)

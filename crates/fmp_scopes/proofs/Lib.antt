@@ -4,6 +4,9 @@ mod Entering
 pub mod Headed
 pub mod KnownNames
 pub mod LeastDepths
+pub mod LocalMeanings
 pub mod Loops
+pub mod Positions
 mod RowNumbers
+pub mod Sums
 pub mod ViewTrees

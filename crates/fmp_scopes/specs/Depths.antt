@@ -1,11 +1,12 @@
 -- How many operands a tree needs at most, beyond those that stand before it.
 use Rattle.std.specs.Prelude.{ℕ, ◌+◌, max, List, [], ◌∷◌}
-use Rattle.fmp_tasklang.specs.Trees.{ExpressionTree, number, named, unary, binary, both, either, StatementTree, assign, service_call, if_then, if_else, while, break, continue, return, Block, empty, next, BodyTree}
+use Rattle.fmp_tasklang.specs.Trees.{ExpressionTree, number, named, element, unary, binary, both, either, StatementTree, assign, assign_element, service_call, if_then, if_else, while, break, continue, return, Block, empty, next, BodyTree}
 
 -- the second operand of an operator stands upon the first; those of `&&` and `||` never stand together
 abbrev pub expression_depth : ExpressionTree → ℕ
 expression_depth (number k) = 1
 expression_depth (named w) = 1
+expression_depth (element w e) = expression_depth e
 expression_depth (unary op e) = expression_depth e
 expression_depth (binary op a b) = max (expression_depth a) (expression_depth b + 1)
 expression_depth (both a b) = max (expression_depth a) (expression_depth b)
@@ -16,10 +17,11 @@ abbrev pub arguments_depth : List ExpressionTree → ℕ
 arguments_depth [] = 0
 arguments_depth (e ∷ es) = max (expression_depth e) (arguments_depth es + 1)
 
--- a statement, and the statements of a block
+-- a statement, and the statements of a block; the value of an element stands upon its index
 abbrev mutual
   pub statement_depth : StatementTree → ℕ
   statement_depth (assign w e) = expression_depth e
+  statement_depth (assign_element w i e) = max (expression_depth i) (expression_depth e + 1)
   statement_depth (service_call c) = arguments_depth c.arguments
   statement_depth (if_then e s) = max (expression_depth e) (block_depth s)
   statement_depth (if_else e s r) = max (expression_depth e) (max (block_depth s) (block_depth r))

@@ -16,7 +16,7 @@ use Rattle.fmp_tasklang.specs.Texts.{body_at}
 use Rattle.fmp_scopes.specs.declared.entries.EntryUse.{EntryUse}
 use Rattle.fmp_scopes.specs.declared.offences.Offence.{Offence}
 use Rattle.fmp_scopes.specs.Depths.{body_depth}
-use Rattle.fmp_scopes.specs.Naming.{fault_in, first_offence}
+use Rattle.fmp_scopes.specs.Naming.{at_token, fault_in, first_offence}
 
 -- the place of the body of a name
 abbrev pub body_place : List BodyTree → Name → Option ℕ
@@ -42,11 +42,6 @@ body_fault u body =
 abbrev pub entry_fault : List BodyTree → EntryUse → Option ℕ → Option FaultKind
 entry_fault bodies u None = Some fault.UnknownName
 entry_fault bodies u (Some k) = body_fault u (body_at bodies k)
-
--- the fault at this token, if there is one
-abbrev pub at_token : ℕ → Option FaultKind → Option Offence
-at_token at None = None
-at_token at (Some why) = Some (record { at = at; why = why })
 
 -- the first fault of entries, in order of their APIs in the text
 abbrev pub entries_offence : List BodyTree → List EntryUse → Option Offence

@@ -74,6 +74,10 @@ pub fn expression_extent(e: &Expression) -> Extent
     match e {
         Expression::Number(_) => cut_extent(1, 1),
         Expression::Name(_) => cut_extent(1, 1),
+        Expression::Element { index, .. } => {
+            let inner = expression_extent(index);
+            cut_extent(inner.size + 1, inner.depth)
+        }
         Expression::Unary { operand, .. } => {
             let inner = expression_extent(operand);
             cut_extent(inner.size + 1, inner.depth)
@@ -126,6 +130,14 @@ fn statement_extent(s: &Statement) -> Extent
         Statement::Assign { value, .. } => {
             let one = expression_extent(value);
             cut_extent(one.size + 1, one.depth)
+        }
+        Statement::AssignElement { index, value, .. } => {
+            let place = expression_extent(index);
+            let one = expression_extent(value);
+            cut_extent(
+                place.size + one.size + 1,
+                greater(place.depth, one.depth + 1),
+            )
         }
         Statement::Call(call) => {
             let all = arguments_extent(&call.arguments);

@@ -8,6 +8,7 @@ mod lists;
 mod names;
 mod numbers;
 mod offences;
+mod places;
 mod uses;
 
 pub use entries::{EntryUse, check_entries, check_headings};
@@ -17,4 +18,5 @@ pub use lists::append;
 pub use names::{HasName, Meaning, Names, Objects, is_exinf, is_object, meaning_in, place_in};
 pub use numbers::{ObjectNumbers, number_objects};
 pub use offences::{Offence, source_fault};
+pub use places::{first_place_in, places_in, places_of_body, places_of_length};
 pub use uses::block_offence;

@@ -1,12 +1,13 @@
 //! What the names of a body mean: its local variables, and the objects of the configuration.
 
-ghost use Rattle.std.specs.Prelude.{◌≡◌, ◌+◌, ◌<◌, ◌≤◌, ◌↔◌, IsTrue, ℕ, List, Option, Some, None, map, length, IfSome, IfNone, is_some};
+ghost use Rattle.std.specs.Prelude.{◌≡◌, ◌+◌, ◌<◌, ◌≤◌, ◌↔◌, IsTrue, ℕ, List, Option, Some, None, map, length, IfSome, IfNone, is_some, if◌then◌else◌};
 ghost use Rattle.std.specs.Str.{bytes_eq};
 ghost use Rattle.fmp_base.specs.Names.{name_text};
 ghost use Rattle.fmp_base.specs.Systems.{tables_of};
-ghost use Rattle.fmp_tasklang.specs.Scopes.{exinf_name, meaning_of, object_names, object_number, place_of};
+ghost use Rattle.fmp_tasklang.specs.Layout.{exinf_name};
+ghost use Rattle.fmp_tasklang.specs.Scopes.{Variable, Array, meaning_of, object_names, object_number, place_of};
 ghost use Rattle.fmp_scopes.specs.Scopes as spec;
-ghost use Rattle.fmp_scopes.specs.Naming.{Reads, Writes, use_offence};
+ghost use Rattle.fmp_scopes.specs.Naming.{Reads, Writes, ReadsElement, WritesElement, at_token, use_offence};
 ghost use Rattle.fmp_scopes.specs.Scopes.{HoldsNumbers, IsHeld, meaning_view, scope_view};
 
 use crate::headings::Heading;
@@ -17,7 +18,7 @@ use fmp_base::{
     SharedWordConfig, SpinLockConfig, System, TaskConfig,
 };
 use fmp_lex::{FaultKind, ObjectName};
-use fmp_tasklang::{Body, Word};
+use fmp_tasklang::{Body, Declaration, Word};
 
 /// A row of a table that has a name.
 pub trait HasName {
@@ -35,6 +36,14 @@ impl HasName for Word {
 
     fn name(&self) -> &Name {
         &self.name
+    }
+}
+
+impl HasName for Declaration {
+    ghost name_of = { λ d. d.name.name };
+
+    fn name(&self) -> &Name {
+        &self.name.name
     }
 }
 
@@ -155,8 +164,10 @@ fn object_in(objects: &Objects<'_>, name: &Name) -> Meaning
 /// What a name means in a body.
 #[derive(Clone, Copy)]
 pub enum Meaning {
-    /// A local variable, by its place among the locals.
+    /// A local variable, by its number: 0 for `exinf`, then in order of declaration.
     Variable(u8),
+    /// A local array, by its number among the variables.
+    Array(u8),
     /// An object, by its number.
     Object(u8),
     /// Neither of them.
@@ -178,7 +189,7 @@ pub struct Names<'a> {
     /// The objects of the system.
     pub objects: Objects<'a>,
     /// The declared variables, without `exinf`.
-    pub variables: &'a [Word],
+    pub variables: &'a [Declaration],
 }
 
 /// Whether a name is `exinf`, that of local 0.
@@ -199,7 +210,17 @@ pub fn is_object(objects: &Objects<'_>, name: &Name) -> bool
     }
 }
 
-/// What a name means: a local variable, else an object.
+/// What a declared name means, given its number among the locals.
+fn local_meaning(variable: &Declaration, number: u8) -> Meaning
+    ensures { meaning_view result ≡ (if is_some variable.now.length then Array number else Variable number) }
+{
+    match variable.length {
+        None => Meaning::Variable(number),
+        Some(_) => Meaning::Array(number),
+    }
+}
+
+/// What a name means: a local variable or array, else an object.
 pub fn meaning_in(names: &Names<'_>, name: &Name) -> Meaning
     requires { IsHeld names.now }
     ensures { meaning_view result ≡ meaning_of (scope_view names.now) name.now }
@@ -208,36 +229,69 @@ pub fn meaning_in(names: &Names<'_>, name: &Name) -> Meaning
         return Meaning::Variable(0);
     }
     match place_in(names.variables, name) {
-        Some(place) => Meaning::Variable(place as u8 + 1),
+        Some(place) => local_meaning(&names.variables[place], place as u8 + 1),
         None => object_in(&names.objects, name),
     }
 }
 
-/// The fault of a name that is read: it is neither a variable nor an object.
+/// The fault at a word, if there is one.
+fn at_word(word: &Word, fault: Option<FaultKind>) -> Option<Offence>
+    ensures { result ≡ at_token word.now.at fault }
+{
+    match fault {
+        Some(why) => Some(Offence { at: word.at, why }),
+        None => None,
+    }
+}
+
+/// The fault of a name that is read: it is neither a variable nor an object, or it is an array.
 pub fn read_offence(names: &Names<'_>, word: &Word) -> Option<Offence>
     requires { IsHeld names.now }
     ensures { result ≡ use_offence (scope_view names.now) (Reads word.now) }
 {
-    match meaning_in(names, &word.name) {
-        Meaning::Variable(_) => None,
-        Meaning::Object(_) => None,
-        Meaning::Unknown => Some(Offence {
-            at: word.at,
-            why: FaultKind::UnknownName,
-        }),
-    }
+    let fault = match meaning_in(names, &word.name) {
+        Meaning::Variable(_) | Meaning::Object(_) => None,
+        Meaning::Array(_) => Some(FaultKind::Shape),
+        Meaning::Unknown => Some(FaultKind::UnknownName),
+    };
+    at_word(word, fault)
 }
 
-/// The fault of a name that is written: it is no variable.
+/// The fault of a name that is written: it is no variable, or it is an array.
 pub fn write_offence(names: &Names<'_>, word: &Word) -> Option<Offence>
     requires { IsHeld names.now }
     ensures { result ≡ use_offence (scope_view names.now) (Writes word.now) }
 {
-    match meaning_in(names, &word.name) {
+    let fault = match meaning_in(names, &word.name) {
         Meaning::Variable(_) => None,
-        _ => Some(Offence {
-            at: word.at,
-            why: FaultKind::UnknownName,
-        }),
-    }
+        Meaning::Array(_) => Some(FaultKind::Shape),
+        Meaning::Object(_) | Meaning::Unknown => Some(FaultKind::UnknownName),
+    };
+    at_word(word, fault)
+}
+
+/// The fault of a name that is read with an index: it is unknown, or it is no array.
+pub fn read_element_offence(names: &Names<'_>, word: &Word) -> Option<Offence>
+    requires { IsHeld names.now }
+    ensures { result ≡ use_offence (scope_view names.now) (ReadsElement word.now) }
+{
+    let fault = match meaning_in(names, &word.name) {
+        Meaning::Array(_) => None,
+        Meaning::Variable(_) | Meaning::Object(_) => Some(FaultKind::Shape),
+        Meaning::Unknown => Some(FaultKind::UnknownName),
+    };
+    at_word(word, fault)
+}
+
+/// The fault of a name that is written with an index: it is no local, or no array.
+pub fn write_element_offence(names: &Names<'_>, word: &Word) -> Option<Offence>
+    requires { IsHeld names.now }
+    ensures { result ≡ use_offence (scope_view names.now) (WritesElement word.now) }
+{
+    let fault = match meaning_in(names, &word.name) {
+        Meaning::Array(_) => None,
+        Meaning::Variable(_) => Some(FaultKind::Shape),
+        Meaning::Object(_) | Meaning::Unknown => Some(FaultKind::UnknownName),
+    };
+    at_word(word, fault)
 }

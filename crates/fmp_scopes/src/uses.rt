@@ -1,14 +1,16 @@
-//! The first unknown name of a tree, in order of text.
+//! The first name of a tree that is unknown or used with the wrong shape, in order of text.
 
-ghost use Rattle.std.specs.Prelude.{◌≡◌, ◌++◌, map, min, take, drop};
+ghost use Rattle.std.specs.Prelude.{◌≡◌, ◌++◌, ◌∷◌, map, min, take, drop};
 ghost use Rattle.fmp_base.specs.Services.{out_place};
 ghost use Rattle.fmp_base.specs.Systems.{found};
 ghost use Rattle.fmp_tasklang.specs.Views.{expression_view, link_view, call_view, statement_view, block_view};
 ghost use Rattle.fmp_scopes.specs.Chains.{links_uses};
-ghost use Rattle.fmp_scopes.specs.Naming.{first_offence, uses_offence, expression_uses, arguments_uses, word_uses, call_uses, statement_uses, block_uses};
+ghost use Rattle.fmp_scopes.specs.Naming.{WritesElement, first_offence, uses_offence, expression_uses, arguments_uses, word_uses, call_uses, statement_uses, block_uses};
 ghost use Rattle.fmp_scopes.specs.Scopes.{IsHeld, scope_view};
 
-use crate::names::{Names, read_offence, write_offence};
+use crate::names::{
+    Names, read_element_offence, read_offence, write_element_offence, write_offence,
+};
 use crate::offences::Offence;
 use fmp_base::Service;
 use fmp_tasklang::{Expression, Link, ServiceCall, Statement, Word};
@@ -21,6 +23,10 @@ fn expression_offence(names: &Names<'_>, e: &Expression) -> Option<Offence>
     match e {
         Expression::Number(_) => None,
         Expression::Name(word) => read_offence(names, word),
+        Expression::Element { array, index } => {
+            let inner = expression_offence(names, index);
+            earlier(read_element_offence(names, array), inner)
+        }
         Expression::Unary { operand, .. } => expression_offence(names, operand),
         Expression::Chain { first, rest } => {
             if let Some(offence) = expression_offence(names, first) {
@@ -105,6 +111,23 @@ fn call_offence(names: &Names<'_>, call: &ServiceCall) -> Option<Offence>
     earlier(word_offence(names, call.result), earlier(first, from_out))
 }
 
+/// The array that is written at an index, then the index and the value.
+fn element_offence(
+    names: &Names<'_>,
+    array: &Word,
+    index: &Expression,
+    value: &Expression,
+) -> Option<Offence>
+    requires { IsHeld names.now }
+    ensures { result ≡ uses_offence (scope_view names.now) (WritesElement array.now ∷
+        (expression_uses (expression_view index.now) ++ expression_uses (expression_view value.now))) }
+{
+    let first = expression_offence(names, index);
+    let second = expression_offence(names, value);
+    let rest = earlier(first, second);
+    earlier(write_element_offence(names, array), rest)
+}
+
 #[cycle(statement_offences)]
 fn statement_offence(names: &Names<'_>, s: &Statement) -> Option<Offence>
     requires { IsHeld names.now }
@@ -117,6 +140,11 @@ fn statement_offence(names: &Names<'_>, s: &Statement) -> Option<Offence>
             }
             expression_offence(names, value)
         }
+        Statement::AssignElement {
+            array,
+            index,
+            value,
+        } => element_offence(names, array, index, value),
         Statement::Call(call) => call_offence(names, call),
         Statement::If { condition, then } => earlier(
             expression_offence(names, condition),
@@ -140,7 +168,7 @@ fn statement_offence(names: &Names<'_>, s: &Statement) -> Option<Offence>
     }
 }
 
-/// The first unknown name of the statements of a block.
+/// The first fault of the names in the statements of a block.
 #[cycle(statement_offences)]
 pub fn block_offence(names: &Names<'_>, statements: &[Statement]) -> Option<Offence>
     requires { IsHeld names.now }

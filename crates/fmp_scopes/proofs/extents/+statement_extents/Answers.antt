@@ -21,7 +21,7 @@ statement_extent-returns-in-If-clause-depth t c =
     let block = ap (λ xs. block_depth (block_view xs)) c.deref-in-If.ensures.value in
     let test = c.expression_extent-test.ensures.depth in
     let inner = c.block_extent-inner.ensures.depth in
-    omega (arith, whole, block, test, inner, c.greater.ensures, c.cut_extent-in-If.ensures.depth)
+    omega (arith, whole, block, test, inner, c.greater-in-If.ensures, c.cut_extent-in-If.ensures.depth)
 
 pub statement_extent-returns-in-IfElse-clause-size : goal.statement_extent-returns-in-IfElse-clause-size
 statement_extent-returns-in-IfElse-clause-size t c =
