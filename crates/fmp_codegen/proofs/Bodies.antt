@@ -1,34 +1,41 @@
 -- The code of an accepted text does what its bodies do.
-use Rattle.std.proofs.Common.{◌≡◌, ℕ, zero, suc, ◌+◌, ◌*◌, ◌≤◌, Bool, true, false, List, [], ◌∷◌, ◌++◌, length, Option, Some, None, refl, sym, ap, ◌∙◌, subst, arith, ℤ}
+use Rattle.std.proofs.Common.{◌≡◌, ℕ, zero, suc, ◌+◌, ◌*◌, ◌≤◌, Bool, true, false, ◌||◌, ◌&&◌, nat_lt, List, [], ◌∷◌, ◌++◌, length, map, Option, Some, None, refl, sym, subst, arith, ℤ}
 use Rattle.std.specs.Prelude.{slice_get, nat_le, if◌then◌else◌}
 use Rattle.std.proofs.Math.Nat.{le-max_left, le-max_right}
+use Rattle.std.proofs.lemmas.Bool.{leb-true, ltb-false}
 use Rattle.std.proofs.lemmas.Nat.{mul-le}
 use Rattle.fmp_base.specs.declared.calls.Reply.{Reply}
 use Rattle.fmp_base.specs.declared.names.Name.{Name}
 use Rattle.fmp_base.specs.Systems.{SystemTables}
 use Rattle.fmp_base.specs.TieLaws.{any_end}
 use Rattle.fmp_lex.specs.declared.fault.FaultKind.TheVariants as fault
+use Rattle.fmp_tasklang.specs.declared.trees.Declaration.{Declaration}
+use Rattle.fmp_tasklang.specs.declared.trees.Length.{Length}
 use Rattle.fmp_tasklang.specs.Trees.{BodyTree}
-use Rattle.fmp_tasklang.specs.Scopes.{Scope, exinf_name, scope_of}
+use Rattle.fmp_tasklang.specs.Layout.{Local, local_of, magnitude, places_of, exinf_local, total_places}
+use Rattle.fmp_tasklang.specs.Scopes.{Scope, scope_of}
 use Rattle.fmp_tasklang.specs.Contexts.{TextContext, start, deliver}
 use Rattle.fmp_tasklang.specs.Texts.{body_at}
 use Rattle.fmp_instructions.specs.declared.instructions.Instruction.{Instruction}
 use Rattle.fmp_instructions.specs.declared.instructions.Instruction.TheVariants.{End}
 use Rattle.fmp_instructions.specs.declared.instructions.MachineContext.{MachineContext}
 use Rattle.fmp_instructions.specs.Instructions.{BodyTables, found_instructions, instructions_at}
-use Rattle.fmp_instructions.specs.Machine.{code_start, code_deliver, call_before, replied}
-use Rattle.fmp_codegen.specs.Compiling.{is_among, body_offence, bodies_offence, compiled, IsAccepted, variables_offence, size_offence}
+use Rattle.fmp_instructions.specs.Machine.{code_start, code_deliver}
+use Rattle.fmp_codegen.specs.Compiling.{is_among, length_offence, body_offence, bodies_offence, compiled, IsAccepted, variables_offence, size_offence}
 use Rattle.fmp_codegen.specs.Laws.{DoesText}
 use Rattle.fmp_scopes.specs.declared.offences.Offence.{Offence}
 use Rattle.fmp_scopes.specs.Naming.{first_offence, uses_offence, block_uses}
 use Rattle.fmp_scopes.specs.Scheme.{block_code, body_code}
+use Rattle.fmp_scopes.specs.Scopes.{is_object}
 use Rattle.fmp_scopes.specs.Sizes.{block_size}
 use Rattle.fmp_codegen.specs.Tie.{HasAt, StandsSomehow, Reaches, ContextTied, CodeTied, longest}
 use Rattle.fmp_codegen.proofs.Behaves.{IsEnough, enough, one_is_enough, code_first, text_first}
 use Rattle.fmp_codegen.proofs.Expressions.{at_place}
 use Rattle.fmp_codegen.proofs.Lengths.{has_front, has_back, has_all, length-block_code}
 use Rattle.fmp_scopes.proofs.KnownNames.{none-first, none-second}
+use Rattle.fmp_codegen.proofs.Places.{HasPlaces, locals-plain}
 use Rattle.fmp_codegen.proofs.Statements.{Then, here, block_stands}
+use Rattle.fmp_codegen.proofs.Tied.{first-tied}
 
 -- ---- names
 
@@ -38,7 +45,7 @@ skips false o rest h = h
 
 -- what an accepted body keeps to
 pub record Accepted (tables : SystemTables) (body : BodyTree) : Type 0 where
-  pub variables : variables_offence tables (exinf_name ∷ []) body.variables ≡ None
+  pub variables : variables_offence tables (exinf_local ∷ []) body.variables ≡ None
   pub names : uses_offence (scope_of tables body) (block_uses body.statements) ≡ None
   pub size : size_offence body ≡ None
 
@@ -47,7 +54,7 @@ pub body-accepted :
     Accepted tables body
 body-accepted tables names body h =
     let uses = uses_offence (scope_of tables body) (block_uses body.statements) in
-    let variables = variables_offence tables (exinf_name ∷ []) body.variables in
+    let variables = variables_offence tables (exinf_local ∷ []) body.variables in
     let after = first_offence uses (size_offence body) in
     let twice : Offence = record { at = body.name.at; why = fault.TwiceNamed } in
     let named = if is_among body.name.name names then Some twice else first_offence variables after in
@@ -60,6 +67,42 @@ body-accepted tables names body h =
       size = none-second uses (size_offence body) rest;
     }
 
+-- a declared variable without a fault
+record Judged (tables : SystemTables) (ls : List Local) (d : Declaration) (ds : List Declaration) : Type 0 where
+  few : total_places ls + places_of d.length ≤ 64
+  length : length_offence d.length ≡ None
+  rest : variables_offence tables (ls ++ local_of d ∷ []) ds ≡ None
+
+pub not-taken : (t : Bool) (o : Offence) (rest : Option Offence) → (if t then Some o else rest) ≡ None → t ≡ false
+not-taken true o rest h = absurd (cc h)
+not-taken false o rest h = refl
+
+taken_right : (t : Bool) (o : Offence) → (if t then None else Some o) ≡ None → t ≡ true
+taken_right true o h = refl
+taken_right false o h = absurd (cc h)
+
+and_front : (a b : Bool) → (a && b) ≡ true → a ≡ true
+and_front true b h = refl
+and_front false b h = absurd (cc h)
+
+variable-judged :
+    (tables : SystemTables) (ls : List Local) (d : Declaration) (ds : List Declaration) →
+    variables_offence tables ls (d ∷ ds) ≡ None → Judged tables ls d ds
+variable-judged tables ls d ds h =
+    let limit : Offence = record { at = d.name.at; why = fault.Limit } in
+    let twice : Offence = record { at = d.name.at; why = fault.TwiceNamed } in
+    let more = variables_offence tables (ls ++ local_of d ∷ []) ds in
+    let test = is_among d.name.name (map (λ (l : Local). l.name) ls) || is_object tables d.name.name in
+    let last = first_offence (length_offence d.length) more in
+    let many = nat_lt 64 (total_places ls + places_of d.length) in
+    let others = if test then Some twice else last in
+    let then_ = skips test twice last (skips many limit others h) in
+    record {
+      few = ltb-false 64 (total_places ls + places_of d.length) (not-taken many limit others h);
+      length = none-first (length_offence d.length) more then_;
+      rest = none-second (length_offence d.length) more then_;
+    }
+
 pub names-known :
     (tables : SystemTables) (names : List Name) (bodies : List BodyTree) (k : ℕ) →
     bodies_offence tables names bodies ≡ None →
@@ -67,6 +110,51 @@ pub names-known :
 names-known tables names [] k h = refl
 names-known tables names (b ∷ bs) zero h = (body-accepted tables names b (none-first (body_offence tables names b) (bodies_offence tables (names ++ b.name.name ∷ []) bs) h)).names
 names-known tables names (b ∷ bs) (suc k) h = names-known tables (names ++ b.name.name ∷ []) bs k
+    (none-second (body_offence tables names b) (bodies_offence tables (names ++ b.name.name ∷ []) bs) h)
+
+-- ---- places
+
+pub total-append : (ls : List Local) (l : Local) → total_places (ls ++ l ∷ []) ≡ total_places ls + l.places
+total-append [] l = omega arith
+total-append (k ∷ ls) l = omega (arith, total-append ls l)
+
+few_places :
+    (tables : SystemTables) (ls : List Local) (ds : List Declaration) → variables_offence tables ls ds ≡ None →
+    total_places ls ≤ 64 → total_places ls + total_places (map local_of ds) ≤ 64
+few_places tables ls [] h le = omega (arith, le)
+few_places tables ls (d ∷ ds) h le =
+    let j = variable-judged tables ls d ds h in
+    let more = few_places tables (ls ++ local_of d ∷ []) ds j.rest (omega (arith, total-append ls (local_of d), j.few)) in
+    omega (arith, more, total-append ls (local_of d))
+
+-- the places of declared variables
+pub few-places :
+    (tables : SystemTables) (body : BodyTree) → variables_offence tables (exinf_local ∷ []) body.variables ≡ None →
+    total_places (map local_of body.variables) ≤ 63
+few-places tables body h = omega (arith, few_places tables (exinf_local ∷ []) body.variables h (omega arith))
+
+pub length_some : (o : Option Length) → length_offence o ≡ None → 1 ≤ places_of o
+length_some None h = omega arith
+length_some (Some l) h =
+    let n = magnitude l.places in
+    let right = taken_right (nat_le 1 n && nat_le n 63) (record { at = l.at; why = fault.Limit }) h in
+    leb-true 1 n (and_front (nat_le 1 n) (nat_le n 63) right)
+
+pub has-places :
+    (tables : SystemTables) (ls : List Local) (ds : List Declaration) → variables_offence tables ls ds ≡ None → HasPlaces ds
+has-places tables ls [] h k lt = absurd (omega (arith, lt))
+has-places tables ls (d ∷ ds) h zero lt = length_some d.length (variable-judged tables ls d ds h).length
+has-places tables ls (d ∷ ds) h (suc k) lt =
+    has-places tables (ls ++ local_of d ∷ []) ds (variable-judged tables ls d ds h).rest k (omega (arith, lt))
+
+pub places-few :
+    (tables : SystemTables) (names : List Name) (bodies : List BodyTree) (k : ℕ) →
+    bodies_offence tables names bodies ≡ None → total_places (map local_of (body_at bodies k).variables) ≤ 63
+places-few tables names [] k h = omega arith
+places-few tables names (b ∷ bs) zero h =
+    few-places tables b
+    (body-accepted tables names b (none-first (body_offence tables names b) (bodies_offence tables (names ++ b.name.name ∷ []) bs) h)).variables
+places-few tables names (b ∷ bs) (suc k) h = places-few tables (names ++ b.name.name ∷ []) bs k
     (none-second (body_offence tables names b) (bodies_offence tables (names ++ b.name.name ∷ []) bs) h)
 
 -- ---- the code of each body
@@ -100,16 +188,21 @@ body_stands tables body exinf named =
 started_tied :
     (tables : SystemTables) (body : BodyTree) (exinf : ℤ) →
     uses_offence (scope_of tables body) (block_uses body.statements) ≡ None →
+    total_places (map local_of body.variables) ≤ 63 →
     ContextTied (scope_of tables body) (body_code tables body) (code_start exinf) (start body exinf)
-started_tied tables body exinf named =
-    record { locals = refl; todo = body_stands tables body exinf named; reply = λ l r. refl }
+started_tied tables body exinf named few =
+    record {
+      locals = first-tied tables body exinf 63 few;
+      todo = body_stands tables body exinf named;
+      reply = λ l vs r h. h;
+    }
 
 delivered_tied :
     (scope : Scope) (code : List Instruction) (d : MachineContext) (c : TextContext) (reply : Reply) →
     ContextTied scope code d c → ContextTied scope code (code_deliver code d reply) (deliver c reply)
 delivered_tied scope code d c reply h =
     record {
-      locals = h.reply c.locals reply ∙ ap (λ l. replied (call_before code d.pc) l reply) h.locals;
+      locals = h.reply d.locals c.locals reply h.locals;
       todo = h.todo;
       reply = h.reply;
     }
@@ -146,7 +239,7 @@ module _ (tables : SystemTables) (bodies : List BodyTree) (accepted : IsAccepted
       let b = body_at bodies body in
       subst (λ (is : List Instruction). ContextTied (scope_of tables b) is (code_start exinf) (start b exinf))
       (sym (instructions-compiled tables bodies body))
-      (started_tied tables b exinf (names-known tables [] bodies body accepted))
+      (started_tied tables b exinf (names-known tables [] bodies body accepted) (places-few tables [] bodies body accepted))
 
   delivers_tied :
       (body : ℕ) (d : MachineContext) (c : TextContext) (reply : Reply) → CodeTied tables bodies code body d c →
@@ -161,15 +254,18 @@ module _ (tables : SystemTables) (bodies : List BodyTree) (accepted : IsAccepted
           starts = starts_tied;
           delivers = delivers_tied;
           stretches = λ body d c h.
-              any_end _ _ _ _ (code_first (scope_of tables (body_at bodies body)) (instructions_at code body) n d c h);
+              any_end _ _ _ _ (code_first (scope_of tables (body_at bodies body)) (instructions_at code body)
+              (locals-plain tables (body_at bodies body)) n d c h);
         };
         text_first = λ t n one le. record {
           starts = starts_tied;
           delivers = λ body c d reply h. delivers_tied body d c reply h;
           stretches = λ body c d h.
-              any_end _ _ _ _ (text_first (scope_of tables (body_at bodies body)) (instructions_at code body) t n d c h
+              any_end _ _ _ _ (text_first (scope_of tables (body_at bodies body)) (instructions_at code body)
+              (locals-plain tables (body_at bodies body)) t n d c h
               (enough_for code t n one le (slice_get code body) (length-le-longest code body) d.pc d.locals));
         };
         ends_alike = λ body n d c h.
-            code_first (scope_of tables (body_at bodies body)) (instructions_at code body) n d c h;
+            code_first (scope_of tables (body_at bodies body)) (instructions_at code body)
+            (locals-plain tables (body_at bodies body)) n d c h;
       }

@@ -3,7 +3,7 @@ use Rattle.std.proofs.Common.{◌≡◌, ℕ, ◌+◌, ◌<◌, List, [], ◌∷
 use Rattle.std.specs.Prelude.{slice_get}
 use Rattle.std.proofs.Math.Seq.{get_or-append_seam}
 use Rattle.std.proofs.lemmas.Option.{slice_get-get_or}
-use Rattle.fmp_tasklang.specs.Trees.{ExpressionTree, number, named, unary, binary, both, either, StatementTree, assign, service_call, if_then, if_else, while, break, continue, return, Block, empty, next, BodyTree}
+use Rattle.fmp_tasklang.specs.Trees.{ExpressionTree, number, named, element, unary, binary, both, either, StatementTree, assign, assign_element, service_call, if_then, if_else, while, break, continue, return, Block, empty, next, BodyTree}
 use Rattle.fmp_scopes.specs.DepthTables.{expression_depths, arguments_depths, statement_depths, block_depths, body_depths}
 use Rattle.fmp_scopes.specs.Sizes.{expression_size, arguments_size, statement_size, block_size, body_size}
 
@@ -36,6 +36,7 @@ depths_all (d ∷ ds) before =
 pub length-expression_depths : (e : ExpressionTree) (d : ℕ) → length (expression_depths e d) ≡ expression_size e
 length-expression_depths (number k) d = refl
 length-expression_depths (named w) d = refl
+length-expression_depths (element w e) d = simp length-append (omega (arith, length-expression_depths e d))
 length-expression_depths (unary op e) d = simp length-append (omega (arith, length-expression_depths e d))
 length-expression_depths (binary op a b) d =
     simp length-append (omega (arith, length-expression_depths a d, length-expression_depths b (d + 1)))
@@ -52,6 +53,8 @@ length-arguments_depths (e ∷ es) d =
 mutual
   pub length-statement_depths : (s : StatementTree) → length (statement_depths s) ≡ statement_size s
   length-statement_depths (assign w e) = simp length-append (omega (arith, length-expression_depths e 0))
+  length-statement_depths (assign_element w i e) =
+      simp length-append (omega (arith, length-expression_depths i 0, length-expression_depths e 1))
   length-statement_depths (service_call c) = simp length-append (omega (arith, length-arguments_depths c.arguments 0))
   length-statement_depths (if_then e s) =
       simp length-append (omega (arith, length-expression_depths e 0, length-block_depths s))

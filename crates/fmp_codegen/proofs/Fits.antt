@@ -1,28 +1,31 @@
 -- The code of a tree keeps to its depth table.
 use Rattle.std.proofs.Common.{◌≡◌, ℕ, ◌+◌, ◌-◌, ◌<◌, ◌≤◌, Bool, true, false, ◌&&◌, nat_eq, nat_le, nat_lt, List, [], ◌∷◌, ◌++◌, length, Option, Some, None, refl, sym, ap, ◌∙◌, subst, ⊎_elim, arith, pos}
-use Rattle.std.specs.Prelude.{slice_get, is_some}
+use Rattle.std.specs.Prelude.{slice_get, is_some, option_map}
 use Rattle.std.proofs.lemmas.Bool.{cases_lt}
 use Rattle.std.proofs.lemmas.Bool.Decides.{nat_tests}
 use Rattle.fmp_base.specs.Services.{arity, out_place}
+use Rattle.fmp_base.specs.Systems.{found}
 use Rattle.fmp_tasklang.specs.declared.trees.Word.{Word}
-use Rattle.fmp_tasklang.specs.Trees.{ExpressionTree, number, named, unary, binary, both, either, CallTree, StatementTree, assign, service_call, if_then, if_else, while, break, continue, return, Block, empty, next}
-use Rattle.fmp_tasklang.specs.Scopes.{Scope, NameMeaning, Variable, Object, Unknown, meaning_of}
-use Rattle.fmp_tasklang.specs.Stretches.{variable_place, word_place}
+use Rattle.fmp_tasklang.specs.Trees.{ExpressionTree, number, named, element, unary, binary, both, either, CallTree, StatementTree, assign, assign_element, service_call, if_then, if_else, while, break, continue, return, Block, empty, next}
+use Rattle.fmp_tasklang.specs.Layout.{total_places, first_place, places_at}
+use Rattle.fmp_tasklang.specs.Scopes.{Scope, NameMeaning, Variable, Array, Object, Unknown, meaning_of}
+use Rattle.fmp_tasklang.specs.Stretches.{variable_number}
+use Rattle.fmp_tasklang.specs.Values.{array_number, array_places}
 use Rattle.fmp_instructions.specs.declared.instructions.Instruction.{Instruction}
 use Rattle.fmp_instructions.specs.declared.instructions.Instruction.TheVariants.{Push, Load, Store, Unary, Truth, Binary, Jump, JumpIfZero, End}
-use Rattle.fmp_instructions.specs.Verify.{depth_is, entry_is, local_fits, is_same, places_fit, wants, fits}
+use Rattle.fmp_instructions.specs.Verify.{array_fits, depth_is, entry_is, local_fits, is_same, places_fit, wants, fits}
 use Rattle.fmp_tasklang.specs.CallForms.{CallFits, StatementFits, BlockFits}
 use Rattle.fmp_scopes.specs.Depths.{expression_depth, arguments_depth, statement_depth, block_depth}
 use Rattle.fmp_scopes.specs.DepthTables.{expression_depths, arguments_depths, statement_depths, block_depths}
-use Rattle.fmp_scopes.specs.Naming.{Writes, use_offence, uses_offence, expression_uses, word_uses, call_uses, statement_uses, block_uses}
-use Rattle.fmp_scopes.specs.Scheme.{name_code, expression_code, arguments_code, target_place, call_instruction, statement_code, block_code}
+use Rattle.fmp_scopes.specs.Naming.{Writes, ReadsElement, WritesElement, use_offence, uses_offence, expression_uses, arguments_uses, word_uses, call_uses, statement_uses, block_uses}
+use Rattle.fmp_scopes.specs.Scheme.{array_base, name_code, load_element, store_element, word_place, expression_code, arguments_code, target_place, call_instruction, statement_code, block_code}
 use Rattle.fmp_scopes.specs.Sizes.{expression_size, arguments_size, statement_size, block_size}
 use Rattle.fmp_codegen.specs.Tie.{HasAt}
 use Rattle.fmp_codegen.proofs.DepthLengths.{HasDepths, depths_front, depths_back, length-expression_depths, length-arguments_depths, length-statement_depths, length-block_depths}
 use Rattle.fmp_codegen.proofs.Lengths.{has_front, has_back, length-expression_code, length-arguments_code, length-statement_code, length-block_code}
 use Rattle.fmp_scopes.proofs.LeastDepths.{one-le-expression_depth, arguments-le-depth}
-use Rattle.fmp_scopes.proofs.KnownNames.{none-first, uses_front, uses_back, target_is, call-named}
-use Rattle.fmp_codegen.proofs.Places.{variable-below}
+use Rattle.fmp_scopes.proofs.KnownNames.{none-first, none-second, uses_front, uses_back, target_is, target_means, read_array, written_array, call-named, arguments-named}
+use Rattle.fmp_codegen.proofs.Places.{IsLaidOut, below-all}
 
 pub both_true : (a b : Bool) → a ≡ true → b ≡ true → (a && b) ≡ true
 both_true a b p q = cc
@@ -42,9 +45,9 @@ same_true true false h = h
 same_true false true h = sym h
 same_true false false h = refl
 
-module _ (scope : Scope) (code : List Instruction) (table : List ℕ) where
+module _ (scope : Scope) (code : List Instruction) (table : List ℕ) (laid : IsLaidOut scope) where
   abbrev locals : ℕ
-  locals = length scope.variables
+  locals = total_places scope.locals
 
   -- the instructions of these places keep to the table
   abbrev pub AllFit : ℕ → ℕ → Type 0
@@ -78,36 +81,78 @@ module _ (scope : Scope) (code : List Instruction) (table : List ℕ) where
   pub expression_first : (e : ExpressionTree) (d p : ℕ) → HasDepths table p (expression_depths e d) → Entry p d
   expression_first (number k) d p h = h.0
   expression_first (named w) d p h = h.0
+  expression_first (element w e) d p h = expression_first e d p (depths_front table p (expression_depths e d) _ h)
   expression_first (unary op e) d p h = expression_first e d p (depths_front table p (expression_depths e d) _ h)
   expression_first (binary op a b) d p h = expression_first a d p (depths_front table p (expression_depths a d) _ h)
   expression_first (both a b) d p h = expression_first a d p (depths_front table p (expression_depths a d) _ h)
   expression_first (either a b) d p h = expression_first a d p (depths_front table p (expression_depths a d) _ h)
 
+  -- a variable has a place below the number of the locals
+  variable_below : (v : ℕ) → places_at scope.locals v ≡ 1 → first_place scope.locals v < locals
+  variable_below v one = omega (arith, below-all scope.locals v, one)
+
   named_fits :
-      (m : NameMeaning) (p d : ℕ) → ((v : ℕ) → variable_place m ≡ Some v → v < locals) → d + 1 ≤ 64 →
-      slice_get code p ≡ Some (name_code m) → Entry p d → Entry (p + 1) (d + 1) → AllFit p (p + 1)
-  named_fits (Variable v) p d below le hi hd end =
-      fit_at p (p + 1) (Load v) d refl hi hd (omega arith)
-      (both_true (nat_lt v locals) (entry_is table (p + 1) (d + 1)) (lt_true v locals (below v refl))
+      (m : NameMeaning) (p d : ℕ) → ((v : ℕ) → m ≡ Variable v → places_at scope.locals v ≡ 1) → d + 1 ≤ 64 →
+      slice_get code p ≡ Some (name_code scope.locals m) → Entry p d → Entry (p + 1) (d + 1) → AllFit p (p + 1)
+  named_fits (Variable v) p d one le hi hd end =
+      let place = first_place scope.locals v in
+      fit_at p (p + 1) (Load place) d refl hi hd (omega arith)
+      (both_true (nat_lt place locals) (entry_is table (p + 1) (d + 1)) (lt_true place locals (variable_below v (one v refl)))
       (entry_at (p + 1) (d + 1) (d + 1) end refl le))
-  named_fits (Object k) p d below le hi hd end =
-      fit_at p (p + 1) (Push (pos k)) d refl hi hd (omega arith) (entry_at (p + 1) (d + 1) (d + 1) end refl le)
-  named_fits Unknown p d below le hi hd end =
+  named_fits (Array v) p d one le hi hd end =
       fit_at p (p + 1) (Push (pos 0)) d refl hi hd (omega arith) (entry_at (p + 1) (d + 1) (d + 1) end refl le)
+  named_fits (Object k) p d one le hi hd end =
+      fit_at p (p + 1) (Push (pos k)) d refl hi hd (omega arith) (entry_at (p + 1) (d + 1) (d + 1) end refl le)
+  named_fits Unknown p d one le hi hd end =
+      fit_at p (p + 1) (Push (pos 0)) d refl hi hd (omega arith) (entry_at (p + 1) (d + 1) (d + 1) end refl le)
+
+  -- an array lies behind `exinf` and within the locals
+  array_fits_there :
+      (w : Word) (m : NameMeaning) → m ≡ meaning_of scope w.name → m ≡ Array (array_number m) →
+      array_fits locals (array_base scope m) (array_places scope m) ≡ true
+  array_fits_there w m is array =
+      let v = array_number m in
+      let a = laid.arrays w.name v (sym is ∙ array) in
+      let there : array_places scope m ≡ places_at scope.locals v = ap (array_places scope) array in
+      let within = below-all scope.locals v in
+      both_true (nat_le 1 (array_base scope m) && nat_le 1 (array_places scope m)) (nat_le (array_base scope m + array_places scope m) locals)
+      (both_true (nat_le 1 (array_base scope m)) (nat_le 1 (array_places scope m)) (le_true 1 (array_base scope m) a.behind)
+      (le_true 1 (array_places scope m) (omega (arith, a.some, there))))
+      (le_true (array_base scope m + array_places scope m) locals (omega (arith, within, there)))
 
   -- an expression at d, with d + 1 at the place after it
   pub expression_fits :
       (e : ExpressionTree) (p q d : ℕ) → HasAt code p (expression_code scope e p) →
-      HasDepths table p (expression_depths e d) → d + expression_depth e ≤ 64 → p + expression_size e ≡ q →
-      Entry q (d + 1) → AllFit p q
-  expression_fits (number k) p q d has hd le eq end =
+      HasDepths table p (expression_depths e d) → uses_offence scope (expression_uses e) ≡ None →
+      d + expression_depth e ≤ 64 → p + expression_size e ≡ q → Entry q (d + 1) → AllFit p q
+  expression_fits (number k) p q d has hd known le eq end =
       fit_at p q (Push k) d eq has.0 hd.0 (omega arith)
       (entry_at (p + 1) (d + 1) (d + 1) (entry_moved (p + 1) q (d + 1) eq end) refl le)
-  expression_fits (named w) p q d has hd le eq end =
+  expression_fits (named w) p q d has hd known le eq end =
       subst (λ m. AllFit p m) eq
-      (named_fits (meaning_of scope w.name) p d (variable-below scope w.name) le has.0 hd.0
+      (named_fits (meaning_of scope w.name) p d (laid.plain w.name) le has.0 hd.0
       (entry_moved (p + 1) q (d + 1) eq end))
-  expression_fits (unary op e) p q d has hd le eq end =
+  expression_fits (element w e) p q d has hd known le eq end =
+      let m = meaning_of scope w.name in
+      let i = load_element scope m in
+      let pe = p + expression_size e in
+      let front = expression_code scope e p in
+      let entries = expression_depths e d in
+      let hi = has_back code p (expression_size e) front (i ∷ []) (length-expression_code scope e p) has in
+      let ht = depths_back table p (expression_size e) entries ((d + 1) ∷ []) (length-expression_depths e d) hd in
+      let some = one-le-expression_depth e in
+      let after : pe + 1 ≡ q = omega arith in
+      let here = none-first (use_offence scope (ReadsElement w)) (uses_offence scope (expression_uses e)) known in
+      let inner = none-second (use_offence scope (ReadsElement w)) (uses_offence scope (expression_uses e)) known in
+      let array = array_fits locals (array_base scope m) (array_places scope m) in
+      fit_join p pe q
+      (expression_fits e p pe d (has_front code p front (i ∷ []) has) (depths_front table p entries ((d + 1) ∷ []) hd)
+      inner le refl ht.0)
+      (fit_at pe q i (d + 1) after hi.0 ht.0 (omega arith)
+      (both_true (array && nat_le 1 (d + 1)) (entry_is table (pe + 1) (d + 1))
+      (both_true array (nat_le 1 (d + 1)) (array_fits_there w m refl (read_array scope w here)) (le_true 1 (d + 1) (omega arith)))
+      (entry_at (pe + 1) (d + 1) (d + 1) (entry_moved (pe + 1) q (d + 1) after end) refl (omega arith))))
+  expression_fits (unary op e) p q d has hd known le eq end =
       let pe = p + expression_size e in
       let front = expression_code scope e p in
       let entries = expression_depths e d in
@@ -117,11 +162,13 @@ module _ (scope : Scope) (code : List Instruction) (table : List ℕ) where
       let after : pe + 1 ≡ q = omega arith in
       fit_join p pe q
       (expression_fits e p pe d (has_front code p front (Unary op ∷ []) has) (depths_front table p entries ((d + 1) ∷ []) hd)
-      le refl ht.0)
+      known le refl ht.0)
       (fit_at pe q (Unary op) (d + 1) after hi.0 ht.0 (omega arith)
       (both_true (nat_le 1 (d + 1)) (entry_is table (pe + 1) (d + 1)) (le_true 1 (d + 1) (omega arith))
       (entry_at (pe + 1) (d + 1) (d + 1) (entry_moved (pe + 1) q (d + 1) after end) refl (omega arith))))
-  expression_fits (binary op a b) p q d has hd le eq end =
+  expression_fits (binary op a b) p q d has hd known le eq end =
+      let known_a = uses_front scope (expression_uses a) (expression_uses b) known in
+      let known_b = uses_back scope (expression_uses a) (expression_uses b) known in
       let pa = p + expression_size a in
       let pb = pa + expression_size b in
       let first = expression_code scope a p in
@@ -139,15 +186,17 @@ module _ (scope : Scope) (code : List Instruction) (table : List ℕ) where
       let after : pb + 1 ≡ q = omega arith in
       let two : d + 2 ≡ d + 1 + 1 = omega arith in
       fit_join p pa q
-      (expression_fits a p pa d (has_front code p first tail has) (depths_front table p entries rest hd)
+      (expression_fits a p pa d (has_front code p first tail has) (depths_front table p entries rest hd) known_a
       (omega arith) refl (expression_first b (d + 1) pa fb))
       (fit_join pa pb q
-      (expression_fits b pa pb (d + 1) (has_front code pa second (Binary op ∷ []) ha) fb (omega arith) refl
+      (expression_fits b pa pb (d + 1) (has_front code pa second (Binary op ∷ []) ha) fb known_b (omega arith) refl
       (subst (λ m. Entry pb m) two tb.0))
       (fit_at pb q (Binary op) (d + 2) after hb.0 tb.0 (omega arith)
       (both_true (nat_le 2 (d + 2)) (entry_is table (pb + 1) (d + 2 - 1)) (le_true 2 (d + 2) (omega arith))
       (entry_at (pb + 1) (d + 1) (d + 2 - 1) (entry_moved (pb + 1) q (d + 1) after end) (omega arith) (omega arith)))))
-  expression_fits (both a b) p q d has hd le eq end =
+  expression_fits (both a b) p q d has hd known le eq end =
+      let known_a = uses_front scope (expression_uses a) (expression_uses b) known in
+      let known_b = uses_back scope (expression_uses a) (expression_uses b) known in
       let pa = p + expression_size a in
       let pb = pa + 1 + expression_size b in
       let first = expression_code scope a p in
@@ -171,7 +220,8 @@ module _ (scope : Scope) (code : List Instruction) (table : List ℕ) where
       let end3 = entry_moved (pb + 2 + 1) q (d + 1) e3 end in
       let end4 = entry_moved (pb + 1 + 1 + 1) q (d + 1) e4 end in
       fit_join p pa q
-      (expression_fits a p pa d (has_front code p first rest has) (depths_front table p entries drest hd) (omega arith) refl t.0)
+      (expression_fits a p pa d (has_front code p first rest has) (depths_front table p entries drest hd) known_a (omega arith) refl
+      t.0)
       (fit_join pa (pa + 1) q
       (fit_at pa (pa + 1) (JumpIfZero (pb + 2)) (d + 1) refl h.0 t.0 (omega arith)
       (both_true (nat_le 1 (d + 1) && entry_is table (pb + 2) (d + 1 - 1)) (entry_is table (pa + 1) (d + 1 - 1))
@@ -179,7 +229,7 @@ module _ (scope : Scope) (code : List Instruction) (table : List ℕ) where
       (entry_at (pb + 2) d (d + 1 - 1) push_entry (omega arith) (omega arith)))
       (entry_at (pa + 1) d (d + 1 - 1) (expression_first b d (pa + 1) fb) (omega arith) (omega arith))))
       (fit_join (pa + 1) pb q
-      (expression_fits b (pa + 1) pb d (has_front code (pa + 1) second tail h.1) fb (omega arith) refl ts.0)
+      (expression_fits b (pa + 1) pb d (has_front code (pa + 1) second tail h.1) fb known_b (omega arith) refl ts.0)
       (fit_join pb (pb + 1) q
       (fit_at pb (pb + 1) Truth (d + 1) refl ht.0 ts.0 (omega arith)
       (both_true (nat_le 1 (d + 1)) (entry_is table (pb + 1) (d + 1)) (le_true 1 (d + 1) (omega arith))
@@ -189,7 +239,9 @@ module _ (scope : Scope) (code : List Instruction) (table : List ℕ) where
       (entry_at (pb + 2 + 1) (d + 1) (d + 1) end3 refl (omega arith)))
       (fit_at (pb + 1 + 1) q (Push (pos 0)) d e4 ht.1.1.0 ts.1.1.0 (omega arith)
       (entry_at (pb + 1 + 1 + 1) (d + 1) (d + 1) end4 refl (omega arith)))))))
-  expression_fits (either a b) p q d has hd le eq end =
+  expression_fits (either a b) p q d has hd known le eq end =
+      let known_a = uses_front scope (expression_uses a) (expression_uses b) known in
+      let known_b = uses_back scope (expression_uses a) (expression_uses b) known in
       let pa = p + expression_size a in
       let pb = pa + 3 + expression_size b in
       let first = expression_code scope a p in
@@ -212,7 +264,8 @@ module _ (scope : Scope) (code : List Instruction) (table : List ℕ) where
       let e4 : pb + 1 ≡ q = omega arith in
       let end4 = entry_moved (pb + 1) q (d + 1) e4 end in
       fit_join p pa q
-      (expression_fits a p pa d (has_front code p first rest has) (depths_front table p entries drest hd) (omega arith) refl t.0)
+      (expression_fits a p pa d (has_front code p first rest has) (depths_front table p entries drest hd) known_a (omega arith) refl
+      t.0)
       (fit_join pa (pa + 1) q
       (fit_at pa (pa + 1) (JumpIfZero (pa + 3)) (d + 1) refl h.0 t.0 (omega arith)
       (both_true (nat_le 1 (d + 1) && entry_is table (pa + 3) (d + 1 - 1)) (entry_is table (pa + 1) (d + 1 - 1))
@@ -226,7 +279,7 @@ module _ (scope : Scope) (code : List Instruction) (table : List ℕ) where
       (fit_at (pa + 1 + 1) (pa + 3) (Jump (pb + 1)) (d + 1) e3 h.1.1.0 t.1.1.0 (omega arith)
       (entry_at (pb + 1) (d + 1) (d + 1) end4 refl (omega arith)))
       (fit_join (pa + 3) pb q
-      (expression_fits b (pa + 3) pb d (has_front code (pa + 3) second (Truth ∷ []) hb) fb (omega arith) refl tu.0)
+      (expression_fits b (pa + 3) pb d (has_front code (pa + 3) second (Truth ∷ []) hb) fb known_b (omega arith) refl tu.0)
       (fit_at pb q Truth (d + 1) e4 hu.0 tu.0 (omega arith)
       (both_true (nat_le 1 (d + 1)) (entry_is table (pb + 1) (d + 1)) (le_true 1 (d + 1) (omega arith))
       (entry_at (pb + 1) (d + 1) (d + 1) end4 refl (omega arith))))))))
@@ -244,10 +297,12 @@ module _ (scope : Scope) (code : List Instruction) (table : List ℕ) where
 
   arguments_fit :
       (es : List ExpressionTree) (p q d m : ℕ) → HasAt code p (arguments_code scope es p) →
-      HasDepths table p (arguments_depths es d) → d + arguments_depth es ≤ 64 → p + arguments_size es ≡ q →
-      d + length es ≡ m → Entry q m → AllFit p q
-  arguments_fit [] p q d m has hd le eq l end = λ r i x a b hi hx. absurd (omega arith)
-  arguments_fit (e ∷ es) p q d m has hd le eq l end =
+      HasDepths table p (arguments_depths es d) → uses_offence scope (arguments_uses es) ≡ None →
+      d + arguments_depth es ≤ 64 → p + arguments_size es ≡ q → d + length es ≡ m → Entry q m → AllFit p q
+  arguments_fit [] p q d m has hd known le eq l end = λ r i x a b hi hx. absurd (omega arith)
+  arguments_fit (e ∷ es) p q d m has hd known le eq l end =
+      let known_e = uses_front scope (expression_uses e) (arguments_uses es) known in
+      let known_es = uses_back scope (expression_uses e) (arguments_uses es) known in
       let pe = p + expression_size e in
       let first = expression_code scope e p in
       let others = arguments_code scope es pe in
@@ -256,12 +311,13 @@ module _ (scope : Scope) (code : List Instruction) (table : List ℕ) where
       let h = has_back code p (expression_size e) first others (length-expression_code scope e p) has in
       let t = depths_back table p (expression_size e) entries rest (length-expression_depths e d) hd in
       fit_join p pe q
-      (expression_fits e p pe d (has_front code p first others has) (depths_front table p entries rest hd) (omega arith) refl
+      (expression_fits e p pe d (has_front code p first others has) (depths_front table p entries rest hd) known_e (omega arith) refl
       (arguments_first es (d + 1) m pe q t (omega arith) (omega arith) end))
-      (arguments_fit es pe q (d + 1) m h t (omega arith) (omega arith) (omega arith) end)
+      (arguments_fit es pe q (d + 1) m h t known_es (omega arith) (omega arith) (omega arith) end)
 
   pub statement_first : (s : StatementTree) (p : ℕ) → HasDepths table p (statement_depths s) → Entry p 0
   statement_first (assign w e) p h = expression_first e 0 p (depths_front table p (expression_depths e 0) _ h)
+  statement_first (assign_element w i e) p h = expression_first i 0 p (depths_front table p (expression_depths i 0) _ h)
   statement_first (service_call c) p h =
       let n = arguments_size c.arguments in
       let entries = arguments_depths c.arguments 0 in
@@ -294,10 +350,13 @@ module _ (scope : Scope) (code : List Instruction) (table : List ℕ) where
       (is_some (word_place scope o) ≡ is_some o) × (local_fits locals (word_place scope o) ≡ true)
   word_fits None h = (refl, refl)
   word_fits (Some w) h =
-      let place = target_is scope w (none-first (use_offence scope (Writes w)) None h) in (
+      let writes = none-first (use_offence scope (Writes w)) None h in
+      let v = found 0 (variable_number (meaning_of scope w.name)) in
+      let place : word_place scope (Some w) ≡ Some (target_place scope w) =
+      ap (option_map (first_place scope.locals)) (target_is scope w writes) in (
         ap is_some place,
         ap (local_fits locals) place ∙
-            lt_true (target_place scope w) locals (variable-below scope w.name (target_place scope w) place),
+            lt_true (target_place scope w) locals (variable_below v (laid.plain w.name v (target_means scope w writes))),
       )
 
   call_fits :
@@ -326,15 +385,48 @@ module _ (scope : Scope) (code : List Instruction) (table : List ℕ) where
         let entries = expression_depths e 0 in
         let h = has_back code p (expression_size e) front (Store v ∷ []) (length-expression_code scope e p) has in
         let t = depths_back table p (expression_size e) entries (1 ∷ []) (length-expression_depths e 0) hd in
-        let place = target_is scope w (none-first (use_offence scope (Writes w)) (uses_offence scope (expression_uses e)) known) in
+        let n = found 0 (variable_number (meaning_of scope w.name)) in
+        let writes = none-first (use_offence scope (Writes w)) (uses_offence scope (expression_uses e)) known in
+        let inner = none-second (use_offence scope (Writes w)) (uses_offence scope (expression_uses e)) known in
+        let one = laid.plain w.name n (target_means scope w writes) in
         let after : pe + 1 ≡ q = omega arith in
         fit_join p pe q
         (expression_fits e p pe 0 (has_front code p front (Store v ∷ []) has) (depths_front table p entries (1 ∷ []) hd)
-        (omega arith) refl t.0)
+        inner (omega arith) refl t.0)
         (fit_at pe q (Store v) 1 after h.0 t.0 (omega arith)
         (both_true (nat_lt v locals && nat_le 1 1) (entry_is table (pe + 1) (1 - 1))
-        (both_true (nat_lt v locals) (nat_le 1 1) (lt_true v locals (variable-below scope w.name v place)) refl)
+        (both_true (nat_lt v locals) (nat_le 1 1) (lt_true v locals (variable_below n one)) refl)
         (entry_at (pe + 1) 0 0 (entry_moved (pe + 1) q 0 after end) refl (omega arith))))
+    statement_fits (assign_element w i e) p q again exit has hd known fit le eq end ea ex =
+        let m = meaning_of scope w.name in
+        let st = store_element scope m in
+        let pi = p + expression_size i in
+        let pe = pi + expression_size e in
+        let first = expression_code scope i p in
+        let second = expression_code scope e pi in
+        let entries = expression_depths i 0 in
+        let entries_e = expression_depths e 1 in
+        let hb = has_back code p (expression_size i) first (second ++ st ∷ []) (length-expression_code scope i p) has in
+        let h = has_back code pi (expression_size e) second (st ∷ []) (length-expression_code scope e pi) hb in
+        let tb = depths_back table p (expression_size i) entries (entries_e ++ 2 ∷ []) (length-expression_depths i 0) hd in
+        let t = depths_back table pi (expression_size e) entries_e (2 ∷ []) (length-expression_depths e 1) tb in
+        let fe = depths_front table pi entries_e (2 ∷ []) tb in
+        let uses = expression_uses i ++ expression_uses e in
+        let writes = none-first (use_offence scope (WritesElement w)) (uses_offence scope uses) known in
+        let inner = none-second (use_offence scope (WritesElement w)) (uses_offence scope uses) known in
+        let after : pe + 1 ≡ q = omega arith in
+        let array = array_fits locals (array_base scope m) (array_places scope m) in
+        fit_join p pi q
+        (expression_fits i p pi 0 (has_front code p first (second ++ st ∷ []) has)
+        (depths_front table p entries (entries_e ++ 2 ∷ []) hd) (uses_front scope (expression_uses i) (expression_uses e) inner)
+        (omega arith) refl (expression_first e 1 pi fe))
+        (fit_join pi pe q
+        (expression_fits e pi pe 1 (has_front code pi second (st ∷ []) hb) fe
+        (uses_back scope (expression_uses i) (expression_uses e) inner) (omega arith) refl t.0)
+        (fit_at pe q st 2 after h.0 t.0 (omega arith)
+        (both_true (array && nat_le 2 2) (entry_is table (pe + 1) (2 - 2))
+        (both_true array (nat_le 2 2) (array_fits_there w m refl (written_array scope w writes)) refl)
+        (entry_at (pe + 1) 0 0 (entry_moved (pe + 1) q 0 after end) refl (omega arith)))))
     statement_fits (service_call c) p q again exit has hd known fit le eq end ea ex =
         let es = c.arguments in
         let pe = p + arguments_size es in
@@ -350,7 +442,7 @@ module _ (scope : Scope) (code : List Instruction) (table : List ℕ) where
         let r = word_place scope c.result in
         fit_join p pe q
         (arguments_fit es p pe 0 (length es) (has_front code p front (i ∷ []) has)
-        (depths_front table p entries (length es ∷ []) hd) (omega arith) refl all t.0)
+        (depths_front table p entries (length es ∷ []) hd) (arguments-named scope c known) (omega arith) refl all t.0)
         (fit_at pe q i (length es) after h.0 t.0 (omega arith)
         (both_true (nat_eq (length es) (arity c.service) && places_fit locals c.service o r) (entry_is table (pe + 1) 0)
         (both_true (nat_eq (length es) (arity c.service)) (places_fit locals c.service o r)
@@ -368,7 +460,7 @@ module _ (scope : Scope) (code : List Instruction) (table : List ℕ) where
         let e1 : over ≡ q = omega arith in
         fit_join p pe q
         (expression_fits e p pe 0 (has_front code p front tail has) (depths_front table p entries (1 ∷ block_depths s) hd)
-        (omega arith) refl t.0)
+        (uses_front scope (expression_uses e) (block_uses s) known) (omega arith) refl t.0)
         (fit_join pe (pe + 1) q
         (test_fits pe over h.0 t.0 (entry_moved over q 0 e1 end) (block_first s (pe + 1) q t.1 e1 end))
         (block_fits s (pe + 1) q again exit h.1 t.1 known_s fit (omega arith) e1 end ea ex))
@@ -394,7 +486,7 @@ module _ (scope : Scope) (code : List Instruction) (table : List ℕ) where
         let e1 : over ≡ q = omega arith in
         fit_join p pe q
         (expression_fits e p pe 0 (has_front code p front tail has) (depths_front table p entries dtail hd)
-        (omega arith) refl t.0)
+        (uses_front scope (expression_uses e) (block_uses s ++ block_uses r) known) (omega arith) refl t.0)
         (fit_join pe (pe + 1) q
         (test_fits pe (ps + 1) h.0 t.0 (block_first r (ps + 1) q tj.1 e1 end) (block_first s (pe + 1) ps ts refl tj.0))
         (fit_join (pe + 1) ps q
@@ -423,7 +515,8 @@ module _ (scope : Scope) (code : List Instruction) (table : List ℕ) where
         let he = depths_front table p entries dtail hd in
         let first = expression_first e 0 p he in
         fit_join p pe q
-        (expression_fits e p pe 0 (has_front code p front tail has) he (omega arith) refl t.0)
+        (expression_fits e p pe 0 (has_front code p front tail has) he
+        (uses_front scope (expression_uses e) (block_uses s) known) (omega arith) refl t.0)
         (fit_join pe (pe + 1) q
         (test_fits pe (ps + 1) h.0 t.0 last (block_first s (pe + 1) ps ts refl tj.0))
         (fit_join (pe + 1) ps q

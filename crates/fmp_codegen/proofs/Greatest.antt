@@ -1,6 +1,6 @@
 -- The greatest entry of a depth table is the depth of its tree.
 use Rattle.std.proofs.Common.{◌≡◌, ℕ, ◌+◌, max, List, [], ◌∷◌, ◌++◌, length, refl, arith}
-use Rattle.fmp_tasklang.specs.Trees.{ExpressionTree, number, named, unary, binary, both, either, StatementTree, assign, service_call, if_then, if_else, while, break, continue, return, Block, empty, next, BodyTree}
+use Rattle.fmp_tasklang.specs.Trees.{ExpressionTree, number, named, element, unary, binary, both, either, StatementTree, assign, assign_element, service_call, if_then, if_else, while, break, continue, return, Block, empty, next, BodyTree}
 use Rattle.fmp_scopes.specs.Depths.{expression_depth, arguments_depth, statement_depth, block_depth, body_depth}
 use Rattle.fmp_scopes.specs.DepthTables.{expression_depths, arguments_depths, statement_depths, block_depths, body_depths}
 use Rattle.fmp_codegen.specs.Laws.{greatest}
@@ -14,6 +14,8 @@ greatest-append (d ∷ a) b = omega (arith, greatest-append a b)
 greatest-expression : (e : ExpressionTree) (d : ℕ) → max (greatest (expression_depths e d)) (d + 1) ≡ d + expression_depth e
 greatest-expression (number k) d = omega arith
 greatest-expression (named w) d = omega arith
+greatest-expression (element w e) d =
+    simp greatest-append (omega (arith, greatest-expression e d))
 greatest-expression (unary op e) d =
     simp greatest-append (omega (arith, greatest-expression e d))
 greatest-expression (binary op a b) d =
@@ -34,6 +36,8 @@ mutual
   greatest-statement : (s : StatementTree) → greatest (statement_depths s) ≡ statement_depth s
   greatest-statement (assign w e) =
       simp greatest-append (omega (arith, greatest-expression e 0))
+  greatest-statement (assign_element w i e) =
+      simp greatest-append (omega (arith, greatest-expression i 0, greatest-expression e 1))
   greatest-statement (service_call c) =
       simp greatest-append (omega (arith, greatest-arguments c.arguments 0))
   greatest-statement (if_then e s) =

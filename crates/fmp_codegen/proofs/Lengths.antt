@@ -3,7 +3,7 @@ use Rattle.std.proofs.Common.{◌≡◌, ℕ, ◌+◌, ◌<◌, List, [], ◌∷
 use Rattle.std.proofs.Math.Seq.{get_or-append_seam}
 use Rattle.std.proofs.lemmas.Option.{slice_get-get_or}
 use Rattle.fmp_base.specs.Systems.{SystemTables}
-use Rattle.fmp_tasklang.specs.Trees.{ExpressionTree, number, named, unary, binary, both, either, StatementTree, assign, service_call, if_then, if_else, while, break, continue, return, Block, empty, next, BodyTree}
+use Rattle.fmp_tasklang.specs.Trees.{ExpressionTree, number, named, element, unary, binary, both, either, StatementTree, assign, assign_element, service_call, if_then, if_else, while, break, continue, return, Block, empty, next, BodyTree}
 use Rattle.fmp_tasklang.specs.Scopes.{Scope, scope_of}
 use Rattle.fmp_instructions.specs.declared.instructions.Instruction.{Instruction}
 use Rattle.fmp_scopes.specs.Scheme.{expression_code, arguments_code, statement_code, block_code, body_code}
@@ -37,6 +37,7 @@ module _ (scope : Scope) where
   pub length-expression_code : (e : ExpressionTree) (at : ℕ) → length (expression_code scope e at) ≡ expression_size e
   length-expression_code (number k) at = refl
   length-expression_code (named w) at = refl
+  length-expression_code (element w e) at = simp length-append (omega (arith, length-expression_code e at))
   length-expression_code (unary op e) at = simp length-append (omega (arith, length-expression_code e at))
   length-expression_code (binary op a b) at =
       simp length-append (omega (arith, length-expression_code a at, length-expression_code b (at + expression_size a)))
@@ -54,6 +55,9 @@ module _ (scope : Scope) where
     pub length-statement_code :
         (s : StatementTree) (at again exit : ℕ) → length (statement_code scope s at again exit) ≡ statement_size s
     length-statement_code (assign w e) at again exit = simp length-append (omega (arith, length-expression_code e at))
+    length-statement_code (assign_element w i e) at again exit =
+        simp length-append
+        (omega (arith, length-expression_code i at, length-expression_code e (at + expression_size i)))
     length-statement_code (service_call c) at again exit = simp length-append (omega (arith, length-arguments_code c.arguments at))
     length-statement_code (if_then e s) at again exit =
         simp length-append

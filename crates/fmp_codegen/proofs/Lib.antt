@@ -11,9 +11,9 @@ mod Lengths
 pub mod Limits
 mod LowHeadings
 mod Places
-mod Positions
 mod Printed
 mod Statements
 mod TextMaking
+mod Tied
 mod Variables
 mod VerifiedBodies

@@ -9,15 +9,16 @@ use Rattle.fmp_base.specs.Systems.{SystemTables}
 use Rattle.fmp_lex.specs.declared.fault.FaultKind.TheVariants as fault
 use Rattle.fmp_tasklang.specs.declared.trees.Body.{Body}
 use Rattle.fmp_tasklang.specs.Trees.{BodyTree}
-use Rattle.fmp_tasklang.specs.Scopes.{exinf_name, scope_of}
+use Rattle.fmp_tasklang.specs.Layout.{exinf_local}
+use Rattle.fmp_tasklang.specs.Scopes.{scope_of}
 use Rattle.fmp_tasklang.specs.Views.{body_view}
 use Rattle.fmp_scopes.specs.declared.offences.Offence.{Offence}
 use Rattle.fmp_codegen.specs.Compiling.{is_among, variables_offence, size_offence, body_offence, bodies_offence, IsAccepted}
 use Rattle.fmp_scopes.specs.Depths.{body_depth}
 use Rattle.fmp_scopes.specs.Naming.{first_offence, uses_offence, block_uses}
-use Rattle.fmp_codegen.proofs.Bodies.{body-accepted}
+use Rattle.fmp_codegen.proofs.Bodies.{not-taken, body-accepted}
 use Rattle.fmp_scopes.proofs.KnownNames.{none-first, none-second}
-use Rattle.fmp_codegen.proofs.VerifiedBodies.{not-taken, is_small}
+use Rattle.fmp_codegen.proofs.VerifiedBodies.{is_small}
 
 -- a body without a fault is no 256th
 not-last : (tables : SystemTables) (names : List Name) (body : BodyTree) → body_offence tables names body ≡ None → length names < 255
@@ -25,7 +26,7 @@ not-last tables names body h =
     let limit : Offence = record { at = body.at; why = fault.Limit } in
     let twice : Offence = record { at = body.name.at; why = fault.TwiceNamed } in
     let uses = uses_offence (scope_of tables body) (block_uses body.statements) in
-    let after = first_offence (variables_offence tables (exinf_name ∷ []) body.variables) (first_offence uses (size_offence body)) in
+    let after = first_offence (variables_offence tables (exinf_local ∷ []) body.variables) (first_offence uses (size_offence body)) in
     let rest = if is_among body.name.name names then Some twice else after in
     leb-false 255 (length names) (not-taken (nat_le 255 (length names)) limit rest h)
 

@@ -1,53 +1,33 @@
 -- The code of an accepted text is verified.
-use Rattle.std.proofs.Common.{◌≡◌, ℕ, zero, suc, ◌+◌, ◌≤◌, Bool, true, false, ◌||◌, nat_le, nat_lt, List, [], ◌∷◌, ◌++◌, length, Option, Some, None, refl, sym, ap, ◌∙◌, subst, arith, length-append}
+use Rattle.std.proofs.Common.{◌≡◌, ℕ, zero, suc, ◌+◌, ◌≤◌, Bool, true, false, ◌||◌, nat_lt, List, [], ◌∷◌, ◌++◌, Some, None, refl, subst, arith}
 use Rattle.std.specs.Prelude.{slice_get, if◌then◌else◌}
-use Rattle.std.proofs.lemmas.Bool.{leb-false, ltb-false}
-use Rattle.std.proofs.lemmas.List.{length-map}
+use Rattle.std.proofs.lemmas.Bool.{ltb-false}
 use Rattle.std.proofs.lemmas.Option.{slice_get_within}
 use Rattle.fmp_base.specs.declared.names.Name.{Name}
 use Rattle.fmp_base.specs.Systems.{SystemTables}
 use Rattle.fmp_lex.specs.declared.fault.FaultKind.TheVariants as fault
-use Rattle.fmp_tasklang.specs.declared.trees.Word.{Word}
 use Rattle.fmp_tasklang.specs.Trees.{BodyTree}
-use Rattle.fmp_tasklang.specs.Scopes.{exinf_name, scope_of}
+use Rattle.fmp_tasklang.specs.Layout.{exinf_local}
+use Rattle.fmp_tasklang.specs.Scopes.{scope_of}
 use Rattle.fmp_instructions.specs.declared.instructions.Instruction.TheVariants.{End}
 use Rattle.fmp_instructions.specs.Instructions.{BodyTables}
-use Rattle.fmp_instructions.specs.Verify.{fits as fits_in, KeepsTable, VerifiedBody, Verified}
+use Rattle.fmp_instructions.specs.Verify.{KeepsTable, VerifiedBody, Verified}
 use Rattle.fmp_tasklang.specs.CallForms.{BlockFits, CallsFit}
-use Rattle.fmp_codegen.specs.Compiling.{is_among, variables_offence, size_offence, body_offence, bodies_offence, compiled_body, compiled, IsAccepted}
-use Rattle.fmp_scopes.specs.Scopes.{is_object}
+use Rattle.fmp_codegen.specs.Compiling.{size_offence, body_offence, bodies_offence, compiled_body, compiled, IsAccepted}
 use Rattle.fmp_scopes.specs.Depths.{body_depth}
 use Rattle.fmp_scopes.specs.DepthTables.{block_depths, body_depths}
 use Rattle.fmp_scopes.specs.declared.offences.Offence.{Offence}
 use Rattle.fmp_scopes.specs.Scheme.{block_code, body_code}
 use Rattle.fmp_scopes.specs.Sizes.{block_size, body_size}
 use Rattle.fmp_codegen.specs.Tie.{HasAt}
-use Rattle.fmp_codegen.proofs.Bodies.{skips, Accepted, body-accepted}
+use Rattle.fmp_codegen.proofs.Bodies.{not-taken, Accepted, body-accepted, few-places, has-places}
 use Rattle.fmp_codegen.proofs.DepthLengths.{HasDepths, depths_front, depths_back, depths_all, length-block_depths, length-body_depths}
 use Rattle.fmp_codegen.proofs.Fits.{fit_join, fit_at, block_first, block_fits}
+use Rattle.fmp_codegen.proofs.Places.{laid-out}
 use Rattle.fmp_codegen.proofs.Lengths.{has_front, has_back, has_all, length-block_code, length-body_code}
 use Rattle.fmp_scopes.proofs.KnownNames.{none-first, none-second}
 
 -- ---- limits
-
-pub not-taken : (t : Bool) (o : Offence) (rest : Option Offence) → (if t then Some o else rest) ≡ None → t ≡ false
-not-taken true o rest h = absurd (cc h)
-not-taken false o rest h = refl
-
-few_locals :
-    (tables : SystemTables) (names : List Name) (ws : List Word) → variables_offence tables names ws ≡ None →
-    length names ≤ 64 → length names + length ws ≤ 64
-few_locals tables names [] h le = omega (arith, le)
-few_locals tables names (w ∷ ws) h le =
-    let limit : Offence = record { at = w.at; why = fault.Limit } in
-    let twice : Offence = record { at = w.at; why = fault.TwiceNamed } in
-    let more = variables_offence tables (names ++ w.name ∷ []) ws in
-    let test = is_among w.name names || is_object tables w.name in
-    let rest = if test then Some twice else more in
-    let few = leb-false 64 (length names) (not-taken (nat_le 64 (length names)) limit rest h) in
-    let then_ = skips test twice more (skips (nat_le 64 (length names)) limit rest h) in
-    let one = length-append names (w.name ∷ []) in
-    omega (arith, one, few_locals tables (names ++ w.name ∷ []) ws then_ (omega (arith, one, few)))
 
 or-false : (a b : Bool) → (a || b) ≡ false → (a ≡ false) × (b ≡ false)
 or-false false b h = (refl, h)
@@ -76,6 +56,7 @@ keeps_table tables body ok fits =
     let n = block_size body.statements in
     let statements = block_code scope body.statements 0 n n in
     let entries = block_depths body.statements in
+    let laid = laid-out tables body (has-places tables (exinf_local ∷ []) body.variables ok.variables) in
     let small = is_small body ok.size in
     let has : HasAt code 0 code = has_all code [] in
     let hd : HasDepths table 0 table = depths_all table [] in
@@ -86,19 +67,16 @@ keeps_table tables body ok fits =
     let same : 0 + n ≡ n = omega arith in
     let end = subst (λ m. slice_get table m ≡ Some 0) same dback.0 in
     let last = subst (λ m. slice_get code m ≡ Some End) same back.0 in
-    let all = fit_join scope code table 0 n (n + 1)
-    (block_fits scope code table body.statements 0 n n n front dfront ok.names fits small.depth same end end end)
-    (fit_at scope code table n (n + 1) End 0 refl last end (omega arith) refl) in
-    let locals : length scope.variables ≡ length body.variables + 1 =
-    omega (arith, length-map body.variables (λ (w : Word). w.name)) in
+    let all = fit_join scope code table laid 0 n (n + 1)
+    (block_fits scope code table laid body.statements 0 n n n front dfront ok.names fits small.depth same end end end)
+    (fit_at scope code table laid n (n + 1) End 0 refl last end (omega arith) refl) in
     let long = length-body_code tables body in
     let entries_long = length-body_depths body in
     record {
-      first = block_first scope code table body.statements 0 n dfront same end;
+      first = block_first scope code table laid body.statements 0 n dfront same end;
       size = omega (arith, long, small.size);
       long = omega (arith, long, entries_long);
       each = λ place i d hi hx.
-          ap (λ m. fits_in m table place d i) (sym locals) ∙
           all place i d (omega arith) (omega (arith, long, slice_get_within code place i hi)) hi hx;
     }
 
@@ -107,7 +85,7 @@ body_verified :
     VerifiedBody (compiled_body tables body)
 body_verified tables body ok fits =
     record {
-      locals = omega (arith, few_locals tables (exinf_name ∷ []) body.variables ok.variables (omega arith));
+      locals = omega (arith, few-places tables body ok.variables);
       table = keeps_table tables body ok fits;
     }
 

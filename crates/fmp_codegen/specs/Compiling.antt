@@ -1,5 +1,5 @@
 -- What compiling a text answers: the code of its bodies, or the first fault in order of text.
-use Rattle.std.specs.Prelude.{◌≡◌, ◌+◌, List, [], ◌∷◌, ◌++◌, length, map, Option, Some, None, Result, Ok, Err, Bool, ◌||◌, nat_le, nat_lt, is_some, if◌then◌else◌}
+use Rattle.std.specs.Prelude.{◌≡◌, ◌+◌, List, [], ◌∷◌, ◌++◌, length, map, Option, Some, None, Result, Ok, Err, Bool, ◌||◌, ◌&&◌, nat_le, nat_lt, is_some, if◌then◌else◌}
 use Rattle.fmp_base.specs.declared.names.Name.{Name}
 use Rattle.fmp_base.specs.Names.{name_text}
 use Rattle.fmp_base.specs.Systems.{SystemTables}
@@ -8,9 +8,11 @@ use Rattle.fmp_lex.specs.declared.fault.BuildFault.TheVariants as build
 use Rattle.fmp_lex.specs.declared.fault.FaultKind.TheVariants as fault
 use Rattle.fmp_lex.specs.declared.fault.TextFile.TheVariants as file
 use Rattle.fmp_lex.specs.declared.token.Token.{Token}
-use Rattle.fmp_tasklang.specs.declared.trees.Word.{Word}
+use Rattle.fmp_tasklang.specs.declared.trees.Declaration.{Declaration}
+use Rattle.fmp_tasklang.specs.declared.trees.Length.{Length}
+use Rattle.fmp_tasklang.specs.Layout.{Local, magnitude, places_of, local_of, exinf_local, locals_of, total_places}
 use Rattle.fmp_tasklang.specs.Trees.{BodyTree}
-use Rattle.fmp_tasklang.specs.Scopes.{place_of, exinf_name, scope_of}
+use Rattle.fmp_tasklang.specs.Scopes.{place_of, scope_of}
 use Rattle.fmp_instructions.specs.declared.instructions.Code as declared
 use Rattle.fmp_instructions.specs.Instructions.{BodyTables, code_tables}
 use Rattle.fmp_scopes.specs.Depths.{body_depth}
@@ -25,17 +27,24 @@ use Rattle.fmp_scopes.specs.Sizes.{body_size}
 abbrev pub is_among : Name → List Name → Bool
 is_among name names = is_some (place_of (name_text name) names)
 
--- The first fault of declared variables, after locals of these names: the 65th local, or a name of another variable or
--- of an object.
-abbrev pub variables_offence : SystemTables → List Name → List Word → Option Offence
+-- the fault of a length that is not 1 to 63
+abbrev pub length_offence : Option Length → Option Offence
+length_offence None = None
+length_offence (Some l) =
+    let n = magnitude l.places in
+    if nat_le 1 n && nat_le n 63 then None else Some (record { at = l.at; why = fault.Limit })
+
+-- The first fault of declared variables, after these locals: the 65th place, a name of another variable or of an
+-- object, or the length of an array.
+abbrev pub variables_offence : SystemTables → List Local → List Declaration → Option Offence
 variables_offence tables locals [] = None
-variables_offence tables locals (w ∷ ws) =
-    if nat_le 64 (length locals) then Some (record { at = w.at; why = fault.Limit })
-    else (if is_among w.name locals || is_object tables w.name then Some (record {
-      at = w.at;
+variables_offence tables locals (d ∷ ds) =
+    if nat_lt 64 (total_places locals + places_of d.length) then Some (record { at = d.name.at; why = fault.Limit })
+    else (if is_among d.name.name (map (λ (l : Local). l.name) locals) || is_object tables d.name.name then Some (record {
+      at = d.name.at;
       why = fault.TwiceNamed;
     })
-    else variables_offence tables (locals ++ w.name ∷ []) ws)
+    else first_offence (length_offence d.length) (variables_offence tables (locals ++ local_of d ∷ []) ds))
 
 -- more than 65535 instructions, or more than 64 operands
 abbrev pub size_offence : BodyTree → Option Offence
@@ -50,7 +59,7 @@ abbrev pub body_offence : SystemTables → List Name → BodyTree → Option Off
 body_offence tables names body =
     if nat_le 255 (length names) then Some (record { at = body.at; why = fault.Limit })
     else (if is_among body.name.name names then Some (record { at = body.name.at; why = fault.TwiceNamed })
-    else first_offence (variables_offence tables (exinf_name ∷ []) body.variables)
+    else first_offence (variables_offence tables (exinf_local ∷ []) body.variables)
     (first_offence (uses_offence (scope_of tables body) (block_uses body.statements)) (size_offence body)))
 
 -- the first fault of the bodies of a text, after bodies of these names
@@ -62,7 +71,7 @@ bodies_offence tables names (b ∷ bs) =
 -- the code of a body
 abbrev pub compiled_body : SystemTables → BodyTree → BodyTables
 compiled_body tables body =
-    record { locals = length body.variables + 1; instructions = body_code tables body; depths = body_depths body }
+    record { locals = total_places (locals_of body); instructions = body_code tables body; depths = body_depths body }
 
 -- the code of the bodies of a text
 abbrev pub compiled : SystemTables → List BodyTree → List BodyTables

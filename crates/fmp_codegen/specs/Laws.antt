@@ -6,7 +6,8 @@ use Rattle.fmp_base.specs.FinishLaws.{turned}
 use Rattle.fmp_base.specs.Systems.{SystemTables}
 use Rattle.fmp_tasklang.specs.Trees.{BodyTree}
 use Rattle.fmp_tasklang.specs.Contexts.{TextContext}
-use Rattle.fmp_tasklang.specs.Texts.{text_meaning}
+use Rattle.fmp_tasklang.specs.Scopes.{scope_of}
+use Rattle.fmp_tasklang.specs.Texts.{body_at, text_meaning}
 use Rattle.fmp_instructions.specs.declared.instructions.MachineContext.{MachineContext}
 use Rattle.fmp_instructions.specs.Instructions.{BodyTables}
 use Rattle.fmp_instructions.specs.Machine.{code_meaning}
@@ -26,7 +27,7 @@ pub record DoesText (tables : SystemTables) (bodies : List BodyTree) (code : Lis
       let machine : Meaning MachineContext = code_meaning code in
       let text : Meaning TextContext = text_meaning tables bodies in
       (body n : ℕ) (d : MachineContext) (c : TextContext) → CodeTied tables bodies code body d c →
-      StretchTied (CodeTied tables bodies code body) SameLocals (machine.stretch body n d) (text.stretch body n c)
+      StretchTied (CodeTied tables bodies code body) (SameLocals (scope_of tables (body_at bodies body))) (machine.stretch body n d) (text.stretch body n c)
 
 -- the greatest entry of a depth table
 abbrev pub greatest : List ℕ → ℕ

@@ -1,12 +1,13 @@
--- The tie between the text of a body and its code: the same locals, and the program counter at the code of what is
--- still to do.
-use Rattle.std.specs.Prelude.{◌≡◌, ℕ, zero, suc, ◌+◌, ◌<◌, ◌≤◌, max, ℤ, List, [], ◌∷◌, length, Option, Some, None, slice_get}
+-- The tie between the text of a body and its code: the values of the text's locals at the places of the code's, and the
+-- program counter at the code of what is still to do.
+use Rattle.std.specs.Prelude.{◌≡◌, ℕ, zero, suc, ◌+◌, ◌<◌, ◌≤◌, max, ℤ, List, [], ◌∷◌, ◌++◌, map, length, Option, Some, None, slice_get}
 use Rattle.fmp_base.specs.declared.calls.Reply.{Reply}
-use Rattle.fmp_base.specs.Deliveries.{Places}
 use Rattle.fmp_base.specs.Systems.{SystemTables}
 use Rattle.fmp_tasklang.specs.Trees.{StatementTree, while, BodyTree}
 use Rattle.fmp_tasklang.specs.Scopes.{Scope, scope_of}
-use Rattle.fmp_tasklang.specs.Contexts.{Item, Do, Mark, TextContext, locals_after}
+use Rattle.fmp_tasklang.specs.Contexts.{Item, Do, Mark, Receivers, TextContext, locals_after}
+use Rattle.fmp_tasklang.specs.Layout.{Local}
+use Rattle.fmp_tasklang.specs.Values.{Values}
 use Rattle.fmp_tasklang.specs.Texts.{body_at}
 use Rattle.fmp_instructions.specs.declared.instructions.Instruction.{Instruction}
 use Rattle.fmp_instructions.specs.declared.instructions.Instruction.TheVariants.{Jump, End}
@@ -57,20 +58,34 @@ Stands scope code (Mark e b ∷ rest) at again exit =
 abbrev pub StandsSomehow : Scope → List Instruction → List Item → ℕ → Type 0
 StandsSomehow scope code todo at = (again : ℕ) × (exit : ℕ) × Stands scope code todo at again exit
 
--- a reply changes the locals in the same way
-abbrev pub TakesReply : List Instruction → Option Places → ℕ → Type 0
-TakesReply code places at =
-    (locals : List ℤ) (reply : Reply) → locals_after locals places reply ≡ replied (call_before code at) locals reply
+-- the values of all places of the text's locals, one local after another
+abbrev pub all_values : Values → List ℤ
+all_values [] = []
+all_values (xs ∷ more) = xs ++ all_values more
+
+-- The text's locals have as many values as places, and the code's locals are these, in order of place. What stands behind
+-- them no body uses.
+pub record LocalsTied (scope : Scope) (machine : List ℤ) (text : Values) : Type 0 where
+  pub shape : map (λ (xs : List ℤ). length xs) text ≡ map (λ (l : Local). l.places) scope.locals
+  pub unused : List ℤ
+  pub same : machine ≡ all_values text ++ unused
+
+-- a reply changes tied locals in the same way
+abbrev pub TakesReply : Scope → List Instruction → Option Receivers → ℕ → Type 0
+TakesReply scope code receivers at =
+    (machine : List ℤ) (text : Values) (reply : Reply) →
+    LocalsTied scope machine text →
+    LocalsTied scope (replied (call_before code at) machine reply) (locals_after text receivers reply)
 
 -- tied contexts of the code of a body and of its text
 pub record ContextTied (scope : Scope) (code : List Instruction) (d : MachineContext) (c : TextContext) : Type 0 where
-  pub locals : c.locals ≡ d.locals
+  pub locals : LocalsTied scope d.locals c.locals
   pub todo : Reaches code d.pc (StandsSomehow scope code c.todo)
-  pub reply : TakesReply code c.places d.pc
+  pub reply : TakesReply scope code c.receivers d.pc
 
--- contexts at an end or a fault: the same locals
-abbrev pub SameLocals : MachineContext → TextContext → Type 0
-SameLocals d c = c.locals ≡ d.locals
+-- contexts at an end or a fault: tied locals
+abbrev pub SameLocals : Scope → MachineContext → TextContext → Type 0
+SameLocals scope d c = LocalsTied scope d.locals c.locals
 
 -- the same for each body of a text, by its number
 abbrev pub CodeTied : SystemTables → List BodyTree → List BodyTables → ℕ → MachineContext → TextContext → Type 0

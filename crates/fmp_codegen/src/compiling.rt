@@ -4,7 +4,7 @@ ghost use Rattle.std.specs.Prelude.{◌≡◌, ◌+◌, ◌<◌, ◌≤◌, ◌+
 ghost use Rattle.std.specs.List.{AllByRecursion};
 ghost use Rattle.fmp_base.specs.Ranges.{IsInRange};
 ghost use Rattle.fmp_base.specs.Systems.{tables_of};
-ghost use Rattle.fmp_tasklang.specs.Scopes.{exinf_name};
+ghost use Rattle.fmp_tasklang.specs.Layout.{exinf_local, total_places};
 ghost use Rattle.fmp_tasklang.specs.Views.{block_view, body_view, program_view};
 ghost use Rattle.fmp_instructions.specs.Instructions.{body_tables, code_tables};
 ghost use Rattle.fmp_instructions.specs.Verify.{Verified};
@@ -13,7 +13,7 @@ ghost use Rattle.fmp_codegen.specs.Compiling as spec;
 ghost use Rattle.fmp_codegen.specs.Compiling.{compiled_body, IsCompiled};
 ghost use Rattle.fmp_scopes.specs.Depths.{body_depth};
 ghost use Rattle.fmp_codegen.specs.Laws.{DoesText};
-ghost use Rattle.fmp_scopes.specs.Scopes.{HoldsNumbers};
+ghost use Rattle.fmp_scopes.specs.Scopes.{HoldsNumbers, locals_with};
 ghost use Rattle.fmp_scopes.specs.Sizes.{block_size};
 
 use crate::emission::{Output, emit_block, put};
@@ -22,30 +22,50 @@ use fmp_instructions::{BodyCode, Code, Instruction};
 use fmp_lex::{BuildFault, FaultKind, Tokens};
 use fmp_scopes::{
     Extent, HasName, Names, Objects, Offence, append, block_extent, block_offence, is_exinf,
-    is_object, number_objects, place_in, source_fault,
+    is_object, number_objects, place_in, places_of_body, places_of_length, source_fault,
 };
-use fmp_tasklang::{Body, Program, Word};
+use fmp_tasklang::{Body, Declaration, Length, Program};
 use std::alloc::{AllocError, Global};
 
 /// The greatest number of instructions of a body.
 const MOST_INSTRUCTIONS: usize = 65535;
 /// The greatest number of operands that a body needs.
 const MOST_OPERANDS: usize = 64;
-/// The greatest number of declared variables of a body, beside `exinf`.
-const MOST_VARIABLES: usize = 63;
+/// The greatest number of places of the locals of a body.
+const MOST_PLACES: usize = 64;
+/// The greatest number of places of an array.
+const LONGEST_ARRAY: i32 = 63;
 /// The greatest number of bodies.
 const MOST_BODIES: usize = 255;
 
-/// The first fault of the declared variables of a body: the 65th local, or a name of another variable or of an object.
-fn variables_offence(objects: &Objects<'_>, variables: &[Word]) -> Option<Offence>
+/// Whether the length of an array, if there is one, is not 1 to 63.
+fn length_offence(length: Option<Length>) -> Option<Offence>
+    ensures { result ≡ spec.length_offence length }
+{
+    match length {
+        Some(length) if length.places < 1 || length.places > LONGEST_ARRAY => Some(Offence {
+            at: length.at,
+            why: FaultKind::Limit,
+        }),
+        _ => None,
+    }
+}
+
+/// The first fault of the declared variables of a body: the 65th place, a name of another variable or of an object, or
+/// the length of an array.
+fn variables_offence(objects: &Objects<'_>, variables: &[Declaration]) -> Option<Offence>
     requires { HoldsNumbers objects.now }
     ensures first { result ≡
-        spec.variables_offence (tables_of objects.now.system.now) (exinf_name ∷ []) variables.now }
+        spec.variables_offence (tables_of objects.now.system.now) (exinf_local ∷ []) variables.now }
     ensures few { IfNone result (length variables.now ≤ 63) }
+    ensures places { IfNone result (total_places (locals_with variables.now) ≤ 64) }
 {
+    let mut places = 1;
     for i in 0..variables.len() {
-        let word = variables[i];
-        if i >= MOST_VARIABLES {
+        let variable = variables[i];
+        let word = variable.name;
+        places += places_of_length(variable.length);
+        if places > MOST_PLACES {
             return Some(Offence {
                 at: word.at,
                 why: FaultKind::Limit,
@@ -59,6 +79,9 @@ fn variables_offence(objects: &Objects<'_>, variables: &[Word]) -> Option<Offenc
                 at: word.at,
                 why: FaultKind::TwiceNamed,
             });
+        }
+        if let Some(offence) = length_offence(variable.length) {
+            return Some(offence);
         }
     }
     None
@@ -95,6 +118,7 @@ pub fn judge_body<T: HasName>(
         (λ _. spec.body_offence tables (map T.name_of earlier.now) (body_view body.now) ≡ None)
         (λ offence. spec.body_offence tables (map T.name_of earlier.now) (body_view body.now) ≡ Some offence) }
     ensures variables { IfOk result (λ _. length body.now.variables.items ≤ 63) }
+    ensures places { IfOk result (λ _. total_places (locals_with body.now.variables.items) ≤ 64) }
     ensures size { IfOk result (λ extent. extent.size ≡ block_size (block_view body.now.statements.items)) }
     ensures small { IfOk result (λ extent. extent.size < 65535) }
     ensures depth { IfOk result (λ extent. extent.depth ≡ min (body_depth (body_view body.now)) 1073741824) }
@@ -134,6 +158,7 @@ pub fn compile_body(
 ) -> Result<BodyCode, AllocError>
     requires objects { HoldsNumbers objects.now }
     requires variables { length body.now.variables.items ≤ 63 }
+    requires places { total_places (locals_with body.now.variables.items) ≤ 64 }
     requires size { size ≡ block_size (block_view body.now.statements.items) }
     requires small { size < 65535 }
     requires low { body_depth (body_view body.now) ≤ 64 }
@@ -151,7 +176,7 @@ pub fn compile_body(
     emit_block(&mut out, &names, &body.statements, size, size)?;
     put(&mut out, Instruction::End, 0)?;
     Ok(BodyCode {
-        locals: body.variables.len() as u8 + 1,
+        locals: places_of_body(&body.variables),
         instructions: out.instructions,
         depths: out.depths,
     })
@@ -160,10 +185,11 @@ pub fn compile_body(
 /// The code of the bodies of a text, which does what they do. These are the tokens of the text.
 ///
 /// Bodies are judged in order of text. A fault stands at its token of the task text: `Limit` for the 256th body at its
-/// first word, for the 65th local at its name, and for more than 65535 instructions or 64 operands at the body's
-/// first word, after all of its names; `TwiceNamed` for a body with the name of another one, and for a variable with
-/// the name of another variable, of `exinf` or of an object; `UnknownName` for a name that is neither a variable nor
-/// an object, or is no variable where it is written.
+/// first word, for the 65th place of locals at the name of the variable that has it, for the length of an array that is
+/// not 1 to 63 at that number, and for more than 65535 instructions or 64 operands at the body's first word, after all
+/// of its names; `TwiceNamed` for a body with the name of another one, and for a variable with the name of another
+/// variable, of `exinf` or of an object; `UnknownName` for a name that is neither a variable nor an object, or is no
+/// variable where it is written; `Shape` for an array without an index, and for a variable or an object with one.
 pub fn compile(
     alloc: Global,
     tokens: &Tokens<'_>,

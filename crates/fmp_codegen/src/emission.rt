@@ -1,20 +1,22 @@
 //! The code of a tree and its depths, one instruction after another. Sizes are counted before, so that each jump is
 //! known when it is emitted; nesting bounds how often a tree is counted.
 
-ghost use Rattle.std.specs.Prelude.{◌≡◌, ◌+◌, ◌<◌, ◌≤◌, ◌++◌, ◌∷◌, [], ℕ, map, length, Some, IfSome, OnOk, IfOk};
+ghost use Rattle.std.specs.Prelude.{◌≡◌, ◌+◌, ◌<◌, ◌≤◌, ◌++◌, ◌∷◌, [], ℕ, map, max, length, Some, IfSome, OnOk, IfOk};
 ghost use Rattle.fmp_base.specs.Systems.{tables_of};
 ghost use Rattle.fmp_tasklang.specs.Scopes.{meaning_of};
-ghost use Rattle.fmp_tasklang.specs.Stretches.{word_place};
+ghost use Rattle.fmp_tasklang.specs.Values.{array_places};
 ghost use Rattle.fmp_tasklang.specs.Views.{expression_view, link_view, call_view, statement_view, block_view};
 ghost use Rattle.fmp_scopes.specs.Chains.{links_size, links_depth, operator_size, operator_rise, operator_code, links_code, operator_depths, links_depths, test_code};
 ghost use Rattle.fmp_scopes.specs.Depths.{expression_depth, arguments_depth, statement_depth, block_depth};
-ghost use Rattle.fmp_scopes.specs.DepthTables.{expression_depths, arguments_depths, statement_depths, block_depths};
-ghost use Rattle.fmp_scopes.specs.Scheme.{name_code, expression_code, arguments_code, target_place, call_instruction, statement_code, block_code};
+ghost use Rattle.fmp_scopes.specs.DepthTables.{expression_depths, arguments_depths, element_depths, statement_depths, block_depths};
+ghost use Rattle.fmp_scopes.specs.Scheme.{array_base, load_element, store_element, element_code, name_code, word_place, expression_code, arguments_code, target_place, call_instruction, statement_code, block_code};
 ghost use Rattle.fmp_scopes.specs.Scopes.{IsHeld, meaning_view, scope_view};
 ghost use Rattle.fmp_scopes.specs.Sizes.{expression_size, arguments_size, statement_size, block_size};
 
 use fmp_instructions::Instruction;
-use fmp_scopes::{Meaning, Names, block_extent, expression_extent, meaning_in};
+use fmp_scopes::{
+    Meaning, Names, block_extent, expression_extent, first_place_in, meaning_in, places_in,
+};
 use fmp_tasklang::{Expression, Link, Operator, ServiceCall, Statement, Word};
 use std::alloc::AllocError;
 
@@ -47,13 +49,47 @@ fn place(n: usize) -> u16
 
 fn name_instruction(names: &Names<'_>, word: &Word) -> Instruction
     requires { IsHeld names.now }
-    ensures { result ≡ name_code (meaning_of (scope_view names.now) word.now.name) }
+    ensures { result ≡ name_code (scope_view names.now).locals (meaning_of (scope_view names.now) word.now.name) }
 {
     match meaning_in(names, &word.name) {
-        Meaning::Variable(v) => Instruction::Load(v),
+        Meaning::Variable(v) => Instruction::Load(first_place_in(names.variables, v)),
+        Meaning::Array(_) => Instruction::Push(0),
         Meaning::Object(number) => Instruction::Push(number as i32),
         Meaning::Unknown => Instruction::Push(0),
     }
+}
+
+/// The first place of an array, and how many places it has.
+fn array_of(names: &Names<'_>, word: &Word) -> (u8, u8)
+    requires { IsHeld names.now }
+    ensures base { result.0 ≡ array_base (scope_view names.now) (meaning_of (scope_view names.now) word.now.name) }
+    ensures places { result.1 ≡ array_places (scope_view names.now) (meaning_of (scope_view names.now) word.now.name) }
+{
+    match meaning_in(names, &word.name) {
+        Meaning::Array(v) => (
+            first_place_in(names.variables, v),
+            places_in(names.variables, v),
+        ),
+        _ => (0, 0),
+    }
+}
+
+/// The instruction that loads an element of an array.
+fn load_of(names: &Names<'_>, array: &Word) -> Instruction
+    requires { IsHeld names.now }
+    ensures { result ≡ load_element (scope_view names.now) (meaning_of (scope_view names.now) array.now.name) }
+{
+    let (base, places) = array_of(names, array);
+    Instruction::LoadIndexed { base, places }
+}
+
+/// The instruction that stores an element of an array.
+fn store_of(names: &Names<'_>, array: &Word) -> Instruction
+    requires { IsHeld names.now }
+    ensures { result ≡ store_element (scope_view names.now) (meaning_of (scope_view names.now) array.now.name) }
+{
+    let (base, places) = array_of(names, array);
+    Instruction::StoreIndexed { base, places }
 }
 
 /// The place of a variable that is written.
@@ -62,7 +98,7 @@ fn target_of(names: &Names<'_>, word: &Word) -> u8
     ensures { result ≡ target_place (scope_view names.now) word.now }
 {
     match meaning_in(names, &word.name) {
-        Meaning::Variable(v) => v,
+        Meaning::Variable(v) => first_place_in(names.variables, v),
         _ => 0,
     }
 }
@@ -75,7 +111,7 @@ fn place_of_word(names: &Names<'_>, word: Option<Word>) -> Option<u8>
     match word {
         None => None,
         Some(word) => match meaning_in(names, &word.name) {
-            Meaning::Variable(v) => Some(v),
+            Meaning::Variable(v) => Some(first_place_in(names.variables, v)),
             _ => None,
         },
     }
@@ -123,6 +159,11 @@ fn emit_expression(
         }
         Expression::Name(word) => {
             put(out, name_instruction(names, word), depth)?;
+            Ok(())
+        }
+        Expression::Element { array, index } => {
+            emit_expression(out, names, index, depth)?;
+            put(out, load_of(names, array), depth + 1)?;
             Ok(())
         }
         Expression::Unary { operator, operand } => {
@@ -258,6 +299,34 @@ fn emit_call(out: &mut Output, names: &Names<'_>, call: &ServiceCall) -> Result<
     Ok(())
 }
 
+/// The code of an assignment to an element: the index, the value, and the store, which tests the index.
+fn emit_element(
+    out: &mut Output,
+    names: &Names<'_>,
+    array: &Word,
+    index: &Expression,
+    value: &Expression,
+) -> Result<(), AllocError>
+    requires held { IsHeld names.now }
+    requires room { length out.old.instructions.items + expression_size (expression_view index.now) +
+        expression_size (expression_view value.now) + 1 ≤ 65535 }
+    requires low { max (expression_depth (expression_view index.now)) (expression_depth (expression_view value.now) + 1)
+        ≤ 64 }
+    ensures code { OnOk result (out.new.instructions.items ≡ out.old.instructions.items ++
+        element_code (scope_view names.now) array.now (expression_view index.now) (expression_view value.now)
+        (length out.old.instructions.items)) }
+    ensures len { OnOk result (length out.new.instructions.items ≡
+        length out.old.instructions.items + (expression_size (expression_view index.now) +
+        expression_size (expression_view value.now) + 1)) }
+    ensures depths { OnOk result (out.new.depths.items ≡ out.old.depths.items ++
+        element_depths (expression_view index.now) (expression_view value.now)) }
+{
+    emit_expression(out, names, index, 0)?;
+    emit_expression(out, names, value, 1)?;
+    put(out, store_of(names, array), 2)?;
+    Ok(())
+}
+
 /// The code of a condition, and a jump over this many instructions behind it if it is 0.
 fn emit_test(
     out: &mut Output,
@@ -304,6 +373,14 @@ fn emit_statement(
         Statement::Assign { target, value } => {
             emit_expression(out, names, value, 0)?;
             put(out, Instruction::Store(target_of(names, target)), 1)?;
+            Ok(())
+        }
+        Statement::AssignElement {
+            array,
+            index,
+            value,
+        } => {
+            emit_element(out, names, array, index, value)?;
             Ok(())
         }
         Statement::Call(call) => {

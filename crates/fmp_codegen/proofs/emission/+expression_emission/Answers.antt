@@ -6,6 +6,7 @@ use Rattle.fmp_scopes.specs.Depths.{expression_depth}
 use Rattle.fmp_scopes.specs.Scopes.{scope_view}
 use Rattle.fmp_scopes.specs.Sizes.{expression_size}
 use Rattle.fmp_scopes.proofs.ViewTrees.{size-Chain, depth-Chain, unary-emitted, unary-deep, chain-emitted, chain-deep}
+use Rattle.fmp_codegen.proofs.Emitted.{element-emitted, element-deep}
 use Rattle.fmp_codegen.proofs.emission.+expression_emission.Goals as goal
 
 pub emit_expression-emit_expression-requires-in-Chain : goal.emit_expression-emit_expression-requires-in-Chain
@@ -26,17 +27,33 @@ emit_expression-emit_links-requires t c =
     let len = c.in_ok-emit_expression-in-Chain.ensures.len in
     (search (rules, the_lemmas), (c.requires.held, (omega (arith, size, first, rest, len, c.requires.room), omega (arith, depth, low, c.requires.low))))
 
+pub emit_expression-returns-in_ok-put-in-Element-clause-code :
+    goal.emit_expression-returns-in_ok-put-in-Element-clause-code
+emit_expression-returns-in_ok-put-in-Element-clause-code t c =
+    element-emitted (scope_view c.args.names.now) c.args.e.now c.deref.result.now c.in-Element.array c.in-Element.index
+    c.load_of.result c.in-Element.is c.deref.ensures c.load_of.ensures c.args.out.now.instructions.items
+    c.emit_expression.new.out.instructions.items c.put-in-Element.new.out.instructions.items
+    c.in_ok-emit_expression-in-Element.ensures.code c.in_ok-put-in-Element.ensures.code
+
+pub emit_expression-returns-in_ok-put-in-Element-clause-depths :
+    goal.emit_expression-returns-in_ok-put-in-Element-clause-depths
+emit_expression-returns-in_ok-put-in-Element-clause-depths t c =
+    element-deep c.args.e.now c.deref.result.now c.in-Element.array c.in-Element.index c.args.depth c.in-Element.is
+    c.deref.ensures c.args.out.now.depths.items c.emit_expression.new.out.depths.items
+    c.put-in-Element.new.out.depths.items c.in_ok-emit_expression-in-Element.ensures.depths
+    c.in_ok-put-in-Element.ensures.depths
+
 pub emit_expression-returns-in_ok-put-in-Unary-clause-code : goal.emit_expression-returns-in_ok-put-in-Unary-clause-code
 emit_expression-returns-in_ok-put-in-Unary-clause-code t c =
-    unary-emitted (scope_view c.args.names.now) c.args.e.now c.deref.result.now c.in-Unary.operator c.in-Unary.operand
-    c.in-Unary.is c.deref.ensures c.args.out.now.instructions.items c.emit_expression.new.out.instructions.items
+    unary-emitted (scope_view c.args.names.now) c.args.e.now c.deref-in-Unary.result.now c.in-Unary.operator c.in-Unary.operand
+    c.in-Unary.is c.deref-in-Unary.ensures c.args.out.now.instructions.items c.emit_expression-in-Unary.new.out.instructions.items
     c.put-in-Unary.new.out.instructions.items c.in_ok-emit_expression-in-Unary.ensures.code c.in_ok-put-in-Unary.ensures.code
 
 pub emit_expression-returns-in_ok-put-in-Unary-clause-depths :
     goal.emit_expression-returns-in_ok-put-in-Unary-clause-depths
 emit_expression-returns-in_ok-put-in-Unary-clause-depths t c =
-    unary-deep c.args.e.now c.deref.result.now c.in-Unary.operator c.in-Unary.operand c.args.depth
-    c.in-Unary.is c.deref.ensures c.args.out.now.depths.items c.emit_expression.new.out.depths.items
+    unary-deep c.args.e.now c.deref-in-Unary.result.now c.in-Unary.operator c.in-Unary.operand c.args.depth
+    c.in-Unary.is c.deref-in-Unary.ensures c.args.out.now.depths.items c.emit_expression-in-Unary.new.out.depths.items
     c.put-in-Unary.new.out.depths.items c.in_ok-emit_expression-in-Unary.ensures.depths c.in_ok-put-in-Unary.ensures.depths
 
 pub emit_expression-returns-in_ok-emit_links-in-Chain-clause-code :

@@ -1,9 +1,8 @@
-use Rattle.std.proofs.Common.{◌≡◌, ◌∷◌, [], ◌++◌, Some, None, map, refl, sym, ap, ◌∙◌, rules}
-use Rattle.std.proofs.lemmas.List.{map-append}
-use Rattle.std.specs.Prelude.{is_some, IsTrue}
+use Rattle.std.proofs.Common.{List, map, refl, sym, ap, ◌∙◌, rules}
 use Rattle.fmp_base.specs.Systems.{tables_of}
 use Rattle.fmp_tasklang.specs.Views.{body_view}
-use Rattle.fmp_instructions.specs.Instructions.{body_tables}
+use Rattle.fmp_scopes.specs.declared.headings.Heading.{Heading}
+use Rattle.fmp_codegen.specs.Compiling.{body_offence}
 use Rattle.fmp_codegen.proofs.TextMaking.{made-stays, made-stops, made-more, code-more, some-there, none-there}
 use Rattle.fmp_codegen.proofs.texts.add_body.Goals as goal
 
@@ -23,5 +22,9 @@ returns-in_ok-append-in-Ok-2 c = λ bodies are.
 pub returns-in-Err : goal.returns-in-Err
 returns-in-Err c = λ bodies are.
     let made = c.args.made.now in
+    let tables = tables_of c.args.objects.now.system.now in
     let fine = none-there made.offence (search rules) in
-    made-stops (tables_of c.args.objects.now.system.now) bodies (body_view c.args.body.now) made _ fine are c.in-Err.offence (search rules) refl
+    let judged = ap (λ (hs : List Heading). body_offence tables (map (λ (h : Heading). h.name) hs) (body_view c.args.body.now))
+    (sym c.deref.ensures.value)
+    ∙ c.in-Err.ensures.first in
+    made-stops tables bodies (body_view c.args.body.now) made _ fine are c.in-Err.offence judged refl
