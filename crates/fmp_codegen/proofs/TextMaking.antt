@@ -33,8 +33,8 @@ use Rattle.fmp_scopes.specs.declared.headings.Heading.{Heading}
 use Rattle.fmp_scopes.specs.declared.offences.Offence.{Offence}
 use Rattle.fmp_codegen.specs.declared.texts.CompiledText.{CompiledText}
 use Rattle.fmp_codegen.specs.declared.texts.Made.{Made}
-use Rattle.fmp_codegen.specs.Compiling.{body_offence, bodies_offence, compiled_body, compiled}
-use Rattle.fmp_scopes.specs.Headings.{heading_of, AreHeadings}
+use Rattle.fmp_codegen.specs.Compiling.{body_offence, bodies_offence, compiled_body}
+use Rattle.fmp_scopes.specs.Headings.{heading_of}
 use Rattle.fmp_scopes.specs.Naming.{first_offence}
 use Rattle.fmp_codegen.specs.Texts.{AreMade, IsMadeUpTo, IsMadeOf, MadeText, IsTextCompiled}
 use Rattle.fmp_scopes.proofs.Headed.{names-of, length-headed}

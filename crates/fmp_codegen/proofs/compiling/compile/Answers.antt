@@ -1,8 +1,8 @@
-use Rattle.std.proofs.Common.{rules, ◌≡◌, ◌∙◌, ◌++◌, ◌∷◌, [], None, Some, ◌<◌, ◌≤◌, length, map, take, ap, arith}
+use Rattle.std.proofs.Common.{rules, ◌≡◌, ◌∙◌, ◌∷◌, [], Some, ◌<◌, ◌≤◌, length, map, ap, arith}
 use Rattle.fmp_base.specs.Systems.{tables_of}
 use Rattle.fmp_tasklang.specs.Views.{body_view, program_view}
 use Rattle.fmp_instructions.specs.Instructions.{body_tables}
-use Rattle.fmp_codegen.specs.Compiling.{bodies_offence, body_offence, compiled_body}
+use Rattle.fmp_codegen.specs.Compiling.{bodies_offence}
 use Rattle.fmp_codegen.proofs.Judging.{compiled-on, compiled-stopped, judged-here, judged-on, map-append, code-tied, code-verified, all-accepted, all-compiled}
 use Rattle.fmp_codegen.proofs.Limits.{few-viewed, low-bodies}
 use Rattle.fmp_codegen.proofs.compiling.compile.Goals as goal

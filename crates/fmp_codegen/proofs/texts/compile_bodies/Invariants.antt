@@ -1,4 +1,4 @@
-use Rattle.std.proofs.Common.{◌≡◌, ◌≤◌, ◌-◌, List, length}
+use Rattle.std.proofs.Common.{◌≤◌, ◌-◌, List, length}
 use Rattle.fmp_base.specs.Systems.{tables_of}
 use Rattle.fmp_lex.specs.Reading.{kinds_of, ParseResult, map_result}
 use Rattle.fmp_lex.proofs.Repetitions.{put_before}

@@ -3,7 +3,7 @@ use Rattle.std.specs.Prelude.{if◌then◌else◌}
 use Rattle.fmp_lex.specs.declared.fault.FaultKind.TheVariants as fault
 use Rattle.fmp_tasklang.specs.Texts.{body_at}
 use Rattle.fmp_scopes.specs.Depths.{body_depth}
-use Rattle.fmp_scopes.specs.Entries.{is_kind, holds, body_fault, entry_fault}
+use Rattle.fmp_scopes.specs.Entries.{is_kind, holds, entry_fault}
 use Rattle.fmp_scopes.proofs.Headed.{place-headed, heading-read}
 use Rattle.fmp_scopes.proofs.entries.entry_fault.Goals as goal
 
