@@ -14,8 +14,8 @@ use Rattle.fmp_base.specs.Setups.{setup}
 use Rattle.fmp_base.specs.States.{places_from, idle}
 use Rattle.fmp_base.specs.Systems.{SystemTables}
 use Rattle.fmp_base.specs.Texts.{events_text}
-use Rattle.fmp_tasklang.specs.Contexts.{TextContext, first_locals, calling}
-use Rattle.fmp_tasklang.specs.Texts.{text_meaning, text_start}
+use Rattle.fmp_tasklang.specs.Contexts.{TextContext, first_values, calling}
+use Rattle.fmp_tasklang.specs.Texts.{body_at, text_meaning, text_start}
 use Rattle.fmp_worked_traces.specs.Builders.{usual_bound}
 use Rattle.fmp_worked_traces.specs.ManyDelays.{many_tasks, delaying, delaying_events, ticks_text, AllDelaysEndAtOnce}
 use Rattle.fmp_worked_traces.proofs.Parts.{arrival, events_from, after_part, printed_from-events}
@@ -54,7 +54,7 @@ first_left k (suc n) = Some k
 
 -- the context of a task that has called dly_tsk
 abbrev called : TextContext
-called = calling (first_locals (pos 0)) [] (record { service = service.DlyTsk; out = None; result = None })
+called = calling (first_values (body_at delaying 0) (pos 0)) [] (record { service = service.DlyTsk; out = None; result = None })
 
 -- the world where the first k tasks have begun their delays, and n are left
 abbrev world_at : ℕ → ℕ → World TextContext

@@ -16,10 +16,11 @@ use Rattle.fmp_base.specs.Systems.{SystemTables}
 use Rattle.fmp_base.specs.Texts.{whole_text, lines_text, events_text, states_text}
 use Rattle.fmp_tasklang.specs.declared.trees.BodyKind.{BodyKind}
 use Rattle.fmp_tasklang.specs.declared.trees.BodyKind.TheVariants as kind
+use Rattle.fmp_tasklang.specs.declared.trees.Declaration.{Declaration}
 use Rattle.fmp_tasklang.specs.declared.trees.Word.{Word}
 use Rattle.fmp_tasklang.specs.Contexts.{TextContext}
 use Rattle.fmp_tasklang.specs.Texts.{text_meaning}
-use Rattle.fmp_tasklang.specs.Trees.{ExpressionTree, number, named, unary, StatementTree, assign, service_call, Block, empty, next, BodyTree}
+use Rattle.fmp_tasklang.specs.Trees.{ExpressionTree, number, named, element, unary, StatementTree, assign, assign_element, service_call, Block, empty, next, BodyTree}
 
 -- a name
 abbrev pub called : String → Name
@@ -93,6 +94,10 @@ word letters = record { name = called letters; at = 0 }
 abbrev pub spelled : String → ExpressionTree
 spelled letters = named (word letters)
 
+-- name[index] as an expression
+abbrev pub element_at : String → ExpressionTree → ExpressionTree
+element_at letters index = element (word letters) index
+
 -- a number or a constant as an expression
 abbrev pub whole : ℕ → ExpressionTree
 whole n = number (pos n)
@@ -104,6 +109,10 @@ minus n = unary Negate (whole n)
 -- name = expression;
 abbrev pub set_to : String → ExpressionTree → StatementTree
 set_to letters e = assign (word letters) e
+
+-- name[index] = expression;
+abbrev pub set_element : String → (index value : ExpressionTree) → StatementTree
+set_element letters index value = assign_element (word letters) index value
 
 -- a service call without an out place
 abbrev pub call : Service → List ExpressionTree → StatementTree
@@ -119,16 +128,28 @@ abbrev pub block_of : List StatementTree → Block
 block_of [] = empty
 block_of (s ∷ ss) = next s (block_of ss)
 
--- a body with these variables and statements
-abbrev pub body_of_kind : BodyKind → String → List String → List StatementTree → BodyTree
-body_of_kind k letters variables statements =
+-- a plain variable
+abbrev pub variable : String → Declaration
+variable letters = record { name = word letters; length = None }
+
+-- an array of this many places
+abbrev pub array : String → (places : ℕ) → Declaration
+array letters places = record { name = word letters; length = Some (record { places = pos places; at = 0 }) }
+
+-- a body with these declarations and statements
+abbrev pub body_with : BodyKind → String → List Declaration → List StatementTree → BodyTree
+body_with k letters declarations statements =
     record {
       kind = k;
       at = 0;
       name = word letters;
-      variables = map word variables;
+      variables = declarations;
       statements = block_of statements;
     }
+
+-- a body with these plain variables and statements
+abbrev pub body_of_kind : BodyKind → String → List String → List StatementTree → BodyTree
+body_of_kind k letters variables statements = body_with k letters (map variable variables) statements
 
 -- the body of a task
 abbrev pub task : String → List String → List StatementTree → BodyTree

@@ -1,4 +1,5 @@
 pub mod Across
+pub mod Arrays
 pub mod Builders
 pub mod DataQueues
 pub mod Delays

@@ -3,6 +3,7 @@
 #![tactic(auto)]
 
 ghost use Rattle.fmp_worked_traces.specs.Across.{CallsAcrossProcessors, WokenBehindASpinLock};
+ghost use Rattle.fmp_worked_traces.specs.Arrays.{IndexOutOfRange, ValueFaultsFirst};
 ghost use Rattle.fmp_worked_traces.specs.DataQueues.{WordGoesWithoutBuffer, ForcedSendDropsOldest};
 ghost use Rattle.fmp_worked_traces.specs.Delays.{DelaysEndInTaskOrder};
 ghost use Rattle.fmp_worked_traces.specs.Flags.{FlagClearsAfterFirstRelease};
@@ -128,4 +129,14 @@ pub fn woken_behind_a_spin_lock()
 /// terminated where it is.
 pub fn calls_across_processors()
     ensures { CallsAcrossProcessors }
+{}
+
+/// An element of an array is stored and loaded by its index; one behind the last place is the fault F_IDX.
+pub fn index_out_of_range()
+    ensures { IndexOutOfRange }
+{}
+
+/// The value that is stored is worked out before the index is tested.
+pub fn value_faults_first()
+    ensures { ValueFaultsFirst }
 {}
