@@ -4,7 +4,7 @@ import random
 from dataclasses import dataclass
 
 from common.services import SERVICES
-from model.bodies import LOCALS, Assignment, Body, Call, Endless, Return, Statement
+from model.bodies import ARRAY_PLACES, LOCALS, Assignment, Body, Call, Element, Endless, Return, Statement, Store
 from model.world import (
     GREATEST_TIME, CyclicHandler, DataQueue, EventFlag, InterruptHandler, Mailbox, Semaphore, System, Task, WaitQueue,
 )
@@ -37,7 +37,10 @@ CHOICES = {
     "mask": (0, 1, 3, 6, 7, 65535, -1, 65536),
     "delay": (0, 1, 2, 3, 0, 1, 2, 3, -1, GREATEST_TIME, GREATEST_TIME + 1),
 }
-FAULTS = (Assignment(1, "/", 0), Assignment(2147483647, "+", 1))
+FAULTS = (
+    Assignment(1, "/", 0), Assignment(2147483647, "+", 1), Assignment(Element(-1), "+", 0),
+    Store(ARRAY_PLACES, Assignment(1, "/", 0)),
+)
 
 
 @dataclass
@@ -254,8 +257,20 @@ class Generator:
             return Endless()
         if chosen < 0.6:
             return self.random.choice(FAULTS)
-        left, right = (self.random.choice((*LOCALS, self.random.randint(-3, 3))) for _ in range(2))
-        return Assignment(left, self.random.choice("++/"), right)
+        assignment = Assignment(self.operand(), self.random.choice("++/"), self.operand())
+        return Store(self.index(), assignment) if self.chance(0.5) else assignment
+
+    def operand(self):
+        chosen = self.random.random()
+        if chosen < 0.5:
+            return self.random.choice(LOCALS)
+        return Element(self.index()) if chosen < 0.7 else self.random.randint(-3, 3)
+
+    def index(self):
+        """An index, mostly of a place of the array."""
+        if self.chance(0.2):
+            return self.random.choice(LOCALS)
+        return self.random.randint(-1 if self.chance(0.1) else 0, ARRAY_PLACES - 1)
 
     def between(self, first, last):
         """A few calls between two, the second of which may be left out."""
