@@ -24,6 +24,7 @@ code (fault.Api er) = codes "B4 "
 code fault.Limit = codes "B5"
 code fault.StackTooSmall = codes "B6"
 code fault.WrongEntryKind = codes "B7"
+code fault.Shape = codes "B9"
 
 abbrev pub refusal : FaultKind → List ℕ
 refusal (fault.Api er) = code_name er

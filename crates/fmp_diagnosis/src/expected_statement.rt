@@ -3,7 +3,7 @@ ghost use Rattle.std.specs.Prelude.{◌<◌, length, OnOk};
 ghost use Rattle.fmp_diagnosis.specs.Words.{IsSaid};
 
 use crate::around::name_at;
-use crate::calls::{argument_count, is_out_place, nesting_from};
+use crate::calls::{argument_count, is_in_brackets, is_out_place, nesting_from};
 use crate::words::{Word, counted, say, say_text};
 use fmp_base::{Name, Service};
 use fmp_lex::{Keyword, Symbol, TokenKind, Tokens};
@@ -56,8 +56,19 @@ fn ends_operand(kind: TokenKind) -> bool {
         TokenKind::Number(_)
             | TokenKind::Name(_)
             | TokenKind::Constant(_)
-            | TokenKind::Symbol(Symbol::RightParen)
+            | TokenKind::Symbol(Symbol::RightParen | Symbol::RightBracket)
     )
+}
+
+/// What is expected within parentheses or brackets that are open from a place on.
+fn within_open(tokens: &Tokens<'_>, from: usize, last: TokenKind) -> &'static str
+    ensures { 0 < length result.now }
+{
+    if is_in_brackets(tokens, from) {
+        in_expression(last, "an operator or `]`")
+    } else {
+        in_expression(last, "an operator or `)`")
+    }
 }
 
 /// What is expected behind the tokens of an expression, where this closes it.
@@ -151,6 +162,7 @@ fn say_in_call(
         }
         _ if !ends_operand(last) => say_text(OPERAND, out),
         _ if nesting.open == 1 => say_behind_argument(service, nesting.commas, out),
+        _ if is_in_brackets(tokens, at) => say_text("an operator or `]`", out),
         _ => say_text("`)`", out),
     }
 }
@@ -161,7 +173,7 @@ fn in_condition(tokens: &Tokens<'_>, at: usize, last: TokenKind) -> &'static str
 {
     let nesting = nesting_from(tokens, at);
     if nesting.open > 0 {
-        in_expression(last, "an operator or `)`")
+        within_open(tokens, at, last)
     } else if tokens.len() > at.saturating_add(1) {
         "`{`"
     } else {
@@ -169,14 +181,25 @@ fn in_condition(tokens: &Tokens<'_>, at: usize, last: TokenKind) -> &'static str
     }
 }
 
+/// Whether `=` stands in the statement that begins at a place.
+fn has_assign(tokens: &Tokens<'_>, begin: usize) -> bool {
+    for at in begin..tokens.len() {
+        if tokens.kind(at) == Some(TokenKind::Symbol(Symbol::Assign)) {
+            return true;
+        }
+    }
+    false
+}
+
 /// What is expected behind a name at the head of a statement, where no call is assigned to it.
 fn behind_name(tokens: &Tokens<'_>, begin: usize, last: TokenKind) -> &'static str
     ensures { 0 < length result.now }
 {
     match tokens.len().saturating_sub(begin) {
-        1 => "`=`",
-        2 => "an expression or a service call",
-        _ if nesting_from(tokens, begin).open > 0 => in_expression(last, "an operator or `)`"),
+        1 => "`=` or `[`",
+        2 if last == TokenKind::Symbol(Symbol::Assign) => "an expression or a service call",
+        _ if nesting_from(tokens, begin).open > 0 => within_open(tokens, begin, last),
+        _ if !has_assign(tokens, begin) => "`=`",
         _ => in_expression(last, "an operator or `;`"),
     }
 }
@@ -203,6 +226,9 @@ fn behind_keyword(keyword: Keyword, count: usize) -> &'static str
 {
     match (keyword, count) {
         (Keyword::Var, 1) => "the name of a variable",
+        (Keyword::Var, 2) => "`;` or `[`",
+        (Keyword::Var, 3) => "a number, 1 to 63",
+        (Keyword::Var, 4) => "`]`",
         (Keyword::Task | Keyword::Handler, 1) => "the name of a body",
         (Keyword::Task | Keyword::Handler, _) => "`{`",
         (Keyword::Else, _) => "`{` or `if`",

@@ -23,6 +23,7 @@ impl Topic {
             Topic::Reply(Er::Tmout) => "polling failure or time-out",
             Topic::Overflow => "overflow",
             Topic::Division => "division by zero",
+            Topic::Index => "index out of range",
             Topic::Syntax => "syntax",
             Topic::TwiceNamed => "name used twice",
             Topic::UnknownName => "unknown name",
@@ -30,6 +31,7 @@ impl Topic {
             Topic::Limit => "limit passed",
             Topic::StackTooSmall => "stack too small",
             Topic::WrongEntryKind => "entry of the other kind",
+            Topic::Shape => "array and index do not match",
             Topic::ImageShort => "image too short",
             Topic::ImageMagic => "no image",
             Topic::ImageVersion => "other version",
@@ -70,6 +72,8 @@ impl Topic {
             Topic::Overflow =>
                 "A body computed a value that does not fit 32 bits; the task or handler ends.",
             Topic::Division => "A body divided by 0; the task or handler ends.",
+            Topic::Index =>
+                "An index was below 0, or not below the length of its array; the task or handler ends.",
             Topic::Syntax => "The text goes on as no well-formed text does, at this line.",
             Topic::TwiceNamed => "An object, a body or a variable has the name of one before it.",
             Topic::UnknownName => "A name is used that nothing has.",
@@ -77,9 +81,11 @@ impl Topic {
             Topic::Limit => "A number, a name, a text, a nesting or a count is out of its limits.",
             Topic::StackTooSmall => "The stack of a task does not hold the operands of its body.",
             Topic::WrongEntryKind => "A task names a handler as its entry, or a handler a task.",
+            Topic::Shape =>
+                "An array stands without an index, or a variable or an object with one.",
             Topic::ImageShort => "A field ends past the end of the bytes.",
             Topic::ImageMagic => "The first four bytes are not FMPI.",
-            Topic::ImageVersion => "The version of the image is not 1.",
+            Topic::ImageVersion => "The version of the image is not 1 or 2.",
             Topic::ImageTable =>
                 "A value of the header, of a body or of a row breaks a rule of its table.",
             Topic::ImageCode =>
@@ -113,6 +119,7 @@ impl Topic {
             Topic::Reply(Er::Tmout) => "pol_sem(1) with count 0.",
             Topic::Overflow => "x = 2147483647 + 1;",
             Topic::Division => "x = 1 / 0;",
+            Topic::Index => "a[3] = 1; with var a[3];",
             Topic::Syntax => "NUM_PRC(1) without its semicolon.",
             Topic::TwiceNamed => "Two CRE_SEM of the name S.",
             Topic::UnknownName => "put(y); in a task without a variable y.",
@@ -120,6 +127,7 @@ impl Topic {
             Topic::Limit => "A name of 32 bytes, or NUM_PRC(9).",
             Topic::StackTooSmall => "A stack of 4 bytes for put(1 + 2);",
             Topic::WrongEntryKind => "CRE_TSK whose entry is declared by 'handler'.",
+            Topic::Shape => "put(a); with var a[3];",
             Topic::ImageShort => "The front half of an image.",
             Topic::ImageMagic => "A text in place of an image.",
             Topic::ImageVersion => "A version byte of 255.",

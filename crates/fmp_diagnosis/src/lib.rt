@@ -11,6 +11,7 @@ mod expected_api;
 mod expected_statement;
 mod explanations;
 mod fields;
+mod indices;
 mod known;
 mod limits;
 mod names;

@@ -75,9 +75,9 @@ fn say_in_configuration(around: &Around<'_>, out: &mut Vec<u8>) -> Result<(), Al
 
 /// The sentence on a body that is too long, or needs too many operands, by the tokens from its first word on.
 ///
-/// A token is compiled to at most 4 instructions. Within k open parentheses an expression needs at most 1 + 7 * (k + 1)
-/// operands at once, since there are 7 levels of operators that keep one while the right side is worked out, and the
-/// arguments of a call before it at most 4 more.
+/// A token is compiled to at most 4 instructions. Within k open parentheses or brackets an expression needs at most
+/// 1 + 7 * (k + 1) operands at once, since there are 7 levels of operators that keep one while the right side is worked
+/// out, and the arguments of a call before it at most 4 more, or the index of an assignment 1.
 fn excess_of_body(tokens: &Tokens<'_>) -> &'static str
     ensures { 0 < length result.now }
 {
@@ -101,14 +101,18 @@ fn body_end(tokens: &Tokens<'_>) -> usize {
     tokens.len()
 }
 
-/// How many parentheses are open at most among the tokens up to a place.
+/// How many parentheses and brackets are open at most among the tokens up to a place.
 fn deepest(tokens: &Tokens<'_>, end: usize) -> usize {
     let mut open = 0usize;
     let mut most = 0usize;
     for at in 0..end {
         match tokens.kind(at) {
-            Some(TokenKind::Symbol(Symbol::LeftParen)) => open = open.saturating_add(1),
-            Some(TokenKind::Symbol(Symbol::RightParen)) => open = open.saturating_sub(1),
+            Some(TokenKind::Symbol(Symbol::LeftParen | Symbol::LeftBracket)) => {
+                open = open.saturating_add(1);
+            }
+            Some(TokenKind::Symbol(Symbol::RightParen | Symbol::RightBracket)) => {
+                open = open.saturating_sub(1);
+            }
             _ => {}
         }
         most = most.max(open);
@@ -132,7 +136,9 @@ fn say_variable(name: Name, out: &mut Vec<u8>) -> Result<(), AllocError>
 {
     say_of(
         &name,
-        &[Word::Text(" is the 65th variable of this body with `exinf`; a body has at most 64")],
+        &[Word::Text(
+            " passes the 64 places of a body: `exinf` and a plain variable take 1, an array its length",
+        )],
         out,
     )
 }
@@ -145,6 +151,9 @@ fn say_in_source(around: &Around<'_>, out: &mut Vec<u8>) -> Result<(), AllocErro
         (Some(kind), _) if begins_body(kind) => say_body(around, out),
         (Some(TokenKind::Name(name)), Some(TokenKind::Keyword(Keyword::Var))) => {
             say_variable(name, out)
+        }
+        (Some(TokenKind::Number(_)), Some(TokenKind::Symbol(Symbol::LeftBracket))) => {
+            say_text("an array has 1 to 63 places", out)
         }
         _ => say_text("this opens level 65 of nesting; there are at most 64", out),
     }

@@ -1,9 +1,9 @@
 //! Sentences on a name that is used twice, and on one that nothing has.
-ghost use Rattle.std.specs.Prelude.{OnOk};
+ghost use Rattle.std.specs.Prelude.{◌<◌, length, OnOk};
 ghost use Rattle.fmp_diagnosis.specs.Words.{IsSaid, IsSaidFirst, quoted};
 ghost use Rattle.fmp_base.specs.Names.{name_text};
 
-use crate::apis::{api_at, entry_of, object_name, unknown_constant};
+use crate::apis::{api_at, entry_of, is_symbol, object_name, unknown_constant};
 use crate::around::{Around, is_among, is_same, last_body, line_of, list_of, name_at};
 use crate::fields::Field;
 use crate::known::{bodies, constants, objects, say_nearest, variables};
@@ -228,9 +228,19 @@ fn say_unknown_in_api(
     }
 }
 
-/// Whether the name at the place is to be written: before `=`, or behind the `&` of an out place.
+/// Whether an assignment to an element begins at the place.
+fn begins_element(around: &Around<'_>) -> bool {
+    let begins = matches!(
+        around.back(1),
+        Some(TokenKind::Symbol(Symbol::Semicolon | Symbol::LeftBrace | Symbol::RightBrace))
+    );
+    begins && is_symbol(&around.rest.tokens, 1, Symbol::LeftBracket)
+}
+
+/// Whether the name at the place is to be written: before `=`, with or without an index, or behind the `&` of an out
+/// place.
 fn is_written(around: &Around<'_>) -> bool {
-    if around.rest.tokens.kind(1) == Some(TokenKind::Symbol(Symbol::Assign)) {
+    if is_symbol(&around.rest.tokens, 1, Symbol::Assign) || begins_element(around) {
         return true;
     }
     let is_out = matches!(
@@ -315,6 +325,33 @@ fn say_unknown_in_source(
         say_written(alloc, &objects, around, name, out)
     } else {
         say_read(alloc, &objects, around, name, out)
+    }
+}
+
+/// What is said of a name of a wrong shape: an array where a plain variable must stand, an array without an index, or
+/// something else with one.
+fn shape(around: &Around<'_>) -> &'static str
+    ensures { 0 < length result.now }
+{
+    if is_symbol(&around.rest.tokens, 1, Symbol::LeftBracket) {
+        " is no array; only an array has an index"
+    } else if around.back(1) == Some(TokenKind::Symbol(Symbol::And)) && is_written(around) {
+        " is an array; the out place of a call is a plain variable"
+    } else {
+        " is an array; an index in brackets must stand behind it"
+    }
+}
+
+/// Says what is wrong with the shape of the name at the place.
+pub fn say_shape(around: &Around<'_>, out: &mut Vec<u8>) -> Result<(), AllocError>
+    ensures { OnOk result (IsSaid out.old.items out.new.items) }
+{
+    match name_at(&around.rest.tokens, 0) {
+        Some(name) => say_of(&name, &[Word::Text(shape(around))], out),
+        None => say_text(
+            "an array stands without an index, or something else with one",
+            out,
+        ),
     }
 }
 

@@ -36,6 +36,7 @@ fn code(kind: FaultKind) -> &'static str
         FaultKind::Limit => "B5",
         FaultKind::StackTooSmall => "B6",
         FaultKind::WrongEntryKind => "B7",
+        FaultKind::Shape => "B9",
     }
 }
 

@@ -5,7 +5,7 @@ ghost use Rattle.fmp_diagnosis.specs.Words.{IsSaid};
 
 use crate::around::around_place;
 use crate::limits::say_limit;
-use crate::names::{say_twice, say_unknown};
+use crate::names::{say_shape, say_twice, say_unknown};
 use crate::refusals::{say_refusal, say_small_stack, say_wrong_kind};
 use crate::syntax::say_syntax;
 use fmp_lex::{FaultKind, TextFile};
@@ -55,5 +55,6 @@ pub fn say_fault(
         FaultKind::Limit => say_limit(text.len(), file, &around, out),
         FaultKind::StackTooSmall => say_small_stack(alloc, texts, &around, out),
         FaultKind::WrongEntryKind => say_wrong_kind(&around, out),
+        FaultKind::Shape => say_shape(&around, out),
     }
 }

@@ -133,7 +133,11 @@ fn wants_operand(around: &Around<'_>) -> bool {
     match around.back(1) {
         Some(TokenKind::Symbol(symbol)) => !matches!(
             symbol,
-            Symbol::RightParen | Symbol::LeftBrace | Symbol::RightBrace | Symbol::Semicolon
+            Symbol::RightParen
+                | Symbol::RightBracket
+                | Symbol::LeftBrace
+                | Symbol::RightBrace
+                | Symbol::Semicolon
         ),
         _ => false,
     }

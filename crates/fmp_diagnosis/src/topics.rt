@@ -14,6 +14,8 @@ pub enum Topic {
     Overflow,
     /// F_DIV: a divisor is 0.
     Division,
+    /// F_IDX: an index is out of the range of its array.
+    Index,
     /// B1.
     Syntax,
     /// B2.
@@ -28,6 +30,8 @@ pub enum Topic {
     StackTooSmall,
     /// B7.
     WrongEntryKind,
+    /// B9.
+    Shape,
     /// L1.
     ImageShort,
     /// L2.
@@ -53,7 +57,7 @@ pub enum Topic {
 }
 
 /// All of them.
-pub const TOPICS: [Topic; 32] = [
+pub const TOPICS: [Topic; 34] = [
     Topic::Reply(Er::Ok),
     Topic::Reply(Er::Sys),
     Topic::Reply(Er::Nospt),
@@ -68,6 +72,7 @@ pub const TOPICS: [Topic; 32] = [
     Topic::Reply(Er::Tmout),
     Topic::Overflow,
     Topic::Division,
+    Topic::Index,
     Topic::Syntax,
     Topic::TwiceNamed,
     Topic::UnknownName,
@@ -75,6 +80,7 @@ pub const TOPICS: [Topic; 32] = [
     Topic::Limit,
     Topic::StackTooSmall,
     Topic::WrongEntryKind,
+    Topic::Shape,
     Topic::ImageShort,
     Topic::ImageMagic,
     Topic::ImageVersion,
@@ -97,6 +103,7 @@ impl Topic {
             Topic::Reply(code) => code.name(),
             Topic::Overflow => "F_OVF",
             Topic::Division => "F_DIV",
+            Topic::Index => "F_IDX",
             Topic::Syntax => "B1",
             Topic::TwiceNamed => "B2",
             Topic::UnknownName => "B3",
@@ -104,6 +111,7 @@ impl Topic {
             Topic::Limit => "B5",
             Topic::StackTooSmall => "B6",
             Topic::WrongEntryKind => "B7",
+            Topic::Shape => "B9",
             Topic::ImageShort => "L1",
             Topic::ImageMagic => "L2",
             Topic::ImageVersion => "L3",

@@ -1,6 +1,6 @@
 //! What is legal in two texts but usually a mistake: a call that its body may never make; a number in place of an
-//! object's name, or an object of another kind, as the argument of a call; bodies and objects that nothing uses;
-//! semaphores that nothing signals, flags that nothing sets.
+//! object's name, or an object of another kind, as the argument of a call; a number out of range as the index of an
+//! array; bodies and objects that nothing uses; semaphores that nothing signals, flags that nothing sets.
 ghost use Rattle.std.specs.Prelude.{◌<◌, OnOk};
 ghost use Rattle.fmp_diagnosis.specs.Words.{IsSaid};
 
@@ -8,6 +8,7 @@ use crate::apis::{api_at, entry_of, is_symbol, value_of};
 use crate::around::{begins_body_at, is_among, line_of, list_of, name_at};
 use crate::contexts::BodyKind;
 use crate::fields::{Field, object_of};
+use crate::indices::{Misplaced, misplaced_at};
 use crate::objects::{Object, Objects};
 use crate::reports::FileNames;
 use crate::sentence::Texts;
@@ -208,6 +209,24 @@ fn say_wrong(wrong: Wrong, out: &mut Vec<u8>) -> Result<(), AllocError>
             out,
         ),
     }
+}
+
+/// Says that an index is out of range.
+fn say_misplaced(misplaced: Misplaced, out: &mut Vec<u8>) -> Result<(), AllocError>
+    ensures { OnOk result (IsSaid out.old.items out.new.items) }
+{
+    say(
+        &[
+            Word::Text("the index "),
+            Word::Number(misplaced.index),
+            Word::Text(" of "),
+            Word::Name(misplaced.array),
+            Word::Text(" is out of range: the array has "),
+            Word::Number(misplaced.places),
+            Word::Text(" places\n"),
+        ],
+        out,
+    )
 }
 
 /// Says what a call takes as an argument.
@@ -433,6 +452,21 @@ fn warn_of_bodies(
     Ok(())
 }
 
+/// Warns of the indices of a task text that are numbers out of the range of their arrays.
+fn warn_of_indices(name: &str, src: &Tokens<'_>, out: &mut Vec<u8>) -> Result<(), AllocError> {
+    let mut body = 0;
+    for at in 0..src.len() {
+        if begins_body_at(src, at) {
+            body = at;
+        }
+        if let Some(misplaced) = misplaced_at(src, body, at) {
+            begin(name, line_of(src, at), out)?;
+            say_misplaced(misplaced, out)?;
+        }
+    }
+    Ok(())
+}
+
 /// Whether an object starts without a call: a task or a cyclic handler that is started at setup.
 fn is_started(cfg: &Tokens<'_>, object: &Object) -> bool {
     match object.api {
@@ -505,6 +539,7 @@ impl Warnings {
         out: &mut Vec<u8>,
     ) -> Result<(), AllocError> {
         self.calls(names.src, src, out)?;
+        warn_of_indices(names.src, src, out)?;
         let entries = entries(alloc, cfg)?;
         warn_of_bodies(names.src, &entries, src, out)?;
         self.neglected(names.cfg, cfg, out)
@@ -524,7 +559,8 @@ fn warnings_on(
 }
 
 /// The warnings of two texts that have no fault, one line each: those of the task text in order of text, first of at
-/// most 100 of its calls and their arguments and then of its bodies, and those of the objects of the configuration.
+/// most 100 of its calls and their arguments, then of indices that are numbers out of range, and then of its bodies, and
+/// those of the objects of the configuration.
 /// `AllocError` if memory runs out.
 pub fn warnings_of(
     alloc: Global,

@@ -107,6 +107,8 @@ fn symbol_text(symbol: Symbol) -> &'static str {
         Symbol::RightParen => ")",
         Symbol::LeftBrace => "{",
         Symbol::RightBrace => "}",
+        Symbol::LeftBracket => "[",
+        Symbol::RightBracket => "]",
         Symbol::Comma => ",",
         Symbol::Semicolon => ";",
         Symbol::Or => "|",
