@@ -9,8 +9,8 @@ use Rattle.fmp_tasklang.specs.Views.{LinkTree, expression_view}
 use Rattle.fmp_tasklang.proofs.Views.{expression_view-Element}
 use Rattle.fmp_instructions.specs.declared.instructions.Instruction.{Instruction}
 use Rattle.fmp_scopes.specs.Chains.{link_size, operator_code, links_code, operator_depths, links_depths}
-use Rattle.fmp_scopes.specs.DepthTables.{expression_depths, arguments_depths, element_depths, statement_depths, block_depths}
-use Rattle.fmp_scopes.specs.Scheme.{load_element, store_element, element_code, expression_code, arguments_code, statement_code, block_code}
+use Rattle.fmp_scopes.specs.DepthTables.{expression_depths, arguments_depths, statement_depths, block_depths}
+use Rattle.fmp_scopes.specs.Scheme.{load_element, expression_code, arguments_code, statement_code, block_code}
 use Rattle.fmp_scopes.specs.Sizes.{expression_size, statement_size}
 
 -- what is emitted next comes off what is left
@@ -104,30 +104,3 @@ element-deep e x w index d is value begun made made' did last =
     ∙ append_assoc begun (expression_depths (expression_view index.value) d) ((d + 1) ∷ [])
     ∙ ap (λ t. begun ++ expression_depths t d) (sym (expression_view-Element w index))
     ∙ ap (λ y. begun ++ expression_depths (expression_view y) d) (sym is)
-
--- the index, the value and the store
-three_parts : {B : Type 0} (begun first second : List B) (last : B) → ((begun ++ first) ++ second) ++ last ∷ [] ≡ begun ++ (first ++ (second ++ last ∷ []))
-three_parts begun first second last =
-    append_assoc (begun ++ first) second (last ∷ []) ∙ append_assoc begun first (second ++ last ∷ [])
-
-pub store-emitted :
-    (scope : Scope) (w : Word) (index value : ExpressionTree) (i : Instruction) → i ≡ store_element scope (meaning_of scope w.name) →
-    (begun made made' whole : List Instruction) → made ≡ begun ++ expression_code scope index (length begun) →
-    length made ≡ length begun + expression_size index → made' ≡ made ++ expression_code scope value (length made) →
-    whole ≡ made' ++ i ∷ [] → whole ≡ begun ++ element_code scope w index value (length begun)
-store-emitted scope w index value i stores begun made made' whole did len then_did last =
-    let first = expression_code scope index (length begun) in
-    let second = expression_code scope value (length begun + expression_size index) in
-    last ∙ ap (λ c. c ++ i ∷ []) then_did
-    ∙ ap (λ n. (made ++ expression_code scope value n) ++ i ∷ []) len
-    ∙ ap (λ c. (c ++ second) ++ i ∷ []) did
-    ∙ three_parts begun first second i
-    ∙ ap (λ (y : Instruction). begun ++ (first ++ (second ++ y ∷ []))) stores
-
-pub store-deep :
-    (index value : ExpressionTree) (begun made made' whole : List ℕ) → made ≡ begun ++ expression_depths index 0 →
-    made' ≡ made ++ expression_depths value 1 → whole ≡ made' ++ 2 ∷ [] → whole ≡ begun ++ element_depths index value
-store-deep index value begun made made' whole did then_did last =
-    last ∙ ap (λ c. c ++ 2 ∷ []) then_did
-    ∙ ap (λ c. (c ++ expression_depths value 1) ++ 2 ∷ []) did
-    ∙ three_parts begun (expression_depths index 0) (expression_depths value 1) 2
