@@ -13,7 +13,8 @@ use Rattle.fmp_instructions.specs.Longer.{exec-longer, exec-one_end}
 use Rattle.fmp_instructions.specs.Machine.{exec, code_stretch}
 use Rattle.fmp_codegen.specs.Tie.{ContextTied, SameLocals}
 use Rattle.fmp_codegen.proofs.Places.{IsPlain}
-use Rattle.fmp_codegen.proofs.Statements.{room, Comes, Match, Tied, SameLocalsBack, turns_follow}
+use Rattle.fmp_codegen.proofs.Matches.{room, Comes, Match, Tied, SameLocalsBack}
+use Rattle.fmp_codegen.proofs.Statements.{turns_follow}
 
 pub room-is : (code : List Instruction) (t : ℕ) → room code t ≡ (t + 1) * length code
 room-is code zero = omega arith

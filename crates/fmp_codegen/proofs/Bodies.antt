@@ -34,7 +34,7 @@ use Rattle.fmp_codegen.proofs.Expressions.{at_place}
 use Rattle.fmp_codegen.proofs.Lengths.{has_front, has_back, has_all, length-block_code}
 use Rattle.fmp_scopes.proofs.KnownNames.{none-first, none-second}
 use Rattle.fmp_codegen.proofs.Places.{HasPlaces, locals-plain}
-use Rattle.fmp_codegen.proofs.Statements.{Then, here, block_stands}
+use Rattle.fmp_codegen.proofs.Matches.{Then, here, block_stands}
 use Rattle.fmp_codegen.proofs.Tied.{first-tied}
 
 -- ---- names

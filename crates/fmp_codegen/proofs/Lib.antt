@@ -10,6 +10,7 @@ mod Judging
 mod Lengths
 pub mod Limits
 mod LowHeadings
+mod Matches
 mod Places
 mod Printed
 mod Statements

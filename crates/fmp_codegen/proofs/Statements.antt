@@ -1,32 +1,31 @@
 -- The machine follows the text, one thing to do after another.
-use Rattle.std.proofs.Common.{◌≡◌, ℕ, zero, suc, ◌+◌, ◌<◌, ◌≤◌, Bool, true, false, cond, List, [], ◌∷◌, ◌++◌, length, Some, None, Result, Ok, Err, refl, sym, ap, ◌∙◌, subst, arith, ℤ}
+use Rattle.std.proofs.Common.{◌≡◌, ℕ, zero, suc, ◌+◌, ◌<◌, ◌≤◌, Bool, true, false, cond, List, [], ◌∷◌, ◌++◌, length, Some, Result, Ok, Err, refl, sym, ap, ◌∙◌, subst, arith, ℤ}
 use Rattle.std.specs.Prelude.{slice_get, slice_set, if◌then◌else◌}
 use Rattle.std.proofs.lemmas.Option.{slice_get_within}
 use Rattle.fmp_base.specs.declared.bodies.Fault.{Fault}
 use Rattle.fmp_base.specs.Operators.{is_zero, place_in}
 use Rattle.fmp_base.specs.Services.{request}
 use Rattle.fmp_base.specs.Systems.{found}
-use Rattle.fmp_base.specs.Stretches.{Ending, is_over}
 use Rattle.fmp_base.specs.Stretches as ends
-use Rattle.fmp_base.specs.Ties.{StretchTied, call, end_, fault}
+use Rattle.fmp_base.specs.Ties.{call, end_}
 use Rattle.fmp_tasklang.specs.Trees.{ExpressionTree, StatementTree, assign, assign_element, service_call, if_then, if_else, while, break, continue, return, Block, empty, next}
 use Rattle.fmp_tasklang.specs.Scopes.{Scope, NameMeaning, meaning_of}
 use Rattle.fmp_tasklang.specs.Values.{Values, set_at, array_number, array_places, value, values}
-use Rattle.fmp_tasklang.specs.Contexts.{Item, Do, Mark, TextContext, going, calling, written, received, items_before}
+use Rattle.fmp_tasklang.specs.Contexts.{Item, Do, Mark, going, calling, written, received, items_before}
 use Rattle.fmp_tasklang.specs.Stretches.{Way, Next, Goes, Stops, variable_number, word_number, receivers_of, with_value, after_mark, from_mark, after_statement, after_item, statement_weight, block_weight, weight, follow, out_of_turns, walk, turns}
 use Rattle.fmp_instructions.specs.declared.instructions.Instruction.{Instruction}
 use Rattle.fmp_instructions.specs.declared.instructions.Instruction.TheVariants.{Store, Jump, JumpIfZero, End}
-use Rattle.fmp_instructions.specs.declared.instructions.MachineContext.{MachineContext}
 use Rattle.fmp_instructions.specs.Machine.{at, on_place, unstacked, exec, call_before, replied}
-use Rattle.fmp_scopes.specs.Naming.{uses_offence, expression_uses, statement_uses, block_uses, use_offence, Writes}
-use Rattle.fmp_scopes.specs.Scheme.{array_base, store_element, expression_code, arguments_code, target_place, call_instruction, statement_code, block_code}
+use Rattle.fmp_scopes.specs.Naming.{uses_offence, expression_uses, block_uses, use_offence, Writes}
+use Rattle.fmp_scopes.specs.Scheme.{array_base, store_element, expression_code, arguments_code, target_place, call_instruction, block_code}
 use Rattle.fmp_scopes.specs.Sizes.{expression_size, arguments_size, statement_size, block_size}
-use Rattle.fmp_codegen.specs.Tie.{HasAt, Path, Reaches, Stands, StandsSomehow, LocalsTied, ContextTied, SameLocals}
-use Rattle.fmp_codegen.proofs.Expressions.{Leads, Faults, Runs, stacked, one_step, leads_on, faults_on, runs_on, goes, jumps_to, renamed, expression_runs, arguments_run}
-use Rattle.fmp_codegen.proofs.Lengths.{has_front, has_back, length-expression_code, length-arguments_code, length-statement_code, length-block_code}
+use Rattle.fmp_codegen.specs.Tie.{Stands, StandsSomehow, LocalsTied}
+use Rattle.fmp_codegen.proofs.Expressions.{Leads, Runs, stacked, one_step, leads_on, faults_on, runs_on, goes, jumps_to, expression_runs, arguments_run}
+use Rattle.fmp_codegen.proofs.Lengths.{has_front, has_back, length-expression_code, length-arguments_code, length-block_code}
 use Rattle.fmp_codegen.proofs.Places.{IsPlain}
 use Rattle.fmp_codegen.proofs.Tied.{tied-set, tied-store, place-within, array-within, reply-tied}
 use Rattle.fmp_scopes.proofs.KnownNames.{none-first, uses_front, uses_back, target_is, target_means}
+use Rattle.fmp_codegen.proofs.Matches.{Match, Stood, Then, below_exit, block_stands, fault_match, here, jump_first, match_on, match_turn, moved, path_leads, path_rises, room-least, stood, to_exit, to_mark}
 
 -- ---- the weight falls
 
@@ -69,183 +68,6 @@ unstacked-stacked (x ∷ xs) s acc = unstacked-stacked xs (x ∷ s) acc
 append-nil : (xs : List ℤ) → xs ++ [] ≡ xs
 append-nil [] = refl
 append-nil (x ∷ xs) = ap (λ ys. x ∷ ys) (append-nil xs)
-
--- as many instructions as the code has, for each turn and once more
-abbrev pub room : List Instruction → ℕ → ℕ
-room code zero = length code
-room code (suc t) = length code + room code t
-
-room-least : (code : List Instruction) (t : ℕ) → length code ≤ room code t
-room-least code zero = omega arith
-room-least code (suc t) = omega arith
-
--- the same locals, from the other side
-abbrev pub SameLocalsBack : Scope → TextContext → MachineContext → Type 0
-SameLocalsBack scope c d = SameLocals scope d c
-
-module _ (scope : Scope) (code : List Instruction) where
-  -- jumps forward lead from p to where the code of these things to do stands
-  abbrev pub Stood : ℕ → List Item → Type 0
-  Stood p todo = Reaches code p (StandsSomehow scope code todo)
-
-  abbrev pub Tied : TextContext → MachineContext → Type 0
-  Tied c d = ContextTied scope code d c
-
-  -- the machine comes to the same end
-  pub record Comes (t p : ℕ) (l : List ℤ) (o : Ending TextContext) : Type 0 where
-    pub steps : ℕ
-    pub within : p + steps ≤ room code t
-    pub outcome : Ending MachineContext
-    pub by : exec code steps p [] l ≡ outcome
-    pub ended : is_over outcome ≡ false
-    pub same : StretchTied Tied (SameLocalsBack scope) o outcome
-
-  -- the same end, or none within t instructions
-  abbrev pub Match : (t p : ℕ) → List ℤ → Ending TextContext → Type 0
-  Match t p l (ends.Over k) = (j : ℕ) × (t ≤ j) × (is_over (exec code j p [] l) ≡ true)
-  Match t p l (ends.Call c r) = Comes t p l (ends.Call c r)
-  Match t p l (ends.End c) = Comes t p l (ends.End c)
-  Match t p l (ends.Fault c f) = Comes t p l (ends.Fault c f)
-
-  -- ---- places
-
-  path_leads : (n p q : ℕ) → Path code n p q → (l : List ℤ) → Leads code p [] l q [] l
-  path_leads zero p q h l = renamed code p q [] l h
-  path_leads (suc n) p q h l =
-      leads_on code p [] l h.0 [] l q [] l (jumps_to code p h.0 h.0 [] l h.2 h.1 refl) (path_leads n h.0 q h.3 l)
-
-  path_rises : (n p q : ℕ) → Path code n p q → p ≤ q
-  path_rises n p q h = let a = path_leads n p q h [] in omega (arith, a.rises)
-
-  pub here : (p : ℕ) (P : ℕ → Type 0) → P p → Reaches code p P
-  here p P h = record { jumps = 0; place = p; path = refl; holds = h }
-
-  jump_first :
-      (p a b : ℕ) (P : ℕ → Type 0) → slice_get code p ≡ Some (Jump a) → p < a → a ≡ b → Reaches code b P → Reaches code p P
-  jump_first p a b P h lt e r =
-      record {
-        jumps = suc r.jumps;
-        place = r.place;
-        path = (a, h, lt, subst (λ n. Path code r.jumps n r.place) (sym e) r.path);
-        holds = r.holds;
-      }
-
-  pub moved : (p q : ℕ) (P : ℕ → Type 0) → p ≡ q → Reaches code p P → Reaches code q P
-  moved p q P e r = subst (λ n. Reaches code n P) e r
-
-  abbrev pub Then : List Item → (again exit : ℕ) → ℕ → Type 0
-  Then rest again exit q = Stands scope code rest q again exit
-
-  -- forget where continue and break lead
-  stood : (todo : List Item) (p again exit : ℕ) → Reaches code p (Then todo again exit) → Stood p todo
-  stood todo p again exit r = record { jumps = r.jumps; place = r.place; path = r.path; holds = (again, exit, r.holds) }
-
-  -- a block, and then the rest
-  pub block_stands :
-      (s : Block) (rest : List Item) (p again exit : ℕ) → uses_offence scope (block_uses s) ≡ None →
-      HasAt code p (block_code scope s p again exit) → Reaches code (p + block_size s) (Then rest again exit) →
-      Reaches code p (Then (items_before s rest) again exit)
-  block_stands empty rest p again exit named has r = moved (p + 0) p (Then rest again exit) (omega arith) r
-  block_stands (next s b) rest p again exit named has r =
-      let front = statement_code scope s p again exit in
-      let back = block_code scope b (p + statement_size s) again exit in
-      here p (Then (Do s ∷ items_before b rest) again exit) (
-        uses_front scope (statement_uses s) (block_uses b) named,
-        has_front code p front back has,
-        block_stands b rest (p + statement_size s) again exit (uses_back scope (statement_uses s) (block_uses b) named)
-            (has_back code p (statement_size s) front back (length-statement_code scope s p again exit) has)
-            (moved (p + (statement_size s + block_size b)) (p + statement_size s + block_size b) (Then rest again exit) (omega arith) r),
-      )
-
-  below_exit : (todo : List Item) (p again exit : ℕ) → Stands scope code todo p again exit → p ≤ exit
-  below_exit [] p again exit h = h.4
-  below_exit (Do s ∷ rest) p again exit h =
-      let a = below_exit rest h.2.place again exit h.2.holds in
-      let b = path_rises h.2.jumps (p + statement_size s) h.2.place h.2.path in
-      omega (arith, a, b)
-  below_exit (Mark e b ∷ rest) p again exit h = let a = h.1 in omega arith
-
-  -- break
-  to_exit :
-      (todo : List Item) (p again exit : ℕ) → Stands scope code todo p again exit → Stood exit (after_mark todo)
-  to_exit [] p again exit h =
-      here exit (StandsSomehow scope code []) (exit, exit, (h.2, h.2, h.2, omega arith, omega arith))
-  to_exit (Do s ∷ rest) p again exit h = to_exit rest h.2.place again exit h.2.holds
-  to_exit (Mark e b ∷ rest) p again exit h =
-      let r = h.7 in
-      record { jumps = r.jumps; place = r.place; path = r.path; holds = (h.4, h.5, r.holds) }
-
-  -- continue, at p
-  to_mark :
-      (todo : List Item) (p q again exit : ℕ) → slice_get code p ≡ Some (Jump again) → p < q →
-      Stands scope code todo q again exit → Stood p (from_mark todo)
-  to_mark [] p q again exit there lt h =
-      let le = h.3 in
-      jump_first p again again (StandsSomehow scope code []) there (omega arith) refl
-      (here again (StandsSomehow scope code []) (again, again, (h.1, h.1, h.1, omega arith, omega arith)))
-  to_mark (Do s ∷ rest) p q again exit there lt h =
-      let b = path_rises h.2.jumps (q + statement_size s) h.2.place h.2.path in
-      to_mark rest p h.2.place again exit there (omega arith) h.2.holds
-  to_mark (Mark e b ∷ rest) p q again exit there lt h =
-      let a = h.1 in
-      here p (StandsSomehow scope code (Mark e b ∷ rest))
-      (again, exit, (there, omega arith, h.2, h.3, h.4, h.5, h.6, h.7))
-
-  -- ---- matches
-
-  comes_on :
-      (t p q : ℕ) (l l' : List ℤ) (o : Ending TextContext) → Leads code p [] l q [] l' → Comes t q l' o → Comes t p l o
-  comes_on t p q l l' o a m =
-      record {
-        steps = a.steps + m.steps;
-        within = omega (arith, a.rises, m.within);
-        outcome = m.outcome;
-        by = a.by m.steps ∙ m.by;
-        ended = m.ended;
-        same = m.same;
-      }
-
-  match_on :
-      (t p q : ℕ) (l l' : List ℤ) (o : Ending TextContext) → Leads code p [] l q [] l' → Match t q l' o → Match t p l o
-  match_on t p q l l' (ends.Over k) a m = (a.steps + m.0, omega (arith, m.1), ap is_over (a.by m.0) ∙ m.2)
-  match_on t p q l l' (ends.Call c r) a m = comes_on t p q l l' (ends.Call c r) a m
-  match_on t p q l l' (ends.End c) a m = comes_on t p q l l' (ends.End c) a m
-  match_on t p q l l' (ends.Fault c f) a m = comes_on t p q l l' (ends.Fault c f) a m
-
-  comes_turn :
-      (t p q : ℕ) (l : List ℤ) (o : Ending TextContext) → slice_get code p ≡ Some (Jump q) → Comes t q l o →
-      Comes (suc t) p l o
-  comes_turn t p q l o h m =
-      record {
-        steps = 1 + m.steps;
-        within = omega (arith, m.within, slice_get_within code p (Jump q) h);
-        outcome = m.outcome;
-        by = one_step code p [] l (Jump q) h m.steps ∙ m.by;
-        ended = m.ended;
-        same = m.same;
-      }
-
-  -- a jump back is a turn
-  match_turn :
-      (t p q : ℕ) (l : List ℤ) (o : Ending TextContext) → slice_get code p ≡ Some (Jump q) → Match t q l o →
-      Match (suc t) p l o
-  match_turn t p q l (ends.Over k) h m = (1 + m.0, omega (arith, m.1), ap is_over (one_step code p [] l (Jump q) h m.0) ∙ m.2)
-  match_turn t p q l (ends.Call c r) h m = comes_turn t p q l (ends.Call c r) h m
-  match_turn t p q l (ends.End c) h m = comes_turn t p q l (ends.End c) h m
-  match_turn t p q l (ends.Fault c f) h m = comes_turn t p q l (ends.Fault c f) h m
-
-  fault_match :
-      (t p q : ℕ) (l : List ℤ) (vs : Values) (rest : List Item) (f : Fault) → LocalsTied scope l vs → q ≤ length code →
-      Faults code p [] l q f → Match t p l (ends.Fault (going vs rest) f)
-  fault_match t p q l vs rest f tied le a =
-      record {
-        steps = a.steps;
-        within = omega (arith, a.rises, room-least code t);
-        outcome = ends.Fault (at a.place l) f;
-        by = a.by;
-        ended = refl;
-        same = fault (going vs rest) (at a.place l) f tied;
-      }
 
 -- ---- one thing to do
 
