@@ -1,19 +1,24 @@
-//! Indices of arrays that are numbers, and out of range.
+//! Warnings of indices of arrays that are numbers out of range.
+ghost use Rattle.std.specs.Prelude.{OnOk};
+ghost use Rattle.fmp_diagnosis.specs.Words.{IsSaid};
 
 use crate::apis::is_symbol;
-use crate::around::{is_same, name_at};
+use crate::around::{begins_body_at, is_same, line_of, name_at};
+use crate::warnings::begin;
+use crate::words::{Word, say};
 use fmp_base::Name;
 use fmp_lex::{Keyword, Symbol, TokenKind, Tokens};
+use std::alloc::AllocError;
 
 /// An index that is out of the range of its array.
 #[derive(Clone, Copy)]
-pub struct Misplaced {
+struct Misplaced {
     /// The name of the array.
-    pub array: Name,
+    array: Name,
     /// How many places it has.
-    pub places: i64,
+    places: i64,
     /// The index.
-    pub index: i64,
+    index: i64,
 }
 
 /// The number at a place.
@@ -75,7 +80,7 @@ fn is_declared_at(tokens: &Tokens<'_>, at: usize) -> bool {
 
 /// The index behind the name at a place, where it is a number out of the range of its array. The body that the place is
 /// in begins at `body`.
-pub fn misplaced_at(tokens: &Tokens<'_>, body: usize, at: usize) -> Option<Misplaced> {
+fn misplaced_at(tokens: &Tokens<'_>, body: usize, at: usize) -> Option<Misplaced> {
     if is_declared_at(tokens, at) {
         return None;
     }
@@ -90,4 +95,37 @@ pub fn misplaced_at(tokens: &Tokens<'_>, body: usize, at: usize) -> Option<Mispl
         places,
         index,
     })
+}
+
+/// Says that an index is out of range.
+fn say_misplaced(misplaced: Misplaced, out: &mut Vec<u8>) -> Result<(), AllocError>
+    ensures { OnOk result (IsSaid out.old.items out.new.items) }
+{
+    say(
+        &[
+            Word::Text("the index "),
+            Word::Number(misplaced.index),
+            Word::Text(" of "),
+            Word::Name(misplaced.array),
+            Word::Text(" is out of range: the array has "),
+            Word::Number(misplaced.places),
+            Word::Text(" places\n"),
+        ],
+        out,
+    )
+}
+
+/// Warns of the indices of a task text that are numbers out of the range of their arrays.
+pub fn warn_of_indices(name: &str, src: &Tokens<'_>, out: &mut Vec<u8>) -> Result<(), AllocError> {
+    let mut body = 0;
+    for at in 0..src.len() {
+        if begins_body_at(src, at) {
+            body = at;
+        }
+        if let Some(misplaced) = misplaced_at(src, body, at) {
+            begin(name, line_of(src, at), out)?;
+            say_misplaced(misplaced, out)?;
+        }
+    }
+    Ok(())
 }

@@ -8,7 +8,7 @@ use crate::apis::{api_at, entry_of, is_symbol, value_of};
 use crate::around::{begins_body_at, is_among, line_of, list_of, name_at};
 use crate::contexts::BodyKind;
 use crate::fields::{Field, object_of};
-use crate::indices::{Misplaced, misplaced_at};
+use crate::indices::warn_of_indices;
 use crate::objects::{Object, Objects};
 use crate::reports::FileNames;
 use crate::sentence::Texts;
@@ -155,7 +155,7 @@ struct Warnings {
 }
 
 /// Begins a warning: the name of the file and the line.
-fn begin(name: &str, line: Option<u32>, out: &mut Vec<u8>) -> Result<(), AllocError>
+pub fn begin(name: &str, line: Option<u32>, out: &mut Vec<u8>) -> Result<(), AllocError>
     ensures { OnOk result (IsSaid out.old.items out.new.items) }
 {
     out.extend_from_slice(name.as_bytes())?;
@@ -209,24 +209,6 @@ fn say_wrong(wrong: Wrong, out: &mut Vec<u8>) -> Result<(), AllocError>
             out,
         ),
     }
-}
-
-/// Says that an index is out of range.
-fn say_misplaced(misplaced: Misplaced, out: &mut Vec<u8>) -> Result<(), AllocError>
-    ensures { OnOk result (IsSaid out.old.items out.new.items) }
-{
-    say(
-        &[
-            Word::Text("the index "),
-            Word::Number(misplaced.index),
-            Word::Text(" of "),
-            Word::Name(misplaced.array),
-            Word::Text(" is out of range: the array has "),
-            Word::Number(misplaced.places),
-            Word::Text(" places\n"),
-        ],
-        out,
-    )
 }
 
 /// Says what a call takes as an argument.
@@ -447,21 +429,6 @@ fn warn_of_bodies(
                 ],
                 out,
             )?;
-        }
-    }
-    Ok(())
-}
-
-/// Warns of the indices of a task text that are numbers out of the range of their arrays.
-fn warn_of_indices(name: &str, src: &Tokens<'_>, out: &mut Vec<u8>) -> Result<(), AllocError> {
-    let mut body = 0;
-    for at in 0..src.len() {
-        if begins_body_at(src, at) {
-            body = at;
-        }
-        if let Some(misplaced) = misplaced_at(src, body, at) {
-            begin(name, line_of(src, at), out)?;
-            say_misplaced(misplaced, out)?;
         }
     }
     Ok(())
