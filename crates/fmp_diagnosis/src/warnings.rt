@@ -526,9 +526,8 @@ fn warnings_on(
 }
 
 /// The warnings of two texts that have no fault, one line each: those of the task text in order of text, first of at
-/// most 100 of its calls and their arguments, then of indices that are numbers out of range, and then of its bodies, and
-/// those of the objects of the configuration.
-/// `AllocError` if memory runs out.
+/// most 100 of its calls and their arguments, then of indices that are numbers out of range, then of its bodies; and
+/// those of the objects of the configuration. `AllocError` if memory runs out.
 pub fn warnings_of(
     alloc: Global,
     names: FileNames<'_>,
