@@ -42,7 +42,7 @@ module _ (i : ImageTables) (h : IsImage i) where
   context = context_of i.system.processors i.heads
 
   there : (body : ℕ) → body < length i.heads → body < length i.code
-  there body lt = subst (λ (n : ℕ). body < n) (same_length IsBody i.heads i.code h.bodies) lt
+  there body lt = subst (λ (n : ℕ). body < n) (same_length (IsBody i.version) i.heads i.code h.bodies) lt
 
   pub task_bodies : AllByRecursion (λ t. body_of t.entry < length i.code) i.system.tasks
   task_bodies = all_map (λ t fits. there (body_of t.entry) (task_enters context t fits)) i.system.tasks h.tasks.each

@@ -1,6 +1,6 @@
 -- What is read is an image that the bytes spell, and what spells an image is read.
-use Rattle.std.proofs.Common.{◌≡◌, ℕ, ◌<◌, ◌≤◌, lit<, true, List, [], ◌∷◌, ◌++◌, map, Result, Ok, refl, sym, ap, subst, ◌∙◌, arith}
-use Rattle.std.proofs.lemmas.Bool.{eqb-true, leb-true}
+use Rattle.std.proofs.Common.{◌≡◌, ℕ, ◌+◌, ◌^◌, ◌<◌, ◌≤◌, true, List, [], ◌∷◌, ◌++◌, map, Result, Ok, refl, sym, ap, subst, ◌∙◌, arith}
+use Rattle.std.proofs.lemmas.Bool.{leb-true}
 use Rattle.std.proofs.lemmas.List.{append-nil}
 use Rattle.std.proofs.lemmas.Slice.Eq.{bytes_eq-Decides}
 use Rattle.fmp_image_parts.specs.declared.fault.ImageFault.{ImageFault}
@@ -11,6 +11,7 @@ use Rattle.fmp_image_parts.specs.Fields.{in_range}
 use Rattle.fmp_image_rows.specs.Rows.{RowContext, context_of, RowForm, row, task_form, semaphore_form, flag_form, data_queue_form, mailbox_form, message_form, shared_word_form, spin_lock_form, cyclic_form, interrupt_form}
 use Rattle.fmp_image_rows.specs.Tables.{AreRows}
 use Rattle.fmp_image_parts.specs.Bodies.{bodies}
+use Rattle.fmp_image_parts.specs.Versions.{is_version}
 use Rattle.fmp_image_bytes.specs.Images.{◌▹◌, ImageTables, plain, magic, is_magic, header, table_of, also, tables, Parts, layout, parts_of, image_of, spelling, all_read, image_at, KeepRules, IsImage, Spells}
 use Rattle.fmp_image_parts.proofs.FieldLaws.{IsBytes, Exact, bind_ok, pair_is, byte_exact, short_exact, bytes_take, bytes_again, tested_exact, both_exact, chained_exact}
 use Rattle.fmp_image_rows.proofs.RowLaws.{GoesBack, row_exact, task_back, semaphore_back, flag_back_row, data_queue_back, mailbox_back_row, message_back, shared_word_back, spin_lock_back, cyclic_back, interrupt_back}
@@ -39,11 +40,14 @@ tables_exact = also_exact _ _ task_back (also_exact _ _ semaphore_back (also_exa
 
 layout_exact : Exact layout
 layout_exact =
-    chained_exact header (λ h. chained bodies (λ b. tables (context_of h.1.1 b.0) [])) header_exact (λ h. chained_exact
-    bodies (λ b. tables (context_of h.1.1 b.0) []) bodies_exact (λ b. tables_exact (context_of h.1.1 b.0) []))
+    chained_exact header (λ h. chained (bodies h.1.0) (λ b. tables (context_of h.1.1 b.0) [])) header_exact (λ h. chained_exact
+    (bodies h.1.0) (λ b. tables (context_of h.1.1 b.0) []) (bodies_exact h.1.0) (λ b. tables_exact (context_of h.1.1 b.0) []))
 
 magic_is : (m : List ℕ) → is_magic m ≡ true → m ≡ magic
 magic_is m e = (bytes_eq-Decides m magic).0 e
+
+version_fits : (n : ℕ) → is_version n ≡ true → n < 2 ^ 16
+version_fits n h = let high : n ≤ 2 = leb-true _ _ (and_true _ _ h).1 in omega arith
 
 processors_fit : (n : ℕ) → in_range 1 8 n ≡ true → n < 256
 processors_fit n h = let high : n ≤ 8 = leb-true _ _ (and_true _ _ h).1 in omega arith
@@ -88,7 +92,7 @@ parts_fit i h =
     let t8 = peel spin_lock_form context k7 s.spin_locks _ h.spin_locks t7.1 in
     let t9 = peel cyclic_form context k8 s.cyclics _ h.cyclics t8.1 in
     let t10 : AreRows (row interrupt_form context) interrupt_form.key_of k9 s.interrupts = record { count = h.interrupts.count; each = h.interrupts.each; once = t9.1 } in (
-      ((refl, refl), ((lit< tt, refl), (processors_fit s.processors h.processors, h.processors))),
+      ((refl, refl), ((version_fits i.version h.version, h.version), (processors_fit s.processors h.processors, h.processors))),
       ((h.count, h.bodies), (t1.0, (t2.0, (t3.0, (t4.0, (t5.0, (t6.0, (t7.0, (t8.0, (t9.0, t10)))))))))),
     )
 
@@ -96,6 +100,7 @@ image_back : (i : ImageTables) → IsImage i → image_of (parts_of i) ≡ i
 image_back i h =
     let s = i.system in
     let with_limit : ℕ → ImageTables = λ (q : ℕ). record {
+      version = i.version;
       system = record {
         processors = s.processors;
         queue_limit = q;
@@ -146,9 +151,9 @@ image_fits ((m ▹ version ▹ processors) ▹ (heads ▹ code) ▹ tasks ▹ se
     let n3 = gather flag_form context k2 flags _ t3 n4 in
     let n2 = gather semaphore_form context k1 semaphores _ t2 n3 in
     let n1 = gather task_form context [] tasks _ t1 n2 in
-    let m-is : m ≡ magic = magic_is m f.0.0.1 in
-    let version-is : version ≡ 1 = eqb-true _ _ f.0.1.0.1 in (
+    let m-is : m ≡ magic = magic_is m f.0.0.1 in (
       record {
+        version = f.0.1.0.1;
         processors = f.0.1.1.1;
         queue_limit = refl;
         count = f.1.0.0;
@@ -165,7 +170,7 @@ image_fits ((m ▹ version ▹ processors) ▹ (heads ▹ code) ▹ tasks ▹ se
         interrupts = rules_of interrupt_form context (k8 ++ map cyclic_form.key_of cyclics) interrupts t10;
         once = n1;
       },
-      rw (m-is, version-is) refl,
+      rw m-is refl,
     )
 
 read_all : (i j : ImageTables) (rest : List ℕ) → all_read (i, rest) ≡ Ok j → (rest ≡ []) × (i ≡ j)

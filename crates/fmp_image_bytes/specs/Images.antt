@@ -1,5 +1,5 @@
 -- Images: what they hold, and the one spelling of each.
-use Rattle.std.specs.Prelude.{◌≡◌, ◌<◌, ℕ, List, [], ◌∷◌, ◌++◌, length, map, Result, Ok, Err, Bool, true, ◌==◌, codes}
+use Rattle.std.specs.Prelude.{◌≡◌, ◌<◌, ℕ, List, [], ◌∷◌, ◌++◌, length, map, Result, Ok, Err, Bool, true, codes}
 use Rattle.std.specs.List.{AllByRecursion}
 use Rattle.std.specs.Str.{bytes_eq}
 use Rattle.fmp_base.specs.declared.systems.TaskConfig.{TaskConfig}
@@ -25,17 +25,19 @@ use Rattle.fmp_image_rows.specs.Rows.{RowContext, context_of, RowForm, row, task
 use Rattle.fmp_image_rows.specs.Tables.{table}
 use Rattle.fmp_image_parts.specs.Bodies.{bodies, IsBody}
 use Rattle.fmp_image_parts.specs.Pairs.{AllPairs}
+use Rattle.fmp_image_parts.specs.Versions.{is_version}
 
 infixr 4 ◌▹◌
--- what an image holds, as data without memory: the tables of the system, and of each body what is said of it and its
--- code
+-- what an image holds, as data without memory: its version, the tables of the system, and of each body what is said of
+-- it and its code
 pub record ImageTables : Type 0 where
+  pub version : ℕ
   pub system : SystemTables
   pub heads : List BodyHead
   pub code : List BodyTables
 
-abbrev pub image_tables : SystemTables → List BodyHead → List BodyTables → ImageTables
-image_tables system heads code = record { system = system; heads = heads; code = code }
+abbrev pub image_tables : (version : ℕ) → SystemTables → List BodyHead → List BodyTables → ImageTables
+image_tables version system heads code = record { version = version; system = system; heads = heads; code = code }
 
 -- n bytes as they are
 abbrev pub plain : ℕ → Field (List ℕ)
@@ -46,9 +48,6 @@ magic = codes "FMPI"
 
 abbrev pub is_magic : List ℕ → Bool
 is_magic t = bytes_eq t magic
-
-abbrev pub is_version : ℕ → Bool
-is_version v = v == 1
 
 -- `FMPI`, the version, and the number of processors
 abbrev pub header : Field (List ℕ × (ℕ × ℕ))
@@ -81,7 +80,7 @@ Parts = (List ℕ × (ℕ × ℕ)) × ((List BodyHead × List BodyTables) × The
 
 -- an image: the header, the bodies, the tables
 abbrev pub layout : Field Parts
-layout = chained header (λ h. chained bodies (λ b. tables (context_of h.1.1 b.0) []))
+layout = chained header (λ h. chained (bodies h.1.0) (λ b. tables (context_of h.1.1 b.0) []))
 
 -- a pair, in a chain of parts that stand one behind the other
 pattern abbrev pub ◌▹◌ : {A B : Type 0} → A → B → A × B
@@ -93,7 +92,7 @@ tables_in s =
     ▹ s.cyclics ▹ s.interrupts
 
 abbrev pub parts_of : ImageTables → Parts
-parts_of i = (magic ▹ 1 ▹ i.system.processors) ▹ (i.heads ▹ i.code) ▹ tables_in i.system
+parts_of i = (magic ▹ i.version ▹ i.system.processors) ▹ (i.heads ▹ i.code) ▹ tables_in i.system
 
 -- a system of so many processors with these tables: each queue of activations and of wakeups of a task holds one
 abbrev pub system_of : (processors : ℕ) → TheTables → SystemTables
@@ -118,7 +117,7 @@ system_of processors
 -- the image of parts
 abbrev pub image_of : Parts → ImageTables
 image_of ((m ▹ version ▹ processors) ▹ (heads ▹ code) ▹ tables) =
-    image_tables (system_of processors tables) heads code
+    image_tables version (system_of processors tables) heads code
 
 -- the bytes of an image
 unfoldable pub spelling : ImageTables → List ℕ
@@ -150,10 +149,11 @@ keys_of s =
 
 -- the rules of an image
 pub record IsImage (i : ImageTables) : Type 0 where
+  pub version : is_version i.version ≡ true
   pub processors : in_range 1 8 i.system.processors ≡ true
   pub queue_limit : i.system.queue_limit ≡ 1
   pub count : length i.code < 256
-  pub bodies : AllPairs IsBody i.heads i.code
+  pub bodies : AllPairs (IsBody i.version) i.heads i.code
   pub tasks : KeepRules task_form (context_of i.system.processors i.heads) i.system.tasks
   pub semaphores : KeepRules semaphore_form (context_of i.system.processors i.heads) i.system.semaphores
   pub flags : KeepRules flag_form (context_of i.system.processors i.heads) i.system.flags

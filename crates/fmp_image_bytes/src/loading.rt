@@ -12,6 +12,7 @@ use fmp_base::System;
 use fmp_image_parts::fault::{ImageFault, LoadFault, TABLE};
 use fmp_image_parts::fields::{byte_at, bytes_at, in_range, short_at};
 use fmp_image_parts::keys::TakenKeys;
+use fmp_image_parts::versions::is_version;
 use fmp_image_parts::{BodyHead, read_bodies};
 use fmp_image_rows::read_table;
 use fmp_instructions::Code;
@@ -23,23 +24,23 @@ fn is_magic(bytes: &[u8]) -> bool
     bytes == b"FMPI".as_slice()
 }
 
-/// Reads the header, and gives the number of processors.
-fn read_header(bytes: &[u8]) -> Result<(u8, &[u8]), LoadFault>
-    ensures { Gives (λ x. ((magic, (1, x.0)), x.1.now)) result (header.read bytes.now) }
+/// Reads the header, and gives the version and the number of processors.
+fn read_header(bytes: &[u8]) -> Result<((u16, u8), &[u8]), LoadFault>
+    ensures { Gives (λ x. ((magic, (x.0.0, x.0.1)), x.1.now)) result (header.read bytes.now) }
 {
     let (magic, rest) = bytes_at(bytes, 4)?;
     if !is_magic(magic) {
         return Err(LoadFault::Image(ImageFault::Magic));
     }
     let (version, rest) = short_at(rest)?;
-    if version != 1 {
+    if !is_version(version) {
         return Err(LoadFault::Image(ImageFault::Version));
     }
     let (processors, rest) = byte_at(rest)?;
     if !in_range(1, 8, processors as u32) {
         return Err(TABLE);
     }
-    Ok((processors, rest))
+    Ok(((version, processors), rest))
 }
 
 /// Reads all tables of a system.
@@ -83,20 +84,21 @@ fn read_tables<'a>(
 
 /// Reads what an image holds, from all of the bytes.
 #[tactic(auto, unfolding(crate::specs::Images::image_at))]
-fn read_image(alloc: Global, bytes: &[u8]) -> Result<(System, Code, Vec<BodyHead>), LoadFault>
-    ensures { Gives (λ x. image_tables (tables_of x.0) x.2.items (code_tables x.1)) result (image_at bytes.now) }
+fn read_image(alloc: Global, bytes: &[u8]) -> Result<(u16, System, Code, Vec<BodyHead>), LoadFault>
+    ensures { Gives (λ x. image_tables x.0 (tables_of x.1) x.3.items (code_tables x.2)) result (image_at bytes.now) }
 {
-    let (processors, rest) = read_header(bytes)?;
-    let ((heads, bodies), rest) = read_bodies(alloc, rest)?;
+    let ((version, processors), rest) = read_header(bytes)?;
+    let ((heads, bodies), rest) = read_bodies(alloc, version, rest)?;
     let (system, rest) = read_tables(alloc, processors, &heads, rest)?;
     if !rest.is_empty() {
         return Err(LoadFault::Image(ImageFault::Trailing));
     }
-    Ok((system, Code { bodies }, heads))
+    Ok((version, system, Code { bodies }, heads))
 }
 
-/// The image that the bytes spell, all of the bytes; else the first fault, in the order of the fields. The rules of a
-/// row are judged once all of its fields are there; of a body its code (L5) is judged before its other values (L4).
+/// The image that the bytes spell in their version, all of the bytes; else the first fault, in the order of the fields.
+/// The rules of a row are judged once all of its fields are there; of a body its code (L5) is judged before its other
+/// values (L4).
 pub fn load(alloc: Global, bytes: &[u8]) -> Result<Image, LoadFault>
     // What is loaded is spelled so.
     ensures found { IfOk result (λ image. Spells image bytes.now) }
@@ -105,6 +107,6 @@ pub fn load(alloc: Global, bytes: &[u8]) -> Result<Image, LoadFault>
     // Which fault it is.
     ensures exact { Gives (λ x. x) result (image_at bytes.now) }
 {
-    let (system, code, heads) = read_image(alloc, bytes)?;
-    Ok(Image::new(system, code, heads))
+    let (version, system, code, heads) = read_image(alloc, bytes)?;
+    Ok(Image::new(version, system, code, heads))
 }

@@ -12,11 +12,11 @@ use fmp_image_parts::put_bodies;
 use fmp_image_rows::put_table;
 use std::alloc::{AllocError, Global};
 
-fn put_header(out: &mut Vec<u8>, processors: u8) -> Result<(), AllocError>
-    ensures { OnOk result (out.new.items ≡ out.old.items ++ header.spell (magic, (1, processors))) }
+fn put_header(out: &mut Vec<u8>, version: u16, processors: u8) -> Result<(), AllocError>
+    ensures { OnOk result (out.new.items ≡ out.old.items ++ header.spell (magic, (version, processors))) }
 {
     out.extend_from_slice(b"FMPI")?;
-    put_short(out, 1)?;
+    put_short(out, version)?;
     put_byte(out, processors)?;
     Ok(())
 }
@@ -39,12 +39,12 @@ fn put_tables(out: &mut Vec<u8>, system: &System) -> Result<(), AllocError>
     Ok(())
 }
 
-/// The bytes of an image.
+/// The bytes of an image, in its version.
 pub fn store(alloc: Global, image: &Image) -> Result<Vec<u8>, AllocError>
     ensures { IfOk result (λ bytes. bytes.items ≡ spelling image.now) }
 {
     let mut out = Vec::new(alloc);
-    put_header(&mut out, image.system.processors)?;
+    put_header(&mut out, image.version, image.system.processors)?;
     put_bodies(&mut out, &image.heads, &image.code.bodies)?;
     put_tables(&mut out, &image.system)?;
     Ok(out)

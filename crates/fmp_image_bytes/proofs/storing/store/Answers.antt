@@ -10,8 +10,8 @@ pub returns : goal.returns
 unfolding spelling
 returns c =
     let i = c.image.inside in
-    let h = header.spell (magic, (1, i.system.processors)) in
-    let b = bodies.spell (i.heads.items, code_tables i.code) in
+    let h = header.spell (magic, (i.version, i.system.processors)) in
+    let b = (bodies i.version).spell (i.heads.items, code_tables i.code) in
     let t = (tables (context_of 0 []) []).spell (tables_in (tables_of i.system)) in
     let e1 : c.put_header.new.out.items ≡ h = search rules in
     let e2 : c.put_bodies.new.out.items ≡ c.put_header.new.out.items ++ b = search rules in
