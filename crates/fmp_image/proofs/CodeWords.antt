@@ -1,5 +1,6 @@
 -- Code pushes numbers of 32 bits: those of the text, and the numbers of objects.
-use Rattle.std.proofs.Common.{◌≡◌, ℕ, pos, ◌+◌, ◌<◌, ◌≤◌, List, [], ◌∷◌, ◌++◌, length, map, Option, Some, None, FitsSigned, refl, arith}
+use Rattle.std.proofs.Common.{◌≡◌, ℕ, pos, ◌+◌, ◌<◌, ◌≤◌, Bool, true, false, List, [], ◌∷◌, ◌++◌, length, map, Option, Some, None, FitsSigned, refl, arith}
+use Rattle.std.specs.Prelude.{slice_get, if◌then◌else◌}
 use Rattle.std.proofs.lemmas.List.{length-map}
 use Rattle.std.specs.Int.{w32}
 use Rattle.std.specs.List.{AllByRecursion}
@@ -9,8 +10,9 @@ use Rattle.fmp_base.specs.declared.names.Name.{Name}
 use Rattle.fmp_base.specs.Names.{name_text}
 use Rattle.fmp_base.specs.Ranges.{IsInRange}
 use Rattle.fmp_base.specs.Systems.{SystemTables, no_name}
-use Rattle.fmp_tasklang.specs.Scopes.{Scope, NameMeaning, Variable, Object, Unknown, place_of, number_or, object_number, object_names, variable_or, meaning_of, scope_of}
-use Rattle.fmp_tasklang.specs.Trees.{ExpressionTree, number, named, unary, binary, both, either, StatementTree, assign, service_call, if_then, if_else, while, break, continue, return, Block, empty, next, BodyTree}
+use Rattle.fmp_tasklang.specs.Scopes.{Scope, NameMeaning, Variable, Array, Object, Unknown, place_of, number_or, object_number, object_names, is_array_or_none, local_or, meaning_of, scope_of}
+use Rattle.fmp_tasklang.specs.Layout.{Local}
+use Rattle.fmp_tasklang.specs.Trees.{ExpressionTree, number, named, element, unary, binary, both, either, StatementTree, assign, assign_element, service_call, if_then, if_else, while, break, continue, return, Block, empty, next, BodyTree}
 use Rattle.fmp_instructions.specs.declared.instructions.Instruction.{Instruction}
 use Rattle.fmp_instructions.specs.Instructions.{BodyTables}
 use Rattle.fmp_codegen.specs.Compiling.{compiled}
@@ -22,7 +24,8 @@ use Rattle.fmp_image.proofs.TextNumbers.{ExpressionHasWords, StatementHasWords, 
 -- ---- the numbers of objects
 
 abbrev IsSmall : NameMeaning → Type 0
-IsSmall (Variable place) = Unit {0}
+IsSmall (Variable v) = Unit {0}
+IsSmall (Array v) = Unit {0}
 IsSmall (Object k) = k ≤ 255
 IsSmall Unknown = Unit {0}
 
@@ -40,14 +43,19 @@ object_small text (names ∷ rest) few =
     (λ p h. let within = position-Some (λ (n : Name). bytes_eq text (name_text n)) names p no_name h in omega (arith, within.0, few.0))
     (object_small text rest few.1)
 
-variable_small : (o : Option ℕ) (objects : List (List Name)) (text : List ℕ) → AllByRecursion AreFew objects → IsSmall (variable_or o objects text)
-variable_small (Some place) objects text few = tt
-variable_small None objects text few = object_small text objects few
+chosen_small : (is_array : Bool) (v : ℕ) → IsSmall (if is_array then Array v else Variable v)
+chosen_small true v = tt
+chosen_small false v = tt
 
-small_word : (m : NameMeaning) → IsSmall m → HasWord (name_code m)
-small_word (Variable place) h = tt
-small_word (Object k) h = record { sfits = omega (arith, h) }
-small_word Unknown h = record { sfits = omega arith }
+local_small : (o : Option ℕ) (scope : Scope) (text : List ℕ) → AllByRecursion AreFew scope.objects → IsSmall (local_or o scope text)
+local_small (Some v) scope text few = chosen_small (is_array_or_none (slice_get scope.locals v)) v
+local_small None scope text few = object_small text scope.objects few
+
+small_word : (locals : List Local) (m : NameMeaning) → IsSmall m → HasWord (name_code locals m)
+small_word locals (Variable v) h = tt
+small_word locals (Array v) h = record { sfits = omega arith }
+small_word locals (Object k) h = record { sfits = omega (arith, h) }
+small_word locals Unknown h = record { sfits = omega arith }
 
 few_names : (t : SystemTables) → IsInRange t → AllByRecursion AreFew (object_names t)
 few_names t h = (
@@ -96,7 +104,9 @@ module _ (scope : Scope) (few : AllByRecursion AreFew scope.objects) where
   expression_words (number k) at h = (h, tt)
   expression_words (named w) at h =
       let text = name_text w.name in
-      (small_word (meaning_of scope w.name) (variable_small (place_of text scope.variables) scope.objects text few), tt)
+      let names = map (λ (l : Local). l.name) scope.locals in
+      (small_word scope.locals (meaning_of scope w.name) (local_small (place_of text names) scope text few), tt)
+  expression_words (element w e) at h = append (expression_code scope e at) _ (expression_words e at h) (tt, tt)
   expression_words (unary op e) at h = append (expression_code scope e at) _ (expression_words e at h) (tt, tt)
   expression_words (binary op a b) at h =
       let second = at + expression_size a in
@@ -121,6 +131,10 @@ module _ (scope : Scope) (few : AllByRecursion AreFew scope.objects) where
   mutual
     statement_words : (s : StatementTree) (at again exit : ℕ) → StatementHasWords s → Words (statement_code scope s at again exit)
     statement_words (assign w e) at again exit h = append (expression_code scope e at) _ (expression_words e at h) (tt, tt)
+    statement_words (assign_element w i e) at again exit h =
+        let second = at + expression_size i in
+        append (expression_code scope i at) _ (expression_words i at h.0)
+        (append (expression_code scope e second) _ (expression_words e second h.1) (tt, tt))
     statement_words (service_call c) at again exit h = append (arguments_code scope c.arguments at) _ (arguments_words c.arguments at h) (tt, tt)
     statement_words (if_then e s) at again exit h =
         append (expression_code scope e at) _ (expression_words e at h.0) (tt, block_words s (at + expression_size e + 1) again exit h.1)

@@ -21,6 +21,7 @@ use Rattle.fmp_codegen.specs.Laws as codegen
 use Rattle.fmp_image_parts.specs.declared.heads.BodyHead.{BodyHead}
 use Rattle.fmp_image_bytes.specs.Images.{image_tables, keys_of, KeepRules, IsImage}
 use Rattle.fmp_image_parts.specs.Instructions.{HasWord}
+use Rattle.fmp_image_parts.specs.Versions.{newest}
 use Rattle.fmp_image_parts.specs.Keys.{are_new}
 use Rattle.fmp_image_rows.specs.Rows.{RowContext, context_of, row, task_form, cyclic_form, interrupt_form, semaphore_form, flag_form, data_queue_form, mailbox_form, message_form, shared_word_form, spin_lock_form}
 use Rattle.fmp_image.specs.Building.{built_entry, built_task, built_cyclic, built_interrupt, built_tables, built_heads, built_image}
@@ -106,7 +107,7 @@ pub lawful :
     ((body : BodyTree) → codegen.greatest (body_depths body) ≡ body_depth body) →
     (t : SystemTables) (bodies : List BodyTree) (code : List BodyTables) → IsConfiguration t → EachEnters bodies t → length bodies ≤ 255 →
     code ≡ compiled t bodies → Verified code → AllByRecursion (λ (b : BodyTables). AllByRecursion HasWord b.instructions) code →
-    IsImage (image_tables (built_tables bodies t) (built_heads bodies) code)
+    IsImage (image_tables newest (built_tables bodies t) (built_heads bodies) code)
 lawful needed t bodies code h enters few is verified words =
     let p = t.processors in
     let r = h.ranges in
@@ -115,6 +116,7 @@ lawful needed t bodies code h enters few is verified words =
     let context = context_of p (built_heads bodies) in
     let many : length code ≡ length (compiled t bodies) = ap length is in
     record {
+      version = refl;
       processors = lies_in_range 1 8 p r.processors;
       queue_limit = h.queue_limit;
       count = omega (arith, few, many, length-map bodies (compiled_body t));
@@ -136,5 +138,5 @@ lawful needed t bodies code h enters few is verified words =
 pub lawful_made :
     (made : SystemTables) (heads : List BodyHead) (code : List BodyTables) (t : SystemTables) (bodies : List BodyTree) →
     made ≡ built_tables bodies t → heads ≡ built_heads bodies → code ≡ compiled t bodies →
-    IsImage (built_image t bodies) → IsImage (image_tables made heads code)
+    IsImage (built_image t bodies) → IsImage (image_tables newest made heads code)
 lawful_made made heads code t bodies e f g h = rw (e, f, g) h

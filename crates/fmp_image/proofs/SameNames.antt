@@ -1,21 +1,22 @@
 -- Only the names of objects matter to the bodies of a text.
-use Rattle.std.proofs.Common.{◌≡◌, ℕ, ◌+◌, ◌||◌, nat_le, List, [], ◌∷◌, ◌++◌, Bool, length, Option, Some, map, refl, sym, ap, ap₂, ◌∙◌, subst}
+use Rattle.std.proofs.Common.{◌≡◌, ℕ, ◌+◌, ◌||◌, nat_le, nat_lt, List, [], ◌∷◌, ◌++◌, Bool, length, Option, Some, map, refl, sym, ap, ap₂, ◌∙◌, subst}
 use Rattle.std.specs.Prelude.{if◌then◌else◌}
 use Rattle.fmp_base.specs.declared.events.Event.{Event}
 use Rattle.fmp_base.specs.declared.names.Name.{Name}
 use Rattle.fmp_base.specs.Names.{name_text}
 use Rattle.fmp_base.specs.Systems.{SystemTables}
 use Rattle.fmp_lex.specs.declared.fault.FaultKind.TheVariants as fault
-use Rattle.fmp_tasklang.specs.declared.trees.Word.{Word}
+use Rattle.fmp_tasklang.specs.declared.trees.Declaration.{Declaration}
+use Rattle.fmp_tasklang.specs.Layout.{Local, local_of, places_of, exinf_local, locals_of, total_places}
 use Rattle.fmp_tasklang.specs.Trees.{BodyTree}
-use Rattle.fmp_tasklang.specs.Scopes.{Scope, object_names, object_number, exinf_name, scope_of}
+use Rattle.fmp_tasklang.specs.Scopes.{Scope, object_names, object_number, scope_of}
 use Rattle.fmp_instructions.specs.declared.instructions.Instruction.TheVariants.{End}
 use Rattle.fmp_instructions.specs.Instructions.{BodyTables}
 use Rattle.fmp_scopes.specs.declared.offences.Offence.{Offence}
-use Rattle.fmp_codegen.specs.Compiling.{is_among, variables_offence, size_offence, body_offence, bodies_offence, compiled_body, compiled, IsAccepted}
+use Rattle.fmp_codegen.specs.Compiling.{is_among, length_offence, variables_offence, size_offence, body_offence, bodies_offence, compiled_body, compiled, IsAccepted}
 use Rattle.fmp_scopes.specs.Scopes.{is_object}
 use Rattle.fmp_scopes.specs.DepthTables.{body_depths}
-use Rattle.fmp_scopes.specs.Naming.{first_offence, uses_offence, block_uses, reads}
+use Rattle.fmp_scopes.specs.Naming.{is_known, first_offence, uses_offence, block_uses}
 use Rattle.fmp_codegen.specs.Runs.{PrintsText}
 use Rattle.fmp_scopes.specs.Scheme.{block_code}
 use Rattle.fmp_scopes.specs.Sizes.{block_size}
@@ -35,20 +36,22 @@ names_kept bodies tables =
 
 module _ (a b : SystemTables) (same : object_names a ≡ object_names b) where
   object_same : (name : Name) → is_object a name ≡ is_object b name
-  object_same name = ap (λ objects. reads (object_number (name_text name) objects)) same
+  object_same name = ap (λ objects. is_known (object_number (name_text name) objects)) same
 
-  variables_same : (names : List Name) (ws : List Word) → variables_offence a names ws ≡ variables_offence b names ws
-  variables_same names [] = refl
-  variables_same names (w ∷ ws) =
-      let limit : Offence = record { at = w.at; why = fault.Limit } in
-      let twice : Offence = record { at = w.at; why = fault.TwiceNamed } in
+  variables_same : (ls : List Local) (ds : List Declaration) → variables_offence a ls ds ≡ variables_offence b ls ds
+  variables_same ls [] = refl
+  variables_same ls (d ∷ ds) =
+      let limit : Offence = record { at = d.name.at; why = fault.Limit } in
+      let twice : Offence = record { at = d.name.at; why = fault.TwiceNamed } in
+      let names = map (λ (l : Local). l.name) ls in
       ap₂ (λ (object : Bool) (rest : Option Offence).
-      if nat_le 64 (length names) then Some limit else (if is_among w.name names || object then Some twice else rest))
-      (object_same w.name) (variables_same (names ++ w.name ∷ []) ws)
+      if nat_lt 64 (total_places ls + places_of d.length) then Some limit
+      else (if is_among d.name.name names || object then Some twice else first_offence (length_offence d.length) rest))
+      (object_same d.name.name) (variables_same (ls ++ local_of d ∷ []) ds)
 
   scope_same : (body : BodyTree) → scope_of a body ≡ scope_of b body
   scope_same body =
-      let with_objects : List (List Name) → Scope = λ objects. record { objects = objects; variables = exinf_name ∷ map (λ w. w.name) body.variables } in
+      let with_objects : List (List Name) → Scope = λ objects. record { objects = objects; locals = locals_of body } in
       ap with_objects same
 
   body_same : (names : List Name) (body : BodyTree) → body_offence a names body ≡ body_offence b names body
@@ -59,7 +62,7 @@ module _ (a b : SystemTables) (same : object_names a ≡ object_names b) where
       if nat_le 255 (length names) then Some limit
       else (if is_among body.name.name names then Some twice
       else first_offence variables (first_offence (uses_offence scope (block_uses body.statements)) (size_offence body))))
-      (variables_same (exinf_name ∷ []) body.variables) (scope_same body)
+      (variables_same (exinf_local ∷ []) body.variables) (scope_same body)
 
   pub bodies_same : (names : List Name) (bodies : List BodyTree) → bodies_offence a names bodies ≡ bodies_offence b names bodies
   bodies_same names [] = refl
@@ -68,7 +71,7 @@ module _ (a b : SystemTables) (same : object_names a ≡ object_names b) where
   compiled_body_same : (body : BodyTree) → compiled_body a body ≡ compiled_body b body
   compiled_body_same body =
       let with_scope : Scope → BodyTables = λ scope. record {
-        locals = length body.variables + 1;
+        locals = total_places (locals_of body);
         instructions = block_code scope body.statements 0 (block_size body.statements) (block_size body.statements) ++ End ∷ [];
         depths = body_depths body;
       } in

@@ -16,10 +16,10 @@ use Rattle.fmp_tasklang.specs.declared.trees.Operator.TheVariants as operator
 use Rattle.fmp_tasklang.specs.declared.trees.Word.{Word}
 use Rattle.fmp_tasklang.specs.Blocks.{block_of, choice}
 use Rattle.fmp_tasklang.specs.Calls.{call_parts, ArgumentTree, value, out, values_of, Called, call_tree, OnePart, Parts, OneCall}
-use Rattle.fmp_tasklang.specs.Expressions.{token_number, IsOperand, a_number, a_name, a_group, a_unary, IsExpression, an_operand, a_chain, AreLinks, no_link, a_link}
+use Rattle.fmp_tasklang.specs.Expressions.{token_number, reference, IsOperand, a_number, a_name, a_group, a_unary, IsIndex, no_index, an_index, IsExpression, an_operand, a_chain, AreLinks, no_link, a_link}
 use Rattle.fmp_tasklang.specs.Grammar.{Bodies}
-use Rattle.fmp_tasklang.specs.Statements.{jump_of, IsStatement, an_assignment, a_call, a_jump, an_if, a_while, IsIf, if_chosen, IsElse, no_else, an_else, IsOther, a_block, another_if, IsBlock, braces, AreStatements, no_statement, a_statement}
-use Rattle.fmp_tasklang.specs.Trees.{ExpressionTree, number, named, unary, binary, both, either, StatementTree, assign, service_call, if_then, if_else, while, break, continue, return, Block, empty, next, BodyTree}
+use Rattle.fmp_tasklang.specs.Statements.{jump_of, IsStatement, an_assignment, an_element_assignment, a_call, a_jump, an_if, a_while, IsIf, if_chosen, IsElse, no_else, an_else, IsOther, a_block, another_if, IsBlock, braces, AreStatements, no_statement, a_statement}
+use Rattle.fmp_tasklang.specs.Trees.{ExpressionTree, number, named, element, unary, binary, both, either, StatementTree, assign, assign_element, service_call, if_then, if_else, while, break, continue, return, Block, empty, next, BodyTree}
 use Rattle.fmp_tasklang.specs.Views.{LinkTree, join, chain_tree}
 use Rattle.fmp_image.specs.Building.{ReadTasks}
 
@@ -28,6 +28,7 @@ use Rattle.fmp_image.specs.Building.{ReadTasks}
 abbrev pub ExpressionHasWords : ExpressionTree → Type 0
 ExpressionHasWords (number k) = FitsSigned w32 k
 ExpressionHasWords (named w) = Unit {0}
+ExpressionHasWords (element w e) = ExpressionHasWords e
 ExpressionHasWords (unary op e) = ExpressionHasWords e
 ExpressionHasWords (binary op a b) = ExpressionHasWords a × ExpressionHasWords b
 ExpressionHasWords (both a b) = ExpressionHasWords a × ExpressionHasWords b
@@ -36,6 +37,7 @@ ExpressionHasWords (either a b) = ExpressionHasWords a × ExpressionHasWords b
 abbrev mutual
   pub StatementHasWords : StatementTree → Type 0
   StatementHasWords (assign w e) = ExpressionHasWords e
+  StatementHasWords (assign_element w i e) = ExpressionHasWords i × ExpressionHasWords e
   StatementHasWords (service_call c) = AllByRecursion ExpressionHasWords c.arguments
   StatementHasWords (if_then e s) = ExpressionHasWords e × BlockHasWords s
   StatementHasWords (if_else e s r) = ExpressionHasWords e × (BlockHasWords s × BlockHasWords r)
@@ -78,6 +80,14 @@ number_at : (o : Option TokenKind) → IsKnownAt o → NumberFits (option_and_th
 number_at None h = tt
 number_at (Some t) h = known_number t h
 
+abbrev IndexHasWords : Option ExpressionTree → Type 0
+IndexHasWords None = Unit {0}
+IndexHasWords (Some e) = ExpressionHasWords e
+
+reference_words : (w : Word) (index : Option ExpressionTree) → IndexHasWords index → ExpressionHasWords (reference w index)
+reference_words w None h = tt
+reference_words w (Some e) h = h
+
 abbrev JumpHasWords : Option StatementTree → Type 0
 JumpHasWords None = Unit {0}
 JumpHasWords (Some s) = StatementHasWords s
@@ -107,9 +117,14 @@ module _ (ts : List TokenKind) (limit : ℕ) (known : AllByRecursion IsKnown ts)
   mutual
     operand_words : {d i : ℕ} {e : ExpressionTree} {j : ℕ} → IsOperand ts limit d i e j → ExpressionHasWords e
     operand_words {i = i} (a_number x) = subst NumberFits x.0 (number_at (slice_get ts i) (known_at ts i known))
-    operand_words (a_name x) = tt
+    operand_words (a_name {w = w} {index = index} x bracketed is) =
+        subst ExpressionHasWords (sym is) (reference_words w index (index_words bracketed))
     operand_words (a_group allows left x right) = expression_words x
     operand_words (a_unary allows op x) = operand_words x
+
+    index_words : {d i : ℕ} {index : Option ExpressionTree} {j : ℕ} → IsIndex ts limit d i index j → IndexHasWords index
+    index_words no_index = tt
+    index_words (an_index allows left x right) = expression_words x
 
     expression_words : {d l i : ℕ} {e : ExpressionTree} {j : ℕ} → IsExpression ts limit d l i e j → ExpressionHasWords e
     expression_words (an_operand tightest x) = operand_words x
@@ -154,6 +169,7 @@ module _ (ts : List TokenKind) (limit : ℕ) (known : AllByRecursion IsKnown ts)
   mutual
     statement_words : {d : ℕ} {loop : Bool} {i : ℕ} {s : StatementTree} {j : ℕ} → IsStatement ts limit d loop i s j → StatementHasWords s
     statement_words (an_assignment a r e semi) = expression_words e
+    statement_words (an_element_assignment a w bracketed equals x semi) = (expression_words bracketed.1.2.1, expression_words x)
     statement_words {d = d} (a_call r a c b res call semi is) = subst StatementHasWords (sym is) (call_words d r c a b call)
     statement_words {loop = loop} {i = i} (a_jump x semi) = subst JumpHasWords x.0 (token_jump loop (slice_get ts i))
     statement_words (an_if s) = if_words s

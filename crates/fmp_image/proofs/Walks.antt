@@ -19,8 +19,8 @@ use Rattle.fmp_tasklang.specs.declared.trees.BodyKind.TheVariants.{Task, Handler
 use Rattle.fmp_tasklang.specs.Trees.{BodyTree}
 use Rattle.fmp_scopes.specs.declared.entries.EntryUse.{EntryUse}
 use Rattle.fmp_scopes.specs.declared.offences.Offence.{Offence}
-use Rattle.fmp_scopes.specs.Entries.{body_place, entry_fault, at_token, entries_offence}
-use Rattle.fmp_scopes.specs.Naming.{first_offence}
+use Rattle.fmp_scopes.specs.Entries.{body_place, entry_fault, entries_offence}
+use Rattle.fmp_scopes.specs.Naming.{at_token, first_offence}
 use Rattle.fmp_image.proofs.Entering.{wanted, EachEnters}
 use Rattle.fmp_image.specs.Entries.{entry_of, alone, api_uses, class_uses, entry_uses}
 

@@ -26,6 +26,7 @@ use Rattle.fmp_scopes.specs.Naming.{fault_in}
 use Rattle.fmp_image_parts.specs.declared.heads.BodyHead.{BodyHead}
 use Rattle.fmp_image_parts.specs.declared.heads.BodyKind.{BodyKind}
 use Rattle.fmp_image_parts.specs.declared.heads.BodyKind.TheVariants as kind
+use Rattle.fmp_image_parts.specs.Versions.{newest}
 use Rattle.fmp_image_bytes.specs.Images.{ImageTables, image_tables}
 use Rattle.fmp_image.specs.Entries.{entry_uses}
 
@@ -74,9 +75,10 @@ pub record ReadTasks (src : List ℕ) : Type 0 where
   pub bodies : List BodyTree
   pub spelled : Spells Bodies src tokens bodies
 
--- the image of tables and bodies
+-- the image of tables and bodies, of the newest version
 abbrev pub built_image : SystemTables → List BodyTree → ImageTables
-built_image tables bodies = image_tables (built_tables bodies tables) (built_heads bodies) (compiled tables bodies)
+built_image tables bodies =
+    image_tables newest (built_tables bodies tables) (built_heads bodies) (compiled tables bodies)
 
 -- Two texts build an image: both are read, no body has a fault over the objects of the configuration, nor has an entry.
 pub record Builds (cfg src : List ℕ) (i : ImageTables) : Type 0 where

@@ -17,10 +17,11 @@ use fmp_base::System;
 use fmp_cfgparse::read_configuration;
 use fmp_codegen::{CompiledText, check_headings, compile_text};
 use fmp_image_bytes::Image;
+use fmp_image_parts::versions::newest;
 use fmp_lex::BuildFault;
 use std::alloc::{AllocError, Global};
 
-/// The image of a system and of the code of its bodies.
+/// The image of a system and of the code of its bodies, of the newest version.
 fn image_of(alloc: Global, system: System, text: CompiledText) -> Result<Image, AllocError>
     requires few { length text.headings.items ≤ 255 }
     requires low { AllByRecursion (λ h. h.depth ≤ 64) text.headings.items }
@@ -32,7 +33,7 @@ fn image_of(alloc: Global, system: System, text: CompiledText) -> Result<Image, 
     let heads = built_heads(alloc, &text.headings)?;
     let mut built = system;
     build_tables(&text.headings, &mut built);
-    Ok(Image::new(built, text.code, heads))
+    Ok(Image::new(newest(), built, text.code, heads))
 }
 
 /// The image of the system that a configuration describes, its bodies given by a task text; or the first fault of the
