@@ -8,7 +8,7 @@ import struct
 
 from common.services import SERVICES
 
-MAGIC, VERSION = b"FMPI", 1
+MAGIC, VERSIONS = b"FMPI", (1, 2)
 NUMBERS = {"u8": "<B", "u16": "<H", "u32": "<I", "i32": "<i"}
 
 # The fields of a row of each table, in order; the tables stand in this order behind the bodies.
@@ -39,7 +39,7 @@ NUM_PRC CLASS NULL task handler var if else while break continue return
 IDENTIFIER = re.compile(rb"[A-Za-z_][A-Za-z0-9_]{0,30}")
 
 TASK_BODY, HANDLER_BODY = 0, 1
-PUSH, LOAD, STORE, UN, BIN, JMP, JZ, CALL, END = range(1, 10)
+PUSH, LOAD, STORE, UN, BIN, JMP, JZ, CALL, END, LDX, STX = range(1, 12)
 NO_LOCAL = 255
 GREATEST_DEPTH = GREATEST_LOCALS = 64
 GREATEST_TIME = 1 << 30
@@ -101,8 +101,18 @@ def is_call(argument, local_count):
     return has_place and (answer == NO_LOCAL or answer < local_count)
 
 
-def has_argument(opcode, argument, local_count, size):
-    """Whether there is such an opcode and the argument is in its range."""
+def array_parts(argument):
+    """The first local and the number of places of the array that the argument of LDX and STX names."""
+    return argument & 255, argument >> 8
+
+
+def is_array(argument, local_count):
+    base, places = array_parts(argument)
+    return argument >= 0 and base >= 1 and places >= 1 and base + places <= local_count
+
+
+def has_argument(opcode, argument, local_count, size, version):
+    """Whether the version has such an opcode and the argument is in its range."""
     match opcode:
         case 1:
             return True
@@ -118,6 +128,8 @@ def has_argument(opcode, argument, local_count, size):
             return is_call(argument, local_count)
         case 9:
             return argument == 0
+        case 10 | 11:
+            return version >= 2 and is_array(argument, local_count)
     return False
 
 
@@ -131,18 +143,18 @@ def keeps_entry(place, code):
         enough = entry == wanted
     else:
         wanted, change = {PUSH: (0, 1), LOAD: (0, 1), STORE: (1, -1), UN: (1, 0), BIN: (2, -1), JMP: (0, 0),
-                          JZ: (1, -1), END: (0, 0)}[opcode]
+                          JZ: (1, -1), END: (0, 0), LDX: (1, 0), STX: (2, -2)}[opcode]
         left = entry + change
         enough = entry == 0 if opcode == END else entry >= wanted
     return enough and all(code[target][2] == left for target in following)
 
 
-def is_fit(code, local_count):
-    """Whether code keeps to its depth table."""
+def is_fit(code, local_count, version):
+    """Whether code has only the opcodes of its version and keeps to its depth table."""
     return (
         len(code) > 0 and code[-1][0] in (JMP, END) and code[0][2] == 0
         and all(entry <= GREATEST_DEPTH for _, _, entry in code)
-        and all(has_argument(opcode, argument, local_count, len(code)) for opcode, argument, _ in code)
+        and all(has_argument(opcode, argument, local_count, len(code), version) for opcode, argument, _ in code)
         and all(keeps_entry(place, code) for place in range(len(code)))
     )
 
@@ -150,10 +162,11 @@ def is_fit(code, local_count):
 # The rules of the rows: what stands before them is `seen`
 
 class Seen:
-    """The processors, bodies, names and interrupts that were read."""
+    """The version, processors, bodies, names and interrupts that were read."""
 
-    def __init__(self, processors):
-        self.processors, self.bodies, self.names, self.interrupts = processors, [], set(), set()
+    def __init__(self, version, processors):
+        self.version, self.processors = version, processors
+        self.bodies, self.names, self.interrupts = [], set(), set()
 
     def has_body(self, place, kind):
         return place < len(self.bodies) and self.bodies[place]["kind"] == kind
@@ -196,9 +209,9 @@ RULES = {
 }
 
 
-def read_body(reader):
+def read_body(reader, version):
     body = reader.body()
-    check("L5", is_fit(body["code"], body["locals"]))
+    check("L5", is_fit(body["code"], body["locals"], version))
     greatest = max(entry for _, _, entry in body["code"])
     check("L4", body["kind"] <= 1 and 1 <= body["locals"] <= GREATEST_LOCALS and body["depth"] == greatest)
     return body
@@ -214,12 +227,13 @@ def read(data):
     """The tables that bytes spell; their first fault is raised."""
     reader = Reader(data)
     check("L2", reader.take(4) == MAGIC)
-    check("L3", reader.field("u16") == VERSION)
-    image = {"processors": reader.field("u8")}
+    image = {"version": reader.field("u16")}
+    check("L3", image["version"] in VERSIONS)
+    image["processors"] = reader.field("u8")
     check("L4", 1 <= image["processors"] <= 8)
-    seen = Seen(image["processors"])
+    seen = Seen(image["version"], image["processors"])
     for _ in range(reader.field("u8")):
-        seen.bodies.append(read_body(reader))
+        seen.bodies.append(read_body(reader, seen.version))
     image["bodies"] = seen.bodies
     for table in LAYOUTS:
         image[table] = [read_row(table, reader, seen) for _ in range(reader.field("u8"))]
@@ -246,7 +260,7 @@ def table_bytes(layout, rows):
 
 
 def spell(image):
-    """The bytes of an image."""
+    """The bytes of an image, in its version."""
     bodies = bytes([len(image["bodies"])]) + b"".join(map(body_bytes, image["bodies"]))
     tables = b"".join(table_bytes(layout, image[table]) for table, layout in LAYOUTS.items())
-    return MAGIC + struct.pack("<HB", VERSION, image["processors"]) + bodies + tables
+    return MAGIC + struct.pack("<HB", image["version"], image["processors"]) + bodies + tables

@@ -35,16 +35,17 @@ def body(code, kind=0, local_count=1, depth=None):
     return {"kind": kind, "locals": local_count, "depth": greatest if depth is None else depth, "code": code}
 
 
-def image(bodies=None, processors=1, **tables):
+def image(bodies=None, processors=1, version=2, **tables):
     """The bytes of an image with these tables and no others."""
     least = [body([ENDING]), body([ENDING], kind=1)]
-    return spell({"processors": processors, "bodies": bodies or least, **dict.fromkeys(LAYOUTS, ()), **tables})
+    fields = {"version": version, "processors": processors, "bodies": bodies or least}
+    return spell({**fields, **dict.fromkeys(LAYOUTS, ()), **tables})
 
 
-def of_code(code, **fields):
+def of_code(code, version=2, **fields):
     """An image of one body, and of a task that runs it."""
     task = {**LEAST_ROWS["tasks"], "name": b"T", "attribute": 2, "stack": 65536}
-    return image([body(code, **fields)], tasks=[task])
+    return image([body(code, **fields)], version=version, tasks=[task])
 
 
 def named(table, number):
@@ -100,8 +101,9 @@ def instructions():
     """Each opcode with arguments in and out of range, as the one instruction before the end."""
     before = [(1, 1, 0), (1, 2, 1)]
     for opcode in (*range(14), 127, 128, 254, 255):
-        for argument in (*range(-2, 18), 63, 64, 65, 255, 256, 65536, (1 << 31) - 1, -(1 << 31)):
-            for entry, left in ((0, 0), (0, 1), (1, 0), (1, 1), (2, 1), (2, 2)):
+        for argument in (*range(-2, 18), 63, 64, 65, 255, 256, 257, 258, 259, 513, 514, 769, 65536, (1 << 31) - 1,
+                         -(1 << 31)):
+            for entry, left in ((0, 0), (0, 1), (1, 0), (1, 1), (2, 0), (2, 1), (2, 2)):
                 code = [*before[:entry], (opcode, argument, entry), *([(3, 0, 1)] if left == 1 else []), ENDING]
                 yield f"{opcode} {argument} on {entry} operands, {left} behind", of_code(code, local_count=3)
     for local_count in (0, 1, 2, 63, 64, 65, 254, 255):
@@ -109,6 +111,48 @@ def instructions():
             code = [(2, place, 0), (3, place, 1), ENDING]
             yield f"local {place} of {local_count}", of_code(code, local_count=local_count)
         yield f"{local_count} locals", of_code([ENDING], local_count=local_count)
+
+
+def arrays():
+    """Arrays at the ends of a body's locals and past them, with indexes in and out of range; both versions."""
+    for local_count in (1, 2, 3, 63, 64, 65, 255):
+        for base in (0, 1, 2, local_count - 2, local_count - 1, local_count, 255):
+            for places in (0, 1, 2, local_count - base - 1, local_count - base, local_count - base + 1, 256):
+                if base < 0 or places < 0:
+                    continue
+                argument = base + 256 * places
+                for version in (1, 2):
+                    what = f"version {version}, {places} places from {base} of {local_count}"
+                    load, store = (10, argument, 1), (11, argument, 2)
+                    code = [(1, 0, 0), load, (3, 0, 1), ENDING]
+                    yield f"{what}, a load", of_code(code, version, local_count=local_count)
+                    code = [(1, 0, 0), (1, 7, 1), store, ENDING]
+                    yield f"{what}, a store", of_code(code, version, local_count=local_count)
+    put = (8, 1 + 256 * NO_LOCAL + 65536 * NO_LOCAL, 1)
+    for base, places in ((1, 1), (1, 63), (63, 1), (2, 3)):
+        argument = base + 256 * places
+        for index in (-(1 << 31), -256, -1, 0, 1, places - 1, places, places + 1, 255, 256, (1 << 31) - 1):
+            stored = [(1, index, 0), (1, 7, 1), (11, argument, 2)]
+            loaded = [(1, index, 0), (10, argument, 1), put]
+            yield f"{places} places from {base}, {index} stored", of_code([*stored, *loaded, ENDING], local_count=64)
+            yield f"{places} places from {base}, {index} loaded", of_code([*loaded, ENDING], local_count=64)
+            beside = [(2, local, 0) for local in (base - 1, min(base + places, 63))]
+            shown = [step for load in beside for step in (load, put)]
+            yield f"{places} places from {base}, beside {index}", of_code([*stored, *shown, ENDING], local_count=64)
+
+
+def versions():
+    """Versions that there are and that there are not, with code of each."""
+    codes = {
+        "no array": [(1, 7, 0), (3, 1, 1), ENDING],
+        "a load": [(1, 0, 0), (10, 257, 1), (3, 0, 1), ENDING],
+        "a store": [(1, 0, 0), (1, 7, 1), (11, 257, 2), ENDING],
+        "an unreachable load": [ENDING, (10, 257, 1), (3, 0, 1), ENDING],
+    }
+    for version in (0, 1, 2, 3, 4, 255, 256, 257, 258, 511, 512, 65535):
+        for name, code in codes.items():
+            yield f"version {version}, {name}", of_code(code, version, local_count=2)
+        yield f"version {version}, no row", image(version=version)
 
 
 def calls():
@@ -156,5 +200,5 @@ def codes():
 
 
 def all_limits():
-    for group in (rows, names, instructions, calls, codes):
+    for group in (rows, names, instructions, arrays, versions, calls, codes):
         yield from group()

@@ -8,9 +8,12 @@ from images.image_format import spell
 ONE_TASK_CONFIGURATION = "NUM_PRC(1); CLASS(TCL_1) { CRE_TSK(T1,{TA_ACT,0,main,10,256,NULL}); }"
 ONE_TASK_SOURCE = "task main { put(7); }"
 ONE_TASK = bytes.fromhex(
-    "464d50490100010100010103000107000000000801ffff0001090000000000"
+    "464d50490200010100010103000107000000000801ffff0001090000000000"
     "010254310200000000000a000100000100000000000000000000"
 )
+
+# The same in the version before, which also loads.
+ONE_TASK_OF_VERSION_1 = ONE_TASK[:4] + b"\1" + ONE_TASK[5:]
 
 # Most fields stand at a limit. Some names are one letter from another or from a word.
 FILLED_CONFIGURATION = """NUM_PRC(8);
@@ -32,16 +35,17 @@ CLASS(TCL_1) {
 }
 """
 FILLED_SOURCE = """task t {
-    var v; var r;
+    var v; var r; var a[2];
     while (v < 3) { if (!v || r) { v = v - exinf * 2; } else { break; } }
     r = put(v);
+    a[r] = a[1];
     twai_flg(F, 1, TWF_ORW, &v, TMO_POL);
 }
 handler h { iset_flg(F, 65535); }
 """
 
-# Opcode, argument and operands before it: 1 PUSH, 2 LOAD, 3 STORE, 4 UN, 5 BIN, 6 JMP, 7 JZ, 8 CALL, 9 END. Locals:
-# 0 exinf, 1 v, 2 r.
+# Opcode, argument and operands before it: 1 PUSH, 2 LOAD, 3 STORE, 4 UN, 5 BIN, 6 JMP, 7 JZ, 8 CALL, 9 END, 10 LDX,
+# 11 STX. Locals: 0 exinf, 1 v, 2 r, 3 and 4 a.
 TASK_CODE = [
     (2, 1, 0), (1, 3, 1), (5, 10, 2), (7, 21, 1),  # while (v < 3)
     (2, 1, 0), (4, 1, 1), (7, 9, 1), (1, 1, 0), (6, 11, 1), (2, 2, 0), (4, 3, 1), (7, 19, 1),  # if (!v || r)
@@ -49,15 +53,17 @@ TASK_CODE = [
     (6, 21, 0),  # else break
     (6, 0, 0),  # the loop again
     (2, 1, 0), (8, 1 + 256 * 255 + 65536 * 2, 1),  # r = put(v)
+    (2, 2, 0), (1, 1, 1), (10, 3 + 256 * 2, 2), (11, 3 + 256 * 2, 2),  # a[r] = a[1]
     (1, 1, 0), (1, 1, 1), (1, 1, 2), (1, 0, 3), (8, 28 + 256 * 1 + 65536 * 255, 4),  # twai_flg
     (9, 0, 0),
 ]
 HANDLER_CODE = [(1, 1, 0), (1, 65535, 1), (8, 55 + 256 * 255 + 65536 * 255, 2), (9, 0, 0)]
 
 FILLED = spell({
+    "version": 2,
     "processors": 8,
     "bodies": [
-        {"kind": 0, "locals": 3, "depth": 4, "code": TASK_CODE},
+        {"kind": 0, "locals": 5, "depth": 4, "code": TASK_CODE},
         {"kind": 1, "locals": 1, "depth": 2, "code": HANDLER_CODE},
     ],
     "tasks": [

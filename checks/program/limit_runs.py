@@ -256,6 +256,40 @@ def expressions():
         yield lone(text, f"task m {{ put({text}); }}", "run 1\n", f"{line}\nT {state} p1 10\n")
 
 
+# Statements of a body with `var v; var w[62];`, and the words that it puts, one in each event, or a fault.
+ARRAYS = (
+    ("put(w[0] + w[31] + w[61]);", "0"),
+    ("w[0] = 7; w[61] = 8; put(w[0] + w[31] + w[61]); put(v + exinf);", "15 0"),
+    ("v = 5; w[0] = 1; put(v + exinf);", "5"),
+    ("w[1] = 2; w[w[1]] = 9; put(w[2]);", "9"),
+    ("w[61] = -2147483647 - 1; put(w[61]);", "-2147483648"),
+    ("v = put(1); w[v] = 4; put(w[0]);", "1 4"),
+    *((f"put(w[{index}]);", "F_IDX") for index in ("-1", "62", "63", "256", "2147483647", "-2147483647 - 1")),
+    *((f"w[{index}] = 1;", "F_IDX") for index in ("-1", "62", "63", "256", "2147483647", "-2147483647 - 1")),
+    ("put(7); w[0] = 1; w[62] = w[0];", "7 F_IDX"),
+    ("w[62] = 1 / 0;", "F_DIV"),
+    ("w[-1] = 2147483647 + 1;", "F_OVF"),
+    ("w[1 / 0] = 2147483647 + 1;", "F_DIV"),
+    ("put(w[62] + 1 / 0);", "F_IDX"),
+    ("put(0 && w[62]); put(1 || w[-1]); put(1 && w[62]);", "0 1 F_IDX"),
+)
+
+
+def arrays():
+    for statements, answers in ARRAYS:
+        lines = [f"{number} p1 T {word}" if word.startswith("F_") else f"{number} p1 T put({word}) E_OK"
+                 for number, word in enumerate(answers.split(), 1)]
+        state = "DORMANT" if "F_" in answers else "RUNNING"
+        expected = "\n".join([*lines, f"T {state} p1 10\n"])
+        yield lone(statements, f"task m {{ var v; var w[62]; {statements} }}", "run 1\n" * len(lines), expected)
+    source = "task m { var a[11]; var i; get_pri(0, &i); a[i] = 7; put(a[10]); }"
+    lines = "1 p1 T get_pri(0) E_OK 10\n2 p1 T put(7) E_OK\nT RUNNING p1 10\n"
+    yield lone("the place that a call names", source, "run 1\nrun 1\n", lines)
+    source = "task m { var a[3]; var i; i = 2; a[i] = 7; put(a[2]); a[3] = 1; }"
+    lines = "1 p1 T put(7) E_OK\n2 p1 T F_IDX\nT DORMANT p1 10\n"
+    yield lone("an array of three places", source, "run 1\nrun 1\n", lines)
+
+
 def extended_information():
     """The least and the greatest number that a static API hands to a body."""
     for number in (-2147483647, 0, 2147483647):
@@ -284,6 +318,11 @@ def stretches():
     # 4 to test and 5 to add and go back in each turn, 4 for the last test and 1 for the end; `v = -0;` takes 3.
     loop = "while (v < 11110) { v = v + 1; }"
     yield from stretch("a loop", loop, 9 * 11110 + 5)
+    # One for each index, one for the load, one for the store and one for the end.
+    yield from stretch("an array", "var a[2]; a[1] = a[0];", 5)
+    # As the loop above, and 5 to load and store in each turn.
+    over_array = "var a[9]; while (v < 9000) { a[v % 9] = a[0]; v = v + 1; }"
+    yield from stretch("a loop over an array", over_array, 15 * 9000 + 5)
     done, nothing = "1 p1 T end\nT DORMANT p1 10\n", "T RUNNING p1 10\n"
     yield lone("100000 instructions", f"task m {{ var v; v = 0; v = -0; {loop} }}", "run 1\n", done)
     yield lone("100001 instructions", f"task m {{ var v; v = 0; v = 0; v = 0; {loop} }}", "run 1\n", nothing)
@@ -306,8 +345,8 @@ def events():
 
 
 def all_runs():
-    groups = (calls, full_tables, full_data_queue, longest_event, expressions, extended_information, stretches, events)
-    for group in groups:
+    groups = (calls, full_tables, full_data_queue, longest_event, expressions, arrays, extended_information, stretches)
+    for group in (*groups, events):
         yield from group()
 
 

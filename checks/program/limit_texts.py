@@ -115,6 +115,35 @@ def bodies_and_locals():
         yield body(f"{kind} m {{\n{lines('var v#;', 62)}\nvar v1; }}", "src:64: B2")
 
 
+def arrays():
+    """Arrays at the limits of their lengths and of a body's places, and what has an index where it must not."""
+    for kind in ("task", "handler"):
+        for declared, expected in (
+            ("a[1];", OK), ("a[63];", OK), ("a[\n0];", "src:3: B5"), ("a[\n64];", "src:2: B5"),
+            ("a[\n2147483647];", "src:2: B5"), ("a[\n2147483648];", "src:3: B5"), ("a[\n-1];", "src:3: B1"),
+            ("a[\n];", "src:3: B1"), ("a[0x3f];", OK), ("a[1][\n1];", "src:2: B1"),
+            ("a[62]; var b;", OK), ("b; var a[62];", OK), ("a[62]; var b;\nvar c;", "src:3: B5"),
+            ("a[63];\nvar b;", "src:3: B5"), ("b; var\na[63];", "src:3: B5"), ("a[31]; var b[32];", OK),
+            ("a[32]; var\nb[\n32];", "src:3: B5"), ("a[1]; var\na[\n1];", "src:3: B2"),
+            ("a[1]; var\na[\n0];", "src:3: B2"), ("a[63]; var\na[\n0];", "src:3: B2"),
+            ("a[63]; var\nb[\n0];", "src:4: B5"),
+            ("exinf[\n1];", "src:2: B2"),
+        ):
+            yield body(f"{kind} m {{ var\n{declared} }}", expected)
+    declared = "task m { var v; var a[3];"
+    for statement, expected in (
+        ("a[2] = a[0];", OK), ("a[a[a[0]]] = 1;", OK), ("a[3] = 1;", OK), ("a[-1] = a[2147483647];", OK),
+        ("put(\na);", "B9"), ("\na = 1;", "B9"), ("put(\nv[0]);", "B9"), ("\nv[0] = 1;", "B9"),
+        ("put(\nexinf[0]);", "B9"), ("\nexinf[0] = 1;", "B9"), ("put(\nS[0]);", "B9"), ("\nS[0] = 1;", "B3"),
+        ("put(\nb[0]);", "B3"), ("\nb[0] = 1;", "B3"), ("\na = put(1);", "B9"), ("get_pri(1, &\na);", "B9"),
+        ("\na[0] = put(1);", "B1"), ("put(a\n(0));", "B1"), ("put(a[0]\n(0));", "B1"), ("put(a[\n]);", "B1"),
+        ("put(a[0\n);", "B1"), ("put(a[b[\n0]]);", None), ("a[\nb] = b;", "B3"),
+    ):
+        line = 1 if expected is None else statement.count("\n", 0, statement.rfind("\n") + 1) + 1
+        answer = OK if expected == OK else f"src:{line}: {expected or 'B3'}"
+        yield Text(f"{statement!r} with an array", system("CRE_SEM(S,{0,0,1});"), f"{declared} {statement} }}", answer)
+
+
 # Names and numbers
 
 LONG, TOO_LONG = "n" * 31, "n" * 32
@@ -215,6 +244,11 @@ def operands():
     yield body(f"\nhandler m {{ put({deep(64)}); }}", "src:2: B5")
     yield body(f"\ntask m {{ return; put({deep(64)}); }}", "src:2: B5")
     yield body(f"task m {{ put({deep(63)}); put({'(' * 64}1{')' * 64}); }}", OK)
+    # An index is one operand while it stands, and stays one below the value that is stored.
+    yield body(f"\ntask m {{ var a[1]; put(a[{deep(63)}]); }}", OK)
+    yield body(f"\ntask m {{ var a[1]; put(a[{deep(64)}]); }}", "src:2: B5")
+    yield body(f"\ntask m {{ var a[1]; a[{deep(63)}] = {deep(62)}; }}", OK)
+    yield body(f"\ntask m {{ var a[1]; a[0] = {deep(63)}; }}", "src:2: B5")
     # A task's stack has four bytes for each operand; a handler has none.
     for depth in (1, 2, 63, 64):
         source = f"task m {{ put({deep(depth - 1)}); }} handler h {{ put({deep(63)}); }}"
@@ -225,12 +259,17 @@ def operands():
 
 
 IF, WHILE, ELSE_IF, OPEN = "if (1) {\n", "while (1) {\n", " else if (1)\n{ }", "(\n"
+INDEX = "a[\n"
 
 
 def nesting():
-    """64 levels of blocks, `else if`s, parentheses and unary operators, and the 65th, each on a line of its number."""
+    """64 levels of blocks, `else if`s, parentheses, indexes and unary operators, and the 65th, each on a line of its
+    number."""
     for levels in (63, 64, 65):
         fault = OK if levels < 65 else f"src:{levels}: B5"
+        yield body(f"task m {{ var a[63]; put({INDEX * levels}1{']' * levels}); }}", fault)
+        yield body(f"task m {{ var a[63]; {INDEX * levels}1{']' * levels} = a[63 - 63]; }}", fault)
+        yield body(f"task m {{ var a[63]; put({OPEN * (levels - 1)}a[\n63]{')' * (levels - 1)}); }}", fault)
         yield body(f"task m {{ put({OPEN * levels}1{')' * levels}); }}", fault)
         for operator in ("-\n", "!\n", "~\n"):
             yield body(f"task m {{ put({operator * levels}1); }}", fault)
@@ -253,5 +292,5 @@ def nesting():
 
 
 def all_texts():
-    for group in (ranges, counts, bodies_and_locals, names, numbers, lengths, sizes, operands, nesting):
+    for group in (ranges, counts, bodies_and_locals, arrays, names, numbers, lengths, sizes, operands, nesting):
         yield from group()

@@ -3,7 +3,7 @@
 from images.image_samples import ONE_TASK, ONE_TASK_CONFIGURATION, ONE_TASK_SOURCE
 from rows.row_runs import AND, SETUP, alone, apart, runs, task
 
-NOTHING = bytes.fromhex("464d50490100010000000000000000000000")
+NOTHING = bytes.fromhex("464d50490200010000000000000000000000")
 
 # A row in each table.
 EACH_TABLE = """NUM_PRC(2); CLASS(TCL_2_ONLY) { CRE_TSK(T,{0,-1,t,16,65536,NULL}); }
@@ -12,7 +12,7 @@ EACH_TABLE = """NUM_PRC(2); CLASS(TCL_2_ONLY) { CRE_TSK(T,{0,-1,t,16,65536,NULL}
         CRE_CYC(_9,{TA_STA,5,h,513,0x40000000}); DEF_INH(3,{0,h}); }
     CLASS(TCL_2) { DEF_INH(32,{0,h}); }"""
 EACH_TABLE_IMAGE = bytes.fromhex(
-    "464d50490100020200010001000900000000000101000100090000000000"
+    "464d50490200020200010001000900000000000101000100090000000000"
     "01015400ffffffff00100000010002010101530102000300010146050700"
     "01014400ff01014d0310010147010101570100008001014c01025f39020500000001010200000000004001"
     "02030101200102"
@@ -26,7 +26,7 @@ IMAGES = (
         alone(task("M", "m")),
         AND,
         bytes.fromhex(
-            "464d5049010001010002020c0001000000000007070000000101010000000001000000000105030000000204030000"
+            "464d5049020001010002020c0001000000000007070000000101010000000001000000000105030000000204030000"
             "00010608000000010100000000000301000000010201000000000801ffff000109000000000001014d020000000000"
             "0a000100000100000000000000000000"
         ),
@@ -37,7 +37,11 @@ IMAGES = (
 # Bytes of the image of one task and their new values, and the fault.
 CHANGES = """
 0=0 => L2
-4=2 => L3
+4=0 => L3
+4=3 => L3
+5=1 => L3
+4=1 20=10 => L5
+20=11 => L5
 4=9 => L3
 6=0 => L4
 6=9 => L4
@@ -61,9 +65,9 @@ CHANGES = """
 56=1 => L1
 """
 
-# Changes that load: an operand, the least stack that holds it, and a task of one processor alone; and the word that
-# its first event puts.
-LOADS = (("14=8", 8), ("42=4 43=0", 7), ("47=1", 7))
+# Changes that load: an operand, the least stack that holds it, a task of one processor alone, and the version before;
+# and the word that its first event puts.
+LOADS = (("14=8", 8), ("42=4 43=0", 7), ("47=1", 7), ("4=1", 7))
 
 # A loop beside another task. The argument of its jump back stands at 26, and 9 leads out of its body.
 LOOP = apart(task("A", "a"), task("B", "b")), "task a { while (1) { } } task b { put(1); put(2); }"
