@@ -105,6 +105,27 @@ arithmetic() {
     echo 'run 1' > arithmetic.steps
 }
 
+# One stretch over an array: each number goes into a window of 16 places, which is summed and shifted by one, in 15
+# turns of an inner loop. A number takes 320 instructions.
+numbers=666667
+window() {
+    echo 'CRE_TSK(T,{TA_ACT,0,t,10,256,NULL});' | configuration > window.cfg
+    cat > window.src <<TEXT
+task t {
+    var w[16]; var s; var i; var n;
+    while (n < $numbers) {
+        s = 0;
+        i = 0;
+        while (i < 15) { s = s + w[i]; w[i] = w[i + 1]; i = i + 1; }
+        w[15] = n;
+        n = n + 1;
+    }
+    put(s);
+}
+TEXT
+    echo 'run 1' > window.steps
+}
+
 # This many processors that share nothing: each has a task that counts to 500 between two calls.
 turns_by_threads=16000
 apart() { # apart PROCESSORS
@@ -226,6 +247,9 @@ done
 arithmetic
 build arithmetic
 row '`sim`: arithmetic' instructions $((15 * turns)) "$(simulate arithmetic)"
+window
+build window
+row '`sim`: a window of 16 places' instructions $((320 * numbers)) "$(simulate window)"
 for processors in 1 2 4 8; do
     apart $processors
     build apart$processors
