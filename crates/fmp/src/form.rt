@@ -58,10 +58,11 @@ Fault of a text, behind the file and the line at which it stands:
   B5       a limit on sizes, counts or numbers is passed
   B6       a stack with fewer than four bytes for each operand of its task's body
   B7       an entry that names a body of the other kind, of a task or of a handler
+  B9       an array without an index, or a variable or an object with one
 Fault of an image:
   L1       it ends too soon
   L2       its first four bytes are not 'FMPI'
-  L3       its version is not 1
+  L3       its version is not 1 or 2
   L4       a value breaks a rule of its table
   L5       the code of a body is not fit to run
   L6       bytes stand behind the last table
