@@ -90,6 +90,18 @@ B7: entry of the other kind
   example: CRE_TSK whose entry is declared by 'handler'.
 END
 shows 'code: B7' 0 code B7
+cat > wanted <<'END'
+B9: array and index do not match
+  when: An array stands without an index, or a variable or an object with one.
+  example: put(a); with var a[3];
+END
+shows 'code: B9' 0 code B9
+cat > wanted <<'END'
+F_IDX: index out of range
+  when: An index was below 0, or not below the length of its array; the task or handler ends.
+  example: a[3] = 1; with var a[3];
+END
+shows 'code: F_IDX' 0 code F_IDX
 
 # Of one processor there is one order: two tasks that both end.
 printf 'run 1\nrun 1\nrun 1\nrun 1\nrun 1\nrun 1\n' > wanted
@@ -315,8 +327,10 @@ drawn pipeline
 cat > wanted <<'END'
 p1: spin lock LOCK held, events 2 to 5
 p1: spin lock LOCK held, events 7 to 10
+p1: spin lock LOCK held, events 17 to 20
 p2: spin lock LOCK held, events 11 to 15
-p2: spin lock LOCK held, events 19 to 22
+p2: spin lock LOCK held, events 24 to 27
+p2: spin lock LOCK held, events 30 to 33
 p2: spins for LOCK, events 7 to 11
 END
 gives 'timeline: locks of pipeline' sed -n 's/.*<title>\(p[12]: .*\(held\|spins for\).*\)$/\1/p' pipeline.svg
@@ -378,7 +392,7 @@ shows 'waves: a wrong step' 1 waves queue.img wrong.steps none.vcd
 absent 'waves: no file after a fault' none.vcd
 echo 'file: none.img' > said
 shows 'drive: no image' 3 drive none.img
-for code in B9 E_PA; do refused "code: $code" 'no code is printed so' code $code; done
+for code in B8 E_PA F_ID; do refused "code: $code" 'no code is printed so' code $code; done
 is_read='the file OUT is one of the two that are read'
 cp queue.img same.img
 cp queue.steps same.steps
