@@ -292,6 +292,28 @@ cat > wanted <<'END'
 END
 marks watchdog
 
+# A task that puts one word and ends by an index out of range: its events, its value in a dump, its mark with a tag.
+cat > index.cfg <<'END'
+NUM_PRC(1); CLASS(TCL_1) { CRE_TSK(T, { TA_ACT, 0, t, 10, 256, NULL }); }
+END
+echo 'task t { var a[3]; put(a[2]); a[3] = 1; }' > index.src
+printf 'run 1\nrun 1\n' > index.steps
+built index
+cat > wanted <<'END'
+task  starts   calls   waits  time-outs  preemptions  events   share
+T          1       1       0          0            0       2  100.0%
+END
+shows 'stats: an index out of range' 0 stats index.img index.steps
+shows 'waves: an index out of range' 0 waves index.img index.steps index.vcd
+printf '#0\n#1\n#2\nb10 &\n#3\n' > wanted
+gives 'waves: an index out of range, values' grep -e '^#' -e '^b10 &$' index.vcd
+cat > wanted <<'END'
+#act 0 p1 T starts
+#fault 2 p1 T F_IDX
+END
+marks index
+holds 'timeline: the tag of an index out of range' 'it has none' grep -q '>F_IDX</text>' index.svg
+
 # A mark stands where the task is after the event; where it was before, if its call was refused or its body ended.
 cat > wanted <<'END'
 #act 0 p1 BALANCE starts
