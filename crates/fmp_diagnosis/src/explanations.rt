@@ -89,7 +89,7 @@ impl Topic {
             Topic::ImageTable =>
                 "A value of the header, of a body or of a row breaks a rule of its table.",
             Topic::ImageCode =>
-                "The code of a body can jump out of it, or take an operand that is not there.",
+                "An opcode is none of its version, or code can jump out of its body or take what is not there.",
             Topic::ImageTrailing => "Bytes stand behind the last table.",
             Topic::StepForm => "A line of the steps is none of 'run P', 'tick' and 'int I'.",
             Topic::StepRange => "The number of a processor or of an interrupt is out of range.",

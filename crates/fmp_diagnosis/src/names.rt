@@ -328,6 +328,12 @@ fn say_unknown_in_source(
     }
 }
 
+/// Whether the name at the place is to get the answer of a call.
+fn gets_answer(around: &Around<'_>) -> bool {
+    let tokens = &around.rest.tokens;
+    is_symbol(tokens, 1, Symbol::Assign) && matches!(tokens.kind(2), Some(TokenKind::Service(_)))
+}
+
 /// What is said of a name of a wrong shape: an array where a plain variable must stand, an array without an index, or
 /// something else with one.
 fn shape(around: &Around<'_>) -> &'static str
@@ -337,6 +343,8 @@ fn shape(around: &Around<'_>) -> &'static str
         " is no array; only an array has an index"
     } else if around.back(1) == Some(TokenKind::Symbol(Symbol::And)) && is_written(around) {
         " is an array; the out place of a call is a plain variable"
+    } else if gets_answer(around) {
+        " is an array; the answer of a call goes to a plain variable"
     } else {
         " is an array; an index in brackets must stand behind it"
     }
