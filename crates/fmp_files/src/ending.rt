@@ -1,6 +1,6 @@
 //! How a program ends: what it says and prints, and its status. 0 is for what is done, 2 for a mistake in the words of
 //! the command line, 3 for a failure; a program has a status of its own, 1, for a fault of what it read.
-ghost use Rattle.std.specs.Prelude.{◌≡◌, ◌⊎◌, ℕ, IfOk};
+ghost use Rattle.std.specs.Prelude.{◌≡◌, ℕ, MatchResult};
 ghost use Rattle.clap.specs.Words.{kind_of};
 ghost use Rattle.fmp_files.specs.Deeds.{Says};
 ghost use Rattle.fmp_files.specs.Endings.{EndsPrinting, EndsRefused};
@@ -69,10 +69,11 @@ pub fn refuse<O: Outside>(alloc: Global, outside: &mut O, error: &Error) -> u8
     }
 }
 
-/// Says what is wrong with words that fit the form of the command line, and gives the status.
+/// Says what is wrong with words that fit the form of the command line, and gives the status: 2, or 3 if memory ran out
+/// before the mistake could be said.
 pub fn refuse_mistake<O: Outside>(outside: &mut O, mistake: Result<Error, AllocError>) -> u8
     ensures said { Says (O.done outside.old) (O.done outside.new) }
-    ensures status { (result ≡ 2) ⊎ (result ≡ 3) }
+    ensures status { MatchResult mistake (λ _. result ≡ 2) (λ _. result ≡ 3) }
 {
     match mistake {
         Ok(error) => {
