@@ -34,7 +34,7 @@ use Rattle.fmp_worlds.proofs.CalledLemmas.{keeps-task_call, keeps-handler_call}
 use Rattle.fmp_worlds.proofs.Changes.{acting, actors-ended_itself, actors-processor}
 use Rattle.fmp_worlds.proofs.TickLemmas.{actors-ticked}
 use Rattle.fmp_kernel.specs.KernelViews.{done_or}
-use Rattle.fmp_kernel.specs.Stamps.{StampRows, AreStamps, given_by, is_given}
+use Rattle.fmp_kernel.specs.Stamps.{StampTables, AreStamps, given_by, is_given}
 use Rattle.fmp_kernel.proofs.FrontLemmas.{RanOn, front-names, ran-step, ran-stretched}
 use Rattle.fmp_kernel.proofs.SettleLemmas.{same_task}
 
@@ -201,14 +201,14 @@ left_by {C} q old new (Did d) o ran l e h a b =
     let quiet : is_given q d.lines ≡ false = subst (λ (x : Done C). is_given q x.lines ≡ false) h b in
     subst (λ (x : Done C). acting (processor_at x.world.state q) ≡ acting (processor_at old.world.state q)) (sym h) (l apart_from quiet)
 
-still : (r : StampRows) (k done : ℕ) (s u : KernelState) (q : ℕ) → AreStamps r k s done → q < length r.counts
+still : (r : StampTables) (k done : ℕ) (s u : KernelState) (q : ℕ) → AreStamps r k s done → q < length r.counts
     → acting (processor_at u q) ≡ acting (processor_at s q) → get_or r.actors q None ≡ actor_of (processor_at u q)
 still r k done s u q a l h =
     let m = a.many in
     a.actors.each q (omega (arith, l, m)) ∙ ap (λ (x : Option Handler × Option ℕ). actor_by x.0 x.1) (sym h)
 
 -- where an event did not run q, and no line of its settling names it, the actor that stands in the rows is that of q
-pub left_after : {C : Type 0} (sys : SystemTables) (M : Meaning C) (n : ℕ) (old new : Done C) (e : Event) (r : StampRows) (k done : ℕ)
+pub left_after : {C : Type 0} (sys : SystemTables) (M : Meaning C) (n : ℕ) (old new : Done C) (e : Event) (r : StampTables) (k done : ℕ)
     → AreStamps r k old.world.state done → effect.Done ≡ effect_of (step sys M n old.world e) → new ≡ done_or old (step sys M n old.world e)
     → (q : ℕ) → q < length r.counts → is_same_task (place_run new.lines) (Some q) ≡ false → is_given q new.lines ≡ false
     → get_or r.actors q None ≡ actor_of (processor_at new.world.state q)
@@ -217,7 +217,7 @@ left_after sys M n old new e r k done a d h q l x y =
     (left_by q old new (step sys M n old.world e) (run_place e) (ran-step sys M n old.world e) (step-leaves sys M q n old.world e) d h x y)
 
 -- and where a stretch was applied
-pub left_applied : {C : Type 0} (sys : SystemTables) (M : Meaning C) (old new : Done C) (p : ℕ) (x : Ending C) (r : StampRows) (k done : ℕ)
+pub left_applied : {C : Type 0} (sys : SystemTables) (M : Meaning C) (old new : Done C) (p : ℕ) (x : Ending C) (r : StampTables) (k done : ℕ)
     → AreStamps r k old.world.state done → effect.Done ≡ effect_of (applied_by sys M old.world p (actor_of (processor_at old.world.state p)) x)
     → new ≡ done_or old (applied_by sys M old.world p (actor_of (processor_at old.world.state p)) x)
     → (q : ℕ) → q < length r.counts → is_same_task (place_run new.lines) (Some q) ≡ false → is_given q new.lines ≡ false

@@ -21,7 +21,7 @@ use Rattle.fmp_base.specs.Systems.{SystemTables}
 use Rattle.fmp_worlds.specs.Stamps.{counts as counts_for, is_same_actor, is_same_caller, is_same_handler, one_if, place_run, run_place, counted, stamp, world_after}
 use Rattle.fmp_kernel.specs.KernelViews.{RunnerView, KernelView, SameBodies, done_of, done_or, kernel_of, view_after, view_after_all, view_of_setup}
 use Rattle.fmp_kernel.proofs.FrontLemmas.{Names, step_names}
-use Rattle.fmp_kernel.specs.Stamps.{StampRows, AreActors, AreCounted, AreStamps, IsLeft, IsSeen, Marked, given_by, is_given, noted, noted_by, run_noted, stamped}
+use Rattle.fmp_kernel.specs.Stamps.{StampTables, AreActors, AreCounted, AreStamps, IsLeft, IsSeen, Marked, given_by, is_given, noted, noted_by, run_noted, stamped}
 
 pub get-places : (f : ℕ → ℕ) (k n i : ℕ) → i < n → get_or (map f (places_from k n)) i 0 ≡ f (k + i)
 get-places f k zero i h = absurd (omega (arith, h))
@@ -40,7 +40,7 @@ length-places f k zero = refl
 length-places f k (suc n) = let h = length-places f (k + 1) n in omega (arith, h)
 
 -- the stamps that were counted are those after the event
-pub stamped_is : (old new : StampRows) (processors done : ℕ) (s u : KernelState) (lines : List Line) → AreStamps old processors s done
+pub stamped_is : (old new : StampTables) (processors done : ℕ) (s u : KernelState) (lines : List Line) → AreStamps old processors s done
     → AreCounted old new u (place_run lines) → new.counts ≡ stamped lines s u old.counts
 stamped_is old new processors done s u lines a c =
     ext_get_or 0 new.counts (stamped lines s u old.counts) (c.long ∙ sym (length-places f 0 (length old.counts))) each where
@@ -81,7 +81,7 @@ any_default [] i a b l = absurd (omega (arith, l))
 any_default (x ∷ xs) zero a b l = refl
 any_default (x ∷ xs) (suc i) a b l = any_default xs i a b (omega (arith, l))
 
-pub noted_same : (r : StampRows) (p : ℕ) (before actor : Option Caller) (ran : Bool) → p < length r.actors → ran ≡ false
+pub noted_same : (r : StampTables) (p : ℕ) (before actor : Option Caller) (ran : Bool) → p < length r.actors → ran ≡ false
     → before ≡ get_or r.actors p before → is_same_actor before actor ≡ true → r ≡ noted r p actor ran
 noted_same r p before actor ran l e h k =
     let was : get_or r.actors p None ≡ before = any_default r.actors p None before l ∙ sym h in
@@ -97,7 +97,7 @@ noted_same r p before actor ran l e h k =
     ap (λ (n : ℕ). slice_set r.counts p n) more ∙ set-get_or r.counts p 0 in
     sym (ap (λ (xs : List (Option Caller)). rows xs (slice_set r.counts p (get_or r.counts p 0 + one_if (ran || not (is_same_actor (get_or r.actors p None) actor))))) actors
     ∙ ap (λ (ns : List ℕ). rows r.actors ns) counts) where
-      rows : List (Option Caller) → List ℕ → StampRows
+      rows : List (Option Caller) → List ℕ → StampTables
       rows xs ns = record { actors = xs; counts = ns }
 
 small : (b : Bool) → one_if b ≤ 1
@@ -127,7 +127,7 @@ drop_all zero (l ∷ ls) h = absurd (omega (arith, h))
 drop_all (suc i) [] h = refl
 drop_all (suc i) (l ∷ ls) h = drop_all i ls (omega (arith, h))
 
-module _ (old r : StampRows) (s : KernelState) (ran : Option ℕ) (lines : List Line) where
+module _ (old r : StampTables) (s : KernelState) (ran : Option ℕ) (lines : List Line) where
   -- p is seen again, or for the first time
   seen_now : (p : ℕ) → p < length r.counts → p < length r.actors → IsSeen old r s ran p
       → IsSeen old (noted r p (actor_of (processor_at s p)) false) s ran p
@@ -269,7 +269,7 @@ module _ (old r : StampRows) (s : KernelState) (ran : Option ℕ) (lines : List 
       record { long = w.actors_long ∙ f; each = λ p k. let h = all_seen w left p (omega (arith, k, e)) in h.actor }
 
 -- before the first line
-pub marked_run : (old : StampRows) (s : KernelState) (ran : Option ℕ) (lines : List Line) → length old.actors ≡ length old.counts
+pub marked_run : (old : StampTables) (s : KernelState) (ran : Option ℕ) (lines : List Line) → length old.actors ≡ length old.counts
     → Marked old (run_noted s old ran) s ran lines lines
 marked_run old s None lines long =
     record { counts_long = refl; actors_long = refl; each = λ p k. inr (record { count = refl; actor = refl; other = refl; named = refl }) }
@@ -304,7 +304,7 @@ marked_run old s (Some q) lines long =
           })
 
 -- stamps that are all 0, beside the actors of a state
-pub stamps_begin : (r : StampRows) (processors : ℕ) (s : KernelState) → r.counts ≡ replicate processors 0 → AreActors r.actors processors s
+pub stamps_begin : (r : StampTables) (processors : ℕ) (s : KernelState) → r.counts ≡ replicate processors 0 → AreActors r.actors processors s
     → AreStamps r processors s 0
 stamps_begin r processors s e a =
     record { many = ap (λ (xs : List ℕ). length xs) e ∙ length-replicate processors 0; actors = a; few = none } where
@@ -314,11 +314,11 @@ stamps_begin r processors s e a =
           let h : get_or r.counts p 0 ≡ zero_here = ap (λ (xs : List ℕ). get_or xs p 0) e ∙ get_or-same processors p 0 in
           omega (arith, h)
 
-pub below : (r : StampRows) (processors done : ℕ) (s : KernelState) → AreStamps r processors s done → done < 2 ^ 20 → (p : ℕ)
+pub below : (r : StampTables) (processors done : ℕ) (s : KernelState) → AreStamps r processors s done → done < 2 ^ 20 → (p : ℕ)
     → get_or r.counts p 0 < 2 ^ 20
 below r processors done s a l p = let h = a.few p in omega (arith, h, l)
 
-pub stamps_after : (old new : StampRows) (processors done : ℕ) (s u : KernelState) (ran : Option ℕ) → AreStamps old processors s done
+pub stamps_after : (old new : StampTables) (processors done : ℕ) (s u : KernelState) (ran : Option ℕ) → AreStamps old processors s done
     → AreCounted old new u ran → AreActors new.actors processors u → AreStamps new processors u (done + 1)
 stamps_after old new processors done s u ran a c b =
     record { many = c.long ∙ a.many; actors = b; few = λ p. by_test p (nat_lt p (length old.counts)) refl } where

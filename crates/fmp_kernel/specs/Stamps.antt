@@ -9,12 +9,12 @@ use Rattle.fmp_base.specs.Steps.{actor_of}
 use Rattle.fmp_worlds.specs.Stamps.{counts as counts_for, is_same_actor, one_if, place_run}
 
 -- by the place of a processor: its actor, and its stamp
-pub record StampRows : Type 0 where
+pub record StampTables : Type 0 where
   pub actors : List (Option Caller)
   pub counts : List ℕ
 
 -- p has this actor now, and is counted where it ran or had another one
-abbrev pub noted : StampRows → ℕ → Option Caller → Bool → StampRows
+abbrev pub noted : StampTables → ℕ → Option Caller → Bool → StampTables
 noted r p actor ran =
     record {
       actors = slice_set r.actors p actor;
@@ -22,13 +22,13 @@ noted r p actor ran =
           (get_or r.counts p 0 + one_if (ran || not (is_same_actor (get_or r.actors p None) actor)));
     }
 
--- the rows after the processor that an event ran, if any, was seen
-abbrev pub run_noted : KernelState → StampRows → Option ℕ → StampRows
+-- the tables after the processor that an event ran, if any, was seen
+abbrev pub run_noted : KernelState → StampTables → Option ℕ → StampTables
 run_noted s r None = r
 run_noted s r (Some p) = noted r p (actor_of (processor_at s p)) true
 
--- the rows after this processor, if any, was seen, unless the event ran it
-abbrev pub noted_by : KernelState → Option ℕ → StampRows → Option ℕ → StampRows
+-- the tables after this processor, if any, was seen, unless the event ran it
+abbrev pub noted_by : KernelState → Option ℕ → StampTables → Option ℕ → StampTables
 noted_by s ran r None = r
 noted_by s ran r (Some p) = if is_same_task ran (Some p) then r else noted r p (actor_of (processor_at s p)) false
 
@@ -49,7 +49,7 @@ pub record AreActors (actors : List (Option Caller)) (processors : ℕ) (s : Ker
   pub each : (p : ℕ) → p < processors → get_or actors p None ≡ actor_of (processor_at s p)
 
 -- each processor was counted where it ran or has another actor in s
-pub record AreCounted (old new : StampRows) (s : KernelState) (ran : Option ℕ) : Type 0 where
+pub record AreCounted (old new : StampTables) (s : KernelState) (ran : Option ℕ) : Type 0 where
   pub long : length new.counts ≡ length old.counts
   pub each :
       (p : ℕ) → p < length old.counts →
@@ -58,7 +58,7 @@ pub record AreCounted (old new : StampRows) (s : KernelState) (ran : Option ℕ)
       || not (is_same_actor (get_or old.actors p None) (actor_of (processor_at s p))))
 
 -- p was counted
-pub record IsSeen (old r : StampRows) (s : KernelState) (ran : Option ℕ) (p : ℕ) : Type 0 where
+pub record IsSeen (old r : StampTables) (s : KernelState) (ran : Option ℕ) (p : ℕ) : Type 0 where
   pub count :
       get_or r.counts p 0
       ≡ get_or old.counts p 0 + one_if (is_same_task ran (Some p)
@@ -66,14 +66,14 @@ pub record IsSeen (old r : StampRows) (s : KernelState) (ran : Option ℕ) (p : 
   pub actor : get_or r.actors p None ≡ actor_of (processor_at s p)
 
 -- the event did not run p, whose row is as it was, and of the lines only those that are left may name it
-pub record IsLeft (old r : StampRows) (ran : Option ℕ) (lines rest : List Line) (p : ℕ) : Type 0 where
+pub record IsLeft (old r : StampTables) (ran : Option ℕ) (lines rest : List Line) (p : ℕ) : Type 0 where
   pub count : get_or r.counts p 0 ≡ get_or old.counts p 0
   pub actor : get_or r.actors p None ≡ get_or old.actors p None
   pub other : is_same_task ran (Some p) ≡ false
   pub named : is_given p rest ≡ is_given p lines
 
 -- the rows from which the processors were counted that the event ran, or that a line before those that are left names
-pub record Marked (old r : StampRows) (s : KernelState) (ran : Option ℕ) (lines rest : List Line) : Type 0 where
+pub record Marked (old r : StampTables) (s : KernelState) (ran : Option ℕ) (lines rest : List Line) : Type 0 where
   pub counts_long : length r.counts ≡ length old.counts
   pub actors_long : length r.actors ≡ length old.actors
   pub each : (p : ℕ) → p < length old.counts → IsSeen old r s ran p ⊎ IsLeft old r ran lines rest p
@@ -84,7 +84,7 @@ stamped lines s u stamps =
     map (λ p. get_or stamps p 0 + one_if (counts_for (place_run lines) s u p)) (places_from 0 (length stamps))
 
 -- a stamp for each processor, with the actors of the state, and none above the number of done events
-pub record AreStamps (r : StampRows) (processors : ℕ) (s : KernelState) (done : ℕ) : Type 0 where
+pub record AreStamps (r : StampTables) (processors : ℕ) (s : KernelState) (done : ℕ) : Type 0 where
   pub many : length r.counts ≡ processors
   pub actors : AreActors r.actors processors s
   pub few : (p : ℕ) → get_or r.counts p 0 ≤ done

@@ -22,9 +22,9 @@ pub struct Stamps {
 
 impl Model for Stamps {
     ghost use Rattle.std.specs.Prelude.{◌≡◌, length};
-    ghost use Rattle.fmp_kernel.specs.Stamps.{StampRows};
+    ghost use Rattle.fmp_kernel.specs.Stamps.{StampTables};
 
-    ghost Value = { StampRows };
+    ghost Value = { StampTables };
 
     ghost view = { λ a. record { actors = a.actors.items; counts = a.counts.items } };
 

@@ -19,10 +19,7 @@ use std::alloc::{AllocError, Global};
 
 /// Out of memory, as a fault.
 pub fn made<T>(outcome: Result<T, AllocError>) -> Result<T, SimFault> {
-    match outcome {
-        Ok(x) => Ok(x),
-        Err(_) => Err(SimFault::Memory),
-    }
+    outcome.map_err(|_| SimFault::Memory)
 }
 
 /// What the code of this word means; none if no code is printed so.

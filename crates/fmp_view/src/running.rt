@@ -188,10 +188,9 @@ fn shown_of<O: Outside>(alloc: Global, outside: &O, cfg: &str, src: &str) -> Res
         cfg: &cfg_text,
         src: &src_text,
     };
-    match shown_fault(alloc, FileNames { cfg, src }, texts) {
-        Ok(shown) => Ok(shown),
-        Err(error) => Err(Exit::Failed(Failure::Memory(error))),
-    }
+    shown_fault(alloc, FileNames { cfg, src }, texts).map_err(|error| Exit::Failed(Failure::Memory(
+        error,
+    )))
 }
 
 /// Prints the fault of the texts of two files, with status 1, or their warnings.
