@@ -71,6 +71,7 @@ permission service.IsetFlg = Handlers
 permission service.IpsndDtq = Handlers
 permission service.IfsndDtq = Handlers
 permission service.IrotRdq = Handlers
+permission service.MrotRdq = Tasks
 
 -- whether a number names task me, which calls: 0 (TSK_SELF), or its own
 abbrev pub is_caller : ℕ → ℤ → Bool

@@ -72,6 +72,7 @@ service_number service.IsetFlg = 55
 service_number service.IpsndDtq = 56
 service_number service.IfsndDtq = 57
 service_number service.IrotRdq = 58
+service_number service.MrotRdq = 59
 
 -- the name that the texts and the trace use
 abbrev pub service_name : Service → List ℕ
@@ -133,6 +134,7 @@ service_name service.IsetFlg = codes "iset_flg"
 service_name service.IpsndDtq = codes "ipsnd_dtq"
 service_name service.IfsndDtq = codes "ifsnd_dtq"
 service_name service.IrotRdq = codes "irot_rdq"
+service_name service.MrotRdq = codes "mrot_rdq"
 
 -- what a text writes between the parentheses of a call
 abbrev pub parameters : Service → List Parameter
@@ -194,6 +196,7 @@ parameters service.IsetFlg = Object Flag ∷ Pattern ∷ []
 parameters service.IpsndDtq = Object DataQueue ∷ Number ∷ []
 parameters service.IfsndDtq = Object DataQueue ∷ Number ∷ []
 parameters service.IrotRdq = Priority ∷ []
+parameters service.MrotRdq = Priority ∷ Processor ∷ []
 
 -- whether a parameter is an argument that the kernel is passed
 abbrev pub is_argument : Parameter → Bool
@@ -337,6 +340,7 @@ service_of (call.IsetFlg flag pattern) = service.IsetFlg
 service_of (call.IpsndDtq queue word) = service.IpsndDtq
 service_of (call.IfsndDtq queue word) = service.IfsndDtq
 service_of (call.IrotRdq priority) = service.IrotRdq
+service_of (call.MrotRdq priority processor) = service.MrotRdq
 
 -- the arguments of a call, in order
 abbrev pub arguments_of : Call → List ℤ
@@ -398,6 +402,7 @@ arguments_of (call.IsetFlg flag pattern) = flag ∷ pattern ∷ []
 arguments_of (call.IpsndDtq queue word) = queue ∷ word ∷ []
 arguments_of (call.IfsndDtq queue word) = queue ∷ word ∷ []
 arguments_of (call.IrotRdq priority) = priority ∷ []
+arguments_of (call.MrotRdq priority processor) = priority ∷ processor ∷ []
 
 -- argument k of a list, 0 if there is none
 abbrev pub argument : List ℤ → ℕ → ℤ
@@ -463,3 +468,4 @@ request service.IsetFlg xs = call.IsetFlg (argument xs 0) (argument xs 1)
 request service.IpsndDtq xs = call.IpsndDtq (argument xs 0) (argument xs 1)
 request service.IfsndDtq xs = call.IfsndDtq (argument xs 0) (argument xs 1)
 request service.IrotRdq xs = call.IrotRdq (argument xs 0)
+request service.MrotRdq xs = call.MrotRdq (argument xs 0) (argument xs 1)

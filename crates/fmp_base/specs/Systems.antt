@@ -15,6 +15,7 @@ use Rattle.fmp_base.specs.declared.systems.SpinLockConfig.{SpinLockConfig}
 use Rattle.fmp_base.specs.declared.systems.CyclicConfig.{CyclicConfig}
 use Rattle.fmp_base.specs.declared.systems.InterruptConfig.{InterruptConfig}
 use Rattle.fmp_base.specs.declared.systems.System as declared
+use Rattle.fmp_base.specs.declared.systems.TheConstants.{QUEUE_LIMIT}
 use Rattle.fmp_base.specs.Names.{name_from}
 
 pub record SystemTables : Type 0 where
@@ -49,12 +50,12 @@ tables_of s =
       interrupts = s.interrupts.items;
     }
 
--- n processors and no object yet; activations and wakeups are queued at most once
+-- n processors and no object yet, with the queue limit of a configuration
 abbrev pub without_objects : ℕ → SystemTables
 without_objects processors =
     record {
       processors = processors;
-      queue_limit = 1;
+      queue_limit = QUEUE_LIMIT;
       tasks = [];
       semaphores = [];
       flags = [];

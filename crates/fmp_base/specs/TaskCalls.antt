@@ -215,5 +215,11 @@ rot_rdq s p x priority =
 abbrev pub irot_rdq : KernelState → ℕ → ℤ → CallOutcome
 irot_rdq s p priority = tested s er.Par (ranged 1 16 priority) (λ n. succeeds_in (rotated s (first_ready s p n)))
 
+-- the queue is that of processor c; priority 0 (TPRI_SELF) is the caller's current one
+abbrev pub mrot_rdq : SystemTables → KernelState → TaskBlock → ℤ → ℤ → CallOutcome
+mrot_rdq sys s x priority c =
+    tested s er.Par (ranged 0 16 priority) (λ n. tested s er.Par (numbered sys.processors c)
+    (λ q. succeeds_in (rotated s (first_ready s q (or_if_zero x.priority n)))))
+
 abbrev pub get_tid : KernelState → ℕ → CallOutcome
 get_tid s me = gives (pos (me + 1)) (unchanged s)

@@ -257,6 +257,11 @@ pub enum Call {
     IrotRdq {
         priority: i32,
     },
+    /// Rotates a ready queue of a processor (FMP kernel, system state management).
+    MrotRdq {
+        priority: i32,
+        processor: i32,
+    },
 }
 
 /// What a caller or a released task is told: a code, and a value where the call gives one.
@@ -345,6 +350,7 @@ impl Call {
             Call::IpsndDtq { .. } => Service::IpsndDtq,
             Call::IfsndDtq { .. } => Service::IfsndDtq,
             Call::IrotRdq { .. } => Service::IrotRdq,
+            Call::MrotRdq { .. } => Service::MrotRdq,
         }
     }
 }

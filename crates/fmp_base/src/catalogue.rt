@@ -162,6 +162,7 @@ impl Service {
             ],
             Service::StaCyc | Service::StpCyc => &[Parameter::Object(ObjectKind::Cyclic)],
             Service::RotRdq | Service::IrotRdq => &[Parameter::Priority],
+            Service::MrotRdq => &[Parameter::Priority, Parameter::Processor],
             Service::GetTid => &[Parameter::Out],
             Service::LocSpn | Service::TrySpn | Service::UnlSpn => &[Parameter::Object(
                 ObjectKind::SpinLock,
@@ -227,7 +228,8 @@ impl Service {
             | Service::TrcvMbx
             | Service::IsetFlg
             | Service::IpsndDtq
-            | Service::IfsndDtq => 2,
+            | Service::IfsndDtq
+            | Service::MrotRdq => 2,
             Service::WaiFlg | Service::PolFlg | Service::TsndDtq => 3,
             Service::TwaiFlg => 4,
         }
@@ -292,6 +294,7 @@ impl Service {
             Service::StaCyc
             | Service::StpCyc
             | Service::RotRdq
+            | Service::MrotRdq
             | Service::GetTid
             | Service::DisDsp
             | Service::EnaDsp

@@ -78,7 +78,7 @@ pub(crate) fn services_from(initial: u8) -> &'static [Service]
             Service::IrotRdq,
         ],
         b'l' => &[Service::LdShr, Service::LocCpu, Service::LocSpn],
-        b'm' => &[Service::MactTsk, Service::MigTsk],
+        b'm' => &[Service::MactTsk, Service::MigTsk, Service::MrotRdq],
         b'p' => &[
             Service::Put,
             Service::PolSem,

@@ -43,6 +43,6 @@ pub use states::{
 pub use stop::Stop;
 pub use systems::{
     CyclicConfig, DataQueueConfig, Entry, FlagConfig, InterruptConfig, MailboxConfig,
-    MessageConfig, QueueOrder, SemaphoreConfig, SharedWordConfig, SpinLockConfig, System,
-    TaskConfig,
+    MessageConfig, QUEUE_LIMIT, QueueOrder, SemaphoreConfig, SharedWordConfig, SpinLockConfig,
+    System, TaskConfig,
 };

@@ -124,10 +124,12 @@ pub enum Service {
     IfsndDtq,
     /// `irot_rdq`.
     IrotRdq,
+    /// `mrot_rdq`.
+    MrotRdq,
 }
 
 /// The service calls, in order of their function codes.
-pub const SERVICES: [Service; 58] = [
+pub const SERVICES: [Service; 59] = [
     Service::Put,
     Service::LdShr,
     Service::StShr,
@@ -186,10 +188,11 @@ pub const SERVICES: [Service; 58] = [
     Service::IpsndDtq,
     Service::IfsndDtq,
     Service::IrotRdq,
+    Service::MrotRdq,
 ];
 
 impl Service {
-    /// The function code, 1 to 58.
+    /// The function code, 1 to 59.
     pub fn number(self) -> u8
         ensures { result ≡ service_number self }
     {
@@ -252,6 +255,7 @@ impl Service {
             Service::IpsndDtq => 56,
             Service::IfsndDtq => 57,
             Service::IrotRdq => 58,
+            Service::MrotRdq => 59,
         }
     }
 
@@ -318,6 +322,7 @@ impl Service {
             Service::IpsndDtq => "ipsnd_dtq",
             Service::IfsndDtq => "ifsnd_dtq",
             Service::IrotRdq => "irot_rdq",
+            Service::MrotRdq => "mrot_rdq",
         }
     }
 }

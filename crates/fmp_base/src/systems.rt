@@ -151,12 +151,15 @@ pub struct InterruptConfig {
     pub processor: u8,
 }
 
+/// How many activations, and how many wakeups, of a task can be queued in a system that is read from its configuration.
+pub const QUEUE_LIMIT: u8 = 255;
+
 /// All tables of an accepted configuration. Each table is in order of number, the interrupts in order of text.
 #[derive(Debug, Drop)]
 pub struct System {
     /// How many processors there are, 1 to 8.
     pub processors: u8,
-    /// The greatest count of queued activations and of queued wakeups of a task.
+    /// How many activations, and how many wakeups, of a task can be queued, 1 to 255.
     pub queue_limit: u8,
     /// The tasks: at most 255, as of each kind below.
     pub tasks: Vec<TaskConfig>,
@@ -181,13 +184,13 @@ pub struct System {
 }
 
 impl System {
-    /// A system of this many processors, 1 to 8, without objects. Activations and wakeups are queued once at most.
+    /// A system of this many processors, 1 to 8, without objects, with the queue limit of a configuration.
     pub fn empty(alloc: Global, processors: u8) -> System
         ensures { tables_of result ≡ without_objects processors }
     {
         System {
             processors,
-            queue_limit: 1,
+            queue_limit: QUEUE_LIMIT,
             tasks: Vec::new(alloc),
             semaphores: Vec::new(alloc),
             flags: Vec::new(alloc),
