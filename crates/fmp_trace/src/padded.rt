@@ -71,6 +71,7 @@ pub fn opening(service: Service) -> &'static [u8; 16]
         Service::IpsndDtq => b" ipsnd_dtq(    \x0b",
         Service::IfsndDtq => b" ifsnd_dtq(    \x0b",
         Service::IrotRdq => b" irot_rdq(     \x0a",
+        Service::MrotRdq => b" mrot_rdq(     \x0a",
     }
 }
 

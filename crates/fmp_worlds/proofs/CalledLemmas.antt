@@ -19,7 +19,7 @@ use Rattle.fmp_worlds.proofs.ObjectCallLemmas.{keeps-sig_sem, keeps-wai_sem, kee
 use Rattle.fmp_worlds.proofs.Outcomes.{Keeps, keeps-refused, keeps-succeeds_in, keeps-within, keeps-refused_if}
 use Rattle.fmp_worlds.proofs.ProcessorCallLemmas.{keeps-sta_cyc, keeps-stp_cyc, keeps-loc_cpu, keeps-unl_cpu, keeps-dispatch_set, keeps-loc_spn, keeps-try_spn, keeps-unl_spn}
 use Rattle.fmp_worlds.proofs.QueueCallLemmas.{keeps-snd_dtq, keeps-tsnd_dtq, keeps-fsnd_dtq, keeps-rcv_dtq, keeps-trcv_dtq, keeps-snd_mbx, keeps-rcv_mbx, keeps-trcv_mbx}
-use Rattle.fmp_worlds.proofs.TaskCallLemmas.{keeps-act_tsk, keeps-iact_tsk, keeps-can_act, keeps-chg_pri, keeps-get_pri, keeps-mact_tsk, keeps-slp_tsk, keeps-tslp_tsk, keeps-wup_tsk, keeps-iwup_tsk, keeps-can_wup, keeps-rel_wai, keeps-sus_tsk, keeps-rsm_tsk, keeps-dly_tsk, keeps-rot_rdq, keeps-irot_rdq, keeps-get_tid}
+use Rattle.fmp_worlds.proofs.TaskCallLemmas.{keeps-act_tsk, keeps-iact_tsk, keeps-can_act, keeps-chg_pri, keeps-get_pri, keeps-mact_tsk, keeps-slp_tsk, keeps-tslp_tsk, keeps-wup_tsk, keeps-iwup_tsk, keeps-can_wup, keeps-rel_wai, keeps-sus_tsk, keeps-rsm_tsk, keeps-dly_tsk, keeps-rot_rdq, keeps-irot_rdq, keeps-mrot_rdq, keeps-get_tid}
 
 -- a task that may make a call on itself that takes it off its processor can be taken off
 may_leave : (s : KernelState) (p me : ℕ) (t c : ℤ)
@@ -84,6 +84,7 @@ by_task sys s p me call.EnaDsp h = keeps-dispatch_set sys s p false
 by_task sys s p me (call.LocSpn lock) h = keeps-loc_spn sys s p lock
 by_task sys s p me (call.TrySpn lock) h = keeps-try_spn sys s p lock
 by_task sys s p me (call.UnlSpn lock) h = keeps-unl_spn sys s p lock
+by_task sys s p me (call.MrotRdq priority processor) h = keeps-mrot_rdq sys s (task_at s.tasks me) priority processor
 by_task sys s p me c h = cc
 
 -- a call for handlers

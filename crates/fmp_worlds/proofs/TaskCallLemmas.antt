@@ -7,7 +7,7 @@ use Rattle.fmp_base.specs.declared.states.TaskBlock.{TaskBlock}
 use Rattle.fmp_base.specs.declared.states.TimeLimit.{TimeLimit}
 use Rattle.fmp_base.specs.declared.states.WaitCause.{WaitCause}
 use Rattle.fmp_base.specs.declared.states.WaitCause.TheVariants as cause
-use Rattle.fmp_base.specs.Outcomes.{code, limit_of, ranged}
+use Rattle.fmp_base.specs.Outcomes.{code, limit_of, numbered, ranged}
 use Rattle.fmp_base.specs.Queues.{first_ready}
 use Rattle.fmp_base.specs.States.{KernelState, unchanged, task_at}
 use Rattle.fmp_base.specs.Systems.{SystemTables}
@@ -184,6 +184,11 @@ module _ {K : Type 0} {own : ℕ} {who : Option ℕ} (sys : SystemTables) (s : K
   pub keeps-irot_rdq : (p : ℕ) (priority : ℤ) → Keeps K own who sys s (calls.irot_rdq s p priority)
   keeps-irot_rdq p priority =
       keeps-tested sys s er.Par (ranged 1 16 priority) _ (λ n. keeps-succeeds_in sys s _ (λ a. holds-rotated s (first_ready s p n) a) (actors-rotated s (first_ready s p n)) (rotated-still s (first_ready s p n)))
+
+  pub keeps-mrot_rdq : (x : TaskBlock) (priority c : ℤ) → Keeps K own who sys s (calls.mrot_rdq sys s x priority c)
+  keeps-mrot_rdq x priority c =
+      keeps-tested sys s er.Par (ranged 0 16 priority) _ (λ n. keeps-tested sys s er.Par (numbered sys.processors c) _
+      (λ q. keeps-succeeds_in sys s _ (λ a. holds-rotated s (first_ready s q (or_if_zero x.priority n)) a) (actors-rotated s (first_ready s q (or_if_zero x.priority n))) (rotated-still s (first_ready s q (or_if_zero x.priority n)))))
 
   pub keeps-get_tid : (me : ℕ) → Keeps K own who sys s (calls.get_tid s me)
   keeps-get_tid me = keeps-gives sys s _ _ (λ a. a) (λ q. refl) tt (still (λ t r. r))
