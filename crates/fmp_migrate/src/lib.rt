@@ -18,7 +18,7 @@ pub mod termination;
 pub use activation::{act_tsk, can_act, iact_tsk};
 pub use migration::{mact_tsk, mig_tsk};
 pub use priority::{chg_pri, get_pri};
-pub use rotation::{get_tid, irot_rdq, rot_rdq};
+pub use rotation::{get_tid, irot_rdq, mrot_rdq, rot_rdq};
 pub use sleep::{can_wup, dly_tsk, iwup_tsk, rel_wai, slp_tsk, tslp_tsk, wup_tsk};
 pub use suspension::{rsm_tsk, sus_tsk};
 pub use termination::{end_itself, ext_tsk, ter_tsk};

@@ -6,7 +6,7 @@ ghost use Rattle.fmp_base.specs.TaskCalls as calls;
 ghost use Rattle.fmp_tasks.specs.Tables.{outcome, SameShape};
 
 use crate::targets::or_if_zero;
-use fmp_base::arguments::ranged;
+use fmp_base::arguments::{numbered, ranged};
 use fmp_base::{Answer, Er};
 use fmp_tasks::Tables;
 use fmp_tasks::answers::{gives, replied};
@@ -38,6 +38,26 @@ pub fn rot_rdq(tables: &mut Tables, p: u8, me: u8, priority: i32) -> Answer
     };
     let own = tables.task(me).priority;
     rotate(tables, p, or_if_zero(own, n as u8));
+    replied(Er::Ok)
+}
+
+/// `mrot_rdq`: of the processor of a number, the first ready task of a priority, from 1 to 16, or the caller's current
+/// one at 0 (TPRI_SELF), goes to the end. E_PAR at another priority, or if no processor has the number; then nothing
+/// changes (FMP kernel, system state management).
+pub fn mrot_rdq(tables: &mut Tables, me: u8, priority: i32, processor: i32) -> Answer
+    requires caller { me < length tables.old.system.tasks }
+    ensures outcome { outcome result tables.new []
+        ≡ calls.mrot_rdq tables.old.system tables.old.state (task_at tables.old.state.tasks me) priority processor }
+    ensures shape { SameShape tables.old tables.new }
+{
+    let Some(n) = ranged(0, 16, priority) else {
+        return replied(Er::Par);
+    };
+    let Some(c) = numbered(tables.processor_count(), processor) else {
+        return replied(Er::Par);
+    };
+    let own = tables.task(me).priority;
+    rotate(tables, c, or_if_zero(own, n as u8));
     replied(Er::Ok)
 }
 
