@@ -63,6 +63,7 @@ group_of service.IsetFlg = group.Handlers
 group_of service.IpsndDtq = group.Handlers
 group_of service.IfsndDtq = group.Handlers
 group_of service.IrotRdq = group.Handlers
+group_of service.MrotRdq = group.Management
 
 -- the groups from which a handler may call
 abbrev pub IsForHandlers : ServiceGroup → Type 0

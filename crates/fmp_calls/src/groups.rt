@@ -39,6 +39,7 @@ pub fn group(service: Service) -> ServiceGroup
         | Service::MactTsk
         | Service::MigTsk
         | Service::RotRdq
+        | Service::MrotRdq
         | Service::GetTid => ServiceGroup::Management,
         Service::SlpTsk
         | Service::TslpTsk

@@ -10,7 +10,8 @@ ghost use Rattle.fmp_tasks.specs.Tables.{outcome, SameShape};
 use crate::groups::ServiceGroup;
 use fmp_base::{Answer, Call, Line};
 use fmp_migrate::{
-    act_tsk, can_act, chg_pri, ext_tsk, get_pri, get_tid, mact_tsk, mig_tsk, rot_rdq, ter_tsk,
+    act_tsk, can_act, chg_pri, ext_tsk, get_pri, get_tid, mact_tsk, mig_tsk, mrot_rdq, rot_rdq,
+    ter_tsk,
 };
 use fmp_tasks::Tables;
 
@@ -42,6 +43,10 @@ pub fn management_call(
         Call::MactTsk { task, processor } => mact_tsk(tables, lines, me, task, processor),
         Call::MigTsk { task, processor } => mig_tsk(tables, p, me, task, processor),
         Call::RotRdq { priority } => rot_rdq(tables, p, me, priority),
+        Call::MrotRdq {
+            priority,
+            processor,
+        } => mrot_rdq(tables, me, priority, processor),
         Call::GetTid => get_tid(me),
         _ => unreachable!(),
     }
