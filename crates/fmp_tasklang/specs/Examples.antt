@@ -11,6 +11,7 @@ use Rattle.fmp_base.specs.declared.operators.UnaryOperator.TheVariants.{Negate}
 use Rattle.fmp_base.specs.declared.operators.BinaryOperator.TheVariants.{Add, Divide, Remainder, Equal, Less}
 use Rattle.fmp_base.specs.declared.systems.SharedWordConfig.{SharedWordConfig}
 use Rattle.fmp_base.specs.declared.systems.QueueOrder.TheVariants.{Fifo}
+use Rattle.fmp_base.specs.declared.systems.TheConstants.{QUEUE_LIMIT}
 use Rattle.fmp_base.specs.Names.{name_from}
 use Rattle.fmp_base.specs.Operators.{Value}
 use Rattle.fmp_base.specs.Systems.{SystemTables}
@@ -35,7 +36,7 @@ abbrev pub tables : SystemTables
 tables =
     record {
       processors = 1;
-      queue_limit = 1;
+      queue_limit = QUEUE_LIMIT;
       tasks = [];
       semaphores = record { name = name_from (codes "i"); order = Fifo; initial = 0; most = 1 } ∷ [];
       flags = [];

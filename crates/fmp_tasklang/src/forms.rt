@@ -99,7 +99,8 @@ pub fn parts_of(service: Service) -> &'static [Part]
         | Service::SndMbx
         | Service::IsetFlg
         | Service::IpsndDtq
-        | Service::IfsndDtq => &TWO_VALUES,
+        | Service::IfsndDtq
+        | Service::MrotRdq => &TWO_VALUES,
         Service::Put
         | Service::ActTsk
         | Service::CanAct

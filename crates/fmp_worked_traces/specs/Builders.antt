@@ -9,6 +9,7 @@ use Rattle.fmp_base.specs.declared.systems.Entry.TheVariants as entry
 use Rattle.fmp_base.specs.declared.systems.SharedWordConfig.{SharedWordConfig}
 use Rattle.fmp_base.specs.declared.systems.SpinLockConfig.{SpinLockConfig}
 use Rattle.fmp_base.specs.declared.systems.TaskConfig.{TaskConfig}
+use Rattle.fmp_base.specs.declared.systems.TheConstants.{QUEUE_LIMIT}
 use Rattle.fmp_base.specs.Names.{name_from}
 use Rattle.fmp_base.specs.Runs.{Trace, run}
 use Rattle.fmp_base.specs.Setups.{setup}
@@ -69,7 +70,7 @@ abbrev pub system : ℕ → List TaskConfig → SystemTables
 system processors tasks =
     record {
       processors = processors;
-      queue_limit = 1;
+      queue_limit = QUEUE_LIMIT;
       tasks = tasks;
       semaphores = [];
       flags = [];
@@ -81,6 +82,10 @@ system processors tasks =
       cyclics = [];
       interrupts = [];
     }
+
+-- the same system in an image of an older version: one activation, and one wakeup, of a task can be queued
+abbrev pub in_older_image : SystemTables → SystemTables
+in_older_image sys = record sys { queue_limit = 1 }
 
 -- two processors, and on each a task of priority 10, whose bodies are the first and the second
 abbrev pub one_on_each : (first second : String) → SystemTables

@@ -9,5 +9,7 @@ pub mod Locks
 pub mod Mailboxes
 pub mod ManyDelays
 pub mod Processors
+pub mod Queued
+pub mod Rotations
 pub mod Semaphores
 pub mod Tasks

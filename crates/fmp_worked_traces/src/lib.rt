@@ -12,6 +12,8 @@ ghost use Rattle.fmp_worked_traces.specs.Locks.{SpinningDoesNothing, FaultFreesS
 ghost use Rattle.fmp_worked_traces.specs.Mailboxes.{UrgentMessageFirst};
 ghost use Rattle.fmp_worked_traces.specs.ManyDelays.{AllDelaysEndAtOnce};
 ghost use Rattle.fmp_worked_traces.specs.Processors.{MigrationRefused, ActivationOnOtherProcessor, EndlessLoopIsNothing, SuspendedTaskRunsOn};
+ghost use Rattle.fmp_worked_traces.specs.Queued.{LastStoredProcessor, ActivationsUpToTheLimit, WakeupsUpToTheLimit, OneActivationInOlderImage};
+ghost use Rattle.fmp_worked_traces.specs.Rotations.{RotationOnOtherProcessor, RotationAtOwnPriority};
 ghost use Rattle.fmp_worked_traces.specs.Semaphores.{SemaphoreByPriority, PriorityChangeGoesLast};
 ghost use Rattle.fmp_worked_traces.specs.Tasks.{TaskRunsAndEnds, SmallBoundIsEnough, EmptySystemPrintsNothing, SleepIsReleasedByForce};
 
@@ -83,6 +85,36 @@ pub fn migration_refused()
 /// A queued activation of `mact_tsk` starts the task on the processor that was named.
 pub fn activation_on_other_processor()
     ensures { ActivationOnOtherProcessor }
+{}
+
+/// Each queued `mact_tsk` replaces the stored processor; the next start takes it, and the one after stays there.
+pub fn last_stored_processor()
+    ensures { LastStoredProcessor }
+{}
+
+/// 255 activations of a task can be queued, and no more.
+pub fn activations_up_to_the_limit()
+    ensures { ActivationsUpToTheLimit }
+{}
+
+/// 255 wakeups of a task can be queued, and no more.
+pub fn wakeups_up_to_the_limit()
+    ensures { WakeupsUpToTheLimit }
+{}
+
+/// In an image of an older version one activation can be queued.
+pub fn one_activation_in_older_image()
+    ensures { OneActivationInOlderImage }
+{}
+
+/// `mrot_rdq` rotates a ready queue of another processor, which dispatches.
+pub fn rotation_on_other_processor()
+    ensures { RotationOnOtherProcessor }
+{}
+
+/// `mrot_rdq` of priority 0 (TPRI_SELF) rotates the queue of the caller's current priority.
+pub fn rotation_at_own_priority()
+    ensures { RotationAtOwnPriority }
 {}
 
 /// A stretch that reaches its bound does nothing, and leaves the other processor alone.
