@@ -73,6 +73,7 @@ iset_flg | flag bits | E_OK E_ID E_PAR | handlers: flag bits
 ipsnd_dtq | queue value | E_OK E_ID E_TMOUT | handlers: data_queue word
 ifsnd_dtq | queue value | E_OK E_ID E_ILUSE | handlers: data_queue word
 irot_rdq | priority | E_OK E_PAR | handlers: priority
+mrot_rdq | priority processor | E_OK E_PAR | migration: priority processor
 """
 
 
