@@ -9,6 +9,7 @@ use Rattle.fmp_base.specs.Names.{name_text}
 use Rattle.fmp_base.specs.Ranges.{Lies, IsTable, IsInRange, TaskInRange, SemaphoreInRange, FlagInRange, DataQueueInRange, MailboxInRange, MessageInRange, CyclicInRange, InterruptInRange}
 use Rattle.fmp_base.specs.declared.codes.Er.TheVariants as er
 use Rattle.fmp_base.specs.declared.names.Name.{Name}
+use Rattle.fmp_base.specs.declared.systems.TheConstants.{QUEUE_LIMIT}
 use Rattle.fmp_lex.specs.declared.fault.FaultKind.{FaultKind}
 use Rattle.fmp_lex.specs.declared.fault.FaultKind.TheVariants as fault
 use Rattle.fmp_base.specs.declared.words.Api.{Api}
@@ -27,7 +28,7 @@ use Rattle.fmp_cfgparse.proofs.OneMore.{held_lies, all_more, name_more, listed_n
 record IsMaking (processors : ℕ) (g : Making) : Type 0 where
   count : g.tables.processors ≡ processors
   ranges : IsInRange g.tables
-  queue_limit : g.tables.queue_limit ≡ 1
+  queue_limit : g.tables.queue_limit ≡ QUEUE_LIMIT
   tasks : AllByRecursion TaskConfigured g.tables.tasks
   shared_words : AllByRecursion SharedWordConfigured g.tables.shared_words
   cyclics : AllByRecursion CyclicConfigured g.tables.cyclics

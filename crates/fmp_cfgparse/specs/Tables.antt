@@ -16,6 +16,7 @@ use Rattle.fmp_base.specs.declared.systems.SharedWordConfig.{SharedWordConfig}
 use Rattle.fmp_base.specs.declared.systems.SpinLockConfig.{SpinLockConfig}
 use Rattle.fmp_base.specs.declared.systems.CyclicConfig.{CyclicConfig}
 use Rattle.fmp_base.specs.declared.systems.InterruptConfig.{InterruptConfig}
+use Rattle.fmp_base.specs.declared.systems.TheConstants.{QUEUE_LIMIT}
 use Rattle.fmp_base.specs.Names.{name_text, name_from}
 use Rattle.fmp_base.specs.Ranges.{IsInRange}
 use Rattle.fmp_base.specs.Systems.{SystemTables}
@@ -96,11 +97,11 @@ interrupt_number i = i.number
 abbrev pub same_name : Name → Name → Bool
 same_name a b = bytes_eq (name_text a) (name_text b)
 
--- The rules of a configuration: its tables are in range, each queue of activations and of wakeups of a task holds one,
--- and no name and no interrupt number stands twice.
+-- The rules of a configuration: its tables are in range, its queue limit is that of every configuration, and no name and
+-- no interrupt number stands twice.
 pub record IsConfiguration (t : SystemTables) : Type 0 where
   pub ranges : IsInRange t
-  pub queue_limit : t.queue_limit ≡ 1
+  pub queue_limit : t.queue_limit ≡ QUEUE_LIMIT
   pub names : AllByRecursion IsObjectName (object_names t)
   pub distinct : IsDistinct same_name (object_names t)
   pub tasks : AllByRecursion TaskConfigured t.tasks
