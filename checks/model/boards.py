@@ -102,7 +102,7 @@ def host(trial, shared):
 def host_one(trial, generator, seed):
     """Hosts one random system: what was counted."""
     case = generator.case()
-    trial.build(case.configuration, case.source)
+    trial.build_case(case)
     told, journal, printed = host(trial, plan(generator.random, seed))
     expect_same("the simulation of the journal beside the model", printed, replayed(case, journal).text())
     return told

@@ -58,7 +58,7 @@ def compare(trial):
     for _, generator in trial.systems():
         case = generator.case()
         kernel, steps = run_model(generator, case)
-        trial.build(case.configuration, case.source)
+        trial.build_case(case)
         trial.write("system.steps", "".join(f"{step}\n" for step in steps))
         expect_same("the trace beside that of the model", trial.simulated("system.steps"), kernel.text())
         events += kernel.world.event

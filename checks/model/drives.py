@@ -46,7 +46,7 @@ def check(trial):
     count = 0
     for seed, generator in trial.systems():
         case = generator.case()
-        trial.build(case.configuration, case.source)
+        trial.build_case(case)
         for order in ("", f"--seed {seed}"):
             drive(trial, order, case.system.processor_count)
             count += 1

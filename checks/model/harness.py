@@ -11,7 +11,7 @@ from pathlib import Path
 
 from common.program import located
 from model.kernel import Kernel
-from model.systems import Generator
+from model.systems import NEWEST, Generator
 
 BOUND = 10_000  # enough for every stretch of a random body that comes to a call
 SECONDS = 60  # what a run may take
@@ -94,6 +94,14 @@ class Trial:
         self.write("system.cfg", configuration)
         self.write("system.src", source)
         self.run("fmp", "build system.cfg system.src system.img")
+
+    def build_case(self, case):
+        """Makes the image `system.img` of a random system. One of the older version differs only in its number."""
+        self.build(case.configuration, case.source)
+        if case.version != NEWEST:
+            path = self.folder / "system.img"
+            image = path.read_bytes()
+            path.write_bytes(image[:4] + bytes([case.version]) + image[5:])
 
     def build_endless(self):
         """Makes the image `system.img` of a task on each of eight processors that calls without end."""

@@ -43,7 +43,7 @@ def host_one(trial, generator):
     """Hosts one random system: the events of its journal."""
     case = generator.case()
     turns, ticks = generator.random.randint(1, 60), generator.random.randint(0, 30)
-    trial.build(case.configuration, case.source)
+    trial.build_case(case)
     printed, _ = trial.run("fmp", f"host system.img system.journal --turns {turns} --ticks {ticks} --bound {BOUND}")
     again = trial.simulated("system.journal")
     expect_same("the trace of the host beside the simulation of its journal", printed, again)

@@ -11,7 +11,6 @@ from model.world import (
 )
 
 FOREVER, POLL = -1, 0
-ACTIVATION_LIMIT = WAKEUP_LIMIT = 1
 OWN_TASK = 0
 WAITS, ENDS = "wait", "end"
 
@@ -135,7 +134,7 @@ class Services:
         if task.state is State.DORMANT:
             self.world.start(task)
         else:
-            need(task.activations < ACTIVATION_LIMIT, Code.E_QOVR)
+            need(task.activations < self.system.queue_limit, Code.E_QOVR)
             task.activations += 1
 
     def act_tsk(self, number):
@@ -210,7 +209,7 @@ class Services:
         if task.wait and task.wait.queue is self.world.sleepers:
             self.release(task)
         else:
-            need(task.wakeups < WAKEUP_LIMIT, Code.E_QOVR)
+            need(task.wakeups < self.system.queue_limit, Code.E_QOVR)
             task.wakeups += 1
 
     def wup_tsk(self, number):
@@ -376,18 +375,25 @@ class Services:
 
     # The processor
 
-    def rotate(self, priority):
-        ready = [task for task in self.world.ready(self.processor.number) if task.priority == priority]
+    def rotate(self, processor, priority):
+        ready = [task for task in self.world.ready(processor) if task.priority == priority]
         if ready:
             self.world.to_end(ready[0])
 
     def rot_rdq(self, priority):
         need(0 <= priority <= LEAST_URGENT, Code.E_PAR)
-        self.rotate(priority or self.caller.priority)
+        self.rotate(self.processor.number, priority or self.caller.priority)
 
     def irot_rdq(self, priority):
         need(1 <= priority <= LEAST_URGENT, Code.E_PAR)
-        self.rotate(priority)
+        self.rotate(self.processor.number, priority)
+
+    def mrot_rdq(self, priority, processor):
+        need(0 <= priority <= LEAST_URGENT, Code.E_PAR)
+        need(1 <= processor <= len(self.world.processors), Code.E_PAR)
+        own = processor == self.processor.number
+        self.world.situations["a ready queue of another processor is rotated"] += not own
+        self.rotate(processor, priority or self.caller.priority)
 
     def get_tid(self):
         return self.caller.number

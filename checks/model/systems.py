@@ -6,20 +6,29 @@ from dataclasses import dataclass
 from common.services import SERVICES
 from model.bodies import ARRAY_PLACES, LOCALS, Assignment, Body, Call, Element, Endless, Return, Statement, Store
 from model.world import (
-    GREATEST_TIME, CyclicHandler, DataQueue, EventFlag, InterruptHandler, Mailbox, Semaphore, System, Task, WaitQueue,
+    GREATEST_TIME, Code, CyclicHandler, DataQueue, EventFlag, InterruptHandler, Mailbox, Semaphore, System, Task,
+    WaitQueue,
 )
 
+# The versions of images: how many activations, and how many wakeups, of a task can be queued, and what the older lacks.
+OLDER, NEWEST = 2, 3
+QUEUE_LIMITS = {OLDER: 1, NEWEST: 255}
+NEWER_CALLS = ("mrot_rdq",)
 
-def calls_by_group():
+
+def calls_by_group(services):
     """The calls of random bodies: a service and the kinds of its arguments. What stands twice is twice as likely."""
     groups = {}
-    for service in SERVICES:
+    for service in services:
         for group, tries in service.tries.items():
             groups.setdefault(group, []).extend(" ".join([service.name, *kinds]) for kinds in tries)
     return groups
 
 
-GROUPS = calls_by_group()
+GROUPS = {
+    OLDER: calls_by_group([service for service in SERVICES if service.name not in NEWER_CALLS]),
+    NEWEST: calls_by_group(SERVICES),
+}
 
 WAITING = ("waits", "semaphores", "flags", "data queues", "mailboxes")
 FOR_TASKS = ("tasks", "migration", "processors", *WAITING)
@@ -30,6 +39,12 @@ RELEASES = {
     "flags": ("iset_flg flag bits",), "data queues": ("ipsnd_dtq data_queue word", "ifsnd_dtq data_queue word"),
     "mailboxes": ("irel_wai other",),
 }
+
+# The calls that some bodies make again and again until no more can be queued, and what they may call then, by whether
+# they are handlers; and how many more events such a system is given.
+FILLING = {False: ("act_tsk", "mact_tsk", "wup_tsk"), True: ("iact_tsk", "iwup_tsk")}
+FILLED = {False: ("can_act", "can_wup", "ter_tsk"), True: ("irel_wai",)}
+FILLING_EVENTS = 330
 
 # Kinds of arguments with a fixed choice.
 CHOICES = {
@@ -51,6 +66,7 @@ class Case:
     configuration: str
     source: str
     event_count: int
+    version: int  # of the image
 
 
 class Generator:
@@ -58,6 +74,9 @@ class Generator:
 
     def __init__(self, seed):
         self.random = random.Random(seed)
+        self.version = OLDER if self.chance(0.25) else NEWEST
+        self.groups = GROUPS[self.version]
+        self.filling = None  # the place of a body that queues as much as can be
         self.processor_count = self.random.choice((1, 1, 2, 2, 2, 2, 3, 3, 4, 5, 6, 7, 8))
         self.apis = {}  # of a kind of object: its static APIs, each with its class
         self.counts = {}
@@ -85,9 +104,13 @@ class Generator:
         self.counts = {kind: len(made) for kind, made in objects.items()}
         bodies = [self.body(f"b{number}", False) for number in range(task_bodies)]
         bodies += [self.body(f"h{number}", True) for number in range(handler_bodies)]
-        system = System(self.processor_count, *objects.values(), bodies)
+        system = System(self.processor_count, *objects.values(), bodies, QUEUE_LIMITS[self.version])
         event_count = self.random.randint(60, 180) + 20 * self.processor_count
-        return Case(system, self.configuration(), "".join(map(str, bodies)), event_count)
+        if self.version == NEWEST and self.chance(0.08):
+            self.filling = self.random.randrange(len(bodies))
+            bodies[self.filling] = self.filling_body(bodies[self.filling])
+            event_count += FILLING_EVENTS
+        return Case(system, self.configuration(), "".join(map(str, bodies)), event_count, self.version)
 
     def chance(self, share):
         return self.random.random() < share
@@ -203,6 +226,15 @@ class Generator:
             statements.append(Statement(self.call_of("words")))
         return Body(name, is_handler, repeats, statements)
 
+    def filling_body(self, body):
+        """In place of a body one that queues activations or wakeups of one task, and does something at the limit."""
+        service = self.random.choice(FILLING[body.is_handler])
+        number = 0 if not body.is_handler and self.chance(0.5) else self.random.randint(1, self.counts["task"])
+        arguments = [number, self.any_processor()] if service == "mact_tsk" else [number]
+        at_limit = Return() if self.chance(0.4) else Call(self.random.choice(FILLED[body.is_handler]), [number])
+        statements = [Statement(Call(service, arguments, True)), Statement(at_limit, ("r", int(Code.E_QOVR)))]
+        return Body(body.name, body.is_handler, True, statements)
+
     def task_piece(self):
         """A few statements: mostly one call, else calls that belong together, or something that is no call."""
         shape = self.random.random()
@@ -246,7 +278,7 @@ class Generator:
         return self.random.choice(LOCALS), self.random.choice((0, 0, 1, 2, 3, -43, -50, -25))
 
     def task_call(self):
-        groups = self.favoured if self.chance(0.75) else tuple(GROUPS)
+        groups = self.favoured if self.chance(0.75) else tuple(self.groups)
         return self.call_of(self.random.choice(groups))
 
     def no_call(self):
@@ -323,13 +355,18 @@ class Generator:
     def change_of_order(self):
         """Priorities and the order of tasks change, and changes of one's own are told by a rotation."""
         number = self.task_number()
-        calls = [Call("chg_pri", [number, self.priority()]), Call("rot_rdq", [self.random.choice((0, 0, 5, 10))])]
+        calls = [Call("chg_pri", [number, self.priority()]), self.rotation(self.random.choice((0, 0, 5, 10)))]
         if self.chance(0.3):
             calls.append(Call("get_pri", [number]))
         return [Statement(call) for call in calls]
 
+    def rotation(self, priority):
+        if self.version == NEWEST and self.chance(0.5):
+            return Call("mrot_rdq", [priority, self.processor()])
+        return Call("rot_rdq", [priority])
+
     def call_of(self, group):
-        return self.call(self.random.choice(GROUPS[group]))
+        return self.call(self.random.choice(self.groups[group]))
 
     def call(self, text):
         service, *kinds = text.split()
@@ -388,6 +425,9 @@ class Generator:
 
     def event(self, world):
         """A run, a tick or an interrupt: mostly one that does something in this world."""
+        filling = [p.number for p in world.processors if p.actor and p.actor.body == self.filling]
+        if filling and self.chance(0.9):
+            return f"run {filling[0]}"
         chosen = self.random.random()
         busy = [processor.number for processor in world.processors if processor.actor]
         if chosen < 0.84 and (busy or chosen < 0.1):

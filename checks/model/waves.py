@@ -184,7 +184,7 @@ def dump_one(trial, generator):
     """Compares the dump of one random system: how many events it has."""
     case = generator.case()
     wanted, steps = random_values(generator, case)
-    trial.build(case.configuration, case.source)
+    trial.build_case(case)
     trial.write("system.steps", "".join(f"{step}\n" for step in steps))
     trial.run("fmp_view", f"waves system.img system.steps system.vcd --bound {BOUND}")
     expect_values(dumped_values(trial.read("system.vcd")), wanted)

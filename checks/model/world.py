@@ -192,7 +192,10 @@ class Mailbox:
 
 @dataclass
 class System:
-    """What a configuration and a text of bodies describe. A message is its priority, a spin lock its number."""
+    """What a configuration and a text of bodies describe. A message is its priority, a spin lock its number.
+
+    `queue_limit` is how many activations, and how many wakeups, of a task can be queued.
+    """
 
     processor_count: int
     tasks: list
@@ -206,6 +209,7 @@ class System:
     cyclic_handlers: list
     interrupt_handlers: list
     bodies: list
+    queue_limit: int = 255
 
 
 class World:
@@ -261,6 +265,7 @@ class World:
     def start(self, task):
         if task.stored_processor is not None:
             self.situations["a start takes a stored processor"] += 1
+            self.situations["a start takes a stored processor, and activations stay queued"] += task.activations > 0
             task.processor, task.stored_processor = task.stored_processor, None
         task.state = State.READY
         task.priority = task.initial_priority
