@@ -277,10 +277,117 @@ RUNS = (
 )
 
 
+BEHIND_ANOTHER = apart(task("M", "m"), task("A", "a") + task("B", "a"))
+BEHIND_ANOTHER_SETUP = "0 p1 M starts / 0 p2 A starts / 0 p2 B starts / 0 p1 > M / 0 p2 > A / "
+
+
+def repeated(first, last, line):
+    """The same line at the end of each event from the first to the last."""
+    return "".join(f"{event} {line} / " for event in range(first, last + 1))
+
+
+ROTATIONS = (
+    (
+        "a queue of another processor, and one of none",
+        BEHIND_ANOTHER,
+        "task m { mrot_rdq(10,2); mrot_rdq(10,3); } task a { }",
+        steps("run 1,run 1,run 2"),
+        BEHIND_ANOTHER_SETUP + "1 p1 M mrot_rdq(10,2) E_OK / 1 p2 > B / 2 p1 M mrot_rdq(10,3) E_PAR / 3 p2 B end / "
+        "3 p2 > A / M RUNNING p1 10 / A RUNNING p2 10 / B DORMANT p2 10 / ",
+    ),
+    (
+        "the queue of the caller's priority, which was changed",
+        apart(task("M", "m", 5), task("A", "a") + task("B", "a")),
+        "task m { mrot_rdq(0,2); chg_pri(TSK_SELF,10); mrot_rdq(TPRI_SELF,2); } task a { }",
+        runs(3),
+        BEHIND_ANOTHER_SETUP + "1 p1 M mrot_rdq(0,2) E_OK / 2 p1 M chg_pri(0,10) E_OK / 3 p1 M mrot_rdq(0,2) E_OK / "
+        "3 p2 > B / M RUNNING p1 10 / A READY p2 10 / B RUNNING p2 10 / ",
+    ),
+    (
+        "the queue of the caller",
+        alone(task("M", "m"), task("N", "n")),
+        "task m { mrot_rdq(TPRI_SELF,1); } task n { }",
+        runs(1),
+        "0 p1 M starts / 0 p1 N starts / 0 p1 > M / 1 p1 M mrot_rdq(0,1) E_OK / 1 p1 > N / M READY p1 10 / "
+        "N RUNNING p1 10 / ",
+    ),
+    (
+        "one ready task, then none; each refusal",
+        apart(task("M", "m"), task("A", "a")),
+        "task m { mrot_rdq(10,2); mrot_rdq(10,2); mrot_rdq(17,2); mrot_rdq(-1,2); mrot_rdq(1,0); mrot_rdq(16,3); "
+        "loc_cpu(); mrot_rdq(17,0); unl_cpu(); dis_dsp(); mrot_rdq(10,1); } task a { }",
+        steps("run 1,run 2") + runs(10),
+        "0 p1 M starts / 0 p2 A starts / 0 p1 > M / 0 p2 > A / 1 p1 M mrot_rdq(10,2) E_OK / 2 p2 A end / "
+        "3 p1 M mrot_rdq(10,2) E_OK / 4 p1 M mrot_rdq(17,2) E_PAR / 5 p1 M mrot_rdq(-1,2) E_PAR / "
+        "6 p1 M mrot_rdq(1,0) E_PAR / 7 p1 M mrot_rdq(16,3) E_PAR / 8 p1 M loc_cpu() E_OK / "
+        "9 p1 M mrot_rdq(17,0) E_CTX / 10 p1 M unl_cpu() E_OK / 11 p1 M dis_dsp() E_OK / "
+        "12 p1 M mrot_rdq(10,1) E_OK / M RUNNING p1 10 / A DORMANT p2 10 / ",
+    ),
+    (
+        "a handler that may not",
+        alone("DEF_INH(3,{0,h});"),
+        "handler h { mrot_rdq(17,9); }",
+        steps("int 3,run 1"),
+        "1 int 3 / 1 p1 begin #3 / 2 p1 #3 mrot_rdq(17,9) E_CTX / ",
+    ),
+)
+
+SELF = alone(task("T", "t"))
+SELF_SETUP = "0 p1 T starts / 0 p1 > T / "
+ELSEWHERE = apart(task("T", "t"), "")
+
+# As many activations and wakeups of a task as can be queued.
+QUEUES = (
+    (
+        "activations",
+        SELF,
+        "task t { while (1) { act_tsk(TSK_SELF); } }",
+        runs(256),
+        SELF_SETUP + repeated(1, 255, "p1 T act_tsk(0) E_OK") + "256 p1 T act_tsk(0) E_QOVR / T RUNNING p1 10 / ",
+    ),
+    (
+        "wakeups, which are taken one by one",
+        SELF,
+        "task t { var i; while (i < 256) { wup_tsk(TSK_SELF); i = i + 1; } while (1) { slp_tsk(); } }",
+        runs(512),
+        SELF_SETUP + repeated(1, 255, "p1 T wup_tsk(0) E_OK") + "256 p1 T wup_tsk(0) E_QOVR / "
+        + repeated(257, 511, "p1 T slp_tsk() E_OK") + "512 p1 T slp_tsk() wait / 512 p1 > - / T WAITING p1 10 / ",
+    ),
+    (
+        "the processor that was stored last; the start after it stays there",
+        apart(task("M", "m"), task("T", "t")),
+        "task m { mact_tsk(T,2); mact_tsk(T,1); } task t { }",
+        steps("run 1,run 1,run 2,run 1,run 1,run 1"),
+        "0 p1 M starts / 0 p2 T starts / 0 p1 > M / 0 p2 > T / 1 p1 M mact_tsk(2,2) E_OK / 2 p1 M mact_tsk(2,1) E_OK / "
+        "3 p2 T end / 3 p1 T starts / 4 p1 M end / 4 p1 > T / 5 p1 T end / 5 p1 T starts / 5 p1 > T / 6 p1 T end / "
+        "M DORMANT p1 10 / T DORMANT p1 10 / ",
+    ),
+    (
+        "activations that are cancelled with the stored processor",
+        ELSEWHERE,
+        "task t { var i; var n; mact_tsk(TSK_SELF,2); while (i < 254) { act_tsk(TSK_SELF); i = i + 1; } "
+        "act_tsk(TSK_SELF); n = can_act(TSK_SELF); put(n); act_tsk(TSK_SELF); }",
+        runs(260),
+        SELF_SETUP + "1 p1 T mact_tsk(0,2) E_OK / " + repeated(2, 255, "p1 T act_tsk(0) E_OK")
+        + "256 p1 T act_tsk(0) E_QOVR / 257 p1 T can_act(0) E_OK 255 / 258 p1 T put(255) E_OK / "
+        "259 p1 T act_tsk(0) E_OK / 260 p1 T end / 260 p1 T starts / 260 p1 > T / T RUNNING p1 10 / ",
+    ),
+    (
+        "an activation that is refused stores no processor",
+        ELSEWHERE,
+        "task t { var i; mact_tsk(TSK_SELF,2); while (i < 254) { act_tsk(TSK_SELF); i = i + 1; } "
+        "mact_tsk(TSK_SELF,1); }",
+        runs(257),
+        SELF_SETUP + "1 p1 T mact_tsk(0,2) E_OK / " + repeated(2, 255, "p1 T act_tsk(0) E_OK")
+        + "256 p1 T mact_tsk(0,1) E_QOVR / 257 p1 T end / 257 p2 T starts / 257 p2 > T / T RUNNING p2 10 / ",
+    ),
+)
+
+
 def all_runs():
     """Each row: two texts, steps, a bound, and what is printed."""
     yield from BOUNDS
-    for _, configuration, source, events, trace in RUNS:
+    for _, configuration, source, events, trace in RUNS + ROTATIONS + QUEUES:
         yield configuration, source, events, DEFAULT_BOUND, trace
 
 
