@@ -39,7 +39,7 @@ module _ (context : RowContext) where
 
 module _ (i : ImageTables) (h : IsImage i) where
   abbrev context : RowContext
-  context = context_of i.system.processors i.heads
+  context = context_of i.version i.system.processors i.heads
 
   there : (body : ℕ) → body < length i.heads → body < length i.code
   there body lt = subst (λ (n : ℕ). body < n) (same_length (IsBody i.version) i.heads i.code h.bodies) lt

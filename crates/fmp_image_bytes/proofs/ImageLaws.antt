@@ -40,14 +40,14 @@ tables_exact = also_exact _ _ task_back (also_exact _ _ semaphore_back (also_exa
 
 layout_exact : Exact layout
 layout_exact =
-    chained_exact header (λ h. chained (bodies h.1.0) (λ b. tables (context_of h.1.1 b.0) [])) header_exact (λ h. chained_exact
-    (bodies h.1.0) (λ b. tables (context_of h.1.1 b.0) []) (bodies_exact h.1.0) (λ b. tables_exact (context_of h.1.1 b.0) []))
+    chained_exact header (λ h. chained (bodies h.1.0) (λ b. tables (context_of h.1.0 h.1.1 b.0) [])) header_exact (λ h. chained_exact
+    (bodies h.1.0) (λ b. tables (context_of h.1.0 h.1.1 b.0) []) (bodies_exact h.1.0) (λ b. tables_exact (context_of h.1.0 h.1.1 b.0) []))
 
 magic_is : (m : List ℕ) → is_magic m ≡ true → m ≡ magic
 magic_is m e = (bytes_eq-Decides m magic).0 e
 
 version_fits : (n : ℕ) → is_version n ≡ true → n < 2 ^ 16
-version_fits n h = let high : n ≤ 2 = leb-true _ _ (and_true _ _ h).1 in omega arith
+version_fits n h = let high : n ≤ 3 = leb-true _ _ (and_true _ _ h).1 in omega arith
 
 processors_fit : (n : ℕ) → in_range 1 8 n ≡ true → n < 256
 processors_fit n h = let high : n ≤ 8 = leb-true _ _ (and_true _ _ h).1 in omega arith
@@ -72,7 +72,7 @@ module _ {F A : Type 0} (form : RowForm F A) (context : RowContext) (taken : Lis
 parts_fit : (i : ImageTables) → IsImage i → layout.fits (parts_of i)
 parts_fit i h =
     let s = i.system in
-    let context = context_of s.processors i.heads in
+    let context = context_of i.version s.processors i.heads in
     let k1 = [] ++ map task_form.key_of s.tasks in
     let k2 = k1 ++ map semaphore_form.key_of s.semaphores in
     let k3 = k2 ++ map flag_form.key_of s.flags in
@@ -122,7 +122,7 @@ image_back i h =
 
 image_fits : (p : Parts) → layout.fits p → IsImage (image_of p) × (parts_of (image_of p) ≡ p)
 image_fits ((m ▹ version ▹ processors) ▹ (heads ▹ code) ▹ tasks ▹ semaphores ▹ flags ▹ data_queues ▹ mailboxes ▹ messages ▹ shared_words ▹ spin_locks ▹ cyclics ▹ interrupts) f =
-    let context = context_of processors heads in
+    let context = context_of version processors heads in
     let k1 = [] ++ map task_form.key_of tasks in
     let k2 = k1 ++ map semaphore_form.key_of semaphores in
     let k3 = k2 ++ map flag_form.key_of flags in

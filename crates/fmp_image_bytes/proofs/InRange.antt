@@ -1,5 +1,5 @@
 -- The system of an image is in range.
-use Rattle.std.proofs.Common.{◌≡◌, ℕ, ◌+◌, ◌<◌, ◌≤◌, true, List, [], ◌∷◌, length, arith}
+use Rattle.std.proofs.Common.{◌≡◌, ℕ, ◌+◌, ◌<◌, ◌≤◌, nat_le, Bool, true, false, if◌then◌else◌, List, [], ◌∷◌, length, arith}
 use Rattle.std.proofs.lemmas.Bool.{leb-true}
 use Rattle.std.specs.List.{AllByRecursion}
 use Rattle.fmp_base.specs.declared.systems.TaskConfig.{TaskConfig}
@@ -13,6 +13,7 @@ use Rattle.fmp_base.specs.declared.systems.InterruptConfig.{InterruptConfig}
 use Rattle.fmp_base.specs.Ranges.{Lies, IsTable, IsInRange, TaskInRange, SemaphoreInRange, FlagInRange, DataQueueInRange, MailboxInRange, MessageInRange, CyclicInRange, InterruptInRange}
 use Rattle.fmp_image_bytes.specs.Images.{ImageTables, KeepRules, IsImage}
 use Rattle.fmp_image_parts.specs.Fields.{in_range}
+use Rattle.fmp_image_parts.specs.Versions.{queue_limit_of}
 use Rattle.fmp_image_rows.specs.Rows.{RowContext, context_of, RowForm, row, task_form, semaphore_form, flag_form, data_queue_form, mailbox_form, message_form, cyclic_form, interrupt_form}
 use Rattle.fmp_image_parts.proofs.Names.{and_true}
 
@@ -83,14 +84,20 @@ all_map f (a ∷ rows) h = (f a h.0, all_map f rows h.1)
 table_in_range : {F A : Type 0} (form : RowForm F A) (context : RowContext) (P : A → Type 0) → ((a : A) → (row form context).fits a → P a) → (rows : List A) → KeepRules form context rows → IsTable P rows
 table_in_range form context P each rows h = record { count = at_most form context rows h; each = all_map each rows h.each }
 
+limit_in_range : (limit version : ℕ) → limit ≡ queue_limit_of version → Lies 1 255 limit
+limit_in_range limit version e = chosen limit (nat_le 3 version) e where
+  chosen : (limit : ℕ) (is_new : Bool) → limit ≡ (if is_new then 255 else 1) → Lies 1 255 limit
+  chosen limit true e = rw e (record { least = omega arith; most = omega arith })
+  chosen limit false e = rw e (record { least = omega arith; most = omega arith })
+
 pub image_in_range : (i : ImageTables) → IsImage i → IsInRange i.system
 image_in_range i h =
     let s = i.system in
     let p = s.processors in
-    let context = context_of p i.heads in
+    let context = context_of i.version p i.heads in
     record {
       processors = lies 1 8 p h.processors;
-      queue_limit = rw h.queue_limit (record { least = omega arith; most = omega arith });
+      queue_limit = limit_in_range s.queue_limit i.version h.queue_limit;
       tasks = table_in_range task_form context (TaskInRange p) (task_in_range context) s.tasks h.tasks;
       semaphores = table_in_range semaphore_form context SemaphoreInRange (semaphore_in_range context) s.semaphores h.semaphores;
       flags = table_in_range flag_form context FlagInRange (flag_in_range context) s.flags h.flags;

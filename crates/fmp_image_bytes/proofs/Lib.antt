@@ -1,3 +1,4 @@
 pub mod Entries
 pub mod ImageLaws
 pub mod InRange
+pub mod OlderImages

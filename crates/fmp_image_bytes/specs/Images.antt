@@ -25,7 +25,7 @@ use Rattle.fmp_image_rows.specs.Rows.{RowContext, context_of, RowForm, row, task
 use Rattle.fmp_image_rows.specs.Tables.{table}
 use Rattle.fmp_image_parts.specs.Bodies.{bodies, IsBody}
 use Rattle.fmp_image_parts.specs.Pairs.{AllPairs}
-use Rattle.fmp_image_parts.specs.Versions.{is_version}
+use Rattle.fmp_image_parts.specs.Versions.{is_version, queue_limit_of}
 
 infixr 4 ◌▹◌
 -- what an image holds, as data without memory: its version, the tables of the system, and of each body what is said of
@@ -80,7 +80,7 @@ Parts = (List ℕ × (ℕ × ℕ)) × ((List BodyHead × List BodyTables) × The
 
 -- an image: the header, the bodies, the tables
 abbrev pub layout : Field Parts
-layout = chained header (λ h. chained (bodies h.1.0) (λ b. tables (context_of h.1.1 b.0) []))
+layout = chained header (λ h. chained (bodies h.1.0) (λ b. tables (context_of h.1.0 h.1.1 b.0) []))
 
 -- a pair, in a chain of parts that stand one behind the other
 pattern abbrev pub ◌▹◌ : {A B : Type 0} → A → B → A × B
@@ -94,14 +94,14 @@ tables_in s =
 abbrev pub parts_of : ImageTables → Parts
 parts_of i = (magic ▹ i.version ▹ i.system.processors) ▹ (i.heads ▹ i.code) ▹ tables_in i.system
 
--- a system of so many processors with these tables: each queue of activations and of wakeups of a task holds one
-abbrev pub system_of : (processors : ℕ) → TheTables → SystemTables
-system_of processors
+-- the system of an image of a version: so many processors and these tables
+abbrev pub system_of : (version processors : ℕ) → TheTables → SystemTables
+system_of version processors
     (tasks ▹ semaphores ▹ flags ▹ data_queues ▹ mailboxes ▹ messages ▹ shared_words ▹ spin_locks ▹ cyclics
     ▹ interrupts) =
     record {
       processors = processors;
-      queue_limit = 1;
+      queue_limit = queue_limit_of version;
       tasks = tasks;
       semaphores = semaphores;
       flags = flags;
@@ -117,7 +117,7 @@ system_of processors
 -- the image of parts
 abbrev pub image_of : Parts → ImageTables
 image_of ((m ▹ version ▹ processors) ▹ (heads ▹ code) ▹ tables) =
-    image_tables version (system_of processors tables) heads code
+    image_tables version (system_of version processors tables) heads code
 
 -- the bytes of an image
 unfoldable pub spelling : ImageTables → List ℕ
@@ -151,19 +151,19 @@ keys_of s =
 pub record IsImage (i : ImageTables) : Type 0 where
   pub version : is_version i.version ≡ true
   pub processors : in_range 1 8 i.system.processors ≡ true
-  pub queue_limit : i.system.queue_limit ≡ 1
+  pub queue_limit : i.system.queue_limit ≡ queue_limit_of i.version
   pub count : length i.code < 256
   pub bodies : AllPairs (IsBody i.version) i.heads i.code
-  pub tasks : KeepRules task_form (context_of i.system.processors i.heads) i.system.tasks
-  pub semaphores : KeepRules semaphore_form (context_of i.system.processors i.heads) i.system.semaphores
-  pub flags : KeepRules flag_form (context_of i.system.processors i.heads) i.system.flags
-  pub data_queues : KeepRules data_queue_form (context_of i.system.processors i.heads) i.system.data_queues
-  pub mailboxes : KeepRules mailbox_form (context_of i.system.processors i.heads) i.system.mailboxes
-  pub messages : KeepRules message_form (context_of i.system.processors i.heads) i.system.messages
-  pub shared_words : KeepRules shared_word_form (context_of i.system.processors i.heads) i.system.shared_words
-  pub spin_locks : KeepRules spin_lock_form (context_of i.system.processors i.heads) i.system.spin_locks
-  pub cyclics : KeepRules cyclic_form (context_of i.system.processors i.heads) i.system.cyclics
-  pub interrupts : KeepRules interrupt_form (context_of i.system.processors i.heads) i.system.interrupts
+  pub tasks : KeepRules task_form (context_of i.version i.system.processors i.heads) i.system.tasks
+  pub semaphores : KeepRules semaphore_form (context_of i.version i.system.processors i.heads) i.system.semaphores
+  pub flags : KeepRules flag_form (context_of i.version i.system.processors i.heads) i.system.flags
+  pub data_queues : KeepRules data_queue_form (context_of i.version i.system.processors i.heads) i.system.data_queues
+  pub mailboxes : KeepRules mailbox_form (context_of i.version i.system.processors i.heads) i.system.mailboxes
+  pub messages : KeepRules message_form (context_of i.version i.system.processors i.heads) i.system.messages
+  pub shared_words : KeepRules shared_word_form (context_of i.version i.system.processors i.heads) i.system.shared_words
+  pub spin_locks : KeepRules spin_lock_form (context_of i.version i.system.processors i.heads) i.system.spin_locks
+  pub cyclics : KeepRules cyclic_form (context_of i.version i.system.processors i.heads) i.system.cyclics
+  pub interrupts : KeepRules interrupt_form (context_of i.version i.system.processors i.heads) i.system.interrupts
   pub once : are_new [] (keys_of i.system) ≡ true
 
 -- bytes spell an image

@@ -1,7 +1,8 @@
-//! Laws of the spelling of images.
+//! Laws of images: their spelling, and what those of older versions mean.
 
-ghost use Rattle.std.specs.Prelude.{◌≡◌, ◌++◌, [], ℕ, List};
+ghost use Rattle.std.specs.Prelude.{◌≡◌, ◌≤◌, ◌++◌, [], ℕ, List};
 ghost use Rattle.fmp_image_bytes.specs.Images.{ImageTables, Spells};
+ghost use Rattle.fmp_image_bytes.specs.OlderImages.{MeansTheSame};
 
 /// A law: no two byte strings spell one image, none spells two images, and none begins another, whatever their
 /// versions.
@@ -9,4 +10,11 @@ pub fn one_spelling()
     ensures text { (i : ImageTables) (a b : List ℕ) → Spells i a → Spells i b → a ≡ b }
     ensures image { (i j : ImageTables) (a : List ℕ) → Spells i a → Spells j a → i ≡ j }
     ensures front { (i j : ImageTables) (a b more : List ℕ) → Spells i a → Spells j b → b ≡ a ++ more → more ≡ [] }
+{}
+
+/// A law: images of versions 1 and 2 keep the meaning that they had. Whatever the bound of a stretch and whatever the
+/// events, such an image has the trace and the states that a kernel gives which queues one activation and one wakeup of
+/// a task and has the first 58 services.
+pub fn older_images_mean_the_same()
+    ensures { (i : ImageTables) (bytes : List ℕ) → Spells i bytes → i.version ≤ 2 → MeansTheSame i }
 {}

@@ -1,18 +1,21 @@
 //! Loading: the image that bytes spell, or their first fault.
 
-ghost use Rattle.std.specs.Prelude.{◌≡◌, [], IfOk, Ok};
+ghost use Rattle.std.specs.Prelude.{◌≡◌, ◌≤◌, [], IfOk, Ok};
 ghost use Rattle.fmp_base.specs.Systems.{tables_of};
 ghost use Rattle.fmp_instructions.specs.Instructions.{code_tables};
 ghost use Rattle.fmp_image_parts.specs.Fields.{Gives};
+ghost use Rattle.fmp_image_parts.specs.Versions as versions;
 ghost use Rattle.fmp_image_rows.specs.Rows.{context_of};
 ghost use Rattle.fmp_image_bytes.specs.Images.{ImageTables, Spells, magic, is_magic, header, tables, tables_in, image_tables, image_at};
+ghost use Rattle.fmp_image_bytes.specs.OlderImages.{MeansTheSame};
 
 use crate::image::Image;
+use crate::laws::older_images_mean_the_same;
 use fmp_base::System;
 use fmp_image_parts::fault::{ImageFault, LoadFault, TABLE};
 use fmp_image_parts::fields::{byte_at, bytes_at, in_range, short_at};
 use fmp_image_parts::keys::TakenKeys;
-use fmp_image_parts::versions::is_version;
+use fmp_image_parts::versions::{is_version, queue_limit_of};
 use fmp_image_parts::{BodyHead, read_bodies};
 use fmp_image_rows::read_table;
 use fmp_instructions::Code;
@@ -43,31 +46,33 @@ fn read_header(bytes: &[u8]) -> Result<((u16, u8), &[u8]), LoadFault>
     Ok(((version, processors), rest))
 }
 
-/// Reads all tables of a system.
+/// Reads all tables of a system. Its queue limit is that of the version.
 fn read_tables<'a>(
     alloc: Global,
+    version: u16,
     processors: u8,
     heads: &[BodyHead],
     bytes: &'a [u8],
 ) -> Result<(System, &'a [u8]), LoadFault>
     ensures read { Gives (λ x. (tables_in (tables_of x.0), x.1.now)) result
-        ((tables (context_of processors heads.now) []).read bytes.now) }
-    ensures numbers { IfOk result (λ x. (x.0.processors ≡ processors) × (x.0.queue_limit ≡ 1)) }
+        ((tables (context_of version processors heads.now) []).read bytes.now) }
+    ensures processors { IfOk result (λ x. x.0.processors ≡ processors) }
+    ensures queue_limit { IfOk result (λ x. x.0.queue_limit ≡ versions.queue_limit_of version) }
 {
     let mut taken = TakenKeys::new(alloc);
-    let (tasks, rest) = read_table(alloc, processors, heads, &mut taken, bytes)?;
-    let (semaphores, rest) = read_table(alloc, processors, heads, &mut taken, rest)?;
-    let (flags, rest) = read_table(alloc, processors, heads, &mut taken, rest)?;
-    let (data_queues, rest) = read_table(alloc, processors, heads, &mut taken, rest)?;
-    let (mailboxes, rest) = read_table(alloc, processors, heads, &mut taken, rest)?;
-    let (messages, rest) = read_table(alloc, processors, heads, &mut taken, rest)?;
-    let (shared_words, rest) = read_table(alloc, processors, heads, &mut taken, rest)?;
-    let (spin_locks, rest) = read_table(alloc, processors, heads, &mut taken, rest)?;
-    let (cyclics, rest) = read_table(alloc, processors, heads, &mut taken, rest)?;
-    let (interrupts, rest) = read_table(alloc, processors, heads, &mut taken, rest)?;
+    let (tasks, rest) = read_table(alloc, version, processors, heads, &mut taken, bytes)?;
+    let (semaphores, rest) = read_table(alloc, version, processors, heads, &mut taken, rest)?;
+    let (flags, rest) = read_table(alloc, version, processors, heads, &mut taken, rest)?;
+    let (data_queues, rest) = read_table(alloc, version, processors, heads, &mut taken, rest)?;
+    let (mailboxes, rest) = read_table(alloc, version, processors, heads, &mut taken, rest)?;
+    let (messages, rest) = read_table(alloc, version, processors, heads, &mut taken, rest)?;
+    let (shared_words, rest) = read_table(alloc, version, processors, heads, &mut taken, rest)?;
+    let (spin_locks, rest) = read_table(alloc, version, processors, heads, &mut taken, rest)?;
+    let (cyclics, rest) = read_table(alloc, version, processors, heads, &mut taken, rest)?;
+    let (interrupts, rest) = read_table(alloc, version, processors, heads, &mut taken, rest)?;
     let system = System {
         processors,
-        queue_limit: 1,
+        queue_limit: queue_limit_of(version),
         tasks,
         semaphores,
         flags,
@@ -89,7 +94,7 @@ fn read_image(alloc: Global, bytes: &[u8]) -> Result<(u16, System, Code, Vec<Bod
 {
     let ((version, processors), rest) = read_header(bytes)?;
     let ((heads, bodies), rest) = read_bodies(alloc, version, rest)?;
-    let (system, rest) = read_tables(alloc, processors, &heads, rest)?;
+    let (system, rest) = read_tables(alloc, version, processors, &heads, rest)?;
     if !rest.is_empty() {
         return Err(LoadFault::Image(ImageFault::Trailing));
     }
@@ -104,9 +109,12 @@ pub fn load(alloc: Global, bytes: &[u8]) -> Result<Image, LoadFault>
     ensures found { IfOk result (λ image. Spells image bytes.now) }
     // What spells an image is loaded, unless memory runs out.
     ensures only { (image : ImageTables) → Spells image bytes.now → Gives (λ x. x) result (Ok image) }
+    // In an image of version 1 or 2 nothing has changed since these were the newest.
+    ensures older { IfOk result (λ image. image.version ≤ 2 → MeansTheSame image) }
     // Which fault it is.
     ensures exact { Gives (λ x. x) result (image_at bytes.now) }
 {
     let (version, system, code, heads) = read_image(alloc, bytes)?;
+    older_images_mean_the_same();
     Ok(Image::new(version, system, code, heads))
 }

@@ -24,7 +24,7 @@ fn put_header(out: &mut Vec<u8>, version: u16, processors: u8) -> Result<(), All
 fn put_tables(out: &mut Vec<u8>, system: &System) -> Result<(), AllocError>
     requires { CanPut (tables_of system.now) }
     ensures { OnOk result
-        (out.new.items ≡ out.old.items ++ (tables (context_of 0 []) []).spell (tables_in (tables_of system.now))) }
+        (out.new.items ≡ out.old.items ++ (tables (context_of 0 0 []) []).spell (tables_in (tables_of system.now))) }
 {
     put_table(out, &system.tasks)?;
     put_table(out, &system.semaphores)?;

@@ -12,9 +12,9 @@ begins : (text : List ℕ) → begins_and_goes_on text ≡ true → 0 < length t
 begins [] e = absurd cc
 begins (b ∷ bs) e = omega arith
 
-pub name_fits : (text : List ℕ) → is_name text ≡ true → (0 < length text) × (length text ≤ 31)
+pub name_fits : (version : ℕ) (text : List ℕ) → is_name version text ≡ true → (0 < length text) × (length text ≤ 31)
 unfolding is_name
-name_fits text e =
+name_fits version text e =
     let a = and_true _ _ e in
     let b = and_true _ _ a.0 in
     (begins text b.1, leb-true _ _ b.0)

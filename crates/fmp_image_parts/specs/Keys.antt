@@ -1,11 +1,13 @@
 -- Names that an object can have, and what may stand only once in an image.
-use Rattle.std.specs.Prelude.{ℕ, List, [], ◌∷◌, ◌++◌, length, Bool, true, false, not, is_some, ◌&&◌, ◌||◌, nat_eq, nat_le}
+use Rattle.std.specs.Prelude.{ℕ, List, [], ◌∷◌, ◌++◌, length, Option, Some, None, Bool, true, false, not, is_some, ◌&&◌, ◌||◌, nat_eq, nat_le}
 use Rattle.std.specs.List.{list_all, list_any}
 use Rattle.std.specs.Str.{bytes_eq}
 use Rattle.std.specs.Hash as fed
+use Rattle.fmp_base.specs.declared.services.Service.{Service}
 use Rattle.fmp_base.specs.Names.{name_text}
 use Rattle.fmp_base.specs.Words.{is_letter, is_word}
 use Rattle.fmp_base.specs.Words.{constant_named, api_named, service_named, keyword_named}
+use Rattle.fmp_image_parts.specs.Versions.{has_service}
 use Rattle.fmp_image_parts.specs.declared.keys.Key.{Key}
 use Rattle.fmp_image_parts.specs.declared.keys.Key.TheVariants as key
 
@@ -14,15 +16,20 @@ abbrev pub begins_and_goes_on : List ℕ → Bool
 begins_and_goes_on [] = false
 begins_and_goes_on (b ∷ bs) = is_letter b && list_all is_word bs
 
--- a word of the texts
-abbrev pub is_reserved : List ℕ → Bool
-is_reserved text =
-    is_some (constant_named text) || is_some (api_named text) || is_some (service_named text)
+-- whether this is a service, and a version has it
+abbrev pub is_service_of : (version : ℕ) → Option Service → Bool
+is_service_of version None = false
+is_service_of version (Some service) = has_service version service
+
+-- a word of the texts of a version
+abbrev pub is_reserved : (version : ℕ) → List ℕ → Bool
+is_reserved version text =
+    is_some (constant_named text) || is_some (api_named text) || is_service_of version (service_named text)
     || is_some (keyword_named text)
 
--- whether an object can have this name
-unfoldable pub is_name : List ℕ → Bool
-is_name text = nat_le (length text) 31 && begins_and_goes_on text && not (is_reserved text)
+-- whether an object in an image of a version can have this name
+unfoldable pub is_name : (version : ℕ) → List ℕ → Bool
+is_name version text = nat_le (length text) 31 && begins_and_goes_on text && not (is_reserved version text)
 
 -- whether two keys are the same
 abbrev pub same_key : Key → Key → Bool

@@ -176,7 +176,8 @@ fn read_code<'a>(
     size: u16,
     bytes: &'a [u8],
 ) -> Result<((Vec<Instruction>, Vec<u8>), &'a [u8]), LoadFault>
-    ensures { Gives (λ x. ((x.0.0.items, x.0.1.items), x.1.now)) result (kept_code locals (code_at version size bytes.now)) }
+    ensures { Gives (λ x. ((x.0.0.items, x.0.1.items), x.1.now)) result
+        (kept_code locals (code_at version size bytes.now)) }
 {
     let end = 6 * size as usize;
     if bytes.len() < end {
@@ -255,15 +256,16 @@ fn read_some_bodies<'a>(
     Ok(((heads, bodies), rest))
 }
 
-/// Reads all bodies of an image of a version behind their number. `ImageFault::Short` if a field ends past the bytes, `ImageFault::Code` if the
-/// code of a body is not fit to run, `ImageFault::Table` if another value of a body breaks a rule, and
-/// `LoadFault::Memory` if memory runs out.
+/// Reads all bodies of an image of a version behind their number. `ImageFault::Short` if a field ends past the bytes,
+/// `ImageFault::Code` if the code of a body is not fit to run, `ImageFault::Table` if another value of a body breaks a
+/// rule, and `LoadFault::Memory` if memory runs out.
 pub fn read_bodies<'a>(
     alloc: Global,
     version: u16,
     bytes: &'a [u8],
 ) -> Result<((Vec<BodyHead>, Vec<BodyCode>), &'a [u8]), LoadFault>
-    ensures { Gives (λ x. ((x.0.0.items, map body_tables x.0.1.items), x.1.now)) result ((all_bodies version).read bytes.now) }
+    ensures { Gives (λ x. ((x.0.0.items, map body_tables x.0.1.items), x.1.now)) result
+        ((all_bodies version).read bytes.now) }
 {
     let (count, rest) = byte_at(bytes)?;
     read_some_bodies(alloc, version, count, rest)
@@ -277,7 +279,8 @@ pub fn put_bodies(
 ) -> Result<(), AllocError>
     requires count { length bodies.now < 256 }
     requires bodies { (version : ℕ) × AllPairs (IsBody version) heads.now (map body_tables bodies.now) }
-    ensures { OnOk result (out.new.items ≡ out.old.items ++ (all_bodies 1).spell (heads.now, map body_tables bodies.now)) }
+    ensures { OnOk result
+        (out.new.items ≡ out.old.items ++ (all_bodies 1).spell (heads.now, map body_tables bodies.now)) }
 {
     put_byte(out, bodies.len() as u8)?;
     for place in 0..bodies.len() {

@@ -14,7 +14,7 @@ pub enum ImageFault {
     /// The first four bytes are not `FMPI`.
     #[error("L2")]
     Magic,
-    /// The version is neither 1 nor 2.
+    /// The version is not 1 to 3.
     #[error("L3")]
     Version,
     /// A value of the header, of a body or of a row breaks a rule of its table.

@@ -240,8 +240,8 @@ fn push_of_version(
     has(version, instruction) && push_fit(locals, depths, place, instruction, out)
 }
 
-/// Appends the instruction of an opcode, but for `Push`, and an argument, if the version has one: whether it has, and it
-/// is fit to stand at this place of a body. There is room for it. Each is judged where its kind is known.
+/// Appends the instruction of an opcode, but for `Push`, and an argument, if the version has one: whether it has, and
+/// it is fit to stand at this place of a body. There is room for it. Each is judged where its kind is known.
 #[inline(always)]
 #[tactic(auto, unfolding(crate::specs::Instructions::numbered))]
 fn push_numbered(

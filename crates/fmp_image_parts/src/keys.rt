@@ -3,10 +3,11 @@
 ghost use Rattle.std.specs.Prelude.{◌≡◌, ◌++◌, ◌∷◌, [], true, false, MatchOption, OnOk};
 ghost use Rattle.std.specs.List.{list_all};
 ghost use Rattle.fmp_base.specs.Names.{name_text, name_from};
-ghost use Rattle.fmp_base.specs.Words.{is_letter, is_word};
-ghost use Rattle.fmp_image_parts.specs.Keys.{begins_and_goes_on, is_reserved, is_name, key_input, same_key, is_taken};
+ghost use Rattle.fmp_base.specs.Words.{is_letter, is_word, service_named};
+ghost use Rattle.fmp_image_parts.specs.Keys.{begins_and_goes_on, is_service_of, is_reserved, is_name, key_input, same_key, is_taken};
 ghost use Rattle.fmp_image_parts.specs.KeyLaws.{are_alike, are_partly_alike, hashed_alike};
 
+use crate::versions::has_service;
 use fmp_base::Name;
 use fmp_base::words::{find_api, find_constant, find_keyword, find_service};
 use indexmap::IndexSet;
@@ -48,31 +49,44 @@ fn begins_and_goes_on(text: &[u8]) -> bool
     }
 }
 
-fn is_reserved(text: &[u8]) -> bool
-    ensures { result ≡ is_reserved text.now }
+fn is_service_of(version: u16, text: &[u8]) -> bool
+    ensures { result ≡ is_service_of version (service_named text.now) }
+{
+    match find_service(text) {
+        None => false,
+        Some(service) => has_service(version, service),
+    }
+}
+
+fn is_reserved(version: u16, text: &[u8]) -> bool
+    ensures { result ≡ is_reserved version text.now }
 {
     find_constant(text).is_some()
         || find_api(text).is_some()
-        || find_service(text).is_some()
+        || is_service_of(version, text)
         || find_keyword(text).is_some()
 }
 
-/// Whether an object can have this name: 1 to 31 bytes, a letter or `_` and then letters, digits and `_`, and no
-/// word of the texts.
+/// Whether an object in an image of a version can have this name: 1 to 31 bytes, a letter or `_` and then letters,
+/// digits and `_`, and no word of the texts of that version.
 #[tactic(auto, unfolding(crate::specs::Keys::is_name))]
-pub fn is_name(text: &[u8]) -> bool
-    ensures { result ≡ is_name text.now }
+pub fn is_name(version: u16, text: &[u8]) -> bool
+    ensures { result ≡ is_name version text.now }
 {
-    text.len() <= 31 && begins_and_goes_on(text) && !is_reserved(text)
+    text.len() <= 31 && begins_and_goes_on(text) && !is_reserved(version, text)
 }
 
-/// The name of this text, if an object can have it: `None` if `is_name` says no.
+/// The name of this text, if an object in an image of a version can have it: `None` if `is_name` says no.
 #[tactic(auto, using(crate::proofs::Names::name_fits))]
-pub fn name_of(text: &[u8]) -> Option<Name>
-    ensures { MatchOption result (is_name text.now ≡ false)
-        (λ name. (is_name text.now ≡ true) × (name ≡ name_from text.now)) }
+pub fn name_of(version: u16, text: &[u8]) -> Option<Name>
+    ensures { MatchOption result (is_name version text.now ≡ false)
+        (λ name. (is_name version text.now ≡ true) × (name ≡ name_from text.now)) }
 {
-    if is_name(text) { Name::new(text) } else { None }
+    if is_name(version, text) {
+        Name::new(text)
+    } else {
+        None
+    }
 }
 
 impl PartialEq for Key {

@@ -1,21 +1,41 @@
 //! The versions of images, and what each of them has.
 ghost use Rattle.std.specs.Prelude.{◌≡◌};
-ghost use Rattle.fmp_image_parts.specs.Versions.{has, is_version, newest};
+ghost use Rattle.fmp_image_parts.specs.Versions.{has, has_service, is_version, newest, queue_limit_of};
 
+use fmp_base::Service;
 use fmp_instructions::Instruction;
 
 /// The version of the images that are built.
 pub fn newest() -> u16
     ensures { result ≡ newest }
 {
-    2
+    3
 }
 
-/// Whether there are images of a version: 1 or 2.
+/// Whether there are images of a version: 1 to 3.
 pub fn is_version(version: u16) -> bool
     ensures { result ≡ is_version version }
 {
     1 <= version && version <= newest()
+}
+
+/// How many activations of a task a system of a version queues, and how many wakeups: 255 from version 3 on, and 1
+/// before.
+pub fn queue_limit_of(version: u16) -> u8
+    ensures { result ≡ queue_limit_of version }
+{
+    if version >= 3 { 255 } else { 1 }
+}
+
+/// Whether a version has a service.
+#[inline(always)]
+pub fn has_service(version: u16, service: Service) -> bool
+    ensures { result ≡ has_service version service }
+{
+    match service {
+        Service::MrotRdq => version >= 3,
+        _ => true,
+    }
 }
 
 /// Whether images of a version have an instruction.
@@ -26,6 +46,7 @@ pub fn has(version: u16, instruction: Instruction) -> bool
     match instruction {
         Instruction::LoadIndexed { .. } => version >= 2,
         Instruction::StoreIndexed { .. } => version >= 2,
+        Instruction::Call { service, .. } => has_service(version, service),
         _ => true,
     }
 }

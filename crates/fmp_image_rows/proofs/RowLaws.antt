@@ -31,8 +31,8 @@ row_exact {F = F} {A = A} form context goes = record {
 
 -- ---- single fields
 
-name_back : (t : List ℕ) → is_name t ≡ true → name_text (name_from t) ≡ t
-name_back t h = take_at t _ (length t) refl
+name_back : (version : ℕ) (t : List ℕ) → is_name version t ≡ true → name_text (name_from t) ≡ t
+name_back version t h = take_at t _ (length t) refl
 
 or_true : (a b : Bool) → (a || b) ≡ true → (a ≡ true) ⊎ (b ≡ true)
 or_true true b h = inl refl
@@ -107,7 +107,7 @@ module _ (context : RowContext) where
         let four = and_true _ _ three.0 in
         let five = and_true _ _ four.0 in
         let six = and_true _ _ five.0 in
-        rw (name_back name one.0, start_back attributes six.0, place_back context.processors processor two.1, only_back only four.1) refl;
+        rw (name_back context.version name one.0, start_back attributes six.0, place_back context.processors processor two.1, only_back only four.1) refl;
   }
 
   pub semaphore_back : GoesBack semaphore_form context
@@ -116,7 +116,7 @@ module _ (context : RowContext) where
     back = λ (name, (attributes, (initial, most))) h.
         let one = and_true _ _ h in
         let two = and_true _ _ one.1 in
-        rw (name_back name one.0, order_back attributes (and_true _ _ two.0).0) refl;
+        rw (name_back context.version name one.0, order_back attributes (and_true _ _ two.0).0) refl;
   }
 
   pub flag_back_row : GoesBack flag_form context
@@ -124,7 +124,7 @@ module _ (context : RowContext) where
     exact = both_exact _ _ text_exact (both_exact _ _ byte_exact short_exact);
     back = λ (name, (attributes, initial)) h.
         let one = and_true _ _ h in
-        rw (name_back name one.0, flag_back attributes one.1) refl;
+        rw (name_back context.version name one.0, flag_back attributes one.1) refl;
   }
 
   pub data_queue_back : GoesBack data_queue_form context
@@ -132,7 +132,7 @@ module _ (context : RowContext) where
     exact = both_exact _ _ text_exact (both_exact _ _ byte_exact byte_exact);
     back = λ (name, (attributes, capacity)) h.
         let one = and_true _ _ h in
-        rw (name_back name one.0, order_back attributes one.1) refl;
+        rw (name_back context.version name one.0, order_back attributes one.1) refl;
   }
 
   pub mailbox_back_row : GoesBack mailbox_form context
@@ -140,23 +140,23 @@ module _ (context : RowContext) where
     exact = both_exact _ _ text_exact (both_exact _ _ byte_exact byte_exact);
     back = λ (name, (attributes, most)) h.
         let one = and_true _ _ h in
-        rw (name_back name one.0, mailbox_back attributes (and_true _ _ one.1).0) refl;
+        rw (name_back context.version name one.0, mailbox_back attributes (and_true _ _ one.1).0) refl;
   }
 
   pub message_back : GoesBack message_form context
   message_back = record {
     exact = both_exact _ _ text_exact byte_exact;
-    back = λ (name, priority) h. rw (name_back name (and_true _ _ h).0) refl;
+    back = λ (name, priority) h. rw (name_back context.version name (and_true _ _ h).0) refl;
   }
 
   pub shared_word_back : GoesBack shared_word_form context
   shared_word_back = record {
     exact = both_exact _ _ text_exact word_exact;
-    back = λ (name, initial) h. rw (name_back name h) refl;
+    back = λ (name, initial) h. rw (name_back context.version name h) refl;
   }
 
   pub spin_lock_back : GoesBack spin_lock_form context
-  spin_lock_back = record { exact = text_exact; back = λ name h. name_back name h }
+  spin_lock_back = record { exact = text_exact; back = λ name h. name_back context.version name h }
 
   pub cyclic_back : GoesBack cyclic_form context
   cyclic_back = record {
@@ -167,7 +167,7 @@ module _ (context : RowContext) where
         let three = and_true _ _ two.0 in
         let four = and_true _ _ three.0 in
         let five = and_true _ _ four.0 in
-        rw (name_back name one.0, start_back attributes five.0, place_back context.processors processor two.1) refl;
+        rw (name_back context.version name one.0, start_back attributes five.0, place_back context.processors processor two.1) refl;
   }
 
   pub interrupt_back : GoesBack interrupt_form context

@@ -24,13 +24,14 @@ use Rattle.fmp_image_parts.specs.declared.keys.Key.TheVariants as key
 use Rattle.fmp_image_parts.specs.Fields.{Field, ◌>>=◌, ◌⊗◌, byte, short, long, word, text, in_range}
 use Rattle.fmp_image_parts.specs.Keys.{is_name}
 
--- what rows refer to: the number of processors, and what is said of each body
+-- what rows refer to: the version, the number of processors, and what is said of each body
 pub record RowContext : Type 0 where
+  pub version : ℕ
   pub processors : ℕ
   pub heads : List BodyHead
 
-abbrev pub context_of : ℕ → List BodyHead → RowContext
-context_of processors heads = record { processors = processors; heads = heads }
+abbrev pub context_of : (version processors : ℕ) → List BodyHead → RowContext
+context_of version processors heads = record { version = version; processors = processors; heads = heads }
 
 -- How rows of a table stand in fields: their layout, the fields of a row, the rules, the row of fields that keep them,
 -- and its key.
@@ -116,7 +117,7 @@ task_form = record {
     ),
   );
   keeps = λ context. λ (name, (attributes, (exinf, (body, (priority, (stack, (processor, only))))))).
-      is_name name && task_rules context attributes body priority stack processor only;
+      is_name context.version name && task_rules context attributes body priority stack processor only;
   make = λ (name, (attributes, (exinf, (body, (priority, (stack, (processor, only))))))). record {
     name = name_from name;
     activated = attributes == 2;
@@ -141,7 +142,8 @@ abbrev pub semaphore_form : RowForm SemaphoreFields SemaphoreConfig
 semaphore_form = record {
   layout = text ⊗ byte ⊗ short ⊗ short;
   fields = λ s. (name_text s.name, (order_bit s.order 1, (s.initial, s.most)));
-  keeps = λ context. λ (name, (attributes, (initial, most))). is_name name && semaphore_rules attributes initial most;
+  keeps = λ context. λ (name, (attributes, (initial, most))).
+      is_name context.version name && semaphore_rules attributes initial most;
   make = λ (name, (attributes, (initial, most))). record {
     name = name_from name;
     order = order_of (attributes == 1);
@@ -160,7 +162,7 @@ abbrev pub flag_form : RowForm FlagFields FlagConfig
 flag_form = record {
   layout = text ⊗ byte ⊗ short;
   fields = λ f. (name_text f.name, (order_bit f.order 1 + bit f.multiple 2 + bit f.clears 4, f.initial));
-  keeps = λ context. λ (name, (attributes, initial)). is_name name && nat_le attributes 7;
+  keeps = λ context. λ (name, (attributes, initial)). is_name context.version name && nat_le attributes 7;
   make = λ (name, (attributes, initial)). record {
     name = name_from name;
     order = order_of (attributes % 2 == 1);
@@ -179,7 +181,7 @@ abbrev pub data_queue_form : RowForm DataQueueFields DataQueueConfig
 data_queue_form = record {
   layout = text ⊗ byte ⊗ byte;
   fields = λ d. (name_text d.name, (order_bit d.order 1, d.capacity));
-  keeps = λ context. λ (name, (attributes, capacity)). is_name name && nat_le attributes 1;
+  keeps = λ context. λ (name, (attributes, capacity)). is_name context.version name && nat_le attributes 1;
   make = λ (name, (attributes, capacity)). record {
     name = name_from name;
     order = order_of (attributes == 1);
@@ -200,7 +202,7 @@ abbrev pub mailbox_form : RowForm MailboxFields MailboxConfig
 mailbox_form = record {
   layout = text ⊗ byte ⊗ byte;
   fields = λ m. (name_text m.name, (order_bit m.order 1 + order_bit m.message_order 2, m.most));
-  keeps = λ context. λ (name, (attributes, most)). is_name name && mailbox_rules attributes most;
+  keeps = λ context. λ (name, (attributes, most)). is_name context.version name && mailbox_rules attributes most;
   make = λ (name, (attributes, most)). record {
     name = name_from name;
     order = order_of (attributes % 2 == 1);
@@ -218,7 +220,7 @@ abbrev pub message_form : RowForm MessageFields MessageConfig
 message_form = record {
   layout = text ⊗ byte;
   fields = λ m. (name_text m.name, m.priority);
-  keeps = λ context. λ (name, priority). is_name name && in_range 1 16 priority;
+  keeps = λ context. λ (name, priority). is_name context.version name && in_range 1 16 priority;
   make = λ (name, priority). record { name = name_from name; priority = priority };
   key_of = λ m. key.Name m.name;
 }
@@ -231,7 +233,7 @@ abbrev pub shared_word_form : RowForm SharedWordFields SharedWordConfig
 shared_word_form = record {
   layout = text ⊗ word;
   fields = λ w. (name_text w.name, w.initial);
-  keeps = λ context. λ (name, initial). is_name name;
+  keeps = λ context. λ (name, initial). is_name context.version name;
   make = λ (name, initial). record { name = name_from name; initial = initial };
   key_of = λ w. key.Name w.name;
 }
@@ -241,7 +243,7 @@ abbrev pub spin_lock_form : RowForm (List ℕ) SpinLockConfig
 spin_lock_form = record {
   layout = text;
   fields = λ l. name_text l.name;
-  keeps = λ context. λ name. is_name name;
+  keeps = λ context. λ name. is_name context.version name;
   make = λ name. record { name = name_from name };
   key_of = λ l. key.Name l.name;
 }
@@ -265,7 +267,7 @@ cyclic_form = record {
   fields =
       λ c. (name_text c.name, (bit c.started 2, (c.exinf, (body_of c.entry, (c.period, (c.phase, c.processor + 1))))));
   keeps = λ context. λ (name, (attributes, (exinf, (body, (period, (phase, processor)))))).
-      is_name name && cyclic_rules context attributes body period phase processor;
+      is_name context.version name && cyclic_rules context attributes body period phase processor;
   make = λ (name, (attributes, (exinf, (body, (period, (phase, processor)))))). record {
     name = name_from name;
     started = attributes == 2;

@@ -53,6 +53,7 @@ impl Row for SemaphoreConfig {
     ghost can_put = { λ x. semaphore_form.layout.fits (semaphore_form.fields x) };
 
     fn read<'a>(
+        version: u16,
         processors: u8,
         heads: &[BodyHead],
         bytes: &'a [u8],
@@ -61,7 +62,7 @@ impl Row for SemaphoreConfig {
         let (attributes, rest) = byte_at(rest)?;
         let (initial, rest) = short_at(rest)?;
         let (most, rest) = short_at(rest)?;
-        let Some(name) = name_of(text) else {
+        let Some(name) = name_of(version, text) else {
             return Err(TABLE);
         };
         if !keeps_semaphore_rules(attributes, initial, most) {
@@ -108,6 +109,7 @@ impl Row for FlagConfig {
     ghost can_put = { λ x. flag_form.layout.fits (flag_form.fields x) };
 
     fn read<'a>(
+        version: u16,
         processors: u8,
         heads: &[BodyHead],
         bytes: &'a [u8],
@@ -115,7 +117,7 @@ impl Row for FlagConfig {
         let (text, rest) = text_at(bytes)?;
         let (attributes, rest) = byte_at(rest)?;
         let (initial, rest) = short_at(rest)?;
-        let Some(name) = name_of(text) else {
+        let Some(name) = name_of(version, text) else {
             return Err(TABLE);
         };
         if attributes > 7 {
@@ -153,6 +155,7 @@ impl Row for DataQueueConfig {
     ghost can_put = { λ x. data_queue_form.layout.fits (data_queue_form.fields x) };
 
     fn read<'a>(
+        version: u16,
         processors: u8,
         heads: &[BodyHead],
         bytes: &'a [u8],
@@ -160,7 +163,7 @@ impl Row for DataQueueConfig {
         let (text, rest) = text_at(bytes)?;
         let (attributes, rest) = byte_at(rest)?;
         let (capacity, rest) = byte_at(rest)?;
-        let Some(name) = name_of(text) else {
+        let Some(name) = name_of(version, text) else {
             return Err(TABLE);
         };
         if attributes > 1 {
@@ -202,6 +205,7 @@ impl Row for MailboxConfig {
     ghost can_put = { λ x. mailbox_form.layout.fits (mailbox_form.fields x) };
 
     fn read<'a>(
+        version: u16,
         processors: u8,
         heads: &[BodyHead],
         bytes: &'a [u8],
@@ -209,7 +213,7 @@ impl Row for MailboxConfig {
         let (text, rest) = text_at(bytes)?;
         let (attributes, rest) = byte_at(rest)?;
         let (most, rest) = byte_at(rest)?;
-        let Some(name) = name_of(text) else {
+        let Some(name) = name_of(version, text) else {
             return Err(TABLE);
         };
         if !keeps_mailbox_rules(attributes, most) {
@@ -248,13 +252,14 @@ impl Row for MessageConfig {
     ghost can_put = { λ x. message_form.layout.fits (message_form.fields x) };
 
     fn read<'a>(
+        version: u16,
         processors: u8,
         heads: &[BodyHead],
         bytes: &'a [u8],
     ) -> Result<(MessageConfig, &'a [u8]), LoadFault> {
         let (text, rest) = text_at(bytes)?;
         let (priority, rest) = byte_at(rest)?;
-        let Some(name) = name_of(text) else {
+        let Some(name) = name_of(version, text) else {
             return Err(TABLE);
         };
         if !in_range(1, 16, priority as u32) {
@@ -284,13 +289,14 @@ impl Row for SharedWordConfig {
     ghost can_put = { λ x. shared_word_form.layout.fits (shared_word_form.fields x) };
 
     fn read<'a>(
+        version: u16,
         processors: u8,
         heads: &[BodyHead],
         bytes: &'a [u8],
     ) -> Result<(SharedWordConfig, &'a [u8]), LoadFault> {
         let (text, rest) = text_at(bytes)?;
         let (initial, rest) = word_at(rest)?;
-        let Some(name) = name_of(text) else {
+        let Some(name) = name_of(version, text) else {
             return Err(TABLE);
         };
         Ok((SharedWordConfig { name, initial }, rest))
@@ -317,12 +323,13 @@ impl Row for SpinLockConfig {
     ghost can_put = { λ x. spin_lock_form.layout.fits (spin_lock_form.fields x) };
 
     fn read<'a>(
+        version: u16,
         processors: u8,
         heads: &[BodyHead],
         bytes: &'a [u8],
     ) -> Result<(SpinLockConfig, &'a [u8]), LoadFault> {
         let (text, rest) = text_at(bytes)?;
-        let Some(name) = name_of(text) else {
+        let Some(name) = name_of(version, text) else {
             return Err(TABLE);
         };
         Ok((SpinLockConfig { name }, rest))

@@ -40,15 +40,17 @@ pub trait Row: Copy {
 
     ghost can_put: { Self → Type 0 };
 
-    /// Reads a row from the front of the bytes, and gives the bytes behind it. The processors are how many the system
-    /// has, 1 to 8; the heads are those of its bodies, by place. `ImageFault::Short` if a field ends past the bytes,
-    /// `ImageFault::Table` if a value breaks a rule of the row.
+    /// Reads a row of an image of a version from the front of the bytes, and gives the bytes behind it. The processors
+    /// are how many the system has, 1 to 8; the heads are those of its bodies, by place. `ImageFault::Short` if a field
+    /// ends past the bytes, `ImageFault::Table` if a value breaks a rule of the row.
     fn read<'a>(
+        version: u16,
         processors: u8,
         heads: &[BodyHead],
         bytes: &'a [u8],
     ) -> Result<(Self, &'a [u8]), LoadFault>
-        ensures { Gives (λ x. (x.0, x.1.now)) result ((field (context_of processors heads.now)).read bytes.now) };
+        ensures { Gives (λ x. (x.0, x.1.now)) result
+            ((field (context_of version processors heads.now)).read bytes.now) };
 
     /// What may stand only once in an image.
     fn key(&self) -> Key
@@ -64,6 +66,7 @@ pub trait Row: Copy {
 /// `ImageFault::Table` for a key that is taken, and `LoadFault::Memory` if memory runs out.
 pub fn read_rows<'a, R: Row>(
     alloc: Global,
+    version: u16,
     processors: u8,
     heads: &[BodyHead],
     count: u8,
@@ -71,13 +74,13 @@ pub fn read_rows<'a, R: Row>(
     bytes: &'a [u8],
 ) -> Result<(Vec<R>, &'a [u8]), LoadFault>
     ensures read { Gives (λ x. (x.0.items, x.1.now)) result
-        (rows_at (R.field (context_of processors heads.now)) R.key_of count taken.old.keys bytes.now) }
+        (rows_at (R.field (context_of version processors heads.now)) R.key_of count taken.old.keys bytes.now) }
     ensures taken { IfOk result (λ x. taken.new.keys ≡ taken.old.keys ++ map R.key_of x.0.items) }
 {
     let mut rows = Vec::new(alloc);
     let mut rest = bytes;
     for _ in 0..count {
-        let (row, after) = R::read(processors, heads, rest)?;
+        let (row, after) = R::read(version, processors, heads, rest)?;
         let key = row.key();
         if is_taken(&key, taken) {
             return Err(TABLE);
@@ -93,17 +96,18 @@ pub fn read_rows<'a, R: Row>(
 /// those of `read_rows`, and `ImageFault::Short` if there is no count.
 pub fn read_table<'a, R: Row>(
     alloc: Global,
+    version: u16,
     processors: u8,
     heads: &[BodyHead],
     taken: &mut TakenKeys,
     bytes: &'a [u8],
 ) -> Result<(Vec<R>, &'a [u8]), LoadFault>
     ensures read { Gives (λ x. (x.0.items, x.1.now)) result
-        ((table (R.field (context_of processors heads.now)) R.key_of taken.old.keys).read bytes.now) }
+        ((table (R.field (context_of version processors heads.now)) R.key_of taken.old.keys).read bytes.now) }
     ensures taken { IfOk result (λ x. taken.new.keys ≡ taken.old.keys ++ map R.key_of x.0.items) }
 {
     let (count, rest) = byte_at(bytes)?;
-    read_rows(alloc, processors, heads, count, taken, rest)
+    read_rows(alloc, version, processors, heads, count, taken, rest)
 }
 
 /// Puts a table of at most 255 rows behind the bytes. `AllocError` if memory runs out.

@@ -94,6 +94,7 @@ impl Row for TaskConfig {
     ghost can_put = { λ x. task_form.layout.fits (task_form.fields x) };
 
     fn read<'a>(
+        version: u16,
         processors: u8,
         heads: &[BodyHead],
         bytes: &'a [u8],
@@ -106,7 +107,7 @@ impl Row for TaskConfig {
         let (stack, rest) = long_at(rest)?;
         let (processor, rest) = byte_at(rest)?;
         let (only, rest) = byte_at(rest)?;
-        let Some(name) = name_of(text) else {
+        let Some(name) = name_of(version, text) else {
             return Err(TABLE);
         };
         if !keeps_task_numbers(attributes, priority, stack, only)
@@ -155,6 +156,7 @@ impl Row for CyclicConfig {
     ghost can_put = { λ x. cyclic_form.layout.fits (cyclic_form.fields x) };
 
     fn read<'a>(
+        version: u16,
         processors: u8,
         heads: &[BodyHead],
         bytes: &'a [u8],
@@ -166,7 +168,7 @@ impl Row for CyclicConfig {
         let (period, rest) = long_at(rest)?;
         let (phase, rest) = long_at(rest)?;
         let (processor, rest) = byte_at(rest)?;
-        let Some(name) = name_of(text) else {
+        let Some(name) = name_of(version, text) else {
             return Err(TABLE);
         };
         if !keeps_cyclic_numbers(attributes, period, phase)
@@ -213,6 +215,7 @@ impl Row for InterruptConfig {
     ghost can_put = { λ x. interrupt_form.layout.fits (interrupt_form.fields x) };
 
     fn read<'a>(
+        version: u16,
         processors: u8,
         heads: &[BodyHead],
         bytes: &'a [u8],

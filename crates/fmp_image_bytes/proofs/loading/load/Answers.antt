@@ -24,3 +24,6 @@ returns-clause-found c =
 
 pub returns-clause-only : goal.returns-clause-only
 returns-clause-only c = λ i spells. rw c.new.ensures (sym (image_again c.args.bytes.now i spells) ∙ c.in_ok-version.ensures)
+
+pub returns-clause-older : goal.returns-clause-older
+returns-clause-older c = λ old. c.older_images_mean_the_same.ensures c.new.result c.args.bytes.now (returns-clause-found c) old

@@ -6,7 +6,7 @@ use Rattle.fmp_image_rows.proofs.rows.read_rows.Given as goal
 
 abbrev pub invariant-loop : goal.invariant-loop
 invariant-loop g l =
-    let row = g.R.Row.field (context_of l.processors l.heads) in
+    let row = g.R.Row.field (context_of l.version l.processors l.heads) in
     let key_of = g.R.Row.key_of in
     record {
       so_far : with_front l.rows.items (rows_at row key_of (l.count - l.counter) l.taken.keys l.rest) ≡ rows_at row key_of l.count l.fn.taken.keys l.bytes;
