@@ -8,7 +8,7 @@ import struct
 
 from common.services import SERVICES
 
-MAGIC, VERSIONS = b"FMPI", (1, 2)
+MAGIC, VERSIONS = b"FMPI", (1, 2, 3)
 NUMBERS = {"u8": "<B", "u16": "<H", "u32": "<I", "i32": "<i"}
 
 # The fields of a row of each table, in order; the tables stand in this order behind the bodies.
@@ -30,12 +30,16 @@ LAYOUTS = {table: [field.split(":") for field in row.split()] for table, row in 
 ARGUMENT_COUNTS = {number: len(service.form) - service.form.count("&") for number, service in enumerate(SERVICES, 1)}
 HAS_PLACE = {number: "&" in service.form for number, service in enumerate(SERVICES, 1)}
 
+# The services that not every version has, with the first version that has it. Before, their words may be names.
+FIRST_VERSIONS = {59: 3}
+
 WORDS = {service.name for service in SERVICES} | set("""
 E_OK E_SYS E_NOSPT E_RSATR E_PAR E_ID E_CTX E_ILUSE E_OBJ E_QOVR E_RLWAI E_TMOUT TA_NULL TA_HLNG TA_TFIFO TA_TPRI
 TA_MFIFO TA_MPRI TA_ACT TA_WSGL TA_WMUL TA_CLR TA_STA TWF_ANDW TWF_ORW TMO_POL TMO_FEVR TSK_SELF TPRI_INI TPRI_SELF
 CRE_TSK CRE_SEM CRE_FLG CRE_DTQ CRE_MBX CRE_MSG CRE_SHR CRE_SPN CRE_CYC DEF_INH
 NUM_PRC CLASS NULL task handler var if else while break continue return
 """.split())
+LATER_WORDS = {SERVICES[number - 1].name: version for number, version in FIRST_VERSIONS.items()}
 IDENTIFIER = re.compile(rb"[A-Za-z_][A-Za-z0-9_]{0,30}")
 
 TASK_BODY, HANDLER_BODY = 0, 1
@@ -91,11 +95,11 @@ def call_parts(argument):
     return argument & 255, argument >> 8 & 255, argument >> 16
 
 
-def is_call(argument, local_count):
+def is_call(argument, local_count, version):
     if not 0 <= argument < 1 << 24:
         return False
     service, place, answer = call_parts(argument)
-    if service not in ARGUMENT_COUNTS:
+    if service not in ARGUMENT_COUNTS or version < FIRST_VERSIONS.get(service, 1):
         return False
     has_place = place < local_count if HAS_PLACE[service] else place == NO_LOCAL
     return has_place and (answer == NO_LOCAL or answer < local_count)
@@ -112,7 +116,7 @@ def is_array(argument, local_count):
 
 
 def has_argument(opcode, argument, local_count, size, version):
-    """Whether the version has such an opcode and the argument is in its range."""
+    """Whether the version has such an opcode, or such a call, and the argument is in its range."""
     match opcode:
         case 1:
             return True
@@ -125,7 +129,7 @@ def has_argument(opcode, argument, local_count, size, version):
         case 6 | 7:
             return 0 <= argument < size
         case 8:
-            return is_call(argument, local_count)
+            return is_call(argument, local_count, version)
         case 9:
             return argument == 0
         case 10 | 11:
@@ -150,7 +154,7 @@ def keeps_entry(place, code):
 
 
 def is_fit(code, local_count, version):
-    """Whether code has only the opcodes of its version and keeps to its depth table."""
+    """Whether code has only the opcodes and calls of its version and keeps to its depth table."""
     return (
         len(code) > 0 and code[-1][0] in (JMP, END) and code[0][2] == 0
         and all(entry <= GREATEST_DEPTH for _, _, entry in code)
@@ -171,9 +175,12 @@ class Seen:
     def has_body(self, place, kind):
         return place < len(self.bodies) and self.bodies[place]["kind"] == kind
 
+    def is_word(self, name):
+        return name in WORDS and self.version >= LATER_WORDS.get(name, 1)
+
     def is_new_name(self, name):
         """Whether this can be the next object's name, which it is then."""
-        fits = IDENTIFIER.fullmatch(name) and name.decode() not in WORDS and name not in self.names
+        fits = IDENTIFIER.fullmatch(name) and not self.is_word(name.decode()) and name not in self.names
         self.names.add(name)
         return bool(fits)
 

@@ -3,7 +3,7 @@
 Each has a name that says what it is. What it must answer is for image_format.py to say.
 """
 
-from images.image_format import ARGUMENT_COUNTS, LAYOUTS, NO_LOCAL, WORDS, spell
+from images.image_format import ARGUMENT_COUNTS, LATER_WORDS, LAYOUTS, NO_LOCAL, VERSIONS, WORDS, spell
 
 ENDING = (9, 0, 0)
 LEAST_ROWS = {
@@ -35,14 +35,14 @@ def body(code, kind=0, local_count=1, depth=None):
     return {"kind": kind, "locals": local_count, "depth": greatest if depth is None else depth, "code": code}
 
 
-def image(bodies=None, processors=1, version=2, **tables):
+def image(bodies=None, processors=1, version=3, **tables):
     """The bytes of an image with these tables and no others."""
     least = [body([ENDING]), body([ENDING], kind=1)]
     fields = {"version": version, "processors": processors, "bodies": bodies or least}
     return spell({**fields, **dict.fromkeys(LAYOUTS, ()), **tables})
 
 
-def of_code(code, version=2, **fields):
+def of_code(code, version=3, **fields):
     """An image of one body, and of a task that runs it."""
     task = {**LEAST_ROWS["tasks"], "name": b"T", "attribute": 2, "stack": 65536}
     return image([body(code, **fields)], version=version, tasks=[task])
@@ -80,12 +80,18 @@ def rows():
 def names():
     """Names of each length, words, bytes that no name has, and names that stand twice."""
     odd = (b"1a", b"a1", b"_", b"__9", b"a b", b"a-b", b" a", b"a\n", b"a\0", b"\xc3\xa9", b"a\xff", b"A", b"exinf")
-    forms = [b"n" * length for length in (0, 1, 30, 31, 32, 33, 254, 255)] + [*odd, b"TCL_1", b"mrot_rdq", b"F_OVF"]
+    forms = [b"n" * length for length in (0, 1, 30, 31, 32, 33, 254, 255)] + [*odd, b"TCL_1", b"F_OVF"]
     for word in sorted(WORDS):
         forms += [word.encode(), f"{word}_".encode(), word.swapcase().encode()]
     for name in forms:
         yield f"a message {name}", image(messages=[{"name": name, "priority": 1}])
-    for name in (b"put", b"n" * 32, b"9"):
+    for word in (*LATER_WORDS, "put"):
+        for version in VERSIONS:
+            for table, least in LEAST_ROWS.items():
+                if table != "interrupts":
+                    row = {**least, "name": word.encode()}
+                    yield f"version {version}, {table}: {word}", image(version=version, **{table: [row]})
+    for name in (b"n" * 32, b"9"):
         for table, least in LEAST_ROWS.items():
             if table != "interrupts":
                 yield f"{table}: {name}", image(**{table: [{**least, "name": name}]})
@@ -114,14 +120,14 @@ def instructions():
 
 
 def arrays():
-    """Arrays at the ends of a body's locals and past them, with indexes in and out of range; both versions."""
+    """Arrays at the ends of a body's locals and past them, with indexes in and out of range; all versions."""
     for local_count in (1, 2, 3, 63, 64, 65, 255):
         for base in (0, 1, 2, local_count - 2, local_count - 1, local_count, 255):
             for places in (0, 1, 2, local_count - base - 1, local_count - base, local_count - base + 1, 256):
                 if base < 0 or places < 0:
                     continue
                 argument = base + 256 * places
-                for version in (1, 2):
+                for version in VERSIONS:
                     what = f"version {version}, {places} places from {base} of {local_count}"
                     load, store = (10, argument, 1), (11, argument, 2)
                     code = [(1, 0, 0), load, (3, 0, 1), ENDING]
@@ -148,28 +154,36 @@ def versions():
         "a load": [(1, 0, 0), (10, 257, 1), (3, 0, 1), ENDING],
         "a store": [(1, 0, 0), (1, 7, 1), (11, 257, 2), ENDING],
         "an unreachable load": [ENDING, (10, 257, 1), (3, 0, 1), ENDING],
+        "mrot_rdq": [(1, 10, 0), (1, 1, 1), (8, 59 + 256 * NO_LOCAL + 65536 * NO_LOCAL, 2), ENDING],
+        "an unreachable mrot_rdq": [ENDING, (8, 59 + 256 * NO_LOCAL + 65536 * NO_LOCAL, 2), ENDING],
     }
-    for version in (0, 1, 2, 3, 4, 255, 256, 257, 258, 511, 512, 65535):
+    for version in (0, 1, 2, 3, 4, 5, 255, 256, 257, 258, 259, 511, 512, 768, 65535):
         for name, code in codes.items():
             yield f"version {version}, {name}", of_code(code, version, local_count=2)
         yield f"version {version}, no row", image(version=version)
 
 
 def calls():
-    """Each number of a call with each number of operands, out place and place of the answer."""
+    """Each number of a call with each number of operands, out place and answer; the last ones in all versions."""
     for service in (*range(62), 127, 128, 255):
-        for count in range(6):
-            for place in (NO_LOCAL, 0, 2, 3):
-                for answer in (NO_LOCAL, 2, 3):
-                    pushes = [(1, 1, entry) for entry in range(count)]
-                    argument = service + 256 * place + 65536 * answer
-                    code = [*pushes, (8, argument, count), ENDING]
-                    yield f"call {service} of {count}, place {place}, answer {answer}", of_code(code, local_count=3)
-        argument = service + 65536 * NO_LOCAL + 256 * NO_LOCAL
-        for high in (1 << 24, 1 << 30, -(1 << 31), -(1 << 24)):
-            count = ARGUMENT_COUNTS.get(service, 0)
-            code = [*((1, 1, entry) for entry in range(count)), (8, argument + high, count), ENDING]
-            yield f"call {service}, argument {argument + high}", of_code(code, local_count=3)
+        for version in VERSIONS if 58 <= service <= 60 else VERSIONS[-1:]:
+            yield from calls_of(service, version)
+
+
+def calls_of(service, version):
+    what = f"version {version}, call {service}"
+    for count in range(6):
+        for place in (NO_LOCAL, 0, 2, 3):
+            for answer in (NO_LOCAL, 2, 3):
+                pushes = [(1, 1, entry) for entry in range(count)]
+                argument = service + 256 * place + 65536 * answer
+                code = [*pushes, (8, argument, count), ENDING]
+                yield f"{what} of {count}, place {place}, answer {answer}", of_code(code, version, local_count=3)
+    argument = service + 65536 * NO_LOCAL + 256 * NO_LOCAL
+    for high in (1 << 24, 1 << 30, -(1 << 31), -(1 << 24)):
+        count = ARGUMENT_COUNTS.get(service, 0)
+        code = [*((1, 1, entry) for entry in range(count)), (8, argument + high, count), ENDING]
+        yield f"{what}, argument {argument + high}", of_code(code, version, local_count=3)
 
 
 def codes():

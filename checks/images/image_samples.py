@@ -8,12 +8,12 @@ from images.image_format import spell
 ONE_TASK_CONFIGURATION = "NUM_PRC(1); CLASS(TCL_1) { CRE_TSK(T1,{TA_ACT,0,main,10,256,NULL}); }"
 ONE_TASK_SOURCE = "task main { put(7); }"
 ONE_TASK = bytes.fromhex(
-    "464d50490200010100010103000107000000000801ffff0001090000000000"
+    "464d50490300010100010103000107000000000801ffff0001090000000000"
     "010254310200000000000a000100000100000000000000000000"
 )
 
-# The same in the version before, which also loads.
-ONE_TASK_OF_VERSION_1 = ONE_TASK[:4] + b"\1" + ONE_TASK[5:]
+# The same in the versions before, which also load.
+OLDER = {version: ONE_TASK[:4] + bytes([version]) + ONE_TASK[5:] for version in (1, 2)}
 
 # Most fields stand at a limit. Some names are one letter from another or from a word.
 FILLED_CONFIGURATION = """NUM_PRC(8);
@@ -60,7 +60,7 @@ TASK_CODE = [
 HANDLER_CODE = [(1, 1, 0), (1, 65535, 1), (8, 55 + 256 * 255 + 65536 * 255, 2), (9, 0, 0)]
 
 FILLED = spell({
-    "version": 2,
+    "version": 3,
     "processors": 8,
     "bodies": [
         {"kind": 0, "locals": 5, "depth": 4, "code": TASK_CODE},

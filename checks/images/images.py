@@ -5,7 +5,7 @@
 
 takes two images: that of the smallest system of one task, and one with an array and a row in each table, whose fields
 stand at their limits. Each is cut to every length, gets one byte more, and has every byte set to every value, the first
-in both versions; then come COUNT samples (5000) of two changed bytes of each, and as many of bytes changed, cut out and
+in all versions; then come COUNT samples (5000) of two changed bytes of each, and as many of bytes changed, cut out and
 put in at random. Before them come the images of image_limits.py: rows, names, instructions, arrays, versions, calls and
 sizes at their limits and past them. For each,
 `fmp sim` over no steps must answer the first fault that image_format.py finds, status and text, or print what the
@@ -37,8 +37,8 @@ from common.program import Program, located  # noqa: E402
 from images.image_format import Fault, read, spell  # noqa: E402
 from images.image_limits import all_limits  # noqa: E402
 from images.image_runs import lone_task_lines, setup_lines, started_tasks, state_lines, text  # noqa: E402
-from images.image_samples import FILLED, FILLED_CONFIGURATION, FILLED_SOURCE, ONE_TASK  # noqa: E402
-from images.image_samples import ONE_TASK_CONFIGURATION, ONE_TASK_OF_VERSION_1, ONE_TASK_SOURCE  # noqa: E402
+from images.image_samples import FILLED, FILLED_CONFIGURATION, FILLED_SOURCE, OLDER, ONE_TASK  # noqa: E402
+from images.image_samples import ONE_TASK_CONFIGURATION, ONE_TASK_SOURCE  # noqa: E402
 
 PROCESSES = 2
 BATCH, AT_ONCE = 500, 20  # images that a process is given, and those that it runs at once
@@ -110,7 +110,9 @@ def random_edits(name, data, seed, count):
 def groups(seed, samples):
     """The kinds of changes with the images of each."""
     yield "limits", all_limits()
-    yield "one task of version 1, at most one byte", single_changes("one task of version 1", ONE_TASK_OF_VERSION_1)
+    for version, data in OLDER.items():
+        name = f"one task of version {version}"
+        yield f"{name}, at most one byte", single_changes(name, data)
     for name, data in (("one task", ONE_TASK), ("filled", FILLED)):
         yield f"{name}, cut or longer", cuts_and_longer(name, data)
         yield f"{name}, at most one byte", single_changes(name, data)

@@ -48,19 +48,19 @@ CLASS(TCL_2) { CRE_TSK(A, { 0, 0, a, 16, 256, NULL }); CRE_TSK(B, { 0, 0, a, 1, 
 CALLS = """
 put(2147483647) E_OK; put(-2147483647 - 1) E_OK
 can_act(-1) E_ID; can_act(0) E_OK 0; can_act(3) E_OK 0; can_act(4) E_ID; can_act(2147483647) E_ID
-act_tsk(-1) E_ID; act_tsk(4) E_ID; act_tsk(0) E_OK; act_tsk(0) E_QOVR; act_tsk(1) E_QOVR; can_act(1) E_OK 1
+act_tsk(-1) E_ID; act_tsk(4) E_ID; act_tsk(0) E_OK; act_tsk(0) E_OK; act_tsk(1) E_OK; can_act(1) E_OK 3
 ter_tsk(0) E_ID; ter_tsk(1) E_ILUSE; ter_tsk(3) E_OBJ; ter_tsk(4) E_ID
 chg_pri(0,-1) E_PAR; chg_pri(0,0) E_OK; chg_pri(0,1) E_OK; chg_pri(0,16) E_OK; chg_pri(0,17) E_PAR
 chg_pri(4,1) E_ID; chg_pri(-1,1) E_ID; chg_pri(4,17) E_ID; chg_pri(3,16) E_OBJ; chg_pri(3,17) E_PAR
 get_pri(0,&v) E_OK 16; get_pri(3,&v) E_OBJ; get_pri(4,&v) E_ID; get_pri(-1,&v) E_ID
 mact_tsk(0,-1) E_PAR; mact_tsk(0,0) E_PAR; mact_tsk(0,3) E_PAR; mact_tsk(0,256) E_PAR; mact_tsk(4,3) E_ID
-mact_tsk(0,2) E_OK; mact_tsk(0,1) E_QOVR; can_act(0) E_OK 1
+mact_tsk(0,2) E_OK; mact_tsk(0,1) E_OK; can_act(0) E_OK 2
 mact_tsk(2,2) E_OK / p2 A starts / p2 > A
 mact_tsk(3,1) E_OK / p1 B starts / p1 > B
 """
 CALLS_AFTER = """
 mig_tsk(0,-1) E_PAR; mig_tsk(0,0) E_PAR; mig_tsk(0,1) E_OK; mig_tsk(0,3) E_PAR; mig_tsk(4,1) E_ID; mig_tsk(2,3) E_PAR
-wup_tsk(-1) E_ID; wup_tsk(4) E_ID; wup_tsk(0) E_OK; wup_tsk(0) E_QOVR; wup_tsk(1) E_QOVR; can_wup(0) E_OK 1
+wup_tsk(-1) E_ID; wup_tsk(4) E_ID; wup_tsk(0) E_OK; wup_tsk(0) E_OK; wup_tsk(1) E_OK; can_wup(0) E_OK 3
 can_wup(0) E_OK 0; can_wup(4) E_ID; can_wup(-1) E_ID
 tslp_tsk(-2) E_PAR; tslp_tsk(0) E_TMOUT; tslp_tsk(1073741825) E_PAR; tslp_tsk(2147483647) E_PAR
 wup_tsk(1) E_OK; tslp_tsk(1073741824) E_OK; wup_tsk(1) E_OK; tslp_tsk(-1) E_OK; tslp_tsk(0) E_TMOUT
@@ -90,23 +90,25 @@ trcv_mbx(1,&v,-2) E_PAR; trcv_mbx(1,&v,1073741825) E_PAR; trcv_mbx(1,&v,10737418
 trcv_mbx(1,&v,0) E_TMOUT; prcv_mbx(2,&v) E_TMOUT; prcv_mbx(3,&v) E_ID; rcv_mbx(0,&v) E_ID
 sta_cyc(0) E_ID; sta_cyc(1) E_OK; sta_cyc(2) E_ID; stp_cyc(0) E_ID; stp_cyc(1) E_OK; stp_cyc(2) E_ID
 rot_rdq(-1) E_PAR; rot_rdq(0) E_OK; rot_rdq(1) E_OK; rot_rdq(16) E_OK; rot_rdq(17) E_PAR; get_tid(&v) E_OK 1
+mrot_rdq(-1,1) E_PAR; mrot_rdq(0,1) E_OK; mrot_rdq(1,1) E_OK; mrot_rdq(16,2) E_OK; mrot_rdq(17,2) E_PAR
+mrot_rdq(1,-1) E_PAR; mrot_rdq(1,0) E_PAR; mrot_rdq(0,2) E_OK; mrot_rdq(1,3) E_PAR; mrot_rdq(1,256) E_PAR
 loc_spn(0) E_ID; loc_spn(2) E_ID; try_spn(0) E_ID; try_spn(2) E_ID; unl_spn(0) E_ID; unl_spn(2) E_ID
 unl_spn(1) E_ILUSE; try_spn(1) E_OK; unl_spn(1) E_OK; loc_spn(1) E_OK; unl_spn(1) E_OK
 ld_shr(0,&v) E_ID; ld_shr(2,&v) E_ID; ld_shr(1,&v) E_OK -2147483647; st_shr(0,1) E_ID; st_shr(2,1) E_ID
 st_shr(1,-2147483647 - 1) E_OK; ld_shr(1,&v) E_OK -2147483648; st_shr(1,2147483647) E_OK; ld_shr(1,&v) E_OK 2147483647
-irot_rdq(1) E_CTX; iact_tsk(0) E_CTX; loc_cpu() E_OK; act_tsk(4) E_CTX; unl_cpu() E_OK
+irot_rdq(1) E_CTX; iact_tsk(0) E_CTX; loc_cpu() E_OK; act_tsk(4) E_CTX; mrot_rdq(17,3) E_CTX; unl_cpu() E_OK
 """
 
 HANDLER_CALLS = """
 irot_rdq(-1) E_PAR; irot_rdq(0) E_PAR; irot_rdq(1) E_OK; irot_rdq(16) E_OK; irot_rdq(17) E_PAR
-iact_tsk(0) E_ID; iact_tsk(-1) E_ID; iact_tsk(4) E_ID; iact_tsk(1) E_OK; iact_tsk(1) E_QOVR
-iwup_tsk(0) E_ID; iwup_tsk(4) E_ID; iwup_tsk(1) E_OK; iwup_tsk(1) E_QOVR; iwup_tsk(3) E_OBJ
+iact_tsk(0) E_ID; iact_tsk(-1) E_ID; iact_tsk(4) E_ID; iact_tsk(1) E_OK; iact_tsk(1) E_OK
+iwup_tsk(0) E_ID; iwup_tsk(4) E_ID; iwup_tsk(1) E_OK; iwup_tsk(1) E_OK; iwup_tsk(3) E_OBJ
 irel_wai(0) E_ID; irel_wai(4) E_ID; irel_wai(1) E_OBJ; isig_sem(0) E_ID; isig_sem(3) E_ID
 isig_sem(2) E_OK; isig_sem(2) E_QOVR; iset_flg(0,1) E_ID; iset_flg(2,1) E_ID
 iset_flg(1,-1) E_PAR; iset_flg(1,0) E_OK; iset_flg(1,65535) E_OK; iset_flg(1,65536) E_PAR
 ipsnd_dtq(0,1) E_ID; ipsnd_dtq(3,1) E_ID; ipsnd_dtq(1,1) E_OK; ipsnd_dtq(1,1) E_TMOUT; ipsnd_dtq(2,1) E_TMOUT
 ifsnd_dtq(0,1) E_ID; ifsnd_dtq(3,1) E_ID; ifsnd_dtq(1,1) E_OK; ifsnd_dtq(2,1) E_ILUSE
-act_tsk(1) E_CTX; slp_tsk() E_CTX; irot_rdq(0) E_PAR
+act_tsk(1) E_CTX; slp_tsk() E_CTX; mrot_rdq(1,1) E_CTX; mrot_rdq(17,3) E_CTX; irot_rdq(0) E_PAR
 """
 
 
@@ -199,6 +201,20 @@ def full_data_queue():
     lines += ["256 p1 T psnd_dtq(1,256) E_TMOUT", *(f"{256 + n} p1 T prcv_dtq(1) E_OK {n}" for n in range(1, 256))]
     lines += ["512 p1 T prcv_dtq(1) E_TMOUT", "513 p1 T end", "T DORMANT p1 1"]
     yield Run("a queue of 255 words", configuration, source, "run 1\n" * 513, None, joined(lines))
+
+
+def full_counts():
+    """A task that queues 255 activations of itself, and one that queues 255 wakeups and sleeps as often."""
+    source = "task m { var i; while (i < 256) { i = i + 1; act_tsk(TSK_SELF); } can_act(TSK_SELF); can_act(TSK_SELF); }"
+    lines = [*(f"{n} p1 T act_tsk(0) E_OK" for n in range(1, 256)), "256 p1 T act_tsk(0) E_QOVR"]
+    lines += ["257 p1 T can_act(0) E_OK 255", "258 p1 T can_act(0) E_OK 0", "259 p1 T end", "T DORMANT p1 10"]
+    yield lone("255 activations", source, "run 1\n" * 259, joined(lines))
+    source = """task m { var i; while (i < 256) { i = i + 1; wup_tsk(TSK_SELF); }
+        while (i > 0) { i = i - 1; slp_tsk(); } }"""
+    lines = [*(f"{n} p1 T wup_tsk(0) E_OK" for n in range(1, 256)), "256 p1 T wup_tsk(0) E_QOVR"]
+    lines += [f"{256 + n} p1 T slp_tsk() E_OK" for n in range(1, 256)]
+    lines += ["512 p1 T slp_tsk() wait", "512 p1 > -", "T WAITING p1 10"]
+    yield lone("255 wakeups", source, "run 1\n" * 512, joined(lines))
 
 
 def longest_event():
@@ -345,8 +361,8 @@ def events():
 
 
 def all_runs():
-    groups = (calls, full_tables, full_data_queue, longest_event, expressions, arrays, extended_information, stretches)
-    for group in (*groups, events):
+    groups = (calls, full_tables, full_data_queue, full_counts, longest_event, expressions, arrays)
+    for group in (*groups, extended_information, stretches, events):
         yield from group()
 
 

@@ -40,7 +40,7 @@ printf 'run 1\nrun 1\nrun 1\n' > c.steps
 cp a.cfg kept.cfg
 cp b.src kept.src
 {
-    printf 'FMPI\002\000\001\001\000\001\001\003\000'
+    printf 'FMPI\003\000\001\001\000\001\001\003\000'
     printf '\001\007\000\000\000\000\010\001\377\377\000\001\011\000\000\000\000\000'
     tables_of_one_task
 } > a.want
@@ -205,9 +205,11 @@ printf 'x' | cat a.want - > more.img
 says 'a byte behind an image' 1 'image: L6' sim more.img c.steps
 head -c 56 a.want > less.img
 says 'an image without its last byte' 1 'image: L1' sim less.img c.steps
-{ printf 'FMPI\001'; tail -c 52 a.want; } > before.img
+{ printf 'FMPI\001'; tail -c 52 a.want; } > first.img
+run 'an image of the first version' 0 a.trace none sim first.img c.steps
+{ printf 'FMPI\002'; tail -c 52 a.want; } > before.img
 run 'an image of the version before' 0 a.trace none sim before.img c.steps
-{ printf 'FMPI\003'; tail -c 52 a.want; } > after.img
+{ printf 'FMPI\004'; tail -c 52 a.want; } > after.img
 says 'an image of a version to come' 1 'image: L3' sim after.img c.steps
 
 # ---- bytes that some systems change: CR and LF
@@ -217,7 +219,7 @@ says 'CR in steps' 1 'steps:1: S1' sim a.img cr.steps
 printf 'NUM_PRC(1);\r\nCLASS(TCL_1) {\r\nCRE_TSK(T1,{TA_ACT,0,main,10,256,NULL});\r\n}\r\n' > cr.cfg
 printf 'task main { put(2573); put(3338); }\r\n' > cr.src
 {
-    printf 'FMPI\002\000\001\001\000\001\001\005\000'
+    printf 'FMPI\003\000\001\001\000\001\001\005\000'
     printf '\001\015\012\000\000\000\010\001\377\377\000\001'
     printf '\001\012\015\000\000\000\010\001\377\377\000\001\011\000\000\000\000\000'
     tables_of_one_task
@@ -243,7 +245,7 @@ while [ $twice -lt 32768 ]; do
     twice=$((twice * 2))
 done
 {
-    printf 'FMPI\002\000\001\001\000\001\001\377\377'
+    printf 'FMPI\003\000\001\001\000\001\001\377\377'
     head -c $((12 * puts)) calls
     printf '\011\000\000\000\000\000'
     tables_of_one_task
@@ -319,7 +321,7 @@ subject=$whole
 # ---- a trace of 2^20 events
 
 printf 'NUM_PRC(1);\n' > empty.cfg
-printf 'FMPI\002\000\001\000\000\000\000\000\000\000\000\000\000\000' > empty.want
+printf 'FMPI\003\000\001\000\000\000\000\000\000\000\000\000\000\000' > empty.want
 printf 'ok 18\n' > ok18
 run 'build of nothing' 0 ok18 none build empty.cfg none empty.img
 same 'the image of nothing' empty.want empty.img

@@ -3,7 +3,7 @@
 from images.image_samples import ONE_TASK, ONE_TASK_CONFIGURATION, ONE_TASK_SOURCE
 from rows.row_runs import AND, SETUP, alone, apart, runs, task
 
-NOTHING = bytes.fromhex("464d50490200010000000000000000000000")
+NOTHING = bytes.fromhex("464d50490300010000000000000000000000")
 
 # A row in each table.
 EACH_TABLE = """NUM_PRC(2); CLASS(TCL_2_ONLY) { CRE_TSK(T,{0,-1,t,16,65536,NULL}); }
@@ -12,11 +12,27 @@ EACH_TABLE = """NUM_PRC(2); CLASS(TCL_2_ONLY) { CRE_TSK(T,{0,-1,t,16,65536,NULL}
         CRE_CYC(_9,{TA_STA,5,h,513,0x40000000}); DEF_INH(3,{0,h}); }
     CLASS(TCL_2) { DEF_INH(32,{0,h}); }"""
 EACH_TABLE_IMAGE = bytes.fromhex(
-    "464d50490200020200010001000900000000000101000100090000000000"
+    "464d50490300020200010001000900000000000101000100090000000000"
     "01015400ffffffff00100000010002010101530102000300010146050700"
     "01014400ff01014d0310010147010101570100008001014c01025f39020500000001010200000000004001"
     "02030101200102"
 )
+
+# A call of `mrot_rdq`.
+ROTATE = bytes.fromhex(
+    "464d5049030001010001020400010a00000000010100000001083bffff00020900000000000102543102000000"
+    "00000a000100000100000000000000000000"
+)
+
+# A task whose name became a word with version 3.
+LATER_WORD = ONE_TASK.replace(b"\2T1", b"\x08mrot_rdq")
+LATER_WORD_TRACE = (
+    "0 p1 mrot_rdq starts / 0 p1 > mrot_rdq / 1 p1 mrot_rdq put(7) E_OK / mrot_rdq RUNNING p1 10 / "
+)
+
+# A task that queues activations of itself, and how many an image of each version queues.
+ACTIVATIONS = alone(task("T", "t")), "task t { while (1) { act_tsk(TSK_SELF); } }"
+QUEUED = {1: 1, 2: 1, 3: 255}
 
 # Two texts and their image.
 IMAGES = (
@@ -26,7 +42,7 @@ IMAGES = (
         alone(task("M", "m")),
         AND,
         bytes.fromhex(
-            "464d5049020001010002020c0001000000000007070000000101010000000001000000000105030000000204030000"
+            "464d5049030001010002020c0001000000000007070000000101010000000001000000000105030000000204030000"
             "00010608000000010100000000000301000000010201000000000801ffff000109000000000001014d020000000000"
             "0a000100000100000000000000000000"
         ),
@@ -35,19 +51,20 @@ IMAGES = (
         alone(task("T", "t")),
         "task t { var a[3]; var i; i = 2; a[i] = 7; put(a[2]); a[3] = 1; }",
         bytes.fromhex(
-            "464d50490200010100" "05020c00" "010200000000030400000001020400000000010700000001" "0b0103000002"
+            "464d50490300010100" "05020c00" "010200000000030400000001020400000000010700000001" "0b0103000002"
             "010200000000" "0a0103000001" "0801ffff0001" "010300000000010100000001" "0b0103000002" "090000000000"
             "010154020000000000" "0a000100000100000000000000000000"
         ),
     ),
     (EACH_TABLE, "task t { } handler h { }", EACH_TABLE_IMAGE),
+    (ONE_TASK_CONFIGURATION, "task main { mrot_rdq(10,1); }", ROTATE),
 )
 
 # Bytes of the image of one task and their new values, and the fault.
 CHANGES = """
 0=0 => L2
 4=0 => L3
-4=3 => L3
+4=4 => L3
 5=1 => L3
 4=1 9=2 19=10 20=1 21=1 22=0 25=6 26=1 30=1 => L5
 19=11 => L5
@@ -74,9 +91,9 @@ CHANGES = """
 56=1 => L1
 """
 
-# Changes that load: an operand, the least stack that holds it, a task of one processor alone, and the version before;
+# Changes that load: an operand, the least stack that holds it, a task of one processor alone, and the versions before;
 # and the word that its first event puts.
-LOADS = (("14=8", 8), ("42=4 43=0", 7), ("47=1", 7), ("4=1", 7))
+LOADS = (("14=8", 8), ("42=4 43=0", 7), ("47=1", 7), ("4=1", 7), ("4=2", 7))
 
 # A loop beside another task. The argument of its jump back stands at 26, and 9 leads out of its body.
 LOOP = apart(task("A", "a"), task("B", "b")), "task a { while (1) { } } task b { put(1); put(2); }"
@@ -139,6 +156,9 @@ def refused_images():
     for changes, fault in table(CHANGES):
         yield changed(ONE_TASK, changes), fault
     yield changed(EACH_TABLE_IMAGE, "107=3"), "L4"
+    yield changed(ROTATE, "4=1"), "L5"
+    yield changed(ROTATE, "4=2"), "L5"
+    yield LATER_WORD, "L4"
 
 
 def loaded_images():
@@ -146,6 +166,17 @@ def loaded_images():
     for changes, word in LOADS:
         trace = f"{SETUP}1 p1 T1 put({word}) E_OK / T1 RUNNING p1 10 / "
         yield changed(ONE_TASK, changes), runs(1), trace
+    yield ROTATE, runs(1), f"{SETUP}1 p1 T1 mrot_rdq(10,1) E_OK / T1 RUNNING p1 10 / "
+    yield changed(LATER_WORD, "4=1"), runs(1), LATER_WORD_TRACE
+    yield changed(LATER_WORD, "4=2"), runs(1), LATER_WORD_TRACE
+
+
+def queueing():
+    """Each version, and what 256 runs of an image of it print that queues activations."""
+    for version, limit in QUEUED.items():
+        answers = ["E_OK"] * limit + ["E_QOVR"] * (256 - limit)
+        lines = [f"{number} p1 T act_tsk(0) {answer}" for number, answer in enumerate(answers, 1)]
+        yield version, runs(256), " / ".join(["0 p1 T starts", "0 p1 > T", *lines, "T RUNNING p1 10", ""])
 
 
 def faulty_steps():
