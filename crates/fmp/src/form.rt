@@ -62,7 +62,7 @@ Fault of a text, behind the file and the line at which it stands:
 Fault of an image:
   L1       it ends too soon
   L2       its first four bytes are not 'FMPI'
-  L3       its version is not 1 or 2
+  L3       its version is not 1 to 3
   L4       a value breaks a rule of its table
   L5       the code of a body is not fit to run
   L6       bytes stand behind the last table

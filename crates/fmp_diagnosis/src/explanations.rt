@@ -85,7 +85,7 @@ impl Topic {
                 "An array stands without an index, or a variable or an object with one.",
             Topic::ImageShort => "A field ends past the end of the bytes.",
             Topic::ImageMagic => "The first four bytes are not FMPI.",
-            Topic::ImageVersion => "The version of the image is not 1 or 2.",
+            Topic::ImageVersion => "The version of the image is not 1 to 3.",
             Topic::ImageTable =>
                 "A value of the header, of a body or of a row breaks a rule of its table.",
             Topic::ImageCode =>
