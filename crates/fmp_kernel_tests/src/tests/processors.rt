@@ -96,8 +96,8 @@ fn a_locked_cpu_bars_calls(rt: HostRuntime) -> Result<(), Fail> {
           dly_tsk 0, sig_sem 1, wai_sem 1, pol_sem 1, twai_sem 1 0, set_flg 1 1, clr_flg 1 0, wai_flg 1 1 0, \
           pol_flg 1 1 0, twai_flg 1 1 0 0, snd_dtq 1 1, psnd_dtq 1 1, tsnd_dtq 1 1 0, fsnd_dtq 1 1, rcv_dtq 1, \
           prcv_dtq 1, trcv_dtq 1 0, snd_mbx 1 1, rcv_mbx 1, prcv_mbx 1, trcv_mbx 1 0, sta_cyc 1, stp_cyc 1, \
-          rot_rdq 0, get_tid, dis_dsp, ena_dsp, loc_spn 1, try_spn 1, unl_spn 1, unl_cpu, unl_cpu, can_wup 0, \
-          pol_sem 1, pol_flg 1 1 0, prcv_dtq 1, prcv_mbx 1, act_tsk 2
+          rot_rdq 0, mrot_rdq 17 9, get_tid, dis_dsp, ena_dsp, loc_spn 1, try_spn 1, unl_spn 1, unl_cpu, unl_cpu, \
+          can_wup 0, pol_sem 1, pol_flg 1 1 0, prcv_dtq 1, prcv_mbx 1, act_tsk 2
 a put 2",
         "64 run 1",
         "0 p1 M starts
@@ -145,26 +145,27 @@ a put 2",
 41 p1 M sta_cyc(1) E_CTX
 42 p1 M stp_cyc(1) E_CTX
 43 p1 M rot_rdq(0) E_CTX
-44 p1 M get_tid() E_CTX
-45 p1 M dis_dsp() E_CTX
-46 p1 M ena_dsp() E_CTX
-47 p1 M loc_spn(1) E_CTX
-48 p1 M try_spn(1) E_CTX
-49 p1 M unl_spn(1) E_ID
-50 p1 M unl_cpu() E_OK
+44 p1 M mrot_rdq(17,9) E_CTX
+45 p1 M get_tid() E_CTX
+46 p1 M dis_dsp() E_CTX
+47 p1 M ena_dsp() E_CTX
+48 p1 M loc_spn(1) E_CTX
+49 p1 M try_spn(1) E_CTX
+50 p1 M unl_spn(1) E_ID
 51 p1 M unl_cpu() E_OK
-52 p1 M can_wup(0) E_OK 0
-53 p1 M pol_sem(1) E_TMOUT
-54 p1 M pol_flg(1,1,0) E_TMOUT
-55 p1 M prcv_dtq(1) E_TMOUT
-56 p1 M prcv_mbx(1) E_TMOUT
-57 p1 M act_tsk(2) E_OK
-57 p1 A starts
-57 p1 > A
-58 p1 A put(2) E_OK
-59 p1 A end
-59 p1 > M
-60 p1 M end
+52 p1 M unl_cpu() E_OK
+53 p1 M can_wup(0) E_OK 0
+54 p1 M pol_sem(1) E_TMOUT
+55 p1 M pol_flg(1,1,0) E_TMOUT
+56 p1 M prcv_dtq(1) E_TMOUT
+57 p1 M prcv_mbx(1) E_TMOUT
+58 p1 M act_tsk(2) E_OK
+58 p1 A starts
+58 p1 > A
+59 p1 A put(2) E_OK
+60 p1 A end
+60 p1 > M
+61 p1 M end
 M DORMANT p1 10
 A DORMANT p1 5
 ",

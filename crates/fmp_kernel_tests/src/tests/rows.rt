@@ -282,3 +282,47 @@ T RUNNING p1 10
 ";
     shows(&rt, ONE, "main put 7", "int 3, run 2, run 8", setup)
 }
+
+#[test]
+fn ready_queues_of_other_processors_are_rotated(rt: HostRuntime) -> Result<(), Fail> {
+    shows(
+        &rt,
+        "NUM_PRC(2);
+CLASS(TCL_1) {
+    CRE_TSK(M,{TA_ACT,0,m,10,256,NULL});
+}
+CLASS(TCL_2) {
+    CRE_TSK(A,{TA_ACT,0,a,10,256,NULL});
+    CRE_TSK(B,{TA_ACT,0,a,10,256,NULL});
+}",
+        "m mrot_rdq 10 2, mrot_rdq 10 3, mrot_rdq 17 2, mrot_rdq -1 2, mrot_rdq 10 0, mrot_rdq 5 2, mrot_rdq 0 2, \
+          mrot_rdq 0 1
+a put 2",
+        "12 run 1, 6 run 2",
+        "0 p1 M starts
+0 p2 A starts
+0 p2 B starts
+0 p1 > M
+0 p2 > A
+1 p1 M mrot_rdq(10,2) E_OK
+1 p2 > B
+2 p1 M mrot_rdq(10,3) E_PAR
+3 p1 M mrot_rdq(17,2) E_PAR
+4 p1 M mrot_rdq(-1,2) E_PAR
+5 p1 M mrot_rdq(10,0) E_PAR
+6 p1 M mrot_rdq(5,2) E_OK
+7 p1 M mrot_rdq(0,2) E_OK
+7 p2 > A
+8 p1 M mrot_rdq(0,1) E_OK
+9 p1 M end
+10 p2 A put(2) E_OK
+11 p2 A end
+11 p2 > B
+12 p2 B put(2) E_OK
+13 p2 B end
+M DORMANT p1 10
+A DORMANT p2 10
+B DORMANT p2 10
+",
+    )
+}

@@ -23,15 +23,15 @@ a put 1",
 3 p1 M act_tsk(2) E_OK
 3 p1 A starts
 4 p1 M act_tsk(2) E_OK
-5 p1 M act_tsk(2) E_QOVR
+5 p1 M act_tsk(2) E_OK
 6 p1 M act_tsk(0) E_OK
-7 p1 M act_tsk(0) E_QOVR
+7 p1 M act_tsk(0) E_OK
 8 p1 M can_act(3) E_OK 0
 9 p1 M can_act(4) E_ID
 10 p1 M can_act(-1) E_ID
-11 p1 M can_act(0) E_OK 1
+11 p1 M can_act(0) E_OK 2
 12 p1 M can_act(0) E_OK 0
-13 p1 M can_act(2) E_OK 1
+13 p1 M can_act(2) E_OK 2
 14 p1 M act_tsk(2) E_OK
 15 p1 M end
 15 p1 > A
@@ -70,7 +70,7 @@ a put 2",
 4 p1 M mact_tsk(2,1) E_OK
 4 p1 A starts
 5 p1 M mact_tsk(2,1) E_OK
-6 p1 M mact_tsk(2,1) E_QOVR
+6 p1 M mact_tsk(2,1) E_OK
 7 p1 M mact_tsk(0,1) E_OK
 8 p1 M can_act(0) E_OK 1
 9 p1 M mig_tsk(4,9) E_ID
@@ -87,6 +87,10 @@ a put 2",
 17 p1 > A
 18 p1 A put(2) E_OK
 19 p1 A end
+19 p1 A starts
+19 p1 > A
+20 p1 A put(2) E_OK
+21 p1 A end
 M DORMANT p1 5
 A DORMANT p1 5
 B DORMANT p1 10
@@ -211,8 +215,8 @@ a slp_tsk, tslp_tsk -1, dly_tsk 3",
 3 p1 M can_wup(3) E_ID
 4 p1 M can_wup(2) E_OBJ
 5 p1 M wup_tsk(0) E_OK
-6 p1 M wup_tsk(1) E_QOVR
-7 p1 M can_wup(0) E_OK 1
+6 p1 M wup_tsk(1) E_OK
+7 p1 M can_wup(0) E_OK 2
 8 p1 M can_wup(0) E_OK 0
 9 p1 M tslp_tsk(-2) E_PAR
 10 p1 M tslp_tsk(1073741825) E_PAR
