@@ -6,7 +6,7 @@ use Rattle.fmp_image_bytes.specs.Images.{ImageTables, image_tables}
 use Rattle.fmp_journal.specs.Seats.{RowId}
 
 abbrev pub no_image : ImageTables
-no_image = image_tables 1 (without_objects 1) [] []
+no_image = image_tables 3 (without_objects 1) [] []
 
 abbrev pub no_table : TableId
 no_table = record { words = 0; slots = 0; views_name = 0; atom = 0; block = 0; offset = 0; slot_names = [] }
