@@ -2,10 +2,12 @@
 use Rattle.std.proofs.Common.{◌≡◌, ℕ, suc, max, true, List, [], ◌∷◌, Some, refl, sym, ap, ◌∙◌, subst, arith}
 use Rattle.std.specs.Prelude.{slice_get}
 use Rattle.std.specs.List.{AllByRecursion}
+use Rattle.fmp_base.specs.declared.services.Service.{Service}
+use Rattle.fmp_base.specs.declared.services.Service.TheVariants.{MrotRdq}
 use Rattle.fmp_base.specs.Systems.{SystemTables}
 use Rattle.fmp_tasklang.specs.Trees.{BodyTree}
 use Rattle.fmp_instructions.specs.declared.instructions.Instruction.{Instruction}
-use Rattle.fmp_instructions.specs.declared.instructions.Instruction.TheVariants.{LoadIndexed, StoreIndexed}
+use Rattle.fmp_instructions.specs.declared.instructions.Instruction.TheVariants.{LoadIndexed, StoreIndexed, Call}
 use Rattle.fmp_instructions.specs.Instructions.{BodyTables}
 use Rattle.fmp_instructions.specs.Verify.{Verified, VerifiedBody}
 use Rattle.fmp_codegen.specs.Compiling.{compiled_body, compiled}
@@ -15,16 +17,21 @@ use Rattle.fmp_codegen.specs.Laws as codegen
 use Rattle.fmp_image_parts.specs.Bodies.{greatest, IsBody}
 use Rattle.fmp_image_parts.specs.Instructions.{HasWord}
 use Rattle.fmp_image_parts.specs.Pairs.{AllPairs}
-use Rattle.fmp_image_parts.specs.Versions.{has, newest}
+use Rattle.fmp_image_parts.specs.Versions.{has, has_service, newest}
 use Rattle.fmp_image.specs.Building.{built_head, built_heads}
 
 same_greatest : (ds : List ℕ) → greatest ds ≡ codegen.greatest ds
 same_greatest [] = refl
 same_greatest (d ∷ ds) = ap (max d) (same_greatest ds)
 
+newest_has_service : (s : Service) → has_service newest s ≡ true
+newest_has_service MrotRdq = refl
+newest_has_service _ = refl
+
 newest_has : (i : Instruction) → has newest i ≡ true
 newest_has (LoadIndexed base places) = refl
 newest_has (StoreIndexed base places) = refl
+newest_has (Call service out result) = newest_has_service service
 newest_has _ = refl
 
 all_known : (code : List Instruction) → AllByRecursion (λ i. has newest i ≡ true) code

@@ -57,7 +57,7 @@ task_fits context t body few (h, (name, given)) low fits =
     both_true _ _ (both_true _ _ (both_true _ _ (start_bit t.activated) (lies_in_range 1 16 t.priority h.priority))
     (lies_in_range 1 65536 t.stack h.stack)) (le-leb (bit t.only 1) 1 single) in (
       (name_room t.name name, (omega arith, (given.exinf, (low, (omega arith, (omega arith, (omega arith, omega arith))))))),
-      both_true _ _ (object_is_name t.name name) (both_true _ _ (both_true _ _ numbers fits) (from_one t.processor context.processors inside)),
+      both_true _ _ (object_is_name context.version t.name name) (both_true _ _ (both_true _ _ numbers fits) (from_one t.processor context.processors inside)),
       ap₂ (λ n (x : Bool × (Bool × ℕ)). record { name = n; activated = x.0; exinf = t.exinf; entry = entry.Body body; priority = t.priority; stack = t.stack; processor = x.1.1; only = x.1.0 })
           name.canonical (ap₂ (λ a b. (a, b)) (start_again t.activated) (ap₂ (λ a b. (a, b)) (only_again t.only) (back_one t.processor))),
     )
@@ -71,7 +71,7 @@ cyclic_fits context c body few (h, (name, given)) low fits =
     let small = start_small c.started in
     let numbers = both_true _ _ (both_true _ _ (start_bit c.started) (lies_in_range 1 1073741824 c.period h.period)) (le-leb c.phase 1073741824 phase) in (
       (name_room c.name name, (omega arith, (given.exinf, (low, (omega arith, (omega arith, omega arith)))))),
-      both_true _ _ (object_is_name c.name name) (both_true _ _ (both_true _ _ numbers fits) (from_one c.processor context.processors inside)),
+      both_true _ _ (object_is_name context.version c.name name) (both_true _ _ (both_true _ _ numbers fits) (from_one c.processor context.processors inside)),
       ap₂ (λ n (x : Bool × ℕ). record { name = n; started = x.0; exinf = c.exinf; entry = entry.Body body; period = c.period; phase = c.phase; processor = x.1 })
           name.canonical (ap₂ (λ a b. (a, b)) (start_again c.started) (back_one c.processor)),
     )

@@ -23,7 +23,7 @@ use Rattle.fmp_base.specs.declared.words.Constant.{Constant}
 use Rattle.fmp_base.specs.declared.words.Keyword.{Keyword}
 use Rattle.fmp_cfgparse.specs.Tables.{is_identifier, IsObjectName, SharedWordConfigured}
 use Rattle.fmp_image_bytes.specs.Images.{KeepRules}
-use Rattle.fmp_image_parts.specs.Keys.{begins_and_goes_on, is_reserved, is_name}
+use Rattle.fmp_image_parts.specs.Keys.{begins_and_goes_on, is_service_of, is_reserved, is_name}
 use Rattle.fmp_image_parts.specs.Fields.{in_range}
 use Rattle.fmp_image_rows.specs.Rows.{RowContext, RowForm, row, bit, order_bit, order_of, semaphore_form, flag_form, data_queue_form, mailbox_form, message_form, shared_word_form, spin_lock_form}
 use Rattle.fmp_image_parts.proofs.Verification.{both_true}
@@ -34,20 +34,21 @@ goes_on : (text : List ℕ) → is_identifier text ≡ true → begins_and_goes_
 goes_on [] e = e
 goes_on (b ∷ bs) e = e
 
-no_word : (a : Option Constant) (b : Option Api) (c : Option Service) (d : Option Keyword) →
+no_word : (version : ℕ) (a : Option Constant) (b : Option Api) (c : Option Service) (d : Option Keyword) →
     option_or (option_map kind.Constant a) (option_or (option_map kind.Api b) (option_or (option_map kind.Service c) (option_map kind.Keyword d))) ≡ None →
-    (is_some a || is_some b || is_some c || is_some d) ≡ false
-no_word (Some x) b c d e = cc
-no_word None (Some x) c d e = cc
-no_word None None (Some x) d e = cc
-no_word None None None (Some x) e = cc
-no_word None None None None e = refl
+    (is_some a || is_some b || is_service_of version c || is_some d) ≡ false
+no_word version (Some x) b c d e = cc
+no_word version None (Some x) c d e = cc
+no_word version None None (Some x) d e = cc
+no_word version None None None (Some x) e = cc
+no_word version None None None None e = refl
 
-pub object_is_name : (n : Name) → IsObjectName n → is_name (name_text n) ≡ true
+-- a name of a configuration is a word of no version
+pub object_is_name : (version : ℕ) (n : Name) → IsObjectName n → is_name version (name_text n) ≡ true
 unfolding is_name
-object_is_name n h =
+object_is_name version n h =
     let goes = goes_on (name_text n) h.identifier in
-    let free : is_reserved (name_text n) ≡ false = no_word (constant_named (name_text n)) (api_named (name_text n)) (service_named (name_text n)) (keyword_named (name_text n)) h.unreserved in
+    let free : is_reserved version (name_text n) ≡ false = no_word version (constant_named (name_text n)) (api_named (name_text n)) (service_named (name_text n)) (keyword_named (name_text n)) h.unreserved in
     rw (le-leb (length (name_text n)) 31 h.short, goes, free) refl
 
 pub name_room : (n : Name) → IsObjectName n → length (name_text n) < 256
@@ -72,7 +73,7 @@ semaphore_fits context s h name =
     let most : s.most ≤ 65535 = h.most.most in
     let initial : s.initial ≤ s.most = h.initial in (
       (name_room s.name name, (omega arith, (omega arith, omega arith))),
-      both_true _ _ (object_is_name s.name name)
+      both_true _ _ (object_is_name context.version s.name name)
           (both_true _ _ (both_true _ _ (le-leb (order_bit s.order 1) 1 small) (le-leb 1 s.most h.most.least)) (le-leb s.initial s.most initial)),
       ap₂ (λ n o. record { name = n; order = o; initial = s.initial; most = s.most }) name.canonical (order_again s.order),
     )
@@ -104,7 +105,7 @@ flag_fits context f h name =
     let small : flag_attributes f.order f.multiple f.clears ≤ 7 = back.small in
     let initial : f.initial ≤ 65535 = h.initial in (
       (name_room f.name name, (omega arith, omega arith)),
-      both_true _ _ (object_is_name f.name name) (le-leb (flag_attributes f.order f.multiple f.clears) 7 small),
+      both_true _ _ (object_is_name context.version f.name name) (le-leb (flag_attributes f.order f.multiple f.clears) 7 small),
       ap₂ (λ n (x : QueueOrder × (Bool × Bool)). record { name = n; order = x.0; multiple = x.1.0; clears = x.1.1; initial = f.initial }) name.canonical
           (ap₂ (λ a b. (a, b)) back.order (ap₂ (λ a b. (a, b)) back.multiple back.clears)),
     )
@@ -114,7 +115,7 @@ data_queue_fits context d h name =
     let small = order_small d.order in
     let capacity : d.capacity ≤ 255 = h.capacity in (
       (name_room d.name name, (omega arith, omega arith)),
-      both_true _ _ (object_is_name d.name name) (le-leb (order_bit d.order 1) 1 small),
+      both_true _ _ (object_is_name context.version d.name name) (le-leb (order_bit d.order 1) 1 small),
       ap₂ (λ n o. record { name = n; order = o; capacity = d.capacity }) name.canonical (order_again d.order),
     )
 
@@ -140,7 +141,7 @@ mailbox_fits context m h name =
     let small : mailbox_attributes m.order m.message_order ≤ 3 = back.small in
     let most : m.most ≤ 16 = h.most.most in (
       (name_room m.name name, (omega arith, omega arith)),
-      both_true _ _ (object_is_name m.name name)
+      both_true _ _ (object_is_name context.version m.name name)
           (both_true _ _ (le-leb (mailbox_attributes m.order m.message_order) 3 small) (lies_in_range 1 16 m.most h.most)),
       ap₂ (λ n (x : QueueOrder × QueueOrder). record { name = n; order = x.0; message_order = x.1; most = m.most }) name.canonical
           (ap₂ (λ a b. (a, b)) back.order back.message_order),
@@ -150,16 +151,16 @@ pub message_fits : (context : RowContext) (m : MessageConfig) → MessageInRange
 message_fits context m h name =
     let most : m.priority ≤ 16 = h.priority.most in (
       (name_room m.name name, omega arith),
-      both_true _ _ (object_is_name m.name name) (lies_in_range 1 16 m.priority h.priority),
+      both_true _ _ (object_is_name context.version m.name name) (lies_in_range 1 16 m.priority h.priority),
       ap (λ n. record { name = n; priority = m.priority }) name.canonical,
     )
 
 pub shared_word_fits : (context : RowContext) (w : SharedWordConfig) → SharedWordConfigured w → IsObjectName w.name → (row shared_word_form context).fits w
 shared_word_fits context w h name =
-    ((name_room w.name name, h.initial), object_is_name w.name name, ap (λ n. record { name = n; initial = w.initial }) name.canonical)
+    ((name_room w.name name, h.initial), object_is_name context.version w.name name, ap (λ n. record { name = n; initial = w.initial }) name.canonical)
 
 pub spin_lock_fits : (context : RowContext) (l : SpinLockConfig) → IsObjectName l.name → (row spin_lock_form context).fits l
-spin_lock_fits context l name = (name_room l.name name, object_is_name l.name name, ap (λ n. record { name = n }) name.canonical)
+spin_lock_fits context l name = (name_room l.name name, object_is_name context.version l.name name, ap (λ n. record { name = n }) name.canonical)
 
 -- ---- tables
 

@@ -36,7 +36,7 @@ use Rattle.fmp_image.proofs.SameNames.{kept}
 
 module _ (bodies : List BodyTree) (processors : ℕ) (few : length bodies ≤ 255) (small : processors ≤ 8) where
   abbrev context : RowContext
-  context = context_of processors (built_heads bodies)
+  context = context_of newest processors (built_heads bodies)
 
   task_row :
       (t : TaskConfig) (e : Entry) → IsTask processors t → Enters bodies Task (Some t.stack) e →
@@ -113,7 +113,7 @@ lawful needed t bodies code h enters few is verified words =
     let r = h.ranges in
     let n = has_names t h.names in
     let small : p ≤ 8 = r.processors.most in
-    let context = context_of p (built_heads bodies) in
+    let context = context_of newest p (built_heads bodies) in
     let many : length code ≡ length (compiled t bodies) = ap length is in
     record {
       version = refl;
