@@ -235,6 +235,12 @@ WARNINGS = [
      "t.src:11: warning: `act_tsk` answers E_CTX in a handler; there it is `iact_tsk`\n"
      "t.src:11: warning: the argument 1 is no name; `act_tsk` takes a task\n"
      "t.src:12: warning: `loc_cpu` answers E_CTX in a handler\n"),
+    (ONE + "CRE_TSK(T, { TA_ACT, 0, m, 1, 64, NULL }); CRE_SEM(S, { 0, 1, 1 });\nDEF_INH(1, { 0, h }); }",
+     "task m {\n    sig_sem(S);\n    mrot_rdq(TPRI_SELF, 1);\n    mrot_rdq(S, S);\n}\n"
+     "handler h { mrot_rdq(1, 1); }\n",
+     "t.src:4: warning: `S` is a semaphore; `mrot_rdq` takes a priority\n"
+     "t.src:4: warning: `S` is a semaphore; `mrot_rdq` takes a processor\n"
+     "t.src:6: warning: `mrot_rdq` answers E_CTX in a handler\n"),
 ]
 
 
