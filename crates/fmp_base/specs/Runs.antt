@@ -11,10 +11,10 @@ use Rattle.fmp_base.specs.declared.states.TaskBlock.{TaskBlock}
 use Rattle.fmp_base.specs.Meanings.{Meaning, World}
 use Rattle.fmp_base.specs.Settles.{is_same_task}
 use Rattle.fmp_base.specs.States.{KernelState, task_at, processor_at}
-use Rattle.fmp_base.specs.Steps.{Reaction, Nothing, Did, step}
+use Rattle.fmp_base.specs.Steps.{Reaction, Nothing, Did, Kept, step}
 use Rattle.fmp_base.specs.Systems.{SystemTables}
 
--- the world at the end of a run, and the lines of each event that did something, in order
+-- the world at the end of a run, and the lines of each event that is done, in order
 pub record Trace (C : Type 0) : Type 0 where
   pub world : World C
   pub events : List (List Line)
@@ -25,8 +25,9 @@ after_first ls r = record r { events = ls ∷ r.events }
 abbrev pub run_on : {C : Type 0} → World C → Reaction C → (World C → Trace C) → Trace C
 run_on w Nothing rest = rest w
 run_on w (Did d) rest = after_first d.lines (rest d.world)
+run_on w (Kept v) rest = rest v
 
--- a run: one event after the other; those that do nothing leave no trace
+-- a run: one event after the other; those that do nothing or keep a place leave no lines
 abbrev pub run : {C : Type 0} → SystemTables → Meaning C → (bound : ℕ) → World C → List Event → Trace C
 run sys M bound w [] = record { world = w; events = [] }
 run sys M bound w (e ∷ es) = run_on w (step sys M bound w e) (λ v. run sys M bound v es)
@@ -34,8 +35,9 @@ run sys M bound w (e ∷ es) = run_on w (step sys M bound w e) (λ v. run sys M 
 abbrev pub done_on : {C : Type 0} → World C → Event → Reaction C → (World C → List Event) → List Event
 done_on w e Nothing rest = rest w
 done_on w e (Did d) rest = e ∷ rest d.world
+done_on w e (Kept v) rest = rest v
 
--- the events of a run that did something
+-- the events of a run that are done
 abbrev pub done_events : {C : Type 0} → SystemTables → Meaning C → (bound : ℕ) → World C → List Event → List Event
 done_events sys M bound w [] = []
 done_events sys M bound w (e ∷ es) = done_on w e (step sys M bound w e) (λ v. done_events sys M bound v es)
@@ -47,8 +49,9 @@ completed_by ls (Some r) = Some (after_first ls r)
 abbrev pub completed_on : {C : Type 0} → Reaction C → (World C → Option (Trace C)) → Option (Trace C)
 completed_on Nothing rest = None
 completed_on (Did d) rest = completed_by d.lines (rest d.world)
+completed_on (Kept v) rest = None
 
--- a run in which every event does something, if it is one
+-- a run in which every event is done, if it is one
 abbrev pub complete_run : {C : Type 0} → SystemTables → Meaning C → (bound : ℕ) → World C → List Event
     → Option (Trace C)
 complete_run sys M bound w [] = Some (record { world = w; events = [] })

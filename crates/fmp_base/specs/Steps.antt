@@ -32,14 +32,16 @@ pub record Done (C : Type 0) : Type 0 where
   pub world : World C
   pub lines : List Line
 
--- what an event does: nothing, or it is done
+-- what an event does: nothing, or it is done, or its actor keeps the place that it has come to
 pub data Reaction (C : Type 0) : Type 0 where
   Nothing : Reaction C
   Did : Done C → Reaction C
+  Kept : World C → Reaction C
 
 abbrev pub effect_of : {C : Type 0} → Reaction C → Effect
 effect_of Nothing = effect.Nothing
 effect_of (Did d) = effect.Done
+effect_of (Kept w) = effect.Kept
 
 abbrev pub concluded : {C : Type 0} → SystemTables → Meaning C → Contexts (Held C) → Progress → Done C
 concluded sys M cs g =
@@ -79,7 +81,12 @@ abbrev pub call_made : {C : Type 0} → SystemTables → Meaning C → Contexts 
     → Reaction C
 call_made sys M cs p who c o = answered o.answer sys M cs p who c o.progress
 
--- the actor of p has made this stretch: its context is taken, and the call, end or fault is carried out
+-- the actor of p has come to this context
+abbrev pub with_place : {C : Type 0} → World C → ℕ → Caller → C → World C
+with_place w p who c = record w { contexts = with_context w.contexts p who (Some (Goes c)) }
+
+-- the actor of p has made this stretch: its context is taken, and the call, end or fault is carried out; at the bound
+-- nothing but its place changes
 abbrev pub stretched : {C : Type 0} → SystemTables → Meaning C → World C → ℕ → Caller → Ending C → Reaction C
 stretched sys M w p who (ends.Call c made) =
     call_made sys M (with_context w.contexts p who (Some (Awaits c))) p who made (called sys w.state p who made)
@@ -87,7 +94,8 @@ stretched sys M w p who (ends.End c) =
     Did (finished sys M w.contexts (line.End p who ∷ []) (actor_ended sys w.state p who))
 stretched sys M w p who (ends.Fault c fault) =
     Did (finished sys M w.contexts (line.Fault p who fault ∷ []) (actor_ended sys w.state p who))
-stretched sys M w p who (ends.Over kept) = Nothing
+stretched sys M w p who (ends.Over None) = Nothing
+stretched sys M w p who (ends.Over (Some c)) = Kept (with_place w p who c)
 
 -- an actor that awaits a reply makes no stretch
 abbrev pub run_in : {C : Type 0} → SystemTables → Meaning C → ℕ → World C → ℕ → Caller → Option (Held C) → Reaction C
@@ -110,7 +118,7 @@ abbrev pub interrupted : {C : Type 0} → Option InterruptConfig → SystemTable
 interrupted None sys M w i = Nothing
 interrupted (Some config) sys M w i = interrupted_by (is_pending w.state.pending_interrupts i) sys M w i
 
--- what an event does: nothing, or a new world with its lines
+-- what an event does
 abbrev pub step : {C : Type 0} → SystemTables → Meaning C → (bound : ℕ) → World C → Event → Reaction C
 step sys M bound w (Run zero) = Nothing
 step sys M bound w (Run (suc p)) = run_by sys M bound w p (actor_of (processor_at w.state p))

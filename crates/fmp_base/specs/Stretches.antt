@@ -1,5 +1,5 @@
 -- How a stretch of a body ends.
-use Rattle.std.specs.Prelude.{Option, None, Bool, true, false}
+use Rattle.std.specs.Prelude.{Option, Some, Bool, true, false}
 use Rattle.fmp_base.specs.declared.bodies.Fault as faults
 use Rattle.fmp_base.specs.declared.bodies.Stretch.{Stretch}
 use Rattle.fmp_base.specs.declared.bodies.Stretch.TheVariants as made
@@ -13,12 +13,12 @@ pub data Ending (C : Type 0) : Type 0 where
   Fault : C → faults.Fault → Ending C
   Over : Option C → Ending C
 
--- the ending that a stretch is; over its bound it hands over nothing
+-- the ending that a stretch is
 abbrev pub ending : {C : Type 0} → Stretch C → Ending C
 ending (made.Call c call) = Call c call
 ending (made.End c) = End c
 ending (made.Fault c fault) = Fault c fault
-ending made.Over = Over None
+ending (made.Over c) = Over (Some c)
 
 -- whether a stretch needs more than its bound
 abbrev pub is_over : {C : Type 0} → Ending C → Bool

@@ -21,15 +21,15 @@ use Rattle.fmp_base.specs.declared.systems.InterruptConfig.{InterruptConfig}
 use Rattle.fmp_base.specs.declared.systems.TaskConfig.{TaskConfig}
 use Rattle.fmp_base.specs.Calls.{called}
 use Rattle.fmp_base.specs.Meanings.{Meaning, Contexts, World, task_body, handler_start, fresh_context, context_at, context_in, body_in, context_of, caller_body, context_for, with_context, told, delivered_to, called_back, task_begun, handler_begun, contexts_after, contexts_after_all}
-use Rattle.fmp_base.specs.Runs.{Trace, run, run_on, done_events, done_on, completed_by, completed_on, complete_run}
+use Rattle.fmp_base.specs.Runs.{Trace, completed_by, completed_on, complete_run}
 use Rattle.fmp_base.specs.Settles.{settled}
 use Rattle.fmp_base.specs.Setups.{setup, first_contexts, all_started, created_state}
 use Rattle.fmp_base.specs.States.{KernelState, Progress, unchanged, processor_at, places_from}
-use Rattle.fmp_base.specs.Steps.{Reaction, Nothing, Did, finished, actor_of, actor_ended, answered, stretched, run_in, run_by, interrupted, interrupted_by, step}
+use Rattle.fmp_base.specs.Steps.{Reaction, Nothing, Did, Kept, with_place, finished, actor_of, actor_ended, answered, stretched, run_in, run_by, interrupted, interrupted_by, step}
 use Rattle.fmp_base.specs.Stretches.{Ending}
 use Rattle.fmp_base.specs.Systems.{SystemTables, body_of, task_config, interrupt_config}
 use Rattle.fmp_base.specs.Ticks.{ticked, with_interrupt_pending}
-use Rattle.fmp_base.specs.Ties.{OptionTied, AllTied, StretchTied, over, call, end_, fault, Any, KeepsTie, HandlerTied, HeldTied, ContextsTied, WorldTied, BothDone, DoneTied, TraceAgrees}
+use Rattle.fmp_base.specs.Ties.{OptionTied, AllTied, StretchTied, over, kept, call, end_, fault, Any, KeepsTie, HandlerTied, HeldTied, ContextsTied, WorldTied, BothDone, KeptOn, DoneTied, TraceAgrees}
 
 pub AllTied-slice_set : {C D : Type 0} (R : ℕ → C → D → Type 0) (cs : List (Option C)) (ds : List (Option D)) (i : ℕ)
     (c : Option C) (d : Option D)
@@ -84,18 +84,6 @@ context_for-tied R a b None (Some d) e h = absurd h
 context_for-tied R a b (Some c) None e h = absurd h
 context_for-tied R a b (Some c) (Some d) e h = record { bodies = e; contexts = h }
 
-pub told-tied : {C D : Type 0} (R : ℕ → C → D → Type 0) (M : Meaning C) (m : ℕ) (N : Meaning D) (n : ℕ)
-    → KeepsTie R M m N n
-    → (body : ℕ) (reply : Reply) (c : Option (Held C)) (d : Option (Held D)) → OptionTied (HeldTied R body) c d
-    → OptionTied (HeldTied R body) (told M body reply c) (told N body reply d)
-told-tied R M m N n k body reply None None h = tt
-told-tied R M m N n k body reply None (Some d) h = absurd h
-told-tied R M m N n k body reply (Some c) None h = absurd h
-told-tied R M m N n k body reply (Some (Goes c)) (Some (Goes d)) h = h
-told-tied R M m N n k body reply (Some (Awaits c)) (Some (Awaits d)) h = k.delivers body c d reply h
-told-tied R M m N n k body reply (Some (Goes c)) (Some (Awaits d)) h = absurd h
-told-tied R M m N n k body reply (Some (Awaits c)) (Some (Goes d)) h = absurd h
-
 -- where the caller's body is one in both, a tied context keeps the contexts tied
 pub caller_body-tied : {C D : Type 0} (sys : SystemTables) (R : ℕ → C → D → Type 0) (a : Contexts C) (b : Contexts D)
     (p : ℕ) (who : Caller)
@@ -126,217 +114,48 @@ with_context-tied sys R a b p (caller.Handler i) c d h k =
           (body_in-tied R _ _ (AllTied-context_at (λ q. HandlerTied R) a.handlers b.handlers p h.handlers)) k);
     }
 
-pub delivered_to-tied : {C D : Type 0} (sys : SystemTables) (R : ℕ → C → D → Type 0) (M : Meaning C) (m : ℕ)
-    (N : Meaning D) (n : ℕ) → KeepsTie R M m N n
-    → (a : Contexts (Held C)) (b : Contexts (Held D)) (p : ℕ) (who : Caller) (reply : Reply)
-    → ContextsTied sys (HeldTied R) a b
-    → ContextsTied sys (HeldTied R) (delivered_to sys M a p who reply) (delivered_to sys N b p who reply)
-delivered_to-tied {C} {D} sys R M m N n k a b p who reply h =
-    with_context-tied sys (HeldTied R) a b p who _ _ h
-    (subst (λ (body : ℕ). OptionTied (HeldTied R (caller_body sys a p who))
-    (told M (caller_body sys a p who) reply (context_of a p who)) (told N body reply (context_of b p who)))
-    (caller_body-tied sys (HeldTied R) a b p who h)
-    (told-tied R M m N n k (caller_body sys a p who) reply (context_of a p who) (context_of b p who)
-    (context_of-tied sys (HeldTied R) a b p who h)))
+-- what is tied by Q is tied by R, where Q leads to R
+AllTied-grown : {C D : Type 0} (Q R : ℕ → C → D → Type 0) (cs : List (Option C)) (ds : List (Option D))
+    → ((i : ℕ) (c : C) (d : D) → Q i c d → R i c d) → AllTied Q cs ds → AllTied R cs ds
+AllTied-grown Q R [] [] g h = tt
+AllTied-grown Q R [] (d ∷ ds) g h = absurd h
+AllTied-grown Q R (c ∷ cs) [] g h = absurd h
+AllTied-grown Q R (None ∷ cs) (None ∷ ds) g h =
+    (tt, AllTied-grown (λ i. Q (suc i)) (λ i. R (suc i)) cs ds (λ i. g (suc i)) h.1)
+AllTied-grown Q R (Some c ∷ cs) (Some d ∷ ds) g h =
+    (g zero c d h.0, AllTied-grown (λ i. Q (suc i)) (λ i. R (suc i)) cs ds (λ i. g (suc i)) h.1)
+AllTied-grown Q R (None ∷ cs) (Some d ∷ ds) g h = absurd h.0
+AllTied-grown Q R (Some c ∷ cs) (None ∷ ds) g h = absurd h.0
 
-pub called_back-tied : {C D : Type 0} (sys : SystemTables) (R : ℕ → C → D → Type 0) (M : Meaning C) (m : ℕ)
-    (N : Meaning D) (n : ℕ) → KeepsTie R M m N n
-    → (a : Contexts (Held C)) (b : Contexts (Held D)) (p : ℕ) (who : Caller) (reply : Option Reply)
-    → ContextsTied sys (HeldTied R) a b
-    → ContextsTied sys (HeldTied R) (called_back sys M a p who reply) (called_back sys N b p who reply)
-called_back-tied sys R M m N n k a b p who None h = h
-called_back-tied sys R M m N n k a b p who (Some reply) h = delivered_to-tied sys R M m N n k a b p who reply h
-
-pub task_begun-tied : {C D : Type 0} (sys : SystemTables) (R : ℕ → C → D → Type 0) (M : Meaning C) (m : ℕ)
-    (N : Meaning D) (n : ℕ) → KeepsTie R M m N n
-    → (a : Contexts (Held C)) (b : Contexts (Held D)) (t : ℕ) → ContextsTied sys (HeldTied R) a b
-    → ContextsTied sys (HeldTied R) (task_begun sys M a t) (task_begun sys N b t)
-task_begun-tied sys R M m N n k a b t h =
+pub grown : {C D : Type 0} (sys : SystemTables) (Q R : ℕ → C → D → Type 0) (a : Contexts C) (b : Contexts D)
+    → ((body : ℕ) (c : C) (d : D) → Q body c d → R body c d) → ContextsTied sys Q a b → ContextsTied sys R a b
+grown sys Q R a b g h =
     record {
-      tasks = AllTied-slice_set (λ u. HeldTied R (task_body sys u)) a.tasks b.tasks t _ _ h.tasks
-          (k.starts (task_body sys t) (task_config sys t).exinf);
-      handlers = h.handlers;
+      tasks = AllTied-grown (λ t. Q (task_body sys t)) (λ t. R (task_body sys t)) a.tasks b.tasks
+          (λ t. g (task_body sys t)) h.tasks;
+      handlers = AllTied-grown (λ p. HandlerTied Q) (λ p. HandlerTied R) a.handlers b.handlers
+          (λ p c d x. record { bodies = x.bodies; contexts = g c.body c.context d.context x.contexts }) h.handlers;
     }
 
-fresh_context-tied : {C D : Type 0} (R : ℕ → C → D → Type 0) (M : Meaning C) (m : ℕ) (N : Meaning D) (n : ℕ)
-    → KeepsTie R M m N n
-    → (h : Option HandlerStart) → OptionTied (HandlerTied (HeldTied R)) (fresh_context M h) (fresh_context N h)
-fresh_context-tied R M m N n k None = tt
-fresh_context-tied R M m N n k (Some h) = record { bodies = refl; contexts = k.starts h.body h.exinf }
-
-pub handler_begun-tied : {C D : Type 0} (sys : SystemTables) (R : ℕ → C → D → Type 0) (M : Meaning C) (m : ℕ)
-    (N : Meaning D) (n : ℕ) → KeepsTie R M m N n
-    → (a : Contexts (Held C)) (b : Contexts (Held D)) (p : ℕ) (i : Handler) → ContextsTied sys (HeldTied R) a b
-    → ContextsTied sys (HeldTied R) (handler_begun sys M a p i) (handler_begun sys N b p i)
-handler_begun-tied sys R M m N n k a b p i h =
-    record {
-      tasks = h.tasks;
-      handlers = AllTied-slice_set (λ q. HandlerTied (HeldTied R)) a.handlers b.handlers p _ _ h.handlers
-          (fresh_context-tied R M m N n k (handler_start sys i));
-    }
-
-pub contexts_after-tied : {C D : Type 0} (sys : SystemTables) (R : ℕ → C → D → Type 0) (M : Meaning C) (m : ℕ)
-    (N : Meaning D) (n : ℕ) → KeepsTie R M m N n
-    → (a : Contexts (Held C)) (b : Contexts (Held D)) (l : Line) → ContextsTied sys (HeldTied R) a b
-    → ContextsTied sys (HeldTied R) (contexts_after sys M a l) (contexts_after sys N b l)
-contexts_after-tied sys R M m N n k a b (line.Starts p t) h = task_begun-tied sys R M m N n k a b t h
-contexts_after-tied sys R M m N n k a b (line.Gets p t reply) h =
-    delivered_to-tied sys R M m N n k a b p (caller.Task t) reply h
-contexts_after-tied sys R M m N n k a b (line.Begins p i) h = handler_begun-tied sys R M m N n k a b p i h
-contexts_after-tied sys R M m N n k a b (line.Call p who c reply) h = called_back-tied sys R M m N n k a b p who reply h
-contexts_after-tied sys R M m N n k a b (line.Tick c) h = h
-contexts_after-tied sys R M m N n k a b (line.Int i) h = h
-contexts_after-tied sys R M m N n k a b (line.End p who) h = h
-contexts_after-tied sys R M m N n k a b (line.Fault p who f) h = h
-contexts_after-tied sys R M m N n k a b (line.Pends p c) h = h
-contexts_after-tied sys R M m N n k a b (line.Runs p t) h = h
-
-pub contexts_after_all-tied : {C D : Type 0} (sys : SystemTables) (R : ℕ → C → D → Type 0) (M : Meaning C) (m : ℕ)
-    (N : Meaning D) (n : ℕ) → KeepsTie R M m N n
-    → (a : Contexts (Held C)) (b : Contexts (Held D)) (ls : List Line) → ContextsTied sys (HeldTied R) a b
-    → ContextsTied sys (HeldTied R) (contexts_after_all sys M a ls) (contexts_after_all sys N b ls)
-contexts_after_all-tied sys R M m N n k a b [] h = h
-contexts_after_all-tied sys R M m N n k a b (l ∷ ls) h =
-    contexts_after_all-tied sys R M m N n k (contexts_after sys M a l) (contexts_after sys N b l) ls
-    (contexts_after-tied sys R M m N n k a b l h)
-
-pub finished-tied : {C D : Type 0} (sys : SystemTables) (R : ℕ → C → D → Type 0) (M : Meaning C) (m : ℕ) (N : Meaning D)
-    (n : ℕ) → KeepsTie R M m N n
-    → (a : Contexts (Held C)) (b : Contexts (Held D)) (own : List Line) (g : Progress)
-    → ContextsTied sys (HeldTied R) a b
-    → BothDone sys R (finished sys M a own g) (finished sys N b own g)
-finished-tied sys R M m N n k a b own g h = (
-  refl,
-  record {
-    states = refl;
-    contexts =
-        contexts_after_all-tied sys R M m N n k a b (settled sys (record g { lines = own ++ g.lines })).lines h;
-  },
-)
-
-pub answered-tied : {C D : Type 0} (sys : SystemTables) (R : ℕ → C → D → Type 0) (M : Meaning C) (m : ℕ) (N : Meaning D)
-    (n : ℕ) → KeepsTie R M m N n
-    → (answer : Answer) (a : Contexts (Held C)) (b : Contexts (Held D)) (p : ℕ) (who : Caller) (c : Call) (g : Progress)
-    → ContextsTied sys (HeldTied R) a b
-    → DoneTied sys R (answered answer sys M a p who c g) (answered answer sys N b p who c g)
-answered-tied sys R M m N n k (Replies reply) a b p who c g h =
-    finished-tied sys R M m N n k a b (line.Call p who c (Some reply) ∷ []) g h
-answered-tied sys R M m N n k Waits a b p who c g h =
-    finished-tied sys R M m N n k a b (line.Call p who c None ∷ []) g h
-answered-tied sys R M m N n k Ends a b p who c g h = finished-tied sys R M m N n k a b (line.End p who ∷ []) g h
-answered-tied sys R M m N n k Spins a b p who c g h = tt
-
-pub stretched-tied : {C D : Type 0} (sys : SystemTables) (R : ℕ → C → D → Type 0) (M : Meaning C) (m : ℕ)
-    (N : Meaning D) (n : ℕ) → KeepsTie R M m N n
-    → (s : KernelState) (a : Contexts (Held C)) (b : Contexts (Held D)) (p : ℕ) (who : Caller) (x : Ending C)
-    (y : Ending D)
-    → ContextsTied sys (HeldTied R) a b → StretchTied (R (caller_body sys a p who)) Any x y
-    → DoneTied sys R (stretched sys M (record { state = s; contexts = a }) p who x)
-    (stretched sys N (record { state = s; contexts = b }) p who y)
-stretched-tied sys R M m N n k s a b p who _ _ h (over kept y) = tt
-stretched-tied sys R M m N n k s a b p who _ _ h (call c d made e) =
-    answered-tied sys R M m N n k (called sys s p who made).answer _ _ p who made (called sys s p who made).progress
-    (with_context-tied sys (HeldTied R) a b p who (Some (Awaits c)) (Some (Awaits d)) h e)
-stretched-tied sys R M m N n k s a b p who _ _ h (end_ c d e) =
-    finished-tied sys R M m N n k a b (line.End p who ∷ []) (actor_ended sys s p who) h
-stretched-tied sys R M m N n k s a b p who _ _ h (fault c d f e) =
-    finished-tied sys R M m N n k a b (line.Fault p who f ∷ []) (actor_ended sys s p who) h
+pub held_grown : {C D : Type 0} (A Q R : ℕ → C → D → Type 0) → ((body : ℕ) (c : C) (d : D) → Q body c d → R body c d)
+    → (body : ℕ) (c : Held C) (d : Held D) → HeldTied A Q body c d → HeldTied A R body c d
+held_grown A Q R g body (Goes c) (Goes d) h = g body c d h
+held_grown A Q R g body (Awaits c) (Awaits d) h = h
+held_grown A Q R g body (Goes c) (Awaits d) h = absurd h
+held_grown A Q R g body (Awaits c) (Goes d) h = absurd h
 
 -- what ties an end or a fault is not needed for what follows
-pub any_end : {C D : Type 0} (R S : C → D → Type 0) (x : Ending C) (y : Ending D) → StretchTied R S x y
-    → StretchTied R Any x y
-any_end R S _ _ (over kept y) = over kept y
-any_end R S _ _ (call c d made h) = call c d made h
-any_end R S _ _ (end_ c d h) = end_ c d tt
-any_end R S _ _ (fault c d f h) = fault c d f tt
-
-pub run_in-tied : {C D : Type 0} (sys : SystemTables) (R : ℕ → C → D → Type 0) (M : Meaning C) (m : ℕ) (N : Meaning D)
-    (n : ℕ) → KeepsTie R M m N n
-    → (s : KernelState) (a : Contexts (Held C)) (b : Contexts (Held D)) (p : ℕ) (who : Caller) (c : Option (Held C))
-    (d : Option (Held D))
-    → ContextsTied sys (HeldTied R) a b → OptionTied (HeldTied R (caller_body sys a p who)) c d
-    → DoneTied sys R (run_in sys M m (record { state = s; contexts = a }) p who c)
-    (run_in sys N n (record { state = s; contexts = b }) p who d)
-run_in-tied sys R M m N n k s a b p who None d h e = tt
-run_in-tied sys R M m N n k s a b p who (Some c) None h e = absurd e
-run_in-tied sys R M m N n k s a b p who (Some (Awaits c)) (Some (Awaits d)) h e = tt
-run_in-tied sys R M m N n k s a b p who (Some (Awaits c)) (Some (Goes d)) h e = absurd e
-run_in-tied sys R M m N n k s a b p who (Some (Goes c)) (Some (Awaits d)) h e = absurd e
-run_in-tied {C} {D} sys R M m N n k s a b p who (Some (Goes c)) (Some (Goes d)) h e =
-    stretched-tied sys R M m N n k s a b p who _ _ h
-    (subst (λ (body : ℕ). StretchTied (R (caller_body sys a p who)) Any
-    (M.stretch (caller_body sys a p who) m c) (N.stretch body n d))
-    (caller_body-tied sys (HeldTied R) a b p who h) (k.stretches (caller_body sys a p who) c d e))
-
-pub run_by-tied : {C D : Type 0} (sys : SystemTables) (R : ℕ → C → D → Type 0) (M : Meaning C) (m : ℕ) (N : Meaning D)
-    (n : ℕ) → KeepsTie R M m N n
-    → (s : KernelState) (a : Contexts (Held C)) (b : Contexts (Held D)) (p : ℕ) (who : Option Caller)
-    → ContextsTied sys (HeldTied R) a b
-    → DoneTied sys R (run_by sys M m (record { state = s; contexts = a }) p who)
-    (run_by sys N n (record { state = s; contexts = b }) p who)
-run_by-tied sys R M m N n k s a b p None h = tt
-run_by-tied sys R M m N n k s a b p (Some who) h =
-    run_in-tied sys R M m N n k s a b p who (context_of a p who) (context_of b p who) h
-    (context_of-tied sys (HeldTied R) a b p who h)
-
-pub interrupted_by-tied : {C D : Type 0} (sys : SystemTables) (R : ℕ → C → D → Type 0) (M : Meaning C) (m : ℕ)
-    (N : Meaning D) (n : ℕ) → KeepsTie R M m N n
-    → (pending : Bool) (s : KernelState) (a : Contexts (Held C)) (b : Contexts (Held D)) (i : ℕ)
-    → ContextsTied sys (HeldTied R) a b
-    → DoneTied sys R (interrupted_by pending sys M (record { state = s; contexts = a }) i)
-    (interrupted_by pending sys N (record { state = s; contexts = b }) i)
-interrupted_by-tied sys R M m N n k true s a b i h = tt
-interrupted_by-tied sys R M m N n k false s a b i h =
-    finished-tied sys R M m N n k a b (line.Int i ∷ []) (unchanged (with_interrupt_pending s i)) h
-
-pub interrupted-tied : {C D : Type 0} (sys : SystemTables) (R : ℕ → C → D → Type 0) (M : Meaning C) (m : ℕ)
-    (N : Meaning D) (n : ℕ) → KeepsTie R M m N n
-    → (config : Option InterruptConfig) (s : KernelState) (a : Contexts (Held C)) (b : Contexts (Held D)) (i : ℕ)
-    → ContextsTied sys (HeldTied R) a b
-    → DoneTied sys R (interrupted config sys M (record { state = s; contexts = a }) i)
-    (interrupted config sys N (record { state = s; contexts = b }) i)
-interrupted-tied sys R M m N n k None s a b i h = tt
-interrupted-tied sys R M m N n k (Some config) s a b i h = interrupted_by-tied sys R M m N n k _ s a b i h
-
-step-tied_in : {C D : Type 0} (sys : SystemTables) (R : ℕ → C → D → Type 0) (M : Meaning C) (m : ℕ) (N : Meaning D)
-    (n : ℕ) → KeepsTie R M m N n
-    → (s : KernelState) (a : Contexts (Held C)) (b : Contexts (Held D)) (e : Event) → ContextsTied sys (HeldTied R) a b
-    → DoneTied sys R (step sys M m (record { state = s; contexts = a }) e)
-    (step sys N n (record { state = s; contexts = b }) e)
-step-tied_in sys R M m N n k s a b (Run zero) h = tt
-step-tied_in sys R M m N n k s a b (Run (suc p)) h = run_by-tied sys R M m N n k s a b p (actor_of (processor_at s p)) h
-step-tied_in sys R M m N n k s a b Tick h =
-    finished-tied sys R M m N n k a b (line.Tick (s.clock + 1) ∷ []) (ticked sys s) h
-step-tied_in sys R M m N n k s a b (Int zero) h = tt
-step-tied_in sys R M m N n k s a b (Int (suc i)) h = interrupted-tied sys R M m N n k (interrupt_config sys i) s a b i h
-
--- where the first does something at an event, the second does it too, with the same lines, and they stay tied
-pub step-tied : {C D : Type 0} (sys : SystemTables) (R : ℕ → C → D → Type 0) (M : Meaning C) (m : ℕ) (N : Meaning D)
-    (n : ℕ) → KeepsTie R M m N n
-    → (v : World C) (w : World D) (e : Event) → WorldTied sys R v w
-    → DoneTied sys R (step sys M m v e) (step sys N n w e)
-step-tied {C} {D} sys R M m N n k v w e h =
-    subst (λ (s : KernelState). DoneTied sys R (step sys M m v e)
-    (step sys N n (record { state = s; contexts = w.contexts }) e)) h.states
-    (step-tied_in sys R M m N n k v.state v.contexts w.contexts e h.contexts)
+pub any_end : {C D : Type 0} (R S : C → D → Type 0) (K : C → Type 0) (x : Ending C) (y : Ending D)
+    → StretchTied R S K x y → StretchTied R Any K x y
+any_end R S K _ _ (over y) = over y
+any_end R S K _ _ (kept c y h) = kept c y h
+any_end R S K _ _ (call c d made h) = call c d made h
+any_end R S K _ _ (end_ c d h) = end_ c d tt
+any_end R S K _ _ (fault c d f h) = fault c d f tt
 
 body_at : (sys : SystemTables) (t : ℕ) (c : TaskConfig) → slice_get sys.tasks t ≡ Some c
     → body_of c.entry ≡ task_body sys t
 body_at sys t c e = rw e refl
-
--- setup gives both the same lines and ties them
-pub setup-tied : {C D : Type 0} (sys : SystemTables) (R : ℕ → C → D → Type 0) (M : Meaning C) (m : ℕ) (N : Meaning D)
-    (n : ℕ) → KeepsTie R M m N n
-    → BothDone sys R (setup sys M) (setup sys N)
-setup-tied sys R M m N n k =
-    finished-tied sys R M m N n k (first_contexts sys M) (first_contexts sys N) []
-    (all_started sys (unchanged (created_state sys)) (places_from 0 (length sys.tasks)))
-    (record {
-      tasks = AllTied-map (λ t. HeldTied R (task_body sys t)) _ _ sys.tasks
-          (λ t c e. subst (λ (b : ℕ). R b (M.start (body_of c.entry) c.exinf) (N.start (body_of c.entry) c.exinf))
-          (body_at sys t c e) (k.starts (body_of c.entry) c.exinf));
-      handlers = AllTied-replicate (λ p. HandlerTied (HeldTied R)) sys.processors;
-    })
 
 completed_by-agrees : {C D : Type 0} (ls ms : List Line) (r : Option (Trace C)) (s : Option (Trace D)) → ls ≡ ms
     → TraceAgrees r s
@@ -346,44 +165,230 @@ completed_by-agrees ls ms (Some r) None e h = absurd h
 completed_by-agrees ls ms (Some r) (Some s) e h =
     (ap (λ (q : List Line). q ∷ r.events) e ∙ ap (λ (q : List (List Line)). ms ∷ q) h.0, h.1)
 
-completed_on-agrees : {C D : Type 0} (sys : SystemTables) (R : ℕ → C → D → Type 0) (x : Reaction C) (y : Reaction D)
-    (f : World C → Option (Trace C)) (g : World D → Option (Trace D)) → DoneTied sys R x y
-    → ((v : World C) (w : World D) → WorldTied sys R v w → TraceAgrees (f v) (g w))
+completed_on-agrees : {C D : Type 0} {A : ℕ → C → D → Type 0} (sys : SystemTables) (R : ℕ → C → D → Type 0)
+    (K : World C → Type 0) (x : Reaction C) (y : Reaction D)
+    (f : World C → Option (Trace C)) (g : World D → Option (Trace D)) → DoneTied sys A R K x y
+    → ((v : World C) (w : World D) → WorldTied sys A R v w → TraceAgrees (f v) (g w))
     → TraceAgrees (completed_on x f) (completed_on y g)
-completed_on-agrees sys R Nothing y f g h rest = tt
-completed_on-agrees sys R (Did x) Nothing f g h rest = absurd h
-completed_on-agrees sys R (Did x) (Did y) f g h rest =
+completed_on-agrees sys R K Nothing y f g h rest = tt
+completed_on-agrees sys R K (Kept x) y f g h rest = tt
+completed_on-agrees sys R K (Did x) (Kept y) f g h rest = absurd h
+completed_on-agrees sys R K (Did x) Nothing f g h rest = absurd h
+completed_on-agrees sys R K (Did x) (Did y) f g h rest =
     completed_by-agrees x.lines y.lines _ _ h.0 (rest x.world y.world h.1)
 
+module _ {C D : Type 0} {A Q : ℕ → C → D → Type 0} {again : ℕ → D → D → Type 0} (sys : SystemTables)
+    (R : ℕ → C → D → Type 0) (M : Meaning C) (m : ℕ) (N : Meaning D) (n : ℕ) (k : KeepsTie A Q R again M m N n) where
+  pub told-tied : (body : ℕ) (reply : Reply) (c : Option (Held C)) (d : Option (Held D))
+      → OptionTied (HeldTied A R body) c d → OptionTied (HeldTied A R body) (told M body reply c) (told N body reply d)
+  told-tied body reply None None h = tt
+  told-tied body reply None (Some d) h = absurd h
+  told-tied body reply (Some c) None h = absurd h
+  told-tied body reply (Some (Goes c)) (Some (Goes d)) h = h
+  told-tied body reply (Some (Awaits c)) (Some (Awaits d)) h = k.delivers body c d reply h
+  told-tied body reply (Some (Goes c)) (Some (Awaits d)) h = absurd h
+  told-tied body reply (Some (Awaits c)) (Some (Goes d)) h = absurd h
+
+  pub delivered_to-tied : (a : Contexts (Held C)) (b : Contexts (Held D)) (p : ℕ) (who : Caller) (reply : Reply)
+      → ContextsTied sys (HeldTied A R) a b
+      → ContextsTied sys (HeldTied A R) (delivered_to sys M a p who reply) (delivered_to sys N b p who reply)
+  delivered_to-tied a b p who reply h =
+      with_context-tied sys (HeldTied A R) a b p who _ _ h
+      (subst (λ (body : ℕ). OptionTied (HeldTied A R (caller_body sys a p who))
+      (told M (caller_body sys a p who) reply (context_of a p who)) (told N body reply (context_of b p who)))
+      (caller_body-tied sys (HeldTied A R) a b p who h)
+      (told-tied (caller_body sys a p who) reply (context_of a p who) (context_of b p who)
+      (context_of-tied sys (HeldTied A R) a b p who h)))
+
+  pub called_back-tied : (a : Contexts (Held C)) (b : Contexts (Held D)) (p : ℕ) (who : Caller) (reply : Option Reply)
+      → ContextsTied sys (HeldTied A R) a b
+      → ContextsTied sys (HeldTied A R) (called_back sys M a p who reply) (called_back sys N b p who reply)
+  called_back-tied a b p who None h = h
+  called_back-tied a b p who (Some reply) h = delivered_to-tied a b p who reply h
+
+  pub task_begun-tied : (a : Contexts (Held C)) (b : Contexts (Held D)) (t : ℕ) → ContextsTied sys (HeldTied A R) a b
+      → ContextsTied sys (HeldTied A R) (task_begun sys M a t) (task_begun sys N b t)
+  task_begun-tied a b t h =
+      record {
+        tasks = AllTied-slice_set (λ u. HeldTied A R (task_body sys u)) a.tasks b.tasks t _ _ h.tasks
+            (k.starts (task_body sys t) (task_config sys t).exinf);
+        handlers = h.handlers;
+      }
+
+  fresh_context-tied : (h : Option HandlerStart)
+      → OptionTied (HandlerTied (HeldTied A R)) (fresh_context M h) (fresh_context N h)
+  fresh_context-tied None = tt
+  fresh_context-tied (Some h) = record { bodies = refl; contexts = k.starts h.body h.exinf }
+
+  pub handler_begun-tied : (a : Contexts (Held C)) (b : Contexts (Held D)) (p : ℕ) (i : Handler)
+      → ContextsTied sys (HeldTied A R) a b
+      → ContextsTied sys (HeldTied A R) (handler_begun sys M a p i) (handler_begun sys N b p i)
+  handler_begun-tied a b p i h =
+      record {
+        tasks = h.tasks;
+        handlers = AllTied-slice_set (λ q. HandlerTied (HeldTied A R)) a.handlers b.handlers p _ _ h.handlers
+            (fresh_context-tied (handler_start sys i));
+      }
+
+  pub contexts_after-tied : (a : Contexts (Held C)) (b : Contexts (Held D)) (l : Line)
+      → ContextsTied sys (HeldTied A R) a b
+      → ContextsTied sys (HeldTied A R) (contexts_after sys M a l) (contexts_after sys N b l)
+  contexts_after-tied a b (line.Starts p t) h = task_begun-tied a b t h
+  contexts_after-tied a b (line.Gets p t reply) h =
+      delivered_to-tied a b p (caller.Task t) reply h
+  contexts_after-tied a b (line.Begins p i) h = handler_begun-tied a b p i h
+  contexts_after-tied a b (line.Call p who c reply) h = called_back-tied a b p who reply h
+  contexts_after-tied a b (line.Tick c) h = h
+  contexts_after-tied a b (line.Int i) h = h
+  contexts_after-tied a b (line.End p who) h = h
+  contexts_after-tied a b (line.Fault p who f) h = h
+  contexts_after-tied a b (line.Pends p c) h = h
+  contexts_after-tied a b (line.Runs p t) h = h
+
+  pub contexts_after_all-tied : (a : Contexts (Held C)) (b : Contexts (Held D)) (ls : List Line)
+      → ContextsTied sys (HeldTied A R) a b
+      → ContextsTied sys (HeldTied A R) (contexts_after_all sys M a ls) (contexts_after_all sys N b ls)
+  contexts_after_all-tied a b [] h = h
+  contexts_after_all-tied a b (l ∷ ls) h =
+      contexts_after_all-tied (contexts_after sys M a l) (contexts_after sys N b l) ls
+      (contexts_after-tied a b l h)
+
+  pub finished-tied : (a : Contexts (Held C)) (b : Contexts (Held D)) (own : List Line) (g : Progress)
+      → ContextsTied sys (HeldTied A R) a b → BothDone sys A R (finished sys M a own g) (finished sys N b own g)
+  finished-tied a b own g h = (
+    refl,
+    record {
+      states = refl;
+      contexts =
+          contexts_after_all-tied a b (settled sys (record g { lines = own ++ g.lines })).lines h;
+    },
+  )
+
+  pub answered-tied : (K : World C → Type 0) (answer : Answer) (a : Contexts (Held C)) (b : Contexts (Held D)) (p : ℕ)
+      (who : Caller) (c : Call) (g : Progress) → ContextsTied sys (HeldTied A R) a b
+      → DoneTied sys A R K (answered answer sys M a p who c g) (answered answer sys N b p who c g)
+  answered-tied K (Replies reply) a b p who c g h = finished-tied a b (line.Call p who c (Some reply) ∷ []) g h
+  answered-tied K Waits a b p who c g h = finished-tied a b (line.Call p who c None ∷ []) g h
+  answered-tied K Ends a b p who c g h = finished-tied a b (line.End p who ∷ []) g h
+  answered-tied K Spins a b p who c g h = tt
+
+  pub stretched-tied : (K : World C → Type 0) (s : KernelState) (a : Contexts (Held C)) (b : Contexts (Held D)) (p : ℕ)
+      (who : Caller) (d0 : D) (x : Ending C) (y : Ending D) → ContextsTied sys (HeldTied A R) a b
+      → StretchTied (A (caller_body sys a p who)) Any
+      (λ c. (e : D) × again (caller_body sys b p who) d0 e × R (caller_body sys a p who) c e) x y
+      → ((v : World C) (e : D) → again (caller_body sys b p who) d0 e
+      → WorldTied sys A R v (with_place (record { state = s; contexts = b }) p who e) → K v)
+      → DoneTied sys A R K (stretched sys M (record { state = s; contexts = a }) p who x)
+      (stretched sys N (record { state = s; contexts = b }) p who y)
+  stretched-tied K s a b p who d0 _ _ h (over y) f = tt
+  stretched-tied K s a b p who d0 _ _ h (kept c y e) f =
+      f _ e.0 e.1 (record {
+        states = refl;
+        contexts = with_context-tied sys (HeldTied A R) a b p who (Some (Goes c))
+            (Some (Goes e.0)) h e.2;
+      })
+  stretched-tied K s a b p who d0 _ _ h (call c d made e) f =
+      answered-tied K (called sys s p who made).answer _ _ p who made (called sys s p who made).progress
+      (with_context-tied sys (HeldTied A R) a b p who (Some (Awaits c)) (Some (Awaits d)) h e)
+  stretched-tied K s a b p who d0 _ _ h (end_ c d e) f =
+      finished-tied a b (line.End p who ∷ []) (actor_ended sys s p who) h
+  stretched-tied K s a b p who d0 _ _ h (fault c d g e) f =
+      finished-tied a b (line.Fault p who g ∷ []) (actor_ended sys s p who) h
+
+  pub run_in-tied : (K : World C → Type 0) (s : KernelState) (a : Contexts (Held C)) (b : Contexts (Held D)) (p : ℕ)
+      (who : Caller) (c : Option (Held C)) (d : Option (Held D)) → ContextsTied sys (HeldTied A R) a b
+      → OptionTied (HeldTied A Q (caller_body sys a p who)) c d
+      → ((d0 : D) (v : World C) (e : D) → d ≡ Some (Goes d0) → again (caller_body sys b p who) d0 e
+      → WorldTied sys A R v (with_place (record { state = s; contexts = b }) p who e) → K v)
+      → DoneTied sys A R K (run_in sys M m (record { state = s; contexts = a }) p who c)
+      (run_in sys N n (record { state = s; contexts = b }) p who d)
+  run_in-tied K s a b p who None d h e f = tt
+  run_in-tied K s a b p who (Some c) None h e f = absurd e
+  run_in-tied K s a b p who (Some (Awaits c)) (Some (Awaits d)) h e f = tt
+  run_in-tied K s a b p who (Some (Awaits c)) (Some (Goes d)) h e f = absurd e
+  run_in-tied K s a b p who (Some (Goes c)) (Some (Awaits d)) h e f = absurd e
+  run_in-tied K s a b p who (Some (Goes c)) (Some (Goes d)) h e f =
+      stretched-tied K s a b p who d _ _ h
+      (subst (λ (body : ℕ). StretchTied (A (caller_body sys a p who)) Any
+      (λ c'. (e : D) × again body d e × R (caller_body sys a p who) c' e) (M.stretch (caller_body sys a p who) m c)
+      (N.stretch body n d))
+      (caller_body-tied sys (HeldTied A R) a b p who h) (k.stretches (caller_body sys a p who) c d e))
+      (λ v e. f d v e refl)
+
+  pub run_by-tied : (s : KernelState) (a : Contexts (Held C)) (b : Contexts (Held D)) (p : ℕ) (who : Option Caller)
+      → who ≡ actor_of (processor_at s p) → ContextsTied sys (HeldTied A Q) a b
+      → DoneTied sys A R (KeptOn sys A R again (record { state = s; contexts = b }) (Run (suc p)))
+      (run_by sys M m (record { state = s; contexts = a }) p who)
+      (run_by sys N n (record { state = s; contexts = b }) p who)
+  run_by-tied s a b p None q h = tt
+  run_by-tied s a b p (Some who) q h =
+      run_in-tied _ s a b p who (context_of a p who) (context_of b p who)
+      (grown sys (HeldTied A Q) (HeldTied A R) a b (held_grown A Q R k.grows) h)
+      (context_of-tied sys (HeldTied A Q) a b p who h)
+      (λ d0 v next e l t. record
+      { who = who; actor = sym q; context = d0; there = e; next = next; leads = l; tied = t })
+
+  pub interrupted_by-tied : (K : World C → Type 0) (pending : Bool) (s : KernelState) (a : Contexts (Held C))
+      (b : Contexts (Held D)) (i : ℕ) → ContextsTied sys (HeldTied A R) a b
+      → DoneTied sys A R K (interrupted_by pending sys M (record { state = s; contexts = a }) i)
+      (interrupted_by pending sys N (record { state = s; contexts = b }) i)
+  interrupted_by-tied K true s a b i h = tt
+  interrupted_by-tied K false s a b i h =
+      finished-tied a b (line.Int i ∷ []) (unchanged (with_interrupt_pending s i)) h
+
+  pub interrupted-tied : (K : World C → Type 0) (config : Option InterruptConfig) (s : KernelState)
+      (a : Contexts (Held C)) (b : Contexts (Held D)) (i : ℕ) → ContextsTied sys (HeldTied A R) a b
+      → DoneTied sys A R K (interrupted config sys M (record { state = s; contexts = a }) i)
+      (interrupted config sys N (record { state = s; contexts = b }) i)
+  interrupted-tied K None s a b i h = tt
+  interrupted-tied K (Some config) s a b i h = interrupted_by-tied K _ s a b i h
+
+  step-tied_in : (s : KernelState) (a : Contexts (Held C)) (b : Contexts (Held D)) (e : Event)
+      → ContextsTied sys (HeldTied A Q) a b
+      → DoneTied sys A R (KeptOn sys A R again (record { state = s; contexts = b }) e)
+      (step sys M m (record { state = s; contexts = a }) e) (step sys N n (record { state = s; contexts = b }) e)
+  step-tied_in s a b (Run zero) h = tt
+  step-tied_in s a b (Run (suc p)) h = run_by-tied s a b p (actor_of (processor_at s p)) refl h
+  step-tied_in s a b Tick h = finished-tied a b (line.Tick (s.clock + 1) ∷ []) (ticked sys s)
+      (grown sys (HeldTied A Q) (HeldTied A R) a b (held_grown A Q R k.grows) h)
+  step-tied_in s a b (Int zero) h = tt
+  step-tied_in s a b (Int (suc i)) h = interrupted-tied _ (interrupt_config sys i) s a b i
+      (grown sys (HeldTied A Q) (HeldTied A R) a b (held_grown A Q R k.grows) h)
+
+  -- where the first does something at an event, the second does it too, with the same lines, and they stay tied
+  pub step-tied : (v : World C) (w : World D) (e : Event) → WorldTied sys A Q v w
+      → DoneTied sys A R (KeptOn sys A R again w e) (step sys M m v e) (step sys N n w e)
+  step-tied v w e h =
+      subst (λ (s : KernelState). DoneTied sys A R
+      (KeptOn sys A R again (record { state = s; contexts = w.contexts }) e) (step sys M m v e)
+      (step sys N n (record { state = s; contexts = w.contexts }) e)) h.states
+      (step-tied_in v.state v.contexts w.contexts e h.contexts)
+
+  -- setup gives both the same lines and ties them
+  pub setup-tied : BothDone sys A R (setup sys M) (setup sys N)
+  setup-tied =
+      finished-tied (first_contexts sys M) (first_contexts sys N) []
+      (all_started sys (unchanged (created_state sys)) (places_from 0 (length sys.tasks)))
+      (record {
+        tasks = AllTied-map (λ t. HeldTied A R (task_body sys t)) _ _ sys.tasks
+            (λ t c e. subst (λ (b : ℕ). R b (M.start (body_of c.entry) c.exinf) (N.start (body_of c.entry) c.exinf))
+            (body_at sys t c e) (k.starts (body_of c.entry) c.exinf));
+        handlers = AllTied-replicate (λ p. HandlerTied (HeldTied A R)) sys.processors;
+      })
+
 -- tied worlds have the same lines and the same state at the end of every run that the first completes
-pub complete_run-tied : {C D : Type 0} (sys : SystemTables) (R : ℕ → C → D → Type 0) (M : Meaning C) (m : ℕ)
-    (N : Meaning D) (n : ℕ) → KeepsTie R M m N n
-    → (v : World C) (w : World D) (es : List Event) → WorldTied sys R v w
+pub complete_run-tied : {C D : Type 0} {A : ℕ → C → D → Type 0} {again : ℕ → D → D → Type 0} (sys : SystemTables)
+    (R : ℕ → C → D → Type 0) (M : Meaning C) (m : ℕ) (N : Meaning D) (n : ℕ) → KeepsTie A R R again M m N n
+    → (v : World C) (w : World D) (es : List Event) → WorldTied sys A R v w
     → TraceAgrees (complete_run sys M m v es) (complete_run sys N n w es)
 complete_run-tied sys R M m N n k v w [] h = (refl, h.states)
 complete_run-tied sys R M m N n k v w (e ∷ es) h =
-    completed_on-agrees sys R (step sys M m v e) (step sys N n w e) _ _ (step-tied sys R M m N n k v w e h)
+    completed_on-agrees sys R _ (step sys M m v e) (step sys N n w e) _ _ (step-tied sys R M m N n k v w e h)
     (λ v' w' q. complete_run-tied sys R M m N n k v' w' es q)
 
-done_on-completes : {C : Type 0} (sys : SystemTables) (M : Meaning C) (m : ℕ) (w : World C) (e : Event) (o : Reaction C)
-    (f : World C → List Event) (g : World C → Trace C) → step sys M m w e ≡ o
-    → ((v : World C) → complete_run sys M m v (f v) ≡ Some (g v))
-    → complete_run sys M m w (done_on w e o f) ≡ Some (run_on w o g)
-done_on-completes sys M m w e Nothing f g h rest = rest w
-done_on-completes {C} sys M m w e (Did d) f g h rest =
-    ap (λ (o : Reaction C). completed_on o (λ v. complete_run sys M m v (f d.world))) h ∙ ap (completed_by d.lines)
-    (rest d.world)
-
--- the events of a run that did something are a complete run of their own, with the same lines and the same end
-pub complete_run-done_events : {C : Type 0} (sys : SystemTables) (M : Meaning C) (m : ℕ) (w : World C) (es : List Event)
-    → complete_run sys M m w (done_events sys M m w es) ≡ Some (run sys M m w es)
-complete_run-done_events sys M m w [] = refl
-complete_run-done_events sys M m w (e ∷ es) =
-    done_on-completes sys M m w e (step sys M m w e) _ _ refl (λ v. complete_run-done_events sys M m v es)
-
 -- the same from setup on
-pub setup_run-tied : {C D : Type 0} (sys : SystemTables) (R : ℕ → C → D → Type 0) (M : Meaning C) (m : ℕ)
-    (N : Meaning D) (n : ℕ) → KeepsTie R M m N n
+pub setup_run-tied : {C D : Type 0} {A : ℕ → C → D → Type 0} {again : ℕ → D → D → Type 0} (sys : SystemTables)
+    (R : ℕ → C → D → Type 0) (M : Meaning C) (m : ℕ) (N : Meaning D) (n : ℕ) → KeepsTie A R R again M m N n
     → (es : List Event)
     → TraceAgrees (complete_run sys M m (setup sys M).world es) (complete_run sys N n (setup sys N).world es)
 setup_run-tied sys R M m N n k es =

@@ -23,8 +23,8 @@ pub enum Stretch<C> {
     End(C),
     /// It stops with this fault.
     Fault(C, Fault),
-    /// It needs more than the bound.
-    Over,
+    /// It needs more than the bound, at which this context stands.
+    Over(C),
 }
 
 /// What is kept of a body between its stretches.

@@ -43,7 +43,7 @@ pub trait Body {
         ensures context { is_context self.now entry result };
 
     /// A stretch of a body, of at most n units, that leaves its context in place of the one from which it began. Where
-    /// it is over its bound, what stands there is no context: a caller who needs the first one again keeps a copy.
+    /// it is over its bound, the context at the bound stands there.
     fn stretch_in_place(&self, entry: u8, n: u64, context: &mut Self::Ctx) -> Stop
         requires entry { has_entry self.now entry }
         requires context { is_context self.now entry context.old }
@@ -63,7 +63,10 @@ pub trait Body {
                 *context = after;
                 Stop::Fault(fault)
             }
-            Stretch::Over => Stop::Over,
+            Stretch::Over(after) => {
+                *context = after;
+                Stop::Over
+            }
         }
     }
 

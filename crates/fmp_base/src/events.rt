@@ -14,11 +14,14 @@ pub enum Event {
     Int(u8),
 }
 
-/// Whether an event did something.
+/// What an event did.
 #[derive(Clone, Copy, Debug, PartialEq, Eq)]
 pub enum Effect {
     /// It changed the state, and takes the next number of the trace.
     Done,
+    /// The bound was reached, and the context that stands there is kept. There is no line, and the trace goes on at the
+    /// same number.
+    Kept,
     /// The state is as it was, and there is no line.
     Nothing,
 }

@@ -12,6 +12,6 @@ pub enum Stop {
     End,
     /// It stops with this fault.
     Fault(Fault),
-    /// It needs more than the bound, and no context stands in place of the old one.
+    /// It needs more than the bound, at which the context that it leaves stands.
     Over,
 }

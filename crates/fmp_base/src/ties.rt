@@ -1,5 +1,5 @@
 //! Two meanings of bodies side by side.
-ghost use Rattle.std.specs.Prelude.{ℕ, List};
+ghost use Rattle.std.specs.Prelude.{◌≡◌, ℕ, List};
 ghost use Rattle.fmp_base.specs.declared.events.Event.{Event};
 ghost use Rattle.fmp_base.specs.Meanings.{Meaning};
 ghost use Rattle.fmp_base.specs.Runs.{complete_run};
@@ -24,7 +24,7 @@ pub trait Tie {
 
     ghost tied: { ℕ → Self.First → Self.Second → Type 0 };
 
-    ghost keeps: { KeepsTie tied first first_bound second second_bound };
+    ghost keeps: { KeepsTie tied tied tied (λ body d e. d ≡ e) first first_bound second second_bound };
 }
 
 /// A law: what the first of two tied meanings finishes, the second finishes with the same lines and the same end.
