@@ -29,7 +29,7 @@ use Rattle.fmp_base.specs.Runs.{Trace, run, run_on}
 use Rattle.fmp_base.specs.Settles.{begun, dispatched, dispatch_lines, is_same_task, is_dispatch_held, handler_to_begin, settled_with, settled_on, all_settled, settled}
 use Rattle.fmp_base.specs.Setups.{setup, all_started, created_state, first_contexts}
 use Rattle.fmp_base.specs.States.{KernelState, Progress, unchanged, task_at, processor_at, places_from}
-use Rattle.fmp_base.specs.Steps.{Done, Reaction, Nothing, Did, actor_by, actor_ended, actor_of, finished, answered, stretched, run_in, run_by, interrupted, interrupted_by, step}
+use Rattle.fmp_base.specs.Steps.{Done, Reaction, Nothing, Did, Kept, actor_by, actor_ended, actor_of, finished, answered, stretched, run_in, run_by, interrupted, interrupted_by, step}
 use Rattle.fmp_base.specs.Stretches.{Ending}
 use Rattle.fmp_base.specs.Stretches as ends
 use Rattle.fmp_base.specs.Systems.{SystemTables, body_of, interrupt_config}
@@ -39,7 +39,7 @@ use Rattle.fmp_worlds.specs.Stamps.{applied_by, applied_in}
 use Rattle.fmp_worlds.proofs.Assigned.{set_at, set_over, set_other}
 use Rattle.fmp_worlds.proofs.CalledLemmas.{keeps-task_call, keeps-handler_call}
 use Rattle.fmp_worlds.proofs.Kept.{LeavesKept, applied-kept, setup-kept, step-kept}
-use Rattle.fmp_worlds.proofs.SettledLaws.{run-settled, setup-settled, step-settled}
+use Rattle.fmp_worlds.proofs.SettledLaws.{run-settled, setup-settled, step-settled, kept-settled}
 use Rattle.fmp_worlds.proofs.StampLaws.{applied-leaves_settled}
 use Rattle.fmp_worlds.proofs.StepLemmas.{LeavesSettled}
 use Rattle.fmp_worlds.proofs.TickLemmas.{woken-ticked}
@@ -218,6 +218,7 @@ module _ {C : Type 0} (sys : SystemTables) where
 abbrev LeavesFree : {C : Type 0} → Reaction C → Type 0
 LeavesFree Nothing = Unit {0}
 LeavesFree (Did d) = NoneAwaits d.world
+LeavesFree (Kept v) = NoneAwaits v
 
 module _ {C : Type 0} (sys : SystemTables) (M : Meaning C) where
   finished-free : (cs : Contexts (Held C)) (own : List Line) (g : Progress)
@@ -332,7 +333,17 @@ module _ {C : Type 0} (sys : SystemTables) (M : Meaning C) where
   stretched-free w p (caller.Task me) (ends.Fault c fault) h =
       caused_free w (line.Fault p (caller.Task me) fault) _ refl (woken-ended_itself sys w.state p me (task_at w.state.tasks me)) h
   stretched-free w p (caller.Handler i) (ends.Fault c fault) h = caused_free w (line.Fault p (caller.Handler i) fault) (actor_ended sys w.state p (caller.Handler i)) refl (still (λ t r. r)) h
-  stretched-free w p who (ends.Over kept) h = tt
+  stretched-free w p who (ends.Over None) h = tt
+  stretched-free w p (caller.Task me) (ends.Over (Some c)) h =
+      record {
+        tasks = λ t r. set_at None (OnTask sys M) w.contexts.tasks me (Some (Goes c)) t (λ e. tt) (h.tasks t r);
+        handlers = h.handlers;
+      }
+  stretched-free w p (caller.Handler i) (ends.Over (Some c)) h =
+      record {
+        tasks = h.tasks;
+        handlers = λ q. set_at None (OnHandler sys M) w.contexts.handlers p _ q (λ e. tt) (h.handlers q);
+      }
 
   run_in-free : (n : ℕ) (w : World C) (p : ℕ) (who : Caller) (o : Option (Held C)) → NoneAwaits w → LeavesFree (run_in sys M n w p who o)
   run_in-free n w p who None h = tt
@@ -361,6 +372,7 @@ module _ {C : Type 0} (sys : SystemTables) (M : Meaning C) where
       → ((v : World C) → NoneAwaits v → NoneAwaits (rest v).world) → NoneAwaits (run_on w x rest).world
   run_on-free w Nothing rest h k go = go w h
   run_on-free w (Did d) rest h k go = go d.world k
+  run_on-free w (Kept v) rest h k go = go v k
 
   run-free : (n : ℕ) (w : World C) (es : List Event) → NoneAwaits w → NoneAwaits (run sys M n w es).world
   run-free n w [] h = h
@@ -419,6 +431,17 @@ module _ {C : Type 0} (sys : SystemTables) (M : Meaning C) where
         free = subst (λ (r : Reaction C). LeavesFree r) k (step-free n w e h.free);
       }
 
+  -- and each event that keeps a place
+  pub kept-settled_world : (n : ℕ) (w : World C) (e : Event) (v : World C) → IsSettledWorld sys w
+      → IsWorldOf sys v → step sys M n w e ≡ Kept v → IsSettledWorld sys v
+  kept-settled_world n w e v h whole k =
+      record {
+        whole = whole;
+        state = kept-settled sys M n w e v h.state k;
+        kept = subst (λ (r : Reaction C). LeavesKept sys M r) k (step-kept sys M n w e h.state h.kept);
+        free = subst (λ (r : Reaction C). LeavesFree r) k (step-free n w e h.free);
+      }
+
   -- and each stretch that is handed in
   pub applied-settled_world : (w : World C) (p : ℕ) (x : Ending C) (d : Done C) → IsSettledWorld sys w
       → IsWorldOf sys d.world → applied_by sys M w p (actor_of (processor_at w.state p)) x ≡ Did d → IsSettledWorld sys d.world
@@ -427,6 +450,17 @@ module _ {C : Type 0} (sys : SystemTables) (M : Meaning C) where
         whole = whole;
         state = subst (λ (r : Reaction C). LeavesSettled sys r) k (applied-leaves_settled sys M w p x h.state);
         kept = subst (λ (r : Reaction C). LeavesKept sys M r) k (applied-kept sys M w p x h.state h.kept) (few_in d.world whole);
+        free = subst (λ (r : Reaction C). LeavesFree r) k (applied_by-free w p (actor_of (processor_at w.state p)) x h.free);
+      }
+
+  -- also where it keeps its place
+  pub applied-kept_world : (w : World C) (p : ℕ) (x : Ending C) (v : World C) → IsSettledWorld sys w
+      → IsWorldOf sys v → applied_by sys M w p (actor_of (processor_at w.state p)) x ≡ Kept v → IsSettledWorld sys v
+  applied-kept_world w p x v h whole k =
+      record {
+        whole = whole;
+        state = subst (λ (r : Reaction C). LeavesSettled sys r) k (applied-leaves_settled sys M w p x h.state);
+        kept = subst (λ (r : Reaction C). LeavesKept sys M r) k (applied-kept sys M w p x h.state h.kept);
         free = subst (λ (r : Reaction C). LeavesFree r) k (applied_by-free w p (actor_of (processor_at w.state p)) x h.free);
       }
 

@@ -24,7 +24,7 @@ use Rattle.fmp_base.specs.ProcessorCalls.{is_cpu_locked}
 use Rattle.fmp_base.specs.Queues.{top}
 use Rattle.fmp_base.specs.Settles.{begun, dispatched, dispatch_lines, is_same_task, runs_handler, is_dispatch_held, handler_to_begin, pending_handler, settled_with, settled_on, all_settled, settled}
 use Rattle.fmp_base.specs.States.{KernelState, Progress, unchanged, task_at, processor_at, idle, places_from}
-use Rattle.fmp_base.specs.Steps.{Reaction, Nothing, Did, finished, actor_by, actor_ended, answered, stretched, run_in, run_by, interrupted, interrupted_by, step}
+use Rattle.fmp_base.specs.Steps.{Reaction, Nothing, Did, Kept, finished, actor_by, actor_ended, answered, stretched, run_in, run_by, interrupted, interrupted_by, step}
 use Rattle.fmp_base.specs.Stretches.{Ending}
 use Rattle.fmp_base.specs.Stretches as ends
 use Rattle.fmp_base.specs.Systems.{SystemTables, interrupt_config}
@@ -257,6 +257,7 @@ apart-context {C} sys cs p q (caller.Handler i) (caller.Handler j) b c y n m h =
 abbrev pub LeavesGoing : {C : Type 0} → SystemTables → ℕ → Caller → ℕ → C → Reaction C → Type 0
 LeavesGoing sys p who b c Nothing = Unit {0}
 LeavesGoing sys p who b c (Did d) = IsGoing sys d.world.contexts p who b c
+LeavesGoing sys p who b c (Kept v) = IsGoing sys v.contexts p who b c
 
 module _ {C : Type 0} (sys : SystemTables) (M : Meaning C) (p : ℕ) (who : Caller) (b : ℕ) (c : C) where
   stays : (s u : KernelState) → (processor_at u p).handler ≡ (processor_at s p).handler → ActsOn p who s → Stays p who u
@@ -347,7 +348,9 @@ module _ {C : Type 0} (sys : SystemTables) (M : Meaning C) (p : ℕ) (who : Call
         by_kind : (who : Caller) → Spares p who (line.Fault q other fault)
         by_kind (caller.Task t) = tt
         by_kind (caller.Handler j) = tt
-  stretched-going w q other (ends.Over kept) n i a k h = tt
+  stretched-going w q other (ends.Over None) n i a k h = tt
+  stretched-going w q other (ends.Over (Some d)) n i a k h =
+      apart-context sys w.contexts p q who other b c (Some (Goes d)) n (apart w.state q other n i a k) h
 
   run_in-going : (n : ℕ) (w : World C) (q : ℕ) (other : Caller) (o : Option (Held C)) → (q ≡ p → ⊥) → IsActor sys w.state q other → Holds w.state
       → ActsOn p who w.state → IsGoing sys w.contexts p who b c → LeavesGoing sys p who b c (run_in sys M n w q other o)

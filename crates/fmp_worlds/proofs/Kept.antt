@@ -29,7 +29,7 @@ use Rattle.fmp_base.specs.Settles.{dispatched, dispatch_lines, is_same_task, run
 use Rattle.fmp_base.specs.ProcessorCalls.{is_cpu_locked}
 use Rattle.fmp_base.specs.Setups.{setup, all_started, started_if, created_state, first_contexts}
 use Rattle.fmp_base.specs.States.{KernelState, Progress, unchanged, task_at, processor_at, with_processor, idle, places_from}
-use Rattle.fmp_base.specs.Steps.{Reaction, Nothing, Did, actor_by, actor_ended, actor_of, call_made, finished, handler_ended, answered, stretched, run_in, run_by, interrupted, interrupted_by, step}
+use Rattle.fmp_base.specs.Steps.{Reaction, Nothing, Did, Kept, actor_by, actor_ended, actor_of, call_made, finished, handler_ended, answered, stretched, run_in, run_by, interrupted, interrupted_by, step}
 use Rattle.fmp_base.specs.Stretches.{Ending}
 use Rattle.fmp_base.specs.Stretches as ends
 use Rattle.fmp_base.specs.Systems.{SystemTables, body_of, found, interrupt_config, task_config}
@@ -359,6 +359,7 @@ module _ {C : Type 0} (sys : SystemTables) (M : Meaning C) where
   abbrev pub LeavesKept : Reaction C → Type 0
   LeavesKept Nothing = Unit {0}
   LeavesKept (Did d) = HasFew d.world.state → AreKept sys d.world
+  LeavesKept (Kept v) = AreKept sys v
 
   abbrev AreKeptTasks : Contexts (Held C) → Type 0
   AreKeptTasks cs = (t : ℕ) → t < length sys.tasks → IsKept cs t
@@ -450,7 +451,12 @@ module _ {C : Type 0} (sys : SystemTables) (M : Meaning C) where
   stretched-kept w p who (ends.Call c made) i a k = called-kept w p who (Awaits c) made i a k
   stretched-kept w p who (ends.End c) i a k = ended-kept w p who (line.End p who) tt i a k
   stretched-kept w p who (ends.Fault c fault) i a k = ended-kept w p who (line.Fault p who fault) tt i a k
-  stretched-kept w p who (ends.Over kept) i a k = tt
+  stretched-kept w p who (ends.Over None) i a k = tt
+  stretched-kept w p who (ends.Over (Some c)) i a k =
+      record {
+        tasks = with-tasks w.contexts p who (Goes c) k.tasks;
+        handlers = with-on w.state w.contexts p who (Goes c) k.handlers;
+      }
 
   run_in-kept : (n : ℕ) (w : World C) (p : ℕ) (who : Caller) (o : Option (Held C)) → IsActor sys w.state p who → Holds w.state
       → AreKept sys w → LeavesKept (run_in sys M n w p who o)

@@ -11,6 +11,7 @@ pub mod Lines
 pub mod ObjectCallLemmas
 pub mod Outcomes
 pub mod Pending
+pub mod Places
 pub mod ProcessorCallLemmas
 pub mod QueueCallLemmas
 pub mod SettledLaws

@@ -10,7 +10,7 @@ use Rattle.fmp_base.specs.Meanings.{Meaning, World}
 use Rattle.fmp_base.specs.Runs.{Trace, run, run_on}
 use Rattle.fmp_base.specs.Setups.{setup, all_started, created_state}
 use Rattle.fmp_base.specs.States.{KernelState, unchanged, places_from}
-use Rattle.fmp_base.specs.Steps.{Reaction, Done, Nothing, Did, step}
+use Rattle.fmp_base.specs.Steps.{Reaction, Done, Nothing, Did, Kept, step}
 use Rattle.fmp_base.specs.Systems.{SystemTables}
 use Rattle.fmp_worlds.specs.Settled.{RunOnce, IsSettled}
 use Rattle.fmp_worlds.proofs.Assigned.{run-once}
@@ -35,12 +35,18 @@ pub step-settled : {C : Type 0} (sys : SystemTables) (M : Meaning C) (n : ℕ) (
 step-settled {C} sys M n w e d h k =
     subst (λ (r : Reaction C). LeavesSettled sys r) k (step-leaves_settled sys M n w e h)
 
+-- and so does each event that keeps a place
+pub kept-settled : {C : Type 0} (sys : SystemTables) (M : Meaning C) (n : ℕ) (w : World C) (e : Event) (v : World C)
+    → IsSettled sys w.state → step sys M n w e ≡ Kept v → IsSettled sys v.state
+kept-settled {C} sys M n w e v h k = subst (λ (r : Reaction C). LeavesSettled sys r) k (step-leaves_settled sys M n w e h)
+
 run_on-settled : {C : Type 0} (sys : SystemTables) (w : World C) (x : Reaction C) (rest : World C → Trace C)
     → IsSettled sys w.state → LeavesSettled sys x
     → ((v : World C) → IsSettled sys v.state → IsSettled sys (rest v).world.state)
     → IsSettled sys (run_on w x rest).world.state
 run_on-settled sys w Nothing rest h k go = go w h
 run_on-settled sys w (Did d) rest h k go = go d.world k
+run_on-settled sys w (Kept v) rest h k go = go v k
 
 -- so does every run
 pub run-settled : {C : Type 0} (sys : SystemTables) (M : Meaning C) (n : ℕ) (w : World C) (es : List Event)

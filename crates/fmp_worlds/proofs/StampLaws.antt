@@ -15,14 +15,14 @@ use Rattle.fmp_base.specs.Meanings.{Meaning, Contexts, World, caller_body, task_
 use Rattle.fmp_base.specs.Runs.{run, run_on}
 use Rattle.fmp_base.specs.Settles.{is_same_task}
 use Rattle.fmp_base.specs.States.{KernelState, processor_at}
-use Rattle.fmp_base.specs.Steps.{Reaction, Done, Nothing, Did, actor_by, actor_of, step, stretched, run_in, run_by}
+use Rattle.fmp_base.specs.Steps.{Reaction, Nothing, Did, Kept, actor_by, actor_of, step, stretched, run_in, run_by}
 use Rattle.fmp_base.specs.Stretches.{Ending}
 use Rattle.fmp_base.specs.Systems.{SystemTables}
 use Rattle.fmp_worlds.specs.Settled.{IsSettled}
 use Rattle.fmp_worlds.specs.Stamps.{Going, going_from, going, going_by, actor_at, is_same_handler, is_same_caller, is_same_actor, run_place, counts, one_if, world_after, counted, stamp, applied_in, applied_by, applied, EndsSo}
 use Rattle.fmp_worlds.proofs.Bools.{or-false, not-false}
 use Rattle.fmp_worlds.proofs.Going.{GoesIn, IsGoing, ActsOn, LeavesGoing, step-going}
-use Rattle.fmp_worlds.proofs.SettledLaws.{step-settled}
+use Rattle.fmp_worlds.proofs.SettledLaws.{step-settled, kept-settled}
 use Rattle.fmp_worlds.proofs.StepLemmas.{IsActor, LeavesSettled, holds, stretched-settled, acts as acts_in}
 
 -- tests of actors
@@ -118,17 +118,18 @@ is-acting sys cs p None a e = cc
 is-acting sys cs p (Some who) a e = record { who = who; is = refl; goes = e }
 
 -- an event that does not count for a processor leaves its actor in its context
-pub step-keeps_actor : {C : Type 0} (sys : SystemTables) (M : Meaning C) (n : ℕ) (w : World C) (e : Event) (d : Done C) (p : ℕ) (a : Going C)
-    → IsSettled sys w.state → step sys M n w e ≡ Did d → counts (run_place e) w.state d.world.state p ≡ false
-    → actor_at sys w p ≡ Some a → actor_at sys d.world p ≡ Some a
-step-keeps_actor {C} sys M n w e d p a s k q h =
+pub step-keeps_actor : {C : Type 0} (sys : SystemTables) (M : Meaning C) (n : ℕ) (w : World C) (e : Event) (x : Reaction C) (v : World C) (p : ℕ) (a : Going C)
+    → ((who : Caller) → LeavesGoing sys p who a.entry a.context x → IsGoing sys v.contexts p who a.entry a.context)
+    → IsSettled sys w.state → step sys M n w e ≡ x → counts (run_place e) w.state v.state p ≡ false
+    → actor_at sys w p ≡ Some a → actor_at sys v p ≡ Some a
+step-keeps_actor {C} sys M n w e r v p a left s k q h =
     let parts = or-false (is_same_task (run_place e) (Some p)) _ q in
-    let same : actor_of (processor_at w.state p) ≡ actor_of (processor_at d.world.state p) = same-actor _ _ (not-false _ parts.1) in
+    let same : actor_of (processor_at w.state p) ≡ actor_of (processor_at v.state p) = same-actor _ _ (not-false _ parts.1) in
     let x = is-acting sys w.contexts p (actor_of (processor_at w.state p)) a h in
     let stays = step-going sys M p x.who a.entry a.context n w e s (not-run (run_place e) p parts.0) (acts w.state p x.who x.is) (going-is sys w.contexts p x.who a x.goes) in
-    let goes : IsGoing sys d.world.contexts p x.who a.entry a.context = subst (λ (r : Reaction C). LeavesGoing sys p x.who a.entry a.context r) k stays in
-    ap (λ (o : Option Caller). going_by sys d.world.contexts p o) (sym same ∙ x.is)
-    ∙ is-going sys d.world.contexts p x.who a goes
+    let goes : IsGoing sys v.contexts p x.who a.entry a.context = left x.who (subst (λ (y : Reaction C). LeavesGoing sys p x.who a.entry a.context y) k stays) in
+    ap (λ (o : Option Caller). going_by sys v.contexts p o) (sym same ∙ x.is)
+    ∙ is-going sys v.contexts p x.who a goes
 
 -- runs
 
@@ -143,6 +144,7 @@ module _ {C : Type 0} (sys : SystemTables) (M : Meaning C) (n : ℕ) where
         → (run_on w x (λ v. run sys M n v (es ++ fs))).world ≡ (run sys M n (run_on w x (λ v. run sys M n v es)).world fs).world
     by_reaction Nothing rest = rest w
     by_reaction (Did d) rest = rest d.world
+    by_reaction (Kept v) rest = rest v
 
   -- and its stamps count on from those of the first
   pub stamp-append : (w : World C) (es fs : List Event) (p : ℕ)
@@ -155,6 +157,7 @@ module _ {C : Type 0} (sys : SystemTables) (M : Meaning C) (n : ℕ) where
         ≡ counted e w x p + stamp sys M n (world_after w x) es p + stamp sys M n (run_on w x (λ v. run sys M n v es)).world fs p
     by_reaction Nothing rest = let h = rest w in omega (arith, h)
     by_reaction (Did d) rest = let h = rest d.world in omega (arith, h)
+    by_reaction (Kept v) rest = let h = rest v in omega (arith, h)
 
   none_of : (b : Bool) (m : ℕ) → one_if b + m ≡ 0 → (b ≡ false) × (m ≡ 0)
   none_of true m h = absurd (omega (arith, h))
@@ -172,7 +175,10 @@ module _ {C : Type 0} (sys : SystemTables) (M : Meaning C) (n : ℕ) where
         by_reaction Nothing k y rest = rest w s (omega (arith, y)) h
         by_reaction (Did d) k y rest =
             let parts = none_of (counts (run_place e) w.state d.world.state p) (stamp sys M n d.world es p) y in
-            rest d.world (step-settled sys M n w e d s k) parts.1 (step-keeps_actor sys M n w e d p a s k parts.0 h)
+            rest d.world (step-settled sys M n w e d s k) parts.1 (step-keeps_actor sys M n w e (Did d) d.world p a (λ who go. go) s k parts.0 h)
+        by_reaction (Kept v) k y rest =
+            let parts = none_of (counts (run_place e) w.state v.state p) (stamp sys M n v es p) y in
+            rest v (kept-settled sys M n w e v s k) parts.1 (step-keeps_actor sys M n w e (Kept v) v p a (λ who go. go) s k parts.0 h)
 
   -- along one run equal stamps of a processor mean the same actor in the same context
   pub equal_stamps : (w : World C) (es fs : List Event) (p : ℕ) (a : Going C) → IsSettled sys (run sys M n w es).world.state
@@ -209,7 +215,7 @@ applied-leaves_settled {C} sys M w p x s = by_actor (processor_at w.state p).han
   by_held : (who : Caller) (o : Option (Held C)) → IsActor sys w.state p who → LeavesSettled sys (applied_in sys M w p who o x)
   by_held who None i = tt
   by_held who (Some (Awaits c)) i = tt
-  by_held who (Some (Goes c)) i = stretched-settled sys M w p who x i (holds sys w.state s)
+  by_held who (Some (Goes c)) i = stretched-settled sys M w p who x i s
 
   by_actor : (i : Option Handler) (t : Option ℕ) → (processor_at w.state p).handler ≡ i → (processor_at w.state p).run ≡ t
       → LeavesSettled sys (applied_by sys M w p (actor_by i t) x)

@@ -16,7 +16,7 @@ use Rattle.fmp_base.specs.declared.systems.InterruptConfig.{InterruptConfig}
 use Rattle.fmp_base.specs.Calls.{called}
 use Rattle.fmp_base.specs.Meanings.{Meaning, Contexts, World, context_of}
 use Rattle.fmp_base.specs.States.{KernelState, Progress, unchanged, task_at, processor_at}
-use Rattle.fmp_base.specs.Steps.{Reaction, Nothing, Did, finished, actor_by, actor_ended, answered, stretched, run_in, run_by, interrupted, interrupted_by, step}
+use Rattle.fmp_base.specs.Steps.{Reaction, Nothing, Did, Kept, finished, actor_by, actor_ended, answered, stretched, run_in, run_by, interrupted, interrupted_by, step}
 use Rattle.fmp_base.specs.Stretches.{Ending}
 use Rattle.fmp_base.specs.Stretches as ends
 use Rattle.fmp_base.specs.Systems.{SystemTables, interrupt_config}
@@ -32,10 +32,11 @@ use Rattle.fmp_worlds.proofs.TickLemmas.{holds-ticked}
 pub holds : (sys : SystemTables) (s : KernelState) → IsSettled sys s → Holds s
 holds sys s h = record { each = λ q t r. record { place = h.assigned q t r; ready = h.ready q t r } }
 
--- what is done leaves a settled state
+-- what is done or kept leaves a settled state
 abbrev pub LeavesSettled : {C : Type 0} → SystemTables → Reaction C → Type 0
 LeavesSettled sys Nothing = Unit {0}
 LeavesSettled sys (Did d) = IsSettled sys d.world.state
+LeavesSettled sys (Kept v) = IsSettled sys v.state
 
 -- who is the actor of processor p in a settled state
 abbrev pub IsActor : SystemTables → KernelState → ℕ → Caller → Type 0
@@ -66,17 +67,18 @@ answered-settled Ends sys M cs p who c g h = finished-settled sys M cs (line.End
 answered-settled Spins sys M cs p who c g h = tt
 
 pub stretched-settled : {C : Type 0} (sys : SystemTables) (M : Meaning C) (w : World C) (p : ℕ) (who : Caller) (x : Ending C)
-    → IsActor sys w.state p who → Holds w.state → LeavesSettled sys (stretched sys M w p who x)
-stretched-settled sys M w p who (ends.Call c made) k a =
-    answered-settled (called sys w.state p who made).answer sys M _ p who made (called sys w.state p who made).progress (called-can_settle sys w.state p who made k a)
-stretched-settled sys M w p who (ends.End c) k a =
-    finished-settled sys M w.contexts (line.End p who ∷ []) (actor_ended sys w.state p who) (ended-can_settle sys w.state p who k a)
-stretched-settled sys M w p who (ends.Fault c fault) k a =
-    finished-settled sys M w.contexts (line.Fault p who fault ∷ []) (actor_ended sys w.state p who) (ended-can_settle sys w.state p who k a)
-stretched-settled sys M w p who (ends.Over kept) k a = tt
+    → IsActor sys w.state p who → IsSettled sys w.state → LeavesSettled sys (stretched sys M w p who x)
+stretched-settled sys M w p who (ends.Call c made) k h =
+    answered-settled (called sys w.state p who made).answer sys M _ p who made (called sys w.state p who made).progress (called-can_settle sys w.state p who made k (holds sys w.state h))
+stretched-settled sys M w p who (ends.End c) k h =
+    finished-settled sys M w.contexts (line.End p who ∷ []) (actor_ended sys w.state p who) (ended-can_settle sys w.state p who k (holds sys w.state h))
+stretched-settled sys M w p who (ends.Fault c fault) k h =
+    finished-settled sys M w.contexts (line.Fault p who fault ∷ []) (actor_ended sys w.state p who) (ended-can_settle sys w.state p who k (holds sys w.state h))
+stretched-settled sys M w p who (ends.Over None) k h = tt
+stretched-settled sys M w p who (ends.Over (Some c)) k h = h
 
 run_in-settled : {C : Type 0} (sys : SystemTables) (M : Meaning C) (n : ℕ) (w : World C) (p : ℕ) (who : Caller) (c : Option (Held C))
-    → IsActor sys w.state p who → Holds w.state → LeavesSettled sys (run_in sys M n w p who c)
+    → IsActor sys w.state p who → IsSettled sys w.state → LeavesSettled sys (run_in sys M n w p who c)
 run_in-settled sys M n w p who None k a = tt
 run_in-settled sys M n w p who (Some (Awaits c)) k a = tt
 run_in-settled sys M n w p who (Some (Goes c)) k a = stretched-settled sys M w p who _ k a
@@ -90,9 +92,9 @@ run_by-settled : {C : Type 0} (sys : SystemTables) (M : Meaning C) (n : ℕ) (w 
     → IsSettled sys w.state → (processor_at w.state p).handler ≡ i → (processor_at w.state p).run ≡ t
     → LeavesSettled sys (run_by sys M n w p (actor_by i t))
 run_by-settled sys M n w p (Some i) t h e r =
-    run_in-settled sys M n w p (caller.Handler i) (context_of w.contexts p (caller.Handler i)) tt (holds sys w.state h)
+    run_in-settled sys M n w p (caller.Handler i) (context_of w.contexts p (caller.Handler i)) tt h
 run_by-settled sys M n w p None (Some t) h e r =
-    run_in-settled sys M n w p (caller.Task t) (context_of w.contexts p (caller.Task t)) (acts sys w.state p t h e r) (holds sys w.state h)
+    run_in-settled sys M n w p (caller.Task t) (context_of w.contexts p (caller.Task t)) (acts sys w.state p t h e r) h
 run_by-settled sys M n w p None None h e r = tt
 
 interrupted_by-settled : {C : Type 0} (b : Bool) (sys : SystemTables) (M : Meaning C) (w : World C) (i : ℕ) → Holds w.state

@@ -13,7 +13,7 @@ use Rattle.fmp_base.specs.declared.states.Handler.TheVariants as handler
 use Rattle.fmp_base.specs.Meanings.{Meaning, Contexts, World, caller_body, context_of}
 use Rattle.fmp_base.specs.Settles.{is_same_task}
 use Rattle.fmp_base.specs.States.{KernelState, processor_at}
-use Rattle.fmp_base.specs.Steps.{Reaction, Nothing, Did, actor_of, step, stretched}
+use Rattle.fmp_base.specs.Steps.{Reaction, Nothing, Did, Kept, actor_of, step, stretched}
 use Rattle.fmp_base.specs.Stretches.{Ending}
 use Rattle.fmp_base.specs.Systems.{SystemTables}
 
@@ -81,8 +81,8 @@ abbrev pub place_run : List Line → Option ℕ
 place_run [] = None
 place_run (l ∷ ls) = place_of l
 
--- whether a done event that ran this processor, if any, and led from s to u counts for the one at place p: it ran that
--- one, or left it another actor than it found
+-- whether an event that ran this processor, if any, and led from s to u counts for the one at place p: it ran that one,
+-- or left it another actor than it found
 abbrev pub counts : Option ℕ → KernelState → KernelState → ℕ → Bool
 counts ran s u p =
     is_same_task ran (Some p) || not (is_same_actor (actor_of (processor_at s p)) (actor_of (processor_at u p)))
@@ -95,13 +95,15 @@ one_if false = 0
 abbrev pub world_after : {C : Type 0} → World C → Reaction C → World C
 world_after w Nothing = w
 world_after w (Did d) = d.world
+world_after w (Kept v) = v
 
 -- 1 where an event that did this in w counts for the processor at place p, else 0
 abbrev pub counted : {C : Type 0} → Event → World C → Reaction C → (p : ℕ) → ℕ
 counted e w Nothing p = 0
 counted e w (Did d) p = one_if (counts (run_place e) w.state d.world.state p)
+counted e w (Kept v) p = one_if (counts (run_place e) w.state v.state p)
 
--- the stamp of the processor at place p after a run: how many of the done events counted for it
+-- the stamp of the processor at place p after a run: how many of the events that are done or keep a place counted for it
 abbrev pub stamp : {C : Type 0} → SystemTables → Meaning C → (bound : ℕ) → World C → List Event → (p : ℕ) → ℕ
 stamp sys M bound w [] p = 0
 stamp sys M bound w (e ∷ es) p =

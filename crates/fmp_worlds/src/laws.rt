@@ -11,17 +11,20 @@ ghost use Rattle.fmp_base.specs.Meanings.{Meaning, World, context_of};
 ghost use Rattle.fmp_base.specs.Runs.{run};
 ghost use Rattle.fmp_base.specs.Setups.{setup};
 ghost use Rattle.fmp_base.specs.States.{KernelState, processor_at, unchanged};
-ghost use Rattle.fmp_base.specs.Steps.{Done, Did, actor_of, step};
+ghost use Rattle.fmp_base.specs.Steps.{Done, Did, Kept, actor_of, step};
 ghost use Rattle.fmp_base.specs.Stretches.{Ending};
 ghost use Rattle.fmp_base.specs.Systems.{SystemTables};
 ghost use Rattle.fmp_worlds.specs.Settled.{RunOnce, IsSettled};
 ghost use Rattle.fmp_worlds.specs.Stamps.{EndsSo, Going, actor_at, applied, stamp};
 
-/// Setup leaves a settled state, and so does each event that does something in one.
+/// Setup leaves a settled state, and so does each event that is done in one. An event that keeps a place changes nothing
+/// of the state.
 pub fn worlds_are_settled<C>()
     ensures setup { (sys : SystemTables) (M : Meaning C) → IsSettled sys (setup sys M).world.state }
     ensures step { (sys : SystemTables) (M : Meaning C) (n : ℕ) (w : World C) (e : Event) (d : Done C) →
         IsSettled sys w.state → step sys M n w e ≡ Did d → IsSettled sys d.world.state }
+    ensures kept { (sys : SystemTables) (M : Meaning C) (n : ℕ) (w v : World C) (e : Event) →
+        step sys M n w e ≡ Kept v → v.state ≡ w.state }
 {}
 
 /// In a settled state no task is run by two processors.
