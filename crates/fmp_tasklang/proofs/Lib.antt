@@ -5,6 +5,7 @@ pub mod Families
 pub mod Layers
 pub mod Links
 pub mod Operands
+pub mod Overs
 pub mod SimpleStatements
 pub mod Single
 pub mod StatementFrames

@@ -1,5 +1,5 @@
 -- Laws of views, of the grammar and of stretches.
-use Rattle.std.specs.Prelude.{◌≡◌, ℕ, zero, suc, ◌≤◌, List, map, false}
+use Rattle.std.specs.Prelude.{◌≡◌, ℕ, zero, suc, ◌≤◌, List, map, true, false, None}
 use Rattle.std.specs.Box.{box_value}
 use Rattle.std.specs.declared.alloc.Global.{Global}
 use Rattle.std.specs.declared.vec.Vec.{Vec}
@@ -18,6 +18,7 @@ use Rattle.fmp_tasklang.specs.Scopes.{Scope}
 use Rattle.fmp_tasklang.specs.Contexts.{Item, TextContext}
 use Rattle.fmp_tasklang.specs.Values.{Values}
 use Rattle.fmp_base.specs.Stretches.{is_over}
+use Rattle.fmp_base.specs.Stretches as ends
 use Rattle.fmp_tasklang.specs.Stretches.{Way, after_item, follow, out_of_turns, turns, stretch}
 
 -- the view of a tree is made of the views of what its boxes and vectors hold
@@ -48,6 +49,13 @@ MoreTurnsChangeNothing =
     low ≤ high →
     is_over (stretch scope low c) ≡ false →
     stretch scope high c ≡ stretch scope low c
+
+-- a stretch that is over its bound hands over nothing
+abbrev pub HandsOverNothing : Type 0
+HandsOverNothing =
+    (scope : Scope) (t : ℕ) (c : TextContext) →
+    is_over (stretch scope t c) ≡ true →
+    stretch scope t c ≡ ends.Over None
 
 -- what follows a turn where t turns were left before it
 abbrev pub after_turn : Scope → ℕ → Way
