@@ -103,7 +103,7 @@ module _ {C : Type 0} (sys : SystemTables) (M : Meaning C) (n size t : ℕ) wher
       → ((w' : World C) → WorldTied sys Same Same d.world w' → Plainly w' ds r)
       → Plainly w (e ∷ ds) (after_first d.lines r)
   did_plainly w e ds d r v Nothing q h rest = absurd h
-  did_plainly w e ds d r v (Kept x) q h rest = absurd h
+  did_plainly w e ds d r v (Kept a x) q h rest = absurd h
   did_plainly w e ds d r v (Did b) q h rest =
       let l = rest b.world h.1 in
       record {

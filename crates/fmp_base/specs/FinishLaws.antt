@@ -44,10 +44,10 @@ module _ {C D : Type 0} (sys : SystemTables) (A : ℕ → D → C → Type 0) (R
         events = l.events;
         state = l.state;
       }
-  step_like i w v (Run zero) es (Kept w') y lt p r h k g ds s rest = absurd k
-  step_like i w v Tick es (Kept w') y lt p r h k g ds s rest = absurd k
-  step_like i w v (Int a) es (Kept w') y lt p r h k g ds s rest = absurd k
-  step_like i w v (Run (suc a)) es (Kept w') y lt p r h k g ds s rest =
+  step_like i w v (Run zero) es (Kept c w') y lt p r h k g ds s rest = absurd k
+  step_like i w v Tick es (Kept c w') y lt p r h k g ds s rest = absurd k
+  step_like i w v (Int a) es (Kept c w') y lt p r h k g ds s rest = absurd k
+  step_like i w v (Run (suc a)) es (Kept c w') y lt p r h k g ds s rest =
       let l = rest w' (with_place v a k.who k.next) k.tied in
       record {
         trace = l.trace;
@@ -56,7 +56,7 @@ module _ {C D : Type 0} (sys : SystemTables) (A : ℕ → D → C → Type 0) (R
         state = l.state;
       }
   step_like i w v e es (Did d) Nothing lt p r h k g ds s rest = absurd k
-  step_like i w v e es (Did d) (Kept d') lt p r h k g ds s rest = absurd k
+  step_like i w v e es (Did d) (Kept c d') lt p r h k g ds s rest = absurd k
   step_like i w v e es (Did d) (Did d') lt p r h k g ds s rest =
       let l = rest d.world d'.world k.1 in
       record {

@@ -25,7 +25,7 @@ after_first ls r = record r { events = ls ∷ r.events }
 abbrev pub run_on : {C : Type 0} → World C → Reaction C → (World C → Trace C) → Trace C
 run_on w Nothing rest = rest w
 run_on w (Did d) rest = after_first d.lines (rest d.world)
-run_on w (Kept v) rest = rest v
+run_on w (Kept p v) rest = rest v
 
 -- a run: one event after the other; those that do nothing or keep a place leave no lines
 abbrev pub run : {C : Type 0} → SystemTables → Meaning C → (bound : ℕ) → World C → List Event → Trace C
@@ -35,12 +35,22 @@ run sys M bound w (e ∷ es) = run_on w (step sys M bound w e) (λ v. run sys M 
 abbrev pub done_on : {C : Type 0} → World C → Event → Reaction C → (World C → List Event) → List Event
 done_on w e Nothing rest = rest w
 done_on w e (Did d) rest = e ∷ rest d.world
-done_on w e (Kept v) rest = rest v
+done_on w e (Kept p v) rest = rest v
 
 -- the events of a run that are done
 abbrev pub done_events : {C : Type 0} → SystemTables → Meaning C → (bound : ℕ) → World C → List Event → List Event
 done_events sys M bound w [] = []
 done_events sys M bound w (e ∷ es) = done_on w e (step sys M bound w e) (λ v. done_events sys M bound v es)
+
+abbrev pub taken_on : {C : Type 0} → World C → Event → Reaction C → (World C → List Event) → List Event
+taken_on w e Nothing rest = rest w
+taken_on w e (Did d) rest = e ∷ rest d.world
+taken_on w e (Kept p v) rest = e ∷ rest v
+
+-- the events of a run that are done or keep a place
+abbrev pub taken_events : {C : Type 0} → SystemTables → Meaning C → (bound : ℕ) → World C → List Event → List Event
+taken_events sys M bound w [] = []
+taken_events sys M bound w (e ∷ es) = taken_on w e (step sys M bound w e) (λ v. taken_events sys M bound v es)
 
 abbrev pub completed_by : {C : Type 0} → List Line → Option (Trace C) → Option (Trace C)
 completed_by ls None = None
@@ -49,7 +59,7 @@ completed_by ls (Some r) = Some (after_first ls r)
 abbrev pub completed_on : {C : Type 0} → Reaction C → (World C → Option (Trace C)) → Option (Trace C)
 completed_on Nothing rest = None
 completed_on (Did d) rest = completed_by d.lines (rest d.world)
-completed_on (Kept v) rest = None
+completed_on (Kept p v) rest = None
 
 -- a run in which every event is done, if it is one
 abbrev pub complete_run : {C : Type 0} → SystemTables → Meaning C → (bound : ℕ) → World C → List Event

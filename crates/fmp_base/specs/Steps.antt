@@ -18,7 +18,7 @@ use Rattle.fmp_base.specs.declared.states.Processor.{Processor}
 use Rattle.fmp_base.specs.declared.systems.InterruptConfig.{InterruptConfig}
 use Rattle.fmp_base.specs.Calls.{called}
 use Rattle.fmp_base.specs.Changes.{ended_itself}
-use Rattle.fmp_base.specs.Meanings.{Meaning, Contexts, World, caller_body, context_of, with_context, contexts_after_all}
+use Rattle.fmp_base.specs.Meanings.{Meaning, Contexts, World, caller_body, context_of, with_context, with_handler_context, task_begun, contexts_after_all}
 use Rattle.fmp_base.specs.Outcomes.{CallOutcome}
 use Rattle.fmp_base.specs.Settles.{settled}
 use Rattle.fmp_base.specs.States.{KernelState, Progress, unchanged, task_at, processor_at, with_processor}
@@ -32,16 +32,22 @@ pub record Done (C : Type 0) : Type 0 where
   pub world : World C
   pub lines : List Line
 
--- what an event does: nothing, or it is done, or its actor keeps the place that it has come to
+-- what an event does: nothing, or it is done, or the actor of a processor keeps the place that it has come to
 pub data Reaction (C : Type 0) : Type 0 where
   Nothing : Reaction C
   Did : Done C → Reaction C
-  Kept : World C → Reaction C
+  Kept : ℕ → World C → Reaction C
+
+-- an event that does this is taken: it is done, or keeps a place
+abbrev pub IsTaken : {C : Type 0} → Reaction C → Type 0
+IsTaken Nothing = ⊥
+IsTaken (Did d) = Unit {0}
+IsTaken (Kept p w) = Unit {0}
 
 abbrev pub effect_of : {C : Type 0} → Reaction C → Effect
 effect_of Nothing = effect.Nothing
 effect_of (Did d) = effect.Done
-effect_of (Kept w) = effect.Kept
+effect_of (Kept p w) = effect.Kept
 
 abbrev pub concluded : {C : Type 0} → SystemTables → Meaning C → Contexts (Held C) → Progress → Done C
 concluded sys M cs g =
@@ -85,17 +91,26 @@ call_made sys M cs p who c o = answered o.answer sys M cs p who c o.progress
 abbrev pub with_place : {C : Type 0} → World C → ℕ → Caller → C → World C
 with_place w p who c = record w { contexts = with_context w.contexts p who (Some (Goes c)) }
 
+-- what is kept of an actor that ends: of a task a fresh context, as at setup, and of a handler nothing
+abbrev pub contexts_ended : {C : Type 0} → SystemTables → Meaning C → Contexts (Held C) → ℕ → Caller
+    → Contexts (Held C)
+contexts_ended sys M cs p (caller.Task t) = task_begun sys M cs t
+contexts_ended sys M cs p (caller.Handler h) = with_handler_context cs p None
+
+-- the actor of p ends, with this line
+abbrev pub ended_with : {C : Type 0} → SystemTables → Meaning C → World C → ℕ → Caller → Line → Done C
+ended_with sys M w p who own =
+    finished sys M (contexts_ended sys M w.contexts p who) (own ∷ []) (actor_ended sys w.state p who)
+
 -- the actor of p has made this stretch: its context is taken, and the call, end or fault is carried out; at the bound
 -- nothing but its place changes
 abbrev pub stretched : {C : Type 0} → SystemTables → Meaning C → World C → ℕ → Caller → Ending C → Reaction C
 stretched sys M w p who (ends.Call c made) =
     call_made sys M (with_context w.contexts p who (Some (Awaits c))) p who made (called sys w.state p who made)
-stretched sys M w p who (ends.End c) =
-    Did (finished sys M w.contexts (line.End p who ∷ []) (actor_ended sys w.state p who))
-stretched sys M w p who (ends.Fault c fault) =
-    Did (finished sys M w.contexts (line.Fault p who fault ∷ []) (actor_ended sys w.state p who))
+stretched sys M w p who (ends.End c) = Did (ended_with sys M w p who (line.End p who))
+stretched sys M w p who (ends.Fault c fault) = Did (ended_with sys M w p who (line.Fault p who fault))
 stretched sys M w p who (ends.Over None) = Nothing
-stretched sys M w p who (ends.Over (Some c)) = Kept (with_place w p who c)
+stretched sys M w p who (ends.Over (Some c)) = Kept p (with_place w p who c)
 
 -- an actor that awaits a reply makes no stretch
 abbrev pub run_in : {C : Type 0} → SystemTables → Meaning C → ℕ → World C → ℕ → Caller → Option (Held C) → Reaction C

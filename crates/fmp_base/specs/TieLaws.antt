@@ -25,7 +25,7 @@ use Rattle.fmp_base.specs.Runs.{Trace, completed_by, completed_on, complete_run}
 use Rattle.fmp_base.specs.Settles.{settled}
 use Rattle.fmp_base.specs.Setups.{setup, first_contexts, all_started, created_state}
 use Rattle.fmp_base.specs.States.{KernelState, Progress, unchanged, processor_at, places_from}
-use Rattle.fmp_base.specs.Steps.{Reaction, Nothing, Did, Kept, with_place, finished, actor_of, actor_ended, answered, stretched, run_in, run_by, interrupted, interrupted_by, step}
+use Rattle.fmp_base.specs.Steps.{Reaction, Nothing, Did, Kept, with_place, finished, actor_of, actor_ended, contexts_ended, ended_with, answered, stretched, run_in, run_by, interrupted, interrupted_by, step}
 use Rattle.fmp_base.specs.Stretches.{Ending}
 use Rattle.fmp_base.specs.Systems.{SystemTables, body_of, task_config, interrupt_config}
 use Rattle.fmp_base.specs.Ticks.{ticked, with_interrupt_pending}
@@ -171,8 +171,8 @@ completed_on-agrees : {C D : Type 0} {A : ℕ → C → D → Type 0} (sys : Sys
     → ((v : World C) (w : World D) → WorldTied sys A R v w → TraceAgrees (f v) (g w))
     → TraceAgrees (completed_on x f) (completed_on y g)
 completed_on-agrees sys R K Nothing y f g h rest = tt
-completed_on-agrees sys R K (Kept x) y f g h rest = tt
-completed_on-agrees sys R K (Did x) (Kept y) f g h rest = absurd h
+completed_on-agrees sys R K (Kept p x) y f g h rest = tt
+completed_on-agrees sys R K (Did x) (Kept p y) f g h rest = absurd h
 completed_on-agrees sys R K (Did x) Nothing f g h rest = absurd h
 completed_on-agrees sys R K (Did x) (Did y) f g h rest =
     completed_by-agrees x.lines y.lines _ _ h.0 (rest x.world y.world h.1)
@@ -272,6 +272,24 @@ module _ {C D : Type 0} {A Q : ℕ → C → D → Type 0} {again : ℕ → D �
   answered-tied K Ends a b p who c g h = finished-tied a b (line.End p who ∷ []) g h
   answered-tied K Spins a b p who c g h = tt
 
+  contexts_ended-tied : (a : Contexts (Held C)) (b : Contexts (Held D)) (p : ℕ) (who : Caller)
+      → ContextsTied sys (HeldTied A R) a b
+      → ContextsTied sys (HeldTied A R) (contexts_ended sys M a p who) (contexts_ended sys N b p who)
+  contexts_ended-tied a b p (caller.Task t) h = task_begun-tied a b t h
+  contexts_ended-tied a b p (caller.Handler i) h =
+      record {
+        tasks = h.tasks;
+        handlers = AllTied-slice_set (λ q. HandlerTied (HeldTied A R)) a.handlers b.handlers p None None h.handlers tt;
+      }
+
+  ended-tied : (s : KernelState) (a : Contexts (Held C)) (b : Contexts (Held D)) (p : ℕ) (who : Caller) (own : Line)
+      → ContextsTied sys (HeldTied A R) a b
+      → BothDone sys A R (ended_with sys M (record { state = s; contexts = a }) p who own)
+      (ended_with sys N (record { state = s; contexts = b }) p who own)
+  ended-tied s a b p who own h =
+      finished-tied (contexts_ended sys M a p who) (contexts_ended sys N b p who) (own ∷ []) (actor_ended sys s p who)
+      (contexts_ended-tied a b p who h)
+
   pub stretched-tied : (K : World C → Type 0) (s : KernelState) (a : Contexts (Held C)) (b : Contexts (Held D)) (p : ℕ)
       (who : Caller) (d0 : D) (x : Ending C) (y : Ending D) → ContextsTied sys (HeldTied A R) a b
       → StretchTied (A (caller_body sys a p who)) Any
@@ -290,10 +308,8 @@ module _ {C D : Type 0} {A Q : ℕ → C → D → Type 0} {again : ℕ → D �
   stretched-tied K s a b p who d0 _ _ h (call c d made e) f =
       answered-tied K (called sys s p who made).answer _ _ p who made (called sys s p who made).progress
       (with_context-tied sys (HeldTied A R) a b p who (Some (Awaits c)) (Some (Awaits d)) h e)
-  stretched-tied K s a b p who d0 _ _ h (end_ c d e) f =
-      finished-tied a b (line.End p who ∷ []) (actor_ended sys s p who) h
-  stretched-tied K s a b p who d0 _ _ h (fault c d g e) f =
-      finished-tied a b (line.Fault p who g ∷ []) (actor_ended sys s p who) h
+  stretched-tied K s a b p who d0 _ _ h (end_ c d e) f = ended-tied s a b p who (line.End p who) h
+  stretched-tied K s a b p who d0 _ _ h (fault c d g e) f = ended-tied s a b p who (line.Fault p who g) h
 
   pub run_in-tied : (K : World C → Type 0) (s : KernelState) (a : Contexts (Held C)) (b : Contexts (Held D)) (p : ℕ)
       (who : Caller) (c : Option (Held C)) (d : Option (Held D)) → ContextsTied sys (HeldTied A R) a b

@@ -107,8 +107,8 @@ BothDone sys A R a b = (a.lines ≡ b.lines) × WorldTied sys A R a.world b.worl
 abbrev pub DoneTied : {C D : Type 0} → SystemTables → (ℕ → C → D → Type 0) → (ℕ → C → D → Type 0) → (World C → Type 0)
     → Reaction C → Reaction D → Type 0
 DoneTied sys A R K Nothing other = Unit {0}
-DoneTied sys A R K (Kept v) other = K v
-DoneTied sys A R K (Did a) (Kept v) = ⊥
+DoneTied sys A R K (Kept p v) other = K v
+DoneTied sys A R K (Did a) (Kept p v) = ⊥
 DoneTied sys A R K (Did a) Nothing = ⊥
 DoneTied sys A R K (Did a) (Did b) = BothDone sys A R a b
 

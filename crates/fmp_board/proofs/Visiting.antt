@@ -7,6 +7,7 @@ use Rattle.std.specs.List.{All}
 use Rattle.std.proofs.lemmas.Bool.Decides.{nat_tests}
 use mathlib.Core.List.{IsPrefix}
 use Rattle.fmp_base.specs.Steps.{Reaction, Nothing, Did}
+use Rattle.fmp_base.specs.Steps as steps
 use Rattle.fmp_image_bytes.specs.Images.{ImageTables}
 use Rattle.fmp_journal.specs.declared.entry.JournalEntry.{JournalEntry}
 use Rattle.fmp_journal.specs.Seats.{RowId, SeatState}
@@ -92,10 +93,12 @@ drawn_here i n journal p (Some t) h = record {
 marks_counted : {C : Type 0} (n before : ℕ) (x : Reaction C) → times n (marks_after [] n x) ≡ journaled (Ok (receipt_of before x))
 marks_counted n before Nothing = refl
 marks_counted n before (Did d) = grind (arith, nat_tests)
+marks_counted n before (steps.Kept p w) = grind (arith, nat_tests)
 
 marks_gone : {C : Type 0} (n : ℕ) (x : Reaction C) → without n (marks_after [] n x) ≡ []
 marks_gone n Nothing = refl
 marks_gone n (Did d) = grind (arith, nat_tests)
+marks_gone n (steps.Kept p w) = grind (arith, nat_tests)
 
 -- what an answer leaves of a book that had no marks: its journal and its marks
 pub record Answered {C : Type 0} (was now : BookState) (number : ℕ) (x : JournalEntry) (r : Reaction C) (result : Result Receipt BoardFault) : Type 0 where

@@ -30,7 +30,8 @@ pub record ClosedState : Type 0 where
   pub kernel : KernelView (List BodyTables) MachineContext
   pub events : List Event
 
--- a journal of at most k entries: each of its events did something at its place, and came from one of m seats
+-- a journal of at most k entries: each of its events was done, or kept a place, where it stands, and came from one of m
+-- seats
 pub record IsJournal (i : ImageTables) (n k m : ℕ) (journal : List JournalEntry) : Type 0 where
   pub legal : IsLegal i n (events journal)
   pub room : length journal ≤ k

@@ -4,7 +4,7 @@ use Rattle.fmp_base.specs.declared.calls.Reply.{Reply}
 use Rattle.fmp_base.specs.declared.events.Effect.TheVariants as effect
 use Rattle.fmp_base.specs.declared.events.Line.{Line}
 use Rattle.fmp_base.specs.declared.events.Line.TheVariants.{Tick, Int, Call, End, Fault, Gets, Starts, Pends, Begins, Runs}
-use Rattle.fmp_base.specs.Steps.{Reaction, Nothing, Did}
+use Rattle.fmp_base.specs.Steps.{Reaction, Nothing, Did, Kept}
 use Rattle.fmp_journal.specs.declared.entry.JournalEntry.{JournalEntry}
 use Rattle.fmp_board.specs.declared.receipt.Receipt.{Receipt}
 
@@ -30,13 +30,16 @@ call_reply (l ∷ ls) = reply_in l
 abbrev pub receipt_of : {C : Type 0} → (before : ℕ) → Reaction C → Receipt
 receipt_of before Nothing = record { number = 0; effect = effect.Nothing; reply = None }
 receipt_of before (Did d) = record { number = before + 1; effect = effect.Done; reply = call_reply d.lines }
+receipt_of before (Kept p w) = record { number = before + 1; effect = effect.Kept; reply = None }
 
 -- the journal after an entry, by what its event does; one that does nothing is not journaled
 abbrev pub journal_after : {C : Type 0} → List JournalEntry → JournalEntry → Reaction C → List JournalEntry
 journal_after journal x Nothing = journal
 journal_after journal x (Did d) = journal ++ x ∷ []
+journal_after journal x (Kept p w) = journal ++ x ∷ []
 
 -- the marks of a book after an event of this seat, by what the event does
 abbrev pub marks_after : {C : Type 0} → List ℕ → (seat : ℕ) → Reaction C → List ℕ
 marks_after marks seat Nothing = marks
 marks_after marks seat (Did d) = marks ++ seat ∷ []
+marks_after marks seat (Kept p w) = marks ++ seat ∷ []

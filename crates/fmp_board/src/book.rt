@@ -120,7 +120,7 @@ impl<'a, S: Site> Book<'a, S> {
         self.scribe.is_empty()
     }
 
-    /// The entry at a place of the journal, from 0, if there is one. Each did something at its place.
+    /// The entry at a place of the journal, from 0, if there is one. Each was taken at its place.
     pub fn entry(&mut self, place: u32) -> Option<JournalEntry>
         ensures entry { result ≡ slice_get self.old.journal place }
         ensures same { self.new ≡ self.old }
@@ -129,7 +129,7 @@ impl<'a, S: Site> Book<'a, S> {
         self.scribe.entry(place)
     }
 
-    /// Takes an event on the kernel, and journals it under the number of a seat if it does something.
+    /// Takes an event on the kernel, and journals it under the number of a seat if it is taken.
     ///
     /// `BoardFault::Full`, exactly if the journal has no room for one more event; then nothing has changed.
     pub fn enter(&mut self, seat: u8, event: Event) -> Result<Receipt, BoardFault>
@@ -161,6 +161,14 @@ impl<'a, S: Site> Book<'a, S> {
                     number: self.scribe.len(),
                     effect: Effect::Done,
                     reply: call_reply(self.kernel.lines()),
+                })
+            }
+            Effect::Kept => {
+                self.scribe.write(seat, event);
+                Ok(Receipt {
+                    number: self.scribe.len(),
+                    effect: Effect::Kept,
+                    reply: None,
                 })
             }
         }

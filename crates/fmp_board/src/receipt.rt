@@ -9,7 +9,7 @@ use fmp_base::{Effect, Line, Reply};
 pub struct Receipt {
     /// The event's place in the journal, from 1, or 0 if it did nothing and is not journaled.
     pub number: u32,
-    /// Whether the event did something.
+    /// What the event did.
     pub effect: Effect,
     /// The reply to the service call that the event made, if it made one and the caller does not wait.
     pub reply: Option<Reply>,

@@ -45,7 +45,7 @@ impl<'a, S: Site> Book<'a, S> {
     }
 
     /// Takes the run of an outcome's processor on the kernel, by the stretch that was made before, and journals it
-    /// under the number of a seat if it does something. The outcome's ticket was drawn after a beginning of the
+    /// under the number of a seat if it is taken. The outcome's ticket was drawn after a beginning of the
     /// journal.
     ///
     /// `BoardFault::Stale`, exactly if the stamp of the processor is no longer that of the ticket; else
@@ -82,6 +82,14 @@ impl<'a, S: Site> Book<'a, S> {
                     number: self.scribe.len(),
                     effect: Effect::Done,
                     reply: call_reply(self.kernel.lines()),
+                })
+            }
+            Effect::Kept => {
+                self.scribe.write(seat, event);
+                Ok(Receipt {
+                    number: self.scribe.len(),
+                    effect: Effect::Kept,
+                    reply: None,
                 })
             }
         }

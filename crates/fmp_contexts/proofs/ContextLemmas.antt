@@ -1,19 +1,21 @@
 -- Contexts that fit, after one of them is written or read.
-use Rattle.std.proofs.Common.{◌≡◌, ◌+◌, ◌<◌, ℕ, zero, suc, List, [], ◌∷◌, ◌++◌, Option, Some, None, slice_get, slice_set, drop, map, replicate, length, refl, append_assoc, ap, subst, sym, ◌∙◌, arith}
+use Rattle.std.proofs.Common.{◌≡◌, ◌+◌, ◌<◌, ℕ, zero, suc, List, [], ◌∷◌, ◌++◌, Option, Some, None, true, slice_get, slice_set, drop, map, replicate, length, refl, append_assoc, ap, subst, sym, ◌∙◌, arith}
 use Rattle.std.proofs.Math.ListN.{length-set}
 use Rattle.std.proofs.lemmas.List.{length-map, length-replicate}
 use Rattle.fmp_base.specs.declared.bodies.HandlerContext.{HandlerContext}
 use Rattle.fmp_base.specs.declared.bodies.Held.{Held}
-use Rattle.fmp_base.specs.declared.bodies.Held.TheVariants.{Goes}
+use Rattle.fmp_base.specs.declared.bodies.Held.TheVariants.{Goes, Awaits}
 use Rattle.fmp_base.specs.declared.states.Caller.{Caller}
 use Rattle.fmp_base.specs.declared.states.Caller.TheVariants as caller
 use Rattle.fmp_base.specs.declared.systems.TaskConfig.{TaskConfig}
 use Rattle.fmp_base.specs.Meanings.{Meaning, Contexts, task_body, context_at, context_in, body_in, context_of, caller_body, context_for, with_context}
 use Rattle.fmp_base.specs.Setups.{first_contexts}
+use Rattle.fmp_base.specs.Steps.{contexts_ended}
 use Rattle.fmp_base.specs.Systems.{SystemTables, body_of, found, task_config}
 use Rattle.fmp_base.specs.Stretches.{Ending}
 use Rattle.fmp_base.specs.Contexts.{OfCall}
-use Rattle.fmp_contexts.specs.Contexts.{AllContexts, OfOption, OfHeld, HandlerFits, Fitting, Entered, HasContext, HasPlaces, IsFor}
+use Rattle.fmp_contexts.specs.Contexts.{AllContexts, OfOption, OfHeld, HandlerFits, Fitting, Entered, HasContext, HasPlaces, IsFor, is_going}
+use Rattle.fmp_contexts.proofs.HeldLemmas.{going_there, inside}
 use Rattle.fmp_tasks.specs.Callers.{IsTaskOf}
 use Rattle.fmp_worlds.specs.Settled.{IsThere}
 use Rattle.fmp_worlds.specs.Stamps.{going_from, going_by}
@@ -95,12 +97,6 @@ for_fits : {B C : Type 0} (has_entry : B → ℕ → Type 0) (is_context : B →
 for_fits has_entry is_context body o None t h k = tt
 for_fits has_entry is_context body o (Some c) t h k =
     record { entry = entry_in has_entry is_context body o (t tt) h; context = k }
-
--- a context that is there is at a place
-inside : {A : Type 0} (cs : List (Option A)) (i : ℕ) → IsThere (context_at cs i) → i < length cs
-inside [] i h = absurd h
-inside (c ∷ cs) zero h = omega arith
-inside (c ∷ cs) (suc i) h = let k = inside cs i h in omega (arith, k)
 
 -- where no handler runs
 pub first_fits : {B C : Type 0} {has_entry : B → ℕ → Type 0} {is_context : B → ℕ → C → Type 0} {body : B} {sys : SystemTables}
@@ -191,10 +187,34 @@ pub places_set : {C : Type 0} {sys : SystemTables} (cs : Contexts (Held C)) (p :
 places_set cs p (caller.Task t) c h = record { tasks = length-set _ _ _ ∙ h.tasks; handlers = h.handlers }
 places_set cs p (caller.Handler i) c h = record { tasks = h.tasks; handlers = length-set _ _ _ ∙ h.handlers }
 
+-- also where an actor has ended
+pub places_ended : {C : Type 0} {sys : SystemTables} (cs : Contexts (Held C)) (M : Meaning C) (p : ℕ) (who : Caller)
+    → HasPlaces sys cs → HasPlaces sys (contexts_ended sys M cs p who)
+places_ended cs M p (caller.Task t) h = record { tasks = length-set _ _ _ ∙ h.tasks; handlers = h.handlers }
+places_ended cs M p (caller.Handler i) h = record { tasks = h.tasks; handlers = length-set _ _ _ ∙ h.handlers }
+
+-- of a caller that goes on something is kept
+pub going_has : {C : Type 0} (cs : Contexts (Held C)) (p : ℕ) (who : Caller) → is_going (context_of cs p who) ≡ true
+    → HasContext cs p who
+going_has cs p who h = going_there (context_of cs p who) h
+
+pub task_going : {C : Type 0} {sys : SystemTables} (cs : Contexts (Held C)) (p : ℕ) (who : Caller) → HasPlaces sys cs
+    → is_going (context_of cs p who) ≡ true → IsTaskOf sys who
+task_going {sys} cs p who h e = task_of_context {sys = sys} cs p who h (going_has cs p who e)
+
+pub entry_going : {B C : Type 0} {has_entry : B → ℕ → Type 0} {is_context : B → ℕ → C → Type 0} {body : B} {sys : SystemTables}
+    (cs : Contexts (Held C)) (p : ℕ) (who : Caller) → Fitting has_entry is_context body sys cs → Entered has_entry body sys
+    → HasPlaces sys cs → is_going (context_of cs p who) ≡ true → has_entry body (caller_body sys cs p who)
+entry_going cs p who h k n e = entry_of_context cs p who h k n (going_has cs p who e)
+
 -- a stretch for the actor of p leaves a context of its body
 pub going_fits : {B C : Type 0} (is_context : B → ℕ → C → Type 0) (body : B) (sys : SystemTables) (cs : Contexts (Held C)) (p : ℕ)
-    (o : Option Caller) (who : Caller) (c : C) (x : Ending C) → o ≡ Some who → context_of cs p who ≡ Some (Goes c)
+    (o : Option Caller) (who : Caller) (x : Ending C) → o ≡ Some who → is_going (context_of cs p who) ≡ true
     → IsFor is_context body x (going_by sys cs p o) → OfCall (is_context body (caller_body sys cs p who)) x
-going_fits {C = C} is_context body sys cs p o who c x e h k =
-    let there = subst (λ (o : Option Caller). IsFor is_context body x (going_by sys cs p o)) e k in
-    subst (λ (y : Option (Held C)). IsFor is_context body x (going_from (caller_body sys cs p who) y)) h there
+going_fits {C = C} is_context body sys cs p o who x e h k =
+    by_held (context_of cs p who) h (subst (λ (o : Option Caller). IsFor is_context body x (going_by sys cs p o)) e k) where
+      by_held : (y : Option (Held C)) → is_going y ≡ true → IsFor is_context body x (going_from (caller_body sys cs p who) y)
+          → OfCall (is_context body (caller_body sys cs p who)) x
+      by_held None h k = absurd (cc h)
+      by_held (Some (Awaits c)) h k = absurd (cc h)
+      by_held (Some (Goes c)) h k = k

@@ -1,16 +1,15 @@
 -- Contexts that are written in place, and taken back.
-use Rattle.std.proofs.Common.{◌≡◌, ℕ, zero, suc, List, [], ◌∷◌, Option, Some, None, slice_set, refl, ap, sym, subst, ◌∙◌}
+use Rattle.std.proofs.Common.{◌≡◌, ◌<◌, ℕ, zero, suc, List, [], ◌∷◌, Option, Some, None, Bool, true, false, length, slice_set, refl, ap, sym, subst, ◌∙◌, arith}
 use Rattle.fmp_base.specs.declared.bodies.HandlerContext.{HandlerContext}
 use Rattle.fmp_base.specs.declared.bodies.Held.{Held}
-use Rattle.fmp_base.specs.declared.bodies.Held.TheVariants.{Goes}
+use Rattle.fmp_base.specs.declared.bodies.Held.TheVariants.{Goes, Awaits}
 use Rattle.fmp_base.specs.declared.calls.Reply.{Reply}
 use Rattle.fmp_base.specs.declared.states.Caller.{Caller}
 use Rattle.fmp_base.specs.declared.states.Caller.TheVariants as caller
 use Rattle.fmp_base.specs.Meanings.{Meaning, Contexts, context_at, context_in, body_in, context_of, caller_body, context_for, with_context, told}
-use Rattle.fmp_base.specs.Stretches.{Ending}
-use Rattle.fmp_base.specs.Stretches as ends
+use Rattle.fmp_base.specs.Steps.{contexts_ended}
 use Rattle.fmp_base.specs.Systems.{SystemTables}
-use Rattle.fmp_contexts.specs.Contexts.{HasContext, HasNoCall, kept_after, stop_of}
+use Rattle.fmp_contexts.specs.Contexts.{HasContext, OfHeld, context_held, going_context, held_by, is_going, stretched_from}
 use Rattle.fmp_worlds.specs.Settled.{IsThere}
 
 -- a place is written twice, or with what stands there
@@ -80,14 +79,54 @@ context_back {C} cs p (caller.Handler i) c h =
     ap (λ (o : Option (HandlerContext C)). record cs { handlers = slice_set cs.handlers p o }) (rebuilt (context_at cs.handlers p) c h)
     ∙ ap (λ (hs : List (Option (HandlerContext C))). record cs { handlers = hs }) (set_back cs.handlers p)
 
-kept_first : {C : Type 0} (first : C) (x : Ending C) → HasNoCall (stop_of x) → kept_after first x ≡ Goes first
-kept_first first (ends.Call c asked) h = absurd h
-kept_first first (ends.End c) h = refl
-kept_first first (ends.Fault c fault) h = refl
-kept_first first (ends.Over kept) h = refl
+-- what is told of a context that is kept
+pub context_by : {C : Type 0} (awaits : Bool) (c : C) → context_held (held_by awaits c) ≡ c
+context_by true c = refl
+context_by false c = refl
 
--- a stretch that makes no call leaves what was kept
-pub kept_same : {C : Type 0} (cs : Contexts (Held C)) (p : ℕ) (who : Caller) (first : C) (x : Ending C) → HasContext cs p who
-    → HasNoCall (stop_of x) → context_of (with_context cs p who (Some (kept_after first x))) p who ≡ Some (Goes first)
-kept_same {C} cs p who first x h n =
-    context_set cs p who (kept_after first x) h ∙ ap (λ (k : Held C). Some k) (kept_first first x n)
+pub stretched_by : {C : Type 0} (M : Meaning C) (body bound : ℕ) (awaits : Bool) (c : C) → is_going (Some (held_by awaits c)) ≡ true
+    → stretched_from M body bound (Some (held_by awaits c)) ≡ M.stretch body bound c
+stretched_by M body bound true c h = absurd (cc h)
+stretched_by M body bound false c h = refl
+
+pub of_context : {B C : Type 0} {is_context : B → ℕ → C → Type 0} {body : B} {entry : ℕ} (awaits : Bool) (c : C)
+    → OfHeld (is_context body entry) (held_by awaits c) → is_context body entry c
+of_context true c h = h
+of_context false c h = h
+
+-- a context that goes on is there
+pub going_there : {C : Type 0} (o : Option (Held C)) → is_going o ≡ true → IsThere o
+going_there None h = absurd (cc h)
+going_there (Some c) h = tt
+
+-- the context from which a body goes on
+pub going_some : {C : Type 0} (o : Option (Held C)) (c : C) → going_context o ≡ Some c → o ≡ Some (Goes c)
+going_some None c h = absurd (cc h)
+going_some (Some (Awaits d)) c h = absurd (cc h)
+going_some {C} (Some (Goes d)) c h = let e : d ≡ c = cc h in ap (λ (x : C). Some (Goes x)) e
+
+pub going_none : {C : Type 0} (o : Option (Held C)) → going_context o ≡ None → is_going o ≡ true → ⊥
+going_none None h k = absurd (cc k)
+going_none (Some (Awaits d)) h k = absurd (cc k)
+going_none (Some (Goes d)) h k = absurd (cc h)
+
+-- a context that is there is at a place
+pub inside : {A : Type 0} (cs : List (Option A)) (i : ℕ) → IsThere (context_at cs i) → i < length cs
+inside [] i h = absurd h
+inside (c ∷ cs) zero h = omega arith
+inside (c ∷ cs) (suc i) h = let k = inside cs i h in omega (arith, k)
+
+pub inside_task : {C : Type 0} (cs : List (Option (Held C))) (i : ℕ) → is_going (context_at cs i) ≡ true → i < length cs
+inside_task cs i h = inside cs i (going_there (context_at cs i) h)
+
+pub inside_handler : {C : Type 0} (cs : List (Option (HandlerContext (Held C)))) (i : ℕ) → is_going (context_in (context_at cs i)) ≡ true
+    → i < length cs
+inside_handler cs i h = inside cs i (in_place (context_at cs i) (going_there (context_in (context_at cs i)) h))
+
+-- what was kept of an actor that ends does not matter
+pub ended_over : {C : Type 0} (sys : SystemTables) (M : Meaning C) (cs : Contexts (Held C)) (p : ℕ) (who : Caller)
+    → contexts_ended sys M (with_context cs p who None) p who ≡ contexts_ended sys M cs p who
+ended_over {C} sys M cs p (caller.Task t) =
+    ap (λ (ts : List (Option (Held C))). record cs { tasks = ts }) (set_twice cs.tasks t None _)
+ended_over {C} sys M cs p (caller.Handler i) =
+    ap (λ (hs : List (Option (HandlerContext (Held C)))). record cs { handlers = hs }) (set_twice cs.handlers p None None)

@@ -6,7 +6,7 @@ use Rattle.fmp_base.specs.declared.bodies.Held.{Held}
 use Rattle.fmp_base.specs.declared.bodies.Held.TheVariants.{Goes, Awaits}
 use Rattle.fmp_base.specs.declared.states.Caller.{Caller}
 use Rattle.fmp_base.specs.declared.states.Handler.{Handler}
-use Rattle.fmp_base.specs.Meanings.{Contexts, context_of, handler_start, task_body}
+use Rattle.fmp_base.specs.Meanings.{Contexts, Meaning, context_of, handler_start, task_body}
 use Rattle.fmp_base.specs.Stretches.{Ending}
 use Rattle.fmp_base.specs.Stretches as ends
 use Rattle.fmp_base.specs.Systems.{SystemTables}
@@ -67,11 +67,35 @@ abbrev pub held_by : {C : Type 0} → Bool → C → Held C
 held_by true c = Awaits c
 held_by false c = Goes c
 
+abbrev pub context_held : {C : Type 0} → Held C → C
+context_held (Goes c) = c
+context_held (Awaits c) = c
+
 -- the context that goes on, if one does
 abbrev pub going_context : {C : Type 0} → Option (Held C) → Option C
 going_context None = None
 going_context (Some (Awaits c)) = None
 going_context (Some (Goes c)) = Some c
+
+-- whether a context goes on
+abbrev pub is_going : {C : Type 0} → Option (Held C) → Bool
+is_going None = false
+is_going (Some (Awaits c)) = false
+is_going (Some (Goes c)) = true
+
+-- how a stretch from what is kept of a body ends; it is over with nothing where no context goes on
+abbrev pub stretched_from : {C : Type 0} → Meaning C → (body bound : ℕ) → Option (Held C) → Ending C
+stretched_from M body bound None = ends.Over None
+stretched_from M body bound (Some (Awaits c)) = ends.Over None
+stretched_from M body bound (Some (Goes c)) = M.stretch body bound c
+
+-- a stretch with its context, wherever it stops
+abbrev pub HandsOver : {C : Type 0} → Ending C → Type 0
+HandsOver (ends.Call c made) = Unit {0}
+HandsOver (ends.End c) = Unit {0}
+HandsOver (ends.Fault c fault) = Unit {0}
+HandsOver (ends.Over None) = ⊥
+HandsOver (ends.Over (Some c)) = Unit {0}
 
 -- how a stretch stops
 abbrev pub stop_of : {C : Type 0} → Ending C → Stop
@@ -80,22 +104,24 @@ stop_of (ends.End c) = stop.End
 stop_of (ends.Fault c fault) = stop.Fault fault
 stop_of (ends.Over kept) = stop.Over
 
--- a stop with no call
-abbrev pub HasNoCall : Stop → Type 0
-HasNoCall (stop.Call made) = ⊥
-HasNoCall stop.End = Unit {0}
-HasNoCall (stop.Fault fault) = Unit {0}
-HasNoCall stop.Over = Unit {0}
+-- whether a stretch stops at a call
+abbrev pub is_call : Stop → Bool
+is_call (stop.Call made) = true
+is_call stop.End = false
+is_call (stop.Fault fault) = false
+is_call stop.Over = false
 
--- what is kept after a stretch from this context: with a call the one that awaits the reply, else the first one
-abbrev pub kept_after : {C : Type 0} → C → Ending C → Held C
-kept_after first (ends.Call c made) = Awaits c
-kept_after first (ends.End c) = Goes first
-kept_after first (ends.Fault c fault) = Goes first
-kept_after first (ends.Over kept) = Goes first
+-- what is kept of a body after a stretch: with a call the context that awaits the reply, at the bound the one that goes
+-- on from there, and of a body that has ended nothing
+abbrev pub kept_after : {C : Type 0} → Ending C → Option (Held C)
+kept_after (ends.Call c made) = Some (Awaits c)
+kept_after (ends.End c) = None
+kept_after (ends.Fault c fault) = None
+kept_after (ends.Over None) = None
+kept_after (ends.Over (Some c)) = Some (Goes c)
 
--- a stretch with this ending can be one of this actor: the context with which it makes a call is one of the actor's
--- body
+-- a stretch with this ending can be one of this actor: the context of a call, or that at the bound, is one of the
+-- actor's body
 abbrev pub IsFor : {B C : Type 0} → (B → ℕ → C → Type 0) → B → Ending C → Option (Going C) → Type 0
 IsFor is_context body x None = Unit {0}
 IsFor is_context body x (Some a) = OfCall (is_context body a.entry) x

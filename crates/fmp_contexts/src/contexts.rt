@@ -1,11 +1,11 @@
 //! What is kept of the bodies between their stretches.
-ghost use Rattle.std.specs.Prelude.{◌≡◌, ◌<◌, length, replicate, slice_set, IfOk, Some, None};
+ghost use Rattle.std.specs.Prelude.{◌≡◌, ◌<◌, length, replicate, slice_set, true, IfOk, Some, None};
 ghost use Rattle.std.specs.Option.{option_copied};
 ghost use Rattle.fmp_base.specs.declared.bodies.Held.TheVariants.{Goes};
 ghost use Rattle.fmp_base.specs.Meanings.{body_in, context_at, context_for, context_in, context_of, task_body, told as told_by, with_context, with_handler_context};
 ghost use Rattle.fmp_base.specs.Setups.{first_contexts};
 ghost use Rattle.fmp_base.specs.Systems.{body_of, task_config};
-ghost use Rattle.fmp_contexts.specs.Contexts.{AllContexts, Entered, Fitting, HasContext, OfHeld, OfOption, going_context, held_by, kept_after, stop_of};
+ghost use Rattle.fmp_contexts.specs.Contexts.{AllContexts, Entered, Fitting, HandsOver, HasContext, OfHeld, OfOption, going_context, held_by, is_going, kept_after, stop_of, stretched_from};
 ghost use Rattle.fmp_worlds.specs.Settled.{IsThere};
 
 use crate::kept::{self, Kept};
@@ -145,6 +145,22 @@ impl<C: Copy> BodyContexts<C> {
         }
     }
 
+    /// Whether the caller on processor p goes on from a context: not if it awaits a reply, or nothing is kept of it.
+    pub fn goes(&self, p: u8, who: Caller) -> bool
+        ensures { result ≡ is_going (context_of self.now p who) }
+    {
+        match who {
+            Caller::Task(t) => match self.tasks.get(t as usize) {
+                Some(Some(kept)) => kept.goes(),
+                _ => false,
+            },
+            Caller::Handler(_) => match self.handlers.get(p as usize) {
+                Some(Some(handler)) => handler.kept.goes(),
+                _ => false,
+            },
+        }
+    }
+
     /// A task, if there is one, goes on from this context.
     pub fn begin_task(&mut self, t: u8, context: C)
         ensures { self.new ≡ record self.old { tasks = slice_set self.old.tasks t (Some (Goes context)) } }
@@ -174,6 +190,20 @@ impl<C: Copy> BodyContexts<C> {
         }
     }
 
+    /// Nothing is kept of the caller on processor p.
+    pub fn forget(&mut self, p: u8, who: Caller)
+        ensures { self.new ≡ with_context self.old p who None }
+    {
+        match who {
+            Caller::Task(t) => {
+                if (t as usize) < self.tasks.len() {
+                    self.tasks[t as usize] = None;
+                }
+            }
+            Caller::Handler(_) => self.forget_handler(p),
+        }
+    }
+
     /// This context is kept of the caller on processor p, of which something is kept, and awaits a reply, or does not.
     pub fn put(&mut self, p: u8, who: Caller, context: &C, awaits: bool)
         requires { HasContext self.old p who }
@@ -194,8 +224,67 @@ impl<C: Copy> BodyContexts<C> {
     }
 }
 
-/// The caller on processor p, which goes on from this context, makes a stretch of at most n units of the body of its
-/// entry. Where it makes a call, the context that awaits the reply is left in place, else the first one again.
+/// A stretch of a task's body, of at most n units, from the context that is kept, which goes on. Where the body ends,
+/// nothing is kept of it.
+fn stretch_task<B: Body>(body: &B, entry: u8, n: u64, place: &mut Option<Kept<B::Ctx>>) -> Stop
+    requires entry { B.has_entry body.now entry }
+    requires context { OfOption (OfHeld (B.is_context body.now entry)) place.old }
+    requires goes { is_going place.old ≡ true }
+    ensures stop { result ≡ stop_of (stretched_from (B.meaning body.now) entry n place.old) }
+    ensures place { place.new ≡ kept_after (stretched_from (B.meaning body.now) entry n place.old) }
+    ensures fits { OfOption (OfHeld (B.is_context body.now entry)) place.new }
+    ensures hands_over { HandsOver (stretched_from (B.meaning body.now) entry n place.old) }
+{
+    let Some(kept) = place else { unreachable!() };
+    match kept::stretch(body, entry, n, kept) {
+        Stop::Call(made) => Stop::Call(made),
+        Stop::Over => Stop::Over,
+        Stop::End => {
+            *place = None;
+            Stop::End
+        }
+        Stop::Fault(fault) => {
+            *place = None;
+            Stop::Fault(fault)
+        }
+    }
+}
+
+/// The same of the body of a handler.
+fn stretch_handler<B: Body>(
+    body: &B,
+    entry: u8,
+    n: u64,
+    place: &mut Option<KeptHandler<B::Ctx>>,
+) -> Stop
+    requires entry { B.has_entry body.now entry }
+    requires context { OfOption (OfHeld (B.is_context body.now entry)) (context_in place.old) }
+    requires goes { is_going (context_in place.old) ≡ true }
+    ensures stop { result ≡ stop_of (stretched_from (B.meaning body.now) entry n (context_in place.old)) }
+    ensures place { place.new ≡ context_for (body_in place.old)
+        (kept_after (stretched_from (B.meaning body.now) entry n (context_in place.old))) }
+    ensures fits { OfOption (OfHeld (B.is_context body.now entry)) (context_in place.new) }
+    ensures hands_over { HandsOver (stretched_from (B.meaning body.now) entry n (context_in place.old)) }
+{
+    let Some(handler) = place else { unreachable!() };
+    match kept::stretch(body, entry, n, &mut handler.kept) {
+        Stop::Call(made) => Stop::Call(made),
+        Stop::Over => Stop::Over,
+        Stop::End => {
+            *place = None;
+            Stop::End
+        }
+        Stop::Fault(fault) => {
+            *place = None;
+            Stop::Fault(fault)
+        }
+    }
+}
+
+/// The caller on processor p, of which a context goes on, makes a stretch of at most n units of the body of its entry.
+/// What is kept of it then stands in place: with a call the context that awaits the reply, at the bound the one that
+/// goes on, and of a body that has ended nothing.
+#[tactic(auto, using(crate::proofs::HeldLemmas::inside_task, crate::proofs::HeldLemmas::inside_handler))]
 pub fn stretch<B: Body>(
     body: &B,
     entry: u8,
@@ -203,26 +292,21 @@ pub fn stretch<B: Body>(
     contexts: &mut BodyContexts<B::Ctx>,
     p: u8,
     who: Caller,
-    first: &B::Ctx,
 ) -> Stop
     requires entry { B.has_entry body.now entry }
-    requires context { B.is_context body.now entry first.now }
-    requires goes { context_of contexts.old p who ≡ Some (Goes first.now) }
-    ensures stop { result ≡ stop_of ((B.meaning body.now).stretch entry n first.now) }
+    requires context { OfOption (OfHeld (B.is_context body.now entry)) (context_of contexts.old p who) }
+    requires goes { is_going (context_of contexts.old p who) ≡ true }
+    ensures stop { result ≡ stop_of (stretched_from (B.meaning body.now) entry n (context_of contexts.old p who)) }
     ensures contexts { contexts.new ≡ with_context contexts.old p who
-        (Some (kept_after first.now ((B.meaning body.now).stretch entry n first.now))) }
-    ensures fits { OfHeld (B.is_context body.now entry)
-        (kept_after first.now ((B.meaning body.now).stretch entry n first.now)) }
+        (kept_after (stretched_from (B.meaning body.now) entry n (context_of contexts.old p who))) }
+    ensures fits { OfOption (OfHeld (B.is_context body.now entry))
+        (kept_after (stretched_from (B.meaning body.now) entry n (context_of contexts.old p who))) }
+    ensures hands_over { HandsOver
+        (stretched_from (B.meaning body.now) entry n (context_of contexts.old p who)) }
 {
     match who {
-        Caller::Task(t) => match &mut contexts.tasks[t as usize] {
-            Some(kept) => kept::stretch(body, entry, n, kept, first),
-            None => unreachable!(),
-        },
-        Caller::Handler(_) => match &mut contexts.handlers[p as usize] {
-            Some(handler) => kept::stretch(body, entry, n, &mut handler.kept, first),
-            None => unreachable!(),
-        },
+        Caller::Task(t) => stretch_task(body, entry, n, &mut contexts.tasks[t as usize]),
+        Caller::Handler(_) => stretch_handler(body, entry, n, &mut contexts.handlers[p as usize]),
     }
 }
 

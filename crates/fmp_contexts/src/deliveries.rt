@@ -2,6 +2,7 @@
 ghost use Rattle.std.specs.Prelude.{◌≡◌};
 ghost use Rattle.fmp_base.specs.Meanings.{caller_body, contexts_after, contexts_after_all, delivered_to, handler_begun, handler_start as start_of_handler, task_begun};
 ghost use Rattle.fmp_base.specs.Ranges.{IsInRange};
+ghost use Rattle.fmp_base.specs.Steps.{contexts_ended};
 ghost use Rattle.fmp_contexts.specs.Contexts.{Entered, Fitting, HasPlaces};
 
 use crate::contexts::{self, BodyContexts, body_number, fresh_context};
@@ -88,6 +89,29 @@ fn begin_handler<B: Body>(
             contexts.begin_handler(p, start.body, context);
         }
         None => contexts.forget_handler(p),
+    }
+}
+
+/// The caller on processor p has ended: a task has a fresh context, as at setup, and of a handler nothing is kept.
+#[tactic(auto, using(crate::proofs::ContextLemmas::fitting_handler, crate::proofs::ContextLemmas::places_ended))]
+pub fn end_context<B: Body>(
+    body: &B,
+    tables: &Tables,
+    contexts: &mut BodyContexts<B::Ctx>,
+    p: u8,
+    who: Caller,
+)
+    requires places { HasPlaces tables.now.system contexts.old }
+    requires entries { Entered B.has_entry body.now tables.now.system }
+    requires contexts { Fitting B.has_entry B.is_context body.now tables.now.system contexts.old }
+    ensures contexts { contexts.new
+        ≡ contexts_ended tables.now.system (B.meaning body.now) contexts.old p who }
+    ensures places { HasPlaces tables.now.system contexts.new }
+    ensures fitting { Fitting B.has_entry B.is_context body.now tables.now.system contexts.new }
+{
+    match who {
+        Caller::Task(t) => begin_task(body, tables, contexts, t),
+        Caller::Handler(_) => contexts.forget_handler(p),
     }
 }
 

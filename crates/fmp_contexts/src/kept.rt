@@ -1,10 +1,11 @@
 //! What is kept of one body between its stretches, changed in place.
-ghost use Rattle.std.specs.Prelude.{◌≡◌, Some};
+ghost use Rattle.std.specs.Prelude.{◌≡◌, Some, true};
 ghost use Rattle.std.specs.Option.{option_copied};
 ghost use Rattle.fmp_base.specs.declared.bodies.Held.{Held};
 ghost use Rattle.fmp_base.specs.declared.bodies.Held.TheVariants.{Awaits, Goes};
 ghost use Rattle.fmp_base.specs.Meanings.{told};
-ghost use Rattle.fmp_contexts.specs.Contexts.{OfHeld, going_context, held_by, kept_after, stop_of};
+ghost use Rattle.fmp_base.specs.Contexts.{OfCall, stopped};
+ghost use Rattle.fmp_contexts.specs.Contexts.{OfHeld, context_held, going_context, held_by, is_call, is_going, stretched_from};
 
 use fmp_base::{Body, Reply, Stop};
 use std::marker::Model;
@@ -47,6 +48,13 @@ impl<C: Copy> Kept<C> {
         }
     }
 
+    /// Whether its body goes on from the context.
+    pub fn goes(&self) -> bool
+        ensures { result ≡ is_going (Some self.now) }
+    {
+        !self.awaits
+    }
+
     /// This context is kept, and awaits the reply to its call, or does not.
     pub fn put(&mut self, context: &C, awaits: bool)
         ensures { self.new ≡ held_by awaits context.now }
@@ -56,27 +64,32 @@ impl<C: Copy> Kept<C> {
     }
 }
 
-/// A stretch of the body of an entry, of at most n units, from this context, which is the one that is kept. Where it
-/// makes a call, the context that awaits the reply is left in place, else the first one again.
-pub fn stretch<B: Body>(
-    body: &B,
-    entry: u8,
-    n: u64,
-    kept: &mut Kept<B::Ctx>,
-    first: &B::Ctx,
-) -> Stop
+/// Whether a stretch stops at a call, so that its context awaits the reply.
+fn awaits_reply(stop: &Stop) -> bool
+    ensures { result ≡ is_call stop.now }
+{
+    match stop {
+        Stop::Call(_) => true,
+        Stop::End => false,
+        Stop::Fault(_) => false,
+        Stop::Over => false,
+    }
+}
+
+/// A stretch of the body of an entry, of at most n units, from the context that is kept, which goes on. The one at which
+/// it stops is left in place, and awaits the reply to its call, if it makes one.
+#[tactic(auto, using(crate::proofs::HeldLemmas::context_by, crate::proofs::HeldLemmas::stretched_by, crate::proofs::HeldLemmas::of_context))]
+pub fn stretch<B: Body>(body: &B, entry: u8, n: u64, kept: &mut Kept<B::Ctx>) -> Stop
     requires entry { B.has_entry body.now entry }
-    requires context { B.is_context body.now entry first.now }
-    requires goes { kept.old ≡ Goes first.now }
-    ensures stop { result ≡ stop_of ((B.meaning body.now).stretch entry n first.now) }
-    ensures kept { kept.new ≡ kept_after first.now ((B.meaning body.now).stretch entry n first.now) }
-    ensures fits { OfHeld (B.is_context body.now entry) kept.new }
+    requires context { OfHeld (B.is_context body.now entry) kept.old }
+    requires goes { is_going (Some kept.old) ≡ true }
+    ensures value { stopped result (context_held kept.new)
+        ≡ stretched_from (B.meaning body.now) entry n (Some kept.old) }
+    ensures context { OfCall (B.is_context body.now entry) (stopped result (context_held kept.new)) }
+    ensures awaits { kept.new ≡ held_by (is_call result) (context_held kept.new) }
 {
     let stop = body.stretch_in_place(entry, n, &mut kept.context);
-    match stop {
-        Stop::Call(_) => kept.awaits = true,
-        _ => kept.context = *first,
-    }
+    kept.awaits = awaits_reply(&stop);
     stop
 }
 

@@ -7,4 +7,4 @@ mod deliveries;
 mod kept;
 
 pub use contexts::{BodyContexts, stretch};
-pub use deliveries::{carry_out, entry_of};
+pub use deliveries::{carry_out, end_context, entry_of};

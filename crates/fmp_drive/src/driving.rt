@@ -1,7 +1,7 @@
-//! Driving a kernel: events that each do something, until no processor goes on.
+//! Driving a kernel: events that each are done or keep a place, until no processor goes on.
 ghost use Rattle.std.specs.Prelude.{◌≡◌, ◌+◌, ◌<◌, ◌≤◌, ◌^◌, length, IfOk, IfSome, MatchOption};
 ghost use Rattle.fmp_trace.specs.StepsLaws.{IsStep};
-ghost use Rattle.fmp_drive.specs.Driving.{AllStand, HasDone, IsDriven, IsStirred};
+ghost use Rattle.fmp_drive.specs.Driving.{AllStand, HasTaken, IsDriven, IsStirred};
 ghost use Rattle.fmp_drive.specs.declared.trying.Source.TheVariants as source;
 
 use crate::plan::{Plan, Wish};
@@ -15,21 +15,21 @@ use std::alloc::{AllocError, Global};
 pub enum Stop {
     /// No processor can do anything, and no wait ends by the clock.
     Quiet,
-    /// As many events are done as were asked for.
+    /// As many events are taken as were asked for.
     Enough,
 }
 
 /// What a drive has done.
 #[derive(Drop)]
 pub struct Driven {
-    /// The events, each of which did something.
+    /// The events, each of which was done or kept a place.
     pub steps: Vec<Event>,
     pub stop: Stop,
 }
 
 /// What comes from outside of the tasks, where it is wished: a tick, or an interrupt that does something.
 fn stir<B: Body>(kernel: &mut Kernel<B>, wish: Wish, processors: u8) -> Option<Event>
-    requires { kernel.old.done < 2 ^ 20 }
+    requires { kernel.old.taken < 2 ^ 20 }
     ensures stirred { IsStirred B.meaning kernel.old kernel.new wish result }
     ensures step { IfSome result (IsStep processors) }
 {
@@ -47,10 +47,10 @@ fn tick_if_due<B: Body>(
     processors: u8,
     tasks: u8,
 ) -> Option<Event>
-    requires few { kernel.old.done < 2 ^ 20 }
+    requires few { kernel.old.taken < 2 ^ 20 }
     requires tasks { tasks ≤ length kernel.old.system.tasks }
     ensures { MatchOption result (kernel.new ≡ kernel.old)
-        (λ e. HasDone B.meaning kernel.old kernel.new e × IsStep processors e) }
+        (λ e. HasTaken B.meaning kernel.old kernel.new e × IsStep processors e) }
 {
     if plan.is_due(kernel, tasks) {
         Some(tick(kernel, processors))
@@ -67,13 +67,13 @@ fn run_or_tick<B: Body>(
     processors: u8,
     tasks: u8,
 ) -> Option<Event>
-    requires few { kernel.old.done < 2 ^ 20 }
+    requires few { kernel.old.taken < 2 ^ 20 }
     requires processors { processors ≤ 8 }
     requires first { 1 ≤ first }
     requires tasks { tasks ≤ length kernel.old.system.tasks }
     ensures { MatchOption result
         (AllStand B.meaning kernel.old source.Processor 1 (processors + 1) × (kernel.new ≡ kernel.old))
-        (λ e. HasDone B.meaning kernel.old kernel.new e × IsStep processors e) }
+        (λ e. HasTaken B.meaning kernel.old kernel.new e × IsStep processors e) }
 {
     match run_one(kernel, first, processors) {
         Some(e) => Some(e),
@@ -81,19 +81,19 @@ fn run_or_tick<B: Body>(
     }
 }
 
-/// The next event, which is done; none if no processor can do anything and the clock changes nothing.
+/// The next event, which is taken; none if no processor can do anything and the clock changes nothing.
 fn next<B: Body>(
     kernel: &mut Kernel<B>,
     plan: &mut Plan,
     processors: u8,
     tasks: u8,
 ) -> Option<Event>
-    requires few { kernel.old.done < 2 ^ 20 }
+    requires few { kernel.old.taken < 2 ^ 20 }
     requires processors { processors ≤ 8 }
     requires tasks { tasks ≤ length kernel.old.system.tasks }
     ensures { MatchOption result
         (AllStand B.meaning kernel.old source.Processor 1 (processors + 1) × (kernel.new ≡ kernel.old))
-        (λ e. HasDone B.meaning kernel.old kernel.new e × IsStep processors e) }
+        (λ e. HasTaken B.meaning kernel.old kernel.new e × IsStep processors e) }
 {
     let wish = plan.wish();
     match stir(kernel, wish, processors) {
@@ -103,7 +103,8 @@ fn next<B: Body>(
 }
 
 /// Drives a kernel of this many processors and tasks: its processors in turn, or as the plan has it, and a tick when
-/// none of them can do anything; until nothing can happen any more, or `most` events are done. `AllocError` if memory
+/// none of them can do anything; until nothing can happen any more, or `most` events are taken. A task that
+/// reaches the bound of its stretch goes on when its turn comes again. `AllocError` if memory
 /// runs out.
 pub fn drive<B: Body>(
     alloc: Global,
@@ -113,7 +114,7 @@ pub fn drive<B: Body>(
     tasks: u8,
     most: u32,
 ) -> Result<Driven, AllocError>
-    requires few { kernel.old.done + most ≤ 2 ^ 20 }
+    requires few { kernel.old.taken + most ≤ 2 ^ 20 }
     requires one { 1 ≤ processors }
     requires eight { processors ≤ 8 }
     requires tasks { tasks ≤ length kernel.old.system.tasks }

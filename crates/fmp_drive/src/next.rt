@@ -14,7 +14,7 @@ const PROCESSORS: usize = 8;
 pub enum NextRun {
     /// The processor runs neither a task nor a handler, so its run does nothing.
     NoActor,
-    /// The stretch needs more instructions than the bound, so the run does nothing.
+    /// The stretch needs more instructions than the bound, so the run keeps its place.
     OverBound,
     /// The stretch ends with this call. If it spins for a held spin lock, the run does nothing.
     Calls(Call),
@@ -29,7 +29,7 @@ fn told_by<C: Copy>(stretch: Stretch<C>) -> NextRun
     match stretch {
         Stretch::Call(_, call) => NextRun::Calls(call),
         Stretch::End(_) | Stretch::Fault(..) => NextRun::Ends,
-        Stretch::Over => NextRun::OverBound,
+        Stretch::Over(_) => NextRun::OverBound,
     }
 }
 

@@ -2,7 +2,7 @@
 ghost use Rattle.std.specs.Prelude.{◌≡◌, ◌+◌, ◌<◌, ◌≤◌, ◌^◌, IfSome, MatchOption};
 ghost use Rattle.fmp_drive.specs.declared.trying.Source.TheVariants as source;
 ghost use Rattle.fmp_trace.specs.StepsLaws.{IsStep};
-ghost use Rattle.fmp_drive.specs.Driving.{AllStand, DoesFirst, HasDone, event_of};
+ghost use Rattle.fmp_drive.specs.Driving.{AllStand, TakesFirst, HasTaken, event_of};
 
 use fmp_base::{Effect, Event};
 use fmp_kernel::{Body, Kernel};
@@ -30,20 +30,21 @@ fn event_of(source: Source, number: u8) -> Event
 }
 
 /// Tries the events of a source by number, from the first up to the end, which is left out. Gives the first that does
-/// something, which is then done; none if none does, and nothing has changed then.
-pub fn first_done<B: Body>(
+/// something, which is then taken; none if none does, and nothing has changed then.
+pub fn first_taken<B: Body>(
     kernel: &mut Kernel<B>,
     source: Source,
     first: u8,
     end: u8,
 ) -> Option<Event>
-    requires { kernel.old.done < 2 ^ 20 }
-    ensures { DoesFirst B.meaning kernel.old kernel.new source first end result }
+    requires { kernel.old.taken < 2 ^ 20 }
+    ensures { TakesFirst B.meaning kernel.old kernel.new source first end result }
 {
     for number in first..end {
         let e = event_of(source, number);
         match kernel.step(e) {
             Effect::Done => return Some(e),
+            Effect::Kept => return Some(e),
             Effect::Nothing => {}
         }
     }
@@ -52,35 +53,35 @@ pub fn first_done<B: Body>(
 
 /// The first processor that can do something, from this one on, does it.
 fn run_from<B: Body>(kernel: &mut Kernel<B>, first: u8, processors: u8) -> Option<Event>
-    requires few { kernel.old.done < 2 ^ 20 }
+    requires few { kernel.old.taken < 2 ^ 20 }
     requires processors { processors ≤ 8 }
     requires first { 1 ≤ first }
     ensures { MatchOption result
         (AllStand B.meaning kernel.old source.Processor first (processors + 1) × (kernel.new ≡ kernel.old))
-        (λ e. HasDone B.meaning kernel.old kernel.new e × IsStep processors e) }
+        (λ e. HasTaken B.meaning kernel.old kernel.new e × IsStep processors e) }
 {
-    first_done(kernel, Source::Processor, first, processors + 1)
+    first_taken(kernel, Source::Processor, first, processors + 1)
 }
 
 /// The first processor that can do something does it.
 fn run_any<B: Body>(kernel: &mut Kernel<B>, processors: u8) -> Option<Event>
-    requires few { kernel.old.done < 2 ^ 20 }
+    requires few { kernel.old.taken < 2 ^ 20 }
     requires processors { processors ≤ 8 }
     ensures { MatchOption result
         (AllStand B.meaning kernel.old source.Processor 1 (processors + 1) × (kernel.new ≡ kernel.old))
-        (λ e. HasDone B.meaning kernel.old kernel.new e × IsStep processors e) }
+        (λ e. HasTaken B.meaning kernel.old kernel.new e × IsStep processors e) }
 {
     run_from(kernel, 1, processors)
 }
 
 /// The first processor that can do something, from the first of these on and then from 1 on, does it.
 pub fn run_one<B: Body>(kernel: &mut Kernel<B>, first: u8, processors: u8) -> Option<Event>
-    requires few { kernel.old.done < 2 ^ 20 }
+    requires few { kernel.old.taken < 2 ^ 20 }
     requires processors { processors ≤ 8 }
     requires first { 1 ≤ first }
     ensures { MatchOption result
         (AllStand B.meaning kernel.old source.Processor 1 (processors + 1) × (kernel.new ≡ kernel.old))
-        (λ e. HasDone B.meaning kernel.old kernel.new e × IsStep processors e) }
+        (λ e. HasTaken B.meaning kernel.old kernel.new e × IsStep processors e) }
 {
     match run_from(kernel, first, processors) {
         Some(e) => Some(e),
@@ -90,19 +91,19 @@ pub fn run_one<B: Body>(kernel: &mut Kernel<B>, first: u8, processors: u8) -> Op
 
 /// The first interrupt that does something, from this number on, is requested.
 pub fn raise<B: Body>(kernel: &mut Kernel<B>, first: u8, processors: u8) -> Option<Event>
-    requires few { kernel.old.done < 2 ^ 20 }
+    requires few { kernel.old.taken < 2 ^ 20 }
     requires first { 1 ≤ first }
-    ensures first { DoesFirst B.meaning kernel.old kernel.new source.Interrupt first 33 result }
+    ensures first { TakesFirst B.meaning kernel.old kernel.new source.Interrupt first 33 result }
     ensures step { IfSome result (IsStep processors) }
 {
-    first_done(kernel, Source::Interrupt, first, INTERRUPTS_END)
+    first_taken(kernel, Source::Interrupt, first, INTERRUPTS_END)
 }
 
 /// The clock advances by one.
 pub fn tick<B: Body>(kernel: &mut Kernel<B>, processors: u8) -> Event
-    requires { kernel.old.done < 2 ^ 20 }
+    requires { kernel.old.taken < 2 ^ 20 }
     ensures tick { result ≡ Event.Tick }
-    ensures done { HasDone B.meaning kernel.old kernel.new result }
+    ensures taken { HasTaken B.meaning kernel.old kernel.new result }
     ensures step { IsStep processors result }
 {
     kernel.step(Event::Tick);

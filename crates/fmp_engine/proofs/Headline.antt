@@ -36,13 +36,14 @@ hosts_texts i bodies image work file file_after out out_after h spelled law =
     let same : h.loaded ≡ i = one_image h.loaded i image h.spelled spelled in
     let made : IsHosted i work h.journal = subst (λ (j : ImageTables). IsHosted j work h.journal) same h.made in
     let like : PrintsText i.system bodies i.code work.bound h.journal = law h.journal in
-    let all : like.finished ≡ h.journal = like.are_done ∙ made.legal.all_done in
     record {
       journal = h.journal;
       made = made;
       steps = h.steps;
+      finished = like.finished;
+      are_done = like.are_done;
       trace = like.trace;
-      finishes = rw all at like.finishes;
+      finishes = like.finishes;
       text = subst (λ (j : ImageTables). out_after ≡ out ++ whole_text j.system (code_meaning j.code) work.bound h.journal) same h.text
           ∙ ap (λ (text : List ℕ). out ++ text) like.text;
     }

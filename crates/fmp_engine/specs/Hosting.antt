@@ -1,8 +1,8 @@
 -- What a host of an image writes and prints, or why it does not.
 use Rattle.std.specs.Prelude.{◌≡◌, ◌++◌, ◌+◌, ◌*◌, ◌≤◌, ◌^◌, ℕ, List, Err, length}
 use Rattle.fmp_base.specs.declared.events.Event.{Event}
-use Rattle.fmp_base.specs.Finishes.{IsFinished}
-use Rattle.fmp_base.specs.Runs.{Trace}
+use Rattle.fmp_base.specs.KeptRuns.{IsFinished}
+use Rattle.fmp_base.specs.Runs.{Trace, done_events}
 use Rattle.fmp_base.specs.Setups.{setup}
 use Rattle.fmp_base.specs.Texts.{trace_text, whole_text}
 use Rattle.fmp_instructions.specs.Machine.{code_meaning}
@@ -38,8 +38,8 @@ pub record FitsBoard (i : ImageTables) (work : Workload) : Type 0 where
   pub some : 1 ≤ most_events i work
   pub most : most_events i work ≤ 2 ^ 20
 
--- a journal that the threads of an image's board made, which no gate held: each of its events did something at its
--- place, and they are at most `turns` runs of each processor, and at most `ticks` ticks
+-- a journal that the threads of an image's board made, which no gate held: each of its events was done, or kept a
+-- place, where it stands, and they are at most `turns` runs of each processor, and at most `ticks` ticks
 pub record IsHosted (i : ImageTables) (work : Workload) (journal : List Event) : Type 0 where
   pub fits : FitsBoard i work
   pub legal : IsLegal i work.bound journal
@@ -58,16 +58,21 @@ pub record Hosts (image : List ℕ) (work : Workload) (file file_after out out_a
   pub text : out_after ≡ out ++ whole_text loaded.system (code_meaning loaded.code) work.bound journal
 
 -- What was appended to the file is the steps text of a journal that the threads of an image made, and what was appended
--- to the output is what the bodies of a task text mean over this journal, of which they finish every event.
+-- to the output is what the bodies of a task text mean over those of its events that were done. Each other event kept
+-- the place of its actor once more.
 pub record HostsTexts (i : ImageTables) (bodies : List BodyTree) (work : Workload)
     (file file_after out out_after : List ℕ) : Type 0 where
   pub journal : List Event
   pub made : IsHosted i work journal
   pub steps : file_after ≡ file ++ steps_text journal
+  pub finished : List Event
+  pub are_done :
+      let machine = code_meaning i.code in
+      finished ≡ done_events i.system machine work.bound (setup i.system machine).world journal
   pub trace : Trace TextContext
   pub finishes :
       let text = text_meaning i.system bodies in
-      IsFinished i.system text work.bound (longest i.code) (setup i.system text).world journal journal trace
+      IsFinished i.system text work.bound (longest i.code) journal finished trace
   pub text : out_after ≡ out ++ trace_text i.system (setup i.system (text_meaning i.system bodies)).lines trace
 
 -- why a board of an image gives no journal, apart from running out of memory

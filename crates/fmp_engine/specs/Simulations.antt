@@ -1,7 +1,7 @@
 -- What a simulation of an image over a steps text prints, or why it prints nothing.
 use Rattle.std.specs.Prelude.{◌≡◌, ◌++◌, ℕ, List, [], Ok, Err}
 use Rattle.fmp_base.specs.declared.events.Event.{Event}
-use Rattle.fmp_base.specs.Finishes.{IsFinished}
+use Rattle.fmp_base.specs.KeptRuns.{IsFinished}
 use Rattle.fmp_base.specs.Runs.{Trace, done_events}
 use Rattle.fmp_base.specs.Setups.{setup}
 use Rattle.fmp_base.specs.Texts.{trace_text, whole_text}
@@ -29,10 +29,11 @@ pub record Simulates (image steps : List ℕ) (n : ℕ) (before after : List ℕ
   pub read : steps_of loaded.system.processors steps ≡ Ok events
   pub text : after ≡ before ++ whole_text loaded.system (code_meaning loaded.code) n events
 
--- The steps read as events, and what was appended is what the bodies of a task text mean over those that the run of
--- their image did, within n instructions a stretch. An event that it left out does nothing in the text either, within
--- any t turns of loops with (t + 1) * L up to n, L being the instructions of the longest body; and where the text
--- finishes the first k events within such a t, these are the first k that the run did.
+-- The steps read as q events, and what was appended is what the bodies of a task text mean, at n * q turns of loops, over
+-- those of them that the run of their image did, within n instructions a stretch. An event that it left out does nothing
+-- in the text either at that point, at any number of turns, or it kept the place of its actor once more: a stretch that
+-- the text ends within t turns is kept j times only with n * j < (t + 1) * L, L being the instructions of the longest
+-- body.
 pub record PrintsTexts (i : ImageTables) (bodies : List BodyTree) (steps : List ℕ) (n : ℕ) (before after : List ℕ) :
     Type 0 where
   pub events : List Event
@@ -44,7 +45,7 @@ pub record PrintsTexts (i : ImageTables) (bodies : List BodyTree) (steps : List 
   pub trace : Trace TextContext
   pub finishes :
       let text = text_meaning i.system bodies in
-      IsFinished i.system text n (longest i.code) (setup i.system text).world events finished trace
+      IsFinished i.system text n (longest i.code) events finished trace
   pub text : after ≡ before ++ trace_text i.system (setup i.system (text_meaning i.system bodies)).lines trace
 
 -- the bytes spell an image, and this is the first fault of the steps

@@ -65,7 +65,7 @@ fn take<B: Body, E: Events, T: Outlet>(
     outlet: &mut T,
 ) -> Result<(), Stopped>
     requires system { kernel.old.system ≡ tables_of sys.now }
-    requires few { kernel.old.done + length (E.left events.old) ≤ 2 ^ 20 }
+    requires few { kernel.old.taken + length (E.left events.old) ≤ 2 ^ 20 }
     requires short { vec_len text.old < PIECE }
     requires room { PIECE_ROOM ≤ vec_capacity text.old }
     ensures ok { OnOk result (HasGiven T.gave B.meaning kernel.old kernel.new (E.left events.old)
@@ -83,6 +83,7 @@ fn take<B: Body, E: Events, T: Outlet>(
                 page.print(sys, kernel.done(), kernel.lines(), text);
                 give_piece(text, outlet)?;
             }
+            Effect::Kept => {}
             Effect::Nothing => {}
         }
     }
@@ -129,7 +130,7 @@ fn give_states<B: Body, T: Outlet>(
     give_all(text, outlet)
 }
 
-/// Gives the outlet the text of a run of a kernel after setup: its lines, those of the events that did something, and
+/// Gives the outlet the text of a run of a kernel after setup: its lines, those of the events that were done, and
 /// the states at the end.
 fn give_from_setup<B: Body, E: Events, T: Outlet>(
     sys: &System,
@@ -140,7 +141,7 @@ fn give_from_setup<B: Body, E: Events, T: Outlet>(
     outlet: &mut T,
 ) -> Result<(), Stopped>
     requires system { kernel.old.system ≡ tables_of sys.now }
-    requires fresh { kernel.old.done ≡ 0 }
+    requires fresh { kernel.old.taken ≡ 0 }
     requires tasks { length sys.now.tasks.items ≤ TASKS_MAX }
     requires few { length (E.left events.old) ≤ 2 ^ 20 }
     requires no_text { text.old.items ≡ [] }

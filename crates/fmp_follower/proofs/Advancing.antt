@@ -17,7 +17,7 @@ use Rattle.fmp_board.specs.Boards.{IsAt}
 use Rattle.fmp_replay.specs.Replays.{kernel_after}
 use Rattle.fmp_replay.proofs.Replaying.{setup_replays}
 use Rattle.fmp_follower.specs.Followers.{Continues, Follows, IsFollowing, followed_text, kernel_over, reaction_text}
-use Rattle.fmp_follower.proofs.Following.{SameRun, done_few, followed_last, followed_none, nothing_behind, same_run, view_last}
+use Rattle.fmp_follower.proofs.Following.{SameRun, followed_last, followed_none, nothing_behind, same_run, taken_few, view_last}
 
 abbrev Kernels : Type 0
 Kernels = KernelView (List BodyTables) MachineContext
@@ -61,13 +61,13 @@ room_left row old new e le f =
     let other : old.place ≢ row.capacity = λ h. some_is_not_none e (f.end h).1 in
     omega (arith, le, other)
 
--- fewer events did something than a kernel takes
+-- fewer events were taken than a kernel takes
 pub early : (i : ImageTables) (n : ℕ) (row : RowId) (old new : SeatState) (k : Kernels) (e : Event)
-    → IsFollowing i n row old k → Follows row.capacity old new (Some e) → k.done < 2 ^ 20
+    → IsFollowing i n row old k → Follows row.capacity old new (Some e) → k.taken < 2 ^ 20
 unfolding kernel_over
 early i n row old new k e was f =
-    let few : (kernel_over i n (given old)).done ≤ 0 + length (given old) = done_few code_meaning (start i n) (given old) in
-    let same : k.done ≡ (kernel_over i n (given old)).done = ap (λ (v : Kernels). v.done) was.kernel_is in
+    let few : (kernel_over i n (given old)).taken ≤ 0 + length (given old) = taken_few code_meaning (start i n) (given old) in
+    let same : k.taken ≡ (kernel_over i n (given old)).taken = ap (λ (v : Kernels). v.taken) was.kernel_is in
     omega (arith, few, same, few_given old, room_left row old new e was.place f, was.capacity)
 
 row_kept : (row : RowId) (capacity : ℕ) (old new : SeatState) (r : Option Event) → old.row ≡ row → Follows capacity old new r → new.row ≡ row

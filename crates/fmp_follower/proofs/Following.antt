@@ -4,7 +4,7 @@ use Rattle.fmp_base.specs.declared.events.Event.{Event}
 use Rattle.fmp_base.specs.Meanings.{Meaning, World}
 use Rattle.fmp_base.specs.Runs.{run, run_on}
 use Rattle.fmp_base.specs.Setups.{setup}
-use Rattle.fmp_base.specs.Steps.{Done, Reaction, Nothing, Did, step}
+use Rattle.fmp_base.specs.Steps.{Done, Reaction, Nothing, Did, Kept, step}
 use Rattle.fmp_base.specs.Systems.{SystemTables}
 use Rattle.fmp_base.specs.Texts.{events_text, lines_text, states_text, whole_text}
 use Rattle.fmp_instructions.specs.declared.instructions.MachineContext.{MachineContext}
@@ -19,7 +19,7 @@ nothing_behind [] = refl
 nothing_behind (x ∷ xs) = ap (λ (ys : List ℕ). x ∷ ys) (nothing_behind xs)
 
 module _ {B C : Type 0} (meaning : B → Meaning C) where
-  -- the text of the events that a kernel does of a list
+  -- the text of the events of a list that are done on a kernel
   abbrev pub text_of : KernelView B C → List Event → List ℕ
   text_of k es = events_text k.system (k.done + 1) (run k.system (meaning k.body) k.bound k.world es).events
 
@@ -33,6 +33,7 @@ module _ {B C : Type 0} (meaning : B → Meaning C) where
       → events_text sys number (run_on w r (λ v. record { world = v; events = [] })).events ≡ reaction_text sys number r
   of_one sys number w Nothing = refl
   of_one sys number w (Did d) = nothing_behind (lines_text sys number d.lines)
+  of_one sys number w (Kept p v) = refl
 
   of_first : (k : KernelView B C) (es : List Event) (e : Event) (r : Reaction C)
       → ((v : KernelView B C) → text_of v (es ++ e ∷ []) ≡ text_of v es ++ next_of v es e)
@@ -44,6 +45,7 @@ module _ {B C : Type 0} (meaning : B → Meaning C) where
       let first : List ℕ = lines_text k.system (k.done + 1) d.lines in
       let v : KernelView B C = view_after k (Did d) in
       ap (λ (xs : List ℕ). first ++ xs) (h v) ∙ sym (append_assoc first (text_of v es) (next_of v es e))
+  of_first k es e (Kept p w) h = h (view_after k (Kept p w))
 
   same_next : (k : KernelView B C) (r : Reaction C) (es : List Event) (e : Event)
       → next_of (view_after k r) es e
@@ -51,6 +53,7 @@ module _ {B C : Type 0} (meaning : B → Meaning C) where
       reaction_text k.system (v.done + 1) (step k.system (meaning k.body) k.bound v.world e))
   same_next k Nothing es e = refl
   same_next k (Did d) es e = refl
+  same_next k (Kept p w) es e = refl
 
   pub text_last : (k : KernelView B C) (es : List Event) (e : Event) → text_of k (es ++ e ∷ []) ≡ text_of k es ++ next_of k es e
   text_last k [] e =
@@ -74,6 +77,7 @@ module _ {B C : Type 0} (meaning : B → Meaning C) where
   same_first : (k v : KernelView B C) (r : Reaction C) → SameRun (view_after k r) v → SameRun k v
   same_first k v Nothing s = s
   same_first k v (Did d) s = record { body = s.body; bound = s.bound; system = s.system }
+  same_first k v (Kept p w) s = record { body = s.body; bound = s.bound; system = s.system }
 
   pub same_run : (k : KernelView B C) (es : List Event) → SameRun k (view_after_all meaning k es)
   same_run k [] = record { body = refl; bound = refl; system = refl }
@@ -81,18 +85,19 @@ module _ {B C : Type 0} (meaning : B → Meaning C) where
       let r : Reaction C = step k.system (meaning k.body) k.bound k.world x in
       same_first k _ r (same_run (view_after k r) es)
 
-  done_first : (k v : KernelView B C) (r : Reaction C) (n : ℕ) → v.done ≤ (view_after k r).done + n → v.done ≤ k.done + (n + 1)
-  done_first k v Nothing n h = omega (arith, h)
-  done_first k v (Did d) n h = omega (arith, h)
+  taken_first : (k v : KernelView B C) (r : Reaction C) (n : ℕ) → v.taken ≤ (view_after k r).taken + n → v.taken ≤ k.taken + (n + 1)
+  taken_first k v Nothing n h = omega (arith, h)
+  taken_first k v (Did d) n h = omega (arith, h)
+  taken_first k v (Kept p w) n h = omega (arith, h)
 
-  -- no more events did something than were taken
-  pub done_few : (k : KernelView B C) (es : List Event) → (view_after_all meaning k es).done ≤ k.done + length es
-  done_few k [] = omega arith
-  done_few k (x ∷ es) =
+  -- no more events were taken than there are
+  pub taken_few : (k : KernelView B C) (es : List Event) → (view_after_all meaning k es).taken ≤ k.taken + length es
+  taken_few k [] = omega arith
+  taken_few k (x ∷ es) =
       let r : Reaction C = step k.system (meaning k.body) k.bound k.world x in
       let more : length (x ∷ es) ≡ length es + 1 = omega arith in
-      let all : (view_after_all meaning k (x ∷ es)).done ≤ k.done + (length es + 1) =
-      done_first k (view_after_all meaning k (x ∷ es)) r (length es) (done_few (view_after k r) es) in
+      let all : (view_after_all meaning k (x ∷ es)).taken ≤ k.taken + (length es + 1) =
+      taken_first k (view_after_all meaning k (x ∷ es)) r (length es) (taken_few (view_after k r) es) in
       omega (arith, all, more)
 
   world_first : (k : KernelView B C) (es : List Event) (r : Reaction C)
@@ -100,6 +105,7 @@ module _ {B C : Type 0} (meaning : B → Meaning C) where
       → (run_on k.world r (λ w. run k.system (meaning k.body) k.bound w es)).world ≡ (view_after_all meaning (view_after k r) es).world
   world_first k es Nothing h = h k
   world_first k es (Did d) h = h (view_after k (Did d))
+  world_first k es (Kept p w) h = h (view_after k (Kept p w))
 
   -- the world at the end of a run is that of the kernel
   pub same_world : (k : KernelView B C) (es : List Event)

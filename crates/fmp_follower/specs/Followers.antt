@@ -5,7 +5,7 @@ use mathlib.Core.List.{IsPrefix}
 use Rattle.fmp_base.specs.declared.events.Event.{Event}
 use Rattle.fmp_base.specs.Runs.{run}
 use Rattle.fmp_base.specs.Setups.{setup}
-use Rattle.fmp_base.specs.Steps.{Reaction, Nothing, Did}
+use Rattle.fmp_base.specs.Steps.{Reaction, Nothing, Did, Kept}
 use Rattle.fmp_base.specs.Systems.{SystemTables}
 use Rattle.fmp_base.specs.Texts.{events_text, lines_text, states_text, whole_text}
 use Rattle.fmp_instructions.specs.declared.instructions.MachineContext.{MachineContext}
@@ -31,10 +31,11 @@ unfoldable pub kernel_over : ImageTables → (n : ℕ) → List Event → Kernel
 kernel_over i n es =
     view_after_all code_meaning (view_of_setup i.code n i.system (setup i.system (code_meaning i.code))) es
 
--- the text of what an event did, if it did something, as the event of this number
+-- the text of what an event did, if it was done, as the event of this number; one that keeps a place prints nothing
 abbrev pub reaction_text : {C : Type 0} → SystemTables → (number : ℕ) → Reaction C → List ℕ
 reaction_text sys number Nothing = []
 reaction_text sys number (Did d) = lines_text sys number d.lines
+reaction_text sys number (Kept p w) = []
 
 -- what an image prints over events before the states at the end: the lines of setup, and those of the events
 unfoldable pub followed_text : ImageTables → (n : ℕ) → List Event → List ℕ

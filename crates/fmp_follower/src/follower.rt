@@ -61,7 +61,7 @@ fn begun<'a, S: Site>(
 /// Takes an event on a kernel, and appends the text of its lines to a text that has room for them.
 fn take<'a>(sys: &System, kernel: &mut Kernel<Vm<'a>>, event: Event, out: &mut Vec<u8>)
     requires system { kernel.old.system ≡ tables_of sys.now }
-    requires early { kernel.old.done < 2 ^ 20 }
+    requires early { kernel.old.taken < 2 ^ 20 }
     requires room { vec_len out.old + EVENT_ROOM ≤ vec_capacity out.old }
     ensures kernel { kernel.new
         ≡ view_after kernel.old
@@ -72,6 +72,7 @@ fn take<'a>(sys: &System, kernel: &mut Kernel<Vm<'a>>, event: Event, out: &mut V
 {
     match kernel.step(event) {
         Effect::Nothing => {}
+        Effect::Kept => {}
         Effect::Done => {
             kernel.lines_are_few();
             if print(sys, kernel.done(), kernel.lines(), out).is_err() {

@@ -10,6 +10,8 @@ use Rattle.fmp_base.specs.declared.events.StateWord.TheVariants as word
 use Rattle.fmp_base.specs.declared.events.TaskState.{TaskState}
 use Rattle.fmp_base.specs.declared.states.Caller.{Caller}
 use Rattle.fmp_base.specs.declared.states.Caller.TheVariants as caller
+use Rattle.fmp_base.specs.declared.states.Handler.{Handler}
+use Rattle.fmp_base.specs.declared.states.Processor.{Processor}
 use Rattle.fmp_frames.specs.Frames.{FrameTable, each}
 use Rattle.fmp_frames.specs.declared.counting.Tally.{Tally}
 use Rattle.fmp_frames.specs.declared.tallies.Tallies.{Tallies}
@@ -62,24 +64,44 @@ abbrev pub one_if : Bool → ℕ
 one_if true = 1
 one_if false = 0
 
+-- the task that a processor runs, unless a handler runs there
+abbrev pub run_alone : Option Handler → Option ℕ → Option ℕ
+run_alone (Some h) run = None
+run_alone None run = run
+
+abbrev pub runner_in : Option Processor → Option ℕ
+runner_in None = None
+runner_in (Some cpu) = run_alone cpu.handler cpu.run
+
+-- the task whose place an event kept, if it ran this processor for that
+abbrev pub keeper : Option ℕ → List Processor → Option ℕ
+keeper None cpus = None
+keeper (Some p) cpus = runner_in (slice_get cpus p)
+
+abbrev pub is_keeper : ℕ → Option ℕ → Bool
+is_keeper t None = false
+is_keeper t (Some u) = nat_eq u t
+
 -- n more, up to the greatest number of 32 bits
 abbrev pub more : ℕ → ℕ → ℕ
 more n k = min (n + k) (2 ^ 32 - 1)
 
--- the counts of task t after an event that told these lines; what is shown of the tasks was the first and is the second
-abbrev pub counted : ℕ → List Line → (was is : List TaskState) → Tally → Tally
-counted t lines was is x =
+-- the counts of task t after an event that told these lines, or kept the place of the first task; what is shown of the
+-- tasks was the first and is the second
+abbrev pub counted : ℕ → List Line → Option ℕ → (was is : List TaskState) → Tally → Tally
+counted t lines kept was is x =
     record {
       starts = more x.starts (length (filter (starts t) lines));
       calls = more x.calls (length (filter (calls t) lines));
       waits = more x.waits (length (filter (waits t) lines));
       time_outs = more x.time_outs (length (filter (times_out t) lines));
       preemptions = more x.preemptions (one_if (is_preempted (word_of (slice_get was t)) (word_of (slice_get is t))));
-      events = more x.events (length (filter (acts t) lines));
+      kept = more x.kept (one_if (is_keeper t kept));
+      events = more (more x.events (length (filter (acts t) lines))) (one_if (is_keeper t kept));
     }
 
 abbrev pub nothing : Tally
-nothing = record { starts = 0; calls = 0; waits = 0; time_outs = 0; preemptions = 0; events = 0 }
+nothing = record { starts = 0; calls = 0; waits = 0; time_outs = 0; preemptions = 0; kept = 0; events = 0 }
 
 -- what is counted of all tasks up to an event, with what is shown of them after it
 pub record Counts : Type 0 where
@@ -93,7 +115,8 @@ counts_of x = record { tallies = x.tallies.items; shown = x.shown.items; events 
 abbrev pub counts_after : Counts → FrameTable → Counts
 counts_after c f =
     record {
-      tallies = each (λ t. counted t f.lines c.shown f.states (get_or c.tallies t nothing)) (length c.tallies);
+      tallies = each (λ t. counted t f.lines (keeper f.kept f.processors) c.shown f.states (get_or c.tallies t nothing))
+          (length c.tallies);
       shown = f.states;
       events = more c.events 1;
     }
@@ -102,7 +125,7 @@ counts_after c f =
 abbrev pub first_counts : FrameTable → Counts
 first_counts f =
     record {
-      tallies = each (λ t. counted t f.lines [] f.states nothing) (length f.states);
+      tallies = each (λ t. counted t f.lines None [] f.states nothing) (length f.states);
       shown = f.states;
       events = 0;
     }

@@ -1,5 +1,5 @@
--- The frames of a run: what setup and each event that did something told, and the state after it.
-use Rattle.std.specs.Prelude.{ℕ, ℤ, pos, List, [], ◌∷◌, Bool, length, map, get_or}
+-- The frames of a run: what setup and each event that was taken told, and the state after it.
+use Rattle.std.specs.Prelude.{ℕ, ℤ, pos, List, [], ◌∷◌, Option, Some, None, Bool, length, map, get_or}
 use Rattle.std.specs.List.{range_with_len}
 use Rattle.fmp_base.specs.declared.events.Event.{Event}
 use Rattle.fmp_base.specs.declared.events.Line.{Line}
@@ -12,7 +12,7 @@ use Rattle.fmp_base.specs.MailboxCalls.{messages_at}
 use Rattle.fmp_base.specs.Meanings.{Meaning, World}
 use Rattle.fmp_base.specs.Runs.{task_state}
 use Rattle.fmp_base.specs.States.{KernelState, task_at, processor_at}
-use Rattle.fmp_base.specs.Steps.{Reaction, Nothing, Did, step}
+use Rattle.fmp_base.specs.Steps.{Reaction, Nothing, Did, Kept, step}
 use Rattle.fmp_base.specs.Systems.{SystemTables}
 use Rattle.fmp_base.specs.Ticks.{is_pending}
 use Rattle.fmp_frames.specs.declared.frame.Frame as declared
@@ -20,6 +20,8 @@ use Rattle.fmp_frames.specs.declared.frame.Frame as declared
 -- what a frame shows, without memory
 pub record FrameTable : Type 0 where
   pub lines : List Line
+  -- the place of the processor whose actor kept its place, if the event did that; then there are no lines
+  pub kept : Option ℕ
   pub clock : ℕ
   pub states : List TaskState
   pub blocks : List TaskBlock
@@ -37,6 +39,7 @@ abbrev pub table_of : declared.Frame → FrameTable
 table_of f =
     record {
       lines = f.lines.items;
+      kept = f.kept;
       clock = f.clock;
       states = f.states.items;
       blocks = f.blocks.items;
@@ -67,6 +70,7 @@ abbrev pub frame_of : SystemTables → KernelState → List Line → FrameTable
 frame_of sys s lines =
     record {
       lines = lines;
+      kept = None;
       clock = s.clock;
       states = each (task_state s) (length sys.tasks);
       blocks = each (task_at s.tasks) (length sys.tasks);
@@ -80,12 +84,17 @@ frame_of sys s lines =
       pending_interrupts = each (is_pending s.pending_interrupts) 32;
     }
 
+-- the frame of an event that ran this processor and kept the place of its actor
+abbrev pub kept_frame : SystemTables → KernelState → Option ℕ → FrameTable
+kept_frame sys s ran = record (frame_of sys s []) { kept = ran }
+
 abbrev pub framed_on : {C : Type 0} → SystemTables → World C → Reaction C → (World C → List FrameTable)
     → List FrameTable
 framed_on sys w Nothing rest = rest w
 framed_on sys w (Did d) rest = frame_of sys d.world.state d.lines ∷ rest d.world
+framed_on sys w (Kept p v) rest = kept_frame sys v.state (Some p) ∷ rest v
 
--- the frames of the events of a run that did something, in order
+-- the frames of the events of a run that were taken, in order
 abbrev pub frames : {C : Type 0} → SystemTables → Meaning C → (bound : ℕ) → World C → List Event → List FrameTable
 frames sys M bound w [] = []
 frames sys M bound w (e ∷ es) = framed_on sys w (step sys M bound w e) (λ v. frames sys M bound v es)

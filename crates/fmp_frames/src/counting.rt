@@ -3,7 +3,7 @@ ghost use Rattle.std.specs.Prelude.{◌≡◌, length, slice_get};
 ghost use Rattle.std.specs.List.{filter};
 ghost use Rattle.fmp_frames.specs.Counting as spec;
 
-use fmp_base::{Caller, Er, Line, StateWord, TaskState};
+use fmp_base::{Caller, Er, Line, Processor, StateWord, TaskState};
 
 /// What a task did in a run. Each count stops at the greatest number that it can have.
 #[derive(Clone, Copy)]
@@ -18,7 +18,9 @@ pub struct Tally {
     pub time_outs: u32,
     /// How often it was RUNNING before an event and READY after it.
     pub preemptions: u32,
-    /// The events that it made: its calls, ends and faults.
+    /// How often its stretch reached the bound and kept its place.
+    pub kept: u32,
+    /// The events that it made: its calls, ends and faults, and the stretches that kept its place.
     pub events: u32,
 }
 
@@ -29,6 +31,7 @@ pub const NOTHING: Tally = Tally {
     waits: 0,
     time_outs: 0,
     preemptions: 0,
+    kept: 0,
     events: 0,
 };
 
@@ -170,23 +173,47 @@ fn acts_in(lines: &[Line], task: usize) -> usize
     lines.iter().filter(|line| acts(**line, task)).count()
 }
 
-/// The counts of a task after an event that told these lines, from those before it on.
+/// The task whose place an event kept, if it ran this processor for that.
+pub fn keeper(kept: Option<u8>, processors: &[Processor]) -> Option<u8>
+    ensures { result ≡ spec.keeper kept processors.now }
+{
+    let cpu = processors.get(kept? as usize)?;
+    match cpu.handler {
+        Some(_) => None,
+        None => cpu.run,
+    }
+}
+
+fn is_keeper(kept: Option<u8>, task: usize) -> bool
+    ensures { result ≡ spec.is_keeper task kept }
+{
+    match kept {
+        Some(other) => usize::from(other) == task,
+        None => false,
+    }
+}
+
+/// The counts of a task after an event that told these lines, or kept the place of the first task, from those before it
+/// on.
 pub fn counted(
     tally: &Tally,
     task: usize,
     lines: &[Line],
+    kept: Option<u8>,
     was: &[TaskState],
     is: &[TaskState],
 ) -> Tally
-    ensures { result ≡ spec.counted task lines.now was.now is.now tally.now }
+    ensures { result ≡ spec.counted task lines.now kept was.now is.now tally.now }
 {
     let preempted = is_preempted(word_at(was, task), word_at(is, task));
+    let keeps = one_if(is_keeper(kept, task));
     Tally {
         starts: more(tally.starts, starts_in(lines, task)),
         calls: more(tally.calls, calls_in(lines, task)),
         waits: more(tally.waits, waits_in(lines, task)),
         time_outs: more(tally.time_outs, time_outs_in(lines, task)),
         preemptions: more(tally.preemptions, one_if(preempted)),
-        events: more(tally.events, acts_in(lines, task)),
+        kept: more(tally.kept, keeps),
+        events: more(more(tally.events, acts_in(lines, task)), keeps),
     }
 }

@@ -1,6 +1,6 @@
 //! A frame: what is seen of a kernel after an event.
 ghost use Rattle.std.specs.Prelude.{◌≡◌, IfOk};
-ghost use Rattle.fmp_frames.specs.Frames.{frame_of, table_of};
+ghost use Rattle.fmp_frames.specs.Frames.{frame_of, kept_frame as frame_of_kept, table_of};
 
 use crate::reading::{
     blocks, data_queues, flags, mailboxes, pending_cyclics, pending_interrupts, processors,
@@ -10,11 +10,13 @@ use fmp_base::{Line, Processor, TaskBlock, TaskState};
 use fmp_kernel::{Body, Kernel};
 use std::alloc::{AllocError, Global};
 
-/// What setup or an event that did something told, and the state after it. Each table is in order of number.
+/// What setup or an event that was taken told, and the state after it. Each table is in order of number.
 #[derive(Drop)]
 pub struct Frame {
     /// What happened.
     pub lines: Vec<Line>,
+    /// The processor, by its place from 0, whose actor kept its place, if the event did that; then there are no lines.
+    pub kept: Option<u8>,
     /// The clock.
     pub clock: u32,
     /// What is shown of the tasks.
@@ -39,16 +41,22 @@ pub struct Frame {
     pub pending_interrupts: Vec<bool>,
 }
 
-/// The frame of setup, or of the last event that did something. `AllocError` if memory runs out.
-pub fn last_frame<B: Body>(alloc: Global, kernel: &Kernel<B>) -> Result<Frame, AllocError>
+/// The frame of a kernel as it is, with these lines, or of an event that kept a place. `AllocError` if memory runs out.
+fn frame<B: Body>(
+    alloc: Global,
+    kernel: &Kernel<B>,
+    told: &[Line],
+    kept: Option<u8>,
+) -> Result<Frame, AllocError>
     ensures { IfOk result (λ f. table_of f
-        ≡ frame_of kernel.now.system kernel.now.world.state kernel.now.lines) }
+        ≡ record (frame_of kernel.now.system kernel.now.world.state told.now) { kept = kept }) }
 {
     let tables = kernel.tables();
     let mut lines = Vec::new(alloc);
-    lines.extend_from_slice(kernel.lines())?;
+    lines.extend_from_slice(told)?;
     Ok(Frame {
         lines,
+        kept,
         clock: tables.clock(),
         states: states(alloc, kernel)?,
         blocks: blocks(alloc, tables)?,
@@ -61,4 +69,23 @@ pub fn last_frame<B: Body>(alloc: Global, kernel: &Kernel<B>) -> Result<Frame, A
         pending_cyclics: pending_cyclics(alloc, tables)?,
         pending_interrupts: pending_interrupts(alloc, tables)?,
     })
+}
+
+/// The frame of setup, or of the last event that was done. `AllocError` if memory runs out.
+pub fn last_frame<B: Body>(alloc: Global, kernel: &Kernel<B>) -> Result<Frame, AllocError>
+    ensures { IfOk result (λ f. table_of f
+        ≡ frame_of kernel.now.system kernel.now.world.state kernel.now.lines) }
+{
+    frame(alloc, kernel, kernel.lines(), None)
+}
+
+/// The frame of an event that kept the place of the actor of the processor that it ran. `AllocError` if memory runs out.
+pub fn kept_frame<B: Body>(
+    alloc: Global,
+    kernel: &Kernel<B>,
+    ran: Option<u8>,
+) -> Result<Frame, AllocError>
+    ensures { IfOk result (λ f. table_of f ≡ frame_of_kept kernel.now.system kernel.now.world.state ran) }
+{
+    frame(alloc, kernel, &[], ran)
 }

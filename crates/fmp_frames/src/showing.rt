@@ -1,11 +1,11 @@
 //! A run, shown frame by frame.
 ghost use Rattle.std.specs.Prelude.{◌≡◌, ◌+◌, ◌≤◌, ◌^◌, length, OnOk};
-ghost use Rattle.fmp_frames.specs.Frames.{FrameTable, frame_of, frames, table_of};
+ghost use Rattle.fmp_frames.specs.Frames.{FrameTable, frame_of, frames, kept_frame as frame_of_kept, table_of};
 ghost use Rattle.fmp_frames.specs.Showing.{HasShown};
 
-use crate::frame::{Frame, last_frame};
+use crate::frame::{Frame, kept_frame, last_frame};
 use fmp_base::{Effect, Event};
-use fmp_kernel::{Body, Kernel};
+use fmp_kernel::{Body, Kernel, run_place};
 use std::alloc::{AllocError, Global};
 
 /// A viewer, to which a run is shown frame by frame.
@@ -18,7 +18,7 @@ pub trait Viewer {
         ensures { OnOk result (shown self.old (table_of frame.now) self.new) };
 }
 
-/// Shows the frame of the last event that did something.
+/// Shows the frame of the last event that was done.
 fn show_last<B: Body, V: Viewer>(
     alloc: Global,
     kernel: &Kernel<B>,
@@ -31,14 +31,28 @@ fn show_last<B: Body, V: Viewer>(
     viewer.show(alloc, &frame)
 }
 
-/// Takes events on a kernel, and shows the frame of each that did something, in order. `AllocError` if memory runs out.
+/// Shows the frame of an event that kept the place of the actor of the processor that it ran.
+fn show_kept<B: Body, V: Viewer>(
+    alloc: Global,
+    kernel: &Kernel<B>,
+    ran: Option<u8>,
+    viewer: &mut V,
+) -> Result<(), AllocError>
+    ensures { OnOk result (V.shown viewer.old
+        (frame_of_kept kernel.now.system kernel.now.world.state ran) viewer.new) }
+{
+    let frame = kept_frame(alloc, kernel, ran)?;
+    viewer.show(alloc, &frame)
+}
+
+/// Takes events on a kernel, and shows the frame of each that is taken, in order. `AllocError` if memory runs out.
 pub fn show_all<B: Body, V: Viewer>(
     alloc: Global,
     kernel: &mut Kernel<B>,
     events: &[Event],
     viewer: &mut V,
 ) -> Result<(), AllocError>
-    requires { kernel.old.done + length events.now ≤ 2 ^ 20 }
+    requires { kernel.old.taken + length events.now ≤ 2 ^ 20 }
     ensures { OnOk result (HasShown V.shown viewer.old
         (frames kernel.old.system (B.meaning kernel.old.body) kernel.old.bound kernel.old.world events.now)
         viewer.new) }
@@ -46,6 +60,7 @@ pub fn show_all<B: Body, V: Viewer>(
     for e in events {
         match kernel.step(*e) {
             Effect::Done => show_last(alloc, kernel, viewer)?,
+            Effect::Kept => show_kept(alloc, kernel, run_place(*e), viewer)?,
             Effect::Nothing => {}
         }
     }

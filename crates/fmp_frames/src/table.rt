@@ -5,12 +5,13 @@ use fmp_base::System;
 use std::alloc::{AllocError, Global};
 
 /// The heads of the columns.
-const HEADS: [&str; 7] = [
+const HEADS: [&str; 8] = [
     "starts",
     "calls",
     "waits",
     "time-outs",
     "preemptions",
+    "kept",
     "events",
     "share",
 ];
@@ -74,6 +75,7 @@ fn append_tally(
         format!(in alloc; "{}", tally.waits)?,
         format!(in alloc; "{}", tally.time_outs)?,
         format!(in alloc; "{}", tally.preemptions)?,
+        format!(in alloc; "{}", tally.kept)?,
         format!(in alloc; "{}", tally.events)?,
         format!(in alloc; "{}.{}%", share / 10, share % 10)?,
     ];

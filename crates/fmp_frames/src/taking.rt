@@ -1,11 +1,11 @@
 //! The frames of a run on a kernel.
 ghost use Rattle.std.specs.Prelude.{◌≡◌, ◌+◌, [], ◌∷◌, ◌++◌, ◌≤◌, ◌^◌, length, map, IfOk, OnOk};
-ghost use Rattle.fmp_frames.specs.Frames.{frame_of, frames, table_of};
+ghost use Rattle.fmp_frames.specs.Frames.{frame_of, frames, kept_frame as frame_of_kept, table_of};
 ghost use Rattle.fmp_kernel.specs.KernelViews.{view_after_all};
 
-use crate::frame::{Frame, last_frame};
+use crate::frame::{Frame, kept_frame, last_frame};
 use fmp_base::{Effect, Event};
-use fmp_kernel::{Body, Kernel};
+use fmp_kernel::{Body, Kernel, run_place};
 use std::alloc::{AllocError, Global};
 
 /// The frame of the last event stands behind these.
@@ -23,23 +23,40 @@ fn append_last<B: Body>(
     Ok(())
 }
 
-/// Takes events on a kernel, and gives the frame of each that did something, in order. `AllocError` if memory runs out.
+/// The frame of an event that kept the place of the actor of the processor that it ran stands behind these.
+#[tactic(auto, using(crate::proofs::FrameLemmas::map_push))]
+fn append_kept<B: Body>(
+    alloc: Global,
+    kernel: &Kernel<B>,
+    ran: Option<u8>,
+    all: &mut Vec<Frame>,
+) -> Result<(), AllocError>
+    ensures { OnOk result (map table_of all.new.items ≡ map table_of all.old.items
+        ++ frame_of_kept kernel.now.system kernel.now.world.state ran ∷ []) }
+{
+    let frame = kept_frame(alloc, kernel, ran)?;
+    all.push(frame)?;
+    Ok(())
+}
+
+/// Takes events on a kernel, and gives the frame of each that is taken, in order. `AllocError` if memory runs out.
 pub fn frames<B: Body>(
     alloc: Global,
     kernel: &mut Kernel<B>,
     events: &[Event],
 ) -> Result<Vec<Frame>, AllocError>
-    requires { kernel.old.done + length events.now ≤ 2 ^ 20 }
+    requires { kernel.old.taken + length events.now ≤ 2 ^ 20 }
     ensures frames { IfOk result (λ fs. map table_of fs.items
         ≡ frames kernel.old.system (B.meaning kernel.old.body) kernel.old.bound kernel.old.world events.now) }
     ensures after { OnOk result (kernel.new ≡ view_after_all B.meaning kernel.old events.now) }
-    ensures count { kernel.new.done ≤ kernel.old.done + length events.now }
+    ensures count { kernel.new.taken ≤ kernel.old.taken + length events.now }
     ensures system { kernel.new.system ≡ kernel.old.system }
 {
     let mut all = Vec::new(alloc);
     for e in events {
         match kernel.step(*e) {
             Effect::Done => append_last(alloc, kernel, &mut all)?,
+            Effect::Kept => append_kept(alloc, kernel, run_place(*e), &mut all)?,
             Effect::Nothing => {}
         }
     }

@@ -3,7 +3,7 @@ ghost use Rattle.std.specs.Prelude.{◌≡◌, [], length, IfOk, get_or};
 ghost use Rattle.fmp_frames.specs.Frames.{each, table_of};
 ghost use Rattle.fmp_frames.specs.Counting as spec;
 
-use crate::counting::{NOTHING, Tally, counted, more};
+use crate::counting::{NOTHING, Tally, counted, keeper, more};
 use crate::{Frame, Viewer};
 use fmp_base::{Line, TaskState};
 use std::alloc::{AllocError, Global};
@@ -15,7 +15,7 @@ pub struct Tallies {
     pub tallies: Vec<Tally>,
     /// What is shown of the tasks after the last event.
     pub shown: Vec<TaskState>,
-    /// How many events did something, up to the greatest number.
+    /// How many events were taken, up to the greatest number.
     pub events: u32,
 }
 
@@ -29,22 +29,24 @@ fn tally_at(tallies: &[Tally], task: usize) -> Tally
     }
 }
 
-/// The counts of this many tasks after an event that told these lines. `AllocError` if memory runs out.
+/// The counts of this many tasks after an event that told these lines, or kept the place of the first task.
+/// `AllocError` if memory runs out.
 fn all_counted(
     alloc: Global,
     count: usize,
     before: &[Tally],
     lines: &[Line],
+    kept: Option<u8>,
     was: &[TaskState],
     is: &[TaskState],
 ) -> Result<Vec<Tally>, AllocError>
     ensures { IfOk result (λ tallies. tallies.items
-        ≡ each (λ t. spec.counted t lines.now was.now is.now (get_or before.now t spec.nothing)) count) }
+        ≡ each (λ t. spec.counted t lines.now kept was.now is.now (get_or before.now t spec.nothing)) count) }
 {
     let mut tallies = Vec::with_capacity(alloc, count)?;
     for task in 0..count {
         let tally = tally_at(before, task);
-        tallies.push(counted(&tally, task, lines, was, is))?;
+        tallies.push(counted(&tally, task, lines, kept, was, is))?;
     }
     Ok(tallies)
 }
@@ -65,7 +67,7 @@ impl Tallies {
     {
         let states = setup.states.as_slice();
         Ok(Tallies {
-            tallies: all_counted(alloc, states.len(), &[], &setup.lines, &[], states)?,
+            tallies: all_counted(alloc, states.len(), &[], &setup.lines, None, &[], states)?,
             shown: copied(alloc, states)?,
             events: 0,
         })
@@ -84,6 +86,7 @@ impl Viewer for Tallies {
             count,
             &self.tallies,
             &frame.lines,
+            keeper(frame.kept, &frame.processors),
             &self.shown,
             &frame.states,
         )?;

@@ -9,6 +9,7 @@ use mathlib.Core.List.{IsPrefix}
 use Rattle.fmp_base.specs.declared.events.Event.{Event}
 use Rattle.fmp_base.specs.declared.events.Event.TheVariants.{Run}
 use Rattle.fmp_base.specs.Steps.{Reaction, Nothing, Did}
+use Rattle.fmp_base.specs.Steps as steps
 use Rattle.fmp_image_bytes.specs.Images.{ImageTables}
 use Rattle.fmp_journal.specs.declared.entry.JournalEntry.{JournalEntry}
 use Rattle.fmp_journal.specs.Seats.{RowId, SeatState, events}
@@ -60,6 +61,11 @@ answer_added n before was now journal e (Did d) (Ok y) p is answer count =
     let one : journaled (Ok y) ≡ 1 = count_receipt before (Did d) y (answer y refl) ∙ grind (arith, nat_tests) in
     let last : own n now ≡ own n journal ++ entry n e ∷ [] = ap (own n) is ∙ own_last n journal e in
     let same = own_same n was journal p (omega (arith, ap length last, length-append (own n journal) (entry n e ∷ []), count, one)) in
+    last ∙ ap (λ (xs : List JournalEntry). xs ++ entry n e ∷ []) same ∙ ap (λ (k : ℕ). own n was ++ replicate k (entry n e)) (sym one)
+answer_added n before was now journal e (steps.Kept p w) (Ok y) begins is answer count =
+    let one : journaled (Ok y) ≡ 1 = count_receipt before (steps.Kept p w) y (answer y refl) ∙ grind (arith, nat_tests) in
+    let last : own n now ≡ own n journal ++ entry n e ∷ [] = ap (own n) is ∙ own_last n journal e in
+    let same = own_same n was journal begins (omega (arith, ap length last, length-append (own n journal) (entry n e ∷ []), count, one)) in
     last ∙ ap (λ (xs : List JournalEntry). xs ++ entry n e ∷ []) same ∙ ap (λ (k : ℕ). own n was ++ replicate k (entry n e)) (sym one)
 
 -- one call

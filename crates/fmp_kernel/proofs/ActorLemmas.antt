@@ -22,7 +22,7 @@ use Rattle.fmp_base.specs.Meanings.{Meaning, Contexts, World, caller_body, conte
 use Rattle.fmp_base.specs.Queues.{top}
 use Rattle.fmp_base.specs.Settles.{all_settled, begun, dispatched, dispatch_lines, handler_to_begin, is_dispatch_held, is_same_task, settled_on, settled_with}
 use Rattle.fmp_base.specs.States.{KernelState, Progress, idle, places_from, processor_at, task_at, unchanged}
-use Rattle.fmp_base.specs.Steps.{Reaction, Done, Nothing, Did, actor_by, actor_ended, actor_of, effect_of, answered, finished, interrupted, interrupted_by, run_by, run_in, step, stretched}
+use Rattle.fmp_base.specs.Steps.{Reaction, Done, Nothing, Did, Kept, actor_by, actor_ended, actor_of, contexts_ended, effect_of, answered, finished, interrupted, interrupted_by, run_by, run_in, step, stretched}
 use Rattle.fmp_base.specs.Stretches.{Ending}
 use Rattle.fmp_base.specs.Stretches as ends
 use Rattle.fmp_base.specs.Systems.{SystemTables, interrupt_config}
@@ -99,10 +99,11 @@ quiet-all sys q g (p ∷ ps) e =
     let first = quiet-with (handler_to_begin sys g.state p (processor_at g.state p)) q g p rest.lines in
     record { lines = first.lines; same = rest.same ∙ first.same }
 
--- what an event does leaves the actor of q, where no line of its settling names q
+-- what is done leaves the actor of q, where no line of its settling names q
 abbrev pub Leaves : {C : Type 0} → ℕ → KernelState → Reaction C → Type 0
 Leaves q s Nothing = Unit {0}
 Leaves q s (Did d) = is_given q d.lines ≡ false → acting (processor_at d.world.state q) ≡ acting (processor_at s q)
+Leaves q s (Kept p w) = Unit {0}
 
 module _ {C : Type 0} (sys : SystemTables) (M : Meaning C) (q : ℕ) where
   leaves-finished : (cs : Contexts (Held C)) (own : List Line) (s : KernelState) (g : Progress)
@@ -133,10 +134,11 @@ module _ {C : Type 0} (sys : SystemTables) (M : Meaning C) (q : ℕ) where
       let o = called sys w.state p who made in
       leaves-answered o.answer (with_context w.contexts p who (Some (Awaits c))) p who made w.state o.progress (called-leaves w.state p who made n)
   stretched-leaves w p who (ends.End c) n =
-      leaves-finished w.contexts (line.End p who ∷ []) w.state (actor_ended sys w.state p who) (ended-leaves w.state p who n)
+      leaves-finished (contexts_ended sys M w.contexts p who) (line.End p who ∷ []) w.state (actor_ended sys w.state p who) (ended-leaves w.state p who n)
   stretched-leaves w p who (ends.Fault c fault) n =
-      leaves-finished w.contexts (line.Fault p who fault ∷ []) w.state (actor_ended sys w.state p who) (ended-leaves w.state p who n)
-  stretched-leaves w p who (ends.Over kept) n = tt
+      leaves-finished (contexts_ended sys M w.contexts p who) (line.Fault p who fault ∷ []) w.state (actor_ended sys w.state p who) (ended-leaves w.state p who n)
+  stretched-leaves w p who (ends.Over None) n = tt
+  stretched-leaves w p who (ends.Over (Some c)) n = tt
 
   run_in-leaves : (bound : ℕ) (w : World C) (p : ℕ) (who : Caller) (o : Option (Held C)) → (p ≡ q → ⊥)
       → Leaves q w.state (run_in sys M bound w p who o)
@@ -185,7 +187,7 @@ ran-applied_in sys M w p who None x = tt
 ran-applied_in sys M w p who (Some (Awaits c)) x = tt
 ran-applied_in sys M w p who (Some (Goes c)) x = ran-stretched sys M w p who x
 
-ran-applied_by : {C : Type 0} (sys : SystemTables) (M : Meaning C) (w : World C) (p : ℕ) (o : Option Caller) (x : Ending C)
+pub ran-applied_by : {C : Type 0} (sys : SystemTables) (M : Meaning C) (w : World C) (p : ℕ) (o : Option Caller) (x : Ending C)
     → RanOn (Some p) (applied_by sys M w p o x)
 ran-applied_by sys M w p None x = tt
 ran-applied_by sys M w p (Some who) x = ran-applied_in sys M w p who (context_of w.contexts p who) x
@@ -195,6 +197,7 @@ left_by : {C : Type 0} (q : ℕ) (old new : Done C) (r : Reaction C) (o : Option
     → is_same_task (place_run new.lines) (Some q) ≡ false → is_given q new.lines ≡ false
     → acting (processor_at new.world.state q) ≡ acting (processor_at old.world.state q)
 left_by q old new Nothing o ran l e h a b = absurd (cc)
+left_by q old new (Kept p w) o ran l e h a b = absurd (cc)
 left_by {C} q old new (Did d) o ran l e h a b =
     let other : is_same_task (place_run d.lines) (Some q) ≡ false = subst (λ (x : Done C). is_same_task (place_run x.lines) (Some q) ≡ false) h a in
     let apart_from : is_same_task o (Some q) ≡ false = subst (λ (v : Option ℕ). is_same_task v (Some q) ≡ false) (front-names o d.lines ran) other in
@@ -206,6 +209,11 @@ still : (r : StampTables) (k done : ℕ) (s u : KernelState) (q : ℕ) → AreSt
 still r k done s u q a l h =
     let m = a.many in
     a.actors.each q (omega (arith, l, m)) ∙ ap (λ (x : Option Handler × Option ℕ). actor_by x.0 x.1) (sym h)
+
+-- where an event kept a place, the actors that stand in the rows are those of the processors
+pub left_kept : (r : StampTables) (k taken : ℕ) (s u : KernelState) → AreStamps r k s taken → u ≡ s → (q : ℕ) → q < length r.counts
+    → get_or r.actors q None ≡ actor_of (processor_at u q)
+left_kept r k taken s u a e q l = still r k taken s u q a l (ap (λ (v : KernelState). acting (processor_at v q)) e)
 
 -- where an event did not run q, and no line of its settling names it, the actor that stands in the rows is that of q
 pub left_after : {C : Type 0} (sys : SystemTables) (M : Meaning C) (n : ℕ) (old new : Done C) (e : Event) (r : StampTables) (k done : ℕ)

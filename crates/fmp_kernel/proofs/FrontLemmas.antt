@@ -18,7 +18,7 @@ use Rattle.fmp_base.specs.Meanings.{Meaning, Contexts, World, caller_body, conte
 use Rattle.fmp_base.specs.Queues.{top}
 use Rattle.fmp_base.specs.Settles.{all_settled, dispatched, handler_to_begin, is_dispatch_held, settled_on, settled_with}
 use Rattle.fmp_base.specs.States.{Progress, places_from, processor_at, unchanged}
-use Rattle.fmp_base.specs.Steps.{Reaction, Nothing, Did, actor_ended, actor_of, answered, finished, interrupted, interrupted_by, run_by, run_in, step, stretched}
+use Rattle.fmp_base.specs.Steps.{Reaction, Nothing, Did, Kept, actor_ended, contexts_ended, actor_of, answered, finished, interrupted, interrupted_by, run_by, run_in, step, stretched}
 use Rattle.fmp_base.specs.Stretches.{Ending}
 use Rattle.fmp_base.specs.Stretches as ends
 use Rattle.fmp_base.specs.Systems.{SystemTables, interrupt_config}
@@ -53,10 +53,11 @@ front-finished : {C : Type 0} (o : Option ℕ) (sys : SystemTables) (M : Meaning
     → Fronts o (finished sys M cs (own ∷ []) g).lines
 front-finished o sys M cs own g h = front-all o sys (record g { lines = own ∷ g.lines }) (places_from 0 (length g.state.processors)) h
 
--- a reaction whose first line tells this processor, or none
+-- a reaction whose first line tells this processor, or none, or that kept the place of its actor
 abbrev pub RanOn : {C : Type 0} → Option ℕ → Reaction C → Type 0
 RanOn o Nothing = Unit {0}
 RanOn o (Did d) = Fronts o d.lines
+RanOn o (Kept q w) = o ≡ Some q
 
 ran-answered : {C : Type 0} (a : Answer) (sys : SystemTables) (M : Meaning C) (cs : Contexts (Held C)) (p : ℕ) (who : Caller) (c : Call) (g : Progress)
     → RanOn (Some p) (answered a sys M cs p who c g)
@@ -71,10 +72,11 @@ ran-stretched sys M w p who (ends.Call c made) =
     let o = called sys w.state p who made in
     ran-answered o.answer sys M (with_context w.contexts p who (Some (Awaits c))) p who made o.progress
 ran-stretched sys M w p who (ends.End c) =
-    front-finished (Some p) sys M w.contexts (line.End p who) (actor_ended sys w.state p who) refl
+    front-finished (Some p) sys M (contexts_ended sys M w.contexts p who) (line.End p who) (actor_ended sys w.state p who) refl
 ran-stretched sys M w p who (ends.Fault c fault) =
-    front-finished (Some p) sys M w.contexts (line.Fault p who fault) (actor_ended sys w.state p who) refl
-ran-stretched sys M w p who (ends.Over kept) = tt
+    front-finished (Some p) sys M (contexts_ended sys M w.contexts p who) (line.Fault p who fault) (actor_ended sys w.state p who) refl
+ran-stretched sys M w p who (ends.Over None) = tt
+ran-stretched sys M w p who (ends.Over (Some c)) = refl
 
 ran-in : {C : Type 0} (sys : SystemTables) (M : Meaning C) (n : ℕ) (w : World C) (p : ℕ) (who : Caller) (o : Option (Held C))
     → RanOn (Some p) (run_in sys M n w p who o)
@@ -102,10 +104,11 @@ ran-step sys M n w Tick = front-finished None sys M w.contexts (line.Tick (w.sta
 ran-step sys M n w (Int zero) = tt
 ran-step sys M n w (Int (suc i)) = ran-interrupted (interrupt_config sys i) sys M w i
 
--- the processor that the lines of a reaction name
+-- the processor that the lines of a reaction name, or whose actor's place it kept
 abbrev pub Names : {C : Type 0} → Option ℕ → Reaction C → Type 0
 Names o Nothing = Unit {0}
 Names o (Did d) = place_run d.lines ≡ o
+Names o (Kept q w) = o ≡ Some q
 
 pub front-names : (o : Option ℕ) (ls : List Line) → Fronts o ls → place_run ls ≡ o
 front-names o [] h = absurd h
@@ -114,6 +117,7 @@ front-names o (l ∷ ls) h = h
 ran-names : {C : Type 0} (o : Option ℕ) (r : Reaction C) → RanOn o r → Names o r
 ran-names o Nothing h = tt
 ran-names o (Did d) h = front-names o d.lines h
+ran-names o (Kept q w) h = h
 
 -- the lines of an event name the processor that it ran
 pub step_names : {C : Type 0} (sys : SystemTables) (M : Meaning C) (n : ℕ) (w : World C) (e : Event) → Names (run_place e) (step sys M n w e)

@@ -2,9 +2,10 @@ mod ActorLemmas
 mod ActorNone
 pub mod Crossing
 mod CyclicLemmas
-mod FrontLemmas
+pub mod FrontLemmas
 mod PlaceLemmas
 mod SettleLemmas
+mod SpinLemmas
 mod StampLemmas
 pub mod StampLists
 mod StepLemmas

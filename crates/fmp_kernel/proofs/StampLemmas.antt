@@ -16,12 +16,12 @@ use Rattle.fmp_base.specs.Meanings.{Meaning}
 use Rattle.fmp_base.specs.Settles.{is_same_task}
 use Rattle.fmp_base.specs.Setups.{setup}
 use Rattle.fmp_base.specs.States.{KernelState, processor_at, places_from}
-use Rattle.fmp_base.specs.Steps.{Done, Reaction, Nothing, Did, effect_of, actor_of, step}
+use Rattle.fmp_base.specs.Steps.{Done, Reaction, Nothing, Did, Kept, effect_of, actor_of, step}
 use Rattle.fmp_base.specs.Systems.{SystemTables}
 use Rattle.fmp_worlds.specs.Stamps.{counts as counts_for, is_same_actor, is_same_caller, is_same_handler, one_if, place_run, run_place, counted, stamp, world_after}
 use Rattle.fmp_kernel.specs.KernelViews.{RunnerView, KernelView, SameBodies, done_of, done_or, kernel_of, view_after, view_after_all, view_of_setup}
-use Rattle.fmp_kernel.proofs.FrontLemmas.{Names, step_names}
-use Rattle.fmp_kernel.specs.Stamps.{StampTables, AreActors, AreCounted, AreStamps, IsLeft, IsSeen, Marked, given_by, is_given, noted, noted_by, run_noted, stamped}
+use Rattle.fmp_kernel.proofs.FrontLemmas.{Names, RanOn, step_names}
+use Rattle.fmp_kernel.specs.Stamps.{StampTables, AreActors, AreCounted, AreStamps, IsLeft, IsSeen, Marked, given_by, is_given, noted, noted_by, run_noted, stamped, stamped_by}
 
 pub get-places : (f : ℕ → ℕ) (k n i : ℕ) → i < n → get_or (map f (places_from k n)) i 0 ≡ f (k + i)
 get-places f k zero i h = absurd (omega (arith, h))
@@ -40,15 +40,15 @@ length-places f k zero = refl
 length-places f k (suc n) = let h = length-places f (k + 1) n in omega (arith, h)
 
 -- the stamps that were counted are those after the event
-pub stamped_is : (old new : StampTables) (processors done : ℕ) (s u : KernelState) (lines : List Line) → AreStamps old processors s done
-    → AreCounted old new u (place_run lines) → new.counts ≡ stamped lines s u old.counts
-stamped_is old new processors done s u lines a c =
-    ext_get_or 0 new.counts (stamped lines s u old.counts) (c.long ∙ sym (length-places f 0 (length old.counts))) each where
+pub stamped_is : (old new : StampTables) (processors taken : ℕ) (s u : KernelState) (ran : Option ℕ) → AreStamps old processors s taken
+    → AreCounted old new u ran → new.counts ≡ stamped_by ran s u old.counts
+stamped_is old new processors taken s u ran a c =
+    ext_get_or 0 new.counts (stamped_by ran s u old.counts) (c.long ∙ sym (length-places f 0 (length old.counts))) each where
       f : ℕ → ℕ
-      f p = get_or old.counts p 0 + one_if (counts_for (place_run lines) s u p)
+      f p = get_or old.counts p 0 + one_if (counts_for ran s u p)
 
       by_actor : ℕ → Option Caller → ℕ
-      by_actor i o = get_or old.counts i 0 + one_if (is_same_task (place_run lines) (Some i) || not (is_same_actor o (actor_of (processor_at u i))))
+      by_actor i o = get_or old.counts i 0 + one_if (is_same_task ran (Some i) || not (is_same_actor o (actor_of (processor_at u i))))
 
       each : (i : ℕ) → i < length new.counts → get_or new.counts i 0 ≡ get_or (map f (places_from 0 (length old.counts))) i 0
       each i l =
@@ -335,42 +335,70 @@ stamps_after old new processors done s u ran a c b =
           omega (arith, h)
 
 -- a kernel by what its last event left
-abbrev made : {B C : Type 0} → B → ℕ → SystemTables → Done C → List ℕ → ℕ → KernelView B C
-made body bound system d stamps done =
-    record { body = body; bound = bound; system = system; world = d.world; lines = d.lines; done = done; stamps = stamps }
+abbrev made : {B C : Type 0} → B → ℕ → SystemTables → Done C → List ℕ → ℕ → ℕ → KernelView B C
+made body bound system d stamps done taken =
+    record { body = body; bound = bound; system = system; world = d.world; lines = d.lines; done = done; taken = taken; stamps = stamps }
 
-same_made : {B C : Type 0} (old new : RunnerView B C) (d : Done C) (stamps : List ℕ) (n : ℕ) → SameBodies old new → done_of new ≡ d
-    → kernel_of new stamps n ≡ made old.body old.bound old.system d stamps n
-same_made {B} {C} old new d stamps n b h =
-    ap (λ (x : B). made x new.bound new.system (done_of new) stamps n) b.body
-    ∙ ap (λ (x : ℕ). made old.body x new.system (done_of new) stamps n) b.bound
-    ∙ ap (λ (x : SystemTables). made old.body old.bound x (done_of new) stamps n) b.system
-    ∙ ap (λ (x : Done C). made old.body old.bound old.system x stamps n) h
+same_made : {B C : Type 0} (old new : RunnerView B C) (d : Done C) (stamps : List ℕ) (n m : ℕ) → SameBodies old new → done_of new ≡ d
+    → kernel_of new stamps n m ≡ made old.body old.bound old.system d stamps n m
+same_made {B} {C} old new d stamps n m b h =
+    ap (λ (x : B). made x new.bound new.system (done_of new) stamps n m) b.body
+    ∙ ap (λ (x : ℕ). made old.body x new.system (done_of new) stamps n m) b.bound
+    ∙ ap (λ (x : SystemTables). made old.body old.bound x (done_of new) stamps n m) b.system
+    ∙ ap (λ (x : Done C). made old.body old.bound old.system x stamps n m) h
 
 -- what is seen of a kernel after an event that is done
-pub view_done : {B C : Type 0} (x : Reaction C) (old new : RunnerView B C) (stamps later : List ℕ) (n : ℕ) → effect.Done ≡ effect_of x
+pub view_done : {B C : Type 0} (x : Reaction C) (old new : RunnerView B C) (stamps later : List ℕ) (n m : ℕ) → effect.Done ≡ effect_of x
     → done_of new ≡ done_or (done_of old) x → SameBodies old new → later ≡ stamped new.lines old.world.state new.world.state stamps
-    → kernel_of new later (n + 1) ≡ view_after (kernel_of old stamps n) x
-view_done Nothing old new stamps later n e h b k = absurd (cc)
-view_done {B} {C} (Did d) old new stamps later n e h b k =
+    → kernel_of new later (n + 1) (m + 1) ≡ view_after (kernel_of old stamps n m) x
+view_done Nothing old new stamps later n m e h b k = absurd (cc e)
+view_done {B} {C} (Did d) old new stamps later n m e h b k =
     let same : later ≡ stamped d.lines old.world.state d.world.state stamps =
     k ∙ ap (λ (f : Done C). stamped f.lines old.world.state f.world.state stamps) h in
-    same_made old new d later (n + 1) b h
-    ∙ ap (λ (l : List ℕ). made old.body old.bound old.system d l (n + 1)) same
+    same_made old new d later (n + 1) (m + 1) b h
+    ∙ ap (λ (l : List ℕ). made old.body old.bound old.system d l (n + 1) (m + 1)) same
+view_done (Kept p w) old new stamps later n m e h b k = absurd (cc e)
+
+-- after one that kept a place
+pub view_kept : {B C : Type 0} (x : Reaction C) (old new : RunnerView B C) (stamps later : List ℕ) (n m : ℕ) (ran : Option ℕ)
+    → effect.Kept ≡ effect_of x → RanOn ran x → done_of new ≡ done_or (done_of old) x → SameBodies old new
+    → later ≡ stamped_by ran old.world.state new.world.state stamps
+    → kernel_of new later n (m + 1) ≡ view_after (kernel_of old stamps n m) x
+view_kept Nothing old new stamps later n m ran e o h b k = absurd (cc e)
+view_kept (Did d) old new stamps later n m ran e o h b k = absurd (cc e)
+view_kept {B} {C} (Kept p w) old new stamps later n m ran e o h b k =
+    let d : Done C = record (done_of old) { world = w } in
+    let same : later ≡ stamped_by (Some p) old.world.state w.state stamps =
+    k ∙ ap (λ (f : Done C). stamped_by ran old.world.state f.world.state stamps) h
+    ∙ ap (λ (q : Option ℕ). stamped_by q old.world.state w.state stamps) o in
+    same_made old new d later n (m + 1) b h ∙ ap (λ (l : List ℕ). made old.body old.bound old.system d l n (m + 1)) same
 
 -- and after one that did nothing
-pub view_same : {B C : Type 0} (x : Reaction C) (old new : RunnerView B C) (stamps : List ℕ) (n : ℕ) → effect.Nothing ≡ effect_of x
-    → done_of new ≡ done_or (done_of old) x → SameBodies old new → kernel_of new stamps n ≡ kernel_of old stamps n
-view_same Nothing old new stamps n e h b = same_made old new (done_of old) stamps n b h
-view_same (Did d) old new stamps n e h b = absurd (cc)
+pub view_same : {B C : Type 0} (x : Reaction C) (old new : RunnerView B C) (stamps : List ℕ) (n m : ℕ) → effect.Nothing ≡ effect_of x
+    → done_of new ≡ done_or (done_of old) x → SameBodies old new → kernel_of new stamps n m ≡ kernel_of old stamps n m
+view_same Nothing old new stamps n m e h b = same_made old new (done_of old) stamps n m b h
+view_same (Did d) old new stamps n m e h b = absurd (cc e)
+view_same (Kept p w) old new stamps n m e h b = absurd (cc e)
 
 view_nothing_by : {B C : Type 0} (x : Reaction C) (k : KernelView B C) → effect.Nothing ≡ effect_of x → k ≡ view_after k x
 view_nothing_by Nothing k e = refl
-view_nothing_by (Did d) k e = absurd (cc)
+view_nothing_by (Did d) k e = absurd (cc e)
+view_nothing_by (Kept p w) k e = absurd (cc e)
 
-pub view_nothing : {B C : Type 0} (x : Reaction C) (old new : RunnerView B C) (stamps : List ℕ) (n : ℕ) → effect.Nothing ≡ effect_of x
-    → done_of new ≡ done_or (done_of old) x → SameBodies old new → kernel_of new stamps n ≡ view_after (kernel_of old stamps n) x
-view_nothing x old new stamps n e h b = view_same x old new stamps n e h b ∙ view_nothing_by x (kernel_of old stamps n) e
+pub view_nothing : {B C : Type 0} (x : Reaction C) (old new : RunnerView B C) (stamps : List ℕ) (n m : ℕ) → effect.Nothing ≡ effect_of x
+    → done_of new ≡ done_or (done_of old) x → SameBodies old new → kernel_of new stamps n m ≡ view_after (kernel_of old stamps n m) x
+view_nothing x old new stamps n m e h b = view_same x old new stamps n m e h b ∙ view_nothing_by x (kernel_of old stamps n m) e
+
+-- the stamp of a processor after an event that ran this one, if any, and led from s to u
+stamped_at : (ran : Option ℕ) (s u : KernelState) (stamps : List ℕ) (p : ℕ) → p < length stamps
+    → get_or (stamped_by ran s u stamps) p 0 ≡ get_or stamps p 0 + one_if (counts_for ran s u p)
+stamped_at ran s u stamps p h =
+    let z : 0 + p ≡ p = omega arith in get-places f 0 (length stamps) p h ∙ ap f z where
+      f : ℕ → ℕ
+      f q = get_or stamps q 0 + one_if (counts_for ran s u q)
+
+stamped_long : (ran : Option ℕ) (s u : KernelState) (stamps : List ℕ) → length (stamped_by ran s u stamps) ≡ length stamps
+stamped_long ran s u stamps = length-places (λ q. get_or stamps q 0 + one_if (counts_for ran s u q)) 0 (length stamps)
 
 -- the stamp of a processor after events counts those that ran it or left it another actor
 more_counted : {B C : Type 0} (meaning : B → Meaning C) (k : KernelView B C) (e : Event) (es : List Event) (p : ℕ) (r : Reaction C) → p < length k.stamps
@@ -381,16 +409,28 @@ more_counted : {B C : Type 0} (meaning : B → Meaning C) (k : KernelView B C) (
     ≡ get_or k.stamps p 0 + (counted e k.world r p + stamp k.system (meaning k.body) k.bound (world_after k.world r) es p)
 more_counted meaning k e es p Nothing h n ih = let same = ih k h in omega (arith, same)
 more_counted {B} {C} meaning k e es p (Did d) h n ih =
-    let after : List ℕ = stamped d.lines k.world.state d.world.state k.stamps in
-    let f : ℕ → ℕ = λ q. get_or k.stamps q 0 + one_if (counts_for (place_run d.lines) k.world.state d.world.state q) in
-    let long : length after ≡ length k.stamps = length-places f 0 (length k.stamps) in
-    let next = ih (view_after k (Did d)) (omega (arith, h, long)) in
-    let z : 0 + p ≡ p = omega arith in
-    let here : get_or after p 0 ≡ get_or k.stamps p 0 + one_if (counts_for (run_place e) k.world.state d.world.state p) =
-    get-places f 0 (length k.stamps) p h ∙ ap f z
-    ∙ ap (λ (o : Option ℕ). get_or k.stamps p 0 + one_if (counts_for o k.world.state d.world.state p)) n in
+    let s : KernelState = k.world.state in
+    let u : KernelState = d.world.state in
+    let after : List ℕ = stamped_by (place_run d.lines) s u k.stamps in
+    let long : length after ≡ length k.stamps = stamped_long (place_run d.lines) s u k.stamps in
+    let here : get_or after p 0 ≡ get_or k.stamps p 0 + one_if (counts_for (run_place e) s u p) =
+    stamped_at (place_run d.lines) s u k.stamps p h
+    ∙ ap (λ (o : Option ℕ). get_or k.stamps p 0 + one_if (counts_for o s u p)) n in
     let rest : ℕ = stamp k.system (meaning k.body) k.bound d.world es p in
-    let sum : get_or (view_after_all meaning (view_after k (Did d)) es).stamps p 0 ≡ get_or after p 0 + rest = next in
+    let sum : get_or (view_after_all meaning (view_after k (Did d)) es).stamps p 0 ≡ get_or after p 0 + rest =
+    ih (view_after k (Did d)) (omega (arith, h, long)) in
+    omega (arith, sum, here)
+more_counted {B} {C} meaning k e es p (Kept q w) h n ih =
+    let s : KernelState = k.world.state in
+    let u : KernelState = w.state in
+    let after : List ℕ = stamped_by (Some q) s u k.stamps in
+    let long : length after ≡ length k.stamps = stamped_long (Some q) s u k.stamps in
+    let here : get_or after p 0 ≡ get_or k.stamps p 0 + one_if (counts_for (run_place e) s u p) =
+    stamped_at (Some q) s u k.stamps p h
+    ∙ ap (λ (o : Option ℕ). get_or k.stamps p 0 + one_if (counts_for o s u p)) (sym n) in
+    let rest : ℕ = stamp k.system (meaning k.body) k.bound w es p in
+    let sum : get_or (view_after_all meaning (view_after k (Kept q w)) es).stamps p 0 ≡ get_or after p 0 + rest =
+    ih (view_after k (Kept q w)) (omega (arith, h, long)) in
     omega (arith, sum, here)
 
 pub all_counted : {B C : Type 0} (meaning : B → Meaning C) (k : KernelView B C) (es : List Event) (p : ℕ) → p < length k.stamps

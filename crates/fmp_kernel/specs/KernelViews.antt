@@ -6,14 +6,16 @@ use Rattle.fmp_base.specs.declared.events.Line.{Line}
 use Rattle.fmp_base.specs.declared.events.Line.TheVariants as line
 use Rattle.fmp_base.specs.declared.states.Caller.{Caller}
 use Rattle.fmp_base.specs.Calls.{called}
-use Rattle.fmp_base.specs.Meanings.{Contexts, Meaning, World}
+use Rattle.fmp_base.specs.Meanings.{Contexts, Meaning, World, caller_body, context_of, with_context}
 use Rattle.fmp_base.specs.States.{Progress, processor_at}
-use Rattle.fmp_base.specs.Steps.{Done, Reaction, Nothing, Did, actor_ended, actor_of, call_made, finished, step}
+use Rattle.fmp_base.specs.Steps.{Done, Reaction, Nothing, Did, Kept, actor_of, call_made, ended_with, step}
+use Rattle.fmp_base.specs.Stretches.{Ending}
 use Rattle.fmp_base.specs.Systems.{SystemTables}
 use Rattle.fmp_base.specs.declared.stop.Stop.{Stop}
 use Rattle.fmp_base.specs.declared.stop.Stop.TheVariants as stop
 use Rattle.fmp_kernel.specs.declared.actors.Actor.{Actor}
-use Rattle.fmp_kernel.specs.Stamps.{stamped}
+use Rattle.fmp_contexts.specs.Contexts.{kept_after, stretched_from}
+use Rattle.fmp_kernel.specs.Stamps.{stamped, stamped_by}
 use Rattle.fmp_worlds.specs.Stamps.{Going, actor_at}
 
 -- the runner of events: the bodies and their bound, the tables of the system, the state with the bodies' contexts, the
@@ -48,23 +50,33 @@ done_of r = record { world = r.world; lines = r.lines }
 abbrev pub with_contexts : {C : Type 0} → Done C → Contexts (Held C) → Done C
 with_contexts d cs = record d { world = record d.world { contexts = cs } }
 
--- what an event left, or what was before where it did nothing
+-- what an event left, or what was before where it did nothing; where it kept a place, the lines stay
 abbrev pub done_or : {C : Type 0} → Done C → Reaction C → Done C
 done_or d Nothing = d
 done_or d (Did e) = e
+done_or d (Kept p w) = record d { world = w }
 
 -- the effect of a stretch of the actor of p, given how it stopped, in a world that has what is kept of it then: the
 -- call, end or fault is carried out
 abbrev pub stopped_on : {C : Type 0} → SystemTables → Meaning C → World C → ℕ → Caller → Stop → Reaction C
 stopped_on sys M w p who (stop.Call made) = call_made sys M w.contexts p who made (called sys w.state p who made)
-stopped_on sys M w p who stop.End =
-    Did (finished sys M w.contexts (line.End p who ∷ []) (actor_ended sys w.state p who))
-stopped_on sys M w p who (stop.Fault fault) =
-    Did (finished sys M w.contexts (line.Fault p who fault ∷ []) (actor_ended sys w.state p who))
-stopped_on sys M w p who stop.Over = Nothing
+stopped_on sys M w p who stop.End = Did (ended_with sys M w p who (line.End p who))
+stopped_on sys M w p who (stop.Fault fault) = Did (ended_with sys M w p who (line.Fault p who fault))
+stopped_on sys M w p who stop.Over = Kept p w
+
+-- how the stretch of the caller on processor p ends
+abbrev pub stretch_in : {B C : Type 0} → (B → Meaning C) → RunnerView B C → ℕ → Caller → Ending C
+stretch_in meaning r p who =
+    stretched_from (meaning r.body) (caller_body r.system r.world.contexts p who) r.bound
+    (context_of r.world.contexts p who)
+
+-- the same with what is kept of the caller on processor p after a stretch with this ending
+abbrev pub with_stretch : {B C : Type 0} → RunnerView B C → ℕ → Caller → Ending C → RunnerView B C
+with_stretch r p who x = kept_in r (with_context r.world.contexts p who (kept_after x))
 
 -- a kernel: its bodies and their bound, the tables of its system, its state with the bodies' contexts, the lines of the
--- last event that did something (or of setup), how many events did something, and by place the stamps of its processors
+-- last event that was done (or of setup), how many events were done, how many it has taken, which are those and the ones
+-- that kept a place, and by place the stamps of its processors
 pub record KernelView (B C : Type 0) : Type 0 where
   pub body : B
   pub bound : ℕ
@@ -72,11 +84,12 @@ pub record KernelView (B C : Type 0) : Type 0 where
   pub world : World C
   pub lines : List Line
   pub done : ℕ
+  pub taken : ℕ
   pub stamps : List ℕ
 
--- a kernel that has done this many events, with these stamps
-abbrev pub kernel_of : {B C : Type 0} → RunnerView B C → List ℕ → ℕ → KernelView B C
-kernel_of r stamps done =
+-- a kernel with these stamps, that has done and taken this many events
+abbrev pub kernel_of : {B C : Type 0} → RunnerView B C → List ℕ → (done taken : ℕ) → KernelView B C
+kernel_of r stamps done taken =
     record {
       body = r.body;
       bound = r.bound;
@@ -84,6 +97,7 @@ kernel_of r stamps done =
       world = r.world;
       lines = r.lines;
       done = done;
+      taken = taken;
       stamps = stamps;
     }
 
@@ -97,6 +111,7 @@ view_of_setup body bound sys d =
       world = d.world;
       lines = d.lines;
       done = 0;
+      taken = 0;
       stamps = replicate sys.processors 0;
     }
 
@@ -108,7 +123,14 @@ view_after k (Did d) =
       world = d.world;
       lines = d.lines;
       done = k.done + 1;
+      taken = k.taken + 1;
       stamps = stamped d.lines k.world.state d.world.state k.stamps;
+    }
+view_after k (Kept p w) =
+    record k {
+      world = w;
+      taken = k.taken + 1;
+      stamps = stamped_by (Some p) k.world.state w.state k.stamps;
     }
 
 -- a kernel after events, one after the other

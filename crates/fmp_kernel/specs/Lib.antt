@@ -1,4 +1,5 @@
 pub mod KernelViews
 pub mod NextTicks
 pub mod Rooms
+pub mod Spins
 pub mod Stamps

@@ -9,7 +9,8 @@ pub record HasRoom (sys : SystemTables) (caused_room lines_room : ℕ) : Type 0 
   pub caused : caused_room ≡ 510
   pub lines : lines_room ≡ 519
 
--- the clock, by how many events did something
-pub record IsEarly (clock done : ℕ) : Type 0 where
-  pub time : clock ≤ done
-  pub early : done ≤ 2 ^ 20
+-- the clock, by how many events were done, and by how many were taken
+pub record IsEarly (clock done taken : ℕ) : Type 0 where
+  pub time : clock ≤ taken
+  pub few : done ≤ taken
+  pub early : taken ≤ 2 ^ 20

@@ -78,13 +78,17 @@ pub record Marked (old r : StampTables) (s : KernelState) (ran : Option ℕ) (li
   pub actors_long : length r.actors ≡ length old.actors
   pub each : (p : ℕ) → p < length old.counts → IsSeen old r s ran p ⊎ IsLeft old r ran lines rest p
 
+-- the stamps after an event that ran this processor, if any, and led from s to u
+abbrev pub stamped_by : Option ℕ → KernelState → KernelState → List ℕ → List ℕ
+stamped_by ran s u stamps =
+    map (λ p. get_or stamps p 0 + one_if (counts_for ran s u p)) (places_from 0 (length stamps))
+
 -- the stamps after a done event of these lines that led from s to u
 abbrev pub stamped : List Line → KernelState → KernelState → List ℕ → List ℕ
-stamped lines s u stamps =
-    map (λ p. get_or stamps p 0 + one_if (counts_for (place_run lines) s u p)) (places_from 0 (length stamps))
+stamped lines s u stamps = stamped_by (place_run lines) s u stamps
 
--- a stamp for each processor, with the actors of the state, and none above the number of done events
-pub record AreStamps (r : StampTables) (processors : ℕ) (s : KernelState) (done : ℕ) : Type 0 where
+-- a stamp for each processor, with the actors of the state, and none above the number of events that were taken
+pub record AreStamps (r : StampTables) (processors : ℕ) (s : KernelState) (taken : ℕ) : Type 0 where
   pub many : length r.counts ≡ processors
   pub actors : AreActors r.actors processors s
-  pub few : (p : ℕ) → get_or r.counts p 0 ≤ done
+  pub few : (p : ℕ) → get_or r.counts p 0 ≤ taken

@@ -1,24 +1,26 @@
 //! What events do: the actor of a processor runs, the clock advances, an interrupt is raised.
-ghost use Rattle.std.specs.Prelude.{◌≡◌, ◌+◌, ◌<◌, ◌≤◌, ◌^◌, ◌∷◌, [], Some};
+ghost use Rattle.std.specs.Prelude.{◌≡◌, ◌+◌, ◌<◌, ◌≤◌, ◌^◌, ◌∷◌, [], Some, true};
 ghost use Rattle.fmp_base.specs.declared.bodies.Held.TheVariants.{Goes};
 ghost use Rattle.fmp_base.specs.Calls.{called};
 ghost use Rattle.fmp_base.specs.Meanings.{caller_body, context_of, with_context};
 ghost use Rattle.fmp_base.specs.States.{processor_at};
-ghost use Rattle.fmp_base.specs.Steps.{Did, actor_ended, actor_of, call_made, effect_of, finished, handler_ended as ended_handler, run_by, step, stretched};
+ghost use Rattle.fmp_base.specs.Steps.{Did, actor_of, call_made, effect_of, ended_with, handler_ended as ended_handler, run_by, run_in, step};
 ghost use Rattle.fmp_base.specs.Stretches.{ending};
 ghost use Rattle.fmp_base.specs.Contexts.{OfCall};
-ghost use Rattle.fmp_contexts.specs.Contexts.{HasContext, HasNoCall, IsFor, kept_after, stop_of};
-ghost use Rattle.fmp_kernel.specs.KernelViews.{SameBodies, done_of, done_or, kept_in, stopped_on, with_contexts};
+ghost use Rattle.fmp_contexts.specs.Contexts.{HandsOver, HasContext, IsFor, is_call, is_going, stop_of};
+ghost use Rattle.fmp_kernel.specs.KernelViews.{SameBodies, done_of, done_or, kept_in, stopped_on, stretch_in, with_contexts, with_stretch};
 ghost use Rattle.fmp_tasks.specs.Callers.{IsTaskOf};
 ghost use Rattle.fmp_tasks.specs.Tables.{SameShape};
-ghost use Rattle.fmp_worlds.specs.Stamps.{actor_at, applied_by};
+ghost use Rattle.fmp_worlds.specs.Spins.{IsLockHeld};
+ghost use Rattle.fmp_worlds.specs.Stamps.{actor_at, applied_by, applied_in};
 
 use crate::actors::actor_on;
 use crate::runner::Runner;
+use crate::spins::is_lock_held;
 use crate::ticks::advance;
 use fmp_base::{Answer, Body, Call, Caller, Effect, Event, Line, Processor, Stop, Stretch};
 use fmp_calls::call;
-use fmp_contexts::{entry_of, stretch};
+use fmp_contexts::{end_context, entry_of, stretch};
 use fmp_migrate::end_itself;
 use fmp_tasks::Tables;
 
@@ -43,12 +45,12 @@ impl<B: Body> Runner<B> {
         requires there { p < self.old.system.processors }
         requires caller { IsTaskOf self.old.system who }
         ensures after { done_of self.new
-            ≡ finished self.old.system (B.meaning self.old.body) self.old.world.contexts (own ∷ [])
-            (actor_ended self.old.system self.old.world.state p who) }
+            ≡ ended_with self.old.system (B.meaning self.old.body) self.old.world p who own }
         ensures bodies { SameBodies self.old self.new }
         ensures clock { self.new.world.state.clock ≡ self.old.world.state.clock }
     {
         self.caused.clear();
+        end_context(&self.body, &self.tables, &mut self.contexts, p, who);
         match who {
             Caller::Task(t) => end_itself(&mut self.tables, &mut self.caused, p, t),
             Caller::Handler(_) => end_handler(&mut self.tables, p),
@@ -56,20 +58,16 @@ impl<B: Body> Runner<B> {
         self.finish(own);
     }
 
-    /// The actor of processor p makes a call, and its context awaits the reply. Where it spins for a held spin lock it
-    /// has done nothing, and goes on from the context from which it came to the call.
-    fn make_call(&mut self, p: u8, who: Caller, made: &Call, first: &B::Ctx) -> Effect
+    /// The actor of processor p makes a call; its context awaits the reply. Where it spins for a held spin lock, nothing
+    /// has changed.
+    fn make_call(&mut self, p: u8, who: Caller, made: &Call) -> Effect
         requires there { p < self.old.system.processors }
         requires caller { IsTaskOf self.old.system who }
-        requires kept { HasContext self.old.world.contexts p who }
-        requires context { B.is_context self.old.body (caller_body self.old.system self.old.world.contexts p who)
-            first.now }
         ensures effect { result
             ≡ effect_of (call_made self.old.system (B.meaning self.old.body) self.old.world.contexts p who made.now
             (called self.old.system self.old.world.state p who made.now)) }
         ensures after { done_of self.new
-            ≡ done_or (with_contexts (done_of self.old) (with_context self.old.world.contexts p who
-            (Some (Goes first.now)))) (call_made self.old.system (B.meaning self.old.body)
+            ≡ done_or (done_of self.old) (call_made self.old.system (B.meaning self.old.body)
             self.old.world.contexts p who made.now (called self.old.system self.old.world.state p who made.now)) }
         ensures bodies { SameBodies self.old self.new }
         ensures clock { self.new.world.state.clock ≡ self.old.world.state.clock }
@@ -92,92 +90,77 @@ impl<B: Body> Runner<B> {
                 processor: p,
                 caller: who,
             },
-            Answer::Spins => {
-                self.contexts.put(p, who, first, false);
-                return Effect::Nothing;
-            }
+            Answer::Spins => return Effect::Nothing,
         };
         self.finish(own);
         Effect::Done
     }
 
-    /// The actor of processor p makes a stretch from this context, from which it goes on. Where it makes a call, its
-    /// context awaits the reply, else it is the first one again.
-    #[tactic(auto, using(fmp_contexts::proofs::ContextLemmas::task_of, fmp_contexts::proofs::ContextLemmas::entry_of, fmp_contexts::proofs::ContextLemmas::goes_in))]
-    fn go_on(&mut self, p: u8, who: Caller, first: &B::Ctx) -> Stop
-        requires { context_of self.old.world.contexts p who ≡ Some (Goes first.now) }
-        ensures stop { result ≡ stop_of ((B.meaning self.old.body).stretch
-            (caller_body self.old.system self.old.world.contexts p who) self.old.bound first.now) }
-        ensures kept { self.new ≡ kept_in self.old (with_context self.old.world.contexts p who
-            (Some (kept_after first.now ((B.meaning self.old.body).stretch
-            (caller_body self.old.system self.old.world.contexts p who) self.old.bound first.now)))) }
+    /// The actor of processor p makes a stretch from the context from which it goes on. What is kept of it then stands
+    /// in place.
+    #[tactic(auto, using(fmp_contexts::proofs::ContextLemmas::task_going, fmp_contexts::proofs::ContextLemmas::entry_going, fmp_contexts::proofs::ContextLemmas::fits_of))]
+    fn go_on(&mut self, p: u8, who: Caller) -> Stop
+        requires { is_going (context_of self.old.world.contexts p who) ≡ true }
+        ensures stop { result ≡ stop_of (stretch_in B.meaning self.old p who) }
+        ensures kept { self.new ≡ with_stretch self.old p who (stretch_in B.meaning self.old p who) }
         ensures caller { IsTaskOf self.old.system who }
-        ensures first { B.is_context self.old.body (caller_body self.old.system self.old.world.contexts p who)
-            first.now }
+        ensures hands_over { HandsOver (stretch_in B.meaning self.old p who) }
     {
         let entry = entry_of(&self.tables, &self.contexts, p, who);
-        stretch(
-            &self.body,
-            entry,
-            self.bound,
-            &mut self.contexts,
-            p,
-            who,
-            first,
-        )
+        stretch(&self.body, entry, self.bound, &mut self.contexts, p, who)
     }
 
-    /// The stretch of the actor of processor p, which goes on from this context, is handed in. Where it makes a call,
-    /// its context awaits the reply.
-    #[tactic(auto, using(fmp_contexts::proofs::ContextLemmas::task_of, fmp_contexts::proofs::ContextLemmas::goes_in, fmp_contexts::proofs::ContextLemmas::has_context, fmp_contexts::proofs::HeldLemmas::context_back))]
-    fn take(&mut self, p: u8, who: Caller, first: &B::Ctx, stretch: Stretch<B::Ctx>) -> Stop
-        requires goes { context_of self.old.world.contexts p who ≡ Some (Goes first.now) }
+    /// The stretch of the actor of processor p, which goes on from a context, is handed in. What is kept of it then
+    /// stands in place.
+    #[tactic(auto, using(fmp_contexts::proofs::ContextLemmas::task_going, fmp_contexts::proofs::ContextLemmas::going_has))]
+    fn take(&mut self, p: u8, who: Caller, stretch: Stretch<B::Ctx>) -> Stop
+        requires goes { is_going (context_of self.old.world.contexts p who) ≡ true }
         requires context { OfCall
             (B.is_context self.old.body (caller_body self.old.system self.old.world.contexts p who))
             (ending stretch) }
         ensures stop { result ≡ stop_of (ending stretch) }
-        ensures kept { self.new ≡ kept_in self.old (with_context self.old.world.contexts p who
-            (Some (kept_after first.now (ending stretch)))) }
+        ensures kept { self.new ≡ with_stretch self.old p who (ending stretch) }
         ensures caller { IsTaskOf self.old.system who }
-        ensures first { B.is_context self.old.body (caller_body self.old.system self.old.world.contexts p who)
-            first.now }
     {
         // Only a look at a field tells the proof that the contexts fit.
         let _ = &self.tables;
         match stretch {
-            Stretch::Over => Stop::Over,
+            Stretch::Over(context) => {
+                self.contexts.put(p, who, &context, false);
+                Stop::Over
+            }
             Stretch::Call(context, made) => {
                 self.contexts.put(p, who, &context, true);
                 Stop::Call(made)
             }
-            Stretch::End(_) => Stop::End,
-            Stretch::Fault(_, fault) => Stop::Fault(fault),
+            Stretch::End(_) => {
+                self.contexts.forget(p, who);
+                Stop::End
+            }
+            Stretch::Fault(_, fault) => {
+                self.contexts.forget(p, who);
+                Stop::Fault(fault)
+            }
         }
     }
 
     /// Carries out the call, end or fault with which a stretch of the actor of processor p has stopped; what is kept of
-    /// it is in place. If it was over its bound, nothing happens.
-    #[tactic(auto, using(fmp_contexts::proofs::HeldLemmas::context_back))]
+    /// it is in place. If it was over its bound, the place is kept, and nothing else happens.
     #[inline(always)]
-    fn carry_out_stop(&mut self, p: u8, who: Caller, first: &B::Ctx, stop: &Stop) -> Effect
+    fn carry_out_stop(&mut self, p: u8, who: Caller, stop: &Stop) -> Effect
         requires there { p < self.old.system.processors }
         requires caller { IsTaskOf self.old.system who }
-        requires kept { HasContext self.old.world.contexts p who }
-        requires context { B.is_context self.old.body (caller_body self.old.system self.old.world.contexts p who)
-            first.now }
-        requires same { HasNoCall stop.now → context_of self.old.world.contexts p who ≡ Some (Goes first.now) }
         ensures effect { result
             ≡ effect_of (stopped_on self.old.system (B.meaning self.old.body) self.old.world p who stop.now) }
         ensures after { done_of self.new
-            ≡ done_or (with_contexts (done_of self.old) (with_context self.old.world.contexts p who
-            (Some (Goes first.now))))
+            ≡ done_or (done_of self.old)
             (stopped_on self.old.system (B.meaning self.old.body) self.old.world p who stop.now) }
         ensures bodies { SameBodies self.old self.new }
         ensures clock { self.new.world.state.clock ≡ self.old.world.state.clock }
     {
         match stop {
-            Stop::Over => Effect::Nothing,
-            Stop::Call(made) => self.make_call(p, who, made, first),
+            Stop::Over => Effect::Kept,
+            Stop::Call(made) => self.make_call(p, who, made),
             Stop::End => {
                 let own = Line::End {
                     processor: p,
@@ -198,53 +181,145 @@ impl<B: Body> Runner<B> {
         }
     }
 
-    /// The actor of processor p makes a stretch from this context, from which it goes on: the call, end or fault is
-    /// carried out.
-    fn make_stretch(&mut self, p: u8, who: Caller, first: &B::Ctx) -> Effect
+    /// The caller on processor p, of which something is kept, goes on from this context again.
+    #[tactic(auto, using(fmp_contexts::proofs::ContextLemmas::places_set, fmp_contexts::proofs::ContextLemmas::fitting_set))]
+    fn go_back(&mut self, p: u8, who: Caller, first: &B::Ctx)
+        requires kept { HasContext self.old.world.contexts p who }
+        requires context { B.is_context self.old.body (caller_body self.old.system self.old.world.contexts p who)
+            first.now }
+        ensures { self.new ≡ kept_in self.old
+            (with_context self.old.world.contexts p who (Some (Goes first.now))) }
+    {
+        self.contexts.put(p, who, first, false);
+    }
+
+    /// Carries out the stop of a stretch that began in this context, as `carry_out_stop` does. Where the actor spins for a
+    /// held spin lock, it goes on from this context again, so that nothing has happened.
+    #[tactic(auto, using(crate::proofs::StopLemmas::nothing_calls))]
+    fn carry_out_or_spin(&mut self, p: u8, who: Caller, stop: &Stop, first: &B::Ctx) -> Effect
         requires there { p < self.old.system.processors }
-        requires goes { context_of self.old.world.contexts p who ≡ Some (Goes first.now) }
+        requires caller { IsTaskOf self.old.system who }
+        requires kept { is_call stop.now ≡ true → HasContext self.old.world.contexts p who }
+        requires context { is_call stop.now ≡ true
+            → B.is_context self.old.body (caller_body self.old.system self.old.world.contexts p who) first.now }
         ensures effect { result
-            ≡ effect_of (stretched self.old.system (B.meaning self.old.body) self.old.world p who
-            ((B.meaning self.old.body).stretch (caller_body self.old.system self.old.world.contexts p who)
-            self.old.bound first.now)) }
+            ≡ effect_of (stopped_on self.old.system (B.meaning self.old.body) self.old.world p who stop.now) }
         ensures after { done_of self.new
-            ≡ done_or (done_of self.old) (stretched self.old.system (B.meaning self.old.body) self.old.world p who
-            ((B.meaning self.old.body).stretch (caller_body self.old.system self.old.world.contexts p who)
-            self.old.bound first.now)) }
+            ≡ done_or (with_contexts (done_of self.old) (with_context self.old.world.contexts p who
+            (Some (Goes first.now))))
+            (stopped_on self.old.system (B.meaning self.old.body) self.old.world p who stop.now) }
         ensures bodies { SameBodies self.old self.new }
         ensures clock { self.new.world.state.clock ≡ self.old.world.state.clock }
     {
-        let stop = self.go_on(p, who, first);
-        self.carry_out_stop(p, who, first, &stop)
+        match self.carry_out_stop(p, who, stop) {
+            Effect::Done => Effect::Done,
+            Effect::Kept => Effect::Kept,
+            Effect::Nothing => {
+                self.go_back(p, who, first);
+                Effect::Nothing
+            }
+        }
     }
 
-    /// The actor of processor p, which goes on from this context, has made this stretch: the call, end or fault is
-    /// carried out.
-    fn apply_stretch(
-        &mut self,
-        p: u8,
-        who: Caller,
-        first: &B::Ctx,
-        stretch: Stretch<B::Ctx>,
-    ) -> Effect
+    /// The actor of processor p makes a stretch from the context from which it goes on: the call, end or fault is carried
+    /// out, or its place is kept. No processor holds a spin lock, so it spins for none.
+    fn make_stretch(&mut self, p: u8, who: Caller) -> Effect
         requires there { p < self.old.system.processors }
-        requires goes { context_of self.old.world.contexts p who ≡ Some (Goes first.now) }
+        requires goes { is_going (context_of self.old.world.contexts p who) ≡ true }
+        requires free { IsLockHeld self.old.system self.old.world.state → ⊥ }
+        ensures effect { result
+            ≡ effect_of (run_in self.old.system (B.meaning self.old.body) self.old.bound self.old.world p who
+            (context_of self.old.world.contexts p who)) }
+        ensures after { done_of self.new
+            ≡ done_or (done_of self.old) (run_in self.old.system (B.meaning self.old.body) self.old.bound
+            self.old.world p who (context_of self.old.world.contexts p who)) }
+        ensures bodies { SameBodies self.old self.new }
+        ensures clock { self.new.world.state.clock ≡ self.old.world.state.clock }
+    {
+        let stop = self.go_on(p, who);
+        self.carry_out_stop(p, who, &stop)
+    }
+
+    /// The same where some processor holds a spin lock. The context in which the stretch began is kept aside: an actor
+    /// that spins goes on from there.
+    fn make_stretch_or_spin(&mut self, p: u8, who: Caller) -> Effect
+        requires there { p < self.old.system.processors }
+        requires goes { is_going (context_of self.old.world.contexts p who) ≡ true }
+        ensures effect { result
+            ≡ effect_of (run_in self.old.system (B.meaning self.old.body) self.old.bound self.old.world p who
+            (context_of self.old.world.contexts p who)) }
+        ensures after { done_of self.new
+            ≡ done_or (done_of self.old) (run_in self.old.system (B.meaning self.old.body) self.old.bound
+            self.old.world p who (context_of self.old.world.contexts p who)) }
+        ensures bodies { SameBodies self.old self.new }
+        ensures clock { self.new.world.state.clock ≡ self.old.world.state.clock }
+    {
+        let first = self.first_context(p, who);
+        let stop = self.go_on(p, who);
+        self.carry_out_or_spin(p, who, &stop, &first)
+    }
+
+    /// The context from which the caller on processor p goes on.
+    #[tactic(auto, using(fmp_contexts::proofs::ContextLemmas::goes_in, fmp_contexts::proofs::HeldLemmas::going_some, fmp_contexts::proofs::HeldLemmas::going_none))]
+    fn first_context(&self, p: u8, who: Caller) -> B::Ctx
+        requires { is_going (context_of self.now.world.contexts p who) ≡ true }
+        ensures value { context_of self.now.world.contexts p who ≡ Some (Goes result) }
+        ensures context { B.is_context self.now.body (caller_body self.now.system self.now.world.contexts p who)
+            result }
+    {
+        match self.contexts.going(p, who) {
+            Some(context) => *context,
+            None => unreachable!(),
+        }
+    }
+
+    /// The actor of processor p, which goes on from a context, has made this stretch, while no processor holds a spin
+    /// lock: the call, end or fault is carried out, or its place is kept.
+    #[tactic(auto, using(crate::proofs::StopLemmas::ending_hands))]
+    fn apply_stretch(&mut self, p: u8, who: Caller, stretch: Stretch<B::Ctx>) -> Effect
+        requires there { p < self.old.system.processors }
+        requires goes { is_going (context_of self.old.world.contexts p who) ≡ true }
+        requires context { OfCall
+            (B.is_context self.old.body (caller_body self.old.system self.old.world.contexts p who))
+            (ending stretch) }
+        requires free { IsLockHeld self.old.system self.old.world.state → ⊥ }
+        ensures effect { result
+            ≡ effect_of (applied_in self.old.system (B.meaning self.old.body) self.old.world p who
+            (context_of self.old.world.contexts p who) (ending stretch)) }
+        ensures after { done_of self.new
+            ≡ done_or (done_of self.old) (applied_in self.old.system (B.meaning self.old.body) self.old.world p who
+            (context_of self.old.world.contexts p who) (ending stretch)) }
+        ensures bodies { SameBodies self.old self.new }
+        ensures clock { self.new.world.state.clock ≡ self.old.world.state.clock }
+    {
+        let stop = self.take(p, who, stretch);
+        self.carry_out_stop(p, who, &stop)
+    }
+
+    /// The same where some processor holds a spin lock: an actor that spins goes on from the context from which it came.
+    #[tactic(auto, using(crate::proofs::StopLemmas::ending_hands))]
+    fn apply_stretch_or_spin(&mut self, p: u8, who: Caller, stretch: Stretch<B::Ctx>) -> Effect
+        requires there { p < self.old.system.processors }
+        requires goes { is_going (context_of self.old.world.contexts p who) ≡ true }
         requires context { OfCall
             (B.is_context self.old.body (caller_body self.old.system self.old.world.contexts p who))
             (ending stretch) }
         ensures effect { result
-            ≡ effect_of (stretched self.old.system (B.meaning self.old.body) self.old.world p who (ending stretch)) }
+            ≡ effect_of (applied_in self.old.system (B.meaning self.old.body) self.old.world p who
+            (context_of self.old.world.contexts p who) (ending stretch)) }
         ensures after { done_of self.new
-            ≡ done_or (done_of self.old)
-            (stretched self.old.system (B.meaning self.old.body) self.old.world p who (ending stretch)) }
+            ≡ done_or (done_of self.old) (applied_in self.old.system (B.meaning self.old.body) self.old.world p who
+            (context_of self.old.world.contexts p who) (ending stretch)) }
         ensures bodies { SameBodies self.old self.new }
         ensures clock { self.new.world.state.clock ≡ self.old.world.state.clock }
     {
-        let stop = self.take(p, who, first, stretch);
-        self.carry_out_stop(p, who, first, &stop)
+        let first = self.first_context(p, who);
+        let stop = self.take(p, who, stretch);
+        self.carry_out_or_spin(p, who, &stop, &first)
     }
 
     /// Processor p runs its actor for a stretch.
+    #[tactic(auto, using(crate::proofs::StopLemmas::still_runs))]
     fn run(&mut self, p: u8) -> Effect
         ensures effect { result
             ≡ effect_of (run_by self.old.system (B.meaning self.old.body) self.old.bound self.old.world p
@@ -258,15 +333,18 @@ impl<B: Body> Runner<B> {
         let Some(who) = actor_on(&self.tables, p) else {
             return Effect::Nothing;
         };
-        let Some(context) = self.contexts.going(p, who) else {
+        if !self.contexts.goes(p, who) {
             return Effect::Nothing;
-        };
-        let first = *context;
-        self.make_stretch(p, who, &first)
+        }
+        if is_lock_held(&self.tables) {
+            self.make_stretch_or_spin(p, who)
+        } else {
+            self.make_stretch(p, who)
+        }
     }
 
     /// Processor p runs its actor, whose stretch is this one.
-    #[tactic(auto, using(fmp_contexts::proofs::ContextLemmas::has_context, fmp_contexts::proofs::ContextLemmas::task_of, fmp_contexts::proofs::ContextLemmas::going_fits))]
+    #[tactic(auto, using(crate::proofs::StopLemmas::still_applied, fmp_contexts::proofs::ContextLemmas::going_fits))]
     pub fn apply(&mut self, p: u8, stretch: Stretch<B::Ctx>) -> Effect
         requires { IsFor B.is_context self.old.body (ending stretch) (actor_at self.old.system self.old.world p) }
         ensures effect { result
@@ -281,11 +359,14 @@ impl<B: Body> Runner<B> {
         let Some(who) = actor_on(&self.tables, p) else {
             return Effect::Nothing;
         };
-        let Some(context) = self.contexts.going(p, who) else {
+        if !self.contexts.goes(p, who) {
             return Effect::Nothing;
-        };
-        let first = *context;
-        self.apply_stretch(p, who, &first, stretch)
+        }
+        if is_lock_held(&self.tables) {
+            self.apply_stretch_or_spin(p, who, stretch)
+        } else {
+            self.apply_stretch(p, who, stretch)
+        }
     }
 
     /// The clock advances by one.

@@ -13,7 +13,7 @@ ghost use Rattle.fmp_worlds.specs.Stamps.{actor_at_number, applied};
 
 use crate::actors::Actor;
 use crate::runner::Runner;
-use crate::stamps::Stamps;
+use crate::stamps::{Stamps, run_place};
 use fmp_base::{Body, Effect, Event, Line, Stretch, System, TaskState};
 use fmp_tasks::Tables;
 use std::alloc::{AllocError, Global};
@@ -39,6 +39,7 @@ impl From<AllocError> for KernelFault {
 pub struct Kernel<B: Body> {
     runner: Runner<B>,
     done: u32,
+    taken: u32,
     stamps: Stamps,
 }
 
@@ -50,17 +51,17 @@ impl<B: Body> Model for Kernel<B> {
 
     ghost Value = { KernelView B B.Ctx };
 
-    ghost view = { λ k. kernel_of k.runner k.stamps.counts k.done };
+    ghost view = { λ k. kernel_of k.runner k.stamps.counts k.done k.taken };
 
-    ghost invariant = { λ k. IsEarly k.runner.world.state.clock k.done
+    ghost invariant = { λ k. IsEarly k.runner.world.state.clock k.done k.taken
         × IsSettledWorld k.runner.system k.runner.world
-        × AreStamps k.stamps k.runner.system.processors k.runner.world.state k.done };
+        × AreStamps k.stamps k.runner.system.processors k.runner.world.state k.taken };
 }
 
 impl<B: Body + Drop> Kernel<B> {
     /// A kernel after setup (uITRON 4.0, section 3.7): all objects are made, the tasks with TA_ACT are started, in
     /// order of number, and all processors settle. A stretch of a body takes at most n units, 1 to 2^48; a longer one
-    /// does nothing. `KernelFault::Memory` if memory runs out: no call after this one takes any.
+    /// keeps its place. `KernelFault::Memory` if memory runs out: no call after this one takes any.
     pub fn new(alloc: Global, body: B, sys: &System, n: u64) -> Result<Self, KernelFault>
         requires low { 1 ≤ n }
         requires high { n ≤ 2 ^ 48 }
@@ -76,24 +77,33 @@ impl<B: Body + Drop> Kernel<B> {
         Ok(Kernel {
             runner,
             done: 0,
+            taken: 0,
             stamps,
         })
     }
 }
 
 impl<B: Body> Kernel<B> {
-    /// The lines of the last event that did something, or of setup. An event that did nothing leaves them as they are.
+    /// The lines of the last event that was done, or of setup. Any other event leaves them as they are.
     pub fn lines(&self) -> &[Line]
         ensures { result.now ≡ self.now.lines }
     {
         self.runner.lines()
     }
 
-    /// How many events did something.
+    /// How many events were done: the number of the last one in the trace.
     pub fn done(&self) -> u32
         ensures { result ≡ self.now.done }
     {
         self.done
+    }
+
+    /// How many events were taken: they were done, or kept a place.
+    pub fn taken(&self) -> u32
+        ensures value { result ≡ self.now.taken }
+        ensures done { self.now.done ≤ self.now.taken }
+    {
+        self.taken
     }
 
     /// What is shown of the task at place t, from 0: its state, its processor and its priority.
@@ -104,8 +114,7 @@ impl<B: Body> Kernel<B> {
         self.runner.state(t)
     }
 
-    /// The tables of the system and the state of the kernel, as the last event that did something (or setup) left
-    /// them: what may be seen of them by the public calls of `Tables`, by places from 0.
+    /// The tables of the system and the state of the kernel, as the last event that was done (or setup) left them: what may be seen of them by the public calls of `Tables`, by places from 0.
     pub fn tables(&self) -> &Tables
         ensures system { result.now.system ≡ self.now.system }
         ensures state { result.now.state ≡ self.now.world.state }
@@ -129,8 +138,8 @@ impl<B: Body> Kernel<B> {
     }
 
     /// The actor of the processor of this number, from 1: its running handler, else the task that it runs. None exactly
-    /// where there is no such processor, or it has no actor. The stamp is how many done events ran the processor or
-    /// left it another actor than they found: along one run equal stamps mean the same actor in the same context.
+    /// where there is no such processor, or it has no actor. The stamp is how many of the events taken ran the
+    /// processor or left it another actor than they found: along one run equal stamps mean the same actor in the same context.
     #[tactic(auto, using(crate::proofs::ActorNone::no_actor))]
     pub fn actor(&self, p: u8) -> Option<Actor<B::Ctx>>
         ensures value { result ≡ actor_in self.now p }
@@ -144,10 +153,11 @@ impl<B: Body> Kernel<B> {
         self.runner.actor(p - 1, self.stamps.stamp(p - 1))
     }
 
-    /// One event, while fewer than 2^20 did something: whether it does something. If it does, its lines and the state
-    /// after it stand here then; if it does not, nothing has changed. It takes no memory.
+    /// One event, while fewer than 2^20 were taken: what it does. If it is done, its lines and the state after it stand
+    /// here then. If it keeps the place of an actor, the actor goes on from there, and nothing else of the world changes.
+    /// If it does nothing, nothing has changed. It takes no memory.
     pub fn step(&mut self, e: Event) -> Effect
-        requires { self.old.done < 2 ^ 20 }
+        requires { self.old.taken < 2 ^ 20 }
         ensures effect { result
             ≡ effect_of (step self.old.system (B.meaning self.old.body) self.old.bound self.old.world e) }
         ensures state { self.new
@@ -157,8 +167,14 @@ impl<B: Body> Kernel<B> {
         self.runner.world_is_whole();
         match effect {
             Effect::Nothing => Effect::Nothing,
+            Effect::Kept => {
+                self.taken += 1;
+                self.runner.count_kept(&mut self.stamps, run_place(e));
+                Effect::Kept
+            }
             Effect::Done => {
                 self.done += 1;
+                self.taken += 1;
                 self.runner.count(&mut self.stamps);
                 Effect::Done
             }
@@ -168,7 +184,7 @@ impl<B: Body> Kernel<B> {
     /// The run of the processor of this number, from 1, where its actor has made this stretch: as `step` of this run,
     /// which makes the stretch itself. The stretch is one of the present actor's; if there is none, nothing happens.
     pub fn apply(&mut self, p: u8, s: Stretch<B::Ctx>) -> Effect
-        requires early { self.old.done < 2 ^ 20 }
+        requires early { self.old.taken < 2 ^ 20 }
         requires stretch { IsFor B.is_context self.old.body (ending s)
             (actor_at_number self.old.system self.old.world p) }
         ensures effect { result
@@ -183,8 +199,14 @@ impl<B: Body> Kernel<B> {
         self.runner.world_is_whole();
         match effect {
             Effect::Nothing => Effect::Nothing,
+            Effect::Kept => {
+                self.taken += 1;
+                self.runner.count_kept(&mut self.stamps, Some(p - 1));
+                Effect::Kept
+            }
             Effect::Done => {
                 self.done += 1;
+                self.taken += 1;
                 self.runner.count(&mut self.stamps);
                 Effect::Done
             }

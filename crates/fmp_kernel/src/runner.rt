@@ -24,7 +24,7 @@ use std::alloc::{AllocError, Global};
 use std::marker::Model;
 
 /// The bodies with their contexts over the tables of a system, and the lines of an event: those that it has caused so
-/// far, and all of the last event that did something, or of setup.
+/// far, and all of the last event that was done, or of setup.
 #[derive(Drop)]
 pub struct Runner<B: Body> {
     pub body: B,
@@ -124,7 +124,7 @@ impl<B: Body + Drop> Runner<B> {
 }
 
 impl<B: Body> Runner<B> {
-    /// The lines of the last event that did something, or of setup: at most 519.
+    /// The lines of the last event that was done, or of setup: at most 519.
     pub fn lines(&self) -> &[Line]
         ensures lines { result.now ≡ self.now.lines }
         ensures few { length self.now.lines ≤ 519 }
@@ -204,6 +204,20 @@ impl<B: Body> Runner<B> {
     {
         let lines = self.lines.as_slice();
         stamps.count(&self.tables, lines, place_run(lines));
+    }
+
+    /// Counts the event that has just kept a place, and ran this processor.
+    #[inline(always)]
+    pub fn count_kept(&self, stamps: &mut Stamps, ran: Option<u8>)
+        requires many { length stamps.old.counts ≡ self.now.system.processors }
+        requires rows { length stamps.old.actors ≡ self.now.system.processors }
+        requires few { (p : ℕ) → get_or stamps.old.counts p 0 < 2 ^ 20 }
+        requires left { (p : ℕ) → p < length stamps.old.counts
+            → get_or stamps.old.actors p None ≡ actor_of (processor_at self.now.world.state p) }
+        ensures counts { AreCounted stamps.old stamps.new self.now.world.state ran }
+        ensures actors { AreActors stamps.new.actors self.now.system.processors self.now.world.state }
+    {
+        stamps.count_kept(&self.tables, ran);
     }
 
     /// Ends an event or setup, of which the first lines are there: those of what it caused follow, all processors

@@ -1,19 +1,19 @@
-//! The stamps of the processors: how many done events ran a processor or left it another actor.
+//! The stamps of the processors: how many events ran a processor or left it another actor.
 ghost use Rattle.std.specs.Prelude.{◌≡◌, ◌+◌, ◌<◌, ◌^◌, ◌||◌, ℕ, Some, None, false, length, get_or, not, replicate, slice_set, IfOk};
 ghost use Rattle.fmp_base.specs.Settles.{is_same_task as is_same_place};
 ghost use Rattle.fmp_base.specs.States.{processor_at};
 ghost use Rattle.fmp_base.specs.Steps.{actor_of};
 ghost use Rattle.fmp_kernel.specs.Stamps.{AreActors, AreCounted, given_by as given_by_line, is_given, noted, noted_by, run_noted};
-ghost use Rattle.fmp_worlds.specs.Stamps.{place_of as place_of_line, place_run as place_of_lines};
+ghost use Rattle.fmp_worlds.specs.Stamps.{place_of as place_of_line, place_run as place_of_lines, run_place as place_of_event};
 
 use crate::actors::{acting_on, actor_on, acts_on};
 use crate::settling::is_same_task;
-use fmp_base::{Caller, Line};
+use fmp_base::{Caller, Event, Line};
 use fmp_tasks::Tables;
 use std::alloc::{AllocError, Global};
 use std::marker::Model;
 
-/// For each processor the actor that it had after the last done event, and its stamp.
+/// For each processor the actor that it had after the last event, and its stamp.
 #[derive(Drop)]
 pub struct Stamps {
     actors: Vec<Option<Caller>>,
@@ -50,6 +50,18 @@ pub fn place_run(lines: &[Line]) -> Option<u8>
     match lines.first() {
         Some(line) => place_of(*line),
         None => None,
+    }
+}
+
+/// The processor that an event runs, if it runs one.
+pub fn run_place(e: Event) -> Option<u8>
+    ensures { result ≡ place_of_event e }
+{
+    match e {
+        Event::Run(0) => None,
+        Event::Run(number) => Some(number - 1),
+        Event::Tick => None,
+        Event::Int(_) => None,
     }
 }
 
@@ -145,6 +157,19 @@ impl Stamps {
         if let Some(p) = ran {
             self.note_any(tables, p, true);
         }
+    }
+
+    /// Counts an event that kept a place, which gives no processor another actor, for the one that it ran.
+    pub fn count_kept(&mut self, tables: &Tables, ran: Option<u8>)
+        requires many { length self.old.counts ≡ tables.now.system.processors }
+        requires rows { length self.old.actors ≡ tables.now.system.processors }
+        requires few { (p : ℕ) → get_or self.old.counts p 0 < 2 ^ 20 }
+        requires left { (p : ℕ) → p < length self.old.counts
+            → get_or self.old.actors p None ≡ actor_of (processor_at tables.now.state p) }
+        ensures counts { AreCounted self.old self.new tables.now.state ran }
+        ensures actors { AreActors self.new.actors tables.now.system.processors tables.now.state }
+    {
+        self.note_run(tables, ran);
     }
 
     /// Counts a done event of these lines for the processor that it ran, if any, and for each that has another actor

@@ -27,12 +27,12 @@ calls_of bodies body = listed (slice_get bodies body)
 
 -- a call takes two units
 abbrev pub call_within : Bool → ℕ → Call → Ending ℕ
-call_within true c made = ends.Over None
+call_within true c made = ends.Over (Some c)
 call_within false c made = ends.Call c made
 
 -- the end takes one
 abbrev pub end_within : Bool → ℕ → Ending ℕ
-end_within true c = ends.Over None
+end_within true c = ends.Over (Some c)
 end_within false c = ends.End c
 
 abbrev pub script_from : Option Call → ℕ → ℕ → Ending ℕ

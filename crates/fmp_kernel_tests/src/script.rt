@@ -90,14 +90,14 @@ impl Body for Script {
         match self.calls_of(entry).get(c as usize) {
             Some(made) => {
                 if n < 2 {
-                    Stretch::Over
+                    Stretch::Over(c)
                 } else {
                     Stretch::Call(c, *made)
                 }
             }
             None => {
                 if n < 1 {
-                    Stretch::Over
+                    Stretch::Over(c)
                 } else {
                     Stretch::End(c)
                 }

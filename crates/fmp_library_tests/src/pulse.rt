@@ -38,7 +38,7 @@ impl Body for Pulse {
 
     fn stretch(&self, entry: u8, n: u64, left: u32) -> Stretch<u32> {
         if n < 1 {
-            Stretch::Over
+            Stretch::Over(left)
         } else if left == 0 {
             Stretch::End(left)
         } else {

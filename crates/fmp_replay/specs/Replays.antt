@@ -2,7 +2,7 @@
 use Rattle.std.specs.Prelude.{◌≡◌, ℕ, List, [], ◌∷◌, length, map}
 use Rattle.fmp_base.specs.declared.events.Event.{Event}
 use Rattle.fmp_base.specs.Meanings.{Meaning}
-use Rattle.fmp_base.specs.Runs.{done_events}
+use Rattle.fmp_base.specs.Runs.{done_events, taken_events}
 use Rattle.fmp_base.specs.Setups.{setup}
 use Rattle.fmp_base.specs.States.{places_from}
 use Rattle.fmp_base.specs.Steps.{Done, Reaction, step}
@@ -14,7 +14,7 @@ use Rattle.fmp_image_bytes.specs.Images.{ImageTables}
 use Rattle.fmp_kernel.specs.KernelViews.{KernelView, done_or}
 use Rattle.fmp_worlds.specs.Stamps.{stamp}
 
--- one event after the other: the world at the end, with the lines of the last event that did something
+-- one event after the other: the world at the end, with the lines of the last event that was done
 abbrev pub done_after : {C : Type 0} → SystemTables → Meaning C → (bound : ℕ) → Done C → List Event → Done C
 done_after sys M bound d [] = d
 done_after sys M bound d (e ∷ es) = done_after sys M bound (done_or d (step sys M bound d.world e)) es
@@ -33,9 +33,14 @@ stamps_after i n es =
 unfoldable pub reaction : ImageTables → (n : ℕ) → List Event → Event → Reaction MachineContext
 reaction i n es e = step i.system (code_meaning i.code) n (replay i n es).world e
 
--- each of these events does something at its place
+-- how many of these events are done
+unfoldable pub done_count : ImageTables → (n : ℕ) → List Event → ℕ
+done_count i n es =
+    length (done_events i.system (code_meaning i.code) n (setup i.system (code_meaning i.code)).world es)
+
+-- each of these events is done, or keeps a place, where it stands
 pub record IsLegal (i : ImageTables) (n : ℕ) (es : List Event) : Type 0 where
-  pub all_done : done_events i.system (code_meaning i.code) n (setup i.system (code_meaning i.code)).world es ≡ es
+  pub all_taken : taken_events i.system (code_meaning i.code) n (setup i.system (code_meaning i.code)).world es ≡ es
 
 -- the kernel that is the replay of legal events
 abbrev pub kernel_after : ImageTables → (n : ℕ) → List Event → KernelView (List BodyTables) MachineContext
@@ -46,6 +51,7 @@ kernel_after i n es =
       system = i.system;
       world = (replay i n es).world;
       lines = (replay i n es).lines;
-      done = length es;
+      done = done_count i n es;
+      taken = length es;
       stamps = stamps_after i n es;
     }

@@ -6,7 +6,7 @@ use Rattle.fmp_base.specs.declared.events.Line.{Line}
 use Rattle.fmp_base.specs.Meanings.{Meaning, World}
 use Rattle.fmp_base.specs.Runs.{Trace, after_first, run, run_on}
 use Rattle.fmp_base.specs.Setups.{setup}
-use Rattle.fmp_base.specs.Steps.{Reaction, Nothing, Did, step}
+use Rattle.fmp_base.specs.Steps.{Reaction, Nothing, Did, Kept, step}
 use Rattle.fmp_base.specs.Systems.{SystemTables}
 use Rattle.fmp_base.specs.Texts.{events_text}
 use Rattle.fmp_tasklang.specs.Texts.{text_meaning}
@@ -29,6 +29,7 @@ parts_on :
     joined (run_on w o (λ v. run sys M bound v es)) (run sys M bound (run_on w o (λ v. run sys M bound v es)).world fs)
 parts_on sys M bound es fs rest w Nothing = rest w
 parts_on sys M bound es fs rest w (Did d) = ap (after_first d.lines) (rest d.world)
+parts_on sys M bound es fs rest w (Kept p v) = rest v
 
 parts : {C : Type 0} (sys : SystemTables) (M : Meaning C) (bound : ℕ) (es fs : List Event) (w : World C) → Parts sys M bound es fs w
 parts sys M bound [] fs w = refl

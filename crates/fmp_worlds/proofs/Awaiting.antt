@@ -29,7 +29,7 @@ use Rattle.fmp_base.specs.Runs.{Trace, run, run_on}
 use Rattle.fmp_base.specs.Settles.{begun, dispatched, dispatch_lines, is_same_task, is_dispatch_held, handler_to_begin, settled_with, settled_on, all_settled, settled}
 use Rattle.fmp_base.specs.Setups.{setup, all_started, created_state, first_contexts}
 use Rattle.fmp_base.specs.States.{KernelState, Progress, unchanged, task_at, processor_at, places_from}
-use Rattle.fmp_base.specs.Steps.{Done, Reaction, Nothing, Did, Kept, actor_by, actor_ended, actor_of, finished, answered, stretched, run_in, run_by, interrupted, interrupted_by, step}
+use Rattle.fmp_base.specs.Steps.{Done, Reaction, Nothing, Did, Kept, actor_by, actor_ended, actor_of, contexts_ended, ended_with, finished, answered, stretched, run_in, run_by, interrupted, interrupted_by, step}
 use Rattle.fmp_base.specs.Stretches.{Ending}
 use Rattle.fmp_base.specs.Stretches as ends
 use Rattle.fmp_base.specs.Systems.{SystemTables, body_of, interrupt_config}
@@ -218,7 +218,7 @@ module _ {C : Type 0} (sys : SystemTables) where
 abbrev LeavesFree : {C : Type 0} → Reaction C → Type 0
 LeavesFree Nothing = Unit {0}
 LeavesFree (Did d) = NoneAwaits d.world
-LeavesFree (Kept v) = NoneAwaits v
+LeavesFree (Kept p v) = NoneAwaits v
 
 module _ {C : Type 0} (sys : SystemTables) (M : Meaning C) where
   finished-free : (cs : Contexts (Held C)) (own : List Line) (g : Progress)
@@ -302,15 +302,25 @@ module _ {C : Type 0} (sys : SystemTables) (M : Meaning C) where
             free-delivered_on sys M cs p (caller.Handler i) reply q (on q (λ (same : p ≡ q). absurd (grind (arith, nat_tests, same, e))))
 
   -- an event that makes no call
-  caused_free : (w : World C) (own : Line) (g : Progress) → contexts_after sys M w.contexts own ≡ w.contexts → Woken w.state g → NoneAwaits w
-      → NoneAwaits (finished sys M w.contexts (own ∷ []) g).world
-  caused_free w own g e k h =
-      finished-free w.contexts (own ∷ []) g
-      (λ t r. subst (λ (cs : Contexts (Held C)). IsFree (contexts_after_all sys M cs g.lines) t) (sym e) (by_kind t (k.each t r)))
-      (λ p. subst (λ (cs : Contexts (Held C)). IsFreeOn (contexts_after_all sys M cs g.lines) p) (sym e) (free-all_on sys M w.contexts p g.lines (h.handlers p))) where
-        by_kind : (t : ℕ) → IsReady w.state t ⊎ IsTold t g.lines → IsFree (contexts_after_all sys M w.contexts g.lines) t
-        by_kind t (inl r) = free-all sys M w.contexts t g.lines (h.tasks t r)
-        by_kind t (inr b) = told-all sys M w.contexts t g.lines b
+  caused_free : (s : KernelState) (cs : Contexts (Held C)) (own : Line) (g : Progress) → contexts_after sys M cs own ≡ cs → Woken s g
+      → ((t : ℕ) → IsReady s t → IsFree cs t) → ((p : ℕ) → IsFreeOn cs p) → NoneAwaits (finished sys M cs (own ∷ []) g).world
+  caused_free s cs own g e k tasks handlers =
+      finished-free cs (own ∷ []) g
+      (λ t r. subst (λ (ds : Contexts (Held C)). IsFree (contexts_after_all sys M ds g.lines) t) (sym e) (by_kind t (k.each t r)))
+      (λ p. subst (λ (ds : Contexts (Held C)). IsFreeOn (contexts_after_all sys M ds g.lines) p) (sym e) (free-all_on sys M cs p g.lines (handlers p))) where
+        by_kind : (t : ℕ) → IsReady s t ⊎ IsTold t g.lines → IsFree (contexts_after_all sys M cs g.lines) t
+        by_kind t (inl r) = free-all sys M cs t g.lines (tasks t r)
+        by_kind t (inr b) = told-all sys M cs t g.lines b
+
+  ended-free : (w : World C) (p : ℕ) (who : Caller) (own : Line) → ((cs : Contexts (Held C)) → contexts_after sys M cs own ≡ cs) → NoneAwaits w
+      → NoneAwaits (ended_with sys M w p who own).world
+  ended-free w p (caller.Task me) own e h =
+      caused_free w.state (contexts_ended sys M w.contexts p (caller.Task me)) own (actor_ended sys w.state p (caller.Task me)) (e _)
+      (woken-ended_itself sys w.state p me (task_at w.state.tasks me))
+      (λ t r. set_at None (OnTask sys M) w.contexts.tasks me _ t (λ e. tt) (h.tasks t r)) h.handlers
+  ended-free w p (caller.Handler i) own e h =
+      caused_free w.state (contexts_ended sys M w.contexts p (caller.Handler i)) own (actor_ended sys w.state p (caller.Handler i)) (e _)
+      (still (λ t r. r)) h.tasks (λ q. set_at None (OnHandler sys M) w.contexts.handlers p None q (λ e. tt) (h.handlers q))
 
   stretched-free : (w : World C) (p : ℕ) (who : Caller) (x : Ending C) → NoneAwaits w → LeavesFree (stretched sys M w p who x)
   stretched-free w p (caller.Task me) (ends.Call d made) h =
@@ -327,12 +337,8 @@ module _ {C : Type 0} (sys : SystemTables) (M : Meaning C) where
       h.tasks (λ q n. subst OnHandlerOf (sym (set_other None w.contexts.handlers p _ q n)) (h.handlers q)) where
         OnHandlerOf : Option (HandlerContext (Held C)) → Type 0
         OnHandlerOf o = AwaitsNone (context_in o)
-  stretched-free w p (caller.Task me) (ends.End c) h =
-      caused_free w (line.End p (caller.Task me)) _ refl (woken-ended_itself sys w.state p me (task_at w.state.tasks me)) h
-  stretched-free w p (caller.Handler i) (ends.End c) h = caused_free w (line.End p (caller.Handler i)) (actor_ended sys w.state p (caller.Handler i)) refl (still (λ t r. r)) h
-  stretched-free w p (caller.Task me) (ends.Fault c fault) h =
-      caused_free w (line.Fault p (caller.Task me) fault) _ refl (woken-ended_itself sys w.state p me (task_at w.state.tasks me)) h
-  stretched-free w p (caller.Handler i) (ends.Fault c fault) h = caused_free w (line.Fault p (caller.Handler i) fault) (actor_ended sys w.state p (caller.Handler i)) refl (still (λ t r. r)) h
+  stretched-free w p who (ends.End c) h = ended-free w p who (line.End p who) (λ cs. refl) h
+  stretched-free w p who (ends.Fault c fault) h = ended-free w p who (line.Fault p who fault) (λ cs. refl) h
   stretched-free w p who (ends.Over None) h = tt
   stretched-free w p (caller.Task me) (ends.Over (Some c)) h =
       record {
@@ -359,12 +365,12 @@ module _ {C : Type 0} (sys : SystemTables) (M : Meaning C) where
   interrupted-free (Some config) w i h = by_pending (is_pending w.state.pending_interrupts i) where
     by_pending : (pending : Bool) → LeavesFree (interrupted_by pending sys M w i)
     by_pending true = tt
-    by_pending false = caused_free w (line.Int i) (unchanged (with_interrupt_pending w.state i)) refl (still (λ t r. r)) h
+    by_pending false = caused_free w.state w.contexts (line.Int i) (unchanged (with_interrupt_pending w.state i)) refl (still (λ t r. r)) h.tasks h.handlers
 
   pub step-free : (n : ℕ) (w : World C) (e : Event) → NoneAwaits w → LeavesFree (step sys M n w e)
   step-free n w (Run zero) h = tt
   step-free n w (Run (suc p)) h = run_by-free n w p (actor_of (processor_at w.state p)) h
-  step-free n w Tick h = caused_free w (line.Tick (w.state.clock + 1)) (ticked sys w.state) refl (woken-ticked sys w.state) h
+  step-free n w Tick h = caused_free w.state w.contexts (line.Tick (w.state.clock + 1)) (ticked sys w.state) refl (woken-ticked sys w.state) h.tasks h.handlers
   step-free n w (Int zero) h = tt
   step-free n w (Int (suc i)) h = interrupted-free (interrupt_config sys i) w i h
 
@@ -372,7 +378,7 @@ module _ {C : Type 0} (sys : SystemTables) (M : Meaning C) where
       → ((v : World C) → NoneAwaits v → NoneAwaits (rest v).world) → NoneAwaits (run_on w x rest).world
   run_on-free w Nothing rest h k go = go w h
   run_on-free w (Did d) rest h k go = go d.world k
-  run_on-free w (Kept v) rest h k go = go v k
+  run_on-free w (Kept p v) rest h k go = go v k
 
   run-free : (n : ℕ) (w : World C) (es : List Event) → NoneAwaits w → NoneAwaits (run sys M n w es).world
   run-free n w [] h = h
@@ -432,12 +438,12 @@ module _ {C : Type 0} (sys : SystemTables) (M : Meaning C) where
       }
 
   -- and each event that keeps a place
-  pub kept-settled_world : (n : ℕ) (w : World C) (e : Event) (v : World C) → IsSettledWorld sys w
-      → IsWorldOf sys v → step sys M n w e ≡ Kept v → IsSettledWorld sys v
-  kept-settled_world n w e v h whole k =
+  pub kept-settled_world : (n : ℕ) (w : World C) (e : Event) (p : ℕ) (v : World C) → IsSettledWorld sys w
+      → IsWorldOf sys v → step sys M n w e ≡ Kept p v → IsSettledWorld sys v
+  kept-settled_world n w e p v h whole k =
       record {
         whole = whole;
-        state = kept-settled sys M n w e v h.state k;
+        state = kept-settled sys M n w e p v h.state k;
         kept = subst (λ (r : Reaction C). LeavesKept sys M r) k (step-kept sys M n w e h.state h.kept);
         free = subst (λ (r : Reaction C). LeavesFree r) k (step-free n w e h.free);
       }
@@ -454,9 +460,9 @@ module _ {C : Type 0} (sys : SystemTables) (M : Meaning C) where
       }
 
   -- also where it keeps its place
-  pub applied-kept_world : (w : World C) (p : ℕ) (x : Ending C) (v : World C) → IsSettledWorld sys w
-      → IsWorldOf sys v → applied_by sys M w p (actor_of (processor_at w.state p)) x ≡ Kept v → IsSettledWorld sys v
-  applied-kept_world w p x v h whole k =
+  pub applied-kept_world : (w : World C) (p : ℕ) (x : Ending C) (q : ℕ) (v : World C) → IsSettledWorld sys w
+      → IsWorldOf sys v → applied_by sys M w p (actor_of (processor_at w.state p)) x ≡ Kept q v → IsSettledWorld sys v
+  applied-kept_world w p x q v h whole k =
       record {
         whole = whole;
         state = subst (λ (r : Reaction C). LeavesSettled sys r) k (applied-leaves_settled sys M w p x h.state);

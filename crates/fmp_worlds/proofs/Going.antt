@@ -24,10 +24,10 @@ use Rattle.fmp_base.specs.ProcessorCalls.{is_cpu_locked}
 use Rattle.fmp_base.specs.Queues.{top}
 use Rattle.fmp_base.specs.Settles.{begun, dispatched, dispatch_lines, is_same_task, runs_handler, is_dispatch_held, handler_to_begin, pending_handler, settled_with, settled_on, all_settled, settled}
 use Rattle.fmp_base.specs.States.{KernelState, Progress, unchanged, task_at, processor_at, idle, places_from}
-use Rattle.fmp_base.specs.Steps.{Reaction, Nothing, Did, Kept, finished, actor_by, actor_ended, answered, stretched, run_in, run_by, interrupted, interrupted_by, step}
+use Rattle.fmp_base.specs.Steps.{Reaction, Nothing, Did, Kept, finished, actor_by, actor_ended, contexts_ended, ended_with, answered, stretched, run_in, run_by, interrupted, interrupted_by, step}
 use Rattle.fmp_base.specs.Stretches.{Ending}
 use Rattle.fmp_base.specs.Stretches as ends
-use Rattle.fmp_base.specs.Systems.{SystemTables, interrupt_config}
+use Rattle.fmp_base.specs.Systems.{SystemTables, interrupt_config, task_config}
 use Rattle.fmp_base.specs.Ticks.{ticked, is_pending, with_interrupt_pending}
 use Rattle.fmp_worlds.specs.Settled.{IsSettled}
 use Rattle.fmp_worlds.specs.Stamps.{run_place}
@@ -257,7 +257,7 @@ apart-context {C} sys cs p q (caller.Handler i) (caller.Handler j) b c y n m h =
 abbrev pub LeavesGoing : {C : Type 0} → SystemTables → ℕ → Caller → ℕ → C → Reaction C → Type 0
 LeavesGoing sys p who b c Nothing = Unit {0}
 LeavesGoing sys p who b c (Did d) = IsGoing sys d.world.contexts p who b c
-LeavesGoing sys p who b c (Kept v) = IsGoing sys v.contexts p who b c
+LeavesGoing sys p who b c (Kept q v) = IsGoing sys v.contexts p who b c
 
 module _ {C : Type 0} (sys : SystemTables) (M : Meaning C) (p : ℕ) (who : Caller) (b : ℕ) (c : C) where
   stays : (s u : KernelState) → (processor_at u p).handler ≡ (processor_at s p).handler → ActsOn p who s → Stays p who u
@@ -325,18 +325,20 @@ module _ {C : Type 0} (sys : SystemTables) (M : Meaning C) (p : ℕ) (who : Call
       (apart-context sys w.contexts p q who (caller.Handler j) b c (Some (Awaits d)) n (apart w.state q (caller.Handler j) n i a k) h)
 
   ended-going : (w : World C) (q : ℕ) (other : Caller) (own : Line) → Spares p who own → (q ≡ p → ⊥) → IsActor sys w.state q other → Holds w.state
-      → ActsOn p who w.state → IsGoing sys w.contexts p who b c
-      → LeavesGoing sys p who b c (Did (finished sys M w.contexts (own ∷ []) (actor_ended sys w.state q other)))
+      → ActsOn p who w.state → IsGoing sys w.contexts p who b c → LeavesGoing sys p who b c (Did (ended_with sys M w q other own))
   ended-going w q (caller.Task t) own first n i a k h =
       let x = task_at w.state.tasks t in
       let g = actor_ended sys w.state q (caller.Task t) in
-      finished-going w.contexts (own ∷ []) g (one own first)
+      let fresh : Option (Held C) = Some (Goes (M.start (task_body sys t) (task_config sys t).exinf)) in
+      finished-going (contexts_ended sys M w.contexts q (caller.Task t)) (own ∷ []) g (one own first)
       (all-map (IsOwn w.state q) (Spares p who) g.lines (spare w.state q p who n k) (lines-ended_itself sys w.state q t x i.runs a))
-      (stays w.state g.state (ap (λ (x : Option Handler × Option ℕ). x.0) (actors-ended_itself sys w.state q t x p n)) k) h
+      (stays w.state g.state (ap (λ (x : Option Handler × Option ℕ). x.0) (actors-ended_itself sys w.state q t x p n)) k)
+      (apart-context sys w.contexts p q who (caller.Task t) b c fresh n (apart w.state q (caller.Task t) n i a k) h)
   ended-going w q (caller.Handler j) own first n i a k h =
       let g = actor_ended sys w.state q (caller.Handler j) in
-      finished-going w.contexts (own ∷ []) g (one own first) tt
-      (stays w.state g.state (ap (λ (x : Processor). x.handler) (set_other idle w.state.processors q _ p n)) k) h
+      finished-going (contexts_ended sys M w.contexts q (caller.Handler j)) (own ∷ []) g (one own first) tt
+      (stays w.state g.state (ap (λ (x : Processor). x.handler) (set_other idle w.state.processors q _ p n)) k)
+      (apart-context sys w.contexts p q who (caller.Handler j) b c None n (apart w.state q (caller.Handler j) n i a k) h)
 
   stretched-going : (w : World C) (q : ℕ) (other : Caller) (x : Ending C) → (q ≡ p → ⊥) → IsActor sys w.state q other → Holds w.state
       → ActsOn p who w.state → IsGoing sys w.contexts p who b c → LeavesGoing sys p who b c (stretched sys M w q other x)

@@ -23,20 +23,20 @@ use Rattle.fmp_base.specs.declared.systems.CyclicConfig.{CyclicConfig}
 use Rattle.fmp_base.specs.declared.systems.InterruptConfig.{InterruptConfig}
 use Rattle.fmp_base.specs.declared.systems.TaskConfig.{TaskConfig}
 use Rattle.fmp_base.specs.Calls.{called}
-use Rattle.fmp_base.specs.Meanings.{Meaning, Contexts, World, context_at, context_in, body_in, context_of, context_for, fresh_context, handler_start, interrupt_start, cyclic_start, told, delivered_to, contexts_after, contexts_after_all, with_context}
+use Rattle.fmp_base.specs.Meanings.{Meaning, Contexts, World, task_body, context_at, context_in, body_in, context_of, context_for, fresh_context, handler_start, interrupt_start, cyclic_start, told, delivered_to, contexts_after, contexts_after_all, with_context}
 use Rattle.fmp_base.specs.Queues.{top}
 use Rattle.fmp_base.specs.Settles.{dispatched, dispatch_lines, is_same_task, runs_handler, is_dispatch_held, handler_to_begin, is_defined_on, interrupts_on, cycles_on, first_or, first_pending, cyclic_handler, interrupt_or, pending_handler, without_pending, settled_with, settled_on, all_settled, settled}
 use Rattle.fmp_base.specs.ProcessorCalls.{is_cpu_locked}
 use Rattle.fmp_base.specs.Setups.{setup, all_started, started_if, created_state, first_contexts}
 use Rattle.fmp_base.specs.States.{KernelState, Progress, unchanged, task_at, processor_at, with_processor, idle, places_from}
-use Rattle.fmp_base.specs.Steps.{Reaction, Nothing, Did, Kept, actor_by, actor_ended, actor_of, call_made, finished, handler_ended, answered, stretched, run_in, run_by, interrupted, interrupted_by, step}
+use Rattle.fmp_base.specs.Steps.{Reaction, Nothing, Did, Kept, actor_by, actor_ended, actor_of, call_made, contexts_ended, ended_with, finished, handler_ended, answered, stretched, run_in, run_by, interrupted, interrupted_by, step}
 use Rattle.fmp_base.specs.Stretches.{Ending}
 use Rattle.fmp_base.specs.Stretches as ends
 use Rattle.fmp_base.specs.Systems.{SystemTables, body_of, found, interrupt_config, task_config}
 use Rattle.fmp_base.specs.Ticks.{ticked, is_pending, with_interrupt_pending}
 use Rattle.fmp_worlds.specs.Settled.{AreKept, IsSettled, IsThere}
 use Rattle.fmp_worlds.specs.Stamps.{applied_by, applied_in}
-use Rattle.fmp_worlds.proofs.Assigned.{Holds, set_at, set_other}
+use Rattle.fmp_worlds.proofs.Assigned.{Holds, set_at, set_other, set_over}
 use Rattle.fmp_worlds.proofs.CalledLemmas.{keeps-task_call, keeps-handler_call}
 use Rattle.fmp_worlds.proofs.Changes.{SameHandlers, handlers-ended_itself, handlers-same, lines-ended_itself}
 use Rattle.fmp_worlds.proofs.Lines.{IsOwn, all-map}
@@ -359,7 +359,7 @@ module _ {C : Type 0} (sys : SystemTables) (M : Meaning C) where
   abbrev pub LeavesKept : Reaction C → Type 0
   LeavesKept Nothing = Unit {0}
   LeavesKept (Did d) = HasFew d.world.state → AreKept sys d.world
-  LeavesKept (Kept v) = AreKept sys v
+  LeavesKept (Kept p v) = AreKept sys v
 
   abbrev AreKeptTasks : Contexts (Held C) → Type 0
   AreKeptTasks cs = (t : ℕ) → t < length sys.tasks → IsKept cs t
@@ -432,19 +432,24 @@ module _ {C : Type 0} (sys : SystemTables) (M : Meaning C) where
       (no_more w.state o.progress.state f.handlers)
 
   ended-kept : (w : World C) (p : ℕ) (who : Caller) (own : Line) → BeginsNone own → IsActor sys w.state p who → Holds w.state
-      → AreKept sys w → LeavesKept (Did (finished sys M w.contexts (own ∷ []) (actor_ended sys w.state p who)))
+      → AreKept sys w → LeavesKept (Did (ended_with sys M w p who own))
   ended-kept w p (caller.Task t) own n i a k =
       let x = task_at w.state.tasks t in
       let g = actor_ended sys w.state p (caller.Task t) in
-      caused-kept w.state w.contexts own g k.tasks k.handlers n
+      caused-kept w.state (contexts_ended sys M w.contexts p (caller.Task t)) own g
+      (with-tasks w.contexts p (caller.Task t) (Goes (M.start (task_body sys t) (task_config sys t).exinf)) k.tasks) k.handlers n
       (all-map (IsOwn w.state p) BeginsNone g.lines (own-begins_none w.state p) (lines-ended_itself sys w.state p t x i.runs a))
       (no_more w.state g.state (handlers-ended_itself sys w.state p t x))
   ended-kept w p (caller.Handler j) own n i a k =
-      caused-kept w.state w.contexts own (actor_ended sys w.state p (caller.Handler j)) k.tasks k.handlers n tt more where
-        more : RunsNoMore w.state (handler_ended w.state p)
-        more q =
-            set_at idle (λ (c : Processor). IsThere c.handler → IsThere (processor_at w.state q).handler) w.state.processors p _ q
-            (λ e r. absurd r) (λ r. r)
+      caused-kept (handler_ended w.state p) (contexts_ended sys M w.contexts p (caller.Handler j)) own
+      (actor_ended sys w.state p (caller.Handler j)) k.tasks on n tt (λ q r. r) where
+        on : AreKeptOn (contexts_ended sys M w.contexts p (caller.Handler j)) (handler_ended w.state p)
+        on q l =
+            let same = length-set w.contexts.handlers p None in
+            set_over idle
+            (λ (c : Processor). IsThere c.handler → IsKeptOn (contexts_ended sys M w.contexts p (caller.Handler j)) q)
+            w.state.processors p _ q (λ r. absurd r) (λ e r. absurd r)
+            (λ m r. subst OnHandler (sym (set_other None w.contexts.handlers p None q m)) (k.handlers q (omega (arith, l, same)) r))
 
   stretched-kept : (w : World C) (p : ℕ) (who : Caller) (x : Ending C) → IsActor sys w.state p who → Holds w.state
       → AreKept sys w → LeavesKept (stretched sys M w p who x)

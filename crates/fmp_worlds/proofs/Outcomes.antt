@@ -15,6 +15,7 @@ use Rattle.fmp_base.specs.Outcomes.{CallOutcome, refused, succeeds, succeeds_in,
 use Rattle.fmp_base.specs.Settles.{pending_handler}
 use Rattle.fmp_base.specs.States.{KernelState, Progress, unchanged, task_at, processor_at, with_last}
 use Rattle.fmp_base.specs.Systems.{SystemTables}
+use Rattle.fmp_worlds.specs.Spins.{IsLockHeld}
 use Rattle.fmp_worlds.proofs.Assigned.{Fits, Holds, Runs, fits-task, run-once, set_over}
 use Rattle.fmp_worlds.proofs.Changes.{SameActors, SameActorsBeside, SameHandlers, handlers-same}
 use Rattle.fmp_worlds.proofs.Lines.{IsOwn}
@@ -34,7 +35,7 @@ IsEnded (Some t) g = IsReady g.state t → IsTold t g.lines
 -- where K is known of the caller, on processor own; it is the task `who`, or a handler
 pub record Keeps (K : Type 0) (own : ℕ) (who : Option ℕ) (sys : SystemTables) (s : KernelState) (o : CallOutcome) : Type 0 where
   pub settles : K → Holds s → CanSettle sys o.progress.state
-  pub spins : o.answer ≡ Spins → o.progress ≡ unchanged s
+  pub spins : o.answer ≡ Spins → (o.progress ≡ unchanged s) × IsLockHeld sys s
   pub waits : o.answer ≡ Waits → IsAway who o.progress.state
   pub ends : o.answer ≡ Ends → IsEnded who o.progress
   pub actors : SameActorsBeside own s o.progress.state
@@ -64,7 +65,7 @@ module _ {K : Type 0} {own : ℕ} {who : Option ℕ} (sys : SystemTables) (s : K
   keeps-refused e =
       record {
         settles = λ k a. can_settle sys s a;
-        spins = λ h. refl;
+        spins = λ h. cc;
         waits = λ h. cc;
         ends = λ h. cc;
         actors = λ q n. refl;

@@ -17,12 +17,13 @@ use Rattle.fmp_base.specs.Stretches.{Ending}
 use Rattle.fmp_base.specs.Stretches as ends
 use Rattle.fmp_base.specs.Systems.{SystemTables, interrupt_config}
 use Rattle.fmp_base.specs.Ticks.{is_pending}
+use Rattle.fmp_worlds.specs.Stamps.{applied_by, applied_in}
 
 -- what is kept has this state
 abbrev pub KeptIn : {C : Type 0} → KernelState → Reaction C → Type 0
 KeptIn s Nothing = Unit {0}
 KeptIn s (Did d) = Unit {0}
-KeptIn s (Kept v) = v.state ≡ s
+KeptIn s (Kept p v) = v.state ≡ s
 
 module _ {C : Type 0} (sys : SystemTables) (M : Meaning C) where
   answered-in : (s : KernelState) (answer : Answer) (cs : Contexts (Held C)) (p : ℕ) (who : Caller) (c : Call)
@@ -49,6 +50,16 @@ module _ {C : Type 0} (sys : SystemTables) (M : Meaning C) where
   run_by-in n w p None = tt
   run_by-in n w p (Some who) = run_in-in n w p who (context_of w.contexts p who)
 
+  applied_in-in : (w : World C) (p : ℕ) (who : Caller) (o : Option (Held C)) (x : Ending C)
+      → KeptIn w.state (applied_in sys M w p who o x)
+  applied_in-in w p who None x = tt
+  applied_in-in w p who (Some (Awaits c)) x = tt
+  applied_in-in w p who (Some (Goes c)) x = stretched-in w p who x
+
+  pub applied_by-in : (w : World C) (p : ℕ) (o : Option Caller) (x : Ending C) → KeptIn w.state (applied_by sys M w p o x)
+  applied_by-in w p None x = tt
+  applied_by-in w p (Some who) x = applied_in-in w p who (context_of w.contexts p who) x
+
   interrupted-in : (o : Option InterruptConfig) (w : World C) (i : ℕ) → KeptIn w.state (interrupted o sys M w i)
   interrupted-in None w i = tt
   interrupted-in (Some config) w i = by_pending (is_pending w.state.pending_interrupts i) where
@@ -56,12 +67,12 @@ module _ {C : Type 0} (sys : SystemTables) (M : Meaning C) where
     by_pending true = tt
     by_pending false = tt
 
-  step-in : (n : ℕ) (w : World C) (e : Event) → KeptIn w.state (step sys M n w e)
+  pub step-in : (n : ℕ) (w : World C) (e : Event) → KeptIn w.state (step sys M n w e)
   step-in n w (Run zero) = tt
   step-in n w (Run (suc p)) = run_by-in n w p (actor_of (processor_at w.state p))
   step-in n w Tick = tt
   step-in n w (Int zero) = tt
   step-in n w (Int (suc i)) = interrupted-in (interrupt_config sys i) w i
 
-  pub kept-state : (n : ℕ) (w v : World C) (e : Event) → step sys M n w e ≡ Kept v → v.state ≡ w.state
-  kept-state n w v e k = subst (λ (r : Reaction C). KeptIn w.state r) k (step-in n w e)
+  pub kept-state : (n : ℕ) (w v : World C) (e : Event) (p : ℕ) → step sys M n w e ≡ Kept p v → v.state ≡ w.state
+  kept-state n w v e p k = subst (λ (r : Reaction C). KeptIn w.state r) k (step-in n w e)

@@ -13,6 +13,7 @@ use Rattle.fmp_base.specs.States.{KernelState, unchanged, places_from}
 use Rattle.fmp_base.specs.Steps.{Reaction, Done, Nothing, Did, Kept, step}
 use Rattle.fmp_base.specs.Systems.{SystemTables}
 use Rattle.fmp_worlds.specs.Settled.{RunOnce, IsSettled}
+use Rattle.fmp_worlds.specs.Spins.{IsLockHeld}
 use Rattle.fmp_worlds.proofs.Assigned.{run-once}
 use Rattle.fmp_worlds.proofs.CalledLemmas.{keeps-task_call, keeps-handler_call}
 use Rattle.fmp_worlds.proofs.Settling.{can_settle, settled-settles}
@@ -36,9 +37,9 @@ step-settled {C} sys M n w e d h k =
     subst (λ (r : Reaction C). LeavesSettled sys r) k (step-leaves_settled sys M n w e h)
 
 -- and so does each event that keeps a place
-pub kept-settled : {C : Type 0} (sys : SystemTables) (M : Meaning C) (n : ℕ) (w : World C) (e : Event) (v : World C)
-    → IsSettled sys w.state → step sys M n w e ≡ Kept v → IsSettled sys v.state
-kept-settled {C} sys M n w e v h k = subst (λ (r : Reaction C). LeavesSettled sys r) k (step-leaves_settled sys M n w e h)
+pub kept-settled : {C : Type 0} (sys : SystemTables) (M : Meaning C) (n : ℕ) (w : World C) (e : Event) (p : ℕ) (v : World C)
+    → IsSettled sys w.state → step sys M n w e ≡ Kept p v → IsSettled sys v.state
+kept-settled {C} sys M n w e p v h k = subst (λ (r : Reaction C). LeavesSettled sys r) k (step-leaves_settled sys M n w e h)
 
 run_on-settled : {C : Type 0} (sys : SystemTables) (w : World C) (x : Reaction C) (rest : World C → Trace C)
     → IsSettled sys w.state → LeavesSettled sys x
@@ -46,7 +47,7 @@ run_on-settled : {C : Type 0} (sys : SystemTables) (w : World C) (x : Reaction C
     → IsSettled sys (run_on w x rest).world.state
 run_on-settled sys w Nothing rest h k go = go w h
 run_on-settled sys w (Did d) rest h k go = go d.world k
-run_on-settled sys w (Kept v) rest h k go = go v k
+run_on-settled sys w (Kept p v) rest h k go = go v k
 
 -- so does every run
 pub run-settled : {C : Type 0} (sys : SystemTables) (M : Meaning C) (n : ℕ) (w : World C) (es : List Event)
@@ -63,5 +64,11 @@ run-run_once sys M n es = IsSettled-run_once sys _ (run-settled sys M n (setup s
 -- a call that spins has changed nothing and has no line
 pub called-spins : (sys : SystemTables) (s : KernelState) (p : ℕ) (who : Caller) (c : Call)
     → (called sys s p who c).answer ≡ Spins → (called sys s p who c).progress ≡ unchanged s
-called-spins sys s p (caller.Task t) c h = let k = keeps-task_call sys s p t c in k.spins h
-called-spins sys s p (caller.Handler i) c h = let k = keeps-handler_call sys s p i c in k.spins h
+called-spins sys s p (caller.Task t) c h = let k = keeps-task_call sys s p t c in (k.spins h).0
+called-spins sys s p (caller.Handler i) c h = let k = keeps-handler_call sys s p i c in (k.spins h).0
+
+-- and some processor holds a spin lock
+pub called-held : (sys : SystemTables) (s : KernelState) (p : ℕ) (who : Caller) (c : Call)
+    → (called sys s p who c).answer ≡ Spins → IsLockHeld sys s
+called-held sys s p (caller.Task t) c h = let k = keeps-task_call sys s p t c in (k.spins h).1
+called-held sys s p (caller.Handler i) c h = let k = keeps-handler_call sys s p i c in (k.spins h).1

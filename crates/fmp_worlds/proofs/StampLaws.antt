@@ -144,7 +144,7 @@ module _ {C : Type 0} (sys : SystemTables) (M : Meaning C) (n : ℕ) where
         → (run_on w x (λ v. run sys M n v (es ++ fs))).world ≡ (run sys M n (run_on w x (λ v. run sys M n v es)).world fs).world
     by_reaction Nothing rest = rest w
     by_reaction (Did d) rest = rest d.world
-    by_reaction (Kept v) rest = rest v
+    by_reaction (Kept q v) rest = rest v
 
   -- and its stamps count on from those of the first
   pub stamp-append : (w : World C) (es fs : List Event) (p : ℕ)
@@ -157,7 +157,7 @@ module _ {C : Type 0} (sys : SystemTables) (M : Meaning C) (n : ℕ) where
         ≡ counted e w x p + stamp sys M n (world_after w x) es p + stamp sys M n (run_on w x (λ v. run sys M n v es)).world fs p
     by_reaction Nothing rest = let h = rest w in omega (arith, h)
     by_reaction (Did d) rest = let h = rest d.world in omega (arith, h)
-    by_reaction (Kept v) rest = let h = rest v in omega (arith, h)
+    by_reaction (Kept q v) rest = let h = rest v in omega (arith, h)
 
   none_of : (b : Bool) (m : ℕ) → one_if b + m ≡ 0 → (b ≡ false) × (m ≡ 0)
   none_of true m h = absurd (omega (arith, h))
@@ -176,9 +176,9 @@ module _ {C : Type 0} (sys : SystemTables) (M : Meaning C) (n : ℕ) where
         by_reaction (Did d) k y rest =
             let parts = none_of (counts (run_place e) w.state d.world.state p) (stamp sys M n d.world es p) y in
             rest d.world (step-settled sys M n w e d s k) parts.1 (step-keeps_actor sys M n w e (Did d) d.world p a (λ who go. go) s k parts.0 h)
-        by_reaction (Kept v) k y rest =
+        by_reaction (Kept q v) k y rest =
             let parts = none_of (counts (run_place e) w.state v.state p) (stamp sys M n v es p) y in
-            rest v (kept-settled sys M n w e v s k) parts.1 (step-keeps_actor sys M n w e (Kept v) v p a (λ who go. go) s k parts.0 h)
+            rest v (kept-settled sys M n w e q v s k) parts.1 (step-keeps_actor sys M n w e (Kept q v) v p a (λ who go. go) s k parts.0 h)
 
   -- along one run equal stamps of a processor mean the same actor in the same context
   pub equal_stamps : (w : World C) (es fs : List Event) (p : ℕ) (a : Going C) → IsSettled sys (run sys M n w es).world.state

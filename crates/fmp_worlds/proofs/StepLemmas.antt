@@ -16,7 +16,7 @@ use Rattle.fmp_base.specs.declared.systems.InterruptConfig.{InterruptConfig}
 use Rattle.fmp_base.specs.Calls.{called}
 use Rattle.fmp_base.specs.Meanings.{Meaning, Contexts, World, context_of}
 use Rattle.fmp_base.specs.States.{KernelState, Progress, unchanged, task_at, processor_at}
-use Rattle.fmp_base.specs.Steps.{Reaction, Nothing, Did, Kept, finished, actor_by, actor_ended, answered, stretched, run_in, run_by, interrupted, interrupted_by, step}
+use Rattle.fmp_base.specs.Steps.{Reaction, Nothing, Did, Kept, finished, actor_by, actor_ended, contexts_ended, answered, stretched, run_in, run_by, interrupted, interrupted_by, step}
 use Rattle.fmp_base.specs.Stretches.{Ending}
 use Rattle.fmp_base.specs.Stretches as ends
 use Rattle.fmp_base.specs.Systems.{SystemTables, interrupt_config}
@@ -36,7 +36,7 @@ holds sys s h = record { each = λ q t r. record { place = h.assigned q t r; rea
 abbrev pub LeavesSettled : {C : Type 0} → SystemTables → Reaction C → Type 0
 LeavesSettled sys Nothing = Unit {0}
 LeavesSettled sys (Did d) = IsSettled sys d.world.state
-LeavesSettled sys (Kept v) = IsSettled sys v.state
+LeavesSettled sys (Kept p v) = IsSettled sys v.state
 
 -- who is the actor of processor p in a settled state
 abbrev pub IsActor : SystemTables → KernelState → ℕ → Caller → Type 0
@@ -71,9 +71,9 @@ pub stretched-settled : {C : Type 0} (sys : SystemTables) (M : Meaning C) (w : W
 stretched-settled sys M w p who (ends.Call c made) k h =
     answered-settled (called sys w.state p who made).answer sys M _ p who made (called sys w.state p who made).progress (called-can_settle sys w.state p who made k (holds sys w.state h))
 stretched-settled sys M w p who (ends.End c) k h =
-    finished-settled sys M w.contexts (line.End p who ∷ []) (actor_ended sys w.state p who) (ended-can_settle sys w.state p who k (holds sys w.state h))
+    finished-settled sys M (contexts_ended sys M w.contexts p who) (line.End p who ∷ []) (actor_ended sys w.state p who) (ended-can_settle sys w.state p who k (holds sys w.state h))
 stretched-settled sys M w p who (ends.Fault c fault) k h =
-    finished-settled sys M w.contexts (line.Fault p who fault ∷ []) (actor_ended sys w.state p who) (ended-can_settle sys w.state p who k (holds sys w.state h))
+    finished-settled sys M (contexts_ended sys M w.contexts p who) (line.Fault p who fault ∷ []) (actor_ended sys w.state p who) (ended-can_settle sys w.state p who k (holds sys w.state h))
 stretched-settled sys M w p who (ends.Over None) k h = tt
 stretched-settled sys M w p who (ends.Over (Some c)) k h = h
 

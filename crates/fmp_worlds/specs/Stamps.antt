@@ -95,13 +95,13 @@ one_if false = 0
 abbrev pub world_after : {C : Type 0} → World C → Reaction C → World C
 world_after w Nothing = w
 world_after w (Did d) = d.world
-world_after w (Kept v) = v
+world_after w (Kept p v) = v
 
 -- 1 where an event that did this in w counts for the processor at place p, else 0
 abbrev pub counted : {C : Type 0} → Event → World C → Reaction C → (p : ℕ) → ℕ
 counted e w Nothing p = 0
 counted e w (Did d) p = one_if (counts (run_place e) w.state d.world.state p)
-counted e w (Kept v) p = one_if (counts (run_place e) w.state v.state p)
+counted e w (Kept q v) p = one_if (counts (run_place e) w.state v.state p)
 
 -- the stamp of the processor at place p after a run: how many of the events that are done or keep a place counted for it
 abbrev pub stamp : {C : Type 0} → SystemTables → Meaning C → (bound : ℕ) → World C → List Event → (p : ℕ) → ℕ

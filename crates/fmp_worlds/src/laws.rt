@@ -15,6 +15,7 @@ ghost use Rattle.fmp_base.specs.Steps.{Done, Did, Kept, actor_of, step};
 ghost use Rattle.fmp_base.specs.Stretches.{Ending};
 ghost use Rattle.fmp_base.specs.Systems.{SystemTables};
 ghost use Rattle.fmp_worlds.specs.Settled.{RunOnce, IsSettled};
+ghost use Rattle.fmp_worlds.specs.Spins.{IsLockHeld};
 ghost use Rattle.fmp_worlds.specs.Stamps.{EndsSo, Going, actor_at, applied, stamp};
 
 /// Setup leaves a settled state, and so does each event that is done in one. An event that keeps a place changes nothing
@@ -23,8 +24,8 @@ pub fn worlds_are_settled<C>()
     ensures setup { (sys : SystemTables) (M : Meaning C) → IsSettled sys (setup sys M).world.state }
     ensures step { (sys : SystemTables) (M : Meaning C) (n : ℕ) (w : World C) (e : Event) (d : Done C) →
         IsSettled sys w.state → step sys M n w e ≡ Did d → IsSettled sys d.world.state }
-    ensures kept { (sys : SystemTables) (M : Meaning C) (n : ℕ) (w v : World C) (e : Event) →
-        step sys M n w e ≡ Kept v → v.state ≡ w.state }
+    ensures kept { (sys : SystemTables) (M : Meaning C) (n : ℕ) (w v : World C) (e : Event) (p : ℕ) →
+        step sys M n w e ≡ Kept p v → v.state ≡ w.state }
 {}
 
 /// In a settled state no task is run by two processors.
@@ -45,9 +46,12 @@ pub fn actors_await_nothing<C>()
         context_of (run sys M n (setup sys M).world es).world.contexts p who ≡ Some (Awaits c) → ⊥ }
 {}
 
-/// A call that finds its spin lock held, so that its caller spins, has changed nothing and has no line.
+/// A call that finds its spin lock held, so that its caller spins, has changed nothing and has no line. The system has
+/// spin locks then, and some processor holds one.
 pub fn spinning_changes_nothing()
-    ensures { (sys : SystemTables) (s : KernelState) (p : ℕ) (who : Caller) (c : Call) →
+    ensures held { (sys : SystemTables) (s : KernelState) (p : ℕ) (who : Caller) (c : Call) →
+        (called sys s p who c).answer ≡ Spins → IsLockHeld sys s }
+    ensures unchanged { (sys : SystemTables) (s : KernelState) (p : ℕ) (who : Caller) (c : Call) →
         (called sys s p who c).answer ≡ Spins → (called sys s p who c).progress ≡ unchanged s }
 {}
 

@@ -18,7 +18,7 @@ use std::test::Fail;
 fn step<B: Body>(kernel: &mut Kernel<B>, e: Event) -> Effect
     ensures { kernel.new.system ≡ kernel.old.system }
 {
-    if kernel.done() < 1_048_576 {
+    if kernel.taken() < 1_048_576 {
         kernel.step(e)
     } else {
         Effect::Nothing

@@ -35,7 +35,7 @@ fn loaded(alloc: Global, bytes: &[u8]) -> Result<Image, Fail> {
 
 /// One event, where the kernel still takes one.
 fn step<B: Body>(kernel: &mut Kernel<B>, event: Event) -> Effect {
-    if kernel.done() < 1_048_576 {
+    if kernel.taken() < 1_048_576 {
         kernel.step(event)
     } else {
         Effect::Nothing

@@ -31,7 +31,7 @@ loop-turn-init g c =
     }
 
 pub next-requires-clause-few : goal.next-requires-clause-few
-next-requires-clause-few g c = omega (arith, c.loop-turn.invariant.ran.done, c.loop-turn.invariant.count)
+next-requires-clause-few g c = omega (arith, c.loop-turn.invariant.ran.taken, c.loop-turn.invariant.count)
 
 pub next-requires-clause-tasks : goal.next-requires-clause-tasks
 next-requires-clause-tasks g c = rw c.loop-turn.invariant.ran.system c.requires.tasks

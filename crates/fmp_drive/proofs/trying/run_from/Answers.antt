@@ -3,5 +3,5 @@ use Rattle.fmp_drive.proofs.trying.run_from.Goals as goal
 
 pub returns : goal.returns
 returns g c =
-    processor_steps g.B.Body.meaning c.first_done.result c.args.kernel.now c.first_done.new.kernel c.args.processors c.args.first
-    c.requires.first c.first_done.ensures
+    processor_steps g.B.Body.meaning c.first_taken.result c.args.kernel.now c.first_taken.new.kernel c.args.processors c.args.first
+    c.requires.first c.first_taken.ensures

@@ -16,7 +16,7 @@ invariant-loop-event g l =
       system : l.kernel.system ≡ tables_of l.sys;
       short : vec_len l.text < 65536;
       room : vec_capacity l.fn.text ≤ vec_capacity l.text;
-      few : l.kernel.done + length (g.E.Events.left l.events) ≤ 2 ^ 20;
+      few : l.kernel.taken + length (g.E.Events.left l.events) ≤ 2 ^ 20;
     }
 
 abbrev pub decreases-loop-event : goal.decreases-loop-event

@@ -8,5 +8,5 @@ invariant-loop-e g l =
     record {
       shown : (last : _) → HasShown g.V.Viewer.shown l.viewer (frames_of g.B.Body.meaning l.kernel (drop l.e-index l.events)) last
           → HasShown g.V.Viewer.shown l.fn.viewer (frames_of g.B.Body.meaning l.fn.kernel l.events) last;
-      few : l.kernel.done + length l.events ≤ 2 ^ 20 + l.e-index;
+      few : l.kernel.taken + length l.events ≤ 2 ^ 20 + l.e-index;
     }

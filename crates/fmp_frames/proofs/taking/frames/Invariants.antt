@@ -11,6 +11,6 @@ invariant-loop-e g l =
           ≡ frames_of g.B.Body.meaning l.fn.kernel l.events;
       after : view_after_all g.B.Body.meaning l.kernel (drop l.e-index l.events) ≡ view_after_all g.B.Body.meaning l.fn.kernel l.events;
       system : l.kernel.system ≡ l.fn.kernel.system;
-      count : l.kernel.done ≤ l.fn.kernel.done + l.e-index;
-      few : l.kernel.done + length l.events ≤ 2 ^ 20 + l.e-index;
+      count : l.kernel.taken ≤ l.fn.kernel.taken + l.e-index;
+      few : l.kernel.taken + length l.events ≤ 2 ^ 20 + l.e-index;
     }

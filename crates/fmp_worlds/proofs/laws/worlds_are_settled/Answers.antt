@@ -9,4 +9,4 @@ pub returns-clause-step : goal.returns-clause-step
 returns-clause-step g c sys M n w e d h k = step-settled sys M n w e d h k
 
 pub returns-clause-kept : goal.returns-clause-kept
-returns-clause-kept g c sys M n w v e k = kept-state sys M n w v e k
+returns-clause-kept g c sys M n w v e p k = kept-state sys M n w v e p k

@@ -13,7 +13,7 @@ invariant_of-result g c =
     let world = ap (λ (d : Done _). d.world) c.set_up.ensures.after in
     let whole = rw (world, c.set_up.ensures.bodies.system) at c.world_is_whole.ensures in
     let settled = subst (λ (w : World _). IsSettledWorld r.system w) (sym world) (setup-settled_world r.system M whole) in (
-      record { time = omega (arith, c.set_up.ensures.clock); early = omega arith },
+      record { time = omega (arith, c.set_up.ensures.clock); few = omega arith; early = omega arith },
       rw c.set_up.ensures.bodies.system settled,
       stamps_begin c.in_ok-stamps.stamps _ _ c.in_ok-stamps.ensures.counts c.in_ok-stamps.ensures.actors,
     )

@@ -1,6 +1,6 @@
 use Rattle.std.proofs.Common.{◌≡◌, ◌≤◌}
 use Rattle.fmp_drive.specs.Driving.{AllStand}
-use Rattle.fmp_drive.proofs.trying.first_done.Given as goal
+use Rattle.fmp_drive.proofs.trying.first_taken.Given as goal
 
 abbrev pub invariant-loop-number : goal.invariant-loop-number
 invariant-loop-number g l =

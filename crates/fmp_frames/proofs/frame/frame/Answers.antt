@@ -1,12 +1,12 @@
-use Rattle.std.proofs.Common.{◌∙◌, ap, rules}
+use Rattle.std.proofs.Common.{◌∙◌, refl, ap, rules}
 use Rattle.fmp_frames.proofs.FrameLemmas.{same-frame}
-use Rattle.fmp_frames.proofs.frame.last_frame.Goals as goal
+use Rattle.fmp_frames.proofs.frame.frame.Goals as goal
 
 pub returns : goal.returns
 returns g c =
     let state = c.tables-tables.ensures.state in
     let system = c.tables-tables.ensures.system in
-    same-frame _ _ (search rules) (c.clock.ensures.value ∙ ap (λ s. s.clock) state) c.in_ok-states.ensures
+    same-frame _ _ (search rules) refl (c.clock.ensures.value ∙ ap (λ s. s.clock) state) c.in_ok-states.ensures
     (rw (system, state) at c.in_ok-blocks.ensures)
     (rw (system, state) at c.in_ok-processors.ensures)
     (rw (system, state) at c.in_ok-semaphores.ensures)

@@ -1,6 +1,6 @@
 use Rattle.std.proofs.Common.{arith, refl, sym, ◌∙◌}
-use Rattle.fmp_drive.proofs.DriveLemmas.{done_step, stand_end, stand_step}
-use Rattle.fmp_drive.proofs.trying.first_done.Goals as goal
+use Rattle.fmp_drive.proofs.DriveLemmas.{done_step, kept_step, stand_end, stand_step}
+use Rattle.fmp_drive.proofs.trying.first_taken.Goals as goal
 
 pub loop-number-init : goal.loop-number-init
 loop-number-init g c = record { same = refl; from = omega arith; stand = λ m low high. absurd (omega (arith, low, high)) }
@@ -16,6 +16,19 @@ pub returns-in-Done : goal.returns-in-Done
 returns-in-Done g c = (
   done_step g.B.Body.meaning c.args.kernel.now c.loop-number.kernel c.step.new.self _ c.loop-number.invariant.same
       (sym c.in-Done.is ∙ c.step.ensures.effect) c.step.ensures.state,
+  record {
+    number = c.loop-number.number;
+    first_on = c.loop-number.invariant.from;
+    in_front = c.loop-number-test.true;
+    event = c.event_of-e.ensures;
+    others = c.loop-number.invariant.stand;
+  },
+)
+
+pub returns-in-Kept : goal.returns-in-Kept
+returns-in-Kept g c = (
+  kept_step g.B.Body.meaning c.args.kernel.now c.loop-number.kernel c.step.new.self _ c.loop-number.invariant.same
+      (sym c.in-Kept.is ∙ c.step.ensures.effect) c.step.ensures.state,
   record {
     number = c.loop-number.number;
     first_on = c.loop-number.invariant.from;
