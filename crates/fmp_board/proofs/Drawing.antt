@@ -17,7 +17,7 @@ use Rattle.fmp_instructions.specs.Instructions.{BodyTables}
 use Rattle.fmp_instructions.specs.Machine.{code_meaning}
 use Rattle.fmp_image_bytes.specs.Images.{ImageTables}
 use Rattle.fmp_kernel.specs.declared.actors.Actor.{Actor}
-use Rattle.fmp_kernel.specs.KernelViews.{HasNoActor, KernelView, actor_in, with_stamp}
+use Rattle.fmp_kernel.specs.KernelViews.{HasNoActor, KernelView, actor_in, stamp_of, with_stamp}
 use Rattle.fmp_journal.specs.declared.entry.JournalEntry.{JournalEntry}
 use Rattle.fmp_journal.specs.Seats.{events}
 use Rattle.fmp_worlds.specs.Stamps.{EndsSo, Going, actor_at, applied, stamp}
@@ -53,6 +53,16 @@ is_stamped stamp (Some g) a h =
       goes = ap (λ (x : Actor MachineContext). Some (going_of x)) same;
       stamp_is = ap (λ (x : Actor MachineContext). x.stamp) same;
     }
+
+-- an actor that has a stamp
+pub stamp_found : (o : Option (Actor MachineContext)) (stamp : ℕ) → stamp_of o ≡ Some stamp
+    → (a : Actor MachineContext) × (o ≡ Some a) × (a.stamp ≡ stamp)
+stamp_found None stamp h = absurd (cc h)
+stamp_found (Some a) stamp h = (a, refl, cc h)
+
+pub no_stamp : (o : Option (Actor MachineContext)) → stamp_of o ≡ None → o ≡ None
+no_stamp None h = refl
+no_stamp (Some a) h = absurd (cc h)
 
 -- to hand in the stretch of the actor of a processor is to run the processor
 applied_runs : (k : Kernels) (p : ℕ) (a : Actor MachineContext) (x : Ending MachineContext) → actor_in k p ≡ Some a

@@ -67,7 +67,8 @@ impl<'a> Ticket<'a> {
             image: Snapshot::of(image),
             bound,
             processor,
-            actor,
+            actor: Snapshot::of(&actor),
+            stamp: actor.stamp,
             stretch,
         }
     }
@@ -80,23 +81,25 @@ pub struct Outcome {
     image: Snapshot<Image>,
     bound: u64,
     processor: u8,
-    actor: Actor<MachineContext>,
+    actor: Snapshot<Actor<MachineContext>>,
+    stamp: u32,
     stretch: Stretch<MachineContext>,
 }
 
 impl Model for Outcome {
+    ghost use Rattle.std.specs.Prelude.{◌≡◌};
     ghost use Rattle.fmp_base.specs.Stretches.{ending};
     ghost use Rattle.fmp_board.specs.Outcomes.{OutcomeState, IsOutcome};
 
     ghost Value = { OutcomeState };
 
     ghost view = { λ o. record {
-      ticket = record { image = o.image.value; bound = o.bound; processor = o.processor; actor = o.actor };
+      ticket = record { image = o.image.value; bound = o.bound; processor = o.processor; actor = o.actor.value };
       ending = ending o.stretch;
     } };
 
-    ghost invariant = { λ o. IsOutcome (record {
-      ticket = record { image = o.image.value; bound = o.bound; processor = o.processor; actor = o.actor };
+    ghost invariant = { λ o. (o.stamp ≡ o.actor.value.stamp) × IsOutcome (record {
+      ticket = record { image = o.image.value; bound = o.bound; processor = o.processor; actor = o.actor.value };
       ending = ending o.stretch;
     }) };
 }
@@ -113,10 +116,11 @@ impl Outcome {
         self.processor
     }
 
-    pub(crate) fn actor(&self) -> Actor<MachineContext>
-        ensures { result ≡ self.now.ticket.actor }
+    /// The stamp of that processor when the ticket was drawn.
+    pub(crate) fn stamp(&self) -> u32
+        ensures { result ≡ self.now.ticket.actor.stamp }
     {
-        self.actor
+        self.stamp
     }
 
     pub(crate) fn stretch(&self) -> Stretch<MachineContext>

@@ -38,8 +38,8 @@ impl<'a, S: Site> Book<'a, S> {
             (stamp_after S.image S.bound self.now.journal outcome.now.ticket.processor
             ≢ outcome.now.ticket.actor.stamp) }
     {
-        match self.kernel.actor(outcome.processor()) {
-            Some(actor) => actor.stamp == outcome.actor().stamp,
+        match self.kernel.stamp(outcome.processor()) {
+            Some(stamp) => stamp == outcome.stamp(),
             None => false,
         }
     }

@@ -149,6 +149,11 @@ abbrev pub actor_in : {B C : Type 0} → KernelView B C → ℕ → Option (Acto
 actor_in k zero = None
 actor_in k (suc p) = with_stamp (get_or k.stamps p 0) (actor_at k.system k.world p)
 
+-- the stamp that an actor has
+abbrev pub stamp_of : {C : Type 0} → Option (Actor C) → Option ℕ
+stamp_of None = None
+stamp_of (Some a) = Some a.stamp
+
 -- the processor of this number is not there, or neither a handler nor a task runs on it
 abbrev pub HasNoActor : {B C : Type 0} → KernelView B C → ℕ → Type 0
 HasNoActor k zero = Unit {0}

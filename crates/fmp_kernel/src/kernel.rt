@@ -7,7 +7,7 @@ ghost use Rattle.fmp_base.specs.Steps.{effect_of, step};
 ghost use Rattle.fmp_base.specs.Stretches.{ending};
 ghost use Rattle.fmp_base.specs.Systems.{tables_of};
 ghost use Rattle.fmp_contexts.specs.Contexts.{Entered, IsFor};
-ghost use Rattle.fmp_kernel.specs.KernelViews.{HasNoActor, actor_in, view_after, view_of_setup};
+ghost use Rattle.fmp_kernel.specs.KernelViews.{HasNoActor, actor_in, stamp_of, view_after, view_of_setup};
 ghost use Rattle.fmp_worlds.specs.Settled.{RunOnce};
 ghost use Rattle.fmp_worlds.specs.Stamps.{actor_at_number, applied};
 
@@ -151,6 +151,17 @@ impl<B: Body> Kernel<B> {
             return None;
         }
         self.runner.actor(p - 1, self.stamps.stamp(p - 1))
+    }
+
+    /// The stamp of the actor of the processor of this number, from 1, as `actor` gives it, without its context. None
+    /// where that gives none.
+    pub fn stamp(&self, p: u8) -> Option<u32>
+        ensures { result ≡ stamp_of (actor_in self.now p) }
+    {
+        if p == 0 {
+            return None;
+        }
+        self.runner.stamp(p - 1, self.stamps.stamp(p - 1))
     }
 
     /// One event, while fewer than 2^20 were taken: what it does. If it is done, its lines and the state after it stand

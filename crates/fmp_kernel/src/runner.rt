@@ -8,7 +8,7 @@ ghost use Rattle.fmp_base.specs.Settles.{is_same_task as is_same_place};
 ghost use Rattle.fmp_base.specs.Steps.{actor_of, finished};
 ghost use Rattle.fmp_base.specs.Systems.{tables_of};
 ghost use Rattle.fmp_contexts.specs.Contexts.{Entered};
-ghost use Rattle.fmp_kernel.specs.KernelViews.{SameBodies, done_of, progress_of, with_stamp};
+ghost use Rattle.fmp_kernel.specs.KernelViews.{SameBodies, done_of, progress_of, stamp_of, with_stamp};
 ghost use Rattle.fmp_kernel.specs.Stamps.{AreActors, AreCounted, is_given};
 ghost use Rattle.fmp_worlds.specs.Settled.{IsWorldOf};
 ghost use Rattle.fmp_worlds.specs.Stamps.{actor_at, place_run as place_of_lines};
@@ -180,6 +180,19 @@ impl<B: Body> Runner<B> {
             context: *context,
             stamp,
         })
+    }
+
+    /// The stamp of the actor of processor p, with this stamp: None where `actor` gives none.
+    #[tactic(auto, using(crate::proofs::ActorNone::stamp_goes))]
+    pub fn stamp(&self, p: u8, stamp: u32) -> Option<u32>
+        ensures { result ≡ stamp_of (with_stamp stamp (actor_at self.now.system self.now.world p)) }
+    {
+        let who = actor_on(&self.tables, p)?;
+        if self.contexts.goes(p, who) {
+            Some(stamp)
+        } else {
+            None
+        }
     }
 
     /// Stamps 0 of the processors, with the actors that they have. `AllocError` if memory runs out.
