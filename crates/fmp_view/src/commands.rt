@@ -84,7 +84,7 @@ fn tallied<B: Body>(
     kernel: &mut Kernel<B>,
     events: &[Event],
 ) -> Result<Tallies, AllocError>
-    requires { kernel.old.done + length events.now ≤ 2 ^ 20 }
+    requires { kernel.old.taken + length events.now ≤ 2 ^ 20 }
     ensures { IfOk result (λ tallies. WasShown (λ x f. counts_of x ≡ first_counts f)
         ⟦<Tallies as Viewer>⟧.shown B.meaning kernel.old events.now tallies) }
 {
@@ -102,7 +102,7 @@ fn table_on<B: Body>(
     kernel: &mut Kernel<B>,
     events: &[Event],
 ) -> Result<Vec<u8>, AllocError>
-    requires { kernel.old.done + length events.now ≤ 2 ^ 20 }
+    requires { kernel.old.taken + length events.now ≤ 2 ^ 20 }
 {
     let tallies = tallied(alloc, kernel, events)?;
     let mut out = Vec::new(alloc);
@@ -118,7 +118,7 @@ fn waved<B: Body>(
     kernel: &mut Kernel<B>,
     events: &[Event],
 ) -> Result<Waves, AllocError>
-    requires { kernel.old.done + length events.now ≤ 2 ^ 20 }
+    requires { kernel.old.taken + length events.now ≤ 2 ^ 20 }
     ensures { IfOk result (λ waves. WasShown (λ x f. x.values.items ≡ values_of f x.variables.items)
         ⟦<Waves as Viewer>⟧.shown B.meaning kernel.old events.now waves) }
 {
@@ -136,7 +136,7 @@ fn dump_on<B: Body>(
     kernel: &mut Kernel<B>,
     events: &[Event],
 ) -> Result<Vec<u8>, AllocError>
-    requires { kernel.old.done + length events.now ≤ 2 ^ 20 }
+    requires { kernel.old.taken + length events.now ≤ 2 ^ 20 }
 {
     waved(alloc, sys, kernel, events)?.finish()
 }

@@ -28,7 +28,7 @@ fn driven_on<B: Body>(
     events: u32,
     seed: Option<u64>,
 ) -> Result<Driven, AllocError>
-    requires few { kernel.old.done + events ≤ 2 ^ 20 }
+    requires few { kernel.old.taken + events ≤ 2 ^ 20 }
     requires one { 1 ≤ sys.now.processors }
     requires eight { sys.now.processors ≤ 8 }
     ensures { IfOk result

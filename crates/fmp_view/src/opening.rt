@@ -39,7 +39,7 @@ pub fn fresh_kernel<'a>(
 ) -> Result<Kernel<Vm<'a>>, AllocError>
     requires low { 1 ≤ n }
     requires high { n ≤ 2 ^ 48 }
-    ensures { IfOk result (λ kernel. kernel.done ≡ 0) }
+    ensures { IfOk result (λ kernel. kernel.taken ≡ 0) }
 {
     kernel_of(alloc, image, n)
 }

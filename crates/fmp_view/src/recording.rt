@@ -88,6 +88,19 @@ impl<'a> Recorder<'a> {
         Ok(())
     }
 
+    /// A stretch that reached its bound on this processor, and kept its place: the lanes show the tasks as they did, and
+    /// the processor goes on without an event.
+    fn record_kept(&mut self, alloc: Global, frame: &Frame, processor: u8) -> Result<(), AllocError>
+        ensures { OnOk result (self.new.shown.items
+            ≡ spec.tasks_shown frame.now.states.items frame.now.blocks.items frame.now.processors.items) }
+    {
+        self.take_turns();
+        let shown = tasks_shown(alloc, &frame.states, &frame.blocks, &frame.processors)?;
+        self.run.turn_in_vain(processor);
+        self.shown = shown;
+        Ok(())
+    }
+
     /// The whole run.
     pub fn finish(mut self) -> Run {
         self.take_turns();
@@ -100,6 +113,9 @@ impl Viewer for Recorder<'_> {
 
     /// One event more: what the lanes show of the tasks is what the frame says of them.
     fn show(&mut self, alloc: Global, frame: &Frame) -> Result<(), AllocError> {
-        self.record(alloc, frame)
+        match frame.kept {
+            Some(processor) => self.record_kept(alloc, frame, processor),
+            None => self.record(alloc, frame),
+        }
     }
 }

@@ -42,7 +42,7 @@ fn recorded<'a, B: Body>(
     objects: bool,
     turns: &'a [IdleTurn],
 ) -> Result<Recorder<'a>, AllocError>
-    requires { kernel.old.done + length events.now ≤ 2 ^ 20 }
+    requires { kernel.old.taken + length events.now ≤ 2 ^ 20 }
     ensures { IfOk result (λ recorder. WasShown
         (λ x f. x.shown.items ≡ tasks_shown f.states f.blocks f.processors)
         ⟦<Recorder<'a> as Viewer>⟧.shown B.meaning kernel.old events.now recorder) }
@@ -63,7 +63,7 @@ fn run_on<B: Body>(
     objects: bool,
     turns: &[IdleTurn],
 ) -> Result<Run, AllocError>
-    requires { kernel.old.done + length events.now ≤ 2 ^ 20 }
+    requires { kernel.old.taken + length events.now ≤ 2 ^ 20 }
 {
     let recorder = recorded(alloc, sys, kernel, events, objects, turns)?;
     Ok(recorder.finish())

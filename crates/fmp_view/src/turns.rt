@@ -5,8 +5,7 @@ use fmp_base::{Effect, Event};
 use fmp_kernel::{Body, Kernel};
 use std::alloc::{AllocError, Global};
 
-/// A turn of a processor that does nothing: nothing runs there, or its actor spins for a spin lock or exceeds its
-/// bound.
+/// A turn of a processor that does nothing: nothing runs there, or its actor spins for a spin lock.
 #[derive(Clone, Copy, PartialEq, Eq)]
 pub struct IdleTurn {
     /// The last event before it.
@@ -37,12 +36,13 @@ pub fn idle_turns<B: Body>(
     kernel: &mut Kernel<B>,
     events: &[Event],
 ) -> Result<Vec<IdleTurn>, AllocError>
-    requires { kernel.old.done + length events.now ≤ 2 ^ 20 }
+    requires { kernel.old.taken + length events.now ≤ 2 ^ 20 }
 {
     let mut turns = Vec::new(alloc);
     for e in events {
         match kernel.step(*e) {
             Effect::Done => {}
+            Effect::Kept => {}
             Effect::Nothing => note(&mut turns, kernel.done(), *e)?,
         }
     }
