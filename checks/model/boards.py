@@ -8,7 +8,8 @@ each of them by 1 to 64 seats, of which up to three follow the row while others 
 last one reads the finished row. It must hold that:
 
 - the journal that it writes is not longer than its room, and each event of it does something in kernel.py, which is
-  written from the rules of the kernel and shares nothing with the programs;
+  written from the rules of the kernel and shares nothing with the programs, or keeps a place there, for every other
+  system runs at a bound of 1 to 200, which cuts stretches short;
 - `fmp sim` prints over the journal what the model prints;
 - what each follower read is the journal, and what it printed while the others called is what the simulation prints
   before the states; what each other seat read is the journal; no read missed an event that its seat had seen;
@@ -29,7 +30,10 @@ from pathlib import Path
 sys.dont_write_bytecode = True  # the folders of the checks stay as they are
 sys.path[0] = str(Path(__file__).resolve().parents[1])  # the folder `checks`, whose folders are packages
 
-from model.harness import BOUND, PROCESSORS, expect, expect_same, main, replayed  # noqa: E402
+from model.harness import BOUND, PROCESSORS, bound_of, expect, expect_same, main, replayed  # noqa: E402
+
+GREATEST_CUT = 200  # the greatest bound that cuts stretches short
+
 
 @dataclass
 class Plan:
@@ -41,13 +45,14 @@ class Plan:
     turns: int
     ticks: int
     capacity: int
+    bound: int
     seed: int
 
     def words(self):
         return " ".join(f"--{name} {value}" for name, value in vars(self).items())
 
 
-LONG = Plan(seats=64, followers=3, share=2, turns=10_000, ticks=1000, capacity=1 << 20, seed=1)
+LONG = Plan(seats=64, followers=3, share=2, turns=10_000, ticks=1000, capacity=1 << 20, bound=BOUND, seed=1)
 
 
 def plan(random, seed):
@@ -56,12 +61,13 @@ def plan(random, seed):
     return Plan(
         seats=seats, followers=min(random.randint(0, 3), max(0, seats - 2)), share=random.choice((1, 1, 2, 3, 8)),
         turns=random.randint(1, 600 // seats + 2), ticks=random.randint(0, 30),
-        capacity=random.choice((1 << 20, 1 << 20, 1 << 20, random.randint(1, 300))), seed=seed)
+        capacity=random.choice((1 << 20, 1 << 20, 1 << 20, random.randint(1, 300))),
+        bound=bound_of(seed, GREATEST_CUT), seed=seed)
 
 
 def stress(trial, shared):
     """Hosts the image by seats: what the program counted."""
-    printed, _ = trial.run("fmp_stress", f"system.img system.journal --bound {BOUND} {shared.words()}")
+    printed, _ = trial.run("fmp_stress", f"system.img system.journal {shared.words()}")
     return Counter({name: int(number) for name, number in map(str.split, printed.splitlines())})
 
 
@@ -93,7 +99,7 @@ def host(trial, shared):
     journal = text.splitlines()
     expect_told(told, shared, journal)
     told += Counter({"followers": shared.followers, "ticks": journal.count("tick")})
-    printed = trial.simulated("system.journal")
+    printed = trial.simulated("system.journal", shared.bound)
     for number in range(1, shared.followers + 1):
         expect_followed(trial, f"system.journal.{number}", text, printed)
     return told, journal, printed
@@ -103,8 +109,10 @@ def host_one(trial, generator, seed):
     """Hosts one random system: what was counted."""
     case = generator.case()
     trial.build_case(case)
-    told, journal, printed = host(trial, plan(generator.random, seed))
-    expect_same("the simulation of the journal beside the model", printed, replayed(case, journal).text())
+    shared = plan(generator.random, seed)
+    told, journal, printed = host(trial, shared)
+    model = replayed(case, shared.bound, journal)
+    expect_same("the simulation of the journal beside the model", printed, model.text())
     return told
 
 

@@ -4,9 +4,9 @@
     checks/model/compare.py [COUNT] [SEED] [--program PATH]
 
 makes COUNT systems (2000), one from each seed from SEED (1) on: a configuration of one to eight processors, the
-bodies of its tasks and handlers and a list of events. The program builds and runs each. Its whole trace and the
-states at the end must be those of kernel.py, which is written from the rules of the kernel and shares nothing
-with the program.
+bodies of its tasks and handlers and a list of events. The program builds and runs each, every other one at a bound of 1
+to 40, which cuts most stretches short. Its whole trace and the states at the end must be those of kernel.py, which is
+written from the rules of the kernel and shares nothing with the program.
 
 Where all agree it prints how much was compared and which replies and situations never came up. At the first
 difference it prints the seed, the first line that differs and the folder that keeps the texts, and its status is 1.
@@ -21,16 +21,18 @@ from pathlib import Path
 sys.dont_write_bytecode = True  # the folders of the checks stay as they are
 sys.path[0] = str(Path(__file__).resolve().parents[1])  # the folder `checks`, whose folders are packages
 
-from model.harness import expect_same, main  # noqa: E402
+from model.harness import bound_of, expect_same, main  # noqa: E402
 from model.kernel import Kernel  # noqa: E402
 from model.replies import CASES, SITUATIONS  # noqa: E402
 
+GREATEST_CUT = 40  # the greatest bound that cuts stretches short
 
-def run_model(generator, case):
+
+def run_model(generator, case, bound):
     """The model after random events, and these."""
-    kernel = Kernel(case.system)
+    kernel = Kernel(case.system, bound)
     events = []
-    for _ in range(case.event_count):
+    for _ in range(case.event_count * (1 if bound > GREATEST_CUT else 3)):
         events.append(generator.event(kernel.world))
         kernel.step(events[-1])
     return kernel, events
@@ -55,12 +57,12 @@ def report(count, events, calls, situations):
 def compare(trial):
     """Compares the program with the model on each system."""
     events, calls, situations = 0, Counter(), Counter()
-    for _, generator in trial.systems():
-        case = generator.case()
-        kernel, steps = run_model(generator, case)
+    for seed, generator in trial.systems():
+        case, bound = generator.case(), bound_of(seed, GREATEST_CUT)
+        kernel, steps = run_model(generator, case, bound)
         trial.build_case(case)
         trial.write("system.steps", "".join(f"{step}\n" for step in steps))
-        expect_same("the trace beside that of the model", trial.simulated("system.steps"), kernel.text())
+        expect_same("the trace beside that of the model", trial.simulated("system.steps", bound), kernel.text())
         events += kernel.world.event
         calls += kernel.calls
         situations += kernel.world.situations

@@ -1,7 +1,8 @@
 #!/usr/bin/env python3
-"""Drives random systems, and runs each of them over the steps that the drive prints: each step does something, so the
-trace has as many events as there are steps; and a drive that stops before the number of events asked for is done stops
-where no processor goes on, so that to run any of them once more does nothing.
+"""Drives random systems, and runs each of them over the steps that the drive prints: each step does something in
+kernel.py, or keeps a place there, for every other system runs at bound 7, and the program prints what the model prints;
+and a drive that stops before the number of events asked for is taken stops where no processor goes on, so that to run
+any of them once more does nothing.
 
     checks/model/drives.py [COUNT [SEED]] [--view PATH] [--program PATH]
 """
@@ -12,33 +13,31 @@ from pathlib import Path
 sys.dont_write_bytecode = True  # the folders of the checks stay as they are
 sys.path[0] = str(Path(__file__).resolve().parents[1])  # the folder `checks`, whose folders are packages
 
-from model.harness import BOUND, expect, main  # noqa: E402
+from model.harness import BOUND, expect, expect_same, main, replayed  # noqa: E402
 
 EVENTS = 80
+CUT = 7  # the bound that cuts stretches short
 
 
-def events_of(trace):
-    """The number of the last event of a trace, which the states of the tasks end."""
-    numbers = [line.split(" ", 1)[0] for line in trace.splitlines()]
-    return max(int(number) for number in numbers if number.isdigit())
-
-
-def simulated(trial, text):
+def simulated(trial, text, bound):
     """The trace of the image over this steps text."""
     trial.write("driven.steps", text)
-    return trial.simulated("driven.steps")
+    return trial.simulated("driven.steps", bound)
 
 
-def drive(trial, order, processors):
+def drive(trial, case, bound, order):
     """Drives the image in an order, which is an option or nothing, and runs it over the steps."""
-    text, why = trial.run("fmp_view", f"drive system.img --events {EVENTS} --bound {BOUND} {order}")
+    text, why = trial.run("fmp_view", f"drive system.img --events {EVENTS} --bound {bound} {order}")
     steps, is_quiet = text.count("\n"), why.startswith("quiet")
-    trace = simulated(trial, text)
     name = f"the drive {order or 'in turn'}"
-    expect(events_of(trace) == steps, f"{name}: {steps} steps make {events_of(trace)} events")
     expect(steps <= EVENTS and (steps == EVENTS) != is_quiet, f"{name}: {steps} steps, and it says {why!r}")
-    again = text + "".join(f"run {number}\n" for number in range(1, processors + 1))
-    expect(not is_quiet or simulated(trial, again) == trace, f"{name}: a processor goes on where it says 'quiet'")
+    model = replayed(case, bound, text.splitlines())
+    expect_same(f"{name} beside the model", simulated(trial, text, bound), model.text())
+    again = "".join(f"run {number}\n" for number in range(1, case.system.processor_count + 1))
+    for event in again.splitlines() if is_quiet else ():
+        model.step(event)
+    goes_on = model.taken > steps or is_quiet and simulated(trial, text + again, bound) != model.text()
+    expect(not goes_on, f"{name}: a processor goes on where it says 'quiet'")
 
 
 def check(trial):
@@ -48,7 +47,7 @@ def check(trial):
         case = generator.case()
         trial.build_case(case)
         for order in ("", f"--seed {seed}"):
-            drive(trial, order, case.system.processor_count)
+            drive(trial, case, CUT if seed % 2 else BOUND, order)
             count += 1
     print(f"checks/model/drives.py: {count} drives of {trial.count} systems are right")
 

@@ -3,6 +3,7 @@ programs in it, the comparison of what they print, and how the first fault is to
 """
 
 import argparse
+import random
 import shutil
 import subprocess
 import tempfile
@@ -13,7 +14,7 @@ from common.program import located
 from model.kernel import Kernel
 from model.systems import NEWEST, Generator
 
-BOUND = 10_000  # enough for every stretch of a random body that comes to a call
+BOUND = 10_000  # enough for every stretch of a random body that comes to a call, and so the greatest of a trial
 SECONDS = 60  # what a run may take
 PROCESSORS = range(1, 9)
 
@@ -38,13 +39,18 @@ def expect_same(what, printed, expected):
         raise Wrong(f"{what}, line {number}: it is '{left}', not '{right}'")
 
 
-def replayed(case, journal):
-    """The model after a journal, each of whose events does something."""
-    kernel = Kernel(case.system)
+def replayed(case, bound, journal):
+    """The model after a journal, each of whose events does something or keeps a place."""
+    kernel = Kernel(case.system, bound)
     for place, event in enumerate(journal, 1):
         kernel.step(event)
-        expect(kernel.world.event == place, f"event {place} of the journal, '{event}', does nothing in the model")
+        expect(kernel.taken == place, f"event {place} of the journal, '{event}', does nothing in the model")
     return kernel
+
+
+def bound_of(seed, most):
+    """The bound of a random system: of every other one so small, 1 to `most`, that its stretches are cut short."""
+    return random.Random(f"bound {seed}").randint(1, most) if seed % 2 else BOUND
 
 
 class Trial:
@@ -108,9 +114,9 @@ class Trial:
         classes = "".join(f"CLASS(TCL_{p}) {{ CRE_TSK(T{p},{{TA_ACT,0,t,10,256,NULL}}); }}\n" for p in PROCESSORS)
         self.build(f"NUM_PRC({len(PROCESSORS)});\n{classes}", "task t { while (1) { put(1); } }\n")
 
-    def simulated(self, steps):
-        """What `fmp sim` prints of `system.img` over the steps of a file."""
-        return self.run("fmp", f"sim system.img {steps} --bound {BOUND}")[0]
+    def simulated(self, steps, bound):
+        """What `fmp sim` prints of `system.img` over the steps of a file at a bound."""
+        return self.run("fmp", f"sim system.img {steps} --bound {bound}")[0]
 
 
 def main(about, count, crates, check):

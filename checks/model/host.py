@@ -8,7 +8,8 @@ of them. Of the journal that it writes it must hold that:
 
 - `fmp sim` prints over the journal what `fmp host` printed, and so does kernel.py, which is written from the rules of
   the kernel and shares nothing with the program;
-- each event of the journal does something in the model;
+- each event of the journal does something in the model, or keeps a place, for every other system runs at a bound of 1
+  to 200, which cuts stretches short;
 - no processor stands in it more often than it had turns, and there are no more ticks than were asked for.
 
 At the end eight processors make 100,000 turns each; the program has to end within a minute.
@@ -25,9 +26,10 @@ from pathlib import Path
 sys.dont_write_bytecode = True  # the folders of the checks stay as they are
 sys.path[0] = str(Path(__file__).resolve().parents[1])  # the folder `checks`, whose folders are packages
 
-from model.harness import BOUND, PROCESSORS, expect, expect_same, main, replayed  # noqa: E402
+from model.harness import PROCESSORS, bound_of, expect, expect_same, main, replayed  # noqa: E402
 
 LONG_TURNS = 100_000
+GREATEST_CUT = 200  # the greatest bound that cuts stretches short
 
 
 def counts(journal, turns, ticks):
@@ -39,17 +41,17 @@ def counts(journal, turns, ticks):
     return made
 
 
-def host_one(trial, generator):
-    """Hosts one random system: the events of its journal."""
+def host_one(trial, generator, bound):
+    """Hosts one random system at a bound: the events of its journal."""
     case = generator.case()
     turns, ticks = generator.random.randint(1, 60), generator.random.randint(0, 30)
     trial.build_case(case)
-    printed, _ = trial.run("fmp", f"host system.img system.journal --turns {turns} --ticks {ticks} --bound {BOUND}")
-    again = trial.simulated("system.journal")
+    printed, _ = trial.run("fmp", f"host system.img system.journal --turns {turns} --ticks {ticks} --bound {bound}")
+    again = trial.simulated("system.journal", bound)
     expect_same("the trace of the host beside the simulation of its journal", printed, again)
     journal = trial.read("system.journal").splitlines()
     made = counts(journal, turns, ticks)
-    expect_same("the trace of the host beside that of the model", printed, replayed(case, journal).text())
+    expect_same("the trace of the host beside that of the model", printed, replayed(case, bound, journal).text())
     return made
 
 
@@ -69,8 +71,8 @@ def host_long(trial):
 def check(trial):
     """Hosts each system, and then the long one."""
     made = Counter()
-    for _, generator in trial.systems():
-        made += host_one(trial, generator)
+    for seed, generator in trial.systems():
+        made += host_one(trial, generator, bound_of(seed, GREATEST_CUT))
     took = host_long(trial)
     print(f"{trial.count} systems by threads, {made.total()} events, {made['tick']} of them ticks: "
           "the host, the simulation of its journal and the model agree")

@@ -1,18 +1,23 @@
 """A model of the kernel, apart from the program and far simpler: its events and its trace."""
 
 from collections import Counter
+from math import inf
 
 from model.bodies import Stop, stretch
 from model.services import ENDS, WAITS, LockIsHeld, Refused, Services
 from model.world import FREE, Code, Handler, Reply, State, World
 
+KEPT = ""  # what a run says that its bound cuts short
+
 
 class Kernel:
-    """A system at work: `step` takes an event as a steps text spells it."""
+    """A system at work: `step` takes an event as a steps text spells it; a run makes `bound` instructions at most."""
 
-    def __init__(self, system):
+    def __init__(self, system, bound):
         self.system = system
+        self.bound = bound
         self.world = World(system)
+        self.taken = 0  # the events that have a number, and the runs that kept their place
         self.calls = Counter()  # of caller ("task", "handler"), service call and case of its reply
         for task in system.tasks:
             if task.starts_at_setup:
@@ -25,31 +30,34 @@ class Kernel:
     # Events
 
     def step(self, event):
-        """One event. What does nothing has no number and leaves all as it was."""
+        """One event. What does nothing has no number and leaves all as it was; nor has a run that is cut short one."""
         kind, *number = event.split()
         self.world.event += 1
         before = len(self.world.lines)
         own_line = {"run": self.run, "tick": self.tick, "int": self.interrupt}[kind](*map(int, number))
-        if own_line is None:
+        self.taken += own_line is not None
+        if not own_line:
             self.world.event -= 1
             return
         self.world.lines.insert(before, f"{self.world.event} {own_line}")
         self.world.settle()
 
     def run(self, number):
-        """The actor goes on to its next call, its end or its fault, and that is carried out."""
+        """The actor goes on to its next call, its end or its fault, and that is carried out; or it is cut short."""
         processor = self.world.processors[number - 1]
         actor = processor.actor
         if actor is None:
             return None
-        reached = stretch(self.system.bodies[actor.body], actor.context)
-        if reached is None:
-            return None
-        what, context = reached
+        what, context = stretch(self.system.bodies[actor.body], actor.context)
+        if context.units > actor.context.spent + self.bound:
+            actor.context.spent += self.bound
+            self.world.situations["a stretch is cut short"] += context.units < inf
+            return KEPT
         try:
             text = self.stop(processor, what) if isinstance(what, Stop) else self.call(processor, what, context)
         except LockIsHeld:
             self.world.situations["a spin lock is asked for that another processor holds"] += 1
+            self.world.situations["a stretch that was cut short comes to a held spin lock"] += actor.context.spent > 0
             return None
         return f"p{number} {actor.name} {text}"
 

@@ -17,10 +17,15 @@ SITUATIONS = (
     "a spin lock is asked for that another processor holds",
     "a start takes a stored processor",
     "a start takes a stored processor, and activations stay queued",
+    "a stretch is cut short",
+    "a stretch that was cut short comes to a held spin lock",
     "a suspended task is released",
     "a task ends with a fault under a spin lock",
     "a task ends with its processor locked",
+    "a task is preempted whose stretch was cut short",
+    "a task is terminated whose stretch was cut short",
     "a task migrates while it is suspended or waits",
+    "a task migrates whose stretch was cut short",
     "a task that runs under a hold is suspended",
 )
 

@@ -166,6 +166,7 @@ class Services:
         task = self.task(number)
         need(task is not self.caller, Code.E_ILUSE)
         need(task.state is not State.DORMANT and task.processor == self.processor.number, Code.E_OBJ)
+        self.world.situations["a task is terminated whose stretch was cut short"] += task.context.spent > 0
         self.world.end(task)
 
     def chg_pri(self, number, priority):
@@ -194,6 +195,7 @@ class Services:
             self.world.to_end(task)
         if task.suspended or task.wait:
             self.world.situations["a task migrates while it is suspended or waits"] += 1
+        self.world.situations["a task migrates whose stretch was cut short"] += task.context.spent > 0
 
     # Tasks: sleep, suspension and delay
 

@@ -1,6 +1,7 @@
 #!/usr/bin/env python3
-"""Compares the dumps of `fmp_view waves` with the model on random systems: after each event each variable has the value
-that the model's state gives it. GTKWave's converters, where they are there, must take each dump, those of the examples,
+"""Compares the dumps of `fmp_view waves` with the model on random systems, every other one at a bound of 1 to 40, which
+cuts most stretches short: after each event, and each run that kept a place, each variable has the value that the
+model's state gives it. GTKWave's converters, where they are there, must take each dump, those of the examples,
 and one of 255 tasks over 10,000 events with nothing on standard error.
 
     checks/model/waves.py [COUNT [SEED]] [--view PATH] [--program PATH]
@@ -15,11 +16,12 @@ sys.dont_write_bytecode = True  # the folders of the checks stay as they are
 sys.path[0] = str(Path(__file__).resolve().parents[1])  # the folder `checks`, whose folders are packages
 
 from common.program import ROOT  # noqa: E402
-from model.harness import BOUND, Wrong, expect, main  # noqa: E402
+from model.harness import Wrong, bound_of, expect, main  # noqa: E402
 from model.kernel import Kernel  # noqa: E402
 from model.world import CPU, FREE, CyclicHandler, State  # noqa: E402
 
 EXAMPLES = ROOT / "examples"
+GREATEST_CUT = 40  # the greatest bound that cuts stretches short
 CONVERTERS = ("vcd2fst", "vcd2lxt", "vcd2lxt2", "vcd2vzt")
 STATES = {"DORMANT": 0, "READY": 1, "RUNNING": 2, "WAITING": 3, "SUSPENDED": 4, "WAITING-SUSPENDED": 5}
 
@@ -97,7 +99,7 @@ def object_values(system, world):
 
 
 def model_values(kernel, line):
-    """The value of each variable, by its scopes and name, after an event that told this line first."""
+    """The value of each variable, by its scopes and name, after an event that told this line first, if any."""
     system, world = kernel.system, kernel.world
     kinds = waits_of(system, world)
     groups = {f"p{x.number}": processor_values(x, line) for x in world.processors}
@@ -167,26 +169,26 @@ def expect_values(dumped, wanted):
             raise Wrong(f"event {event}: {name} is {said.get(name)}, and of the model {values.get(name)}")
 
 
-def random_values(generator, case):
-    """The values of the model after setup and after each event, and the steps."""
-    kernel = Kernel(case.system)
+def random_values(generator, case, bound):
+    """The values of the model after setup, each event and each run that kept a place, and the steps."""
+    kernel = Kernel(case.system, bound)
     values, steps = [model_values(kernel, "")], []
     for _ in range(case.event_count):
         steps.append(generator.event(kernel.world))
-        before, told = kernel.world.event, len(kernel.world.lines)
+        before, told = kernel.taken, len(kernel.world.lines)
         kernel.step(steps[-1])
-        if kernel.world.event != before:
-            values.append(model_values(kernel, kernel.world.lines[told]))
+        if kernel.taken != before:
+            values.append(model_values(kernel, next(iter(kernel.world.lines[told:]), "")))
     return values, steps
 
 
-def dump_one(trial, generator):
-    """Compares the dump of one random system: how many events it has."""
+def dump_one(trial, generator, bound):
+    """Compares the dump of one random system at a bound: how many events it has."""
     case = generator.case()
-    wanted, steps = random_values(generator, case)
+    wanted, steps = random_values(generator, case, bound)
     trial.build_case(case)
     trial.write("system.steps", "".join(f"{step}\n" for step in steps))
-    trial.run("fmp_view", f"waves system.img system.steps system.vcd --bound {BOUND}")
+    trial.run("fmp_view", f"waves system.img system.steps system.vcd --bound {bound}")
     expect_values(dumped_values(trial.read("system.vcd")), wanted)
     expect_converted(trial, "system.vcd")
     return len(wanted) - 1
@@ -222,7 +224,7 @@ def check(trial):
     for path in sorted(EXAMPLES.glob("*.steps")):
         dump_file(trial, path.stem, *(path.with_suffix(f".{kind}").read_text() for kind in ("cfg", "src", "steps")))
     dump_file(trial, "255 tasks", *great(), "")
-    events = sum(dump_one(trial, generator) for _, generator in trial.systems())
+    events = sum(dump_one(trial, generator, bound_of(seed, GREATEST_CUT)) for seed, generator in trial.systems())
     there = [name for name in CONVERTERS if shutil.which(name)]
     print(f"checks/model/waves.py: the dumps of {trial.count} systems, {events} events, are those of the model")
     print(f"silent over these, the examples and 255 tasks: {', '.join(there) or 'no converter is there'}")

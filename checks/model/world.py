@@ -331,6 +331,8 @@ class World:
         """The processor runs the first of its most urgent ready tasks."""
         before, processor.running = processor.running, self.top(processor.number)
         if processor.running is not before:
+            is_cut = before is not None and before.is_ready and before.context.spent > 0
+            self.situations["a task is preempted whose stretch was cut short"] += is_cut
             self.say(processor.number, f"> {processor.running.name if processor.running else '-'}")
 
     def settle(self):

@@ -320,11 +320,12 @@ def extended_information():
 # Stretches
 
 def stretch(name, statements, size, bound=None):
-    """A body that ends after this many instructions, at that bound and at one less."""
+    """A body that ends after this many instructions, at that bound and at one less, where its second run ends it."""
     source = f"task m {{ var v; {statements} }}"
     done, nothing = "1 p1 T end\nT DORMANT p1 10\n", "T RUNNING p1 10\n"
     yield lone(f"{name}, bound {size}", source, "run 1\nrun 1\n", done, size)
-    yield lone(f"{name}, bound {size - 1}", source, "run 1\nrun 1\n", nothing, size - 1)
+    yield lone(f"{name}, bound {size - 1}", source, "run 1\n", nothing, size - 1)
+    yield lone(f"{name}, bound {size - 1}, two runs", source, "run 1\nrun 1\n", done, size - 1)
     yield lone(f"{name}, greatest bound", source, "run 1\n", done, 1 << 48)
 
 
@@ -356,6 +357,8 @@ def events():
     turns = joined(f"{number} p1 T put(1) E_OK" for number in range(1, GREATEST_EVENTS + 1))
     source = "task m { while (1) { put(1); } }"
     yield lone("2^20 runs", source, "run 1\n" * GREATEST_EVENTS, f"{turns}T RUNNING p1 10\n")
+    yield lone("2^20 runs that keep a place", "task m { while (1) { } }", "run 1\n" * GREATEST_EVENTS,
+               "T RUNNING p1 10\n", 1)
     delay = "1 p1 T dly_tsk(1) wait\n1 p1 > -\n2 tick 1\n3 tick 2\n3 p1 T gets E_OK\n3 p1 > T\nT RUNNING p1 10\n"
     yield lone("a delay of 1", "task m { dly_tsk(1); }", "run 1\ntick\ntick\n", delay)
 

@@ -37,6 +37,7 @@ misused() { printf "error: %s\n\nUsage: %s\n\nFor more information, try '--help'
 printf 'NUM_PRC(1);\nCLASS(TCL_1) {\nCRE_TSK(T1,{TA_ACT,0,main,10,256,NULL});\n}\n' > a.cfg
 printf 'task main { put(7); }\n' > b.src
 printf 'run 1\nrun 1\nrun 1\n' > c.steps
+printf 'run 1\n' > one.steps
 cp a.cfg kept.cfg
 cp b.src kept.src
 {
@@ -59,7 +60,8 @@ run 'build over a longer file' 0 ok57 none build a.cfg b.src long.img
 same 'the longer file that was there' a.want long.img
 run 'sim' 0 a.trace none sim a.img c.steps
 run 'sim at bound 2' 0 a.trace none sim a.img c.steps --bound 2
-run 'sim at bound 1' 0 a.setup none sim --bound=1 a.img c.steps
+run 'sim at bound 1' 0 a.trace none sim --bound=1 a.img c.steps
+run 'sim of one step at bound 1' 0 a.setup none sim --bound=1 a.img one.steps
 run 'sim without events' 0 a.setup none sim a.img none
 # one processor makes the same journal each time: its turns that do something
 printf 'run 1\nrun 1\n' > host.want
@@ -71,8 +73,9 @@ same 'the journal, over a longer file' host.want host.journal
 run 'sim of the journal' 0 a.trace none sim a.img host.journal
 run 'host at bound 2' 0 a.trace none host --bound=2 a.img host.journal --ticks=0 --turns=2
 same 'the journal at bound 2' host.want host.journal
-run 'host at bound 1' 0 a.setup none host a.img host.journal --turns 3 --ticks 0 --bound 1
-same 'the journal at bound 1' none host.journal
+# its first turn keeps its place
+run 'host at bound 1' 0 a.trace none host a.img host.journal --turns 4 --ticks 0 --bound 1
+same 'the journal at bound 1' c.steps host.journal
 run 'host of ticks alone' 0 ticks.trace none host a.img host.journal --turns 0 --ticks 2
 same 'the journal of ticks' ticks.want host.journal
 same 'the image that was run' a.want a.img

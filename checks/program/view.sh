@@ -121,14 +121,12 @@ CLASS(TCL_2) { CRE_TSK(B, { TA_ACT, 0, b, 10, 256, NULL }); }
 END
 echo 'task a { loc_spn(L); while (1) { } } task b { loc_spn(L); unl_spn(L); }' > stuck.src
 built stuck
-echo 'run 1' > wanted
+printf 'run 1\nrun 1\nrun 1\n' > wanted
 cat > said <<'END'
-quiet: no processor goes on, and the clock changes nothing
+as many events as were asked for are done
 processor 1: what runs there reaches the bound before its next call
-processor 2: what runs there asks for spin lock 1, which is held
-processor 3: nothing runs there
 END
-shows 'drive: stuck' 0 drive stuck.img
+shows 'drive: stuck, three events' 0 drive stuck.img --events 3
 echo 'run 1' > wanted
 cat > said <<'END'
 as many events as were asked for are done
@@ -138,34 +136,43 @@ shows 'drive: stuck, one event' 0 drive stuck.img --events 1
 
 # The trace of the queue: PRODUCER calls twice, is preempted at both calls and ends; CONSUMER waits once, and ends.
 cat > wanted <<'END'
-task      starts   calls   waits  time-outs  preemptions  events   share
-PRODUCER       1       2       0          0            2       3   50.0%
-CONSUMER       1       2       1          0            0       3   50.0%
+task      starts   calls   waits  time-outs  preemptions    kept  events   share
+PRODUCER       1       2       0          0            2       0       3   50.0%
+CONSUMER       1       2       1          0            0       0       3   50.0%
 END
 shows 'stats: queue' 0 stats queue.img queue.steps
 printf 'run 1\nrun 1\n' > two.steps
 cat > wanted <<'END'
-task      starts   calls   waits  time-outs  preemptions  events   share
-PRODUCER       1       1       0          0            1       1   50.0%
-CONSUMER       1       1       1          0            0       1   50.0%
+task      starts   calls   waits  time-outs  preemptions    kept  events   share
+PRODUCER       1       1       0          0            1       0       1   50.0%
+CONSUMER       1       1       1          0            0       0       1   50.0%
 END
 shows 'stats: two events' 0 stats queue.img two.steps
+
+# A calls once and then never again, so that each later turn keeps its place; B spins, which is no event.
+printf 'run 1\nrun 1\nrun 2\nrun 1\n' > stuck.steps
+cat > wanted <<'END'
+task  starts   calls   waits  time-outs  preemptions    kept  events   share
+A          1       1       0          0            0       2       3  100.0%
+B          1       0       0          0            0       0       0    0.0%
+END
+shows 'stats: kept places' 0 stats stuck.img stuck.steps
 
 # Of the 18 events of the watchdog 5 are ticks; a wait that ends by its limit is a time-out, and WORKER is preempted at
 # each call that wakes WATCHDOG.
 cat > wanted <<'END'
-task      starts   calls   waits  time-outs  preemptions  events   share
-WATCHDOG       1       7       4          1            0       7   38.8%
-WORKER         2       6       3          0            3       6   33.3%
+task      starts   calls   waits  time-outs  preemptions    kept  events   share
+WATCHDOG       1       7       4          1            0       0       7   38.8%
+WORKER         2       6       3          0            3       0       6   33.3%
 END
 shows 'stats: watchdog' 0 stats watchdog.img watchdog.steps
 
 # Of the 15 events of the interrupts 2 are interrupts and 4 are the handler's, which wakes DRIVER and so preempts OTHER.
 cat > wanted <<'END'
-task    starts   calls   waits  time-outs  preemptions  events   share
-MAIN         1       3       0          0            0       4   26.6%
-DRIVER       1       4       2          0            0       4   26.6%
-OTHER        1       1       0          0            2       1    6.6%
+task    starts   calls   waits  time-outs  preemptions    kept  events   share
+MAIN         1       3       0          0            0       0       4   26.6%
+DRIVER       1       4       2          0            0       0       4   26.6%
+OTHER        1       1       0          0            2       0       1    6.6%
 END
 shows 'stats: interrupt' 0 stats interrupt.img interrupt.steps
 
@@ -300,8 +307,8 @@ echo 'task t { var a[3]; put(a[2]); a[3] = 1; }' > index.src
 printf 'run 1\nrun 1\n' > index.steps
 built index
 cat > wanted <<'END'
-task  starts   calls   waits  time-outs  preemptions  events   share
-T          1       1       0          0            0       2  100.0%
+task  starts   calls   waits  time-outs  preemptions    kept  events   share
+T          1       1       0          0            0       0       2  100.0%
 END
 shows 'stats: an index out of range' 0 stats index.img index.steps
 shows 'waves: an index out of range' 0 waves index.img index.steps index.vcd

@@ -82,12 +82,15 @@ SETUP = "0 p1 T1 starts / 0 p1 > T1 / "
 WHOLE = SETUP + "1 p1 T1 put(7) E_OK / 2 p1 T1 end / T1 DORMANT p1 10 / "
 
 # A stretch up to `put` takes two instructions; that of the second text six, since the second operand of `&&` is not
-# evaluated; and one without an end takes nothing from another processor.
+# evaluated; and one without an end takes nothing from another processor. A run that the bound cuts short keeps its
+# place, so that the next one goes on from there.
 AND = "task m { var x; x = 0 && 1/0; put(x); }"
 BOUNDS = (
     (ONE, "task main { put(7); }", runs(3), DEFAULT_BOUND, WHOLE),
     (ONE, "task main { put(7); }", runs(3), 2, WHOLE),
-    (ONE, "task main { put(7); }", runs(3), 1, SETUP + "T1 RUNNING p1 10 / "),
+    (ONE, "task main { put(7); }", runs(1), 1, SETUP + "T1 RUNNING p1 10 / "),
+    (ONE, "task main { put(7); }", runs(2), 1, SETUP + "1 p1 T1 put(7) E_OK / T1 RUNNING p1 10 / "),
+    (ONE, "task main { put(7); }", runs(3), 1, WHOLE),
     (
         ONE,
         "task main { put(7); }",
@@ -97,12 +100,21 @@ BOUNDS = (
     ),
     ("NUM_PRC(1);", "", runs(1), DEFAULT_BOUND, ""),
     (alone(task("M", "m")), AND, runs(1), 5, "0 p1 M starts / 0 p1 > M / M RUNNING p1 10 / "),
+    (alone(task("M", "m")), AND, runs(2), 5, "0 p1 M starts / 0 p1 > M / 1 p1 M put(0) E_OK / M RUNNING p1 10 / "),
     (alone(task("M", "m")), AND, runs(1), 6, "0 p1 M starts / 0 p1 > M / 1 p1 M put(0) E_OK / M RUNNING p1 10 / "),
     (
         apart(task("A", "a"), task("B", "b")),
         "task a { while (1) { } } task b { put(1); put(2); }",
         steps("run 1,run 2,run 1,run 2,run 2"),
         1000,
+        "0 p1 A starts / 0 p2 B starts / 0 p1 > A / 0 p2 > B / 1 p2 B put(1) E_OK / 2 p2 B put(2) E_OK / 3 p2 B end / "
+        "A RUNNING p1 10 / B DORMANT p2 10 / ",
+    ),
+    (
+        apart(task("A", "a"), task("B", "b")),
+        "task a { while (1) { } } task b { put(1); put(2); }",
+        5 * "run 2\n",
+        1,
         "0 p1 A starts / 0 p2 B starts / 0 p1 > A / 0 p2 > B / 1 p2 B put(1) E_OK / 2 p2 B put(2) E_OK / 3 p2 B end / "
         "A RUNNING p1 10 / B DORMANT p2 10 / ",
     ),
@@ -384,9 +396,128 @@ QUEUES = (
 )
 
 
+# The body of a task, and of each of its stretches how many instructions it takes and what its line says. Bounds of 1
+# to 6 cut it at each place.
+CUTS = (
+    # between the operands of operators
+    ("put(2 + 3 * 4);", (6, "put(14) E_OK"), (1, "end")),
+    # between the arguments of a call
+    ("chg_pri(TSK_SELF, 4 + 6);", (5, "chg_pri(0,10) E_OK"), (1, "end")),
+    # between the index and the value of a store
+    ("var a[2]; a[1] = 5 - 2; put(a[1]);", (8, "put(3) E_OK"), (1, "end")),
+    # before a call to which a jump leads
+    ("put(5 && 7);", (6, "put(1) E_OK"), (1, "end")),
+    ("put(1 || 1/0);", (5, "put(1) E_OK"), (1, "end")),
+    # in a loop
+    ("var v; while (v < 3) { v = v + 1; } put(v);", (33, "put(3) E_OK"), (1, "end")),
+    # behind a reply
+    ("var v; v = put(7); put(v + 1);", (2, "put(7) E_OK"), (4, "put(1) E_OK"), (1, "end")),
+    # before a fault
+    ("put(1 + 1 / 0);", (4, "F_DIV")),
+)
+
+
+def cut(statements, *stretches):
+    """The rows of a body at bounds 1 to 6: over as many runs as its stretches take, and over one less."""
+    source = f"task t {{ {statements} }}"
+    lines = [f"{number} p1 T {said} / " for number, (_, said) in enumerate(stretches, 1)]
+    for bound in range(1, 7):
+        count = sum(-(-size // bound) for size, _ in stretches)
+        yield SELF, source, runs(count), bound, SELF_SETUP + "".join(lines) + "T DORMANT p1 10 / "
+        yield SELF, source, runs(count - 1), bound, SELF_SETUP + "".join(lines[:-1]) + "T RUNNING p1 10 / "
+
+
+# While M waits, the stretch of T, which takes four instructions up to `put`, is cut short behind three of them. Then M
+# goes on, of greater priority, and does this to T.
+CUT_TASK = "task t { put(1 + 2); }"
+CUT_CLASS = task("M", "m", 5) + " " + task("T", "t")
+CUT_STEPS = "run 1,run 1,tick,tick,"
+CUT_SETUP = (
+    "0 p1 M starts / 0 p1 T starts / 0 p1 > M / 1 p1 M dly_tsk(1) wait / 1 p1 > T / 2 tick 1 / 3 tick 2 / "
+    "3 p1 M gets E_OK / 3 p1 > M / "
+)
+
+# What is run at bound 3, its two texts, its steps, and what is printed.
+KEPT = (
+    (
+        "a task that is preempted",
+        alone(CUT_CLASS),
+        "task m { dly_tsk(1); } " + CUT_TASK,
+        steps(CUT_STEPS + "run 1,run 1"),
+        CUT_SETUP + "4 p1 M end / 4 p1 > T / 5 p1 T put(3) E_OK / M DORMANT p1 5 / T RUNNING p1 10 / ",
+    ),
+    (
+        "a task that is suspended, and goes on",
+        alone(CUT_CLASS),
+        "task m { dly_tsk(1); sus_tsk(T); rsm_tsk(T); } " + CUT_TASK,
+        steps(CUT_STEPS + "run 1,run 1,run 1,run 1"),
+        CUT_SETUP + "4 p1 M sus_tsk(2) E_OK / 5 p1 M rsm_tsk(2) E_OK / 6 p1 M end / 6 p1 > T / 7 p1 T put(3) E_OK / "
+        "M DORMANT p1 5 / T RUNNING p1 10 / ",
+    ),
+    (
+        "a task that migrates",
+        apart(CUT_CLASS, ""),
+        "task m { dly_tsk(1); mig_tsk(T,2); } " + CUT_TASK,
+        steps(CUT_STEPS + "run 1,run 2"),
+        CUT_SETUP + "4 p1 M mig_tsk(2,2) E_OK / 4 p2 > T / 5 p2 T put(3) E_OK / M RUNNING p1 5 / T RUNNING p2 10 / ",
+    ),
+    (
+        "a task that is terminated, and starts again from its beginning",
+        alone(CUT_CLASS),
+        "task m { dly_tsk(1); ter_tsk(T); act_tsk(T); } " + CUT_TASK,
+        steps(CUT_STEPS + "run 1,run 1,run 1,run 1"),
+        CUT_SETUP + "4 p1 M ter_tsk(2) E_OK / 5 p1 M act_tsk(2) E_OK / 5 p1 T starts / 6 p1 M end / 6 p1 > T / "
+        "M DORMANT p1 5 / T RUNNING p1 10 / ",
+    ),
+    (
+        "the same, and one run more",
+        alone(CUT_CLASS),
+        "task m { dly_tsk(1); ter_tsk(T); act_tsk(T); } " + CUT_TASK,
+        steps(CUT_STEPS + "run 1,run 1,run 1,run 1,run 1"),
+        CUT_SETUP + "4 p1 M ter_tsk(2) E_OK / 5 p1 M act_tsk(2) E_OK / 5 p1 T starts / 6 p1 M end / 6 p1 > T / "
+        "7 p1 T put(3) E_OK / M DORMANT p1 5 / T RUNNING p1 10 / ",
+    ),
+    (
+        "a task that starts again after a fault, from its beginning",
+        alone(task("T", "t")),
+        "task t { act_tsk(TSK_SELF); put(1 + 1 / 0); }",
+        steps("run 1,run 1,run 1,run 1"),
+        "0 p1 T starts / 0 p1 > T / 1 p1 T act_tsk(0) E_OK / 2 p1 T F_DIV / 2 p1 T starts / 2 p1 > T / "
+        "3 p1 T act_tsk(0) E_OK / T RUNNING p1 10 / ",
+    ),
+    (
+        "a handler",
+        alone(idle("U", "u"), "DEF_INH(3,{0,h});"),
+        "task u { } handler h { iact_tsk(1 + 0); }",
+        steps("int 3,run 1,run 1,run 1"),
+        "1 int 3 / 1 p1 begin #3 / 2 p1 #3 iact_tsk(1) E_OK / 2 p1 U starts / 3 p1 #3 end / 3 p1 > U / "
+        "U RUNNING p1 10 / ",
+    ),
+    (
+        "a handler, one run less",
+        alone(idle("U", "u"), "DEF_INH(3,{0,h});"),
+        "task u { } handler h { iact_tsk(1 + 0); }",
+        steps("int 3,run 1"),
+        "1 int 3 / 1 p1 begin #3 / U DORMANT p1 10 / ",
+    ),
+    (
+        "a task that then asks for a spin lock which another processor holds",
+        apart(task("A", "a") + "CRE_SPN(L,{0});", task("B", "b")),
+        "task a { loc_spn(L); unl_spn(L); } task b { loc_spn(0 + L); }",
+        steps("run 1,run 2,run 2,run 2,run 1,run 2"),
+        "0 p1 A starts / 0 p2 B starts / 0 p1 > A / 0 p2 > B / 1 p1 A loc_spn(1) E_OK / 2 p1 A unl_spn(1) E_OK / "
+        "3 p2 B loc_spn(1) E_OK / A RUNNING p1 10 / B RUNNING p2 10 / ",
+    ),
+)
+
+
 def all_runs():
     """Each row: two texts, steps, a bound, and what is printed."""
     yield from BOUNDS
+    for row in CUTS:
+        yield from cut(*row)
+    for _, configuration, source, events, trace in KEPT:
+        yield configuration, source, events, 3, trace
     for _, configuration, source, events, trace in RUNS + ROTATIONS + QUEUES:
         yield configuration, source, events, DEFAULT_BOUND, trace
 
