@@ -10,13 +10,14 @@ set -eu
 . "$(dirname "$0")/harness.sh"
 subject=$(located fmp "${1:-}")
 
-systems='queue inversion flags watchdog pipeline migration interrupt'
+systems='queue inversion flags watchdog pipeline migration interrupt sum'
 for system in $systems; do
     run "$system: check" 0 ok none check "$system.cfg" "$system.src"
     attempt build "$system.cfg" "$system.src" image
     printf 'ok %d\n' "$(wc -c < image)" > size
     run "$system: build" 0 size none build "$system.cfg" "$system.src" image
-    run "$system: sim" 0 "$system.trace" none sim image "$system.steps"
+    case $system in sum) bound=1000 ;; *) bound=100000 ;; esac
+    run "$system: sim" 0 "$system.trace" none sim image "$system.steps" --bound "$bound"
     holds "$system: README" 'it is not told there' grep -q "^## \`$system\`" README.md
 done
 

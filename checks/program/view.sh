@@ -63,7 +63,7 @@ refused() {
     verdict "$name" "$problem"
 }
 
-for system in queue watchdog interrupt; do built $system; done
+for system in queue watchdog interrupt sum; do built $system; done
 
 # What a code means.
 cat > wanted <<'END'
@@ -134,6 +134,11 @@ processor 1: what runs there reaches the bound before its next call
 END
 shows 'drive: stuck, one event' 0 drive stuck.img --events 1
 
+# BEAT waits; at bound 1000 five steps of SUM keep its place, and the sixth comes to its call.
+printf 'run 1\nrun 1\nrun 1\nrun 1\nrun 1\nrun 1\nrun 1\nrun 1\n' > wanted
+printf 'as many events as were asked for are done\n' > said
+shows 'drive: kept places' 0 drive sum.img --events 8 --bound 1000
+
 # The trace of the queue: PRODUCER calls twice, is preempted at both calls and ends; CONSUMER waits once, and ends.
 cat > wanted <<'END'
 task      starts   calls   waits  time-outs  preemptions    kept  events   share
@@ -157,6 +162,14 @@ A          1       1       0          0            0       2       3  100.0%
 B          1       0       0          0            0       0       0    0.0%
 END
 shows 'stats: kept places' 0 stats stuck.img stuck.steps
+
+# Of the 16 events of the sum 4 are ticks, and 5 keep the place of SUM, which is preempted twice.
+cat > wanted <<'END'
+task  starts   calls   waits  time-outs  preemptions    kept  events   share
+BEAT       1       5       3          0            0       0       5   31.2%
+SUM        1       1       0          0            2       5       7   43.7%
+END
+shows 'stats: sum' 0 stats sum.img sum.steps --bound 1000
 
 # Of the 18 events of the watchdog 5 are ticks; a wait that ends by its limit is a time-out, and WORKER is preempted at
 # each call that wakes WATCHDOG.
