@@ -1,16 +1,16 @@
 -- What a run of one meaning finishes, said of another to which it is tied both ways.
-use Rattle.std.specs.Prelude.{ℕ, zero, suc, ◌+◌, ◌<◌, ◌≤◌, ◌≡◌, refl, List, [], ◌∷◌, length}
+use Rattle.std.specs.Prelude.{ℕ, zero, suc, ◌+◌, ◌<◌, ◌≤◌, ◌≡◌, refl, List, [], ◌∷◌, length, take, Option, Some, None}
 use Rattle.std.proofs.Common.{sym, ap, ◌∙◌, arith}
 use Rattle.fmp_base.specs.declared.events.Event.{Event}
 use Rattle.fmp_base.specs.declared.events.Event.TheVariants.{Run, Tick, Int}
 use Rattle.fmp_base.specs.declared.events.Line.{Line}
 use Rattle.fmp_base.specs.Meanings.{Meaning, World}
-use Rattle.fmp_base.specs.Runs.{Trace, after_first, run, run_on, done_events, done_on}
+use Rattle.fmp_base.specs.Runs.{Trace, after_first, run, run_on, done_events, done_on, completed_by, completed_on, complete_run}
 use Rattle.fmp_base.specs.Steps.{Reaction, Nothing, Did, Kept, with_place, step}
 use Rattle.fmp_base.specs.Systems.{SystemTables}
-use Rattle.fmp_base.specs.Ties.{KeepsTie, HeldTied, WorldTied, KeptOn, DoneTied}
+use Rattle.fmp_base.specs.Ties.{KeepsTie, HeldTied, WorldTied, KeptOn, DoneTied, TraceAgrees}
 use Rattle.fmp_base.specs.TieLaws.{grown, held_grown, step-tied}
-use Rattle.fmp_base.specs.Finishes.{ended_in, Finishes, over, did, did_nothing, kept}
+use Rattle.fmp_base.specs.Finishes.{ended_in, Finishes, over, did, did_nothing, kept, IsComplete}
 
 -- what the tied run of the other meaning leaves: the same lines and the same state at the end
 pub record FinishedLike {C D : Type 0} (sys : SystemTables) (M : Meaning C) (again : ℕ → C → C → Type 0) (t : ℕ)
@@ -83,3 +83,32 @@ module _ {C D : Type 0} (sys : SystemTables) (A : ℕ → D → C → Type 0) (R
             v.contexts (held_grown A (R i) (R (suc i)) k.grows) h.contexts;
       }) _ _
       (λ w' v' h'. finished-like (suc i) w' v' es (omega (arith, le)) h')
+
+IsComplete-rest : {C : Type 0} (ls : List Line) (r : Option (Trace C)) → IsComplete (completed_by ls r) → IsComplete r
+IsComplete-rest ls None h = absurd h
+IsComplete-rest ls (Some r) h = tt
+
+done_on-first : {C : Type 0} (k : ℕ) (w : World C) (e : Event) (es : List Event) (x : Reaction C)
+    (ds : World C → List Event) (r : World C → Option (Trace C))
+    → ((v : World C) → IsComplete (r v) → take k (ds v) ≡ take k es) → IsComplete (completed_on x r)
+    → take (suc k) (done_on w e x ds) ≡ take (suc k) (e ∷ es)
+done_on-first k w e es Nothing ds r rest h = absurd h
+done_on-first k w e es (Kept p v) ds r rest h = absurd h
+done_on-first k w e es (Did d) ds r rest h =
+    ap (λ (es' : List Event). e ∷ es') (rest d.world (IsComplete-rest d.lines (r d.world) h))
+
+-- where the first k events alone are a complete run, they are the first that a run does
+pub done_events-first : {C : Type 0} (sys : SystemTables) (M : Meaning C) (n : ℕ) (w : World C) (es : List Event)
+    (k : ℕ)
+    → IsComplete (complete_run sys M n w (take k es)) → take k (done_events sys M n w es) ≡ take k es
+done_events-first sys M n w [] zero h = refl
+done_events-first sys M n w (e ∷ es) zero h = refl
+done_events-first sys M n w [] (suc k) h = refl
+done_events-first sys M n w (e ∷ es) (suc k) h =
+    done_on-first k w e es (step sys M n w e) _ _ (λ v h'. done_events-first sys M n v es k h') h
+
+pub IsComplete-agrees : {C D : Type 0} (r : Option (Trace C)) (s : Option (Trace D)) → TraceAgrees r s → IsComplete r
+    → IsComplete s
+IsComplete-agrees None s h k = absurd k
+IsComplete-agrees (Some r) None h k = absurd h
+IsComplete-agrees (Some r) (Some s) h k = tt
