@@ -62,8 +62,8 @@ fn say_stop<O: Outside>(outside: &mut O, stop: Stop) {
     }
 }
 
-/// Says why the run of a processor does nothing, if so: always if it reaches the bound, and in a quiet system whatever
-/// the reason is.
+/// Says why the next run of a processor comes to no call, if so: always if it reaches the bound, and in a quiet system
+/// whatever the reason is.
 fn say_next<O: Outside>(outside: &mut O, stop: Stop, processor: usize, next: NextRun) {
     match (stop, next) {
         (_, NextRun::OverBound) => outside.say(format_args!(

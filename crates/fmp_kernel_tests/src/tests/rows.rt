@@ -259,7 +259,7 @@ M RUNNING p1 10
 const ONE: &str = "NUM_PRC(1); CLASS(TCL_1) { CRE_TSK(T,{TA_ACT,0,main,10,256,NULL}); }";
 
 #[test]
-fn a_stretch_over_the_bound_does_nothing(rt: HostRuntime) -> Result<(), Fail> {
+fn a_stretch_over_the_bound_has_no_line(rt: HostRuntime) -> Result<(), Fail> {
     let setup = "0 p1 T starts
 0 p1 > T
 T RUNNING p1 10
