@@ -17,6 +17,12 @@ const ONE_TASK: (&str, &str) = (
     "task main { put(7); }",
 );
 
+/// One task whose first stretch takes 100,005 instructions.
+pub const LONG_TASK: (&str, &str) = (
+    "NUM_PRC(1); CLASS(TCL_1) { CRE_TSK(T1,{TA_ACT,0,main,10,256,NULL}); }",
+    "task main { var v; while (v < 11111) { v = v + 1; } put(v); }",
+);
+
 /// One seat of a board feeds these events: the answers that it got.
 pub fn feed<S: Site, R: Wait>(
     rt: &R,
@@ -51,6 +57,22 @@ fn three_events_on_one_task(rt: HostRuntime) -> Result<(), Fail> {
     assert_eq!(rt; answers_text(alloc, &told.calls)?.as_str(), "1 2 0 ");
     assert_eq!(rt; seen.journal.as_str(), "run 1\nrun 1\n");
     assert_eq!(rt; seen.states.as_str(), "T1 DORMANT p1 10\n");
+    Ok(())
+}
+
+#[test]
+fn a_stretch_that_keeps_its_place(rt: HostRuntime) -> Result<(), Fail> {
+    let alloc = rt.alloc();
+    let events = [Event::Run(1); 4];
+    let (told, seen) = played(&rt, alloc, LONG_TASK, 4, Play::Feed(&events))?;
+    assert_eq!(rt; answers_text(alloc, &told.calls)?.as_str(), "1 2 3 0 ");
+    assert_eq!(rt; seen.journal.as_str(), "run 1\nrun 1\nrun 1\n");
+    assert_eq!(rt; seen.states.as_str(), "T1 DORMANT p1 10\n");
+    // The first event has no number in the trace.
+    assert_eq!(rt;
+        seen.simulated.as_str(),
+        "0 p1 T1 starts\n0 p1 > T1\n1 p1 T1 put(11111) E_OK\n2 p1 T1 end\nT1 DORMANT p1 10\n"
+    );
     Ok(())
 }
 

@@ -3,6 +3,7 @@ ghost use Rattle.std.specs.Prelude.{◌≡◌, All};
 ghost use Rattle.fmp_board.specs.Boards.{IsAt};
 
 use crate::SecondFirst;
+use crate::tests::feeding::LONG_TASK;
 use crate::tests::hosting::TWO_TASKS;
 use crate::tests::playing::{Play, Told, fed, played};
 use crate::tests::showing::{Seen, one};
@@ -208,6 +209,13 @@ fn a_board_that_was_fed(rt: HostRuntime) -> Result<(), Fail> {
         prints_as_simulated(&rt, told, 6)?;
     }
     Ok(())
+}
+
+#[test]
+fn a_board_on_which_a_place_was_kept(rt: HostRuntime) -> Result<(), Fail> {
+    let events = [Event::Run(1); 3];
+    let told = played(&rt, rt.alloc(), LONG_TASK, 4, Play::Follow(&events))?;
+    prints_as_simulated(&rt, told, 2)
 }
 
 #[test]

@@ -4,6 +4,7 @@ ghost use Rattle.fmp_board.specs.Boards.{IsAt, blank as blank_of};
 ghost use Rattle.fmp_board.specs.Outcomes.{IsDrawn};
 ghost use mathlib.Core.List.{IsPrefix};
 
+use crate::tests::feeding::LONG_TASK;
 use crate::tests::hosting::{SUSPENDED, TWO_TASKS};
 use crate::tests::playing::{Calls, Play, fed, played};
 use crate::tests::showing::{BOUND, board_of, image_of, last_of, one, steps_of};
@@ -106,6 +107,40 @@ fn done(number: u32) -> Result<Receipt, BoardFault> {
             value: None,
         }),
     })
+}
+
+/// What is answered to the event at this place of the journal, from 1, which keeps the place of a stretch.
+fn kept(number: u32) -> Result<Receipt, BoardFault> {
+    Ok(Receipt {
+        number,
+        effect: Effect::Kept,
+        reply: None,
+    })
+}
+
+#[test]
+fn an_outcome_after_a_place_was_kept(rt: HostRuntime) -> Result<(), Fail> {
+    let alloc = rt.alloc();
+    let events = [Event::Run(1)];
+    let (told, seen) = played(&rt, alloc, LONG_TASK, 8, Play::Submit(&events))?;
+    // The actor is the same, and nothing is printed of what it has done since the tickets were drawn.
+    let stale = Err(BoardFault::Stale);
+    assert_eq!(rt; told.calls.as_slice(), [kept(1), stale, stale].as_slice());
+    assert_eq!(rt; steps_of(alloc, &told.followed)?.as_str(), "run 1\n");
+    assert_eq!(rt; seen.journal.as_str(), "run 1\n");
+    assert_eq!(rt; seen.simulated.as_str(), "0 p1 T1 starts\n0 p1 > T1\nT1 RUNNING p1 10\n");
+    Ok(())
+}
+
+#[test]
+fn an_outcome_that_keeps_a_place(rt: HostRuntime) -> Result<(), Fail> {
+    let alloc = rt.alloc();
+    let (told, seen) = played(&rt, alloc, LONG_TASK, 8, Play::Submit(&[]))?;
+    let expected = [kept(1), Err(BoardFault::Stale)];
+    assert_eq!(rt; told.calls.as_slice(), expected.as_slice());
+    assert_eq!(rt; seen.journal.as_str(), "run 1\n");
+    assert_eq!(rt; seen.states.as_str(), "T1 RUNNING p1 10\n");
+    Ok(())
 }
 
 #[test]
