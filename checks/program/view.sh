@@ -332,6 +332,26 @@ cat > wanted <<'END'
 #fault 2 p1 T F_IDX
 END
 marks index
+
+# Where steps of SUM keep its place there is a mark at the event before, in its lane; and each has a time in a dump.
+drawn sum --bound 1000
+cat > wanted <<'END'
+#act 0 p1 BEAT starts
+#rel 3 tick 2
+#rel 7 tick 4
+#act 0 p1 BEAT starts
+#kept 1 p1 BEAT dly_tsk(1) wait
+#kept 2 tick 1
+#kept 5 p1 BEAT dly_tsk(1) wait
+#kept 6 tick 3
+#kept 9 p1 BEAT dly_tsk(1) wait
+#end 11 p1 SUM end
+END
+gives 'timeline: marks of sum' "$pictures" marks sum.svg
+shows 'waves: kept places' 0 waves stuck.img stuck.steps stuck.vcd
+printf '#0\n#1\n#2\n#3\n#4\n' > wanted
+gives 'waves: times of kept places' grep '^#' stuck.vcd
+
 holds 'timeline: the tag of an index out of range' 'it has none' grep -q '>F_IDX</text>' index.svg
 
 # A mark stands where the task is after the event; where it was before, if its call was refused or its body ended.

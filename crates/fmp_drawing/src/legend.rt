@@ -94,7 +94,7 @@ static OBJECT: Item = Item(
 );
 
 /// The marks.
-static MARKS: [Item; 13] = [
+static MARKS: [Item; 14] = [
     Item("<use href=\"#act\" x=\"6\"/>", "start", 12),
     Item("<use href=\"#queued\" x=\"6\"/>", "activation queued", 12),
     Item("<use href=\"#rel\" x=\"6\"/>", "released", 12),
@@ -112,6 +112,11 @@ static MARKS: [Item; 13] = [
     Item("<use href=\"#ter\" x=\"6\"/>", "terminated", 12),
     Item("<use href=\"#int\" x=\"6\"/>", "interrupt", 12),
     Item("<use href=\"#due\" x=\"6\"/>", "cyclic handler due", 12),
+    Item(
+        "<use href=\"#kept\" x=\"6\" y=\"-7\"/>",
+        "stretch cut short",
+        12,
+    ),
 ];
 
 /// Where the items of a line begin.

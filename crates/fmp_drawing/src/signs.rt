@@ -37,6 +37,7 @@ fn shape_of(sign: Sign) -> (&'static str, u32, u32) {
         Sign::Priority(_) => ("", 0, 0),
         Sign::Requested => ("int", 4, 5),
         Sign::Due => ("due", 4, 4),
+        Sign::Kept => ("kept", 5, 5),
     }
 }
 

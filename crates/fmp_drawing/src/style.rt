@@ -98,4 +98,5 @@ pub const SHAPES: &str = r##"<defs>
 <g id="int"><path class="mk" d="M1-8l-4 8h3l-1 7l4-9h-3z" stroke-width=".4"/></g>
 <g id="due"><path class="mk" d="M0-7V3" fill="none" stroke-width="1.4"/>
 <path class="mk" d="M0 7l3-5h-6z" stroke-width=".4"/></g>
+<g id="kept"><path class="mk" d="M-4 7h1.6M-.8 7h1.6M2.4 7h1.6" fill="none" stroke-width="1.6"/></g>
 </defs>"##;

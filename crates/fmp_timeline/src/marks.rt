@@ -32,6 +32,8 @@ pub enum Sign {
     Requested,
     /// A cyclic handler became due.
     Due,
+    /// A stretch was cut short behind the event, and kept its place.
+    Kept,
 }
 
 impl Sign {

@@ -165,6 +165,31 @@ impl Run {
         Ok(())
     }
 
+    /// Whether the last mark of an actor says that it kept its place behind this event.
+    fn has_kept(&self, event: u32, actor: Caller) -> bool {
+        match self.deeds_of(actor) {
+            Some(deeds) => match deeds.marks.last() {
+                Some(mark) => mark.event == event && matches!(mark.sign, Sign::Kept),
+                None => false,
+            },
+            None => false,
+        }
+    }
+
+    /// The actor of the processor at this place kept its place behind the last event; of several times there is one
+    /// mark.
+    pub fn keep_place(&mut self, processor: u8) -> Result<(), AllocError> {
+        let event = self.next_event().saturating_sub(1);
+        if let Some(track) = self.occupants.get(usize::from(processor))
+            && let Some(occupant) = track.last()
+            && let Some(actor) = occupant.actor()
+            && !self.has_kept(event, actor)
+        {
+            self.mark(event, actor, Sign::Kept)?;
+        }
+        Ok(())
+    }
+
     /// The marks and the links of the lines.
     pub fn take_lines(&mut self, event: u32, lines: &[Line]) -> Result<(), AllocError> {
         let actor = actor_of(lines);

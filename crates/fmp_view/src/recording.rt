@@ -89,14 +89,14 @@ impl<'a> Recorder<'a> {
     }
 
     /// A stretch that reached its bound on this processor, and kept its place: the lanes show the tasks as they did, and
-    /// the processor goes on without an event.
+    /// that of its actor has a mark.
     fn record_kept(&mut self, alloc: Global, frame: &Frame, processor: u8) -> Result<(), AllocError>
         ensures { OnOk result (self.new.shown.items
             ≡ spec.tasks_shown frame.now.states.items frame.now.blocks.items frame.now.processors.items) }
     {
         self.take_turns();
         let shown = tasks_shown(alloc, &frame.states, &frame.blocks, &frame.processors)?;
-        self.run.turn_in_vain(processor);
+        self.run.keep_place(processor)?;
         self.shown = shown;
         Ok(())
     }
