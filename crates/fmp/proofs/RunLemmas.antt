@@ -44,6 +44,8 @@ module _ (before after text : List ℕ) (e : after ≡ before ++ text) where
         read = h.read;
         finished = h.finished;
         are_done = h.are_done;
+        answers = h.answers;
+        are_answers = h.are_answers;
         trace = h.trace;
         finishes = h.finishes;
         text = behind _ h.text;

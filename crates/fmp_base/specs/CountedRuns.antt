@@ -1,6 +1,7 @@
 -- What is finished over contexts that count is a complete run over plain ones.
 use Rattle.std.specs.Prelude.{ℕ, zero, suc, ◌≡◌, refl, List, [], ◌∷◌, Option, Some, None, slice_set}
 use Rattle.std.proofs.Common.{subst, ap, ◌∙◌}
+use Rattle.fmp_base.specs.declared.events.Effect.{Effect}
 use Rattle.fmp_base.specs.declared.events.Event.{Event}
 use Rattle.fmp_base.specs.declared.events.Line.{Line}
 use Rattle.fmp_base.specs.declared.states.Caller.{Caller}
@@ -114,20 +115,20 @@ module _ {C : Type 0} (sys : SystemTables) (M : Meaning C) (n size t : ℕ) wher
         state = l.state;
       }
 
-  pub plainly : (v : World (Counted C)) (es ds : List Event) (r : Trace (Counted C))
-      → Finishes sys (counted M) (OnceMore M n size) t v es ds r
+  pub plainly : (v : World (Counted C)) (es : List Event) (xs : List Effect) (ds : List Event) (r : Trace (Counted C))
+      → Finishes sys (counted M) (OnceMore M n size) t v es xs ds r
       → (w : World C) → WorldTied sys Same Same v w → Plainly w ds r
-  plainly _ _ _ _ (over v) w h = record { trace = ended_in w; complete = refl; events = refl; state = h.states }
-  plainly _ _ _ _ (did v e es ds d r p f) w h =
+  plainly _ _ _ _ _ (over v) w h = record { trace = ended_in w; complete = refl; events = refl; state = h.states }
+  plainly _ _ _ _ _ (did v e es xs ds d r p f) w h =
       did_plainly w e ds d r v (step sys M t w e) refl
       (subst (λ (x : Reaction (Counted C)). DoneTied sys Same Same (KeptOn sys Same Same Whatever w e) x
       (step sys M t w e)) p
       (step-tied sys Same (counted M) t M t keeps_same v w e h))
-      (λ w' h'. plainly d.world es ds r f w' h')
-  plainly _ _ _ _ (did_nothing v e es ds r p f) w h = plainly v es ds r f w h
-  plainly _ _ _ _ (kept v p who c next es ds r actor there leads f) w h =
+      (λ w' h'. plainly d.world es xs ds r f w' h')
+  plainly _ _ _ _ _ (did_nothing v e es xs ds r p f) w h = plainly v es xs ds r f w h
+  plainly _ _ _ _ _ (kept v p who c next es xs ds r actor there leads f) w h =
       let body = caller_body sys v.contexts p who in
-      plainly (with_place v p who next) es ds r f w
+      plainly (with_place v p who next) es xs ds r f w
       (record {
         states = h.states;
         contexts = with_context_left sys (HeldTied Same Same) v.contexts w.contexts p who (Goes next) h.contexts

@@ -1,5 +1,7 @@
 -- Runs over lists of events, and what is shown of the tasks at the end.
 use Rattle.std.specs.Prelude.{ℕ, List, [], ◌∷◌, Option, Some, None, Bool, true, false}
+use Rattle.fmp_base.specs.declared.events.Effect.{Effect}
+use Rattle.fmp_base.specs.declared.events.Effect.TheVariants as effect
 use Rattle.fmp_base.specs.declared.events.Event.{Event}
 use Rattle.fmp_base.specs.declared.events.Line.{Line}
 use Rattle.fmp_base.specs.declared.events.StateWord.{StateWord}
@@ -51,6 +53,16 @@ taken_on w e (Kept p v) rest = e ∷ rest v
 abbrev pub taken_events : {C : Type 0} → SystemTables → Meaning C → (bound : ℕ) → World C → List Event → List Event
 taken_events sys M bound w [] = []
 taken_events sys M bound w (e ∷ es) = taken_on w e (step sys M bound w e) (λ v. taken_events sys M bound v es)
+
+abbrev pub effects_on : {C : Type 0} → World C → Reaction C → (World C → List Effect) → List Effect
+effects_on w Nothing rest = effect.Nothing ∷ rest w
+effects_on w (Did d) rest = effect.Done ∷ rest d.world
+effects_on w (Kept p v) rest = effect.Kept ∷ rest v
+
+-- what a run answers to each of the events
+abbrev pub effects : {C : Type 0} → SystemTables → Meaning C → (bound : ℕ) → World C → List Event → List Effect
+effects sys M bound w [] = []
+effects sys M bound w (e ∷ es) = effects_on w (step sys M bound w e) (λ v. effects sys M bound v es)
 
 abbrev pub completed_by : {C : Type 0} → List Line → Option (Trace C) → Option (Trace C)
 completed_by ls None = None

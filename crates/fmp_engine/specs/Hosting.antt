@@ -1,8 +1,9 @@
 -- What a host of an image writes and prints, or why it does not.
 use Rattle.std.specs.Prelude.{◌≡◌, ◌++◌, ◌+◌, ◌*◌, ◌≤◌, ◌^◌, ℕ, List, Err, length}
+use Rattle.fmp_base.specs.declared.events.Effect.{Effect}
 use Rattle.fmp_base.specs.declared.events.Event.{Event}
 use Rattle.fmp_base.specs.KeptRuns.{IsFinished}
-use Rattle.fmp_base.specs.Runs.{Trace, done_events}
+use Rattle.fmp_base.specs.Runs.{Trace, done_events, effects}
 use Rattle.fmp_base.specs.Setups.{setup}
 use Rattle.fmp_base.specs.Texts.{trace_text, whole_text}
 use Rattle.fmp_instructions.specs.Machine.{code_meaning}
@@ -69,10 +70,14 @@ pub record HostsTexts (i : ImageTables) (bodies : List BodyTree) (work : Workloa
   pub are_done :
       let machine = code_meaning i.code in
       finished ≡ done_events i.system machine work.bound (setup i.system machine).world journal
+  pub answers : List Effect
+  pub are_answers :
+      let machine = code_meaning i.code in
+      answers ≡ effects i.system machine work.bound (setup i.system machine).world journal
   pub trace : Trace TextContext
   pub finishes :
       let text = text_meaning i.system bodies in
-      IsFinished i.system text work.bound (longest i.code) journal finished trace
+      IsFinished i.system text work.bound (longest i.code) journal answers finished trace
   pub text : out_after ≡ out ++ trace_text i.system (setup i.system (text_meaning i.system bodies)).lines trace
 
 -- why a board of an image gives no journal, apart from running out of memory

@@ -1,8 +1,9 @@
 -- What a simulation of an image over a steps text prints, or why it prints nothing.
 use Rattle.std.specs.Prelude.{◌≡◌, ◌++◌, ℕ, List, [], Ok, Err}
+use Rattle.fmp_base.specs.declared.events.Effect.{Effect}
 use Rattle.fmp_base.specs.declared.events.Event.{Event}
 use Rattle.fmp_base.specs.KeptRuns.{IsFinished}
-use Rattle.fmp_base.specs.Runs.{Trace, done_events}
+use Rattle.fmp_base.specs.Runs.{Trace, done_events, effects}
 use Rattle.fmp_base.specs.Setups.{setup}
 use Rattle.fmp_base.specs.Texts.{trace_text, whole_text}
 use Rattle.fmp_instructions.specs.Machine.{code_meaning}
@@ -30,10 +31,10 @@ pub record Simulates (image steps : List ℕ) (n : ℕ) (before after : List ℕ
   pub text : after ≡ before ++ whole_text loaded.system (code_meaning loaded.code) n events
 
 -- The steps read as q events, and what was appended is what the bodies of a task text mean, at n * q turns of loops, over
--- those of them that the run of their image did, within n instructions a stretch. An event that it left out does nothing
--- in the text either at that point, at any number of turns, or it kept the place of its actor once more: a stretch that
--- the text ends within t turns is kept j times only with n * j < (t + 1) * L, L being the instructions of the longest
--- body.
+-- those of them that the run of their image did, within n instructions a stretch. An event that the run answers Nothing
+-- does nothing in the text either at that point, at any number of turns. One that it answers Kept keeps the place of its
+-- actor once more: a stretch that the text ends within t turns is kept j times only with n * j < (t + 1) * L, L being the
+-- instructions of the longest body.
 pub record PrintsTexts (i : ImageTables) (bodies : List BodyTree) (steps : List ℕ) (n : ℕ) (before after : List ℕ) :
     Type 0 where
   pub events : List Event
@@ -42,10 +43,14 @@ pub record PrintsTexts (i : ImageTables) (bodies : List BodyTree) (steps : List 
   pub are_done :
       let machine = code_meaning i.code in
       finished ≡ done_events i.system machine n (setup i.system machine).world events
+  pub answers : List Effect
+  pub are_answers :
+      let machine = code_meaning i.code in
+      answers ≡ effects i.system machine n (setup i.system machine).world events
   pub trace : Trace TextContext
   pub finishes :
       let text = text_meaning i.system bodies in
-      IsFinished i.system text n (longest i.code) events finished trace
+      IsFinished i.system text n (longest i.code) events answers finished trace
   pub text : after ≡ before ++ trace_text i.system (setup i.system (text_meaning i.system bodies)).lines trace
 
 -- the bytes spell an image, and this is the first fault of the steps
