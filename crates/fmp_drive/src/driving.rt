@@ -103,9 +103,8 @@ fn next<B: Body>(
 }
 
 /// Drives a kernel of this many processors and tasks: its processors in turn, or as the plan has it, and a tick when
-/// none of them can do anything; until nothing can happen any more, or `most` events are taken. A task that
-/// reaches the bound of its stretch goes on when its turn comes again. `AllocError` if memory
-/// runs out.
+/// none of them can do anything; until nothing can happen any more, or `most` events are taken. A task whose stretch
+/// reaches the bound goes on when its turn comes again. `AllocError` if memory runs out.
 pub fn drive<B: Body>(
     alloc: Global,
     kernel: &mut Kernel<B>,

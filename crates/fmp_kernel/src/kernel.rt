@@ -114,7 +114,8 @@ impl<B: Body> Kernel<B> {
         self.runner.state(t)
     }
 
-    /// The tables of the system and the state of the kernel, as the last event that was done (or setup) left them: what may be seen of them by the public calls of `Tables`, by places from 0.
+    /// The tables of the system and the state of the kernel, as the last event that was done (or setup) left them: what
+    /// may be seen of them by the public calls of `Tables`, by places from 0.
     pub fn tables(&self) -> &Tables
         ensures system { result.now.system ≡ self.now.system }
         ensures state { result.now.state ≡ self.now.world.state }
@@ -139,7 +140,8 @@ impl<B: Body> Kernel<B> {
 
     /// The actor of the processor of this number, from 1: its running handler, else the task that it runs. None exactly
     /// where there is no such processor, or it has no actor. The stamp is how many of the events taken ran the
-    /// processor or left it another actor than they found: along one run equal stamps mean the same actor in the same context.
+    /// processor or left it another actor than they found: along one run equal stamps mean the same actor in the same
+    /// context.
     #[tactic(auto, using(crate::proofs::ActorNone::no_actor))]
     pub fn actor(&self, p: u8) -> Option<Actor<B::Ctx>>
         ensures value { result ≡ actor_in self.now p }

@@ -58,7 +58,7 @@ looping =
 abbrev pub looping_events : List Event
 looping_events = Run 1 ∷ Run 2 ∷ Run 1 ∷ Run 2 ∷ Run 2 ∷ []
 
--- a stretch that reaches its bound does nothing, and leaves the other processor alone
+-- a loop without an end is nothing in a text's meaning, and leaves the other processor alone
 abbrev pub EndlessLoopIsNothing : Type 0
 EndlessLoopIsNothing =
     (printed_from 1 (one_on_each "A" "B") looping 1000 looping_events ≡

@@ -117,7 +117,7 @@ pub fn rotation_at_own_priority()
     ensures { RotationAtOwnPriority }
 {}
 
-/// A stretch that reaches its bound does nothing, and leaves the other processor alone.
+/// A loop without an end is nothing in a text's meaning, and leaves the other processor alone.
 pub fn endless_loop_is_nothing()
     ensures { EndlessLoopIsNothing }
 {}
