@@ -17,9 +17,9 @@ abbrev pub ended_in : {C : Type 0} → World C → Trace C
 ended_in w = record { world = w; events = [] }
 
 -- From world w on, where a machine answers this to each of the events in the first list, just those in the second are
--- finished within n units, and they leave this trace: the ones that are answered Done. One that is answered Nothing does
--- nothing at its place within any number of units; and where one is answered Kept, its actor keeps a place: its context
--- becomes one to which `again` leads.
+-- finished within n units, and they leave this trace: the ones that are answered Done. One that is answered Nothing
+-- does nothing at its place within any number of units; and where one is answered Kept, its actor keeps a place: its
+-- context becomes one to which `again` leads.
 pub data Finishes {C : Type 0} (sys : SystemTables) (M : Meaning C) (again : ℕ → C → C → Type 0) (n : ℕ) : World C
     → List Event → List Effect → List Event → Trace C → Type 0 where
   over : (w : World C) → Finishes sys M again n w [] [] [] (ended_in w)

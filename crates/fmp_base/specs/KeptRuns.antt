@@ -18,13 +18,13 @@ use Rattle.fmp_base.specs.Systems.{SystemTables}
 use Rattle.fmp_base.specs.TieLaws.{setup-tied, setup_run-tied}
 use Rattle.fmp_base.specs.Ties.{StretchTied, over, kept, call, end_, fault, Any, KeepsTie}
 
--- What a run after setup over these events, which answers this to each of them, finishes where each stretch of at most n
--- units keeps its place: with q events, these are a complete run of their own at n * q turns. An event that is answered
--- Nothing does nothing at its place at any number of turns; one that is answered Kept keeps its actor's place once more.
--- Where the meaning completes the first k events of the list within t turns, (t + 1) * size up to n, these are the first
--- k that are finished.
-pub record IsFinished {C : Type 0} (sys : SystemTables) (M : Meaning C) (n size : ℕ) (es : List Event) (xs : List Effect)
-    (ds : List Event) (r : Trace C) : Type 0 where
+-- What a run after setup over these events, which answers this to each of them, finishes where each stretch of at most
+-- n units keeps its place: with q events, these are a complete run of their own at n * q turns. An event that is
+-- answered Nothing does nothing at its place at any number of turns; one that is answered Kept keeps its actor's place
+-- once more. Where the meaning completes the first k events of the list within t turns, (t + 1) * size up to n, these
+-- are the first k that are finished.
+pub record IsFinished {C : Type 0} (sys : SystemTables) (M : Meaning C) (n size : ℕ) (es : List Event)
+    (xs : List Effect) (ds : List Event) (r : Trace C) : Type 0 where
   pub counted_trace : Trace (Counted C)
   pub each : Finishes sys (counted M) (OnceMore M n size) (n * length es) (setup sys (counted M)).world es xs ds
       counted_trace

@@ -32,8 +32,8 @@ AllTied R (c ∷ cs) (d ∷ ds) = OptionTied (R zero) c d × AllTied (λ i. R (s
 AllTied R [] (d ∷ ds) = ⊥
 AllTied R (c ∷ cs) [] = ⊥
 
--- where the first is not over, the second ends in the same way; the contexts of a call are tied by R, those of an end or
--- a fault by S; of a context that is handed over K holds
+-- where the first is not over, the second ends in the same way; the contexts of a call are tied by R, those of an end
+-- or a fault by S; of a context that is handed over K holds
 pub data StretchTied {C D : Type 0} (R S : C → D → Type 0) (K : C → Type 0) : Ending C → Ending D → Type 0 where
   over : (other : Ending D) → StretchTied R S K (ends.Over None) other
   kept : (k : C) (other : Ending D) → K k → StretchTied R S K (ends.Over (Some k)) other

@@ -30,11 +30,11 @@ pub record Simulates (image steps : List ℕ) (n : ℕ) (before after : List ℕ
   pub read : steps_of loaded.system.processors steps ≡ Ok events
   pub text : after ≡ before ++ whole_text loaded.system (code_meaning loaded.code) n events
 
--- The steps read as q events, and what was appended is what the bodies of a task text mean, at n * q turns of loops, over
--- those of them that the run of their image did, within n instructions a stretch. An event that the run answers Nothing
--- does nothing in the text either at that point, at any number of turns. One that it answers Kept keeps the place of its
--- actor once more: a stretch that the text ends within t turns is kept j times only with n * j < (t + 1) * L, L being the
--- instructions of the longest body.
+-- The steps read as q events, and what was appended is what the bodies of a task text mean, at n * q turns of loops,
+-- over those of them that the run of their image did, within n instructions a stretch. An event that the run answers
+-- Nothing does nothing in the text either at that point, at any number of turns. One that it answers Kept keeps the
+-- place of its actor once more: a stretch that the text ends within t turns is kept j times only with n * j < (t + 1) *
+-- L, L being the instructions of the longest body.
 pub record PrintsTexts (i : ImageTables) (bodies : List BodyTree) (steps : List ℕ) (n : ℕ) (before after : List ℕ) :
     Type 0 where
   pub events : List Event

@@ -79,7 +79,8 @@ pub fn last_frame<B: Body>(alloc: Global, kernel: &Kernel<B>) -> Result<Frame, A
     frame(alloc, kernel, kernel.lines(), None)
 }
 
-/// The frame of an event that kept the place of the actor of the processor that it ran. `AllocError` if memory runs out.
+/// The frame of an event that kept the place of the actor of the processor that it ran. `AllocError` if memory runs
+/// out.
 pub fn kept_frame<B: Body>(
     alloc: Global,
     kernel: &Kernel<B>,

@@ -75,8 +75,8 @@ abbrev pub with_stretch : {B C : Type 0} → RunnerView B C → ℕ → Caller �
 with_stretch r p who x = kept_in r (with_context r.world.contexts p who (kept_after x))
 
 -- a kernel: its bodies and their bound, the tables of its system, its state with the bodies' contexts, the lines of the
--- last event that was done (or of setup), how many events were done, how many it has taken, which are those and the ones
--- that kept a place, and by place the stamps of its processors
+-- last event that was done (or of setup), how many events were done, how many it has taken, which are those and the
+-- ones that kept a place, and by place the stamps of its processors
 pub record KernelView (B C : Type 0) : Type 0 where
   pub body : B
   pub bound : ℕ

@@ -58,8 +58,8 @@ impl<B: Body> Runner<B> {
         self.finish(own);
     }
 
-    /// The actor of processor p makes a call; its context awaits the reply. Where it spins for a held spin lock, nothing
-    /// has changed.
+    /// The actor of processor p makes a call; its context awaits the reply. Where it spins for a held spin lock,
+    /// nothing has changed.
     fn make_call(&mut self, p: u8, who: Caller, made: &Call) -> Effect
         requires there { p < self.old.system.processors }
         requires caller { IsTaskOf self.old.system who }
@@ -193,8 +193,8 @@ impl<B: Body> Runner<B> {
         self.contexts.put(p, who, first, false);
     }
 
-    /// Carries out the stop of a stretch that began in this context, as `carry_out_stop` does. Where the actor spins for a
-    /// held spin lock, it goes on from this context again, so that nothing has happened.
+    /// Carries out the stop of a stretch that began in this context, as `carry_out_stop` does. Where the actor spins
+    /// for a held spin lock, it goes on from this context again, so that nothing has happened.
     #[tactic(auto, using(crate::proofs::StopLemmas::nothing_calls))]
     fn carry_out_or_spin(&mut self, p: u8, who: Caller, stop: &Stop, first: &B::Ctx) -> Effect
         requires there { p < self.old.system.processors }
@@ -221,8 +221,8 @@ impl<B: Body> Runner<B> {
         }
     }
 
-    /// The actor of processor p makes a stretch from the context from which it goes on: the call, end or fault is carried
-    /// out, or its place is kept. No processor holds a spin lock, so it spins for none.
+    /// The actor of processor p makes a stretch from the context from which it goes on: the call, end or fault is
+    /// carried out, or its place is kept. No processor holds a spin lock, so it spins for none.
     fn make_stretch(&mut self, p: u8, who: Caller) -> Effect
         requires there { p < self.old.system.processors }
         requires goes { is_going (context_of self.old.world.contexts p who) ≡ true }
@@ -296,7 +296,8 @@ impl<B: Body> Runner<B> {
         self.carry_out_stop(p, who, &stop)
     }
 
-    /// The same where some processor holds a spin lock: an actor that spins goes on from the context from which it came.
+    /// The same where some processor holds a spin lock: an actor that spins goes on from the context from which it
+    /// came.
     #[tactic(auto, using(crate::proofs::StopLemmas::ending_hands))]
     fn apply_stretch_or_spin(&mut self, p: u8, who: Caller, stretch: Stretch<B::Ctx>) -> Effect
         requires there { p < self.old.system.processors }

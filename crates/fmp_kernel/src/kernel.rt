@@ -167,8 +167,8 @@ impl<B: Body> Kernel<B> {
     }
 
     /// One event, while fewer than 2^20 were taken: what it does. If it is done, its lines and the state after it stand
-    /// here then. If it keeps the place of an actor, the actor goes on from there, and nothing else of the world changes.
-    /// If it does nothing, nothing has changed. It takes no memory.
+    /// here then. If it keeps the place of an actor, the actor goes on from there, and nothing else of the world
+    /// changes. If it does nothing, nothing has changed. It takes no memory.
     pub fn step(&mut self, e: Event) -> Effect
         requires { self.old.taken < 2 ^ 20 }
         ensures effect { result

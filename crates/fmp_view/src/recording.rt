@@ -88,8 +88,8 @@ impl<'a> Recorder<'a> {
         Ok(())
     }
 
-    /// A stretch that reached its bound on this processor, and kept its place: the lanes show the tasks as they did, and
-    /// that of its actor has a mark.
+    /// A stretch that reached its bound on this processor, and kept its place: the lanes show the tasks as they did,
+    /// and that of its actor has a mark.
     fn record_kept(&mut self, alloc: Global, frame: &Frame, processor: u8) -> Result<(), AllocError>
         ensures { OnOk result (self.new.shown.items
             ≡ spec.tasks_shown frame.now.states.items frame.now.blocks.items frame.now.processors.items) }

@@ -103,7 +103,8 @@ counted e w Nothing p = 0
 counted e w (Did d) p = one_if (counts (run_place e) w.state d.world.state p)
 counted e w (Kept q v) p = one_if (counts (run_place e) w.state v.state p)
 
--- the stamp of the processor at place p after a run: how many of the events that are done or keep a place counted for it
+-- the stamp of the processor at place p after a run: how many of the events that are done or keep a place counted for
+-- it
 abbrev pub stamp : {C : Type 0} → SystemTables → Meaning C → (bound : ℕ) → World C → List Event → (p : ℕ) → ℕ
 stamp sys M bound w [] p = 0
 stamp sys M bound w (e ∷ es) p =

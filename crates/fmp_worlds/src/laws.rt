@@ -18,8 +18,8 @@ ghost use Rattle.fmp_worlds.specs.Settled.{RunOnce, IsSettled};
 ghost use Rattle.fmp_worlds.specs.Spins.{IsLockHeld};
 ghost use Rattle.fmp_worlds.specs.Stamps.{EndsSo, Going, actor_at, applied, stamp};
 
-/// Setup leaves a settled state, and so does each event that is done in one. An event that keeps a place changes nothing
-/// of the state.
+/// Setup leaves a settled state, and so does each event that is done in one. An event that keeps a place changes
+/// nothing of the state.
 pub fn worlds_are_settled<C>()
     ensures setup { (sys : SystemTables) (M : Meaning C) → IsSettled sys (setup sys M).world.state }
     ensures step { (sys : SystemTables) (M : Meaning C) (n : ℕ) (w : World C) (e : Event) (d : Done C) →
