@@ -1,9 +1,19 @@
 //! Laws of the stack machine, which the crates above take by name.
-ghost use Rattle.fmp_code.specs.Laws.{StaysAtGreaterBounds, MakesOnlyItsCalls, LastStops};
+ghost use Rattle.fmp_code.specs.Laws.{StaysAtGreaterBounds, CutsGoOn, StaysStuck, MakesOnlyItsCalls, LastStops};
 
 /// More instructions do not change how a stretch ends.
 pub fn stretches_stay_at_greater_bounds()
     ensures { StaysAtGreaterBounds }
+{}
+
+/// A stretch that is cut at its bound goes on from what it hands over as if there had been no bound.
+pub fn cut_stretches_go_on()
+    ensures { CutsGoOn }
+{}
+
+/// A stretch that is stuck is stuck within any more instructions.
+pub fn stuck_stretches_stay_stuck()
+    ensures { StaysStuck }
 {}
 
 /// Code whose calls are all of services that pass a test makes no other call.

@@ -2,6 +2,7 @@
 //! `fmp_instructions`, and are given out here too.
 #![tactic(auto)]
 
+mod cuts;
 mod decoded;
 mod delivery;
 mod holding;

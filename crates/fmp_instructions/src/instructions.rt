@@ -62,9 +62,14 @@ pub struct Code {
     pub bodies: Vec<BodyCode>,
 }
 
-/// Where a body stands between two stretches: the place of the next instruction, and its locals.
+/// Where a body stands between two stretches. Only a stretch that was cut at its bound leaves operands.
 #[derive(Clone, Copy)]
 pub struct MachineContext {
+    /// The place of the next instruction.
     pub pc: u16,
+    /// How many operands there are, 64 at most.
+    pub count: u8,
     pub locals: [i32; 64],
+    /// The operands, the one pushed first in front. The places behind them hold 0.
+    pub operands: [i32; 64],
 }
