@@ -7,7 +7,6 @@ use Rattle.std.proofs.lemmas.Nat.{mul-le}
 use Rattle.fmp_base.specs.declared.calls.Reply.{Reply}
 use Rattle.fmp_base.specs.declared.names.Name.{Name}
 use Rattle.fmp_base.specs.Systems.{SystemTables}
-use Rattle.fmp_base.specs.TieLaws.{any_end}
 use Rattle.fmp_lex.specs.declared.fault.FaultKind.TheVariants as fault
 use Rattle.fmp_tasklang.specs.declared.trees.Declaration.{Declaration}
 use Rattle.fmp_tasklang.specs.declared.trees.Length.{Length}
@@ -16,11 +15,15 @@ use Rattle.fmp_tasklang.specs.Layout.{Local, local_of, magnitude, places_of, exi
 use Rattle.fmp_tasklang.specs.Scopes.{Scope, scope_of}
 use Rattle.fmp_tasklang.specs.Contexts.{TextContext, start, deliver}
 use Rattle.fmp_tasklang.specs.Texts.{body_at}
+use Rattle.fmp_tasklang.proofs.Overs.{hands_over_nothing}
+use Rattle.fmp_tasklang.proofs.Turns.{more_turns}
 use Rattle.fmp_instructions.specs.declared.instructions.Instruction.{Instruction}
 use Rattle.fmp_instructions.specs.declared.instructions.Instruction.TheVariants.{End}
 use Rattle.fmp_instructions.specs.declared.instructions.MachineContext.{MachineContext}
 use Rattle.fmp_instructions.specs.Instructions.{BodyTables, found_instructions, instructions_at}
-use Rattle.fmp_instructions.specs.Machine.{code_start, code_deliver}
+use Rattle.fmp_instructions.specs.Longer.{exec-longer}
+use Rattle.fmp_instructions.specs.Machine.{code_start, code_stretch, code_deliver, stack_of}
+use Rattle.fmp_instructions.specs.Resuming.{exec-resumes, exec-stuck}
 use Rattle.fmp_codegen.specs.Compiling.{is_among, length_offence, body_offence, bodies_offence, compiled, IsAccepted, variables_offence, size_offence}
 use Rattle.fmp_codegen.specs.Laws.{DoesText}
 use Rattle.fmp_scopes.specs.declared.offences.Offence.{Offence}
@@ -192,6 +195,7 @@ started_tied :
     ContextTied (scope_of tables body) (body_code tables body) (code_start exinf) (start body exinf)
 started_tied tables body exinf named few =
     record {
+      operands = refl;
       locals = first-tied tables body exinf 63 few;
       todo = body_stands tables body exinf named;
       reply = λ l vs r h. h;
@@ -202,6 +206,7 @@ delivered_tied :
     ContextTied scope code d c → ContextTied scope code (code_deliver code d reply) (deliver c reply)
 delivered_tied scope code d c reply h =
     record {
+      operands = h.operands;
       locals = h.reply d.locals c.locals reply h.locals;
       todo = h.todo;
       reply = h.reply;
@@ -250,22 +255,20 @@ module _ (tables : SystemTables) (bodies : List BodyTree) (accepted : IsAccepted
   pub does_text : DoesText tables bodies (compiled tables bodies)
   does_text =
       record {
-        code_first = λ n. record {
-          starts = starts_tied;
-          delivers = delivers_tied;
-          stretches = λ body d c h.
-              any_end _ _ _ _ (code_first (scope_of tables (body_at bodies body)) (instructions_at code body)
-              (locals-plain tables (body_at bodies body)) n d c h);
-        };
-        text_first = λ t n one le. record {
-          starts = starts_tied;
-          delivers = λ body c d reply h. delivers_tied body d c reply h;
-          stretches = λ body c d h.
-              any_end _ _ _ _ (text_first (scope_of tables (body_at bodies body)) (instructions_at code body)
-              (locals-plain tables (body_at bodies body)) t n d c h
-              (enough_for code t n one le (slice_get code body) (length-le-longest code body) d.pc d.locals));
-        };
-        ends_alike = λ body n d c h.
+        starts = starts_tied;
+        delivers = delivers_tied;
+        first = λ body n d c h.
             code_first (scope_of tables (body_at bodies body)) (instructions_at code body)
             (locals-plain tables (body_at bodies body)) n d c h;
+        back = λ body t n d c one le h.
+            text_first (scope_of tables (body_at bodies body)) (instructions_at code body)
+            (locals-plain tables (body_at bodies body)) t n d c h
+            (enough_for code t n one le (slice_get code body) (length-le-longest code body) d.pc d.locals);
+        resumes = λ body m n d cut e. exec-resumes (instructions_at code body) m n d.pc (stack_of d) d.locals cut e;
+        stays = λ body low high d le ended.
+            exec-longer (instructions_at code body) low high le d.pc (stack_of d) d.locals
+            (code_stretch (instructions_at code body) low d) ended refl;
+        stuck_stays = λ body m n d e. exec-stuck (instructions_at code body) m n d.pc (stack_of d) d.locals e;
+        text_stays = λ body low high c le ended. more_turns (scope_of tables (body_at bodies body)) c low high le ended;
+        text_over = λ body t c e. hands_over_nothing (scope_of tables (body_at bodies body)) t c e;
       }

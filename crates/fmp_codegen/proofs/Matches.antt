@@ -5,6 +5,7 @@ use Rattle.std.proofs.lemmas.Option.{slice_get_within}
 use Rattle.fmp_base.specs.declared.bodies.Fault.{Fault}
 use Rattle.fmp_base.specs.Stretches.{Ending, is_over}
 use Rattle.fmp_base.specs.Stretches as ends
+use Rattle.fmp_base.specs.KeptTies.{Handed}
 use Rattle.fmp_base.specs.Ties.{StretchTied, fault}
 use Rattle.fmp_tasklang.specs.Trees.{Block, empty, next}
 use Rattle.fmp_tasklang.specs.Scopes.{Scope}
@@ -51,7 +52,7 @@ module _ (scope : Scope) (code : List Instruction) where
     pub outcome : Ending MachineContext
     pub by : exec code steps p [] l ≡ outcome
     pub ended : is_over outcome ≡ false
-    pub same : StretchTied Tied (SameLocalsBack scope) o outcome
+    pub same : StretchTied Tied (SameLocalsBack scope) Handed o outcome
 
   -- the same end, or none within t instructions
   abbrev pub Match : (t p : ℕ) → List ℤ → Ending TextContext → Type 0

@@ -193,6 +193,7 @@ module _ (scope : Scope) (code : List Instruction) (plain : IsPlain scope) where
           ended = refl;
           same = call (calling vs rest (receivers_of scope c)) (at (pe + 1) l) (request c.service xs)
               (record {
+                operands = refl;
                 locals = tied;
                 todo = stood scope code rest (pe + 1) back exit
                     (moved scope code (p + (arguments_size c.arguments + 1)) (pe + 1) (Then scope code rest back exit) (omega arith) h.2);

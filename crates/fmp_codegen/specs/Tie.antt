@@ -13,7 +13,7 @@ use Rattle.fmp_instructions.specs.declared.instructions.Instruction.{Instruction
 use Rattle.fmp_instructions.specs.declared.instructions.Instruction.TheVariants.{Jump, End}
 use Rattle.fmp_instructions.specs.declared.instructions.MachineContext.{MachineContext}
 use Rattle.fmp_instructions.specs.Instructions.{BodyTables, instructions_at}
-use Rattle.fmp_instructions.specs.Machine.{call_before, replied}
+use Rattle.fmp_instructions.specs.Machine.{call_before, replied, stack_of}
 use Rattle.fmp_scopes.specs.Naming.{uses_offence, statement_uses}
 use Rattle.fmp_scopes.specs.Scheme.{statement_code}
 use Rattle.fmp_scopes.specs.Sizes.{statement_size}
@@ -77,8 +77,9 @@ TakesReply scope code receivers at =
     LocalsTied scope machine text →
     LocalsTied scope (replied (call_before code at) machine reply) (locals_after text receivers reply)
 
--- tied contexts of the code of a body and of its text
+-- tied contexts of the code of a body and of its text, where each begins a stretch: the code's has no operands
 pub record ContextTied (scope : Scope) (code : List Instruction) (d : MachineContext) (c : TextContext) : Type 0 where
+  pub operands : stack_of d ≡ []
   pub locals : LocalsTied scope d.locals c.locals
   pub todo : Reaches code d.pc (StandsSomehow scope code c.todo)
   pub reply : TakesReply scope code c.receivers d.pc

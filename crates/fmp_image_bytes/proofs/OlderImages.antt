@@ -16,7 +16,7 @@ use Rattle.fmp_instructions.specs.declared.instructions.Instruction.{Instruction
 use Rattle.fmp_instructions.specs.declared.instructions.Instruction.TheVariants.{Push, Load, Store, LoadIndexed, StoreIndexed, Unary, Truth, Binary, Jump, JumpIfZero, Call, End}
 use Rattle.fmp_instructions.specs.declared.instructions.MachineContext.{MachineContext}
 use Rattle.fmp_instructions.specs.Instructions.{BodyTables, instructions_at, found_instructions}
-use Rattle.fmp_instructions.specs.Machine.{Next, act, exec, gives, on_place, unstacked, code_stretch, code_meaning}
+use Rattle.fmp_instructions.specs.Machine.{Next, act, exec, gives, on_place, stack_of, unstacked, code_stretch, code_meaning}
 use Rattle.fmp_code.proofs.Requests.{service_of-request}
 use Rattle.fmp_image_parts.specs.declared.heads.BodyHead.{BodyHead}
 use Rattle.fmp_image_parts.specs.Bodies.{IsBody}
@@ -107,7 +107,7 @@ same_meaning i h old =
     let M = code_meaning i.code in
     ap (λ (s : ℕ → ℕ → MachineContext → Ending MachineContext). record M { stretch = s })
     (fun_ext (λ body. fun_ext (λ bound. fun_ext (λ context.
-    executed i.version old (instructions_at i.code body) (known_body i.version i.heads i.code h.bodies body) bound context.pc [] context.locals))))
+    executed i.version old (instructions_at i.code body) (known_body i.version i.heads i.code h.bodies body) bound context.pc (stack_of context) context.locals))))
 
 -- ---- the queue limit
 
