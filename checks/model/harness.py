@@ -49,8 +49,10 @@ def replayed(case, bound, journal):
 
 
 def bound_of(seed, most):
-    """The bound of a random system: of every other one so small, 1 to `most`, that its stretches are cut short."""
-    return random.Random(f"bound {seed}").randint(1, most) if seed % 2 else BOUND
+    """The bound of a random system: of every other one so small, 1 to `most` and mostly few, that its
+    stretches are cut short."""
+    chosen = random.Random(f"bound {seed}")
+    return chosen.randint(1, chosen.randint(1, most)) if seed % 2 else BOUND
 
 
 class Trial:

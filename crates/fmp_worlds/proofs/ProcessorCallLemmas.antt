@@ -44,6 +44,12 @@ held-by : (l : ℕ) (cpus : List Processor) → is_held l cpus ≡ true → Held
 held-by l [] h = absurd (cc h)
 held-by l (cpu ∷ cpus) h = held-first l cpu cpus (is_spin l cpu.lock) refl h (λ k. held-by l cpus k)
 
+lock_held : (sys : SystemTables) (s : KernelState) (n : ℕ) → nat_lt n (length sys.spin_locks) ≡ true
+    → is_held n s.processors ≡ true → IsLockHeld sys s
+lock_held sys s n e h =
+    let held = held-by n s.processors h in
+    record { some = grind (arith, nat_tests, e); holder = held.place; there = held.there; lock = n; holds = held.holds }
+
 module _ {K : Type 0} {own : ℕ} {who : Option ℕ} (sys : SystemTables) (s : KernelState) where
   pub keeps-sta_cyc : (c : ℤ) → Keeps K own who sys s (calls.sta_cyc sys s c)
   keeps-sta_cyc c =
@@ -86,18 +92,13 @@ module _ {K : Type 0} {own : ℕ} {who : Option ℕ} (sys : SystemTables) (s : K
       }
   spin_lock_taken false p l k = keeps-succeeds_in sys s _ (λ a. holds-lock s p (Spin l) a) (actors-processor s p _ refl) (λ t r. r)
 
-  lock_held : (n : ℕ) → nat_lt n (length sys.spin_locks) ≡ true → is_held n s.processors ≡ true → IsLockHeld sys s
-  lock_held n e h =
-      let held = held-by n s.processors h in
-      record { some = grind (arith, nat_tests, e); holder = held.place; there = held.there; lock = n; holds = held.holds }
-
   pub keeps-loc_spn : (p : ℕ) (l : ℤ) → Keeps K own who sys s (calls.loc_spn sys s p l)
   keeps-loc_spn p (pos zero) = keeps-refused sys s er.Id
   keeps-loc_spn p (pos (suc n)) = by_test (nat_lt n (length sys.spin_locks)) refl where
     by_test : (b : Bool) → nat_lt n (length sys.spin_locks) ≡ b
         → Keeps K own who sys s
         (tested s er.Id (if b then Some n else None) (λ i. calls.spin_lock_taken (is_held i s.processors) s p i))
-    by_test true e = spin_lock_taken (is_held n s.processors) p n (lock_held n e)
+    by_test true e = spin_lock_taken (is_held n s.processors) p n (lock_held sys s n e)
     by_test false e = keeps-refused sys s er.Id
   keeps-loc_spn p (negsuc n) = keeps-refused sys s er.Id
 

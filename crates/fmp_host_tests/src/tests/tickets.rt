@@ -128,7 +128,10 @@ fn an_outcome_after_a_place_was_kept(rt: HostRuntime) -> Result<(), Fail> {
     assert_eq!(rt; told.calls.as_slice(), [kept(1), stale, stale].as_slice());
     assert_eq!(rt; steps_of(alloc, &told.followed)?.as_str(), "run 1\n");
     assert_eq!(rt; seen.journal.as_str(), "run 1\n");
-    assert_eq!(rt; seen.simulated.as_str(), "0 p1 T1 starts\n0 p1 > T1\nT1 RUNNING p1 10\n");
+    assert_eq!(rt;
+        seen.simulated.as_str(),
+        "0 p1 T1 starts\n0 p1 > T1\nT1 RUNNING p1 10\n"
+    );
     Ok(())
 }
 
