@@ -45,9 +45,10 @@ def report(trial, events, calls, situations):
     print(f"{trial.count} systems, {events} events, {calls.total()} calls: the program and the model agree")
     for caller in ("task", "handler"):
         total = sum(times for (who, *_), times in calls.items() if who == caller)
-        came, can_come = pairs_of(caller, calls), pairs_of(caller, cases)
-        print(f"from {caller}s: {total} calls, {len(came)} of the {len(can_come)} pairs of call and reply that can come")
-        for service, reply in sorted(came - can_come):
+        came, listed = pairs_of(caller, calls), pairs_of(caller, cases)
+        share = f"{len(came & listed)} of the {len(listed)} pairs"
+        print(f"from {caller}s: {total} calls, with {share} of call and reply that can come")
+        for service, reply in sorted(came - listed):
             print("came up, and is not listed:", service, reply)
     for missing in sorted(cases - calls.keys()):
         print("never came up:", *missing)

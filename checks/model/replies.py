@@ -64,7 +64,8 @@ def cases_of(version):
 
 def situations_of(version):
     """The situations that systems of a version should show."""
-    return SITUATIONS if version == NEWEST else [situation for situation in SITUATIONS if situation not in NEW_SITUATIONS]
+    lacking = () if version == NEWEST else NEW_SITUATIONS
+    return [situation for situation in SITUATIONS if situation not in lacking]
 
 
 def pairs_of(caller, cases):

@@ -60,7 +60,7 @@ class Case:
 
 
 class Generator:
-    """Makes the system of a seed, for images of one version or of any. Numbers are mostly in range; queues are short and
+    """Makes the system of a seed, for images of a version or of any. Numbers are mostly in range; queues are short and
     time limits small."""
 
     def __init__(self, seed, version=None):
