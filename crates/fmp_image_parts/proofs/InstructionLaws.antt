@@ -163,7 +163,7 @@ unfolding service_of_number
 service_again service.Put = refl
 service_again _ = refl
 
-service_small : (s : Service) → service_number s < 60
+service_small : (s : Service) → service_number s < 256
 service_small service.Put = lit< tt
 service_small _ = lit< tt
 
