@@ -187,6 +187,7 @@ fn sign(i: usize, b: u8, c: u8) -> Segment
 }
 
 /// The piece that begins at a place.
+#[inline(always)]
 fn next_piece(text: &[u8], i: usize) -> Segment
     requires inside { i < length text.now }
     requires short { length text.now ≤ TEXT_MAX }

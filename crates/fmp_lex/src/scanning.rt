@@ -18,6 +18,7 @@ pub enum Class {
 }
 
 /// Whether a byte is of a class.
+#[inline(always)]
 pub(crate) fn is_in(class: Class, b: u8) -> bool
     ensures { result ≡ in_class class b }
 {
@@ -31,6 +32,7 @@ pub(crate) fn is_in(class: Class, b: u8) -> bool
 }
 
 /// Where the longest run of a class from a place on ends.
+#[inline(always)]
 pub(crate) fn run_end(text: &[u8], class: Class, from: usize) -> usize
     requires { from ≤ length text.now }
     ensures { IsRun (in_class class) text.now from result }
