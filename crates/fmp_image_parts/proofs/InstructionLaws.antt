@@ -158,7 +158,7 @@ instruction_named opcode (negsuc n) i fits e =
 
 -- ---- and back
 
-service_again : (s : Service) → service_of_number (service_number s) ≡ Some s
+pub service_again : (s : Service) → service_of_number (service_number s) ≡ Some s
 unfolding service_of_number
 service_again service.Put = refl
 service_again _ = refl
