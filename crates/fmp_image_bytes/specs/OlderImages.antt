@@ -30,7 +30,7 @@ abbrev pub with_first_services : {C : Type 0} → (services : ℕ) → Meaning C
 with_first_services services M =
     record M { stretch = λ body bound context. first_calls services (M.stretch body bound context) }
 
--- a system that queues so many activations of a task, and so many wakeups
+-- a system with this queue limit
 abbrev pub with_queue_limit : ℕ → SystemTables → SystemTables
 with_queue_limit limit sys = record sys { queue_limit = limit }
 
