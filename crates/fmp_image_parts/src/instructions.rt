@@ -145,14 +145,17 @@ fn local_of(number: u32) -> Option<u8>
     }
 }
 
+/// The services, at the place before their numbers: a table in memory, which a look at one of them does not copy.
+static BY_NUMBER: &[Service] = &SERVICES;
+
 /// The service of a number: it stands at the place before it in the list.
 #[tactic(auto, using(crate::proofs::ServiceNumbers::numbered, crate::proofs::ServiceNumbers::not_numbered))]
 fn service_of_number(number: u32) -> Option<Service>
     requires { number < 256 }
     ensures { result ≡ service_of_number number }
 {
-    if 1 <= number && number as usize <= SERVICES.len() {
-        Some(SERVICES[number as usize - 1])
+    if 1 <= number && number as usize <= BY_NUMBER.len() {
+        Some(BY_NUMBER[number as usize - 1])
     } else {
         None
     }
