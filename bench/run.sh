@@ -60,7 +60,9 @@ TEXT
 
 # This many tasks of one priority that take turns. Their names are of one length, whatever their number.
 turns_of() { # turns_of CASE TASKS
-    awk -v tasks="$2" 'BEGIN { for (i = 1; i <= tasks; i++) printf "CRE_TSK(T%03d,{TA_ACT,0,t,10,256,NULL});\n", i }' | configuration > "$1.cfg"
+    awk -v tasks="$2" 'BEGIN {
+        for (i = 1; i <= tasks; i++) printf "CRE_TSK(T%03d,{TA_ACT,0,t,10,256,NULL});\n", i }' |
+        configuration > "$1.cfg"
     echo 'task t { while (1) { rot_rdq(10); } }' > "$1.src"
     repeated $events 'run 1' > "$1.steps"
 }
@@ -69,7 +71,8 @@ rotation_of_16_tasks() { turns_of rotation_of_16_tasks 16; }
 
 # 255 tasks with different delays: a tick after each six calls.
 delays() {
-    awk 'BEGIN { for (i = 1; i <= 255; i++) printf "CRE_TSK(T%d,{TA_ACT,%d,t,10,256,NULL});\n", i, i }' | configuration > delays.cfg
+    awk 'BEGIN { for (i = 1; i <= 255; i++) printf "CRE_TSK(T%d,{TA_ACT,%d,t,10,256,NULL});\n", i, i }' |
+        configuration > delays.cfg
     echo 'task t { while (1) { dly_tsk(exinf); } }' > delays.src
     awk -v count=$events 'BEGIN { for (i = 0; i < count; i++) print i % 7 == 6 ? "tick" : "run 1" }' > delays.steps
 }
@@ -77,14 +80,17 @@ delays() {
 # This many tasks with one delay, of which four are released at each tick and call again: the delay is one less than a
 # quarter of their number. No event does nothing.
 equal_delays_of() { # equal_delays_of CASE TASKS
-    awk -v tasks="$2" 'BEGIN { for (i = 1; i <= tasks; i++) printf "CRE_TSK(T%03d,{TA_ACT,%d,t,10,256,NULL});\n", i, tasks / 4 - 1 }' | configuration > "$1.cfg"
+    awk -v tasks="$2" 'BEGIN {
+        for (i = 1; i <= tasks; i++) printf "CRE_TSK(T%03d,{TA_ACT,%d,t,10,256,NULL});\n", i, tasks / 4 - 1 }' |
+        configuration > "$1.cfg"
     echo 'task t { while (1) { dly_tsk(exinf); } }' > "$1.src"
     awk -v count=$events 'BEGIN { for (i = 0; i < count; i++) print i % 5 == 4 ? "tick" : "run 1" }' > "$1.steps"
 }
 equal_delays_of_252_tasks() { equal_delays_of equal_delays_of_252_tasks 252; }
 equal_delays_of_16_tasks() { equal_delays_of equal_delays_of_16_tasks 16; }
 
-# 254 tasks of different priorities that wait for a semaphore in order of priority, and one that changes them and signals.
+# 254 tasks of different priorities that wait for a semaphore in order of priority, and one that changes them and
+# signals.
 priorities() {
     awk 'BEGIN {
         print "CRE_TSK(D,{TA_ACT,0,driver,16,256,NULL});"
@@ -208,7 +214,10 @@ best() { # best IN_A_ROW COMMAND..
         command time -a -o times -f '%e %U %S %M' sh -c \
             'i=0; while [ $i -lt $0 ]; do "$@" > output || exit; i=$((i + 1)); done' "$in_a_row" "$@" 2> errors
     done
-    awk -v row="$in_a_row" '{ spent = $2 + $3; if (NR == 1 || spent < least) { least = spent; r = $1; u = $2; s = $3 }; if ($4 > most) most = $4 }
+    awk -v row="$in_a_row" '{
+        spent = $2 + $3
+        if (NR == 1 || spent < least) { least = spent; r = $1; u = $2; s = $3 }
+        if ($4 > most) most = $4 }
         END { print r / row, u / row, s / row, most }' times
     rm times
 }
@@ -218,7 +227,9 @@ row() {
     awk -v name="$1" -v unit="$2" -v count="$3" -v times="$4" 'BEGIN {
         split(times, t, " ")
         spent = t[2] + t[3]
-        printf "| %s | %d %s | %.4f | %.4f | %.4f | %.1f | %.1f million %s |\n", name, count, unit, t[1], t[2], t[3], t[4] / 1024, count / (spent > 0 ? spent : 0.0001) / 1000000, unit }'
+        rate = count / (spent > 0 ? spent : 0.0001) / 1000000
+        printf "| %s | %d %s | %.4f | %.4f | %.4f | %.1f | %.1f million %s |\n",
+            name, count, unit, t[1], t[2], t[3], t[4] / 1024, rate, unit }'
 }
 
 build() { "$fmp" build "$1.cfg" "$1.src" "$1.img" > output; }
@@ -237,7 +248,8 @@ texts() { # texts CASE NAME
 echo '| What | Size | Real s | User s | System s | Peak MiB | A second of user and system time |'
 echo '|---|---|---|---|---|---|---|'
 declare -A spent printed
-for it in two_tasks eight_processors rotation rotation_of_16_tasks delays equal_delays_of_252_tasks equal_delays_of_16_tasks priorities; do
+for it in two_tasks eight_processors rotation rotation_of_16_tasks delays equal_delays_of_252_tasks \
+    equal_delays_of_16_tasks priorities; do
     $it
     build $it
     spent[$it]=$(simulate $it)
@@ -262,8 +274,10 @@ objects
 texts objects '255 objects of each kind'
 for bodies in 1 2 4; do
     text $bodies
-    row '`build`: task text' bytes "$(wc -c < text$bodies.src)" "$(best 10 "$fmp" build text$bodies.cfg text$bodies.src text$bodies.img)"
-    row '`sim`: its image, no steps' bytes "$(wc -c < text$bodies.img)" "$(best 10 "$fmp" sim text$bodies.img text$bodies.steps)"
+    row '`build`: task text' bytes "$(wc -c < text$bodies.src)" \
+        "$(best 10 "$fmp" build text$bodies.cfg text$bodies.src text$bodies.img)"
+    row '`sim`: its image, no steps' bytes "$(wc -c < text$bodies.img)" \
+        "$(best 10 "$fmp" sim text$bodies.img text$bodies.steps)"
 done
 
 # How an event of each case compares with one of the simplest, and one of many tasks with one of few.

@@ -1,12 +1,14 @@
 #!/usr/bin/env python3
 """Compares the program with a model of the kernel on random systems.
 
-    checks/model/compare.py [COUNT] [SEED] [--program PATH]
+    checks/model/compare.py [COUNT] [SEED] [--image-version VERSION] [--program PATH]
 
 makes COUNT systems (2000), one from each seed from SEED (1) on: a configuration of one to eight processors, the
 bodies of its tasks and handlers and a list of events. The program builds and runs each, every other one at a bound of 1
-to 40, which cuts most stretches short. Its whole trace and the states at the end must be those of kernel.py, which is
-written from the rules of the kernel and shares nothing with the program.
+to 40, which cuts most stretches short, and mostly as an image of the newest version, or of VERSION alone. An image of
+an older version has bodies of what that version has, and its number in place of the newest. Its whole trace and the
+states at the end must be those of kernel.py, which is written from the rules of the kernel and shares nothing with the
+program.
 
 Where all agree it prints how much was compared and which replies and situations never came up. At the first
 difference it prints the seed, the first line that differs and the folder that keeps the texts, and its status is 1.
@@ -23,7 +25,8 @@ sys.path[0] = str(Path(__file__).resolve().parents[1])  # the folder `checks`, w
 
 from model.harness import bound_of, expect_same, main  # noqa: E402
 from model.kernel import Kernel  # noqa: E402
-from model.replies import CASES, SITUATIONS  # noqa: E402
+from model.replies import cases_of, pairs_of, situations_of  # noqa: E402
+from model.versions import NEWEST, VERSIONS  # noqa: E402
 
 GREATEST_CUT = 40  # the greatest bound that cuts stretches short
 
@@ -38,18 +41,21 @@ def run_model(generator, case, bound):
     return kernel, events
 
 
-def report(count, events, calls, situations):
+def report(trial, events, calls, situations):
     """Prints how much was compared, and what never came up."""
-    print(f"{count} systems, {events} events, {calls.total()} calls: the program and the model agree")
+    version = VERSIONS.get(trial.version, NEWEST)
+    cases = cases_of(version)
+    print(f"{trial.count} systems, {events} events, {calls.total()} calls: the program and the model agree")
     for caller in ("task", "handler"):
-        made = Counter()
-        for (who, service, case), times in calls.items():
-            if who == caller:
-                made[service, case.split()[0]] += times
-        print(f"from {caller}s: {made.total()} calls, {len(made)} pairs of call and reply")
-    for missing in sorted(CASES - calls.keys()):
+        total = sum(times for (who, *_), times in calls.items() if who == caller)
+        came, listed = pairs_of(caller, calls), pairs_of(caller, cases)
+        share = f"{len(came & listed)} of the {len(listed)} pairs"
+        print(f"from {caller}s: {total} calls, with {share} of call and reply that can come")
+        for service, reply in sorted(came - listed):
+            print("came up, and is not listed:", service, reply)
+    for missing in sorted(cases - calls.keys()):
         print("never came up:", *missing)
-    for missing in SITUATIONS:
+    for missing in situations_of(version):
         if not situations[missing]:
             print("never came up:", missing)
 
@@ -66,7 +72,7 @@ def compare(trial):
         events += kernel.world.event
         calls += kernel.calls
         situations += kernel.world.situations
-    report(trial.count, events, calls, situations)
+    report(trial, events, calls, situations)
 
 
 if __name__ == "__main__":

@@ -12,7 +12,8 @@ from pathlib import Path
 
 from common.program import located
 from model.kernel import Kernel
-from model.systems import NEWEST, Generator
+from model.systems import Generator
+from model.versions import NEWEST, VERSIONS
 
 BOUND = 10_000  # enough for every stretch of a random body that comes to a call, and so the greatest of a trial
 SECONDS = 60  # what a run may take
@@ -62,12 +63,14 @@ class Trial:
         parser = argparse.ArgumentParser(description=about)
         parser.add_argument("count", metavar="COUNT", nargs="?", type=int, default=count, help=f"systems ({count})")
         parser.add_argument("seed", metavar="SEED", nargs="?", type=int, default=1, help="the first seed (1)")
+        parser.add_argument("--image-version", metavar="VERSION", type=int, choices=VERSIONS,
+                            help="images of this version alone, 1 to 3")
         for crate in crates:
             parser.add_argument(OPTIONS[crate], dest=crate, metavar="PATH", type=Path, help=f"the program `{crate}`")
         options = parser.parse_args()
         if options.count < 1:
             parser.error("COUNT is at least 1")
-        self.count, self.seed, self.at = options.count, options.seed, ""
+        self.count, self.seed, self.version, self.at = options.count, options.seed, options.image_version, ""
         self.programs = {crate: located(crate, getattr(options, crate)) for crate in crates}
         self.folder = Path(tempfile.mkdtemp(prefix="fmp-checks-"))
 
@@ -75,7 +78,7 @@ class Trial:
         """The seed and the generator of each system. A fault in between is told with the seed."""
         for seed in range(self.seed, self.seed + self.count):
             self.at = f"seed {seed}: "
-            yield seed, Generator(seed)
+            yield seed, Generator(seed, self.version)
         self.at = ""
 
     def run(self, program, words):
@@ -104,12 +107,12 @@ class Trial:
         self.run("fmp", "build system.cfg system.src system.img")
 
     def build_case(self, case):
-        """Makes the image `system.img` of a random system. One of the older version differs only in its number."""
+        """Makes the image `system.img` of a random system. One of an older version differs only in its number."""
         self.build(case.configuration, case.source)
         if case.version != NEWEST:
             path = self.folder / "system.img"
             image = path.read_bytes()
-            path.write_bytes(image[:4] + bytes([case.version]) + image[5:])
+            path.write_bytes(image[:4] + bytes([case.version.number]) + image[5:])
 
     def build_endless(self):
         """Makes the image `system.img` of a task on each of eight processors that calls without end."""

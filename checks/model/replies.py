@@ -2,6 +2,7 @@
 
 from common.services import SERVICES
 from model.services import FOR_ALL, FOR_HANDLERS, STOPPING_CALLS, UNDER_CPU_LOCK, WAITING_CALLS
+from model.versions import NEWEST
 
 # The replies of each call, beside E_CTX.
 REPLIES = {service.name: service.replies for service in SERVICES}
@@ -29,6 +30,12 @@ SITUATIONS = (
     "a task that runs under a hold is suspended",
 )
 
+# Those that need what came with the newest version.
+NEW_SITUATIONS = (
+    "a ready queue of another processor is rotated",
+    "a start takes a stored processor, and activations stay queued",
+)
+
 
 def cases_of_task(service):
     """The replies of a call to a task, each E_CTX with its cause."""
@@ -50,9 +57,22 @@ def cases_of_handler(service):
     return ["E_CTX from a handler"]
 
 
-CASES = frozenset(
-    (caller, service, case)
-    for service in REPLIES
-    for caller, cases in (("task", cases_of_task), ("handler", cases_of_handler))
-    for case in cases(service)
-)
+def cases_of(version):
+    """The caller, call and case of each reply that systems of a version should show."""
+    return frozenset(
+        (caller, service.name, case)
+        for service in version.services
+        for caller, cases in (("task", cases_of_task), ("handler", cases_of_handler))
+        for case in cases(service.name)
+    )
+
+
+def situations_of(version):
+    """The situations that systems of a version should show."""
+    lacking = () if version == NEWEST else NEW_SITUATIONS
+    return [situation for situation in SITUATIONS if situation not in lacking]
+
+
+def pairs_of(caller, cases):
+    """The calls of tasks or of handlers among these, each with its reply."""
+    return {(service, case.split()[0]) for who, service, case in cases if who == caller}

@@ -3,17 +3,12 @@
 import random
 from dataclasses import dataclass
 
-from common.services import SERVICES
 from model.bodies import ARRAY_PLACES, LOCALS, Assignment, Body, Call, Element, Endless, Return, Statement, Store
+from model.versions import NEWEST, SHARES, VERSIONS, Version
 from model.world import (
     GREATEST_TIME, Code, CyclicHandler, DataQueue, EventFlag, InterruptHandler, Mailbox, Semaphore, System, Task,
     WaitQueue,
 )
-
-# The versions of images: how many activations, and how many wakeups, of a task can be queued, and what the older lacks.
-OLDER, NEWEST = 2, 3
-QUEUE_LIMITS = {OLDER: 1, NEWEST: 255}
-NEWER_CALLS = ("mrot_rdq",)
 
 
 def calls_by_group(services):
@@ -25,10 +20,7 @@ def calls_by_group(services):
     return groups
 
 
-GROUPS = {
-    OLDER: calls_by_group([service for service in SERVICES if service.name not in NEWER_CALLS]),
-    NEWEST: calls_by_group(SERVICES),
-}
+GROUPS = {number: calls_by_group(version.services) for number, version in VERSIONS.items()}
 
 WAITING = ("waits", "semaphores", "flags", "data queues", "mailboxes")
 FOR_TASKS = ("tasks", "migration", "processors", *WAITING)
@@ -52,10 +44,8 @@ CHOICES = {
     "mask": (0, 1, 3, 6, 7, 65535, -1, 65536),
     "delay": (0, 1, 2, 3, 0, 1, 2, 3, -1, GREATEST_TIME, GREATEST_TIME + 1),
 }
-FAULTS = (
-    Assignment(1, "/", 0), Assignment(2147483647, "+", 1), Assignment(Element(-1), "+", 0),
-    Store(ARRAY_PLACES, Assignment(1, "/", 0)),
-)
+FAULTS = (Assignment(1, "/", 0), Assignment(2147483647, "+", 1))
+FAULTS_OF_ELEMENTS = (Assignment(Element(-1), "+", 0), Store(ARRAY_PLACES, Assignment(1, "/", 0)))
 
 
 @dataclass
@@ -66,16 +56,18 @@ class Case:
     configuration: str
     source: str
     event_count: int
-    version: int  # of the image
+    version: Version  # of the image
 
 
 class Generator:
-    """Makes the system of a seed. Numbers are mostly in range; queues are short and time limits small."""
+    """Makes the system of a seed, for images of a version or of any. Numbers are mostly in range; queues are short and
+    time limits small."""
 
-    def __init__(self, seed):
+    def __init__(self, seed, version=None):
         self.random = random.Random(seed)
-        self.version = OLDER if self.chance(0.25) else NEWEST
-        self.groups = GROUPS[self.version]
+        any_version = self.random.choices(tuple(SHARES), tuple(SHARES.values()))[0]
+        self.version = VERSIONS[version or any_version]
+        self.groups = GROUPS[self.version.number]
         self.filling = None  # the place of a body that queues as much as can be
         self.processor_count = self.random.choice((1, 1, 2, 2, 2, 2, 3, 3, 4, 5, 6, 7, 8))
         self.apis = {}  # of a kind of object: its static APIs, each with its class
@@ -104,7 +96,7 @@ class Generator:
         self.counts = {kind: len(made) for kind, made in objects.items()}
         bodies = [self.body(f"b{number}", False) for number in range(task_bodies)]
         bodies += [self.body(f"h{number}", True) for number in range(handler_bodies)]
-        system = System(self.processor_count, *objects.values(), bodies, QUEUE_LIMITS[self.version])
+        system = System(self.processor_count, *objects.values(), bodies, self.version.queue_limit)
         event_count = self.random.randint(60, 180) + 20 * self.processor_count
         if self.version == NEWEST and self.chance(0.08):
             self.filling = self.random.randrange(len(bodies))
@@ -288,15 +280,15 @@ class Generator:
         if chosen < 0.3:
             return Endless()
         if chosen < 0.6:
-            return self.random.choice(FAULTS)
+            return self.random.choice(FAULTS + self.version.has_elements * FAULTS_OF_ELEMENTS)
         assignment = Assignment(self.operand(), self.random.choice("++/"), self.operand())
-        return Store(self.index(), assignment) if self.chance(0.5) else assignment
+        return Store(self.index(), assignment) if self.version.has_elements and self.chance(0.5) else assignment
 
     def operand(self):
         chosen = self.random.random()
         if chosen < 0.5:
             return self.random.choice(LOCALS)
-        return Element(self.index()) if chosen < 0.7 else self.random.randint(-3, 3)
+        return Element(self.index()) if self.version.has_elements and chosen < 0.7 else self.random.randint(-3, 3)
 
     def index(self):
         """An index, mostly of a place of the array."""

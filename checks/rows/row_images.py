@@ -30,9 +30,19 @@ LATER_WORD_TRACE = (
     "0 p1 mrot_rdq starts / 0 p1 > mrot_rdq / 1 p1 mrot_rdq put(7) E_OK / mrot_rdq RUNNING p1 10 / "
 )
 
-# A task that queues activations of itself, and how many an image of each version queues.
-ACTIVATIONS = alone(task("T", "t")), "task t { while (1) { act_tsk(TSK_SELF); } }"
+# A task that queues activations of itself, or wakeups, until no more can be queued; and how many an image of each
+# version queues.
+QUEUING = alone(task("T", "t")), "task t {{ while (1) {{ {}(TSK_SELF); }} }}"
 QUEUED = {1: 1, 2: 1, 3: 255}
+
+# A task that stores one processor and then another for its next start, and what an image of each version prints.
+STORING = apart(task("T", "t"), ""), "task t { mact_tsk(TSK_SELF,2); mact_tsk(TSK_SELF,1); }"
+STORING_SETUP = "0 p1 T starts / 0 p1 > T / 1 p1 T mact_tsk(0,2) E_OK / "
+STORED = {
+    1: "2 p1 T mact_tsk(0,1) E_QOVR / 3 p1 T end / 3 p2 T starts / 3 p2 > T / T RUNNING p2 10 / ",
+    2: "2 p1 T mact_tsk(0,1) E_QOVR / 3 p1 T end / 3 p2 T starts / 3 p2 > T / T RUNNING p2 10 / ",
+    3: "2 p1 T mact_tsk(0,1) E_OK / 3 p1 T end / 3 p1 T starts / 3 p1 > T / T RUNNING p1 10 / ",
+}
 
 # Two texts and their image.
 IMAGES = (
@@ -171,12 +181,19 @@ def loaded_images():
     yield changed(LATER_WORD, "4=2"), runs(1), LATER_WORD_TRACE
 
 
-def queueing():
-    """Each version, and what 256 runs of an image of it print that queues activations."""
-    for version, limit in QUEUED.items():
-        answers = ["E_OK"] * limit + ["E_QOVR"] * (256 - limit)
-        lines = [f"{number} p1 T act_tsk(0) {answer}" for number, answer in enumerate(answers, 1)]
-        yield version, runs(256), " / ".join(["0 p1 T starts", "0 p1 > T", *lines, "T RUNNING p1 10", ""])
+def by_version():
+    """Two texts, and for each version: steps, and what an image of theirs of this version prints over them."""
+    for call in ("act_tsk", "wup_tsk"):
+        configuration, source = QUEUING
+        yield configuration, source.format(call), {v: (runs(256), queued(call, limit)) for v, limit in QUEUED.items()}
+    yield *STORING, {version: (runs(3), STORING_SETUP + trace) for version, trace in STORED.items()}
+
+
+def queued(call, limit):
+    """What is printed of 256 calls of a task that queue on itself, of which the first are accepted."""
+    answers = ["E_OK"] * limit + ["E_QOVR"] * (256 - limit)
+    lines = [f"{number} p1 T {call}(0) {answer}" for number, answer in enumerate(answers, 1)]
+    return " / ".join(["0 p1 T starts", "0 p1 > T", *lines, "T RUNNING p1 10", ""])
 
 
 def faulty_steps():

@@ -336,6 +336,14 @@ ROTATIONS = (
         "12 p1 M mrot_rdq(10,1) E_OK / M RUNNING p1 10 / A DORMANT p2 10 / ",
     ),
     (
+        "a queue whose processor is locked, which dispatches at the unlock",
+        apart(task("M", "m"), task("A", "a") + task("B", "b")),
+        "task m { mrot_rdq(10,2); } task a { loc_cpu(); unl_cpu(); } task b { }",
+        steps("run 2,run 1,run 2"),
+        BEHIND_ANOTHER_SETUP + "1 p2 A loc_cpu() E_OK / 2 p1 M mrot_rdq(10,2) E_OK / 3 p2 A unl_cpu() E_OK / "
+        "3 p2 > B / M RUNNING p1 10 / A READY p2 10 / B RUNNING p2 10 / ",
+    ),
+    (
         "a handler that may not",
         alone("DEF_INH(3,{0,h});"),
         "handler h { mrot_rdq(17,9); }",
@@ -373,6 +381,17 @@ QUEUES = (
         "0 p1 M starts / 0 p2 T starts / 0 p1 > M / 0 p2 > T / 1 p1 M mact_tsk(2,2) E_OK / 2 p1 M mact_tsk(2,1) E_OK / "
         "3 p2 T end / 3 p1 T starts / 4 p1 M end / 4 p1 > T / 5 p1 T end / 5 p1 T starts / 5 p1 > T / 6 p1 T end / "
         "M DORMANT p1 10 / T DORMANT p1 10 / ",
+    ),
+    (
+        "the processor that was stored last; each later start stays where the task is then",
+        apart(task("M", "m"), task("T", "t")),
+        "task m { mact_tsk(T,2); mact_tsk(T,1); act_tsk(T); } task t { mig_tsk(TSK_SELF,2); }",
+        steps("run 1,run 1,run 1,run 1,run 2,run 2,run 1,run 2,run 2,run 2,run 2,run 2"),
+        "0 p1 M starts / 0 p2 T starts / 0 p1 > M / 0 p2 > T / 1 p1 M mact_tsk(2,2) E_OK / 2 p1 M mact_tsk(2,1) E_OK / "
+        "3 p1 M act_tsk(2) E_OK / 4 p1 M end / 5 p2 T mig_tsk(0,2) E_OK / 6 p2 T end / 6 p1 T starts / 6 p1 > T / "
+        "7 p1 T mig_tsk(0,2) E_OK / 7 p1 > - / 7 p2 > T / 8 p2 T end / 8 p2 T starts / 8 p2 > T / "
+        "9 p2 T mig_tsk(0,2) E_OK / 10 p2 T end / 10 p2 T starts / 10 p2 > T / 11 p2 T mig_tsk(0,2) E_OK / "
+        "12 p2 T end / M DORMANT p1 10 / T DORMANT p2 10 / ",
     ),
     (
         "activations that are cancelled with the stored processor",

@@ -20,8 +20,8 @@ sys.path[0] = str(Path(__file__).resolve().parents[1])  # the folder `checks`, w
 from common.program import Program, program_of_words  # noqa: E402
 from common.tally import Tally  # noqa: E402
 from images.image_samples import ONE_TASK  # noqa: E402
-from rows.row_images import ACTIVATIONS, JUMP, LOOP, LOOP_SETUP, OUT_OF_BODY, changed  # noqa: E402
-from rows.row_images import faulty_steps, loaded_images, queueing, refused_images, sized  # noqa: E402
+from rows.row_images import JUMP, LOOP, LOOP_SETUP, OUT_OF_BODY, by_version, changed, faulty_steps  # noqa: E402
+from rows.row_images import loaded_images, refused_images, sized  # noqa: E402
 from rows.row_runs import ONE, SETUP, all_runs, all_values, runs  # noqa: E402
 from rows.row_texts import all_texts  # noqa: E402
 
@@ -49,10 +49,11 @@ def images(program):
         yield f"the image {image.hex()}", program.sim(image), refused(f"image: {fault}")
     for image, events, trace in loaded_images():
         yield f"the image {image.hex()}", program.sim(image, events.encode()), printed(trace)
-    _, image = program.build(*(text.encode() for text in ACTIVATIONS))
-    for version, events, trace in queueing():
-        answer = program.sim(changed(image, f"4={version}"), events.encode())
-        yield f"activations, version {version}", answer, printed(trace)
+    for configuration, source, versions in by_version():
+        _, image = program.build(configuration.encode(), source.encode())
+        for version, (events, trace) in versions.items():
+            answer = program.sim(changed(image, f"4={version}"), events.encode())
+            yield f"version {version}: {source}", answer, printed(trace)
     _, image = program.build(*(text.encode() for text in LOOP))
     place, *jump = JUMP
     yield "the jump of a loop", [*image[place : place + 2]], jump

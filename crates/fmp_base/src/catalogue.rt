@@ -171,6 +171,7 @@ impl Service {
     }
 
     /// How many arguments the call passes to the kernel, 0 to 4: its parameters but the out place.
+    #[inline(always)]
     pub fn arity(self) -> u8
         ensures { result ≡ arity_of self }
     {

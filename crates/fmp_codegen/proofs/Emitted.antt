@@ -78,14 +78,20 @@ arguments-deep made made' whole es more a d e before did =
 
 -- ---- elements of arrays
 
+-- the array is named by the word in the box
+pub load-named :
+    (scope : Scope) (i : Instruction) (v : Word) (w : Box Word Global) → v ≡ w.value →
+    i ≡ load_element scope (meaning_of scope v.name) → i ≡ load_element scope (meaning_of scope w.value.name)
+load-named scope i v w same loads = loads ∙ ap (λ (z : Word). load_element scope (meaning_of scope z.name)) same
+
 pub element-emitted :
-    (scope : Scope) (e x : Expression) (w : Word) (index : Box Expression Global) (i : Instruction) → e ≡ Element w index →
-    x ≡ index.value → i ≡ load_element scope (meaning_of scope w.name) → (begun made made' : List Instruction) →
+    (scope : Scope) (e x : Expression) (w : Box Word Global) (index : Box Expression Global) (i : Instruction) → e ≡ Element w index →
+    x ≡ index.value → i ≡ load_element scope (meaning_of scope w.value.name) → (begun made made' : List Instruction) →
     made ≡ begun ++ expression_code scope (expression_view x) (length begun) → made' ≡ made ++ i ∷ [] →
     made' ≡ begun ++ expression_code scope (expression_view e) (length begun)
 element-emitted scope e x w index i is value loads begun made made' did last =
     let inner = expression_code scope (expression_view index.value) (length begun) in
-    let load = load_element scope (meaning_of scope w.name) in
+    let load = load_element scope (meaning_of scope w.value.name) in
     last ∙ ap (λ c. c ++ i ∷ []) did
     ∙ ap (λ y. (begun ++ expression_code scope (expression_view y) (length begun)) ++ i ∷ []) value
     ∙ append_assoc begun inner (i ∷ [])
@@ -94,7 +100,7 @@ element-emitted scope e x w index i is value loads begun made made' did last =
     ∙ ap (λ y. begun ++ expression_code scope (expression_view y) (length begun)) (sym is)
 
 pub element-deep :
-    (e x : Expression) (w : Word) (index : Box Expression Global) (d : ℕ) → e ≡ Element w index →
+    (e x : Expression) (w : Box Word Global) (index : Box Expression Global) (d : ℕ) → e ≡ Element w index →
     x ≡ index.value → (begun made made' : List ℕ) →
     made ≡ begun ++ expression_depths (expression_view x) d → made' ≡ made ++ (d + 1) ∷ [] →
     made' ≡ begun ++ expression_depths (expression_view e) d

@@ -3,7 +3,7 @@ ghost use Rattle.std.specs.Prelude.{◌≡◌, OnOk};
 ghost use Rattle.fmp_diagnosis.specs.Reports.{text_of};
 ghost use Rattle.fmp_diagnosis.specs.Words.{IsSaid};
 
-use crate::around::around_place;
+use crate::around::{Around, around_place};
 use crate::limits::say_limit;
 use crate::names::{say_shape, say_twice, say_unknown};
 use crate::refusals::{say_refusal, say_small_stack, say_wrong_kind};
@@ -45,16 +45,29 @@ pub fn say_fault(
 ) -> Result<(), AllocError>
     ensures { OnOk result (IsSaid out.old.items out.new.items) }
 {
-    let text = texts.of(file);
-    let around = around_place(alloc, text, at)?;
+    let around = around_place(alloc, texts.of(file), at)?;
+    say_kind(alloc, texts, file, &around, kind, out)
+}
+
+/// The same, around a place that was looked at.
+fn say_kind(
+    alloc: Global,
+    texts: Texts<'_>,
+    file: TextFile,
+    around: &Around<'_>,
+    kind: FaultKind,
+    out: &mut Vec<u8>,
+) -> Result<(), AllocError>
+    ensures { OnOk result (IsSaid out.old.items out.new.items) }
+{
     match kind {
-        FaultKind::Syntax => say_syntax(alloc, file, &around, out),
-        FaultKind::TwiceNamed => say_twice(alloc, texts.cfg, file, &around, out),
-        FaultKind::UnknownName => say_unknown(alloc, texts.cfg, texts.src, file, &around, out),
-        FaultKind::Api(code) => say_refusal(&around, code, out),
-        FaultKind::Limit => say_limit(text.len(), file, &around, out),
-        FaultKind::StackTooSmall => say_small_stack(alloc, texts, &around, out),
-        FaultKind::WrongEntryKind => say_wrong_kind(&around, out),
-        FaultKind::Shape => say_shape(&around, out),
+        FaultKind::Syntax => say_syntax(alloc, file, around, out),
+        FaultKind::TwiceNamed => say_twice(alloc, texts.cfg, file, around, out),
+        FaultKind::UnknownName => say_unknown(alloc, texts.cfg, texts.src, file, around, out),
+        FaultKind::Api(code) => say_refusal(around, code, out),
+        FaultKind::Limit => say_limit(texts.of(file).len(), file, around, out),
+        FaultKind::StackTooSmall => say_small_stack(alloc, texts, around, out),
+        FaultKind::WrongEntryKind => say_wrong_kind(around, out),
+        FaultKind::Shape => say_shape(around, out),
     }
 }

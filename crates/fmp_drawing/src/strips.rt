@@ -208,8 +208,8 @@ impl Strips {
         processor: u8,
     ) -> Result<(), AllocError> {
         let many = sys.tasks.len() > MANY_TASKS;
-        for (place, config) in (0u8..255).zip(sys.cyclics.as_slice()) {
-            if config.processor == processor {
+        for place in 0..sys.cyclics.len().min(255) as u8 {
+            if sys.cyclics[usize::from(place)].processor == processor {
                 self.add_handler(run, span, many, Handler::Cyclic(place))?;
             }
         }
@@ -247,7 +247,8 @@ impl Strips {
     ) -> Result<(), AllocError> {
         let many = sys.tasks.len() > MANY_TASKS;
         for priority in 1..=16u8 {
-            for (task, config) in (0u8..255).zip(sys.tasks.as_slice()) {
+            for task in 0..sys.tasks.len().min(255) as u8 {
+                let config = &sys.tasks[usize::from(task)];
                 if config.priority == priority {
                     self.add_task(run, span, many, (task, config.processor, processor))?;
                 }
@@ -337,9 +338,10 @@ pub fn colours(alloc: Global, sys: &System) -> Result<Vec<u8>, AllocError> {
     for processor in 0..sys.processors {
         let mut next = processor % 8 * 3 % 8;
         for priority in 1..=16u8 {
-            for (colour, config) in all.iter_mut().zip(sys.tasks.as_slice()) {
+            for task in 0..all.len().min(sys.tasks.len()) {
+                let config = &sys.tasks[task];
                 if config.processor == processor && config.priority == priority {
-                    *colour = next;
+                    all[task] = next;
                     next = (next % 8 + 1) % 8;
                 }
             }

@@ -1,7 +1,8 @@
 -- What images of versions 1 and 2 mean: what they meant on the kernel that queued one activation and one wakeup and
 -- had the first 58 services.
-use Rattle.std.specs.Prelude.{◌≡◌, ℕ, List, None, nat_le, if◌then◌else◌}
+use Rattle.std.specs.Prelude.{◌≡◌, ℕ, List, length, Option, Some, None, Bool, false, not, is_some, ◌&&◌, ◌||◌, nat_le, if◌then◌else◌}
 use Rattle.fmp_base.specs.declared.events.Event.{Event}
+use Rattle.fmp_base.specs.declared.services.Service.{Service}
 use Rattle.fmp_base.specs.Meanings.{Meaning, World}
 use Rattle.fmp_base.specs.Runs.{run}
 use Rattle.fmp_base.specs.Services.{service_number, service_of}
@@ -11,7 +12,9 @@ use Rattle.fmp_base.specs.Stretches.{Ending}
 use Rattle.fmp_base.specs.Stretches as ends
 use Rattle.fmp_base.specs.Systems.{SystemTables}
 use Rattle.fmp_base.specs.Texts.{whole_text}
+use Rattle.fmp_base.specs.Words.{constant_named, api_named, service_named, keyword_named}
 use Rattle.fmp_instructions.specs.Machine.{code_meaning}
+use Rattle.fmp_image_parts.specs.Keys.{begins_and_goes_on}
 use Rattle.fmp_image_bytes.specs.Images.{ImageTables}
 
 -- a stretch that would end in a call of another service than the first ones is stuck: its event does nothing
@@ -27,7 +30,7 @@ abbrev pub with_first_services : {C : Type 0} → (services : ℕ) → Meaning C
 with_first_services services M =
     record M { stretch = λ body bound context. first_calls services (M.stretch body bound context) }
 
--- a system that queues so many activations of a task, and so many wakeups
+-- a system with this queue limit
 abbrev pub with_queue_limit : ℕ → SystemTables → SystemTables
 with_queue_limit limit sys = record sys { queue_limit = limit }
 
@@ -45,3 +48,15 @@ abbrev pub MeansTheSame : ImageTables → Type 0
 MeansTheSame i =
     AreTheSame i.system (code_meaning i.code) (with_queue_limit 1 i.system)
     (with_first_services 58 (code_meaning i.code))
+
+-- whether this is one of the first services
+abbrev pub is_first : (services : ℕ) → Option Service → Bool
+is_first services None = false
+is_first services (Some service) = nat_le (service_number service) services
+
+-- whether an object can have this name where the texts have the words of the first services only
+abbrev pub is_name_among_first : (services : ℕ) → List ℕ → Bool
+is_name_among_first services text =
+    nat_le (length text) 31 && begins_and_goes_on text
+    && not (is_some (constant_named text) || is_some (api_named text) || is_first services (service_named text)
+    || is_some (keyword_named text))

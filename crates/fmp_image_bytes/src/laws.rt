@@ -2,7 +2,8 @@
 
 ghost use Rattle.std.specs.Prelude.{◌≡◌, ◌≤◌, ◌++◌, [], ℕ, List};
 ghost use Rattle.fmp_image_bytes.specs.Images.{ImageTables, Spells};
-ghost use Rattle.fmp_image_bytes.specs.OlderImages.{MeansTheSame};
+ghost use Rattle.fmp_image_parts.specs.Keys.{is_name};
+ghost use Rattle.fmp_image_bytes.specs.OlderImages.{MeansTheSame, is_name_among_first};
 
 /// A law: no two byte strings spell one image, none spells two images, and none begins another, whatever their
 /// versions.
@@ -17,4 +18,10 @@ pub fn one_spelling()
 /// a task and has the first 58 services.
 pub fn older_images_mean_the_same()
     ensures { (i : ImageTables) (bytes : List ℕ) → Spells i bytes → i.version ≤ 2 → MeansTheSame i }
+{}
+
+/// A law: in images of versions 1 and 2 an object can have each name that it could have when there were 58 services,
+/// and no other.
+pub fn older_images_keep_their_names()
+    ensures { (version : ℕ) (text : List ℕ) → version ≤ 2 → is_name version text ≡ is_name_among_first 58 text }
 {}

@@ -158,12 +158,12 @@ instruction_named opcode (negsuc n) i fits e =
 
 -- ---- and back
 
-service_again : (s : Service) → service_of_number (service_number s) ≡ Some s
+pub service_again : (s : Service) → service_of_number (service_number s) ≡ Some s
 unfolding service_of_number
 service_again service.Put = refl
 service_again _ = refl
 
-service_small : (s : Service) → service_number s < 60
+service_small : (s : Service) → service_number s < 256
 service_small service.Put = lit< tt
 service_small _ = lit< tt
 

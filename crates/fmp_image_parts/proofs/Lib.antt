@@ -7,5 +7,6 @@ pub mod Names
 pub mod PairLaws
 pub mod PairLists
 pub mod PairLoops
+pub mod ServiceNumbers
 pub mod StepReads
 pub mod Verification

@@ -145,14 +145,20 @@ fn local_of(number: u32) -> Option<u8>
     }
 }
 
-#[tactic(auto, unfolding(crate::specs::Instructions::service_of_number))]
+/// The services, at the place before their numbers: a table in memory, which a look at one of them does not copy.
+static BY_NUMBER: &[Service] = &SERVICES;
+
+/// The service of a number: it stands at the place before it in the list.
+#[tactic(auto, using(crate::proofs::ServiceNumbers::numbered, crate::proofs::ServiceNumbers::not_numbered))]
 fn service_of_number(number: u32) -> Option<Service>
+    requires { number < 256 }
     ensures { result ≡ service_of_number number }
 {
-    SERVICES
-        .iter()
-        .copied()
-        .find(|service| service.number() as u32 == number)
+    if 1 <= number && number as usize <= BY_NUMBER.len() {
+        Some(BY_NUMBER[number as usize - 1])
+    } else {
+        None
+    }
 }
 
 #[tactic(auto, unfolding(crate::specs::Instructions::unary_of))]

@@ -11,3 +11,4 @@ pub mod Turns
 pub mod Unique
 pub mod Values
 pub mod Wholes
+pub mod WordLengths

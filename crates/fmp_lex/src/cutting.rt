@@ -7,6 +7,7 @@ ghost use Rattle.fmp_lex.specs.Scanning.{Saturated, IsRun, in_class};
 ghost use Rattle.fmp_lex.specs.declared.scanning.Class.TheVariants as class;
 ghost use Rattle.fmp_lex.specs.Cutting.{word_kind, hex_piece, long_symbol, short_symbol, start_of, Piece, IsPiece, number_piece, word_piece, symbol_piece, Cuts, EndsWithin, line_at};
 
+use crate::lengths::may_be_word;
 use crate::packed::{Packed, Shape, Tokens};
 use crate::place::Place;
 use crate::scanning::{Class, find_close, is_in, line_feeds, run_end, value_of};
@@ -84,17 +85,24 @@ fn short_sign(b: u8) -> Option<Symbol>
 }
 
 /// How a piece begins, by its first two bytes.
+#[inline(always)]
 fn begin(b: u8, c: u8) -> Start
     ensures { result ≡ start_of b c }
 {
+    if is_in(Class::Word, b) {
+        return match (b, c) {
+            (b'0', b'x') => Start::Hex,
+            (b'0', _) => Start::Zero,
+            (b'1'..=b'9', _) => Start::Decimal,
+            _ => Start::Word,
+        };
+    }
+    if is_in(Class::Space, b) {
+        return Start::Space;
+    }
     match (b, c) {
-        (b' ' | b'\t' | b'\r' | b'\n', _) => Start::Space,
         (b'/', b'/') => Start::LineComment,
         (b'/', b'*') => Start::BlockComment,
-        (b'A'..=b'Z' | b'a'..=b'z' | b'_', _) => Start::Word,
-        (b'0', b'x') => Start::Hex,
-        (b'0', _) => Start::Zero,
-        (b'1'..=b'9', _) => Start::Decimal,
         _ => Start::Other,
     }
 }
@@ -132,6 +140,9 @@ fn find_word(bytes: &[u8]) -> Option<Shape>
     ensures word { (text : List ℕ) → option_map (kind_in text) result ≡ word_kind bytes.now }
     ensures plain { IfSome result IsPlain }
 {
+    if !may_be_word(bytes) {
+        return None;
+    }
     if let Some(constant) = find_constant(bytes) {
         return Some(Shape::Constant(constant));
     }
@@ -148,6 +159,7 @@ fn find_word(bytes: &[u8]) -> Option<Shape>
 }
 
 /// The word or the name that stands from `start` up to `end`.
+#[inline(always)]
 fn word(text: &[u8], start: usize, end: usize) -> Segment
     requires some { start < end }
     requires within { end ≤ length text.now }
@@ -170,6 +182,7 @@ fn word(text: &[u8], start: usize, end: usize) -> Segment
 }
 
 /// The longest symbol at `i`, where these two bytes stand.
+#[inline(always)]
 fn sign(i: usize, b: u8, c: u8) -> Segment
     requires { i + 2 < 2 ^ 64 }
     ensures piece { (text : List ℕ) → piece_in text result ≡ symbol_piece i b c }
@@ -187,6 +200,7 @@ fn sign(i: usize, b: u8, c: u8) -> Segment
 }
 
 /// The piece that begins at a place.
+#[inline(always)]
 fn next_piece(text: &[u8], i: usize) -> Segment
     requires inside { i < length text.now }
     requires short { length text.now ≤ TEXT_MAX }

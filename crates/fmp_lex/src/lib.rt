@@ -5,6 +5,7 @@
 mod cutting;
 pub mod fault;
 pub mod laws;
+mod lengths;
 mod marks;
 mod object_name;
 mod packed;

@@ -17,12 +17,24 @@ pub enum Class {
     SameLine,
 }
 
+/// For each byte a `1` if it is a letter, a digit or `_`.
+static WORD: [u8; 256] = *b"\
+    00000000000000000000000000000000\
+    00000000000000001111111111000000\
+    01111111111111111111111111100001\
+    01111111111111111111111111100000\
+    00000000000000000000000000000000\
+    00000000000000000000000000000000\
+    00000000000000000000000000000000\
+    00000000000000000000000000000000";
+
 /// Whether a byte is of a class.
+#[inline(always)]
 pub(crate) fn is_in(class: Class, b: u8) -> bool
     ensures { result ≡ in_class class b }
 {
     match class {
-        Class::Word => matches!(b, b'A'..=b'Z' | b'a'..=b'z' | b'_' | b'0'..=b'9'),
+        Class::Word => WORD[b as usize] == b'1',
         Class::Digit => b.is_ascii_digit(),
         Class::Hex => b.is_ascii_hexdigit(),
         Class::Space => matches!(b, b' ' | b'\t' | b'\r' | b'\n'),
@@ -31,6 +43,7 @@ pub(crate) fn is_in(class: Class, b: u8) -> bool
 }
 
 /// Where the longest run of a class from a place on ends.
+#[inline(always)]
 pub(crate) fn run_end(text: &[u8], class: Class, from: usize) -> usize
     requires { from ≤ length text.now }
     ensures { IsRun (in_class class) text.now from result }

@@ -19,7 +19,8 @@ pub expression_view-Name : (w : Word) → expression_view (Name w) ≡ named w
 expression_view-Name w = search (rules, expression.the_lemmas)
 
 pub expression_view-Element :
-    (w : Word) (e : Box Expression Global) → expression_view (Element w e) ≡ element w (expression_view e.value)
+    (w : Box Word Global) (e : Box Expression Global) →
+    expression_view (Element w e) ≡ element w.value (expression_view e.value)
 expression_view-Element w e = search (rules, expression.the_lemmas)
 
 pub expression_view-Unary :

@@ -24,7 +24,8 @@ use Rattle.fmp_tasklang.specs.Stretches.{Way, after_item, follow, out_of_turns, 
 -- the view of a tree is made of the views of what its boxes and vectors hold
 pub record ViewsOfParts : Type 0 where
   pub array_element :
-      (w : Word) (e : Box Expression) → expression_view (Element w e) ≡ element w (expression_view (box_value e))
+      (w : Box Word) (e : Box Expression) →
+      expression_view (Element w e) ≡ element (box_value w) (expression_view (box_value e))
   pub unary_operator :
       (op : UnaryOperator) (e : Box Expression) →
       expression_view (Unary op e) ≡ unary op (expression_view (box_value e))

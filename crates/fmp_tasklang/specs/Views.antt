@@ -32,7 +32,7 @@ chain_tree a (l ∷ more) = chain_tree (join l.operator a l.operand) more
 abbrev pub expression_step : Expression-F ExpressionTree LinkTree → ExpressionTree
 expression_step (Expression-F.Number k) = number k
 expression_step (Expression-F.Name w) = named w
-expression_step (Expression-F.Element w e) = element w e.value
+expression_step (Expression-F.Element w e) = element w.value e.value
 expression_step (Expression-F.Unary op e) = unary op e.value
 expression_step (Expression-F.Chain a links) = chain_tree a.value links.items
 

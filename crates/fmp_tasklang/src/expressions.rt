@@ -29,7 +29,8 @@ fn refer(alloc: Global, word: Word, index: Option<Expression>) -> Result<Express
         None => Ok(Expression::Name(word)),
         Some(inner) => {
             let index = Box::new(alloc, inner)?;
-            Ok(Expression::Element { array: word, index })
+            let array = Box::new(alloc, word)?;
+            Ok(Expression::Element { array, index })
         }
     }
 }

@@ -28,9 +28,10 @@ pub enum Expression {
     Number(i32),
     /// A variable or an object.
     Name(Word),
-    /// The element of an array that the value of an expression names, counted from 0.
+    /// The element of an array that the value of an expression names, counted from 0. The name lies in a box, so that
+    /// the other expressions need no room for it beside their own.
     Element {
-        array: Word,
+        array: Box<Word>,
         index: Box<Expression>,
     },
     /// An operator before its operand.

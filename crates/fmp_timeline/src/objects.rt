@@ -128,8 +128,8 @@ fn keyed_waits(
     topic: Topic,
 ) -> Result<Vec<(u8, u32, u8)>, AllocError> {
     let mut keyed = Vec::new(alloc);
-    for (task, wait) in (0u8..255).zip(waits) {
-        if let Some(wait) = wait
+    for task in 0..waits.len().min(255) as u8 {
+        if let Some(wait) = &waits[usize::from(task)]
             && wait.topic == topic
         {
             keyed.push((wait.rank, wait.since, task))?;
@@ -200,21 +200,24 @@ impl Objects {
     }
 
     fn add_semaphores(&mut self, alloc: Global, sys: &System) -> Result<(), AllocError> {
-        for (i, config) in (0u8..255).zip(sys.semaphores.as_slice()) {
+        for i in 0..sys.semaphores.len().min(255) as u8 {
+            let config = &sys.semaphores[usize::from(i)];
             self.add(alloc, Topic::Semaphore(i), config.order, 0)?;
         }
         Ok(())
     }
 
     fn add_flags(&mut self, alloc: Global, sys: &System) -> Result<(), AllocError> {
-        for (i, config) in (0u8..255).zip(sys.flags.as_slice()) {
+        for i in 0..sys.flags.len().min(255) as u8 {
+            let config = &sys.flags[usize::from(i)];
             self.add(alloc, Topic::Flag(i), config.order, 0)?;
         }
         Ok(())
     }
 
     fn add_data_queues(&mut self, alloc: Global, sys: &System) -> Result<(), AllocError> {
-        for (i, config) in (0u8..255).zip(sys.data_queues.as_slice()) {
+        for i in 0..sys.data_queues.len().min(255) as u8 {
+            let config = &sys.data_queues[usize::from(i)];
             let most = i32::from(config.capacity);
             self.add(alloc, Topic::DataQueue(i), config.order, most)?;
         }
@@ -222,14 +225,15 @@ impl Objects {
     }
 
     fn add_mailboxes(&mut self, alloc: Global, sys: &System) -> Result<(), AllocError> {
-        for (i, config) in (0u8..255).zip(sys.mailboxes.as_slice()) {
+        for i in 0..sys.mailboxes.len().min(255) as u8 {
+            let config = &sys.mailboxes[usize::from(i)];
             self.add(alloc, Topic::Mailbox(i), config.order, i32::MAX)?;
         }
         Ok(())
     }
 
     fn add_shared_words(&mut self, alloc: Global, sys: &System) -> Result<(), AllocError> {
-        for (i, _) in (0u8..255).zip(sys.shared_words.as_slice()) {
+        for i in 0..sys.shared_words.len().min(255) as u8 {
             self.add(alloc, Topic::SharedWord(i), QueueOrder::Fifo, 0)?;
         }
         Ok(())
@@ -288,20 +292,26 @@ impl Objects {
         }
     }
 
+    /// The wait of a task after an event.
+    fn take_wait(&mut self, event: u32, task: u8, block: &TaskBlock, moved: bool) {
+        let place = usize::from(task);
+        let old = self.waits.get(place).copied().flatten();
+        let new = self.wait_of(event, block, old, moved);
+        if new != old {
+            self.note_move(old);
+            self.note_move(new);
+            if let Some(wait) = self.waits.get_mut(place) {
+                *wait = new;
+            }
+        }
+    }
+
     /// The waits after an event.
     fn take_waits(&mut self, event: u32, moment: &Moment<'_>) {
         let replaced = replaced_task(moment.lines);
-        for (task, block) in (0u8..255).zip(moment.blocks) {
-            let place = usize::from(task);
-            let old = self.waits.get(place).copied().flatten();
-            let new = self.wait_of(event, block, old, replaced == Some(task));
-            if new != old {
-                self.note_move(old);
-                self.note_move(new);
-                if let Some(wait) = self.waits.get_mut(place) {
-                    *wait = new;
-                }
-            }
+        for task in 0..moment.blocks.len().min(255) as u8 {
+            let block = &moment.blocks[usize::from(task)];
+            self.take_wait(event, task, block, replaced == Some(task));
         }
     }
 

@@ -36,7 +36,8 @@ fn show_at<S: Copy + PartialEq + Drop>(
 impl Run {
     /// Keeps which tasks are assigned to another processor than before.
     fn take_migrations(&mut self, event: u32, moment: &Moment<'_>) -> Result<(), AllocError> {
-        for (task, state) in (0u8..255).zip(moment.states) {
+        for task in 0..moment.states.len().min(255) as u8 {
+            let state = &moment.states[usize::from(task)];
             if let Some(from) = self.processor_of(task)
                 && from != state.processor
             {
@@ -74,16 +75,18 @@ impl Run {
     }
 
     fn show_cyclics(&mut self, event: u32, moment: &Moment<'_>) -> Result<(), AllocError> {
-        for (place, pends) in (0u8..255).zip(moment.pending_cyclics) {
-            let shown = handling_of(Handler::Cyclic(place), *pends, moment.processors);
+        for place in 0..moment.pending_cyclics.len().min(255) as u8 {
+            let pends = moment.pending_cyclics[usize::from(place)];
+            let shown = handling_of(Handler::Cyclic(place), pends, moment.processors);
             show_at(&mut self.cyclics, usize::from(place), event, shown)?;
         }
         Ok(())
     }
 
     fn show_interrupts(&mut self, event: u32, moment: &Moment<'_>) -> Result<(), AllocError> {
-        for (place, pends) in (0u8..32).zip(moment.pending_interrupts) {
-            let shown = handling_of(Handler::Interrupt(place), *pends, moment.processors);
+        for place in 0..moment.pending_interrupts.len().min(32) as u8 {
+            let pends = moment.pending_interrupts[usize::from(place)];
+            let shown = handling_of(Handler::Interrupt(place), pends, moment.processors);
             show_at(&mut self.interrupts, usize::from(place), event, shown)?;
         }
         Ok(())

@@ -115,6 +115,11 @@ impl Run {
         add_tracks(alloc, sys.cyclics.len(), &mut self.cyclics)?;
         add_tracks(alloc, 32, &mut self.interrupts)?;
         self.priorities.resize(sys.tasks.len(), 0)?;
+        self.add_deeds(alloc)
+    }
+
+    /// The tasks and handlers, with no deeds.
+    fn add_deeds(&mut self, alloc: Global) -> Result<(), AllocError> {
         for _actor in 0..3 * PLACES {
             self.deeds.push(Deeds {
                 marks: Vec::new(alloc),

@@ -170,9 +170,9 @@ fn stop_between(marks: &[Mark], after: u32, before: u32) -> Option<Sign> {
 impl Run {
     /// The place of a spin lock that another processor holds where a span begins.
     fn lock_beside(&self, spin: &Spin) -> Option<u8> {
-        for (place, track) in (0u8..8).zip(self.locks.as_slice()) {
+        for place in 0..self.locks.len().min(8) as u8 {
             if place != spin.processor
-                && let Some(Lock::Spin(lock)) = track.at(spin.from)
+                && let Some(Lock::Spin(lock)) = self.locks[usize::from(place)].at(spin.from)
             {
                 return Some(lock);
             }

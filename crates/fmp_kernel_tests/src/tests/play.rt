@@ -5,7 +5,7 @@ ghost use Rattle.fmp_base.specs.Systems.{tables_of};
 ghost use Rattle.fmp_kernel_tests.specs.Scripts.{AreBodiesOf};
 
 use crate::Script;
-use crate::tests::reading::{bind, read_scripts, steps_text};
+use crate::tests::reading::{bind, read_scripts, set_queue_limit, steps_text};
 use fmp_base::{Body, Effect, Event, System};
 use fmp_cfgparse::read_cfg;
 use fmp_kernel::Kernel;
@@ -108,14 +108,23 @@ fn show(alloc: Global, sys: &System, script: Script, events: &str, n: u64) -> Re
     text_of(alloc, sys, &mut kernel, events)
 }
 
-/// What a system prints over events: the trace, and the states at the end.
-fn played(alloc: Global, n: u64, config: &str, scripts: &str, events: &str) -> Result<Vec<u8>, Fail>
+/// What a system with this queue limit prints over events: the trace, and the states at the end.
+fn played(
+    alloc: Global,
+    n: u64,
+    limit: u8,
+    config: &str,
+    scripts: &str,
+    events: &str,
+) -> Result<Vec<u8>, Fail>
     requires low { 1 ≤ n }
     requires high { n ≤ 2 ^ 48 }
+    requires queues { 1 ≤ limit }
 {
     let mut sys = read_cfg(alloc, config.as_bytes())?;
     let bodies = read_scripts(alloc, scripts)?;
     bind(&mut sys, bodies.names.as_slice())?;
+    set_queue_limit(&mut sys, limit);
     let script = Script::new(bodies.calls);
     if !script.has_bodies_of(&sys) {
         return Err(Fail::new("the scripts are not the bodies of this system"));
@@ -135,7 +144,7 @@ pub fn shows_within(
     requires low { 1 ≤ n }
     requires high { n ≤ 2 ^ 48 }
 {
-    let shown = String::from_utf8(played(rt.alloc(), n, config, scripts, events)?)?;
+    let shown = String::from_utf8(played(rt.alloc(), n, 255, config, scripts, events)?)?;
     assert_eq!(rt; shown.as_str(), expected);
     Ok(())
 }
@@ -149,4 +158,17 @@ pub fn shows(
     expected: &str,
 ) -> Result<(), Fail> {
     shows_within(rt, 100_000, config, scripts, events, expected)
+}
+
+/// A system that queues one activation and one wakeup of a task prints this over events.
+pub fn shows_queueing_one(
+    rt: &(impl Abort + AllocGlobal),
+    config: &str,
+    scripts: &str,
+    events: &str,
+    expected: &str,
+) -> Result<(), Fail> {
+    let shown = String::from_utf8(played(rt.alloc(), 100_000, 1, config, scripts, events)?)?;
+    assert_eq!(rt; shown.as_str(), expected);
+    Ok(())
 }

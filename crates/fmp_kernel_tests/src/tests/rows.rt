@@ -1,5 +1,5 @@
 //! Small systems whose whole trace is known.
-use crate::tests::play::{shows, shows_within};
+use crate::tests::play::{shows, shows_queueing_one, shows_within};
 use std::test::Fail;
 
 /// A task of each of two bodies, and three that wait at a semaphore in order of priority.
@@ -323,6 +323,48 @@ a put 2",
 M DORMANT p1 10
 A DORMANT p2 10
 B DORMANT p2 10
+",
+    )
+}
+
+#[test]
+fn no_more_is_queued_at_the_limit(rt: HostRuntime) -> Result<(), Fail> {
+    shows_queueing_one(
+        &rt,
+        "NUM_PRC(1);
+CLASS(TCL_1) {
+    CRE_TSK(M,{TA_ACT,0,m,5,256,NULL});
+    CRE_TSK(A,{TA_ACT,0,a,10,256,NULL});
+}",
+        "m act_tsk 2, act_tsk 2, mact_tsk 2 1, can_act 2, mact_tsk 2 1, mact_tsk 2 1, wup_tsk 2, wup_tsk 2, \
+          can_wup 2, wup_tsk 0, wup_tsk 1, slp_tsk
+a put 2",
+        "20 run 1",
+        "0 p1 M starts
+0 p1 A starts
+0 p1 > M
+1 p1 M act_tsk(2) E_OK
+2 p1 M act_tsk(2) E_QOVR
+3 p1 M mact_tsk(2,1) E_QOVR
+4 p1 M can_act(2) E_OK 1
+5 p1 M mact_tsk(2,1) E_OK
+6 p1 M mact_tsk(2,1) E_QOVR
+7 p1 M wup_tsk(2) E_OK
+8 p1 M wup_tsk(2) E_QOVR
+9 p1 M can_wup(2) E_OK 1
+10 p1 M wup_tsk(0) E_OK
+11 p1 M wup_tsk(1) E_QOVR
+12 p1 M slp_tsk() E_OK
+13 p1 M end
+13 p1 > A
+14 p1 A put(2) E_OK
+15 p1 A end
+15 p1 A starts
+15 p1 > A
+16 p1 A put(2) E_OK
+17 p1 A end
+M DORMANT p1 5
+A DORMANT p1 10
 ",
     )
 }

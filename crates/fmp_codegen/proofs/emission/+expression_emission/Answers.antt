@@ -6,7 +6,7 @@ use Rattle.fmp_scopes.specs.Depths.{expression_depth}
 use Rattle.fmp_scopes.specs.Scopes.{scope_view}
 use Rattle.fmp_scopes.specs.Sizes.{expression_size}
 use Rattle.fmp_scopes.proofs.ViewTrees.{size-Chain, depth-Chain, unary-emitted, unary-deep, chain-emitted, chain-deep}
-use Rattle.fmp_codegen.proofs.Emitted.{element-emitted, element-deep}
+use Rattle.fmp_codegen.proofs.Emitted.{element-emitted, load-named, element-deep}
 use Rattle.fmp_codegen.proofs.emission.+expression_emission.Goals as goal
 
 pub emit_expression-emit_expression-requires-in-Chain : goal.emit_expression-emit_expression-requires-in-Chain
@@ -31,7 +31,9 @@ pub emit_expression-returns-in_ok-put-in-Element-clause-code :
     goal.emit_expression-returns-in_ok-put-in-Element-clause-code
 emit_expression-returns-in_ok-put-in-Element-clause-code t c =
     element-emitted (scope_view c.args.names.now) c.args.e.now c.deref.result.now c.in-Element.array c.in-Element.index
-    c.load_of.result c.in-Element.is c.deref.ensures c.load_of.ensures c.args.out.now.instructions.items
+    c.load_of.result c.in-Element.is c.deref.ensures
+    (load-named (scope_view c.args.names.now) c.load_of.result c.deref-in-Element.result.now c.in-Element.array
+    c.deref-in-Element.ensures c.load_of.ensures) c.args.out.now.instructions.items
     c.emit_expression.new.out.instructions.items c.put-in-Element.new.out.instructions.items
     c.in_ok-emit_expression-in-Element.ensures.code c.in_ok-put-in-Element.ensures.code
 
