@@ -89,11 +89,6 @@ pub stretched_by : {C : Type 0} (M : Meaning C) (body bound : ℕ) (awaits : Boo
 stretched_by M body bound true c h = absurd (cc h)
 stretched_by M body bound false c h = refl
 
-pub of_context : {B C : Type 0} {is_context : B → ℕ → C → Type 0} {body : B} {entry : ℕ} (awaits : Bool) (c : C)
-    → OfHeld (is_context body entry) (held_by awaits c) → is_context body entry c
-of_context true c h = h
-of_context false c h = h
-
 -- a context that goes on is there
 pub going_there : {C : Type 0} (o : Option (Held C)) → is_going o ≡ true → IsThere o
 going_there None h = absurd (cc h)

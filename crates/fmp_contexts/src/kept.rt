@@ -78,7 +78,7 @@ fn awaits_reply(stop: &Stop) -> bool
 
 /// A stretch of the body of an entry, of at most n units, from the context that is kept, which goes on. The one at
 /// which it stops is left in place, and awaits the reply to its call, if it makes one.
-#[tactic(auto, using(crate::proofs::HeldLemmas::context_by, crate::proofs::HeldLemmas::stretched_by, crate::proofs::HeldLemmas::of_context))]
+#[tactic(auto, using(crate::proofs::HeldLemmas::context_by, crate::proofs::HeldLemmas::stretched_by))]
 pub fn stretch<B: Body>(body: &B, entry: u8, n: u64, kept: &mut Kept<B::Ctx>) -> Stop
     requires entry { B.has_entry body.now entry }
     requires context { OfHeld (B.is_context body.now entry) kept.old }
