@@ -5,8 +5,8 @@ ghost use Rattle.fmp_board.specs.Outcomes.{IsDrawn};
 ghost use mathlib.Core.List.{IsPrefix};
 
 use crate::tests::hosting::{SUSPENDED, TWO_TASKS};
-use crate::tests::playing::{Calls, Play, fed, played};
-use crate::tests::showing::{BOUND, board_of, image_of, last_of, one, steps_of};
+use crate::tests::playing::{Calls, Play, Told, fed, played};
+use crate::tests::showing::{BOUND, Seen, board_of, image_of, last_of, one, steps_of, text_is};
 use fmp_base::{Effect, Er, Event, Reply};
 use fmp_hostrun::{Blank, Board, BoardFault, Closed, Outcome, Receipt, Seat, Site};
 use fmp_image::Image;
@@ -108,33 +108,39 @@ fn done(number: u32) -> Result<Receipt, BoardFault> {
     })
 }
 
-#[test]
-fn an_outcome_after_another_processors_run(rt: HostRuntime) -> Result<(), Fail> {
-    let alloc = rt.alloc();
-    let events = [Event::Run(2)];
-    let (told, seen) = played(&rt, alloc, TWO_TASKS, 8, Play::Submit(&events))?;
-    // The processor has gone on since the second ticket was drawn.
-    let expected = [done(1), done(2), Err(BoardFault::Stale)];
-    assert_eq!(rt; told.calls.as_slice(), expected.as_slice());
-    assert_eq!(rt; steps_of(alloc, &told.followed)?.as_str(), "run 2\nrun 1\n");
-    assert_eq!(rt; seen.journal.as_str(), "run 2\nrun 1\n");
-    assert_eq!(rt; seen.states.as_str(), "A RUNNING p1 10\nB RUNNING p2 10\n");
+/// Compares what calls were answered, the events that a seat followed, which are all of the journal, and the states.
+fn is_submitted(
+    rt: &(impl Abort + AllocGlobal),
+    (told, seen): &(Told, Seen),
+    calls: &[Result<Receipt, BoardFault>],
+    events: &str,
+    states: &str,
+) -> Result<(), Fail> {
+    assert_eq!(rt; told.calls.as_slice(), calls);
+    text_is(rt, steps_of(rt.alloc(), &told.followed)?.as_str(), events);
+    seen.shows(rt, events, states);
     Ok(())
 }
 
 #[test]
+fn an_outcome_after_another_processors_run(rt: HostRuntime) -> Result<(), Fail> {
+    let events = [Event::Run(2)];
+    let both = played(&rt, rt.alloc(), TWO_TASKS, 8, Play::Submit(&events))?;
+    // The processor has gone on since the second ticket was drawn.
+    let expected = [done(1), done(2), Err(BoardFault::Stale)];
+    let states = "A RUNNING p1 10\nB RUNNING p2 10\n";
+    is_submitted(&rt, &both, &expected, "run 2\nrun 1\n", states)
+}
+
+#[test]
 fn an_outcome_of_a_task_that_was_suspended_and_resumed(rt: HostRuntime) -> Result<(), Fail> {
-    let alloc = rt.alloc();
     let events = [Event::Run(2); 2];
-    let (told, seen) = played(&rt, alloc, SUSPENDED, 2, Play::Submit(&events))?;
+    let both = played(&rt, rt.alloc(), SUSPENDED, 2, Play::Submit(&events))?;
     // The actor is the same, and the row is full.
     let stale = Err(BoardFault::Stale);
     let expected = [done(1), done(2), stale, stale];
-    assert_eq!(rt; told.calls.as_slice(), expected.as_slice());
-    assert_eq!(rt; steps_of(alloc, &told.followed)?.as_str(), "run 2\nrun 2\n");
-    assert_eq!(rt; seen.journal.as_str(), "run 2\nrun 2\n");
-    assert_eq!(rt; seen.states.as_str(), "T RUNNING p1 10\nS RUNNING p2 10\n");
-    Ok(())
+    let states = "T RUNNING p1 10\nS RUNNING p2 10\n";
+    is_submitted(&rt, &both, &expected, "run 2\nrun 2\n", states)
 }
 
 /// What is answered to two runs of processor 2, and to an outcome of processor 1 that was made before them.
