@@ -2,8 +2,8 @@
 ghost use Rattle.std.specs.Prelude.{All};
 ghost use Rattle.fmp_board.specs.Boards.{IsAt};
 
-use crate::tests::playing::{Calls, Play, fed, played};
-use crate::tests::showing::{board_of, image_of, one};
+use crate::tests::playing::{Calls, Play, Told, fed, played};
+use crate::tests::showing::{Seen, board_of, image_of, one, text_is};
 use fmp_base::Event;
 use fmp_hostrun::{Board, BoardFault, Seat, Site};
 use fmp_image::Image;
@@ -49,42 +49,49 @@ fn answers_text(alloc: Global, calls: &Calls) -> Result<String, Fail> {
     Ok(text)
 }
 
-#[test]
-fn three_events_on_one_task(rt: HostRuntime) -> Result<(), Fail> {
-    let alloc = rt.alloc();
-    let events = [Event::Run(1); 3];
-    let (told, seen) = played(&rt, alloc, ONE_TASK, 3, Play::Feed(&events))?;
-    assert_eq!(rt; answers_text(alloc, &told.calls)?.as_str(), "1 2 0 ");
-    assert_eq!(rt; seen.journal.as_str(), "run 1\nrun 1\n");
-    assert_eq!(rt; seen.states.as_str(), "T1 DORMANT p1 10\n");
+/// Compares the answers to events that were fed, the journal and the states with those that are expected.
+fn is_fed(
+    rt: &(impl Abort + AllocGlobal),
+    (told, seen): &(Told, Seen),
+    answers: &str,
+    journal: &str,
+    states: &str,
+) -> Result<(), Fail> {
+    text_is(rt, answers_text(rt.alloc(), &told.calls)?.as_str(), answers);
+    seen.shows(rt, journal, states);
     Ok(())
 }
 
 #[test]
+fn three_events_on_one_task(rt: HostRuntime) -> Result<(), Fail> {
+    let events = [Event::Run(1); 3];
+    let both = played(&rt, rt.alloc(), ONE_TASK, 3, Play::Feed(&events))?;
+    is_fed(&rt, &both, "1 2 0 ", "run 1\nrun 1\n", "T1 DORMANT p1 10\n")
+}
+
+#[test]
 fn a_stretch_that_keeps_its_place(rt: HostRuntime) -> Result<(), Fail> {
-    let alloc = rt.alloc();
     let events = [Event::Run(1); 4];
-    let (told, seen) = played(&rt, alloc, LONG_TASK, 4, Play::Feed(&events))?;
-    assert_eq!(rt; answers_text(alloc, &told.calls)?.as_str(), "1 2 3 0 ");
-    assert_eq!(rt; seen.journal.as_str(), "run 1\nrun 1\nrun 1\n");
-    assert_eq!(rt; seen.states.as_str(), "T1 DORMANT p1 10\n");
+    let both = played(&rt, rt.alloc(), LONG_TASK, 4, Play::Feed(&events))?;
+    is_fed(
+        &rt,
+        &both,
+        "1 2 3 0 ",
+        "run 1\nrun 1\nrun 1\n",
+        "T1 DORMANT p1 10\n",
+    )?;
     // The first event has no number in the trace.
-    assert_eq!(rt;
-        seen.simulated.as_str(),
-        "0 p1 T1 starts\n0 p1 > T1\n1 p1 T1 put(11111) E_OK\n2 p1 T1 end\nT1 DORMANT p1 10\n"
-    );
+    let trace =
+        "0 p1 T1 starts\n0 p1 > T1\n1 p1 T1 put(11111) E_OK\n2 p1 T1 end\nT1 DORMANT p1 10\n";
+    text_is(&rt, both.1.simulated.as_str(), trace);
     Ok(())
 }
 
 #[test]
 fn a_full_board(rt: HostRuntime) -> Result<(), Fail> {
-    let alloc = rt.alloc();
     let events = [Event::Run(1); 2];
-    let (told, seen) = played(&rt, alloc, ONE_TASK, 1, Play::Feed(&events))?;
-    assert_eq!(rt; answers_text(alloc, &told.calls)?.as_str(), "1 H2 ");
-    assert_eq!(rt; seen.journal.as_str(), "run 1\n");
-    assert_eq!(rt; seen.states.as_str(), "T1 RUNNING p1 10\n");
-    Ok(())
+    let both = played(&rt, rt.alloc(), ONE_TASK, 1, Play::Feed(&events))?;
+    is_fed(&rt, &both, "1 H2 ", "run 1\n", "T1 RUNNING p1 10\n")
 }
 
 /// How many seats a board with these limits has.
@@ -122,11 +129,7 @@ fn limits_of_a_board(rt: HostRuntime) -> Result<(), Fail> {
         (1, 1, 0, "H4"),
         (1, 1, 65, "H4"),
     ] {
-        assert_eq!(rt;
-            made_of_one_task(alloc, n, k, m)?.as_str(),
-            expected,
-            "{n} {k} {m}"
-        );
+        text_is(&rt, made_of_one_task(alloc, n, k, m)?.as_str(), expected);
     }
     Ok(())
 }

@@ -6,7 +6,7 @@ use crate::SecondFirst;
 use crate::tests::feeding::LONG_TASK;
 use crate::tests::hosting::TWO_TASKS;
 use crate::tests::playing::{Play, Told, fed, played};
-use crate::tests::showing::{Seen, one};
+use crate::tests::showing::{Seen, one, text_is};
 use fmp_base::Event;
 use fmp_hostrun::{Board, Follower, Seat, Site, Start, followed_text_is_front, run_all};
 use std::alloc::{AllocError, Global};
@@ -70,18 +70,31 @@ fn pull_all<S: Site>(
     pull(follower, out)
 }
 
-/// Pulls this many events through a follower: what it printed behind what was printed before.
+/// Pulls this many events through a follower: how many its kernel has done then, and what it was given after them.
 fn pulled<S: Site>(
     follower: &mut Follower<'_, '_, S>,
     events: u32,
-    mut text: Vec<u8>,
-) -> Result<Option<Printed>, AllocError> {
-    let after = pull_all(follower, events, &mut text)?;
-    Ok(Some(Printed {
-        text,
-        done: follower.kernel().done(),
-        after,
-    }))
+    text: &mut Vec<u8>,
+) -> Result<(u32, Option<Event>), AllocError> {
+    let after = pull_all(follower, events, text)?;
+    Ok((follower.kernel().done(), after))
+}
+
+/// Makes a follower by a seat that was given no event, and pulls this many through it.
+fn followed_by<S: Site>(
+    alloc: Global,
+    board: &Board<'_, S>,
+    seat: &mut Seat,
+    events: u32,
+    text: &mut Vec<u8>,
+) -> Result<(u32, Option<Event>), AllocError>
+    requires at { IsAt S.row_id seat.old }
+    requires fresh { seat.old.place ≡ 0 }
+{
+    match Follower::new(alloc, board, seat, text) {
+        Ok(mut follower) => pulled(&mut follower, events, text),
+        Err(fault) => Err(fault),
+    }
 }
 
 /// What a follower prints of a board from a seat that was given no event, once it was given this many. None if the seat
@@ -98,10 +111,22 @@ fn followed<S: Site>(
         return Ok(None);
     }
     let mut text = Vec::new(alloc);
-    match Follower::new(alloc, board, seat, &mut text) {
-        Ok(mut follower) => pulled(&mut follower, events, text),
-        Err(fault) => Err(fault),
-    }
+    let (done, after) = followed_by(alloc, board, seat, events, &mut text)?;
+    Ok(Some(Printed { text, done, after }))
+}
+
+/// What a follower prints from another seat of a board, once it was given this many events.
+fn followed_by_another<S: Site>(
+    alloc: Global,
+    board: &Board<'_, S>,
+    seats: &mut Vec<Seat>,
+    events: u32,
+) -> Result<Result<Option<Printed>, AllocError>, Fail>
+    requires { All (IsAt S.row_id) seats.old.items }
+    ensures { All (IsAt S.row_id) seats.new.items }
+{
+    let mut reader = one::<S>(seats).ok_or("a seat")?;
+    Ok(followed(alloc, board, &mut reader, events))
 }
 
 /// One seat of a board feeds these events, and another follows them then, or a third where memory was refused: what the
@@ -116,13 +141,11 @@ pub fn follow<S: Site, R: Wait>(
     requires { All (IsAt S.row_id) seats.old.items }
 {
     let mut seat = one::<S>(seats).ok_or("a seat")?;
-    let mut reader = one::<S>(seats).ok_or("a seat")?;
-    let mut spare = one::<S>(seats).ok_or("a seat")?;
     fed(rt, alloc, board, &mut seat, events)?;
     let count = u32::try_from(events.len()).unwrap_or(u32::MAX);
-    match followed(alloc, board, &mut reader, count) {
+    match followed_by_another(alloc, board, seats, count)? {
         Ok(printed) => Ok(printed),
-        Err(_) => Ok(followed(alloc, board, &mut spare, count)?),
+        Err(_) => Ok(followed_by_another(alloc, board, seats, count)??),
     }
 }
 
@@ -134,13 +157,32 @@ fn written_and_pulled<S: Site + Send + Sync, R: Threads + Wait + Sync>(
     seats: Vec<Seat>,
     follower: &mut Follower<'_, '_, S>,
     events: u32,
-    text: Vec<u8>,
-) -> Result<Option<Printed>, AllocError>
+    text: &mut Vec<u8>,
+) -> Result<(u32, Option<Event>), AllocError>
     requires { All (IsAt S.row_id) seats.items }
 {
     let gate = SecondFirst::new(1);
     let (_seats, _journaled) = run_all(rt, alloc, board, &gate, seats, 4, 0);
     pulled(follower, events, text)
+}
+
+/// Makes a follower by a seat that was given no event, has threads write the board by the others, and pulls this many
+/// events.
+fn watched_by<S: Site + Send + Sync, R: Threads + Wait + Sync>(
+    rt: &R,
+    alloc: Global,
+    board: &Board<'_, S>,
+    reader: &mut Seat,
+    writers: Vec<Seat>,
+    events: u32,
+    text: &mut Vec<u8>,
+) -> Result<(u32, Option<Event>), AllocError>
+    requires at { IsAt S.row_id reader.old }
+    requires fresh { reader.old.place ≡ 0 }
+    requires seats { All (IsAt S.row_id) writers.items }
+{
+    let mut follower = Start::new(alloc, board, text)?.follow(reader);
+    written_and_pulled(rt, alloc, board, writers, &mut follower, events, text)
 }
 
 /// Makes a follower, has threads write the board by the other seats, and then pulls this many events: what the follower
@@ -160,14 +202,8 @@ pub fn watch<S: Site + Send + Sync, R: Threads + Wait + Sync>(
     }
     let writers = mem::replace(seats, Vec::new(alloc));
     let mut text = Vec::new(alloc);
-    let printed = match Start::new(alloc, board, &mut text) {
-        Ok(start) => {
-            let mut follower = start.follow(&mut reader);
-            written_and_pulled(rt, alloc, board, writers, &mut follower, events, text)
-        }
-        Err(fault) => Err(fault),
-    };
-    printed.map_err(Fail::from)
+    let (done, after) = watched_by(rt, alloc, board, &mut reader, writers, events, &mut text)?;
+    Ok(Some(Printed { text, done, after }))
 }
 
 /// What a follower printed, with the states at the end behind it.
@@ -180,15 +216,14 @@ fn with_states(alloc: Global, printed: &Printed, seen: &Seen) -> Result<String, 
 /// A follower that was given this many events printed what a simulation of the journal prints, and then found no more.
 fn prints_as_simulated(
     rt: &(impl Abort + AllocGlobal),
-    told: (Told, Seen),
+    (told, seen): &(Told, Seen),
     done: u32,
 ) -> Result<(), Fail> {
-    let (told, seen) = told;
-    let printed = told.printed.ok_or("a seat that was given nothing")?;
-    assert_eq!(rt;
-        with_states(rt.alloc(), &printed, &seen)?.as_str(),
-        seen.simulated.as_str()
-    );
+    let Some(printed) = &told.printed else {
+        return Err(Fail::from("a seat that was given nothing"));
+    };
+    let text = with_states(rt.alloc(), printed, seen)?;
+    text_is(rt, text.as_str(), seen.simulated.as_str());
     assert_eq!(rt; printed.done, done);
     assert_eq!(rt; printed.after, None);
     Ok(())
@@ -198,7 +233,7 @@ fn prints_as_simulated(
 fn setup_alone(rt: HostRuntime) -> Result<(), Fail> {
     followed_text_is_front();
     let told = played(&rt, rt.alloc(), TWO_TASKS, 1, Play::Follow(&[]))?;
-    prints_as_simulated(&rt, told, 0)
+    prints_as_simulated(&rt, &told, 0)
 }
 
 #[test]
@@ -206,7 +241,7 @@ fn a_board_that_was_fed(rt: HostRuntime) -> Result<(), Fail> {
     // A row whose words are all written, and one with empty words behind.
     for k in [6, 8] {
         let told = played(&rt, rt.alloc(), TWO_TASKS, k, Play::Follow(&EVENTS))?;
-        prints_as_simulated(&rt, told, 6)?;
+        prints_as_simulated(&rt, &told, 6)?;
     }
     Ok(())
 }
@@ -221,5 +256,5 @@ fn a_board_on_which_a_place_was_kept(rt: HostRuntime) -> Result<(), Fail> {
 #[test]
 fn a_board_that_threads_write(rt: HostRuntime) -> Result<(), Fail> {
     let told = played(&rt, rt.alloc(), TWO_TASKS, 8, Play::Watch(6))?;
-    prints_as_simulated(&rt, told, 6)
+    prints_as_simulated(&rt, &told, 6)
 }

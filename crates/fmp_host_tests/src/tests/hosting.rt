@@ -2,7 +2,7 @@
 ghost use Rattle.std.specs.Prelude.{◌≡◌, All, IfOk};
 ghost use Rattle.fmp_board.specs.Boards.{IsAt, blank as blank_of};
 
-use crate::tests::showing::{BOUND, Seen, board_of, image_of, one};
+use crate::tests::showing::{BOUND, Seen, board_of, image_of, one, text_is};
 use crate::{LetsOne, SecondFirst};
 use fmp_hostrun::{Blank, Board, BoardFault, Closed, Gate, Seat, Site, run_all};
 use fmp_image::Image;
@@ -138,25 +138,56 @@ fn lines_of(alloc: Global, trace: &str, task: &str) -> Result<String, Fail> {
     Ok(lines)
 }
 
+/// Compares what a run of a board answered, how its journal begins, and how many events that has.
+fn journals(
+    rt: &(impl Abort + AllocGlobal),
+    (journaled, seen): &(String, Seen),
+    answer: &str,
+    front: &str,
+    count: usize,
+) {
+    text_is(rt, journaled.as_str(), answer);
+    assert!(rt; seen.journal.as_str().starts_with(front));
+    assert_eq!(rt; seen.journal.lines().count(), count);
+}
+
+/// Compares the lines of a task in the trace, and the states.
+fn traces(
+    rt: &(impl Abort + AllocGlobal),
+    seen: &Seen,
+    task: &str,
+    lines: &str,
+    states: &str,
+) -> Result<(), Fail> {
+    let printed = lines_of(rt.alloc(), seen.simulated.as_str(), task)?;
+    text_is(rt, printed.as_str(), lines);
+    text_is(rt, seen.states.as_str(), states);
+    Ok(())
+}
+
+/// A trace ends with the states.
+fn ends_with_states(rt: &(impl Abort + AllocGlobal), seen: &Seen) {
+    assert!(rt; seen.simulated.as_str().ends_with(seen.states.as_str()));
+}
+
 #[test]
 fn processors_that_wait_for_one_another(rt: HostRuntime) -> Result<(), Fail> {
-    let alloc = rt.alloc();
     let schedule = Schedule {
         capacity: 8,
         turns: 4,
     };
     let gate = SecondFirst::new(1);
-    let (journaled, seen) = run_texts(&rt, alloc, TWO_TASKS, &gate, schedule)?;
-    assert_eq!(rt; journaled.as_str(), "6");
-    assert_eq!(rt; seen.journal.lines().count(), 6);
-    assert!(rt; seen.journal.as_str().starts_with("run 2\n"));
-    assert_eq!(rt; seen.states.as_str(), "A DORMANT p1 10\nB DORMANT p2 10\n");
-    assert_eq!(rt;
-        lines_of(alloc, seen.simulated.as_str(), " p1 A ")?.as_str(),
-        "starts\nst_shr(1,5) E_OK\nld_shr(1) E_OK 5\nput(5) E_OK\nend\n"
-    );
-    assert!(rt; seen.simulated.as_str().ends_with(seen.states.as_str()));
-    Ok(())
+    let ran = run_texts(&rt, rt.alloc(), TWO_TASKS, &gate, schedule)?;
+    journals(&rt, &ran, "6", "run 2\n", 6);
+    ends_with_states(&rt, &ran.1);
+    let lines = "starts\nst_shr(1,5) E_OK\nld_shr(1) E_OK 5\nput(5) E_OK\nend\n";
+    traces(
+        &rt,
+        &ran.1,
+        " p1 A ",
+        lines,
+        "A DORMANT p1 10\nB DORMANT p2 10\n",
+    )
 }
 
 #[test]
@@ -169,7 +200,7 @@ fn processors_of_which_one_may_be_refused(rt: HostRuntime) -> Result<(), Fail> {
     let (journaled, seen) = run_texts(&rt, rt.alloc(), TWO_TASKS, &gate, schedule)?;
     // A thread is refused only from outside.
     assert!(rt; journaled.as_str() == "6" || journaled.as_str() == "H5");
-    assert!(rt; seen.simulated.as_str().ends_with(seen.states.as_str()));
+    ends_with_states(&rt, &seen);
     Ok(())
 }
 
@@ -181,64 +212,58 @@ fn suspending() -> SecondFirst {
 
 #[test]
 fn a_stale_outcome_ends_its_turn(rt: HostRuntime) -> Result<(), Fail> {
-    let alloc = rt.alloc();
-    let (journaled, seen) = run_texts(
+    let schedule = Schedule {
+        capacity: 6,
+        turns: 3,
+    };
+    let ran = run_texts(&rt, rt.alloc(), SUSPENDED, &suspending(), schedule)?;
+    journals(&rt, &ran, "5", "run 2\nrun 2\n", 5);
+    let lines = "starts\nput(1) E_OK\nend\n";
+    traces(
         &rt,
-        alloc,
-        SUSPENDED,
-        &suspending(),
-        Schedule {
-            capacity: 6,
-            turns: 3,
-        },
-    )?;
-    assert_eq!(rt; journaled.as_str(), "5");
-    assert!(rt; seen.journal.as_str().starts_with("run 2\nrun 2\n"));
-    assert_eq!(rt;
-        lines_of(alloc, seen.simulated.as_str(), " p1 T ")?.as_str(),
-        "starts\nput(1) E_OK\nend\n"
-    );
-    assert_eq!(rt; seen.states.as_str(), "T DORMANT p1 10\nS DORMANT p2 10\n");
-    Ok(())
+        &ran.1,
+        " p1 T ",
+        lines,
+        "T DORMANT p1 10\nS DORMANT p2 10\n",
+    )
 }
 
 #[test]
 fn threads_that_fill_a_board(rt: HostRuntime) -> Result<(), Fail> {
-    let (journaled, seen) = run_texts(
-        &rt,
-        rt.alloc(),
-        SUSPENDED,
-        &suspending(),
-        Schedule {
-            capacity: 4,
-            turns: 3,
-        },
-    )?;
-    assert_eq!(rt; journaled.as_str(), "H2");
-    assert_eq!(rt; seen.journal.lines().count(), 4);
-    assert!(rt; seen.journal.as_str().starts_with("run 2\nrun 2\n"));
+    let schedule = Schedule {
+        capacity: 4,
+        turns: 3,
+    };
+    let ran = run_texts(&rt, rt.alloc(), SUSPENDED, &suspending(), schedule)?;
+    journals(&rt, &ran, "H2", "run 2\nrun 2\n", 4);
     Ok(())
 }
 
 #[test]
 fn two_turns_of_which_one_is_stale(rt: HostRuntime) -> Result<(), Fail> {
-    let alloc = rt.alloc();
     let gate = suspending();
     let schedule = Schedule {
         capacity: 6,
         turns: 2,
     };
-    let (journaled, seen) = run_texts(&rt, alloc, SUSPENDED, &gate, schedule)?;
+    let ran = run_texts(&rt, rt.alloc(), SUSPENDED, &gate, schedule)?;
     // Each turn was answered, the stale one too.
     assert_eq!(rt; gate.told(), 4);
-    assert_eq!(rt; journaled.as_str(), "3");
-    assert_eq!(rt; seen.journal.as_str(), "run 2\nrun 2\nrun 1\n");
-    assert_eq!(rt;
-        lines_of(alloc, seen.simulated.as_str(), " p1 T ")?.as_str(),
-        "starts\nput(1) E_OK\n"
-    );
-    assert_eq!(rt; seen.states.as_str(), "T RUNNING p1 10\nS RUNNING p2 10\n");
-    Ok(())
+    journals(&rt, &ran, "3", "run 2\nrun 2\nrun 1\n", 3);
+    let lines = "starts\nput(1) E_OK\n";
+    traces(
+        &rt,
+        &ran.1,
+        " p1 T ",
+        lines,
+        "T RUNNING p1 10\nS RUNNING p2 10\n",
+    )
+}
+
+/// Compares how often a gate said no, and how many turns it was told of.
+fn gate_counts(rt: &(impl Abort + AllocGlobal), gate: &LetsOne, refused: u64, told: u64) {
+    assert_eq!(rt; gate.refused(), refused);
+    assert_eq!(rt; gate.told(), told);
 }
 
 #[test]
@@ -248,12 +273,10 @@ fn a_gate_that_always_says_no(rt: HostRuntime) -> Result<(), Fail> {
         turns: 4,
     };
     let gate = LetsOne::new(0);
-    let (journaled, seen) = run_texts(&rt, rt.alloc(), TWO_TASKS, &gate, schedule)?;
-    assert_eq!(rt; journaled.as_str(), "H6");
-    assert_eq!(rt; seen.journal.as_str(), "");
+    let ran = run_texts(&rt, rt.alloc(), TWO_TASKS, &gate, schedule)?;
+    journals(&rt, &ran, "H6", "", 0);
     // Each of two processors was refused 10,000 times in its first turn.
-    assert_eq!(rt; gate.refused(), 20_000);
-    assert_eq!(rt; gate.told(), 0);
+    gate_counts(&rt, &gate, 20_000, 0);
     Ok(())
 }
 
@@ -266,11 +289,9 @@ fn two_faults_of_which_the_first_processors_is_answered(rt: HostRuntime) -> Resu
     // The one that goes on finds the journal full in its second turn, and the other one is held in its first.
     for (processor, fault, journal) in [(1, "H2", "run 1\n"), (2, "H6", "run 2\n")] {
         let gate = LetsOne::new(processor);
-        let (journaled, seen) = run_texts(&rt, rt.alloc(), TWO_TASKS, &gate, schedule)?;
-        assert_eq!(rt; journaled.as_str(), fault);
-        assert_eq!(rt; seen.journal.as_str(), journal);
-        assert_eq!(rt; gate.refused(), 10_000);
-        assert_eq!(rt; gate.told(), 2);
+        let ran = run_texts(&rt, rt.alloc(), TWO_TASKS, &gate, schedule)?;
+        journals(&rt, &ran, fault, journal, 1);
+        gate_counts(&rt, &gate, 10_000, 2);
     }
     Ok(())
 }

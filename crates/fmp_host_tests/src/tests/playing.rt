@@ -68,6 +68,28 @@ pub fn fed<S: Site, R: Wait>(
 }
 
 /// Does this on a board, by its seats.
+fn tell<S: Site + Send + Sync, R: Threads + Wait + Sync>(
+    rt: &R,
+    alloc: Global,
+    board: &Board<'_, S>,
+    seats: &mut Vec<Seat>,
+    play: Play<'_>,
+    told: &mut Told,
+) -> Result<(), Fail>
+    requires { All (IsAt S.row_id) seats.old.items }
+{
+    match play {
+        Play::Feed(events) => told.calls = feed(rt, alloc, board, seats, events)?,
+        Play::Follow(events) => told.printed = follow(rt, alloc, board, seats, events)?,
+        Play::Watch(events) => told.printed = watch(rt, alloc, board, seats, events)?,
+        Play::Submit(events) => {
+            (told.calls, told.followed) = submit(rt, alloc, board, seats, events)?;
+        }
+    }
+    Ok(())
+}
+
+/// What is told of this on a board, by its seats.
 fn told_of<S: Site + Send + Sync, R: Threads + Wait + Sync>(
     rt: &R,
     alloc: Global,
@@ -82,14 +104,7 @@ fn told_of<S: Site + Send + Sync, R: Threads + Wait + Sync>(
         followed: Vec::new(alloc),
         printed: None,
     };
-    match play {
-        Play::Feed(events) => told.calls = feed(rt, alloc, board, seats, events)?,
-        Play::Follow(events) => told.printed = follow(rt, alloc, board, seats, events)?,
-        Play::Watch(events) => told.printed = watch(rt, alloc, board, seats, events)?,
-        Play::Submit(events) => {
-            (told.calls, told.followed) = submit(rt, alloc, board, seats, events)?;
-        }
-    }
+    tell(rt, alloc, board, seats, play, &mut told)?;
     Ok(told)
 }
 

@@ -8,6 +8,7 @@ use fmp_hostrun::{Blank, BoardFault, Closed, Seat, Site};
 use fmp_image::{Image, build, store};
 use fmp_trace::{print_states, print_steps};
 use std::alloc::Global;
+use std::process::Abort;
 use std::test::Fail;
 
 /// How many instructions a stretch of a body may take.
@@ -22,6 +23,11 @@ pub struct Seen {
     pub states: String,
     /// What a simulation of the image over the journal prints.
     pub simulated: String,
+}
+
+/// Compares a text with the one that is expected.
+pub fn text_is(rt: &(impl Abort + AllocGlobal), text: &str, expected: &str) {
+    assert_eq!(rt; text, expected);
 }
 
 /// The image that two texts build, a configuration and its tasks.
@@ -133,5 +139,11 @@ impl Seen {
             states: states_of(alloc, image, closed)?,
             simulated,
         })
+    }
+
+    /// Compares the journal and the states with those that are expected.
+    pub fn shows(&self, rt: &(impl Abort + AllocGlobal), journal: &str, states: &str) {
+        text_is(rt, self.journal.as_str(), journal);
+        text_is(rt, self.states.as_str(), states);
     }
 }

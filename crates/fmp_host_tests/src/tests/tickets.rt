@@ -6,8 +6,8 @@ ghost use mathlib.Core.List.{IsPrefix};
 
 use crate::tests::feeding::LONG_TASK;
 use crate::tests::hosting::{SUSPENDED, TWO_TASKS};
-use crate::tests::playing::{Calls, Play, fed, played};
-use crate::tests::showing::{BOUND, board_of, image_of, last_of, one, steps_of};
+use crate::tests::playing::{Calls, Play, Told, fed, played};
+use crate::tests::showing::{BOUND, Seen, board_of, image_of, last_of, one, steps_of, text_is};
 use fmp_base::{Effect, Er, Event, Reply};
 use fmp_hostrun::{Blank, Board, BoardFault, Closed, Outcome, Receipt, Seat, Site};
 use fmp_image::Image;
@@ -118,61 +118,69 @@ fn kept(number: u32) -> Result<Receipt, BoardFault> {
     })
 }
 
+/// Compares what calls were answered, the events that a seat followed, which are all of the journal, and the states.
+fn is_submitted(
+    rt: &(impl Abort + AllocGlobal),
+    (told, seen): &(Told, Seen),
+    calls: &[Result<Receipt, BoardFault>],
+    events: &str,
+    states: &str,
+) -> Result<(), Fail> {
+    assert_eq!(rt; told.calls.as_slice(), calls);
+    text_is(rt, steps_of(rt.alloc(), &told.followed)?.as_str(), events);
+    seen.shows(rt, events, states);
+    Ok(())
+}
+
 #[test]
 fn an_outcome_after_a_place_was_kept(rt: HostRuntime) -> Result<(), Fail> {
-    let alloc = rt.alloc();
     let events = [Event::Run(1)];
-    let (told, seen) = played(&rt, alloc, LONG_TASK, 8, Play::Submit(&events))?;
+    let both = played(&rt, rt.alloc(), LONG_TASK, 8, Play::Submit(&events))?;
     // The actor is the same, and nothing is printed of what it has done since the tickets were drawn.
     let stale = Err(BoardFault::Stale);
-    assert_eq!(rt; told.calls.as_slice(), [kept(1), stale, stale].as_slice());
-    assert_eq!(rt; steps_of(alloc, &told.followed)?.as_str(), "run 1\n");
-    assert_eq!(rt; seen.journal.as_str(), "run 1\n");
-    assert_eq!(rt;
-        seen.simulated.as_str(),
-        "0 p1 T1 starts\n0 p1 > T1\nT1 RUNNING p1 10\n"
+    is_submitted(
+        &rt,
+        &both,
+        &[kept(1), stale, stale],
+        "run 1\n",
+        "T1 RUNNING p1 10\n",
+    )?;
+    text_is(
+        &rt,
+        both.1.simulated.as_str(),
+        "0 p1 T1 starts\n0 p1 > T1\nT1 RUNNING p1 10\n",
     );
     Ok(())
 }
 
 #[test]
 fn an_outcome_that_keeps_a_place(rt: HostRuntime) -> Result<(), Fail> {
-    let alloc = rt.alloc();
-    let (told, seen) = played(&rt, alloc, LONG_TASK, 8, Play::Submit(&[]))?;
+    let (told, seen) = played(&rt, rt.alloc(), LONG_TASK, 8, Play::Submit(&[]))?;
     let expected = [kept(1), Err(BoardFault::Stale)];
     assert_eq!(rt; told.calls.as_slice(), expected.as_slice());
-    assert_eq!(rt; seen.journal.as_str(), "run 1\n");
-    assert_eq!(rt; seen.states.as_str(), "T1 RUNNING p1 10\n");
+    seen.shows(&rt, "run 1\n", "T1 RUNNING p1 10\n");
     Ok(())
 }
 
 #[test]
 fn an_outcome_after_another_processors_run(rt: HostRuntime) -> Result<(), Fail> {
-    let alloc = rt.alloc();
     let events = [Event::Run(2)];
-    let (told, seen) = played(&rt, alloc, TWO_TASKS, 8, Play::Submit(&events))?;
+    let both = played(&rt, rt.alloc(), TWO_TASKS, 8, Play::Submit(&events))?;
     // The processor has gone on since the second ticket was drawn.
     let expected = [done(1), done(2), Err(BoardFault::Stale)];
-    assert_eq!(rt; told.calls.as_slice(), expected.as_slice());
-    assert_eq!(rt; steps_of(alloc, &told.followed)?.as_str(), "run 2\nrun 1\n");
-    assert_eq!(rt; seen.journal.as_str(), "run 2\nrun 1\n");
-    assert_eq!(rt; seen.states.as_str(), "A RUNNING p1 10\nB RUNNING p2 10\n");
-    Ok(())
+    let states = "A RUNNING p1 10\nB RUNNING p2 10\n";
+    is_submitted(&rt, &both, &expected, "run 2\nrun 1\n", states)
 }
 
 #[test]
 fn an_outcome_of_a_task_that_was_suspended_and_resumed(rt: HostRuntime) -> Result<(), Fail> {
-    let alloc = rt.alloc();
     let events = [Event::Run(2); 2];
-    let (told, seen) = played(&rt, alloc, SUSPENDED, 2, Play::Submit(&events))?;
+    let both = played(&rt, rt.alloc(), SUSPENDED, 2, Play::Submit(&events))?;
     // The actor is the same, and the row is full.
     let stale = Err(BoardFault::Stale);
     let expected = [done(1), done(2), stale, stale];
-    assert_eq!(rt; told.calls.as_slice(), expected.as_slice());
-    assert_eq!(rt; steps_of(alloc, &told.followed)?.as_str(), "run 2\nrun 2\n");
-    assert_eq!(rt; seen.journal.as_str(), "run 2\nrun 2\n");
-    assert_eq!(rt; seen.states.as_str(), "T RUNNING p1 10\nS RUNNING p2 10\n");
-    Ok(())
+    let states = "T RUNNING p1 10\nS RUNNING p2 10\n";
+    is_submitted(&rt, &both, &expected, "run 2\nrun 2\n", states)
 }
 
 /// What is answered to two runs of processor 2, and to an outcome of processor 1 that was made before them.
