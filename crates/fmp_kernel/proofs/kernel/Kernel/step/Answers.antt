@@ -71,7 +71,8 @@ returns-in-Kept-clause-state g c =
     let ran = run_place c.args.e in
     rw (← c.self.view_is) (view_kept x r c.react-effect.new.self k.stamps.counts c.count_kept.new.stamps.counts k.done k.taken ran
     (sym c.in-Kept.is ∙ e.effect) (ran-step r.system (g.B.Body.meaning r.body) r.bound r.world c.args.e) e.after e.bodies
-    (stamped_is k.stamps c.count_kept.new.stamps _ k.taken _ _ ran c.self.invariant.2 (rw (← c.run_place.ensures) c.count_kept.ensures.counts)))
+    (stamped_is k.stamps c.count_kept.new.stamps _ k.taken r.world.state c.react-effect.new.self.world.state ran c.self.invariant.2
+    (rw (← c.run_place.ensures) c.count_kept.ensures.counts)))
 
 pub count_kept-requires-clause-many : goal.count_kept-requires-clause-many
 count_kept-requires-clause-many g c =

@@ -3,8 +3,8 @@ use Rattle.fmp_base.specs.declared.bodies.Held.TheVariants.{Awaits, Goes}
 use Rattle.fmp_contexts.proofs.ContextLemmas.{fitting_set, going_has, places_set}
 use Rattle.fmp_kernel.proofs.runner.Runner.take.Goals as goal
 
-pub invariant_of-self-in-Over : goal.invariant_of-self-in-Over
-invariant_of-self-in-Over g c =
+pub invariant_of-self : goal.invariant_of-self
+invariant_of-self g c =
     let cs = c.self.inside.contexts in
     let (room, places, entries, fitting) = c.self.invariant in
     let goes = rw (← c.self.view_is) at c.requires.goes in
@@ -23,7 +23,7 @@ invariant_of-self-in-Call g c =
     let (room, places, entries, fitting) = c.self.invariant in
     let goes = rw (← c.self.view_is) at c.requires.goes in
     let fits = rw (← c.self.view_is, c.in-Call.is) at c.requires.context in
-    rw c.put.ensures (
+    rw c.put-in-Call.ensures (
       room,
       places_set cs c.args.p c.args.who _ places,
       entries,
@@ -46,7 +46,7 @@ pub invariant_of-self-in-Fault : goal.invariant_of-self-in-Fault
 invariant_of-self-in-Fault g c =
     let cs = c.self.inside.contexts in
     let (room, places, entries, fitting) = c.self.invariant in
-    rw c.forget.ensures (
+    rw c.forget-in-Fault.ensures (
       room,
       places_set cs c.args.p c.args.who None places,
       entries,
