@@ -97,8 +97,8 @@ interrupt_number i = i.number
 abbrev pub same_name : Name → Name → Bool
 same_name a b = bytes_eq (name_text a) (name_text b)
 
--- The rules of a configuration: its tables are in range, its queue limit is that of every configuration, and no name and
--- no interrupt number stands twice.
+-- The rules of a configuration: its tables are in range, its queue limit is that of every configuration, and no name
+-- and no interrupt number stands twice.
 pub record IsConfiguration (t : SystemTables) : Type 0 where
   pub ranges : IsInRange t
   pub queue_limit : t.queue_limit ≡ QUEUE_LIMIT
