@@ -9,6 +9,6 @@ returns-clause-context g c =
     let cs = c.self.inside.contexts in
     let (room, places, entries, fitting) = c.self.invariant in
     let first = c.in-Some.context.now in
-    let going = rw (← c.in-Some.is) at c.going.ensures in
+    let going = rw (c.in-Some.is) at c.going.ensures in
     rw (← c.self.view_is) (goes_in cs c.args.p c.args.who first fitting
     (going_some (context_of cs c.args.p c.args.who) first (sym going)))
