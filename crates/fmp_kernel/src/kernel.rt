@@ -70,10 +70,11 @@ impl<B: Body + Drop> Kernel<B> {
         ensures { IfOk result
             (λ k. k ≡ view_of_setup body n (tables_of sys.now) (setup (tables_of sys.now) (B.meaning body))) }
     {
+        let mut stamps = Stamps::new(alloc, sys.processors)?;
         let mut runner = Runner::new(alloc, body, sys, n)?;
         runner.set_up();
         runner.world_is_whole();
-        let stamps = runner.stamps(alloc)?;
+        runner.see(&mut stamps);
         Ok(Kernel {
             runner,
             done: 0,

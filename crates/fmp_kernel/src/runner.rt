@@ -195,12 +195,13 @@ impl<B: Body> Runner<B> {
         }
     }
 
-    /// Stamps 0 of the processors, with the actors that they have. `AllocError` if memory runs out.
-    pub fn stamps(&self, alloc: Global) -> Result<Stamps, AllocError>
-        ensures counts { IfOk result (λ s. s.counts ≡ replicate self.now.system.processors 0) }
-        ensures actors { IfOk result (λ s. AreActors s.actors self.now.system.processors self.now.world.state) }
+    /// The stamps see the actors that the processors have.
+    pub fn see(&self, stamps: &mut Stamps)
+        requires { length stamps.old.actors ≡ self.now.system.processors }
+        ensures counts { stamps.new.counts ≡ stamps.old.counts }
+        ensures actors { AreActors stamps.new.actors self.now.system.processors self.now.world.state }
     {
-        Stamps::new(alloc, &self.tables)
+        stamps.see(&self.tables);
     }
 
     /// Counts the event that has just been done.

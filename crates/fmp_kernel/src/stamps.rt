@@ -76,27 +76,35 @@ fn given_by(line: &Line) -> Option<u8>
     }
 }
 
-/// The actors of all processors.
-fn actors(alloc: Global, tables: &Tables) -> Result<Vec<Option<Caller>>, AllocError>
-    ensures { IfOk result (λ v. AreActors v.items tables.now.system.processors tables.now.state) }
+/// Each processor is seen to have the actor that it has.
+fn see_actors(actors: &mut [Option<Caller>], tables: &Tables)
+    requires { length actors.old ≡ tables.now.system.processors }
+    ensures { AreActors actors.new tables.now.system.processors tables.now.state }
 {
     let count = tables.processor_count() as u8;
-    let mut actors = Vec::with_capacity(alloc, count as usize)?;
     for p in 0..count {
-        actors.push_reserved(actor_on(tables, p));
+        actors[p as usize] = actor_on(tables, p);
     }
-    Ok(actors)
 }
 
 impl Stamps {
-    /// Stamps 0 of the processors, with the actors that they have. `AllocError` if memory runs out.
-    pub fn new(alloc: Global, tables: &Tables) -> Result<Stamps, AllocError>
-        ensures counts { IfOk result (λ s. s.counts ≡ replicate tables.now.system.processors 0) }
-        ensures actors { IfOk result (λ s. AreActors s.actors tables.now.system.processors tables.now.state) }
+    /// Stamps 0 of processors that are seen to have no actors. `AllocError` if memory runs out.
+    pub fn new(alloc: Global, processors: u8) -> Result<Stamps, AllocError>
+        ensures counts { IfOk result (λ s. s.counts ≡ replicate processors 0) }
+        ensures actors { IfOk result (λ s. length s.actors ≡ processors) }
     {
-        let actors = actors(alloc, tables)?;
-        let counts = vec![in alloc; 0u32; tables.processor_count()]?;
+        let actors = vec![in alloc; None::<Caller>; processors as usize]?;
+        let counts = vec![in alloc; 0u32; processors as usize]?;
         Ok(Stamps { actors, counts })
+    }
+
+    /// Each processor is seen to have the actor that it has. No event is counted.
+    pub fn see(&mut self, tables: &Tables)
+        requires { length self.old.actors ≡ tables.now.system.processors }
+        ensures counts { self.new.counts ≡ self.old.counts }
+        ensures actors { AreActors self.new.actors tables.now.system.processors tables.now.state }
+    {
+        see_actors(&mut self.actors, tables);
     }
 
     /// The stamp of processor p, or 0 if there is none.
