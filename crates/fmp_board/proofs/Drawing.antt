@@ -17,7 +17,7 @@ use Rattle.fmp_instructions.specs.Instructions.{BodyTables}
 use Rattle.fmp_instructions.specs.Machine.{code_meaning}
 use Rattle.fmp_image_bytes.specs.Images.{ImageTables}
 use Rattle.fmp_kernel.specs.declared.actors.Actor.{Actor}
-use Rattle.fmp_kernel.specs.KernelViews.{HasNoActor, KernelView, actor_in, stamp_of, with_stamp}
+use Rattle.fmp_kernel.specs.KernelViews.{HasNoActor, KernelView, actor_in, stamp_of as stamp_in, with_stamp}
 use Rattle.fmp_journal.specs.declared.entry.JournalEntry.{JournalEntry}
 use Rattle.fmp_journal.specs.Seats.{events}
 use Rattle.fmp_worlds.specs.Stamps.{EndsSo, Going, actor_at, applied, stamp}
@@ -55,12 +55,12 @@ is_stamped stamp (Some g) a h =
     }
 
 -- an actor that has a stamp
-pub stamp_found : (o : Option (Actor MachineContext)) (stamp : ℕ) → stamp_of o ≡ Some stamp
+pub stamp_found : (o : Option (Actor MachineContext)) (stamp : ℕ) → stamp_in o ≡ Some stamp
     → (a : Actor MachineContext) × (o ≡ Some a) × (a.stamp ≡ stamp)
 stamp_found None stamp h = absurd (cc h)
 stamp_found (Some a) stamp h = (a, refl, cc h)
 
-pub no_stamp : (o : Option (Actor MachineContext)) → stamp_of o ≡ None → o ≡ None
+pub no_stamp : (o : Option (Actor MachineContext)) → stamp_in o ≡ None → o ≡ None
 no_stamp None h = refl
 no_stamp (Some a) h = absurd (cc h)
 

@@ -98,8 +98,8 @@ invariant_of-self-in-Done g c =
       b.4,
     )
 
-pub returns-clause-answer : goal.returns-clause-answer
-returns-clause-answer g c =
+pub returns-in-Done-clause-answer : goal.returns-in-Done-clause-answer
+returns-in-Done-clause-answer g c =
     let b = c.self.invariant in
     let site = g.S.Site in
     let kernel = c.self.inside.kernel in
@@ -123,8 +123,8 @@ returns-clause-answer g c =
       receipt_done _ done.0 _ _ _ (sym runs ∙ done.1) count (c.call_reply.ensures ∙ ap call_reply (c.lines.ensures ∙ lines)),
     )
 
-pub returns-clause-journal : goal.returns-clause-journal
-returns-clause-journal g c =
+pub returns-in-Done-clause-journal : goal.returns-in-Done-clause-journal
+returns-in-Done-clause-journal g c =
     let b = c.self.invariant in
     let site = g.S.Site in
     let kernel = c.self.inside.kernel in
@@ -142,8 +142,8 @@ returns-clause-journal g c =
     ap (λ v. v.journal) c.write.ensures ∙ ap (λ (q : ℕ). journal ++ entry c.args.seat (Run q) ∷ []) c.processor.ensures in
     rw was (items ∙ sym (ap (journal_after journal (entry c.args.seat (Run p))) (sym runs ∙ done.1)))
 
-pub returns-clause-marks : goal.returns-clause-marks
-returns-clause-marks g c =
+pub returns-in-Done-clause-marks : goal.returns-in-Done-clause-marks
+returns-in-Done-clause-marks g c =
     let b = c.self.invariant in
     let site = g.S.Site in
     let kernel = c.self.inside.kernel in
@@ -187,8 +187,8 @@ invariant_of-self-in-Kept g c =
       b.4,
     )
 
-pub returns-in-Kept-clause-answer : goal.returns-in-Kept-clause-answer
-returns-in-Kept-clause-answer g c =
+pub returns-clause-answer : goal.returns-clause-answer
+returns-clause-answer g c =
     let b = c.self.invariant in
     let site = g.S.Site in
     let kernel = c.self.inside.kernel in
@@ -211,8 +211,8 @@ returns-in-Kept-clause-answer g c =
       receipt_kept _ kept.0 kept.1 _ _ (sym runs ∙ kept.2) count,
     )
 
-pub returns-in-Kept-clause-journal : goal.returns-in-Kept-clause-journal
-returns-in-Kept-clause-journal g c =
+pub returns-clause-journal : goal.returns-clause-journal
+returns-clause-journal g c =
     let b = c.self.invariant in
     let site = g.S.Site in
     let kernel = c.self.inside.kernel in
@@ -230,8 +230,8 @@ returns-in-Kept-clause-journal g c =
     ap (λ v. v.journal) c.write-in-Kept.ensures ∙ ap (λ (q : ℕ). journal ++ entry c.args.seat (Run q) ∷ []) c.processor.ensures in
     rw was (items ∙ sym (ap (journal_after journal (entry c.args.seat (Run p))) (sym runs ∙ kept.2)))
 
-pub returns-in-Kept-clause-marks : goal.returns-in-Kept-clause-marks
-returns-in-Kept-clause-marks g c =
+pub returns-clause-marks : goal.returns-clause-marks
+returns-clause-marks g c =
     let b = c.self.invariant in
     let site = g.S.Site in
     let kernel = c.self.inside.kernel in
