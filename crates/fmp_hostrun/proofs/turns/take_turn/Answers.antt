@@ -1,5 +1,6 @@
 use Rattle.std.proofs.Common.{rules}
-use Rattle.fmp_hostrun.proofs.Working.{added_submitted, added_turn, did_submitted, turn_refused}
+use Rattle.fmp_base.specs.declared.events.Event.TheVariants.{Run}
+use Rattle.fmp_hostrun.proofs.Working.{added_none, added_submitted, added_turn, did_submitted, turn_refused}
 use Rattle.fmp_hostrun.proofs.turns.take_turn.Goals as goal
 
 pub returns-in-Ok-clause-added : goal.returns-in-Ok-clause-added
@@ -35,3 +36,8 @@ returns-in-Err g c =
           turn_refused g.B.Feed.image g.B.Feed.bound g.B.Feed.row_id g.G.Gate.is_open c.args.p c.in-Some.outcome.ticket c.args.seat.now c.outcome.new.seat c.submit-answer.new.seat c.in-Err.fault
           c.in-Err.ensures.submitted (search rules) c.outcome.ensures.mine c.in-Err.ensures.mine;
     }
+
+pub returns-then-not-is_let-clause-added : goal.returns-then-not-is_let-clause-added
+returns-then-not-is_let-clause-added g c =
+    let feed = g.B.Feed in
+    added_none feed.image feed.bound feed.row_id (Run c.args.p) 1 c.args.seat.now c.outcome.new.seat c.outcome.ensures.visited c.outcome.ensures.mine
