@@ -34,9 +34,8 @@ service call, unless another event changes what runs there meanwhile";
 const TICKS: &str = "How many ticks the clock has, 0 to 2^20";
 
 /// What a bound is.
-const BOUND: &str =
-    "How many instructions a body may take in a step, 1 to 2^48; where its next service
-call is farther, its next step goes on from there";
+const BOUND: &str = "How many instructions a body may take in a step, 1 to 2^48; where its next
+service call is farther, its next step goes on from there";
 
 /// An example, and what the program's answers mean.
 const EXAMPLE_AND_CODES: &str = "Example, on the files of the folder 'examples':
