@@ -181,6 +181,16 @@ def loaded_images():
     yield changed(LATER_WORD, "4=2"), runs(1), LATER_WORD_TRACE
 
 
+def kept_images():
+    """Images of all versions, which keep their places alike: steps, and what is printed over them at bound 1."""
+    put = f"{SETUP}1 p1 T1 put(7) E_OK / "
+    for version in (1, 2, 3):
+        image = changed(ONE_TASK, f"4={version}")
+        yield image, runs(1), f"{SETUP}T1 RUNNING p1 10 / "
+        yield image, runs(2), f"{put}T1 RUNNING p1 10 / "
+        yield image, runs(3), f"{put}2 p1 T1 end / T1 DORMANT p1 10 / "
+
+
 def by_version():
     """Two texts, and for each version: steps, and what an image of theirs of this version prints over them."""
     for call in ("act_tsk", "wup_tsk"):

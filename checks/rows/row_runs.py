@@ -513,6 +513,14 @@ KEPT = (
         "U RUNNING p1 10 / ",
     ),
     (
+        "a task below a handler",
+        alone(task("T", "t"), "DEF_INH(3,{0,h});"),
+        CUT_TASK + " handler h { put(7); }",
+        steps("run 1,int 3,run 1,run 1,run 1"),
+        "0 p1 T starts / 0 p1 > T / 1 int 3 / 1 p1 begin #3 / 2 p1 #3 put(7) E_OK / 3 p1 #3 end / "
+        "4 p1 T put(3) E_OK / T RUNNING p1 10 / ",
+    ),
+    (
         "a handler, one run less",
         alone(idle("U", "u"), "DEF_INH(3,{0,h});"),
         "task u { } handler h { iact_tsk(1 + 0); }",
@@ -529,6 +537,17 @@ KEPT = (
     ),
 )
 
+# As many operands as there can be: 64 are pushed before the first of 63 sums, and then the call is made.
+DEEP = f"{63 * '1 + ('}1{63 * ')'}"
+
+
+def deep():
+    """Bounds that cut a stretch where it has all its operands, or at each place, and the runs that it takes then."""
+    for bound, count in ((128, 1), (127, 2), (64, 2), (63, 3), (1, 128)):
+        last = "1 p1 T put(64) E_OK / "
+        for done, said in ((count, last), (count - 1, "")):
+            yield SELF, f"task t {{ put({DEEP}); }}", runs(done), bound, f"{SELF_SETUP}{said}T RUNNING p1 10 / "
+
 
 def all_runs():
     """Each row: two texts, steps, a bound, and what is printed."""
@@ -537,6 +556,7 @@ def all_runs():
         yield from cut(*row)
     for _, configuration, source, events, trace in KEPT:
         yield configuration, source, events, 3, trace
+    yield from deep()
     for _, configuration, source, events, trace in RUNS + ROTATIONS + QUEUES:
         yield configuration, source, events, DEFAULT_BOUND, trace
 

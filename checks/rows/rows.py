@@ -21,7 +21,7 @@ from common.program import Program, program_of_words  # noqa: E402
 from common.tally import Tally  # noqa: E402
 from images.image_samples import ONE_TASK  # noqa: E402
 from rows.row_images import JUMP, LOOP, LOOP_SETUP, OUT_OF_BODY, by_version, changed, faulty_steps  # noqa: E402
-from rows.row_images import loaded_images, refused_images, sized  # noqa: E402
+from rows.row_images import kept_images, loaded_images, refused_images, sized  # noqa: E402
 from rows.row_runs import ONE, SETUP, all_runs, all_values, runs  # noqa: E402
 from rows.row_texts import all_texts  # noqa: E402
 
@@ -49,6 +49,8 @@ def images(program):
         yield f"the image {image.hex()}", program.sim(image), refused(f"image: {fault}")
     for image, events, trace in loaded_images():
         yield f"the image {image.hex()}", program.sim(image, events.encode()), printed(trace)
+    for image, events, trace in kept_images():
+        yield f"the image {image.hex()} at bound 1", program.sim(image, events.encode(), 1), printed(trace)
     for configuration, source, versions in by_version():
         _, image = program.build(configuration.encode(), source.encode())
         for version, (events, trace) in versions.items():
