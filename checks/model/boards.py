@@ -30,7 +30,7 @@ from pathlib import Path
 sys.dont_write_bytecode = True  # the folders of the checks stay as they are
 sys.path[0] = str(Path(__file__).resolve().parents[1])  # the folder `checks`, whose folders are packages
 
-from model.harness import BOUND, PROCESSORS, bound_of, expect, expect_same, main, replayed  # noqa: E402
+from model.harness import BOUND, PROCESSORS, expect, expect_same, main, replayed  # noqa: E402
 
 GREATEST_CUT = 200  # the greatest bound that cuts stretches short
 
@@ -55,14 +55,14 @@ class Plan:
 LONG = Plan(seats=64, followers=3, share=2, turns=10_000, ticks=1000, capacity=1 << 20, bound=BOUND, seed=1)
 
 
-def plan(random, seed):
+def plan(random, bound, seed):
     """How the board of a seed is shared: mostly by few seats, and mostly with room for all events."""
     seats = random.choice((1, 2, 4, 8, 8, 16, random.randint(1, 64)))
     return Plan(
         seats=seats, followers=min(random.randint(0, 3), max(0, seats - 2)), share=random.choice((1, 1, 2, 3, 8)),
         turns=random.randint(1, 600 // seats + 2), ticks=random.randint(0, 30),
         capacity=random.choice((1 << 20, 1 << 20, 1 << 20, random.randint(1, 300))),
-        bound=bound_of(seed, GREATEST_CUT), seed=seed)
+        bound=bound, seed=seed)
 
 
 def stress(trial, shared):
@@ -109,7 +109,7 @@ def host_one(trial, generator, seed):
     """Hosts one random system: what was counted."""
     case = generator.case()
     trial.build_case(case)
-    shared = plan(generator.random, seed)
+    shared = plan(generator.random, trial.bound(seed, GREATEST_CUT), seed)
     told, journal, printed = host(trial, shared)
     model = replayed(case, shared.bound, journal)
     expect_same("the simulation of the journal beside the model", printed, model.text())

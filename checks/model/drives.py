@@ -47,7 +47,7 @@ def check(trial):
         case = generator.case()
         trial.build_case(case)
         for order in ("", f"--seed {seed}"):
-            drive(trial, case, CUT if seed % 2 else BOUND, order)
+            drive(trial, case, CUT if trial.is_cut(seed) else BOUND, order)
             count += 1
     print(f"checks/model/drives.py: {count} drives of {trial.count} systems are right")
 

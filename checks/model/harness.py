@@ -49,13 +49,6 @@ def replayed(case, bound, journal):
     return kernel
 
 
-def bound_of(seed, most):
-    """The bound of a random system: of every other one so small, 1 to `most` and mostly few, that its
-    stretches are cut short."""
-    chosen = random.Random(f"bound {seed}")
-    return chosen.randint(1, chosen.randint(1, most)) if seed % 2 else BOUND
-
-
 class Trial:
     """The random systems that a script is asked for, the programs that it wants, and the folder in which they run."""
 
@@ -65,12 +58,14 @@ class Trial:
         parser.add_argument("seed", metavar="SEED", nargs="?", type=int, default=1, help="the first seed (1)")
         parser.add_argument("--image-version", metavar="VERSION", type=int, choices=VERSIONS,
                             help="images of this version alone, 1 to 3")
+        parser.add_argument("--all-cut", action="store_true", help="each system at a small bound, not every other one")
         for crate in crates:
             parser.add_argument(OPTIONS[crate], dest=crate, metavar="PATH", type=Path, help=f"the program `{crate}`")
         options = parser.parse_args()
         if options.count < 1:
             parser.error("COUNT is at least 1")
         self.count, self.seed, self.version, self.at = options.count, options.seed, options.image_version, ""
+        self.all_cut = options.all_cut
         self.programs = {crate: located(crate, getattr(options, crate)) for crate in crates}
         self.folder = Path(tempfile.mkdtemp(prefix="fmp-checks-"))
 
@@ -80,6 +75,15 @@ class Trial:
             self.at = f"seed {seed}: "
             yield seed, Generator(seed, self.version)
         self.at = ""
+
+    def is_cut(self, seed):
+        """Whether the system of a seed runs at a small bound: every other one, or each where that is asked for."""
+        return self.all_cut or seed % 2 == 1
+
+    def bound(self, seed, most):
+        """The bound of the system of a seed: where it is cut, 1 to `most` and mostly few."""
+        chosen = random.Random(f"bound {seed}")
+        return chosen.randint(1, chosen.randint(1, most)) if self.is_cut(seed) else BOUND
 
     def run(self, program, words):
         """What a program prints and says, which has to end with status 0."""

@@ -26,7 +26,7 @@ from pathlib import Path
 sys.dont_write_bytecode = True  # the folders of the checks stay as they are
 sys.path[0] = str(Path(__file__).resolve().parents[1])  # the folder `checks`, whose folders are packages
 
-from model.harness import PROCESSORS, bound_of, expect, expect_same, main, replayed  # noqa: E402
+from model.harness import PROCESSORS, expect, expect_same, main, replayed  # noqa: E402
 
 LONG_TURNS = 100_000
 GREATEST_CUT = 200  # the greatest bound that cuts stretches short
@@ -72,7 +72,7 @@ def check(trial):
     """Hosts each system, and then the long one."""
     made = Counter()
     for seed, generator in trial.systems():
-        made += host_one(trial, generator, bound_of(seed, GREATEST_CUT))
+        made += host_one(trial, generator, trial.bound(seed, GREATEST_CUT))
     took = host_long(trial)
     print(f"{trial.count} systems by threads, {made.total()} events, {made['tick']} of them ticks: "
           "the host, the simulation of its journal and the model agree")

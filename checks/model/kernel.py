@@ -52,7 +52,10 @@ class Kernel:
         if context.units > actor.context.spent + self.bound:
             actor.context.spent += self.bound
             self.world.situations["a stretch is cut short"] += context.units < inf
+            self.world.situations["a handler's stretch is cut short"] += isinstance(actor, Handler)
             return KEPT
+        is_fault = isinstance(what, Stop) and what is not Stop.END
+        self.world.situations["a stretch that was cut short ends with a fault"] += is_fault and actor.context.spent > 0
         try:
             text = self.stop(processor, what) if isinstance(what, Stop) else self.call(processor, what, context)
         except LockIsHeld:

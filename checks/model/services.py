@@ -100,6 +100,11 @@ class Services:
     def task_or_caller(self, number):
         return self.caller if number == OWN_TASK else self.task(number)
 
+    def note_cut(self, what, task):
+        """Notes what comes to a task in the middle of a stretch. The caller's own stretch is over with its call."""
+        is_cut = task is not self.caller and task.context.spent > 0
+        self.world.situations[f"a task {what} whose stretch was cut short"] += is_cut
+
     def release(self, task, value=None, code=Code.E_OK):
         if self.is_handler and task.processor != self.processor.number:
             self.world.situations["a handler releases a task of another processor"] += 1
@@ -166,7 +171,7 @@ class Services:
         task = self.task(number)
         need(task is not self.caller, Code.E_ILUSE)
         need(task.state is not State.DORMANT and task.processor == self.processor.number, Code.E_OBJ)
-        self.world.situations["a task is terminated whose stretch was cut short"] += task.context.spent > 0
+        self.note_cut("is terminated", task)
         self.world.end(task)
 
     def chg_pri(self, number, priority):
@@ -195,7 +200,7 @@ class Services:
             self.world.to_end(task)
         if task.suspended or task.wait:
             self.world.situations["a task migrates while it is suspended or waits"] += 1
-        self.world.situations["a task migrates whose stretch was cut short"] += task.context.spent > 0
+        self.note_cut("migrates", task)
 
     # Tasks: sleep, suspension and delay
 
@@ -240,6 +245,7 @@ class Services:
         need(not task.suspended, Code.E_QOVR)
         if self.world.runs(task) and self.world.processors[task.processor - 1].holds_dispatch:
             self.world.situations["a task that runs under a hold is suspended"] += 1
+        self.note_cut("is suspended", task)
         task.suspended = True
         if task.state is State.READY:
             self.world.leave(task)

@@ -38,6 +38,12 @@ FILLING = {False: ("act_tsk", "mact_tsk", "wup_tsk"), True: ("iact_tsk", "iwup_t
 FILLED = {False: ("can_act", "can_wup", "ter_tsk"), True: ("irel_wai",)}
 FILLING_EVENTS = 330
 
+# What an urgent task may call on another one in the middle of its stretch, the one call after the other.
+MEDDLING = (
+    ("ter_tsk", "act_tsk"), ("ter_tsk", "act_tsk"), ("ter_tsk", "mact_tsk"), ("sus_tsk", "rsm_tsk"),
+    ("sus_tsk", "mig_tsk", "rsm_tsk"), ("mig_tsk",),
+)
+
 # Kinds of arguments with a fixed choice.
 CHOICES = {
     "usual_priority": (0, 5, 10, 16),
@@ -102,6 +108,9 @@ class Generator:
             self.filling = self.random.randrange(len(bodies))
             bodies[self.filling] = self.filling_body(bodies[self.filling])
             event_count += FILLING_EVENTS
+        elif self.chance(0.3):
+            urgent = min(system.tasks, key=lambda task: task.priority)
+            bodies[urgent.body] = self.meddling_body(bodies[urgent.body], system.tasks, urgent)
         return Case(system, self.configuration(), "".join(map(str, bodies)), event_count, self.version)
 
     def chance(self, share):
@@ -227,11 +236,28 @@ class Generator:
         statements = [Statement(Call(service, arguments, True)), Statement(at_limit, ("r", int(Code.E_QOVR)))]
         return Body(body.name, body.is_handler, True, statements)
 
+    def meddling_body(self, body, tasks, urgent):
+        """In place of the body of an urgent task one that waits, while other tasks of its processor go on, and then
+        ends, suspends or moves them."""
+        others = [task.number for task in tasks if task.processor == urgent.processor and task is not urgent]
+        away = [number for number in range(1, self.processor_count + 1) if number != urgent.processor]
+        statements = []
+        for _ in range(self.random.randint(1, 5)):
+            number = self.random.choice(others or [task.number for task in tasks])
+            statements.append(Statement(Call("dly_tsk", [self.random.choice((0, 0, 1))])))
+            for service in self.random.choice(MEDDLING):
+                moves = service in ("mig_tsk", "mact_tsk")
+                arguments = [number, self.random.choice(away or [urgent.processor])] if moves else [number]
+                statements.append(Statement(Call(service, arguments)))
+        return Body(body.name, False, True, statements)
+
     def task_piece(self):
         """A few statements: mostly one call, else calls that belong together, or something that is no call."""
         shape = self.random.random()
-        if shape < 0.67:
+        if shape < 0.62:
             return [self.guarded(self.task_call())]
+        if shape < 0.67:
+            return self.computation()
         if shape < 0.75:
             return self.under_spin_lock()
         if shape < 0.80:
@@ -315,6 +341,11 @@ class Generator:
         if self.chance(0.15):
             inner.append(self.guarded(self.no_call()))
         return [*first, Statement(taken), *inner, *([Statement(Call("unl_spn", [number]))] if self.chance(0.9) else [])]
+
+    def computation(self):
+        """A few statements that make a stretch long."""
+        sums = [Assignment(self.random.choice(LOCALS), "+", 1) for _ in range(self.random.randint(2, 8))]
+        return [Statement(each) for each in sums]
 
     def migration_of_another(self):
         """A task is suspended, migrates and goes on, in this order, or some of it."""

@@ -16,7 +16,7 @@ sys.dont_write_bytecode = True  # the folders of the checks stay as they are
 sys.path[0] = str(Path(__file__).resolve().parents[1])  # the folder `checks`, whose folders are packages
 
 from common.program import ROOT  # noqa: E402
-from model.harness import Wrong, bound_of, expect, main  # noqa: E402
+from model.harness import Wrong, expect, main  # noqa: E402
 from model.kernel import Kernel  # noqa: E402
 from model.world import CPU, FREE, CyclicHandler, State  # noqa: E402
 
@@ -224,7 +224,7 @@ def check(trial):
     for path in sorted(EXAMPLES.glob("*.steps")):
         dump_file(trial, path.stem, *(path.with_suffix(f".{kind}").read_text() for kind in ("cfg", "src", "steps")))
     dump_file(trial, "255 tasks", *great(), "")
-    events = sum(dump_one(trial, generator, bound_of(seed, GREATEST_CUT)) for seed, generator in trial.systems())
+    events = sum(dump_one(trial, generator, trial.bound(seed, GREATEST_CUT)) for seed, generator in trial.systems())
     there = [name for name in CONVERTERS if shutil.which(name)]
     print(f"checks/model/waves.py: the dumps of {trial.count} systems, {events} events, are those of the model")
     print(f"silent over these, the examples and 255 tasks: {', '.join(there) or 'no converter is there'}")
