@@ -238,17 +238,19 @@ class Generator:
 
     def meddling_body(self, body, tasks, urgent):
         """In place of the body of an urgent task one that waits, while other tasks of its processor go on, and then
-        ends, suspends or moves them."""
+        ends, suspends or moves them, and mostly moves with them."""
         others = [task.number for task in tasks if task.processor == urgent.processor and task is not urgent]
-        away = [number for number in range(1, self.processor_count + 1) if number != urgent.processor]
         statements = []
         for _ in range(self.random.randint(1, 5)):
             number = self.random.choice(others or [task.number for task in tasks])
             statements.append(Statement(Call("dly_tsk", [self.random.choice((0, 0, 1))])))
-            for service in self.random.choice(MEDDLING):
+            target = self.any_processor()
+            services = self.random.choice(MEDDLING)
+            for service in services:
                 moves = service in ("mig_tsk", "mact_tsk")
-                arguments = [number, self.random.choice(away or [urgent.processor])] if moves else [number]
-                statements.append(Statement(Call(service, arguments)))
+                statements.append(Statement(Call(service, [number, target] if moves else [number])))
+            if "mig_tsk" in services and self.chance(0.7):
+                statements.append(Statement(Call("mig_tsk", [0, target])))
         return Body(body.name, False, True, statements)
 
     def task_piece(self):

@@ -163,6 +163,22 @@ B          1       0       0          0            0       0       0    0.0%
 END
 shows 'stats: kept places' 0 stats stuck.img stuck.steps
 
+# At bound 1 the first and the third of five runs keep the place of B, two are calls, and the last is its end.
+cat > apart.cfg <<'END'
+NUM_PRC(2);
+CLASS(TCL_1) { CRE_TSK(A, { TA_ACT, 0, a, 10, 256, NULL }); }
+CLASS(TCL_2) { CRE_TSK(B, { TA_ACT, 0, b, 10, 256, NULL }); }
+END
+echo 'task a { while (1) { } } task b { put(1); put(2); }' > apart.src
+printf 'run 2\nrun 2\nrun 2\nrun 2\nrun 2\n' > apart.steps
+built apart
+cat > wanted <<'END'
+task  starts   calls   waits  time-outs  preemptions    kept  events   share
+A          1       0       0          0            0       0       0    0.0%
+B          1       2       0          0            0       2       5  100.0%
+END
+shows 'stats: places kept at bound 1' 0 stats apart.img apart.steps --bound 1
+
 # Of the 16 events of the sum 4 are ticks, and 5 keep the place of SUM, which is preempted twice.
 cat > wanted <<'END'
 task  starts   calls   waits  time-outs  preemptions    kept  events   share
