@@ -113,7 +113,7 @@ def host_one(trial, generator, seed):
     told, journal, printed = host(trial, shared)
     model = replayed(case, shared.bound, journal)
     expect_same("the simulation of the journal beside the model", printed, model.text())
-    return told
+    return told + Counter(kept=model.kept)
 
 
 def host_long(trial):
@@ -132,8 +132,9 @@ def check(trial):
         made += host_one(trial, generator, seed)
     long = host_long(trial)
     print(f"{trial.count} systems by {made['seats']} seats, {made['followers']} of them followers: {made['events']} "
-          f"events, {made['ticks']} of them ticks, {made['stale']} stale outcomes, {made['full']} without room: the "
-          "simulation of each journal, the model and the followers agree, and every seat read the journal")
+          f"events, {made['ticks']} of them ticks, {made['kept']} kept places, {made['stale']} stale outcomes, "
+          f"{made['full']} without room: the simulation of each journal, the model and the followers agree, and every "
+          "seat read the journal")
     print(f"eight processors by {long['seats']} seats: {long['events']} events, {long['stale']} stale outcomes; every "
           "seat read the journal, and each event of it does something in the simulation")
 

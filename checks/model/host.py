@@ -42,7 +42,7 @@ def counts(journal, turns, ticks):
 
 
 def host_one(trial, generator, bound):
-    """Hosts one random system at a bound: the events of its journal."""
+    """Hosts one random system at a bound: the events of its journal, and how many of them kept a place."""
     case = generator.case()
     turns, ticks = generator.random.randint(1, 60), generator.random.randint(0, 30)
     trial.build_case(case)
@@ -51,8 +51,9 @@ def host_one(trial, generator, bound):
     expect_same("the trace of the host beside the simulation of its journal", printed, again)
     journal = trial.read("system.journal").splitlines()
     made = counts(journal, turns, ticks)
-    expect_same("the trace of the host beside that of the model", printed, replayed(case, bound, journal).text())
-    return made
+    model = replayed(case, bound, journal)
+    expect_same("the trace of the host beside that of the model", printed, model.text())
+    return made, model.kept
 
 
 def host_long(trial):
@@ -70,11 +71,13 @@ def host_long(trial):
 
 def check(trial):
     """Hosts each system, and then the long one."""
-    made = Counter()
+    made, kept = Counter(), 0
     for seed, generator in trial.systems():
-        made += host_one(trial, generator, trial.bound(seed, GREATEST_CUT))
+        events, kept_by_them = host_one(trial, generator, trial.bound(seed, GREATEST_CUT))
+        made += events
+        kept += kept_by_them
     took = host_long(trial)
-    print(f"{trial.count} systems by threads, {made.total()} events, {made['tick']} of them ticks: "
+    print(f"{trial.count} systems by threads, {made.total()} events, {made['tick']} of them ticks, {kept} kept places: "
           "the host, the simulation of its journal and the model agree")
     print(f"eight processors with {LONG_TURNS} turns each: {took:.1f} seconds")
 

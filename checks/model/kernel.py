@@ -27,6 +27,11 @@ class Kernel:
                 handler.due = handler.phase + 1
         self.world.settle()
 
+    @property
+    def kept(self):
+        """How many runs kept their place."""
+        return self.taken - self.world.event
+
     # Events
 
     def step(self, event):
