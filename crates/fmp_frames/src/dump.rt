@@ -25,10 +25,21 @@ pub struct Waves {
 
 /// The values of all variables.
 fn append_all(variables: &[Variable], values: &[u64], out: &mut Vec<u8>) -> Result<(), AllocError> {
-    for (place, (variable, value)) in variables.iter().zip(values).enumerate() {
-        append_value(place, variable.width(), *value, out)?;
+    for place in 0..variables.len().min(values.len()) {
+        append_value(place, variables[place].width(), values[place], out)?;
     }
     Ok(())
+}
+
+/// The values of all variables after setup.
+fn append_first(
+    variables: &[Variable],
+    values: &[u64],
+    out: &mut Vec<u8>,
+) -> Result<(), AllocError> {
+    append("#0\n$dumpvars\n", out)?;
+    append_all(variables, values, out)?;
+    append("$end\n", out)
 }
 
 /// The values that have changed.
@@ -38,10 +49,9 @@ fn append_changed(
     values: &[u64],
     out: &mut Vec<u8>,
 ) -> Result<(), AllocError> {
-    let both = before.iter().zip(values);
-    for (place, (variable, (was, is))) in variables.iter().zip(both).enumerate() {
-        if was != is {
-            append_value(place, variable.width(), *is, out)?;
+    for place in 0..variables.len().min(before.len()).min(values.len()) {
+        if before[place] != values[place] {
+            append_value(place, variables[place].width(), values[place], out)?;
         }
     }
     Ok(())
@@ -58,9 +68,7 @@ impl Waves {
             mut text,
         } = Head::new(alloc, sys)?;
         let values = values_of(alloc, setup, &variables)?;
-        append("#0\n$dumpvars\n", &mut text)?;
-        append_all(&variables, &values, &mut text)?;
-        append("$end\n", &mut text)?;
+        append_first(&variables, &values, &mut text)?;
         Ok(Waves {
             variables,
             values,

@@ -42,7 +42,7 @@ pub struct Frame {
 }
 
 /// The frame of a kernel as it is, with these lines, or of an event that kept a place. `AllocError` if memory runs out.
-fn frame<B: Body>(
+fn frame_with<B: Body>(
     alloc: Global,
     kernel: &Kernel<B>,
     told: &[Line],
@@ -76,7 +76,7 @@ pub fn last_frame<B: Body>(alloc: Global, kernel: &Kernel<B>) -> Result<Frame, A
     ensures { IfOk result (λ f. table_of f
         ≡ frame_of kernel.now.system kernel.now.world.state kernel.now.lines) }
 {
-    frame(alloc, kernel, kernel.lines(), None)
+    frame_with(alloc, kernel, kernel.lines(), None)
 }
 
 /// The frame of an event that kept the place of the actor of the processor that it ran. `AllocError` if memory runs
@@ -88,5 +88,5 @@ pub fn kept_frame<B: Body>(
 ) -> Result<Frame, AllocError>
     ensures { IfOk result (λ f. table_of f ≡ frame_of_kept kernel.now.system kernel.now.world.state ran) }
 {
-    frame(alloc, kernel, &[], ran)
+    frame_with(alloc, kernel, &[], ran)
 }

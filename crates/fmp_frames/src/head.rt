@@ -1,12 +1,13 @@
 //! The variables of a dump, in their order, and the head that declares them.
-use crate::text::{append, append_identifier, append_number};
+use crate::text::{append, append_identifier, append_number, append_texts};
 use crate::variable::{Object, Variable};
 use fmp_base::{Name, System};
 use std::alloc::{AllocError, Global};
 
 const HEAD: &str = "$comment
   States of a run. One unit of time is one event, and no length of time: what stands
-  at #k is the state after event k. Numbers of tasks, objects and processors are from 1.
+  at #k is the state after event k. A stretch that keeps its place is an event here too,
+  though a trace gives it no number. Numbers of tasks, objects and processors are from 1.
   state: 0 DORMANT, 1 READY, 2 RUNNING, 3 WAITING, 4 SUSPENDED, 5 WAITING-SUSPENDED
   wait_kind: 0 none, 1 sleep, 2 delay, 3 semaphore, 4 eventflag, 5 sends to a data queue,
     6 receives from a data queue, 7 mailbox
@@ -26,22 +27,23 @@ pub struct Head {
     pub text: Vec<u8>,
 }
 
+/// The declaration of the variable at this place.
+fn append_declaration(
+    place: usize,
+    variable: Variable,
+    out: &mut Vec<u8>,
+) -> Result<(), AllocError> {
+    append_texts(&["$var ", variable.kind(), " "], out)?;
+    append_number(u32::from(variable.width()), out)?;
+    append(" ", out)?;
+    append_identifier(place, out)?;
+    append_texts(&[" ", variable.name(), " $end\n"], out)
+}
+
 impl Head {
     /// One more variable.
     fn declare(&mut self, variable: Variable) -> Result<(), AllocError> {
-        let kind = match variable {
-            Variable::Word(_) => "integer",
-            _ => "wire",
-        };
-        append("$var ", &mut self.text)?;
-        append(kind, &mut self.text)?;
-        append(" ", &mut self.text)?;
-        append_number(u32::from(variable.width()), &mut self.text)?;
-        append(" ", &mut self.text)?;
-        append_identifier(self.variables.len(), &mut self.text)?;
-        append(" ", &mut self.text)?;
-        append(variable.name(), &mut self.text)?;
-        append(" $end\n", &mut self.text)?;
+        append_declaration(self.variables.len(), variable, &mut self.text)?;
         self.variables.push(variable)?;
         Ok(())
     }
@@ -54,8 +56,7 @@ impl Head {
 
     /// A scope whose name is a letter and a number.
     fn open_numbered(&mut self, letter: &str, number: u32) -> Result<(), AllocError> {
-        append("$scope module ", &mut self.text)?;
-        append(letter, &mut self.text)?;
+        append_texts(&["$scope module ", letter], &mut self.text)?;
         append_number(number, &mut self.text)?;
         append(" $end\n", &mut self.text)
     }
@@ -64,23 +65,30 @@ impl Head {
         append("$upscope $end\n", &mut self.text)
     }
 
-    /// A scope of this name with these variables.
-    fn group(&mut self, name: &Name, variables: &[Variable]) -> Result<(), AllocError> {
-        self.open(name.as_bytes())?;
+    fn declare_all(&mut self, variables: &[Variable]) -> Result<(), AllocError> {
         for variable in variables {
             self.declare(*variable)?;
         }
+        Ok(())
+    }
+
+    /// A scope of this name with these variables.
+    fn group(&mut self, name: &Name, variables: &[Variable]) -> Result<(), AllocError> {
+        self.open(name.as_bytes())?;
+        self.declare_all(variables)?;
         self.close()
     }
 
     fn processor(&mut self, place: u8) -> Result<(), AllocError> {
         self.open_numbered("p", u32::from(place) + 1)?;
         let place = usize::from(place);
-        self.declare(Variable::Run(place))?;
-        self.declare(Variable::Handler(place))?;
-        self.declare(Variable::Lock(place))?;
-        self.declare(Variable::Dispatch(place))?;
-        self.declare(Variable::Refused(place))?;
+        self.declare_all(&[
+            Variable::Run(place),
+            Variable::Handler(place),
+            Variable::Lock(place),
+            Variable::Dispatch(place),
+            Variable::Refused(place),
+        ])?;
         self.close()
     }
 
@@ -169,23 +177,33 @@ impl Head {
         self.close()
     }
 
+    fn processors(&mut self, sys: &System) -> Result<(), AllocError> {
+        for place in 0..sys.processors {
+            self.processor(place)?;
+        }
+        Ok(())
+    }
+
+    /// All scopes of a system.
+    fn system(&mut self, sys: &System) -> Result<(), AllocError> {
+        append(HEAD, &mut self.text)?;
+        self.declare(Variable::Clock)?;
+        self.processors(sys)?;
+        self.tasks(sys)?;
+        self.cyclics(sys)?;
+        self.interrupts(sys)?;
+        self.objects(sys)?;
+        self.close()?;
+        append("$enddefinitions $end\n", &mut self.text)
+    }
+
     /// The head of the dump of a system. `AllocError` if memory runs out.
     pub fn new(alloc: Global, sys: &System) -> Result<Head, AllocError> {
         let mut head = Head {
             variables: Vec::new(alloc),
             text: Vec::new(alloc),
         };
-        append(HEAD, &mut head.text)?;
-        head.declare(Variable::Clock)?;
-        for place in 0..sys.processors {
-            head.processor(place)?;
-        }
-        head.tasks(sys)?;
-        head.cyclics(sys)?;
-        head.interrupts(sys)?;
-        head.objects(sys)?;
-        head.close()?;
-        append("$enddefinitions $end\n", &mut head.text)?;
+        head.system(sys)?;
         Ok(head)
     }
 }

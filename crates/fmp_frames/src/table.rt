@@ -1,11 +1,13 @@
 //! The table of a run as text: one row for each task.
 use crate::counting::Tally;
 use crate::tallies::Tallies;
+use crate::text::append;
 use fmp_base::System;
+use itoa::Buffer;
 use std::alloc::{AllocError, Global};
 
-/// The heads of the columns.
-const HEADS: [&str; 8] = [
+/// The heads of the columns of counts.
+const COUNTS: [&str; 7] = [
     "starts",
     "calls",
     "waits",
@@ -13,8 +15,10 @@ const HEADS: [&str; 8] = [
     "preemptions",
     "kept",
     "events",
-    "share",
 ];
+
+/// The head of the last column.
+const SHARE: &str = "share";
 
 /// The narrowest that a column of numbers is, with the spaces before it.
 const COLUMN: usize = 8;
@@ -34,19 +38,36 @@ fn append_cell(head: &str, cell: &str, out: &mut Vec<u8>) -> Result<(), AllocErr
     out.extend_from_slice(cell.as_bytes())
 }
 
-/// A row: a name in a column of this width, a cell under each head, and a line feed.
-fn append_row(
-    name: &[u8],
-    width: usize,
-    cells: &[&str],
-    out: &mut Vec<u8>,
-) -> Result<(), AllocError> {
+/// The first cell of a row: a name in a column of this width.
+fn append_name(name: &[u8], width: usize, out: &mut Vec<u8>) -> Result<(), AllocError> {
     out.extend_from_slice(name)?;
-    append_spaces(width.saturating_sub(name.len()), out)?;
-    for (head, cell) in HEADS.iter().zip(cells) {
-        append_cell(head, cell, out)?;
+    append_spaces(width.saturating_sub(name.len()), out)
+}
+
+/// The row of the heads.
+fn append_heads(width: usize, out: &mut Vec<u8>) -> Result<(), AllocError> {
+    append_name(b"task", width, out)?;
+    for head in &COUNTS {
+        append_cell(head, head, out)?;
     }
-    out.push(b'\n')?;
+    append_cell(SHARE, SHARE, out)?;
+    append("\n", out)
+}
+
+/// The counts of a task, each under its head.
+fn append_counts(tally: &Tally, out: &mut Vec<u8>) -> Result<(), AllocError> {
+    let counts = [
+        tally.starts,
+        tally.calls,
+        tally.waits,
+        tally.time_outs,
+        tally.preemptions,
+        tally.kept,
+        tally.events,
+    ];
+    for (head, count) in COUNTS.iter().zip(&counts) {
+        append_cell(head, Buffer::new().format(*count), out)?;
+    }
     Ok(())
 }
 
@@ -68,22 +89,12 @@ fn append_tally(
     events: u32,
     out: &mut Vec<u8>,
 ) -> Result<(), AllocError> {
+    append_name(name, width, out)?;
+    append_counts(tally, out)?;
     let share = u64::from(tally.events) * 1000 / u64::from(events.max(1));
-    let cells = [
-        format!(in alloc; "{}", tally.starts)?,
-        format!(in alloc; "{}", tally.calls)?,
-        format!(in alloc; "{}", tally.waits)?,
-        format!(in alloc; "{}", tally.time_outs)?,
-        format!(in alloc; "{}", tally.preemptions)?,
-        format!(in alloc; "{}", tally.kept)?,
-        format!(in alloc; "{}", tally.events)?,
-        format!(in alloc; "{}.{}%", share / 10, share % 10)?,
-    ];
-    let mut texts = Vec::new(alloc);
-    for cell in &cells {
-        texts.push(cell.as_str())?;
-    }
-    append_row(name, width, &texts, out)
+    let share = format!(in alloc; "{}.{}%", share / 10, share % 10)?;
+    append_cell(SHARE, &share, out)?;
+    append("\n", out)
 }
 
 impl Tallies {
@@ -96,7 +107,7 @@ impl Tallies {
         out: &mut Vec<u8>,
     ) -> Result<(), AllocError> {
         let width = name_width(sys);
-        append_row(b"task", width, &HEADS, out)?;
+        append_heads(width, out)?;
         for (config, tally) in sys.tasks.iter().zip(self.tallies.as_slice()) {
             append_tally(
                 alloc,

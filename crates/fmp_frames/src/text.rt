@@ -6,6 +6,14 @@ pub fn append(text: &str, out: &mut Vec<u8>) -> Result<(), AllocError> {
     out.extend_from_slice(text.as_bytes())
 }
 
+/// Texts one after the other.
+pub fn append_texts(texts: &[&str], out: &mut Vec<u8>) -> Result<(), AllocError> {
+    for text in texts {
+        append(text, out)?;
+    }
+    Ok(())
+}
+
 /// A number in decimal digits.
 pub fn append_number(number: u32, out: &mut Vec<u8>) -> Result<(), AllocError> {
     append(Buffer::new().format(number), out)

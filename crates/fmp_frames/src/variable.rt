@@ -74,6 +74,14 @@ impl Variable {
         }
     }
 
+    /// The word for its kind.
+    pub fn kind(self) -> &'static str {
+        match self {
+            Variable::Word(_) => "integer",
+            _ => "wire",
+        }
+    }
+
     /// Its name in its scope.
     pub fn name(self) -> &'static str {
         match self {

@@ -1,6 +1,6 @@
 use Rattle.std.proofs.Common.{◌∙◌, refl, ap, rules}
 use Rattle.fmp_frames.proofs.FrameLemmas.{same-frame}
-use Rattle.fmp_frames.proofs.frame.frame.Goals as goal
+use Rattle.fmp_frames.proofs.frame.frame_with.Goals as goal
 
 pub returns : goal.returns
 returns g c =
