@@ -285,6 +285,7 @@ fn stretch_handler<B: Body>(
 /// What is kept of it then stands in place: with a call the context that awaits the reply, at the bound the one that
 /// goes on, and of a body that has ended nothing.
 #[tactic(auto, using(crate::proofs::HeldLemmas::inside_task, crate::proofs::HeldLemmas::inside_handler))]
+#[inline(always)]
 pub fn stretch<B: Body>(
     body: &B,
     entry: u8,

@@ -1,5 +1,5 @@
 //! What events do: the actor of a processor runs, the clock advances, an interrupt is raised.
-ghost use Rattle.std.specs.Prelude.{◌≡◌, ◌+◌, ◌<◌, ◌≤◌, ◌^◌, ◌∷◌, [], Some, true, IfNone, IfSome};
+ghost use Rattle.std.specs.Prelude.{◌≡◌, ◌+◌, ◌<◌, ◌≤◌, ◌^◌, ◌∷◌, [], Some, true};
 ghost use Rattle.fmp_base.specs.declared.bodies.Held.TheVariants.{Goes};
 ghost use Rattle.fmp_base.specs.Calls.{called};
 ghost use Rattle.fmp_base.specs.Meanings.{caller_body, context_of, with_context};
@@ -99,6 +99,7 @@ impl<B: Body> Runner<B> {
     /// The actor of processor p makes a stretch from the context from which it goes on. What is kept of it then stands
     /// in place.
     #[tactic(auto, using(fmp_contexts::proofs::ContextLemmas::task_going, fmp_contexts::proofs::ContextLemmas::entry_going, fmp_contexts::proofs::ContextLemmas::fits_of))]
+    #[inline(always)]
     fn go_on(&mut self, p: u8, who: Caller) -> Stop
         requires { is_going (context_of self.old.world.contexts p who) ≡ true }
         ensures stop { result ≡ stop_of (stretch_in B.meaning self.old p who) }
@@ -223,8 +224,28 @@ impl<B: Body> Runner<B> {
     }
 
     /// The actor of processor p makes a stretch from the context from which it goes on: the call, end or fault is
-    /// carried out, or its place is kept. If it spins, it goes on from that context again.
+    /// carried out, or its place is kept. No processor holds a spin lock, so it spins for none.
     fn make_stretch(&mut self, p: u8, who: Caller) -> Effect
+        requires there { p < self.old.system.processors }
+        requires goes { is_going (context_of self.old.world.contexts p who) ≡ true }
+        requires free { IsLockHeld self.old.system self.old.world.state → ⊥ }
+        ensures effect { result
+            ≡ effect_of (run_in self.old.system (B.meaning self.old.body) self.old.bound self.old.world p who
+            (context_of self.old.world.contexts p who)) }
+        ensures after { done_of self.new
+            ≡ done_or (done_of self.old) (run_in self.old.system (B.meaning self.old.body) self.old.bound
+            self.old.world p who (context_of self.old.world.contexts p who)) }
+        ensures bodies { SameBodies self.old self.new }
+        ensures clock { self.new.world.state.clock ≡ self.old.world.state.clock }
+    {
+        let stop = self.go_on(p, who);
+        self.carry_out_stop(p, who, &stop)
+    }
+
+    /// The same where some processor holds a spin lock. The context in which the stretch began is kept aside: an actor
+    /// that spins goes on from there.
+    #[inline(never)]
+    fn make_stretch_or_spin(&mut self, p: u8, who: Caller) -> Effect
         requires there { p < self.old.system.processors }
         requires goes { is_going (context_of self.old.world.contexts p who) ≡ true }
         ensures effect { result
@@ -236,12 +257,9 @@ impl<B: Body> Runner<B> {
         ensures bodies { SameBodies self.old self.new }
         ensures clock { self.new.world.state.clock ≡ self.old.world.state.clock }
     {
-        let first = self.first_if_held(p, who);
+        let first = self.first_context(p, who);
         let stop = self.go_on(p, who);
-        match &first {
-            Some(first) => self.carry_out_or_spin(p, who, &stop, first),
-            None => self.carry_out_stop(p, who, &stop),
-        }
+        self.carry_out_or_spin(p, who, &stop, &first)
     }
 
     /// The context from which the caller on processor p goes on.
@@ -259,26 +277,34 @@ impl<B: Body> Runner<B> {
         }
     }
 
-    /// The same, if some processor holds a spin lock. While none does, no call spins, and no context is copied.
-    #[inline(always)]
-    fn first_if_held(&self, p: u8, who: Caller) -> Option<B::Ctx>
-        requires { is_going (context_of self.now.world.contexts p who) ≡ true }
-        ensures free { IfNone result (IsLockHeld self.now.system self.now.world.state → ⊥) }
-        ensures value { IfSome result (λ first. context_of self.now.world.contexts p who ≡ Some (Goes first)) }
-        ensures context { IfSome result (λ first. B.is_context self.now.body
-            (caller_body self.now.system self.now.world.contexts p who) first) }
-    {
-        if is_lock_held(&self.tables) {
-            Some(self.first_context(p, who))
-        } else {
-            None
-        }
-    }
-
-    /// The actor of processor p, which goes on from a context, has made this stretch: the call, end or fault is carried
-    /// out, or its place is kept. If it spins, it goes on from the context from which it came.
+    /// The actor of processor p, which goes on from a context, has made this stretch, while no processor holds a spin
+    /// lock: the call, end or fault is carried out, or its place is kept.
     #[tactic(auto, using(crate::proofs::StopLemmas::ending_hands))]
     fn apply_stretch(&mut self, p: u8, who: Caller, stretch: Stretch<B::Ctx>) -> Effect
+        requires there { p < self.old.system.processors }
+        requires goes { is_going (context_of self.old.world.contexts p who) ≡ true }
+        requires context { OfCall
+            (B.is_context self.old.body (caller_body self.old.system self.old.world.contexts p who))
+            (ending stretch) }
+        requires free { IsLockHeld self.old.system self.old.world.state → ⊥ }
+        ensures effect { result
+            ≡ effect_of (applied_in self.old.system (B.meaning self.old.body) self.old.world p who
+            (context_of self.old.world.contexts p who) (ending stretch)) }
+        ensures after { done_of self.new
+            ≡ done_or (done_of self.old) (applied_in self.old.system (B.meaning self.old.body) self.old.world p who
+            (context_of self.old.world.contexts p who) (ending stretch)) }
+        ensures bodies { SameBodies self.old self.new }
+        ensures clock { self.new.world.state.clock ≡ self.old.world.state.clock }
+    {
+        let stop = self.take(p, who, stretch);
+        self.carry_out_stop(p, who, &stop)
+    }
+
+    /// The same where some processor holds a spin lock: an actor that spins goes on from the context from which it
+    /// came.
+    #[tactic(auto, using(crate::proofs::StopLemmas::ending_hands))]
+    #[inline(never)]
+    fn apply_stretch_or_spin(&mut self, p: u8, who: Caller, stretch: Stretch<B::Ctx>) -> Effect
         requires there { p < self.old.system.processors }
         requires goes { is_going (context_of self.old.world.contexts p who) ≡ true }
         requires context { OfCall
@@ -293,12 +319,9 @@ impl<B: Body> Runner<B> {
         ensures bodies { SameBodies self.old self.new }
         ensures clock { self.new.world.state.clock ≡ self.old.world.state.clock }
     {
-        let first = self.first_if_held(p, who);
+        let first = self.first_context(p, who);
         let stop = self.take(p, who, stretch);
-        match &first {
-            Some(first) => self.carry_out_or_spin(p, who, &stop, first),
-            None => self.carry_out_stop(p, who, &stop),
-        }
+        self.carry_out_or_spin(p, who, &stop, &first)
     }
 
     /// Processor p runs its actor for a stretch.
@@ -319,7 +342,11 @@ impl<B: Body> Runner<B> {
         if !self.contexts.goes(p, who) {
             return Effect::Nothing;
         }
-        self.make_stretch(p, who)
+        if is_lock_held(&self.tables) {
+            self.make_stretch_or_spin(p, who)
+        } else {
+            self.make_stretch(p, who)
+        }
     }
 
     /// Processor p runs its actor, whose stretch is this one.
@@ -341,7 +368,11 @@ impl<B: Body> Runner<B> {
         if !self.contexts.goes(p, who) {
             return Effect::Nothing;
         }
-        self.apply_stretch(p, who, stretch)
+        if is_lock_held(&self.tables) {
+            self.apply_stretch_or_spin(p, who, stretch)
+        } else {
+            self.apply_stretch(p, who, stretch)
+        }
     }
 
     /// The clock advances by one.
