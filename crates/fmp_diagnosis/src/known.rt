@@ -1,11 +1,12 @@
 //! The names that are known at a place of the texts.
 ghost use Rattle.std.specs.Prelude.{OnOk};
-ghost use Rattle.fmp_diagnosis.specs.Words.{MaySay};
+ghost use Rattle.fmp_base.specs.Names.{name_text};
+ghost use Rattle.fmp_diagnosis.specs.Words.{IsSaid, IsSaidFirst, MaySay, quoted};
 
 use crate::apis::object_name;
 use crate::around::{begins_body_at, last_body, name_at};
 use crate::nearness::{nearest, other_case};
-use crate::words::{Word, say};
+use crate::words::{Word, say, say_of};
 use fmp_base::{Name, SERVICES, Service};
 use fmp_lex::words::{APIS, CONSTANTS, KEYWORDS};
 use fmp_lex::{Keyword, TextFile, TokenKind, Tokens};
@@ -131,4 +132,19 @@ pub fn say_nearest(
         ),
         None => Ok(()),
     }
+}
+
+/// Says of a name that it is none of the known ones, in these words, and asks whether one of them was meant.
+pub fn say_unknown_of(
+    alloc: Global,
+    name: &Name,
+    words: &[Word],
+    known: &[Name],
+    out: &mut Vec<u8>,
+) -> Result<(), AllocError>
+    ensures said { OnOk result (IsSaid out.old.items out.new.items) }
+    ensures names { OnOk result (IsSaidFirst (quoted (name_text name.now)) out.old.items out.new.items) }
+{
+    say_of(name, words, out)?;
+    say_nearest(alloc, name, known, out)
 }

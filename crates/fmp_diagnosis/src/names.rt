@@ -6,7 +6,7 @@ ghost use Rattle.fmp_base.specs.Names.{name_text};
 use crate::apis::{api_at, entry_of, is_symbol, object_name, unknown_constant};
 use crate::around::{Around, is_among, is_same, last_body, line_of, list_of, name_at};
 use crate::fields::Field;
-use crate::known::{bodies, constants, objects, say_nearest, variables};
+use crate::known::{bodies, constants, objects, say_nearest, say_unknown_of, variables};
 use crate::words::{Word, say, say_of, say_text};
 use fmp_base::Name;
 use fmp_lex::{Api, Keyword, Symbol, TextFile, TokenKind, Tokens};
@@ -180,9 +180,8 @@ fn say_unknown_constant(
         Word::Quoted(api.name()),
         Word::Text(" is a value"),
     ];
-    say_of(&name, &words, out)?;
     let known = constants(alloc)?;
-    say_nearest(alloc, &name, &known, out)
+    say_unknown_of(alloc, &name, &words, &known, out)
 }
 
 /// The names of the bodies of a task text.
@@ -271,9 +270,9 @@ fn say_written(
         let words = [Word::Text(" is an object; only a variable is written")];
         return say_of(&name, &words, out);
     }
-    say_of(&name, &[Word::Text(" is no variable of this body")], out)?;
     let known = variables(alloc, &around.before.tokens)?;
-    say_nearest(alloc, &name, &known, out)
+    let words = [Word::Text(" is no variable of this body")];
+    say_unknown_of(alloc, &name, &words, &known, out)
 }
 
 /// Whether a body has this name.
@@ -281,6 +280,15 @@ fn is_body(around: &Around<'_>, name: &Name) -> bool {
     let keywords = [Keyword::Task, Keyword::Handler];
     line_behind(&around.before.tokens, 0, name, &keywords).is_some()
         || line_behind(&around.rest.tokens, 0, name, &keywords).is_some()
+}
+
+/// The names that can be read at the place: variables, objects and constants.
+fn readable(alloc: Global, objects: &[Name], around: &Around<'_>) -> Result<Vec<Name>, AllocError> {
+    let mut known = variables(alloc, &around.before.tokens)?;
+    known.extend_from_slice(objects)?;
+    let constants = constants(alloc)?;
+    known.extend_from_slice(&constants)?;
+    Ok(known)
 }
 
 /// Says that a name which is read is neither a variable, an object nor a constant.
@@ -300,13 +308,9 @@ fn say_read(
         )];
         return say_of(&name, &words, out);
     }
+    let known = readable(alloc, objects, around)?;
     let words = [Word::Text(" is neither a variable of this body, an object nor a constant")];
-    say_of(&name, &words, out)?;
-    let mut known = variables(alloc, &around.before.tokens)?;
-    known.extend_from_slice(objects)?;
-    let constants = constants(alloc)?;
-    known.extend_from_slice(&constants)?;
-    say_nearest(alloc, &name, &known, out)
+    say_unknown_of(alloc, &name, &words, &known, out)
 }
 
 /// Says which name of a body nothing has.

@@ -215,6 +215,21 @@ fn say_need(
     }
 }
 
+/// Says how many bytes the stack of the task at the place has.
+fn say_stack(tokens: &Tokens<'_>, out: &mut Vec<u8>) -> Result<(), AllocError>
+    ensures { OnOk result (IsSaid out.old.items out.new.items) }
+{
+    let size = value_of(tokens, 0, Api::CreTsk, Field::StackSize);
+    say(
+        &[
+            Word::Text("the stack has "),
+            Word::Number(i64::from(size)),
+            Word::Text(if size == 1 { " byte" } else { " bytes" }),
+        ],
+        out,
+    )
+}
+
 /// Says that the stack of the task at the place is too small for its body.
 pub fn say_small_stack(
     alloc: Global,
@@ -225,15 +240,7 @@ pub fn say_small_stack(
     ensures { OnOk result (IsSaid out.old.items out.new.items) }
 {
     let tokens = &around.rest.tokens;
-    let size = value_of(tokens, 0, Api::CreTsk, Field::StackSize);
-    say(
-        &[
-            Word::Text("the stack has "),
-            Word::Number(i64::from(size)),
-            Word::Text(if size == 1 { " byte" } else { " bytes" }),
-        ],
-        out,
-    )?;
+    say_stack(tokens, out)?;
     match entry_of(tokens, 0, Api::CreTsk) {
         Some(name) => say_need(alloc, texts, name, out),
         None => Ok(()),

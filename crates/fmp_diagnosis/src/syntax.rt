@@ -4,11 +4,11 @@ ghost use Rattle.fmp_diagnosis.specs.Words.{IsSaid, IsSaidFirst, MaySay, quoted}
 ghost use Rattle.fmp_base.specs.Names.{name_text};
 
 use crate::around::{Around, name_at};
-use crate::known::{apis, keywords, say_nearest, services};
-use crate::words::{Word, append_quoted, counted, say, say_of, say_quoted, say_text, say_token};
+use crate::known::{apis, keywords, say_nearest, say_unknown_of, services};
+use crate::words::{Word, append_quoted, counted, say, say_quoted, say_text, say_token};
 use crate::{expected_api, expected_statement};
 use fmp_base::Name;
-use fmp_lex::{Keyword, LexFault, Symbol, TextFile, TokenKind};
+use fmp_lex::{Keyword, LexFault, Symbol, TextFile, TokenKind, Tokens};
 use std::alloc::{AllocError, Global};
 
 /// A number of more bytes is not quoted.
@@ -164,26 +164,12 @@ fn remark(around: &Around<'_>) -> Option<&'static str>
     }
 }
 
-fn say_misspelt(
-    alloc: Global,
-    name: &Name,
-    what: &'static str,
-    known: &[Name],
-    out: &mut Vec<u8>,
-) -> Result<(), AllocError>
-    ensures said { OnOk result (IsSaid out.old.items out.new.items) }
-    ensures names { OnOk result (IsSaidFirst (quoted (name_text name.now)) out.old.items out.new.items) }
-{
-    say_of(name, &[Word::Text(what)], out)?;
-    say_nearest(alloc, name, known, out)
-}
-
 fn say_misspelt_api(alloc: Global, name: &Name, out: &mut Vec<u8>) -> Result<(), AllocError>
     ensures said { OnOk result (IsSaid out.old.items out.new.items) }
     ensures names { OnOk result (IsSaidFirst (quoted (name_text name.now)) out.old.items out.new.items) }
 {
     let known = apis(alloc)?;
-    say_misspelt(alloc, name, " is no static API", &known, out)
+    say_unknown_of(alloc, name, &[Word::Text(" is no static API")], &known, out)
 }
 
 fn say_misspelt_call(alloc: Global, name: &Name, out: &mut Vec<u8>) -> Result<(), AllocError>
@@ -193,7 +179,13 @@ fn say_misspelt_call(alloc: Global, name: &Name, out: &mut Vec<u8>) -> Result<()
     let mut known = services(alloc)?;
     let words = keywords(alloc, TextFile::Source)?;
     known.extend_from_slice(&words)?;
-    say_misspelt(alloc, name, " is no service call", &known, out)
+    say_unknown_of(
+        alloc,
+        name,
+        &[Word::Text(" is no service call")],
+        &known,
+        out,
+    )
 }
 
 /// The name that may stand for a keyword: that at the place, or the one with which a statement begins in front of it.
@@ -223,6 +215,31 @@ fn say_keyword(
     }
 }
 
+/// Says what may stand behind these tokens of a text.
+fn say_expected(file: TextFile, tokens: &Tokens<'_>, out: &mut Vec<u8>) -> Result<(), AllocError>
+    ensures { OnOk result (IsSaid out.old.items out.new.items) }
+{
+    say_text("expected ", out)?;
+    match file {
+        TextFile::Configuration => expected_api::say_expected(tokens, out),
+        TextFile::Source => expected_statement::say_expected(tokens, out),
+    }
+}
+
+/// Says what may stand at the place, and what does.
+fn say_unexpected(
+    alloc: Global,
+    file: TextFile,
+    around: &Around<'_>,
+    out: &mut Vec<u8>,
+) -> Result<(), AllocError>
+    ensures { OnOk result (IsSaid out.old.items out.new.items) }
+{
+    say_expected(file, &around.before.tokens, out)?;
+    say_found(around, out)?;
+    say_keyword(alloc, file, around, out)
+}
+
 /// What a configuration has at the place, and what it may have there.
 fn say_in_configuration(
     alloc: Global,
@@ -231,13 +248,10 @@ fn say_in_configuration(
 ) -> Result<(), AllocError>
     ensures { OnOk result (IsSaid out.old.items out.new.items) }
 {
-    if let Some(name) = misspelt_api(around) {
-        return say_misspelt_api(alloc, &name, out);
+    match misspelt_api(around) {
+        Some(name) => say_misspelt_api(alloc, &name, out),
+        None => say_unexpected(alloc, TextFile::Configuration, around, out),
     }
-    say_text("expected ", out)?;
-    expected_api::say_expected(&around.before.tokens, out)?;
-    say_found(around, out)?;
-    say_keyword(alloc, TextFile::Configuration, around, out)
 }
 
 /// What a task text has at the place, and what it may have there.
@@ -247,13 +261,10 @@ fn say_in_source(alloc: Global, around: &Around<'_>, out: &mut Vec<u8>) -> Resul
     if let Some(name) = misspelt_call(around) {
         return say_misspelt_call(alloc, &name, out);
     }
-    if let Some(text) = remark(around) {
-        return say_text(text, out);
+    match remark(around) {
+        Some(text) => say_text(text, out),
+        None => say_unexpected(alloc, TextFile::Source, around, out),
     }
-    say_text("expected ", out)?;
-    expected_statement::say_expected(&around.before.tokens, out)?;
-    say_found(around, out)?;
-    say_keyword(alloc, TextFile::Source, around, out)
 }
 
 /// Says what stands at the place of a fault of syntax, and what may stand there.
