@@ -1,3 +1,4 @@
+pub mod Decoding
 pub mod Hands
 pub mod Laws
 pub mod Stretches

@@ -39,7 +39,8 @@ fn give_reply(
     }
 }
 
-fn before(body: &BodyCode, pc: u16) -> Option<Instruction>
+// The instruction before a place.
+pub(crate) fn before(body: &BodyCode, pc: u16) -> Option<Instruction>
     ensures { result ≡ call_before body.now.instructions.items pc }
 {
     if pc == 0 {

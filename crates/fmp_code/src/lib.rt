@@ -4,6 +4,7 @@
 
 mod cuts;
 mod decoded;
+mod decoded_code;
 mod delivery;
 mod holding;
 pub mod laws;
@@ -11,6 +12,7 @@ mod machine;
 mod operands;
 mod vm;
 
+pub use decoded_code::DecodedCode;
 pub use delivery::{deliver, deliver_in_place};
 pub use fmp_instructions::{
     BodyCode, Code, Instruction, MachineContext, keeps_table, verify, verify_body,
