@@ -81,6 +81,16 @@ any_default [] i a b l = absurd (omega (arith, l))
 any_default (x ∷ xs) zero a b l = refl
 any_default (x ∷ xs) (suc i) a b l = any_default xs i a b (omega (arith, l))
 
+-- where a processor ran and has the actor that it had, it is counted alone
+pub noted_kept : (r : StampTables) (p : ℕ) (actor : Option Caller) → get_or r.actors p None ≡ actor
+    → record { actors = r.actors; counts = slice_set r.counts p (get_or r.counts p 0 + 1) } ≡ noted r p actor true
+noted_kept r p actor h =
+    let same : slice_set r.actors p actor ≡ r.actors =
+    ap (λ (o : Option Caller). slice_set r.actors p o) (sym h) ∙ set-get_or r.actors p None in
+    ap rows (sym same) where
+      rows : List (Option Caller) → StampTables
+      rows xs = record { actors = xs; counts = slice_set r.counts p (get_or r.counts p 0 + 1) }
+
 pub noted_same : (r : StampTables) (p : ℕ) (before actor : Option Caller) (ran : Bool) → p < length r.actors → ran ≡ false
     → before ≡ get_or r.actors p before → is_same_actor before actor ≡ true → r ≡ noted r p actor ran
 noted_same r p before actor ran l e h k =

@@ -167,6 +167,21 @@ impl Stamps {
         }
     }
 
+    /// The processor that an event ran, if any, is counted, where each has the actor that it had.
+    #[tactic(auto, using(crate::proofs::StampLemmas::noted_kept))]
+    fn note_kept(&mut self, tables: &Tables, ran: Option<u8>)
+        requires few { (p : ℕ) → get_or self.old.counts p 0 < 2 ^ 20 }
+        requires left { (p : ℕ) → p < length self.old.counts
+            → get_or self.old.actors p None ≡ actor_of (processor_at tables.now.state p) }
+        ensures { self.new ≡ run_noted tables.now.state self.old ran }
+    {
+        if let Some(p) = ran {
+            if (p as usize) < self.counts.len() {
+                self.counts[p as usize] += 1;
+            }
+        }
+    }
+
     /// Counts an event that kept a place, which gives no processor another actor, for the one that it ran.
     pub fn count_kept(&mut self, tables: &Tables, ran: Option<u8>)
         requires many { length self.old.counts ≡ tables.now.system.processors }
@@ -177,7 +192,7 @@ impl Stamps {
         ensures counts { AreCounted self.old self.new tables.now.state ran }
         ensures actors { AreActors self.new.actors tables.now.system.processors tables.now.state }
     {
-        self.note_run(tables, ran);
+        self.note_kept(tables, ran);
     }
 
     /// Counts a done event of these lines for the processor that it ran, if any, and for each that has another actor
