@@ -23,9 +23,9 @@ use Rattle.fmp_base.specs.Systems.{SystemTables}
 use Rattle.fmp_contexts.specs.Contexts.{HandsOver, HasContext, is_call, is_going, kept_after, stop_of, stretched_from}
 use Rattle.fmp_contexts.proofs.HeldLemmas.{body_set, context_back, context_twice, ended_over, has_set}
 use Rattle.fmp_kernel.specs.KernelViews.{RunnerView, done_of, done_or, stopped_on, with_contexts, with_stretch}
-use Rattle.fmp_worlds.specs.Spins.{IsLockHeld}
+use Rattle.fmp_worlds.specs.Spins.{MaySpin}
 use Rattle.fmp_worlds.specs.Stamps.{applied_in}
-use Rattle.fmp_worlds.proofs.SettledLaws.{called-held}
+use Rattle.fmp_worlds.proofs.SettledLaws.{called-may_spin}
 
 -- a stretch that is handed in has its context
 pub ending_hands : {C : Type 0} (s : Stretch C) → HandsOver (ending s)
@@ -112,14 +112,14 @@ module _ {B C : Type 0} (M : Meaning C) (r : RunnerView B C) (p : ℕ) (who : Ca
   answered_free Ends cs ds made g n = refl
   answered_free Spins cs ds made g n = absurd (n refl)
 
-  -- while no processor holds a spin lock, a stretch does something
-  pub done_free : (x : Ending C) → HandsOver x → (IsLockHeld r.system r.world.state → ⊥)
+  -- where the actor does not spin, a stretch does something
+  pub done_free : (x : Ending C) → HandsOver x → (MaySpin r.system r.world.state p who → ⊥)
       → done_or (done_of (with_stretch r p who x)) (stretched r.system M r.world p who x)
       ≡ done_or (done_of r) (stretched r.system M r.world p who x)
   done_free (ends.Call c made) h n =
       let o = called r.system r.world.state p who made in
       let cs = with_context r.world.contexts p who (Some (Awaits c)) in
-      answered_free o.answer cs cs made o.progress (λ e. n (called-held r.system r.world.state p who made e))
+      answered_free o.answer cs cs made o.progress (λ e. n (called-may_spin r.system r.world.state p who made e))
   done_free (ends.End c) h n = refl
   done_free (ends.Fault c fault) h n = refl
   done_free (ends.Over None) h n = absurd h

@@ -11,12 +11,12 @@ ghost use Rattle.fmp_contexts.specs.Contexts.{HandsOver, HasContext, IsFor, is_c
 ghost use Rattle.fmp_kernel.specs.KernelViews.{SameBodies, done_of, done_or, kept_in, stopped_on, stretch_in, with_contexts, with_stretch};
 ghost use Rattle.fmp_tasks.specs.Callers.{IsTaskOf};
 ghost use Rattle.fmp_tasks.specs.Tables.{SameShape};
-ghost use Rattle.fmp_worlds.specs.Spins.{IsLockHeld};
+ghost use Rattle.fmp_worlds.specs.Spins.{MaySpin};
 ghost use Rattle.fmp_worlds.specs.Stamps.{actor_at, applied_by, applied_in};
 
 use crate::actors::actor_on;
 use crate::runner::Runner;
-use crate::spins::is_lock_held;
+use crate::spins::may_spin;
 use crate::ticks::advance;
 use fmp_base::{Answer, Body, Call, Caller, Effect, Event, Line, Processor, Stop, Stretch};
 use fmp_calls::call;
@@ -224,11 +224,11 @@ impl<B: Body> Runner<B> {
     }
 
     /// The actor of processor p makes a stretch from the context from which it goes on: the call, end or fault is
-    /// carried out, or its place is kept. No processor holds a spin lock, so it spins for none.
+    /// carried out, or its place is kept. It finds no spin lock held.
     fn make_stretch(&mut self, p: u8, who: Caller) -> Effect
         requires there { p < self.old.system.processors }
         requires goes { is_going (context_of self.old.world.contexts p who) ≡ true }
-        requires free { IsLockHeld self.old.system self.old.world.state → ⊥ }
+        requires free { MaySpin self.old.system self.old.world.state p who → ⊥ }
         ensures effect { result
             ≡ effect_of (run_in self.old.system (B.meaning self.old.body) self.old.bound self.old.world p who
             (context_of self.old.world.contexts p who)) }
@@ -242,7 +242,7 @@ impl<B: Body> Runner<B> {
         self.carry_out_stop(p, who, &stop)
     }
 
-    /// The same where some processor holds a spin lock. The context in which the stretch began is kept aside: an actor
+    /// The same of an actor that may find one held. The context in which the stretch began is kept aside: an actor
     /// that spins goes on from there.
     #[inline(never)]
     fn make_stretch_or_spin(&mut self, p: u8, who: Caller) -> Effect
@@ -277,8 +277,8 @@ impl<B: Body> Runner<B> {
         }
     }
 
-    /// The actor of processor p, which goes on from a context, has made this stretch, while no processor holds a spin
-    /// lock: the call, end or fault is carried out, or its place is kept.
+    /// The actor of processor p, which goes on from a context, has made this stretch: the call, end or fault is carried
+    /// out, or its place is kept. It finds no spin lock held.
     #[tactic(auto, using(crate::proofs::StopLemmas::ending_hands))]
     fn apply_stretch(&mut self, p: u8, who: Caller, stretch: Stretch<B::Ctx>) -> Effect
         requires there { p < self.old.system.processors }
@@ -286,7 +286,7 @@ impl<B: Body> Runner<B> {
         requires context { OfCall
             (B.is_context self.old.body (caller_body self.old.system self.old.world.contexts p who))
             (ending stretch) }
-        requires free { IsLockHeld self.old.system self.old.world.state → ⊥ }
+        requires free { MaySpin self.old.system self.old.world.state p who → ⊥ }
         ensures effect { result
             ≡ effect_of (applied_in self.old.system (B.meaning self.old.body) self.old.world p who
             (context_of self.old.world.contexts p who) (ending stretch)) }
@@ -300,7 +300,7 @@ impl<B: Body> Runner<B> {
         self.carry_out_stop(p, who, &stop)
     }
 
-    /// The same where some processor holds a spin lock: an actor that spins goes on from the context from which it
+    /// The same of an actor that may find one held: an actor that spins goes on from the context from which it
     /// came.
     #[tactic(auto, using(crate::proofs::StopLemmas::ending_hands))]
     #[inline(never)]
@@ -342,7 +342,7 @@ impl<B: Body> Runner<B> {
         if !self.contexts.goes(p, who) {
             return Effect::Nothing;
         }
-        if is_lock_held(&self.tables) {
+        if may_spin(&self.tables, p, who) {
             self.make_stretch_or_spin(p, who)
         } else {
             self.make_stretch(p, who)
@@ -368,7 +368,7 @@ impl<B: Body> Runner<B> {
         if !self.contexts.goes(p, who) {
             return Effect::Nothing;
         }
-        if is_lock_held(&self.tables) {
+        if may_spin(&self.tables, p, who) {
             self.apply_stretch_or_spin(p, who, stretch)
         } else {
             self.apply_stretch(p, who, stretch)

@@ -1,9 +1,10 @@
-//! Spin locks that are held.
-ghost use Rattle.std.specs.Prelude.{◌≡◌, false};
+//! Where an actor may find a spin lock held.
+ghost use Rattle.std.specs.Prelude.{◌≡◌, ◌<◌, false};
+ghost use Rattle.fmp_base.specs.ProcessorCalls.{is_free as is_free_lock};
 ghost use Rattle.fmp_kernel.specs.Spins.{is_spin as is_spin_lock};
-ghost use Rattle.fmp_worlds.specs.Spins.{IsLockHeld};
+ghost use Rattle.fmp_worlds.specs.Spins.{IsLockHeld, MaySpin};
 
-use fmp_base::Lock;
+use fmp_base::{Caller, Lock};
 use fmp_tasks::Tables;
 
 /// Whether this is a spin lock.
@@ -17,14 +18,22 @@ fn is_spin(lock: Lock) -> bool
     }
 }
 
-/// Whether some processor holds a spin lock. While none does, no call spins.
-#[tactic(auto, using(crate::proofs::SpinLemmas::none_held, crate::proofs::SpinLemmas::no_locks))]
-pub fn is_lock_held(tables: &Tables) -> bool
+/// Whether no lock is held.
+fn is_free(lock: Lock) -> bool
+    ensures { result ≡ is_free_lock lock }
+{
+    match lock {
+        Lock::Free => true,
+        Lock::Cpu => false,
+        Lock::Spin(_) => false,
+    }
+}
+
+/// Whether some processor holds a spin lock.
+#[tactic(auto, using(crate::proofs::SpinLemmas::none_held))]
+fn is_lock_held(tables: &Tables) -> bool
     ensures { result ≡ false → IsLockHeld tables.now.system tables.now.state → ⊥ }
 {
-    if tables.spin_lock_count() == 0 {
-        return false;
-    }
     let count = tables.processor_count() as u8;
     for p in 0..count {
         if is_spin(tables.processor(p).lock) {
@@ -32,4 +41,21 @@ pub fn is_lock_held(tables: &Tables) -> bool
         }
     }
     false
+}
+
+/// Whether the actor of processor p may find its spin lock held: it is a task, its processor is not locked, and some
+/// processor holds a spin lock. Otherwise no call of it spins.
+#[tactic(auto, using(crate::proofs::SpinLemmas::no_handler, crate::proofs::SpinLemmas::no_locks, crate::proofs::SpinLemmas::none_locked))]
+pub fn may_spin(tables: &Tables, p: u8, who: Caller) -> bool
+    requires { p < tables.now.system.processors }
+    ensures { result ≡ false → MaySpin tables.now.system tables.now.state p who → ⊥ }
+{
+    match who {
+        Caller::Task(_) => {
+            tables.spin_lock_count() > 0
+                && is_free(tables.processor(p).lock)
+                && is_lock_held(tables)
+        }
+        Caller::Handler(_) => false,
+    }
 }

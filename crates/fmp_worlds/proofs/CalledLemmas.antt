@@ -1,15 +1,17 @@
 -- Every call has the effect that every call has, by cases.
-use Rattle.std.proofs.Common.{◌≡◌, ℕ, ℤ, [], Some, None, true, false, ◌&&◌, refl}
+use Rattle.std.proofs.Common.{◌≡◌, ℕ, ℤ, [], Some, None, true, false, ◌&&◌, not, refl}
 use Rattle.fmp_base.specs.declared.calls.Call.{Call}
 use Rattle.fmp_base.specs.declared.calls.Call.TheVariants as call
 use Rattle.fmp_base.specs.declared.codes.Er.TheVariants as er
 use Rattle.fmp_base.specs.declared.states.Caller.TheVariants as caller
 use Rattle.fmp_base.specs.declared.states.Handler.{Handler}
+use Rattle.fmp_base.specs.declared.states.Lock.{Lock}
+use Rattle.fmp_base.specs.declared.states.Lock.TheVariants.{Free, Cpu, Spin}
 use Rattle.fmp_base.specs.declared.states.TimeLimit.TheVariants.{Forever, Poll}
 use Rattle.fmp_base.specs.Calls.{case_of, called}
 use Rattle.fmp_base.specs.Outcomes.{CallOutcome, refused_if}
 use Rattle.fmp_base.specs.Permissions.{permission, is_barred, is_caller}
-use Rattle.fmp_base.specs.ProcessorCalls.{is_cpu_locked}
+use Rattle.fmp_base.specs.ProcessorCalls.{is_cpu_locked, is_free}
 use Rattle.fmp_base.specs.Services.{service_of}
 use Rattle.fmp_base.specs.States.{KernelState, task_at, processor_at}
 use Rattle.fmp_base.specs.Systems.{SystemTables}
@@ -31,6 +33,12 @@ may_leave s p me t c h self =
     (parts.0, and-false cpu.dispatch_disabled (is_caller me t) parts.1 self)
 
 -- where the context test lets a task call
+-- a CPU that is not locked has no lock
+unlocked : (l : Lock) → not (is_free l) ≡ false → l ≡ Free
+unlocked Free h = refl
+unlocked Cpu h = absurd (cc h)
+unlocked (Spin i) h = absurd (cc h)
+
 by_task : (sys : SystemTables) (s : KernelState) (p me : ℕ) (c : Call)
     → is_barred (permission (service_of c)) (processor_at s p) (caller.Task me) c ≡ false
     → Keeps (Acts sys s p me) p (Some me) sys s (case_of sys s p me (task_at s.tasks me) c)
@@ -81,7 +89,7 @@ by_task sys s p me call.LocCpu h = keeps-loc_cpu sys s p
 by_task sys s p me call.UnlCpu h = keeps-unl_cpu sys s p
 by_task sys s p me call.DisDsp h = keeps-dispatch_set sys s p true
 by_task sys s p me call.EnaDsp h = keeps-dispatch_set sys s p false
-by_task sys s p me (call.LocSpn lock) h = keeps-loc_spn sys s p lock
+by_task sys s p me (call.LocSpn lock) h = keeps-loc_spn sys s p lock (unlocked (processor_at s p).lock h) tt
 by_task sys s p me (call.TrySpn lock) h = keeps-try_spn sys s p lock
 by_task sys s p me (call.UnlSpn lock) h = keeps-unl_spn sys s p lock
 by_task sys s p me (call.MrotRdq priority processor) h = keeps-mrot_rdq sys s (task_at s.tasks me) priority processor

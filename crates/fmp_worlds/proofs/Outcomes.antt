@@ -6,6 +6,7 @@ use Rattle.std.proofs.lemmas.Bool.Decides.{nat_tests}
 use Rattle.fmp_base.specs.declared.calls.Answer.TheVariants.{Ends, Spins, Waits}
 use Rattle.fmp_base.specs.declared.codes.Er.{Er}
 use Rattle.fmp_base.specs.declared.codes.Er.TheVariants as er
+use Rattle.fmp_base.specs.declared.states.Lock.TheVariants.{Free}
 use Rattle.fmp_base.specs.declared.states.Phase.TheVariants.{Ready, Waiting}
 use Rattle.fmp_base.specs.declared.states.TaskBlock.{TaskBlock}
 use Rattle.fmp_base.specs.declared.states.TimeLimit.{TimeLimit}
@@ -22,6 +23,11 @@ use Rattle.fmp_worlds.proofs.Lines.{IsOwn}
 use Rattle.fmp_worlds.proofs.Settling.{CanSettle, Dispatches, can_settle}
 use Rattle.fmp_worlds.proofs.Told.{IsReady, IsTold, Woken, left, still}
 
+-- a task calls
+abbrev pub IsTask : Option ℕ → Type 0
+IsTask None = ⊥
+IsTask (Some t) = Unit {0}
+
 -- a task that calls and waits is not ready; a handler never waits
 abbrev pub IsAway : Option ℕ → KernelState → Type 0
 IsAway None s = ⊥
@@ -35,7 +41,8 @@ IsEnded (Some t) g = IsReady g.state t → IsTold t g.lines
 -- where K is known of the caller, on processor own; it is the task `who`, or a handler
 pub record Keeps (K : Type 0) (own : ℕ) (who : Option ℕ) (sys : SystemTables) (s : KernelState) (o : CallOutcome) : Type 0 where
   pub settles : K → Holds s → CanSettle sys o.progress.state
-  pub spins : o.answer ≡ Spins → (o.progress ≡ unchanged s) × IsLockHeld sys s
+  pub spins :
+      o.answer ≡ Spins → (o.progress ≡ unchanged s) × IsLockHeld sys s × ((processor_at s own).lock ≡ Free) × IsTask who
   pub waits : o.answer ≡ Waits → IsAway who o.progress.state
   pub ends : o.answer ≡ Ends → IsEnded who o.progress
   pub actors : SameActorsBeside own s o.progress.state

@@ -14,7 +14,7 @@ use Rattle.fmp_base.specs.Systems.{SystemTables, found}
 use Rattle.fmp_worlds.specs.Spins.{IsLockHeld}
 use Rattle.fmp_worlds.proofs.Assigned.{Holds}
 use Rattle.fmp_worlds.proofs.Changes.{holds-processor, actors-processor}
-use Rattle.fmp_worlds.proofs.Outcomes.{Keeps, keeps-refused, keeps-succeeds_in, keeps-tested, keeps-refused_if}
+use Rattle.fmp_worlds.proofs.Outcomes.{IsTask, Keeps, keeps-refused, keeps-succeeds_in, keeps-tested, keeps-refused_if}
 use Rattle.fmp_worlds.proofs.Settling.{can_settle}
 use Rattle.fmp_worlds.proofs.Told.{still}
 
@@ -78,11 +78,12 @@ module _ {K : Type 0} {own : ℕ} {who : Option ℕ} (sys : SystemTables) (s : K
   pub keeps-dispatch_set : (p : ℕ) (disabled : Bool) → Keeps K own who sys s (calls.dispatch_set s p disabled)
   keeps-dispatch_set p disabled = keeps-succeeds_in sys s _ (λ a. holds-processor s p _ refl a) (actors-processor s p _ refl) (λ t r. r)
 
-  spin_lock_taken : (held : Bool) (p l : ℕ) → (held ≡ true → IsLockHeld sys s) → Keeps K own who sys s (calls.spin_lock_taken held s p l)
-  spin_lock_taken true p l k =
+  spin_lock_taken : (held : Bool) (p l : ℕ) → (held ≡ true → IsLockHeld sys s) → (processor_at s own).lock ≡ Free → IsTask who
+      → Keeps K own who sys s (calls.spin_lock_taken held s p l)
+  spin_lock_taken true p l k free task =
       record {
         settles = λ k a. can_settle sys s a;
-        spins = λ h. (refl, k refl);
+        spins = λ h. (refl, k refl, free, task);
         waits = λ h. cc;
         ends = λ h. cc;
         actors = λ q n. refl;
@@ -90,17 +91,17 @@ module _ {K : Type 0} {own : ℕ} {who : Option ℕ} (sys : SystemTables) (s : K
         lines = λ k a. tt;
         woken = still (λ t r. r);
       }
-  spin_lock_taken false p l k = keeps-succeeds_in sys s _ (λ a. holds-lock s p (Spin l) a) (actors-processor s p _ refl) (λ t r. r)
+  spin_lock_taken false p l k free task = keeps-succeeds_in sys s _ (λ a. holds-lock s p (Spin l) a) (actors-processor s p _ refl) (λ t r. r)
 
-  pub keeps-loc_spn : (p : ℕ) (l : ℤ) → Keeps K own who sys s (calls.loc_spn sys s p l)
-  keeps-loc_spn p (pos zero) = keeps-refused sys s er.Id
-  keeps-loc_spn p (pos (suc n)) = by_test (nat_lt n (length sys.spin_locks)) refl where
+  pub keeps-loc_spn : (p : ℕ) (l : ℤ) → (processor_at s own).lock ≡ Free → IsTask who → Keeps K own who sys s (calls.loc_spn sys s p l)
+  keeps-loc_spn p (pos zero) free task = keeps-refused sys s er.Id
+  keeps-loc_spn p (pos (suc n)) free task = by_test (nat_lt n (length sys.spin_locks)) refl where
     by_test : (b : Bool) → nat_lt n (length sys.spin_locks) ≡ b
         → Keeps K own who sys s
         (tested s er.Id (if b then Some n else None) (λ i. calls.spin_lock_taken (is_held i s.processors) s p i))
-    by_test true e = spin_lock_taken (is_held n s.processors) p n (lock_held sys s n e)
+    by_test true e = spin_lock_taken (is_held n s.processors) p n (lock_held sys s n e) free task
     by_test false e = keeps-refused sys s er.Id
-  keeps-loc_spn p (negsuc n) = keeps-refused sys s er.Id
+  keeps-loc_spn p (negsuc n) free task = keeps-refused sys s er.Id
 
   pub keeps-try_spn : (p : ℕ) (l : ℤ) → Keeps K own who sys s (calls.try_spn sys s p l)
   keeps-try_spn p l =

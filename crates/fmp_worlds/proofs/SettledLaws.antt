@@ -1,5 +1,5 @@
 -- The laws of settled states, and of calls that spin.
-use Rattle.std.proofs.Common.{◌≡◌, ℕ, List, [], ◌∷◌, length, subst}
+use Rattle.std.proofs.Common.{◌≡◌, ℕ, List, [], ◌∷◌, length, refl, subst}
 use Rattle.fmp_base.specs.declared.calls.Answer.TheVariants.{Spins}
 use Rattle.fmp_base.specs.declared.calls.Call.{Call}
 use Rattle.fmp_base.specs.declared.events.Event.{Event}
@@ -13,7 +13,7 @@ use Rattle.fmp_base.specs.States.{KernelState, unchanged, places_from}
 use Rattle.fmp_base.specs.Steps.{Reaction, Done, Nothing, Did, Kept, step}
 use Rattle.fmp_base.specs.Systems.{SystemTables}
 use Rattle.fmp_worlds.specs.Settled.{RunOnce, IsSettled}
-use Rattle.fmp_worlds.specs.Spins.{IsLockHeld}
+use Rattle.fmp_worlds.specs.Spins.{MaySpin}
 use Rattle.fmp_worlds.proofs.Assigned.{run-once}
 use Rattle.fmp_worlds.proofs.CalledLemmas.{keeps-task_call, keeps-handler_call}
 use Rattle.fmp_worlds.proofs.Settling.{can_settle, settled-settles}
@@ -67,8 +67,10 @@ pub called-spins : (sys : SystemTables) (s : KernelState) (p : ℕ) (who : Calle
 called-spins sys s p (caller.Task t) c h = let k = keeps-task_call sys s p t c in (k.spins h).0
 called-spins sys s p (caller.Handler i) c h = let k = keeps-handler_call sys s p i c in (k.spins h).0
 
--- and some processor holds a spin lock
-pub called-held : (sys : SystemTables) (s : KernelState) (p : ℕ) (who : Caller) (c : Call)
-    → (called sys s p who c).answer ≡ Spins → IsLockHeld sys s
-called-held sys s p (caller.Task t) c h = let k = keeps-task_call sys s p t c in (k.spins h).1
-called-held sys s p (caller.Handler i) c h = let k = keeps-handler_call sys s p i c in (k.spins h).1
+-- and its caller may spin
+pub called-may_spin : (sys : SystemTables) (s : KernelState) (p : ℕ) (who : Caller) (c : Call)
+    → (called sys s p who c).answer ≡ Spins → MaySpin sys s p who
+called-may_spin sys s p (caller.Task t) c h =
+    let k = keeps-task_call sys s p t c in
+    record { held = (k.spins h).1; free = (k.spins h).2; task = t; is = refl }
+called-may_spin sys s p (caller.Handler i) c h = let k = keeps-handler_call sys s p i c in absurd ((k.spins h).3)

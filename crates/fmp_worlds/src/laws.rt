@@ -15,7 +15,7 @@ ghost use Rattle.fmp_base.specs.Steps.{Done, Did, Kept, actor_of, step};
 ghost use Rattle.fmp_base.specs.Stretches.{Ending};
 ghost use Rattle.fmp_base.specs.Systems.{SystemTables};
 ghost use Rattle.fmp_worlds.specs.Settled.{RunOnce, IsSettled};
-ghost use Rattle.fmp_worlds.specs.Spins.{IsLockHeld};
+ghost use Rattle.fmp_worlds.specs.Spins.{MaySpin};
 ghost use Rattle.fmp_worlds.specs.Stamps.{EndsSo, Going, actor_at, applied, stamp};
 
 /// Setup leaves a settled state, and so does each event that is done in one. An event that keeps a place changes
@@ -46,11 +46,11 @@ pub fn actors_await_nothing<C>()
         context_of (run sys M n (setup sys M).world es).world.contexts p who ≡ Some (Awaits c) → ⊥ }
 {}
 
-/// A call that finds its spin lock held, so that its caller spins, has changed nothing and has no line. The system has
-/// spin locks then, and some processor holds one.
+/// A call that finds its spin lock held, so that its caller spins, has changed nothing and has no line. Its caller is a
+/// task then, its processor is not locked, and some processor holds a spin lock.
 pub fn spinning_changes_nothing()
     ensures held { (sys : SystemTables) (s : KernelState) (p : ℕ) (who : Caller) (c : Call) →
-        (called sys s p who c).answer ≡ Spins → IsLockHeld sys s }
+        (called sys s p who c).answer ≡ Spins → MaySpin sys s p who }
     ensures unchanged { (sys : SystemTables) (s : KernelState) (p : ℕ) (who : Caller) (c : Call) →
         (called sys s p who c).answer ≡ Spins → (called sys s p who c).progress ≡ unchanged s }
 {}
