@@ -65,8 +65,8 @@ fn append_counts(tally: &Tally, out: &mut Vec<u8>) -> Result<(), AllocError> {
         tally.kept,
         tally.events,
     ];
-    for (head, count) in COUNTS.iter().zip(&counts) {
-        append_cell(head, Buffer::new().format(*count), out)?;
+    for place in 0..COUNTS.len() {
+        append_cell(COUNTS[place], Buffer::new().format(counts[place]), out)?;
     }
     Ok(())
 }
