@@ -141,54 +141,67 @@ fn dump_on<B: Body>(
     waved(alloc, sys, kernel, events)?.finish()
 }
 
-/// The table of a run of an image over events.
+/// What is made of a run.
+#[derive(Clone, Copy)]
+pub enum Output {
+    /// The table of what each task did.
+    Table,
+    /// The waveform, as a value change dump.
+    Dump,
+}
+
+/// What is made of a run of a kernel of this system over events.
 #[tactic(none)]
-fn table_of(
+fn output_on<B: Body>(
+    alloc: Global,
+    sys: &System,
+    kernel: &mut Kernel<B>,
+    events: &[Event],
+    output: Output,
+) -> Result<Vec<u8>, AllocError>
+    requires { kernel.old.taken + length events.now ≤ 2 ^ 20 }
+{
+    match output {
+        Output::Table => table_on(alloc, sys, kernel, events),
+        Output::Dump => dump_on(alloc, sys, kernel, events),
+    }
+}
+
+/// What is made of a run of an image over events.
+#[tactic(none)]
+fn output_of(
     alloc: Global,
     image: &Image,
     events: &[Event],
     bound: u64,
+    output: Output,
 ) -> Result<Vec<u8>, AllocError>
     requires { length events.now ≤ 2 ^ 20 }
 {
     let mut kernel = fresh_kernel(alloc, image, kept_bound(bound))?;
-    table_on(alloc, image.system(), &mut kernel, events)
+    output_on(alloc, image.system(), &mut kernel, events, output)
 }
 
-/// The waveform of a run of an image over events.
-#[tactic(none)]
-fn dump_of(
+/// What is made of a run of an image over a steps text.
+fn output_over(
     alloc: Global,
     image: &Image,
-    events: &[Event],
+    steps: &[u8],
     bound: u64,
-) -> Result<Vec<u8>, AllocError>
-    requires { length events.now ≤ 2 ^ 20 }
-{
-    let mut kernel = fresh_kernel(alloc, image, kept_bound(bound))?;
-    dump_on(alloc, image.system(), &mut kernel, events)
-}
-
-/// The table of a run of an image over a steps text.
-fn table_over(alloc: Global, image: &Image, steps: &[u8], bound: u64) -> Result<Vec<u8>, SimFault> {
+    output: Output,
+) -> Result<Vec<u8>, SimFault> {
     let events = events_of(alloc, steps, image.system().processors)?;
-    made(table_of(alloc, image, &events, bound))
+    made(output_of(alloc, image, &events, bound, output))
 }
 
-/// The waveform of a run of an image over a steps text.
-fn dump_over(alloc: Global, image: &Image, steps: &[u8], bound: u64) -> Result<Vec<u8>, SimFault> {
-    let events = events_of(alloc, steps, image.system().processors)?;
-    made(dump_of(alloc, image, &events, bound))
-}
-
-/// The table of a run of the image of these bytes over a steps text.
-pub fn stats(alloc: Global, image: &[u8], steps: &[u8], bound: u64) -> Result<Vec<u8>, SimFault> {
+/// What is made of a run of the image of these bytes over a steps text.
+pub fn run_output(
+    alloc: Global,
+    image: &[u8],
+    steps: &[u8],
+    bound: u64,
+    output: Output,
+) -> Result<Vec<u8>, SimFault> {
     let image = image_of(alloc, image)?;
-    table_over(alloc, &image, steps, bound)
-}
-
-/// The waveform of a run of the image of these bytes over a steps text.
-pub fn waves(alloc: Global, image: &[u8], steps: &[u8], bound: u64) -> Result<Vec<u8>, SimFault> {
-    let image = image_of(alloc, image)?;
-    dump_over(alloc, &image, steps, bound)
+    output_over(alloc, &image, steps, bound, output)
 }

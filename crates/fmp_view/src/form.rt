@@ -36,9 +36,8 @@ const SEED: &str = "Order of processors at random by this number, with ticks and
 without it they run in turn, and the clock ticks where all are idle";
 
 /// What a bound is.
-const BOUND: &str =
-    "How many instructions a body may take in a step, 1 to 2^48; where its next service
-call is farther, its next step goes on from there";
+const BOUND: &str = "How many instructions a body may take in a step, 1 to 2^48; where its next
+service call is farther, its next step goes on from there";
 
 /// What the first event of a picture is.
 const FROM: &str = "First event that is drawn, 0 to 2^20; setup is 0";

@@ -2,7 +2,7 @@
 use crate::asking::{
     Cmd, Drawing, Run, command, dump_over_input, no_code, picture_of_nothing, picture_over_input,
 };
-use crate::commands::{Ending, code, stats, steps, waves};
+use crate::commands::{Ending, Output, code, run_output, steps};
 use crate::exit::Exit;
 use crate::faults::{Shown, shown_fault};
 use crate::timeline::{TimelineFault, timeline};
@@ -42,16 +42,15 @@ fn read_both<O: Outside>(
     Ok((first, read_file(alloc, outside, other, None)?))
 }
 
-/// The table of a run.
-fn run_stats<O: Outside>(alloc: Global, outside: &O, run: Run<'_>) -> Result<Vec<u8>, Exit> {
+/// What is made of a run.
+fn made_of_run<O: Outside>(
+    alloc: Global,
+    outside: &O,
+    run: Run<'_>,
+    output: Output,
+) -> Result<Vec<u8>, Exit> {
     let (image, steps) = read_both(alloc, outside, run.image, run.steps)?;
-    or_fault(stats(alloc, &image, &steps, run.bound))
-}
-
-/// The waveform of a run.
-fn run_waves<O: Outside>(alloc: Global, outside: &O, run: Run<'_>) -> Result<Vec<u8>, Exit> {
-    let (image, steps) = read_both(alloc, outside, run.image, run.steps)?;
-    or_fault(waves(alloc, &image, &steps, run.bound))
+    or_fault(run_output(alloc, &image, &steps, run.bound, output))
 }
 
 /// Says why a drive has stopped.
@@ -119,7 +118,7 @@ fn write_waves<O: Outside>(alloc: Global, outside: &mut O, run: Run<'_>, out: &s
     if is_read(outside, out, run) {
         return refuse_mistake(outside, dump_over_input(alloc));
     }
-    match run_waves(alloc, outside, run) {
+    match made_of_run(alloc, outside, run, Output::Dump) {
         Ok(dump) => write(alloc, outside, out, &dump),
         Err(exit) => end(outside, &exit),
     }
@@ -215,7 +214,7 @@ fn carry_out<O: Outside>(alloc: Global, outside: &mut O, cmd: Cmd<'_>) -> u8 {
             let made = driven_steps(alloc, outside, image, events, seed, bound);
             run_drive(alloc, outside, made)
         }
-        Cmd::Stats(run) => match run_stats(alloc, outside, run) {
+        Cmd::Stats(run) => match made_of_run(alloc, outside, run, Output::Table) {
             Ok(table) => print(alloc, outside, &table),
             Err(exit) => end(outside, &exit),
         },

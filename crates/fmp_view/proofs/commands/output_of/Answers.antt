@@ -1,5 +1,5 @@
 use Rattle.fmp_view.proofs.Fresh.{room}
-use Rattle.fmp_view.proofs.commands.dump_of.Goals as goal
+use Rattle.fmp_view.proofs.commands.output_of.Goals as goal
 
 pub fresh_kernel-requires-clause-low : goal.fresh_kernel-requires-clause-low
 fresh_kernel-requires-clause-low c = c.kept_bound.ensures.low
@@ -7,5 +7,5 @@ fresh_kernel-requires-clause-low c = c.kept_bound.ensures.low
 pub fresh_kernel-requires-clause-high : goal.fresh_kernel-requires-clause-high
 fresh_kernel-requires-clause-high c = c.kept_bound.ensures.high
 
-pub dump_on-requires : goal.dump_on-requires
-dump_on-requires c = room _ _ c.in_ok-kernel.ensures c.requires
+pub output_on-requires : goal.output_on-requires
+output_on-requires c = room _ _ c.in_ok-kernel.ensures c.requires
