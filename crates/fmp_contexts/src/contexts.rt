@@ -1,15 +1,15 @@
 //! What is kept of the bodies between their stretches.
-ghost use Rattle.std.specs.Prelude.{◌≡◌, ◌<◌, length, replicate, slice_set, true, IfOk, Some, None};
+ghost use Rattle.std.specs.Prelude.{◌≡◌, ◌<◌, ◌≤◌, length, replicate, slice_set, true, IfOk, Some, None};
 ghost use Rattle.std.specs.Option.{option_copied};
 ghost use Rattle.fmp_base.specs.declared.bodies.Held.TheVariants.{Goes};
 ghost use Rattle.fmp_base.specs.Meanings.{body_in, context_at, context_for, context_in, context_of, task_body, told as told_by, with_context, with_handler_context};
 ghost use Rattle.fmp_base.specs.Setups.{first_contexts};
-ghost use Rattle.fmp_base.specs.Systems.{body_of, task_config};
+ghost use Rattle.fmp_base.specs.Systems.{body_of, tables_of, task_config};
 ghost use Rattle.fmp_contexts.specs.Contexts.{AllContexts, Entered, Fitting, HandsOver, HasContext, OfHeld, OfOption, going_context, held_by, is_going, kept_after, stop_of, stretched_from};
 ghost use Rattle.fmp_worlds.specs.Settled.{IsThere};
 
 use crate::kept::{self, Kept};
-use fmp_base::{Body, Caller, Entry, Reply, Stop};
+use fmp_base::{Body, Caller, Entry, Reply, Stop, System};
 use fmp_tasks::Tables;
 use std::alloc::{AllocError, Global};
 use std::marker::Model;
@@ -80,23 +80,36 @@ pub fn fresh_context<B: Body>(body: &B, tables: &Tables, t: u8) -> B::Ctx
     body.start(body_number(config.entry), config.exinf)
 }
 
+/// The first context of task t of a system.
+fn first_context<B: Body>(body: &B, sys: &System, t: u8) -> B::Ctx
+    requires there { t < length (tables_of sys.now).tasks }
+    requires entries { Entered B.has_entry body.now (tables_of sys.now) }
+    ensures value { result
+        ≡ (B.meaning body.now).start (task_body (tables_of sys.now) t) (task_config (tables_of sys.now) t).exinf }
+    ensures context { B.is_context body.now (task_body (tables_of sys.now) t) result }
+{
+    let config = &sys.tasks[t as usize];
+    body.start(body_number(config.entry), config.exinf)
+}
+
 /// What is kept of each task at first: a fresh context. `AllocError` if memory runs out.
 #[tactic(auto, using(crate::proofs::ContextLemmas::first_none))]
 fn fresh_tasks<B: Body>(
     alloc: Global,
     body: &B,
-    tables: &Tables,
+    sys: &System,
 ) -> Result<Vec<Option<Kept<B::Ctx>>>, AllocError>
-    requires entries { Entered B.has_entry body.now tables.now.system }
+    requires entries { Entered B.has_entry body.now (tables_of sys.now) }
+    requires few { length (tables_of sys.now).tasks ≤ 255 }
     ensures items { IfOk result
-        (λ v. v.items ≡ (first_contexts tables.now.system (B.meaning body.now)).tasks) }
+        (λ v. v.items ≡ (first_contexts (tables_of sys.now) (B.meaning body.now)).tasks) }
     ensures fits { IfOk result
-        (λ v. AllContexts (λ t. OfHeld (B.is_context body.now (task_body tables.now.system t))) v.items) }
+        (λ v. AllContexts (λ t. OfHeld (B.is_context body.now (task_body (tables_of sys.now) t))) v.items) }
 {
-    let count = tables.task_count() as u8;
+    let count = sys.tasks.len() as u8;
     let mut places = Vec::with_capacity(alloc, count as usize)?;
     for t in 0..count {
-        let context = fresh_context(body, tables, t);
+        let context = first_context(body, sys, t);
         places.push_reserved(Some(Kept::going_from(context)));
     }
     Ok(places)
@@ -105,17 +118,14 @@ fn fresh_tasks<B: Body>(
 impl<C: Copy> BodyContexts<C> {
     /// What is kept at first: a fresh context of each task, and nothing of handlers, since none runs. `AllocError` if
     /// memory runs out.
-    pub fn new<B: Body<Ctx = C>>(
-        alloc: Global,
-        body: &B,
-        tables: &Tables,
-    ) -> Result<Self, AllocError>
-        requires entries { Entered B.has_entry body.now tables.now.system }
-        ensures contexts { IfOk result (λ cs. cs ≡ first_contexts tables.now.system (B.meaning body.now)) }
-        ensures fitting { IfOk result (λ cs. Fitting B.has_entry B.is_context body.now tables.now.system cs) }
+    pub fn new<B: Body<Ctx = C>>(alloc: Global, body: &B, sys: &System) -> Result<Self, AllocError>
+        requires entries { Entered B.has_entry body.now (tables_of sys.now) }
+        requires few { length (tables_of sys.now).tasks ≤ 255 }
+        ensures contexts { IfOk result (λ cs. cs ≡ first_contexts (tables_of sys.now) (B.meaning body.now)) }
+        ensures fitting { IfOk result (λ cs. Fitting B.has_entry B.is_context body.now (tables_of sys.now) cs) }
     {
-        let tasks = fresh_tasks(alloc, body, tables)?;
-        let handlers = empty_places(alloc, tables.processor_count())?;
+        let tasks = fresh_tasks(alloc, body, sys)?;
+        let handlers = empty_places(alloc, sys.processors as usize)?;
         Ok(BodyContexts { tasks, handlers })
     }
 

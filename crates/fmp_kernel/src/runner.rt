@@ -110,8 +110,8 @@ impl<B: Body + Drop> Runner<B> {
     {
         let caused = Vec::with_capacity(alloc, 510)?;
         let lines = Vec::with_capacity(alloc, 519)?;
+        let contexts = BodyContexts::new(alloc, &body, sys)?;
         let tables = Tables::new(alloc, sys)?;
-        let contexts = BodyContexts::new(alloc, &body, &tables)?;
         Ok(Runner {
             body,
             bound: n,
