@@ -4,7 +4,7 @@ ghost use Rattle.fmp_base.specs.Ranges.{IsInRange};
 ghost use Rattle.fmp_base.specs.Systems.{tables_of};
 ghost use Rattle.fmp_kernel_tests.specs.Scripts.{AreBodiesOf};
 
-use crate::Script;
+use crate::script::Script;
 use crate::tests::reading::{bind, read_scripts, set_queue_limit, steps_text};
 use fmp_base::{Body, Effect, Event, System};
 use fmp_cfgparse::read_cfg;
