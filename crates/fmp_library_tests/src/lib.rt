@@ -2,16 +2,14 @@
 //! stand the tests of rings, deadlines, the row of a journal, and files whose calls fail.
 #![tactic(auto)]
 
-mod pulse;
-
-pub use pulse::Pulse;
-
 #[cfg(test)]
 mod deadlines;
 #[cfg(test)]
 mod files;
 #[cfg(test)]
 mod journals;
+#[cfg(test)]
+mod pulse;
 #[cfg(test)]
 mod rings;
 #[cfg(test)]

@@ -1,5 +1,5 @@
 //! A system whose bodies are pulses.
-use crate::Pulse;
+use crate::pulse::Pulse;
 use crate::tests::running::whole_trace;
 use fmp_base::Event;
 use fmp_cfgparse::read_cfg;
