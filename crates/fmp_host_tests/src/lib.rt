@@ -1,9 +1,7 @@
 //! Gates, and the worked rows of boards that threads share.
 #![tactic(auto)]
 
+#[cfg(test)]
 mod gate;
-
-pub use gate::{LetsOne, SecondFirst};
-
 #[cfg(test)]
 mod tests;

@@ -2,6 +2,7 @@
 mod feeding;
 mod following;
 mod hosting;
+mod keeping;
 mod playing;
 mod showing;
 mod tickets;

@@ -11,6 +11,7 @@ use std::alloc::Global;
 use std::process::Abort;
 use std::sync::Wait;
 use std::test::Fail;
+use std::thread::Threads;
 
 const ONE_TASK: (&str, &str) = (
     "NUM_PRC(1); CLASS(TCL_1) { CRE_TSK(T1,{TA_ACT,0,main,10,256,NULL}); }",
@@ -49,49 +50,81 @@ fn answers_text(alloc: Global, calls: &Calls) -> Result<String, Fail> {
     Ok(text)
 }
 
+/// What is expected of a board that was fed events.
+#[derive(Clone, Copy)]
+struct Expected<'a> {
+    /// The answers.
+    answers: &'a str,
+    /// The journal.
+    journal: &'a str,
+    /// The states.
+    states: &'a str,
+}
+
 /// Compares the answers to events that were fed, the journal and the states with those that are expected.
 fn is_fed(
     rt: &(impl Abort + AllocGlobal),
     (told, seen): &(Told, Seen),
-    answers: &str,
-    journal: &str,
-    states: &str,
+    expected: Expected<'_>,
 ) -> Result<(), Fail> {
-    text_is(rt, answers_text(rt.alloc(), &told.calls)?.as_str(), answers);
-    seen.shows(rt, journal, states);
+    let answers = answers_text(rt.alloc(), &told.calls)?;
+    text_is(rt, answers.as_str(), expected.answers);
+    seen.shows(rt, expected.journal, expected.states);
     Ok(())
+}
+
+/// A board of two texts with room for k events is fed these, and then is as expected.
+fn feeds<R: Threads + Wait + Sync + Abort + AllocGlobal>(
+    rt: &R,
+    texts: (&str, &str),
+    k: u32,
+    events: &[Event],
+    expected: Expected<'_>,
+) -> Result<(), Fail> {
+    let both = played(rt, rt.alloc(), texts, k, Play::Feed(events))?;
+    is_fed(rt, &both, expected)
 }
 
 #[test]
 fn three_events_on_one_task(rt: HostRuntime) -> Result<(), Fail> {
-    let events = [Event::Run(1); 3];
-    let both = played(&rt, rt.alloc(), ONE_TASK, 3, Play::Feed(&events))?;
-    is_fed(&rt, &both, "1 2 0 ", "run 1\nrun 1\n", "T1 DORMANT p1 10\n")
+    let expected = Expected {
+        answers: "1 2 0 ",
+        journal: "run 1\nrun 1\n",
+        states: "T1 DORMANT p1 10\n",
+    };
+    feeds(&rt, ONE_TASK, 3, &[Event::Run(1); 3], expected)
+}
+
+#[test]
+fn a_full_board(rt: HostRuntime) -> Result<(), Fail> {
+    let expected = Expected {
+        answers: "1 H2 ",
+        journal: "run 1\n",
+        states: "T1 RUNNING p1 10\n",
+    };
+    feeds(&rt, ONE_TASK, 1, &[Event::Run(1); 2], expected)
 }
 
 #[test]
 fn a_stretch_that_keeps_its_place(rt: HostRuntime) -> Result<(), Fail> {
-    let events = [Event::Run(1); 4];
-    let both = played(&rt, rt.alloc(), LONG_TASK, 4, Play::Feed(&events))?;
-    is_fed(
+    let both = played(
         &rt,
-        &both,
-        "1 2 3 0 ",
-        "run 1\nrun 1\nrun 1\n",
-        "T1 DORMANT p1 10\n",
+        rt.alloc(),
+        LONG_TASK,
+        4,
+        Play::Feed(&[Event::Run(1); 4]),
     )?;
+    let expected = Expected {
+        answers: "1 2 3 0 ",
+        journal: "run 1\nrun 1\nrun 1\n",
+        states: "T1 DORMANT p1 10\n",
+    };
+    is_fed(&rt, &both, expected)?;
     // The first event has no number in the trace.
     let trace =
         "0 p1 T1 starts\n0 p1 > T1\n1 p1 T1 put(11111) E_OK\n2 p1 T1 end\nT1 DORMANT p1 10\n";
     text_is(&rt, both.1.simulated.as_str(), trace);
     Ok(())
-}
-
-#[test]
-fn a_full_board(rt: HostRuntime) -> Result<(), Fail> {
-    let events = [Event::Run(1); 2];
-    let both = played(&rt, rt.alloc(), ONE_TASK, 1, Play::Feed(&events))?;
-    is_fed(&rt, &both, "1 H2 ", "run 1\n", "T1 RUNNING p1 10\n")
 }
 
 /// How many seats a board with these limits has.

@@ -2,7 +2,7 @@
 ghost use Rattle.std.specs.Prelude.{◌≡◌, All};
 ghost use Rattle.fmp_board.specs.Boards.{IsAt};
 
-use crate::SecondFirst;
+use crate::gate::SecondFirst;
 use crate::tests::feeding::LONG_TASK;
 use crate::tests::hosting::TWO_TASKS;
 use crate::tests::playing::{Play, Told, fed, played};
@@ -229,32 +229,38 @@ fn prints_as_simulated(
     Ok(())
 }
 
+/// A follower of a board of two texts with room for k events, which was given this many of them, printed what a
+/// simulation of the journal prints.
+fn follows<R: Threads + Wait + Sync + Abort + AllocGlobal>(
+    rt: &R,
+    texts: (&str, &str),
+    k: u32,
+    play: Play<'_>,
+    done: u32,
+) -> Result<(), Fail> {
+    let told = played(rt, rt.alloc(), texts, k, play)?;
+    prints_as_simulated(rt, &told, done)
+}
+
 #[test]
 fn setup_alone(rt: HostRuntime) -> Result<(), Fail> {
     followed_text_is_front();
-    let told = played(&rt, rt.alloc(), TWO_TASKS, 1, Play::Follow(&[]))?;
-    prints_as_simulated(&rt, &told, 0)
+    follows(&rt, TWO_TASKS, 1, Play::Follow(&[]), 0)
 }
 
 #[test]
 fn a_board_that_was_fed(rt: HostRuntime) -> Result<(), Fail> {
     // A row whose words are all written, and one with empty words behind.
-    for k in [6, 8] {
-        let told = played(&rt, rt.alloc(), TWO_TASKS, k, Play::Follow(&EVENTS))?;
-        prints_as_simulated(&rt, &told, 6)?;
-    }
-    Ok(())
+    follows(&rt, TWO_TASKS, 6, Play::Follow(&EVENTS), 6)?;
+    follows(&rt, TWO_TASKS, 8, Play::Follow(&EVENTS), 6)
 }
 
 #[test]
 fn a_board_on_which_a_place_was_kept(rt: HostRuntime) -> Result<(), Fail> {
-    let events = [Event::Run(1); 3];
-    let told = played(&rt, rt.alloc(), LONG_TASK, 4, Play::Follow(&events))?;
-    prints_as_simulated(&rt, told, 2)
+    follows(&rt, LONG_TASK, 4, Play::Follow(&[Event::Run(1); 3]), 2)
 }
 
 #[test]
 fn a_board_that_threads_write(rt: HostRuntime) -> Result<(), Fail> {
-    let told = played(&rt, rt.alloc(), TWO_TASKS, 8, Play::Watch(6))?;
-    prints_as_simulated(&rt, &told, 6)
+    follows(&rt, TWO_TASKS, 8, Play::Watch(6), 6)
 }

@@ -2,8 +2,8 @@
 ghost use Rattle.std.specs.Prelude.{◌≡◌, All, IfOk};
 ghost use Rattle.fmp_board.specs.Boards.{IsAt, blank as blank_of};
 
+use crate::gate::{LetsOne, SecondFirst};
 use crate::tests::showing::{BOUND, Seen, board_of, image_of, one, text_is};
-use crate::{LetsOne, SecondFirst};
 use fmp_hostrun::{Blank, Board, BoardFault, Closed, Gate, Seat, Site, run_all};
 use fmp_image::Image;
 use std::alloc::Global;
@@ -103,7 +103,7 @@ fn run_both<G: Gate, R: Threads + Wait + Sync>(
         gate,
         schedule.turns,
     )?;
-    let seen = Seen::of(alloc, image, &closed);
+    let seen = Seen::of(alloc, image, BOUND, &closed);
     drop(closed);
     let seen = seen?;
     if count != 3 && journaled != Err(BoardFault::Thread) {

@@ -108,25 +108,27 @@ fn told_of<S: Site + Send + Sync, R: Threads + Wait + Sync>(
     Ok(told)
 }
 
-/// What was told, and what is seen of a closed board of an image.
+/// What was told, and what is seen of a closed board of an image, at a bound of n instructions.
 fn told_and_seen(
     alloc: Global,
     told: Result<Told, Fail>,
     image: &Image,
+    n: u64,
     closed: &Closed<'_>,
 ) -> Result<(Told, Seen), Fail>
     requires { closed.now.kernel.system ≡ image.now.system }
 {
     let told = told?;
-    Ok((told, Seen::of(alloc, image, closed)?))
+    Ok((told, Seen::of(alloc, image, n, closed)?))
 }
 
 /// Opens a board of an image, does this on it, and closes it by its last seat: what is told, and what is seen of it
-/// then.
+/// then at a bound of n instructions.
 fn opened<'a, S: Site + Send + Sync, R: Threads + Wait + Sync>(
     rt: &R,
     alloc: Global,
     image: &Image,
+    n: u64,
     blank: Blank<'a>,
     mut seats: Vec<Seat>,
     play: Play<'_>,
@@ -140,21 +142,39 @@ fn opened<'a, S: Site + Send + Sync, R: Threads + Wait + Sync>(
     let board: Board<'a, S> = blank.open();
     let told = told_of(rt, alloc, &board, &mut seats, play);
     let closed = board.close(&mut last);
-    let answer = told_and_seen(alloc, told, image, &closed);
+    let answer = told_and_seen(alloc, told, image, n, &closed);
     drop(closed);
     answer
 }
 
-/// What is told and seen of a board of an image with room for k events.
+/// What is told and seen of a board of an image with room for k events, on which a stretch takes n instructions at
+/// most.
 fn played_on<R: Threads + Wait + Sync>(
     rt: &R,
     alloc: Global,
     image: &Image,
+    n: u64,
     k: u32,
     play: Play<'_>,
 ) -> Result<(Told, Seen), Fail> {
-    let (blank, seats) = board_of(alloc, image, BOUND, k, SEATS)?;
-    opened::<Brand, R>(rt, alloc, image, blank, seats, play)
+    let (blank, seats) = board_of(alloc, image, n, k, SEATS)?;
+    opened::<Brand, R>(rt, alloc, image, n, blank, seats, play)
+}
+
+/// What is told and seen of a board of the image of two texts, with room for k events, on which a stretch takes n
+/// instructions at most.
+pub fn played_at<R: Threads + Wait + Sync>(
+    rt: &R,
+    alloc: Global,
+    texts: (&str, &str),
+    n: u64,
+    k: u32,
+    play: Play<'_>,
+) -> Result<(Told, Seen), Fail> {
+    let image = image_of(alloc, texts)?;
+    let answer = played_on(rt, alloc, &image, n, k, play);
+    drop(image);
+    answer
 }
 
 /// What is told and seen of a board of the image of two texts, with room for k events.
@@ -165,8 +185,5 @@ pub fn played<R: Threads + Wait + Sync>(
     k: u32,
     play: Play<'_>,
 ) -> Result<(Told, Seen), Fail> {
-    let image = image_of(alloc, texts)?;
-    let answer = played_on(rt, alloc, &image, k, play);
-    drop(image);
-    answer
+    played_at(rt, alloc, texts, BOUND, k, play)
 }

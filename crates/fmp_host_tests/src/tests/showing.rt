@@ -11,7 +11,7 @@ use std::alloc::Global;
 use std::process::Abort;
 use std::test::Fail;
 
-/// How many instructions a stretch of a body may take.
+/// How many instructions a stretch of a body may take, where a test names no other bound.
 pub const BOUND: u64 = 100_000;
 
 /// What is seen of a board that is closed.
@@ -112,28 +112,22 @@ fn states_of(alloc: Global, image: &Image, closed: &Closed<'_>) -> Result<String
     text_of(alloc, &text)
 }
 
-/// What a simulation of an image over a steps text prints.
-fn simulated(alloc: Global, image: &Image, steps: &str) -> Result<String, Fail> {
+/// What a simulation of an image over a steps text prints, at a bound of n instructions.
+fn simulated(alloc: Global, image: &Image, n: u64, steps: &str) -> Result<String, Fail> {
     let mut out = Vec::new(alloc);
-    sim(
-        alloc,
-        &store(alloc, image)?,
-        steps.as_bytes(),
-        BOUND,
-        &mut out,
-    )?;
+    sim(alloc, &store(alloc, image)?, steps.as_bytes(), n, &mut out)?;
     text_of(alloc, &out)
 }
 
 impl Seen {
     ghost use Rattle.std.specs.Prelude.{◌≡◌};
 
-    /// What is seen of a closed board of an image.
-    pub fn of(alloc: Global, image: &Image, closed: &Closed<'_>) -> Result<Seen, Fail>
+    /// What is seen of a closed board of an image, at a bound of n instructions.
+    pub fn of(alloc: Global, image: &Image, n: u64, closed: &Closed<'_>) -> Result<Seen, Fail>
         requires { closed.now.kernel.system ≡ image.now.system }
     {
         let journal = journal_of(alloc, closed)?;
-        let simulated = simulated(alloc, image, journal.as_str())?;
+        let simulated = simulated(alloc, image, n, journal.as_str())?;
         Ok(Seen {
             journal,
             states: states_of(alloc, image, closed)?,

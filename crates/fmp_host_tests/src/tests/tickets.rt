@@ -16,6 +16,7 @@ use std::marker::Brand;
 use std::process::Abort;
 use std::sync::Wait;
 use std::test::Fail;
+use std::thread::Threads;
 
 /// The outcome of the stretch that the actor of processor p makes next.
 fn outcome_of<S: Site, R: Wait>(
@@ -98,7 +99,7 @@ pub fn submit<S: Site, R: Wait>(
 }
 
 /// What is answered to the event at this place of the journal, from 1, whose call replies E_OK.
-fn done(number: u32) -> Result<Receipt, BoardFault> {
+pub fn done(number: u32) -> Result<Receipt, BoardFault> {
     Ok(Receipt {
         number,
         effect: Effect::Done,
@@ -110,7 +111,7 @@ fn done(number: u32) -> Result<Receipt, BoardFault> {
 }
 
 /// What is answered to the event at this place of the journal, from 1, which keeps the place of a stretch.
-fn kept(number: u32) -> Result<Receipt, BoardFault> {
+pub fn kept(number: u32) -> Result<Receipt, BoardFault> {
     Ok(Receipt {
         number,
         effect: Effect::Kept,
@@ -118,69 +119,95 @@ fn kept(number: u32) -> Result<Receipt, BoardFault> {
     })
 }
 
+/// What is expected of a board to which two outcomes of the same stretch were submitted.
+#[derive(Clone, Copy)]
+struct Expected<'a> {
+    /// What the calls were answered.
+    calls: &'a [Result<Receipt, BoardFault>],
+    /// The journal, which a seat followed.
+    journal: &'a str,
+    /// The states.
+    states: &'a str,
+}
+
 /// Compares what calls were answered, the events that a seat followed, which are all of the journal, and the states.
 fn is_submitted(
     rt: &(impl Abort + AllocGlobal),
     (told, seen): &(Told, Seen),
-    calls: &[Result<Receipt, BoardFault>],
-    events: &str,
-    states: &str,
+    expected: Expected<'_>,
 ) -> Result<(), Fail> {
-    assert_eq!(rt; told.calls.as_slice(), calls);
-    text_is(rt, steps_of(rt.alloc(), &told.followed)?.as_str(), events);
-    seen.shows(rt, events, states);
+    assert_eq!(rt; told.calls.as_slice(), expected.calls);
+    let followed = steps_of(rt.alloc(), &told.followed)?;
+    text_is(rt, followed.as_str(), expected.journal);
+    seen.shows(rt, expected.journal, expected.states);
     Ok(())
+}
+
+/// Both outcomes are submitted behind these events to a board of two texts with room for k events, which then is as
+/// expected.
+fn submits<R: Threads + Wait + Sync + Abort + AllocGlobal>(
+    rt: &R,
+    texts: (&str, &str),
+    k: u32,
+    events: &[Event],
+    expected: Expected<'_>,
+) -> Result<(), Fail> {
+    let both = played(rt, rt.alloc(), texts, k, Play::Submit(events))?;
+    is_submitted(rt, &both, expected)
 }
 
 #[test]
 fn an_outcome_after_a_place_was_kept(rt: HostRuntime) -> Result<(), Fail> {
-    let events = [Event::Run(1)];
-    let both = played(&rt, rt.alloc(), LONG_TASK, 8, Play::Submit(&events))?;
-    // The actor is the same, and nothing is printed of what it has done since the tickets were drawn.
-    let stale = Err(BoardFault::Stale);
-    is_submitted(
+    let both = played(
         &rt,
-        &both,
-        &[kept(1), stale, stale],
-        "run 1\n",
-        "T1 RUNNING p1 10\n",
+        rt.alloc(),
+        LONG_TASK,
+        8,
+        Play::Submit(&[Event::Run(1)]),
     )?;
-    text_is(
-        &rt,
-        both.1.simulated.as_str(),
-        "0 p1 T1 starts\n0 p1 > T1\nT1 RUNNING p1 10\n",
-    );
+    // The actor is the same, and nothing is printed of what it has done since the tickets were drawn.
+    let expected = Expected {
+        calls: &[kept(1), Err(BoardFault::Stale), Err(BoardFault::Stale)],
+        journal: "run 1\n",
+        states: "T1 RUNNING p1 10\n",
+    };
+    is_submitted(&rt, &both, expected)?;
+    let trace = "0 p1 T1 starts\n0 p1 > T1\nT1 RUNNING p1 10\n";
+    text_is(&rt, both.1.simulated.as_str(), trace);
     Ok(())
 }
 
 #[test]
 fn an_outcome_that_keeps_a_place(rt: HostRuntime) -> Result<(), Fail> {
-    let (told, seen) = played(&rt, rt.alloc(), LONG_TASK, 8, Play::Submit(&[]))?;
-    let expected = [kept(1), Err(BoardFault::Stale)];
-    assert_eq!(rt; told.calls.as_slice(), expected.as_slice());
-    seen.shows(&rt, "run 1\n", "T1 RUNNING p1 10\n");
-    Ok(())
+    let expected = Expected {
+        calls: &[kept(1), Err(BoardFault::Stale)],
+        journal: "run 1\n",
+        states: "T1 RUNNING p1 10\n",
+    };
+    submits(&rt, LONG_TASK, 8, &[], expected)
 }
 
 #[test]
 fn an_outcome_after_another_processors_run(rt: HostRuntime) -> Result<(), Fail> {
-    let events = [Event::Run(2)];
-    let both = played(&rt, rt.alloc(), TWO_TASKS, 8, Play::Submit(&events))?;
     // The processor has gone on since the second ticket was drawn.
-    let expected = [done(1), done(2), Err(BoardFault::Stale)];
-    let states = "A RUNNING p1 10\nB RUNNING p2 10\n";
-    is_submitted(&rt, &both, &expected, "run 2\nrun 1\n", states)
+    let expected = Expected {
+        calls: &[done(1), done(2), Err(BoardFault::Stale)],
+        journal: "run 2\nrun 1\n",
+        states: "A RUNNING p1 10\nB RUNNING p2 10\n",
+    };
+    submits(&rt, TWO_TASKS, 8, &[Event::Run(2)], expected)
 }
 
 #[test]
 fn an_outcome_of_a_task_that_was_suspended_and_resumed(rt: HostRuntime) -> Result<(), Fail> {
-    let events = [Event::Run(2); 2];
-    let both = played(&rt, rt.alloc(), SUSPENDED, 2, Play::Submit(&events))?;
     // The actor is the same, and the row is full.
     let stale = Err(BoardFault::Stale);
-    let expected = [done(1), done(2), stale, stale];
-    let states = "T RUNNING p1 10\nS RUNNING p2 10\n";
-    is_submitted(&rt, &both, &expected, "run 2\nrun 2\n", states)
+    let expected = Expected {
+        calls: &[done(1), done(2), stale, stale],
+        journal: "run 2\nrun 2\n",
+        states: "T RUNNING p1 10\nS RUNNING p2 10\n",
+    };
+    submits(&rt, SUSPENDED, 2, &[Event::Run(2); 2], expected)
 }
 
 /// What is answered to two runs of processor 2, and to an outcome of processor 1 that was made before them.
