@@ -14,6 +14,9 @@ use std::test::Fail;
 /// How many instructions a stretch of a body may take, where a test names no other bound.
 pub const BOUND: u64 = 100_000;
 
+/// The greatest bound, 2^48.
+const MOST: u64 = 1 << 48;
+
 /// What is seen of a board that is closed.
 #[derive(Drop)]
 pub struct Seen {
@@ -114,6 +117,9 @@ fn states_of(alloc: Global, image: &Image, closed: &Closed<'_>) -> Result<String
 
 /// What a simulation of an image over a steps text prints, at a bound of n instructions.
 fn simulated(alloc: Global, image: &Image, n: u64, steps: &str) -> Result<String, Fail> {
+    if n < 1 || n > MOST {
+        return Err(Fail::from("a bound"));
+    }
     let mut out = Vec::new(alloc);
     sim(alloc, &store(alloc, image)?, steps.as_bytes(), n, &mut out)?;
     text_of(alloc, &out)
