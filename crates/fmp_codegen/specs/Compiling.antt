@@ -40,10 +40,8 @@ abbrev pub variables_offence : SystemTables → List Local → List Declaration 
 variables_offence tables locals [] = None
 variables_offence tables locals (d ∷ ds) =
     if nat_lt 64 (total_places locals + places_of d.length) then Some (record { at = d.name.at; why = fault.Limit })
-    else (if is_among d.name.name (map (λ (l : Local). l.name) locals) || is_object tables d.name.name then Some (record {
-      at = d.name.at;
-      why = fault.TwiceNamed;
-    })
+    else (if is_among d.name.name (map (λ (l : Local). l.name) locals) || is_object tables d.name.name
+    then Some (record { at = d.name.at; why = fault.TwiceNamed })
     else first_offence (length_offence d.length) (variables_offence tables (locals ++ local_of d ∷ []) ds))
 
 -- more than 65535 instructions, or more than 64 operands

@@ -14,10 +14,10 @@ use Rattle.fmp_instructions.specs.Instructions.{BodyTables}
 use Rattle.fmp_instructions.specs.Machine.{code_meaning}
 use Rattle.fmp_codegen.specs.Tie.{longest}
 
--- The code, run over q events within n instructions a stretch, prints what the texts mean, at n * q turns of loops, over
--- the events that it did. One that it answers Nothing does nothing in the texts either at that point, at any number of
--- turns. One that it answers Kept keeps the place of its actor once more: a stretch that the texts end within t turns is
--- kept j times only with n * j < (t + 1) * L, L being the instructions of the longest body.
+-- The code, run over q events within n instructions a stretch, prints what the texts mean, at n * q turns of loops,
+-- over the events that it did. One that it answers Nothing does nothing in the texts either at that point, at any
+-- number of turns. One that it answers Kept keeps the place of its actor once more: a stretch that the texts end
+-- within t turns is kept j times only with n * j < (t + 1) * L, L being the instructions of the longest body.
 pub record PrintsText (sys : SystemTables) (bodies : List BodyTree) (code : List BodyTables) (n : ℕ) (es : List Event) :
     Type 0 where
   pub finished : List Event
