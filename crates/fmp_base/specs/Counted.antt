@@ -1,5 +1,5 @@
 -- Stretches that keep their place, counted.
-use Rattle.std.specs.Prelude.{ℕ, ℤ, suc, ◌+◌, ◌*◌, ◌<◌, ◌≤◌, ◌≡◌, refl, Bool, true, false, Option, Some, None}
+use Rattle.std.specs.Prelude.{ℕ, suc, ◌+◌, ◌*◌, ◌<◌, ◌≤◌, ◌≡◌, refl, true, false, Some, None}
 use Rattle.std.proofs.Common.{subst, sym, ap, ◌∙◌, arith}
 use Rattle.std.proofs.lemmas.Nat.{mul-le}
 use Rattle.fmp_base.specs.Meanings.{Meaning}

@@ -1,9 +1,11 @@
 //! What the bodies of tasks and handlers do, and what is kept of them.
+ghost use Rattle.std.specs.Prelude.{◌≡◌, ⊤};
 
 use crate::calls::Call;
+use std::alloc::AllocError;
 
 /// Why a body stops in the middle of a statement.
-#[derive(Clone, Copy, Debug)]
+#[derive(Clone, Copy)]
 pub enum Fault {
     /// A result outside 32 bits.
     Overflow,
@@ -15,7 +17,6 @@ pub enum Fault {
 
 /// A stretch of a body: what it does up to its next service call, its end or its fault, with the context
 /// that it leaves.
-#[derive(Clone, Copy, Debug)]
 pub enum Stretch<C> {
     /// It makes this service call.
     Call(C, Call),
@@ -27,8 +28,19 @@ pub enum Stretch<C> {
     Over(C),
 }
 
+impl<C: Copy> Clone for Stretch<C> {
+    ghost is_clone = { λ x y. y ≡ x };
+
+    ghost is_infallible = { λ _. ⊤ };
+
+    fn clone(&self) -> Result<Self, AllocError> {
+        Ok(*self)
+    }
+}
+
+impl<C: Copy> Copy for Stretch<C> {}
+
 /// What is kept of a body between its stretches.
-#[derive(Clone, Copy, Debug)]
 pub enum Held<C> {
     /// A context from which the body goes on.
     Goes(C),
@@ -36,8 +48,19 @@ pub enum Held<C> {
     Awaits(C),
 }
 
+impl<C: Copy> Clone for Held<C> {
+    ghost is_clone = { λ x y. y ≡ x };
+
+    ghost is_infallible = { λ _. ⊤ };
+
+    fn clone(&self) -> Result<Self, AllocError> {
+        Ok(*self)
+    }
+}
+
+impl<C: Copy> Copy for Held<C> {}
+
 /// What is kept of a handler that runs.
-#[derive(Clone, Copy, Debug)]
 pub struct HandlerContext<C> {
     /// The number of its body.
     pub body: u8,
@@ -45,8 +68,20 @@ pub struct HandlerContext<C> {
     pub context: C,
 }
 
+impl<C: Copy> Clone for HandlerContext<C> {
+    ghost is_clone = { λ x y. y ≡ x };
+
+    ghost is_infallible = { λ _. ⊤ };
+
+    fn clone(&self) -> Result<Self, AllocError> {
+        Ok(*self)
+    }
+}
+
+impl<C: Copy> Copy for HandlerContext<C> {}
+
 /// How a handler begins.
-#[derive(Clone, Copy, Debug)]
+#[derive(Clone, Copy)]
 pub struct HandlerStart {
     /// The number of its body.
     pub body: u8,

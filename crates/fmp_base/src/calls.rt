@@ -4,8 +4,6 @@ ghost use Rattle.fmp_base.specs.Services.{service_of};
 
 use crate::codes::Er;
 use crate::services::Service;
-use std::fmt;
-use std::fmt::{Debug, Formatter, Write};
 
 /// A service call with its arguments, as the caller passes them: any number may stand anywhere.
 ///
@@ -274,7 +272,7 @@ pub struct Reply {
 }
 
 /// The immediate effect of a service call.
-#[derive(Clone, Copy, Debug)]
+#[derive(Clone, Copy)]
 pub enum Answer {
     /// The caller is told this and goes on.
     Replies(Reply),
@@ -352,13 +350,5 @@ impl Call {
             Call::IrotRdq { .. } => Service::IrotRdq,
             Call::MrotRdq { .. } => Service::MrotRdq,
         }
-    }
-}
-
-impl Debug for Call {
-    /// The call's name and its arguments, as `snd_dtq[1, 7]`.
-    fn fmt<W: Write>(&self, f: &mut Formatter<W>) -> Result<(), fmt::Error> {
-        f.write_str(self.service().name())?;
-        self.arguments().as_slice().fmt(f)
     }
 }

@@ -2,8 +2,11 @@
 ghost use Rattle.std.specs.Prelude.{◌≡◌};
 ghost use Rattle.fmp_base.specs.Codes.{code_of, code_name};
 
+use std::fmt;
+use std::fmt::{Debug, Formatter, Write};
+
 /// The main error codes of the uITRON 4.0 specification, section 2.4.5, as far as this kernel uses them.
-#[derive(Clone, Copy, Debug, PartialEq, Eq)]
+#[derive(Clone, Copy, PartialEq, Eq)]
 pub enum Er {
     /// Normal completion.
     Ok,
@@ -31,44 +34,34 @@ pub enum Er {
     Tmout,
 }
 
+/// The numbers of the codes, in order.
+static CODES: [i32; 12] = [0, -5, -9, -11, -17, -18, -25, -28, -41, -43, -49, -50];
+
+/// The names of the codes, in order.
+static NAMES: [&str; 12] = [
+    "E_OK", "E_SYS", "E_NOSPT", "E_RSATR", "E_PAR", "E_ID", "E_CTX", "E_ILUSE", "E_OBJ", "E_QOVR",
+    "E_RLWAI", "E_TMOUT",
+];
+
 impl Er {
     /// The number of the code, 0 or less.
     pub fn code(self) -> i32
         ensures { result ≡ code_of self }
     {
-        match self {
-            Er::Ok => 0,
-            Er::Sys => -5,
-            Er::Nospt => -9,
-            Er::Rsatr => -11,
-            Er::Par => -17,
-            Er::Id => -18,
-            Er::Ctx => -25,
-            Er::Iluse => -28,
-            Er::Obj => -41,
-            Er::Qovr => -43,
-            Er::Rlwai => -49,
-            Er::Tmout => -50,
-        }
+        CODES[self as usize]
     }
 
     /// The name of the code, as the texts and the trace write it.
     pub fn name(self) -> &'static str
         ensures { result.now ≡ code_name self }
     {
-        match self {
-            Er::Ok => "E_OK",
-            Er::Sys => "E_SYS",
-            Er::Nospt => "E_NOSPT",
-            Er::Rsatr => "E_RSATR",
-            Er::Par => "E_PAR",
-            Er::Id => "E_ID",
-            Er::Ctx => "E_CTX",
-            Er::Iluse => "E_ILUSE",
-            Er::Obj => "E_OBJ",
-            Er::Qovr => "E_QOVR",
-            Er::Rlwai => "E_RLWAI",
-            Er::Tmout => "E_TMOUT",
-        }
+        NAMES[self as usize]
+    }
+}
+
+impl Debug for Er {
+    /// The name of the code.
+    fn fmt<W: Write>(&self, f: &mut Formatter<W>) -> Result<(), fmt::Error> {
+        f.write_str(self.name())
     }
 }

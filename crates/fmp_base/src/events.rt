@@ -27,7 +27,7 @@ pub enum Effect {
 }
 
 /// A line of the trace without its event's number. Tasks, handlers and processors go by their places.
-#[derive(Clone, Copy, Debug)]
+#[derive(Clone, Copy)]
 pub enum Line {
     /// The clock is now this.
     Tick(u32),
@@ -80,7 +80,7 @@ pub enum Line {
 }
 
 /// The word that the last lines have for a task's state (uITRON 4.0, section 3.2.1).
-#[derive(Clone, Copy, Debug, PartialEq, Eq)]
+#[derive(Clone, Copy, PartialEq, Eq)]
 pub enum StateWord {
     /// A processor runs it.
     Running,
@@ -97,7 +97,7 @@ pub enum StateWord {
 }
 
 /// What is shown of a task at the end.
-#[derive(Clone, Copy, Debug)]
+#[derive(Clone, Copy)]
 pub struct TaskState {
     /// How far it is from running.
     pub word: StateWord,

@@ -3,7 +3,7 @@ ghost use Rattle.std.specs.Prelude.{◌≡◌, ◌↔◌, ◌<◌, ◌≤◌, �
 ghost use Rattle.fmp_base.specs.Names.{name_text, name_from};
 
 /// A name of an object or of a body: 1 to 31 bytes, the unused ones 0.
-#[derive(Clone, Copy, Debug, PartialEq, Eq)]
+#[derive(Clone, Copy, PartialEq, Eq)]
 pub struct Name {
     /// How many bytes are used, 1 to 31.
     pub length: u8,

@@ -1,6 +1,6 @@
 //! The operators of the task language.
 /// A unary operator of the task language.
-#[derive(Clone, Copy, Debug)]
+#[derive(Clone, Copy)]
 pub enum UnaryOperator {
     /// `-`
     Negate,
@@ -11,7 +11,7 @@ pub enum UnaryOperator {
 }
 
 /// A binary operator of the task language, but `&&` and `||`.
-#[derive(Clone, Copy, Debug)]
+#[derive(Clone, Copy)]
 pub enum BinaryOperator {
     /// `+`
     Add,

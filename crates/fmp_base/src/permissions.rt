@@ -2,7 +2,7 @@
 
 /// From where a service may be called; from elsewhere the call is E_CTX (uITRON 4.0, section 3.5; FMP kernel, spin
 /// locks).
-#[derive(Clone, Copy, Debug)]
+#[derive(Clone, Copy)]
 pub enum Permission {
     /// From tasks and handlers, also while the CPU is locked.
     Anywhere,

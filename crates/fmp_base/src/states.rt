@@ -1,6 +1,6 @@
 //! The records of the kernel's state: tasks, processors, waits and locks.
 /// How far a task is from running (uITRON 4.0, section 3.2.1), its suspension aside.
-#[derive(Clone, Copy, Debug)]
+#[derive(Clone, Copy)]
 pub enum Phase {
     /// Not started.
     Dormant,
@@ -11,7 +11,7 @@ pub enum Phase {
 }
 
 /// What a task waits for.
-#[derive(Clone, Copy, Debug, PartialEq, Eq)]
+#[derive(Clone, Copy, PartialEq, Eq)]
 pub enum WaitCause {
     /// A wakeup.
     Sleep,
@@ -37,7 +37,7 @@ pub enum WaitCause {
 }
 
 /// When an eventflag's pattern satisfies a waiting task (uITRON 4.0, section 4.4.2).
-#[derive(Clone, Copy, Debug, PartialEq, Eq)]
+#[derive(Clone, Copy, PartialEq, Eq)]
 pub enum FlagMode {
     /// All bits of the wait pattern are set.
     And,
@@ -46,7 +46,7 @@ pub enum FlagMode {
 }
 
 /// How long a caller may wait.
-#[derive(Clone, Copy, Debug)]
+#[derive(Clone, Copy)]
 pub enum TimeLimit {
     /// TMO_FEVR: without end.
     Forever,
@@ -57,7 +57,7 @@ pub enum TimeLimit {
 }
 
 /// A queue of waiting tasks, by the place of its object.
-#[derive(Clone, Copy, Debug)]
+#[derive(Clone, Copy)]
 pub enum WaitQueue {
     /// For a resource of this semaphore.
     Semaphore(u8),
@@ -72,7 +72,7 @@ pub enum WaitQueue {
 }
 
 /// The task control block, without what never changes and without the context of the body.
-#[derive(Clone, Copy, Debug)]
+#[derive(Clone, Copy)]
 pub struct TaskBlock {
     /// How far it is from running, its suspension aside.
     pub phase: Phase,
@@ -93,7 +93,7 @@ pub struct TaskBlock {
 }
 
 /// What keeps a processor from being interrupted.
-#[derive(Clone, Copy, Debug, PartialEq, Eq)]
+#[derive(Clone, Copy, PartialEq, Eq)]
 pub enum Lock {
     /// Nothing.
     Free,
@@ -104,7 +104,7 @@ pub enum Lock {
 }
 
 /// A handler, by the place of its interrupt (its number less 1) or of its cyclic handler.
-#[derive(Clone, Copy, Debug, PartialEq, Eq)]
+#[derive(Clone, Copy, PartialEq, Eq)]
 pub enum Handler {
     /// The handler of an interrupt.
     Interrupt(u8),
@@ -113,7 +113,7 @@ pub enum Handler {
 }
 
 /// The actor that makes a call, ends or faults: a task, by its place, or a handler.
-#[derive(Clone, Copy, Debug, PartialEq, Eq)]
+#[derive(Clone, Copy, PartialEq, Eq)]
 pub enum Caller {
     /// A task.
     Task(u8),
@@ -122,7 +122,7 @@ pub enum Caller {
 }
 
 /// A processor.
-#[derive(Clone, Copy, Debug)]
+#[derive(Clone, Copy)]
 pub struct Processor {
     /// The place of the task that it runs, if any.
     pub run: Option<u8>,

@@ -6,7 +6,7 @@ use crate::names::Name;
 use std::alloc::Global;
 
 /// The order of a queue of tasks or messages.
-#[derive(Clone, Copy, Debug)]
+#[derive(Clone, Copy)]
 pub enum QueueOrder {
     /// TA_TFIFO, TA_MFIFO.
     Fifo,
@@ -15,7 +15,7 @@ pub enum QueueOrder {
 }
 
 /// The body of a task or of a handler.
-#[derive(Clone, Copy, Debug)]
+#[derive(Clone, Copy)]
 pub enum Entry {
     /// The name that the configuration gives.
     Named(Name),
@@ -24,7 +24,7 @@ pub enum Entry {
 }
 
 /// A task, as CRE_TSK and its class define it (uITRON 4.0, section 4.1; FMP kernel, classes).
-#[derive(Clone, Copy, Debug)]
+#[derive(Clone, Copy)]
 pub struct TaskConfig {
     /// Its name.
     pub name: Name,
@@ -45,7 +45,7 @@ pub struct TaskConfig {
 }
 
 /// A semaphore, as CRE_SEM defines it (uITRON 4.0, section 4.4.1).
-#[derive(Clone, Copy, Debug)]
+#[derive(Clone, Copy)]
 pub struct SemaphoreConfig {
     /// Its name.
     pub name: Name,
@@ -58,7 +58,7 @@ pub struct SemaphoreConfig {
 }
 
 /// An eventflag, as CRE_FLG defines it (uITRON 4.0, section 4.4.2).
-#[derive(Clone, Copy, Debug)]
+#[derive(Clone, Copy)]
 pub struct FlagConfig {
     /// Its name.
     pub name: Name,
@@ -73,7 +73,7 @@ pub struct FlagConfig {
 }
 
 /// A data queue, as CRE_DTQ defines it (uITRON 4.0, section 4.4.3).
-#[derive(Clone, Copy, Debug)]
+#[derive(Clone, Copy)]
 pub struct DataQueueConfig {
     /// Its name.
     pub name: Name,
@@ -84,7 +84,7 @@ pub struct DataQueueConfig {
 }
 
 /// A mailbox, as CRE_MBX defines it (uITRON 4.0, section 4.4.4).
-#[derive(Clone, Copy, Debug)]
+#[derive(Clone, Copy)]
 pub struct MailboxConfig {
     /// Its name.
     pub name: Name,
@@ -97,7 +97,7 @@ pub struct MailboxConfig {
 }
 
 /// A message, as CRE_MSG defines it, this kernel's own.
-#[derive(Clone, Copy, Debug)]
+#[derive(Clone, Copy)]
 pub struct MessageConfig {
     /// Its name.
     pub name: Name,
@@ -106,7 +106,7 @@ pub struct MessageConfig {
 }
 
 /// A shared word, as CRE_SHR defines it, this kernel's own.
-#[derive(Clone, Copy, Debug)]
+#[derive(Clone, Copy)]
 pub struct SharedWordConfig {
     /// Its name.
     pub name: Name,
@@ -115,14 +115,14 @@ pub struct SharedWordConfig {
 }
 
 /// A spin lock, as CRE_SPN defines it (FMP kernel, spin locks).
-#[derive(Clone, Copy, Debug)]
+#[derive(Clone, Copy)]
 pub struct SpinLockConfig {
     /// Its name.
     pub name: Name,
 }
 
 /// A cyclic handler, as CRE_CYC and its class define it (uITRON 4.0, section 4.7.2).
-#[derive(Clone, Copy, Debug)]
+#[derive(Clone, Copy)]
 pub struct CyclicConfig {
     /// Its name.
     pub name: Name,
@@ -141,7 +141,7 @@ pub struct CyclicConfig {
 }
 
 /// An interrupt handler, as DEF_INH and its class define it (uITRON 4.0, section 4.9).
-#[derive(Clone, Copy, Debug)]
+#[derive(Clone, Copy)]
 pub struct InterruptConfig {
     /// The interrupt number, 1 to 32.
     pub number: u8,
@@ -155,7 +155,7 @@ pub struct InterruptConfig {
 pub const QUEUE_LIMIT: u8 = 255;
 
 /// All tables of an accepted configuration. Each table is in order of number, the interrupts in order of text.
-#[derive(Debug, Drop)]
+#[derive(Drop)]
 pub struct System {
     /// How many processors there are, 1 to 8.
     pub processors: u8,

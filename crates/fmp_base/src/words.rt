@@ -129,6 +129,18 @@ pub const KEYWORDS: [Keyword; 12] = [
     Keyword::Return,
 ];
 
+/// The names of the APIs, in order.
+static API_NAMES: [&str; 10] = [
+    "CRE_TSK", "CRE_SEM", "CRE_FLG", "CRE_DTQ", "CRE_MBX", "CRE_MSG", "CRE_SHR", "CRE_SPN",
+    "CRE_CYC", "DEF_INH",
+];
+
+/// The texts of the keywords, in order.
+static KEYWORD_NAMES: [&str; 12] = [
+    "NUM_PRC", "CLASS", "NULL", "task", "handler", "var", "if", "else", "while", "break",
+    "continue", "return",
+];
+
 impl Constant {
     /// The number that the constant stands for.
     pub fn value(self) -> i32
@@ -136,24 +148,20 @@ impl Constant {
     {
         match self {
             Constant::Code(code) => code.code(),
-            Constant::TaNull => 0,
-            Constant::TaHlng => 0,
-            Constant::TaTfifo => 0,
-            Constant::TaTpri => 1,
-            Constant::TaMfifo => 0,
-            Constant::TaMpri => 2,
-            Constant::TaAct => 2,
-            Constant::TaWsgl => 0,
-            Constant::TaWmul => 2,
+            Constant::TaNull
+            | Constant::TaHlng
+            | Constant::TaTfifo
+            | Constant::TaMfifo
+            | Constant::TaWsgl
+            | Constant::TwfAndw
+            | Constant::TmoPol
+            | Constant::TskSelf
+            | Constant::TpriIni
+            | Constant::TpriSelf => 0,
+            Constant::TaTpri | Constant::TwfOrw => 1,
+            Constant::TaMpri | Constant::TaAct | Constant::TaWmul | Constant::TaSta => 2,
             Constant::TaClr => 4,
-            Constant::TaSta => 2,
-            Constant::TwfAndw => 0,
-            Constant::TwfOrw => 1,
-            Constant::TmoPol => 0,
             Constant::TmoFevr => -1,
-            Constant::TskSelf => 0,
-            Constant::TpriIni => 0,
-            Constant::TpriSelf => 0,
         }
     }
 
@@ -190,18 +198,7 @@ impl Api {
     pub fn name(self) -> &'static str
         ensures { result.now ≡ api_name self }
     {
-        match self {
-            Api::CreTsk => "CRE_TSK",
-            Api::CreSem => "CRE_SEM",
-            Api::CreFlg => "CRE_FLG",
-            Api::CreDtq => "CRE_DTQ",
-            Api::CreMbx => "CRE_MBX",
-            Api::CreMsg => "CRE_MSG",
-            Api::CreShr => "CRE_SHR",
-            Api::CreSpn => "CRE_SPN",
-            Api::CreCyc => "CRE_CYC",
-            Api::DefInh => "DEF_INH",
-        }
+        API_NAMES[self as usize]
     }
 }
 
@@ -210,20 +207,7 @@ impl Keyword {
     pub fn name(self) -> &'static str
         ensures { result.now ≡ keyword_name self }
     {
-        match self {
-            Keyword::NumPrc => "NUM_PRC",
-            Keyword::Class => "CLASS",
-            Keyword::Null => "NULL",
-            Keyword::Task => "task",
-            Keyword::Handler => "handler",
-            Keyword::Var => "var",
-            Keyword::If => "if",
-            Keyword::Else => "else",
-            Keyword::While => "while",
-            Keyword::Break => "break",
-            Keyword::Continue => "continue",
-            Keyword::Return => "return",
-        }
+        KEYWORD_NAMES[self as usize]
     }
 }
 
