@@ -4,6 +4,12 @@ ghost use Rattle.std.specs.Prelude.{◌≡◌};
 ghost use Rattle.fmp_base.specs.Permissions.{permission as permission_of};
 ghost use Rattle.fmp_base.specs.Services.{action as action_of, arity as arity_of, counterpart as counterpart_of, gives_count as does_give_count, object_kind, out_place as out_place_of, parameters as parameters_of};
 
+use self::ObjectKind::{
+    Cyclic, DataQueue, Flag, Mailbox, Message, Semaphore, SharedWord, SpinLock, Task,
+};
+use self::Parameter::{
+    Delay, Limit, Mode, Number, Object, Out, Pattern, Priority, Processor, TaskOrCaller,
+};
 use crate::permissions::Permission;
 use crate::services::Service;
 
@@ -76,98 +82,75 @@ impl Parameter {
     }
 }
 
+/// The parameters of the calls, in order of their function codes.
+static PARAMETERS: [&[Parameter]; 59] = [
+    &[Number], // put
+    &[Object(SharedWord), Out], // ld_shr
+    &[Object(SharedWord), Number], // st_shr
+    &[TaskOrCaller], // act_tsk
+    &[TaskOrCaller], // can_act
+    &[], // ext_tsk
+    &[Object(Task)], // ter_tsk
+    &[TaskOrCaller, Priority], // chg_pri
+    &[TaskOrCaller, Out], // get_pri
+    &[TaskOrCaller, Processor], // mact_tsk
+    &[TaskOrCaller, Processor], // mig_tsk
+    &[], // slp_tsk
+    &[Limit], // tslp_tsk
+    &[TaskOrCaller], // wup_tsk
+    &[TaskOrCaller], // can_wup
+    &[Object(Task)], // rel_wai
+    &[TaskOrCaller], // sus_tsk
+    &[Object(Task)], // rsm_tsk
+    &[Delay], // dly_tsk
+    &[Object(Semaphore)], // sig_sem
+    &[Object(Semaphore)], // wai_sem
+    &[Object(Semaphore)], // pol_sem
+    &[Object(Semaphore), Limit], // twai_sem
+    &[Object(Flag), Pattern], // set_flg
+    &[Object(Flag), Pattern], // clr_flg
+    &[Object(Flag), Pattern, Mode, Out], // wai_flg
+    &[Object(Flag), Pattern, Mode, Out], // pol_flg
+    &[Object(Flag), Pattern, Mode, Out, Limit], // twai_flg
+    &[Object(DataQueue), Number], // snd_dtq
+    &[Object(DataQueue), Number], // psnd_dtq
+    &[Object(DataQueue), Number, Limit], // tsnd_dtq
+    &[Object(DataQueue), Number], // fsnd_dtq
+    &[Object(DataQueue), Out], // rcv_dtq
+    &[Object(DataQueue), Out], // prcv_dtq
+    &[Object(DataQueue), Out, Limit], // trcv_dtq
+    &[Object(Mailbox), Object(Message)], // snd_mbx
+    &[Object(Mailbox), Out], // rcv_mbx
+    &[Object(Mailbox), Out], // prcv_mbx
+    &[Object(Mailbox), Out, Limit], // trcv_mbx
+    &[Object(Cyclic)], // sta_cyc
+    &[Object(Cyclic)], // stp_cyc
+    &[Priority], // rot_rdq
+    &[Out], // get_tid
+    &[], // loc_cpu
+    &[], // unl_cpu
+    &[], // dis_dsp
+    &[], // ena_dsp
+    &[Object(SpinLock)], // loc_spn
+    &[Object(SpinLock)], // try_spn
+    &[Object(SpinLock)], // unl_spn
+    &[Object(Task)], // iact_tsk
+    &[Object(Task)], // iwup_tsk
+    &[Object(Task)], // irel_wai
+    &[Object(Semaphore)], // isig_sem
+    &[Object(Flag), Pattern], // iset_flg
+    &[Object(DataQueue), Number], // ipsnd_dtq
+    &[Object(DataQueue), Number], // ifsnd_dtq
+    &[Priority], // irot_rdq
+    &[Priority, Processor], // mrot_rdq
+];
+
 impl Service {
     /// What a text writes between the parentheses of the call, in order.
     pub fn parameters(self) -> &'static [Parameter]
         ensures { result.now ≡ parameters_of self }
     {
-        match self {
-            Service::Put => &[Parameter::Number],
-            Service::LdShr => &[Parameter::Object(ObjectKind::SharedWord), Parameter::Out],
-            Service::StShr => &[Parameter::Object(ObjectKind::SharedWord), Parameter::Number],
-            Service::ActTsk
-            | Service::CanAct
-            | Service::WupTsk
-            | Service::CanWup
-            | Service::SusTsk => &[Parameter::TaskOrCaller],
-            Service::ExtTsk
-            | Service::SlpTsk
-            | Service::LocCpu
-            | Service::UnlCpu
-            | Service::DisDsp
-            | Service::EnaDsp => &[],
-            Service::TerTsk
-            | Service::RelWai
-            | Service::RsmTsk
-            | Service::IactTsk
-            | Service::IwupTsk
-            | Service::IrelWai => &[Parameter::Object(ObjectKind::Task)],
-            Service::ChgPri => &[Parameter::TaskOrCaller, Parameter::Priority],
-            Service::GetPri => &[Parameter::TaskOrCaller, Parameter::Out],
-            Service::MactTsk | Service::MigTsk => &[Parameter::TaskOrCaller, Parameter::Processor],
-            Service::TslpTsk => &[Parameter::Limit],
-            Service::DlyTsk => &[Parameter::Delay],
-            Service::SigSem | Service::WaiSem | Service::PolSem | Service::IsigSem => &[
-                Parameter::Object(ObjectKind::Semaphore),
-            ],
-            Service::TwaiSem => &[Parameter::Object(ObjectKind::Semaphore), Parameter::Limit],
-            Service::SetFlg | Service::ClrFlg | Service::IsetFlg => &[
-                Parameter::Object(ObjectKind::Flag),
-                Parameter::Pattern,
-            ],
-            Service::WaiFlg | Service::PolFlg => &[
-                Parameter::Object(ObjectKind::Flag),
-                Parameter::Pattern,
-                Parameter::Mode,
-                Parameter::Out,
-            ],
-            Service::TwaiFlg => &[
-                Parameter::Object(ObjectKind::Flag),
-                Parameter::Pattern,
-                Parameter::Mode,
-                Parameter::Out,
-                Parameter::Limit,
-            ],
-            Service::SndDtq
-            | Service::PsndDtq
-            | Service::FsndDtq
-            | Service::IpsndDtq
-            | Service::IfsndDtq => &[Parameter::Object(ObjectKind::DataQueue), Parameter::Number],
-            Service::TsndDtq => &[
-                Parameter::Object(ObjectKind::DataQueue),
-                Parameter::Number,
-                Parameter::Limit,
-            ],
-            Service::RcvDtq | Service::PrcvDtq => &[
-                Parameter::Object(ObjectKind::DataQueue),
-                Parameter::Out,
-            ],
-            Service::TrcvDtq => &[
-                Parameter::Object(ObjectKind::DataQueue),
-                Parameter::Out,
-                Parameter::Limit,
-            ],
-            Service::SndMbx => &[
-                Parameter::Object(ObjectKind::Mailbox),
-                Parameter::Object(ObjectKind::Message),
-            ],
-            Service::RcvMbx | Service::PrcvMbx => &[
-                Parameter::Object(ObjectKind::Mailbox),
-                Parameter::Out,
-            ],
-            Service::TrcvMbx => &[
-                Parameter::Object(ObjectKind::Mailbox),
-                Parameter::Out,
-                Parameter::Limit,
-            ],
-            Service::StaCyc | Service::StpCyc => &[Parameter::Object(ObjectKind::Cyclic)],
-            Service::RotRdq | Service::IrotRdq => &[Parameter::Priority],
-            Service::MrotRdq => &[Parameter::Priority, Parameter::Processor],
-            Service::GetTid => &[Parameter::Out],
-            Service::LocSpn | Service::TrySpn | Service::UnlSpn => &[Parameter::Object(
-                ObjectKind::SpinLock,
-            )],
-        }
+        PARAMETERS[self as usize]
     }
 
     /// How many arguments the call passes to the kernel, 0 to 4: its parameters but the out place.

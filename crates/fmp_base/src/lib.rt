@@ -11,6 +11,7 @@ pub mod catalogue;
 pub mod codes;
 pub mod counted;
 pub mod events;
+mod finding;
 mod initials;
 pub mod laws;
 pub mod names;

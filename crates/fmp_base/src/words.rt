@@ -1,11 +1,9 @@
 //! The words of both texts: constants, static APIs, service calls and keywords.
-ghost use Rattle.std.specs.Prelude.{◌≡◌, find};
-ghost use Rattle.std.specs.Str.{bytes_eq};
-ghost use Rattle.fmp_base.specs.Services.{service_name};
+ghost use Rattle.std.specs.Prelude.{◌≡◌};
 ghost use Rattle.fmp_base.specs.Words.{constant_name, constant_value, api_name, keyword_name, constant_named, api_named, service_named, keyword_named};
 
 use crate::codes::Er;
-use crate::initials::{apis_from, constants_from, keywords_from, services_from};
+use crate::finding::find_word;
 use crate::services::Service;
 
 /// A constant of the uITRON 4.0 specification that may stand in both texts.
@@ -211,69 +209,34 @@ impl Keyword {
     }
 }
 
-/// The constant of this name, among these.
-fn constant_among(constants: &[Constant], word: &[u8]) -> Option<Constant>
-    ensures { result ≡ find (λ constant. bytes_eq (constant_name constant) word.now) constants.now }
-{
-    constants
-        .iter()
-        .copied()
-        .find(|constant| constant.name().as_bytes() == word)
-}
-
 /// The constant of this name.
+#[tactic(auto, unfolding(crate::specs::Words::constant_named))]
 pub fn find_constant(word: &[u8]) -> Option<Constant>
     ensures { result ≡ constant_named word.now }
 {
-    constant_among(constants_from(*word.first()?), word)
-}
-
-/// The API of this name, among these.
-fn api_among(apis: &[Api], word: &[u8]) -> Option<Api>
-    ensures { result ≡ find (λ api. bytes_eq (api_name api) word.now) apis.now }
-{
-    apis.iter()
-        .copied()
-        .find(|api| api.name().as_bytes() == word)
+    find_word(word)
 }
 
 /// The API of this name.
+#[tactic(auto, unfolding(crate::specs::Words::api_named))]
 pub fn find_api(word: &[u8]) -> Option<Api>
     ensures { result ≡ api_named word.now }
 {
-    api_among(apis_from(*word.first()?), word)
-}
-
-/// The service call of this name, among these.
-fn service_among(services: &[Service], word: &[u8]) -> Option<Service>
-    ensures { result ≡ find (λ service. bytes_eq (service_name service) word.now) services.now }
-{
-    services
-        .iter()
-        .copied()
-        .find(|service| service.name().as_bytes() == word)
+    find_word(word)
 }
 
 /// The service call of this name.
+#[tactic(auto, unfolding(crate::specs::Words::service_named))]
 pub fn find_service(word: &[u8]) -> Option<Service>
     ensures { result ≡ service_named word.now }
 {
-    service_among(services_from(*word.first()?), word)
-}
-
-/// The keyword of this name, among these.
-fn keyword_among(keywords: &[Keyword], word: &[u8]) -> Option<Keyword>
-    ensures { result ≡ find (λ keyword. bytes_eq (keyword_name keyword) word.now) keywords.now }
-{
-    keywords
-        .iter()
-        .copied()
-        .find(|keyword| keyword.name().as_bytes() == word)
+    find_word(word)
 }
 
 /// The keyword of this name.
+#[tactic(auto, unfolding(crate::specs::Words::keyword_named))]
 pub fn find_keyword(word: &[u8]) -> Option<Keyword>
     ensures { result ≡ keyword_named word.now }
 {
-    keyword_among(keywords_from(*word.first()?), word)
+    find_word(word)
 }
