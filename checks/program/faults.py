@@ -1,5 +1,6 @@
 #!/usr/bin/env python3
-"""Compares what `fmp_view fault` prints of faulty texts, and of texts with warnings, with what is written here.
+"""Compares what `fmp_view fault` prints of faulty texts and steps, and of texts with warnings, with what is written
+here: as text, and with --json, whose lines are read back.
 
     checks/program/faults.py [PROGRAM]
 
@@ -8,6 +9,7 @@ out by hand from docs/LANGUAGE.md, never taken from the program. In a row `[N ti
 with the numbers from 1 in place of `#`.
 """
 
+import json
 import subprocess
 import sys
 import tempfile
@@ -58,6 +60,7 @@ CONFIGURATIONS = [
     ("NUM_PRC(01);", 1, 9, 1, "B1", "`01` is no number"),
     ("NUM_PRC(1); /* open", 1, 13, 1, "B1", "the comment that begins here is not closed"),
     ("NUM_PRC(1); #", 1, 13, 1, "B1", "no token begins with `#`"),
+    ("\ufeffNUM_PRC(1);", 1, 1, 1, "B1", "a byte order mark stands here; save the text without it"),
     ("NUM_PRC(9);", 1, 9, 1, "B5", "the number of processors is 9; it must be 1 to 8"),
     ("NUM_PRC(0);", 1, 9, 1, "B5", "the number of processors is 0; it must be 1 to 8"),
     ("NUM_PRC(2147483648);", 1, 9, 1, "B5", "`2147483648` " + GREAT),
@@ -153,6 +156,7 @@ SOURCES = [
      "expected `&` and a variable, the out place of `rcv_dtq`, found the number 2"),
     ("task m { var put; }", 1, 14, 3, "B1", "expected the name of a variable, found the service call `put`"),
     ("put(1);", 1, 1, 3, "B1", "expected `task` or `handler`, found the service call `put`"),
+    ("\ufefftask m { }", 1, 1, 1, "B1", "a byte order mark stands here; save the text without it"),
     ("task m { put(2147483648); }", 1, 14, 1, "B5", "`2147483648` " + GREAT),
     ("task m { put([41 times: 9]); }", 1, 14, 1, "B5", "a number of 41 characters " + GREAT),
     ("task a_name_of_more_than_31_bytes_is_a_fault { }", 1, 6, 1, "B5", LONG_NAME),
@@ -194,59 +198,85 @@ SOURCES = [
     ("task deep {\nput([64 times: 1+(]1[64 times: )]); }", 1, 1, 4, "B5", DEEP_BODY),
 ]
 
-# Texts without a fault: the configuration, the bodies, and the warnings.
+TASK = ONE + "CRE_TSK(T, { TA_ACT, 0, m, 1, 64, NULL });"
+SEM_AND_FLAG = TASK + "\nCRE_SEM(S, { 0, 1, 1 });\nCRE_FLG(F, { 0, 0 }); }"
+WITH_HANDLER = TASK + " CRE_SEM(S, { 0, 1, 1 });\nDEF_INH(1, { 0, h }); }"
+
+# Texts without a fault: the configuration, the bodies, and of each warning the file, the line, the column, the bytes
+# that are marked and the sentence.
 WARNINGS = [
-    (OBJECT, "", "t.cfg:1: warning: `SEM` is not named in the task text\n"),
-    (ONE + "CRE_TSK(T, { TA_ACT, 0, m, 1, 64, NULL }); CRE_SEM(S, { 0, 1, 1 }); }",
+    (OBJECT, "", ("t.cfg", 1, 36, 3, "`SEM` is not named in the task text")),
+    (TASK + " CRE_SEM(S, { 0, 1, 1 }); }",
      "task m {\n    wai_sem(S);\n    wai_sem(1);\n    sig_sem(T);\n}\nhandler idle { }\n",
-     "t.src:3: warning: the argument 1 is no name; `wai_sem` takes a semaphore\n"
-     "t.src:4: warning: `T` is a task; `sig_sem` takes a semaphore\n"
-     "t.src:6: warning: no static API names the body `idle`\n"),
-    (ONE + "CRE_TSK(T, { TA_ACT, 0, m, 1, 64, NULL });\nCRE_SEM(S, { 0, 1, 1 });\nCRE_FLG(F, { 0, 0 }); }",
+     ("t.src", 3, 13, 1, "the argument 1 is no name; `wai_sem` takes a semaphore"),
+     ("t.src", 4, 13, 1, "`T` is a task; `sig_sem` takes a semaphore"),
+     ("t.src", 6, 9, 4, "no static API names the body `idle`")),
+    (SEM_AND_FLAG,
      "task m {\n    wai_sem(S);\n    set_flg(F, 1);\n    sig_sem(-1);\n    set_flg(E_OK, F);\n    ter_tsk(0);\n"
      "    dly_tsk(S);\n    act_tsk(TSK_SELF);\n}\n",
-     "t.src:4: warning: the argument -1 is no name; `sig_sem` takes a semaphore\n"
-     "t.src:5: warning: the constant `E_OK` is no object; `set_flg` takes an eventflag\n"
-     "t.src:5: warning: `F` is an eventflag; `set_flg` takes a bit pattern\n"
-     "t.src:6: warning: the argument 0 is no name; `ter_tsk` takes a task\n"
-     "t.src:7: warning: `S` is a semaphore; `dly_tsk` takes a time\n"),
-    (ONE + "CRE_TSK(T, { TA_ACT, 0, m, 1, 64, NULL });\nCRE_SEM(S, { 0, 1, 1 });\nCRE_FLG(F, { 0, 0 }); }",
-     "task m {\n    wai_sem(S);\n    clr_flg(F, 0);\n    set_flg(1, 1);\n}\n",
-     "t.src:4: warning: the argument 1 is no name; `set_flg` takes an eventflag\n"
-     "t.cfg:2: warning: `S` is a semaphore that nothing signals\n"),
+     ("t.src", 4, 13, 2, "the argument -1 is no name; `sig_sem` takes a semaphore"),
+     ("t.src", 5, 13, 4, "the constant `E_OK` is no object; `set_flg` takes an eventflag"),
+     ("t.src", 5, 19, 1, "`F` is an eventflag; `set_flg` takes a bit pattern"),
+     ("t.src", 6, 13, 1, "the argument 0 is no name; `ter_tsk` takes a task"),
+     ("t.src", 7, 13, 1, "`S` is a semaphore; `dly_tsk` takes a time")),
+    (SEM_AND_FLAG, "task m {\n    wai_sem(S);\n    clr_flg(F, 0);\n    set_flg(1, 1);\n}\n",
+     ("t.src", 4, 13, 1, "the argument 1 is no name; `set_flg` takes an eventflag"),
+     ("t.cfg", 2, 9, 1, "`S` is a semaphore that nothing signals")),
     (ONE + "CRE_TSK(T, { 0, 0, m, 1, 64, NULL });\nCRE_FLG(F, { 0, 0 }); }",
      "task m { var x; clr_flg(F, 1); slp_tsk(); x = TSK_SELF; wup_tsk(0); }",
-     "t.cfg:1: warning: `T` is not started at setup, and no body names it\n"
-     "t.cfg:2: warning: `F` is an eventflag that nothing sets\n"),
-    (ONE + "CRE_TSK(T, { TA_ACT, 0, m, 1, 64, NULL }); CRE_SEM(S, { 0, 1, 1 }); }",
-     "task m { var s; s = S; wai_sem(S); sig_sem(s); }", ""),
-    (ONE + "CRE_TSK(T, { TA_ACT, 0, m, 1, 64, NULL }); }",
-     "task m {\n    var a[3];\n    a[2] = 1;\n    a[3] = 1;\n    put(a[-1] + a[0 + 3]);\n}\n",
-     "t.src:4: warning: the index 3 of `a` is out of range: the array has 3 places\n"
-     "t.src:5: warning: the index -1 of `a` is out of range: the array has 3 places\n"),
-    (ONE + "CRE_TSK(T, { TA_ACT, 0, m, 1, 64, NULL }); CRE_SEM(S, { 0, 1, 1 });\nDEF_INH(1, { 0, h }); }",
+     ("t.cfg", 1, 36, 1, "`T` is not started at setup, and no body names it"),
+     ("t.cfg", 2, 9, 1, "`F` is an eventflag that nothing sets")),
+    (TASK + " CRE_SEM(S, { 0, 1, 1 }); }", "task m { var s; s = S; wai_sem(S); sig_sem(s); }"),
+    (TASK + " }", "task m {\n    var a[3];\n    a[2] = 1;\n    a[3] = 1;\n    put(a[-1] + a[0 + 3]);\n}\n",
+     ("t.src", 4, 7, 1, "the index 3 of `a` is out of range: the array has 3 places"),
+     ("t.src", 5, 11, 2, "the index -1 of `a` is out of range: the array has 3 places")),
+    (WITH_HANDLER,
      "task m {\n    isig_sem(S);\n    irot_rdq(TPRI_SELF);\n    loc_cpu();\n    put(1);\n}\n"
      "handler h {\n    var x;\n    sig_sem(S);\n    wai_sem(S);\n    x = act_tsk(1);\n    loc_cpu();\n    put(1);\n"
      "    isig_sem(S);\n}\n",
-     "t.src:2: warning: `isig_sem` answers E_CTX in a task; there it is `sig_sem`\n"
-     "t.src:3: warning: `irot_rdq` answers E_CTX in a task; there it is `rot_rdq`\n"
-     "t.src:9: warning: `sig_sem` answers E_CTX in a handler; there it is `isig_sem`\n"
-     "t.src:10: warning: `wai_sem` answers E_CTX in a handler\n"
-     "t.src:11: warning: `act_tsk` answers E_CTX in a handler; there it is `iact_tsk`\n"
-     "t.src:11: warning: the argument 1 is no name; `act_tsk` takes a task\n"
-     "t.src:12: warning: `loc_cpu` answers E_CTX in a handler\n"),
-    (ONE + "CRE_TSK(T, { TA_ACT, 0, m, 1, 64, NULL }); CRE_SEM(S, { 0, 1, 1 });\nDEF_INH(1, { 0, h }); }",
+     ("t.src", 2, 5, 8, "`isig_sem` answers E_CTX in a task; there it is `sig_sem`"),
+     ("t.src", 3, 5, 8, "`irot_rdq` answers E_CTX in a task; there it is `rot_rdq`"),
+     ("t.src", 9, 5, 7, "`sig_sem` answers E_CTX in a handler; there it is `isig_sem`"),
+     ("t.src", 10, 5, 7, "`wai_sem` answers E_CTX in a handler"),
+     ("t.src", 11, 9, 7, "`act_tsk` answers E_CTX in a handler; there it is `iact_tsk`"),
+     ("t.src", 11, 17, 1, "the argument 1 is no name; `act_tsk` takes a task"),
+     ("t.src", 12, 5, 7, "`loc_cpu` answers E_CTX in a handler")),
+    (WITH_HANDLER,
      "task m {\n    sig_sem(S);\n    mrot_rdq(TPRI_SELF, 1);\n    mrot_rdq(S, S);\n}\n"
      "handler h { mrot_rdq(1, 1); }\n",
-     "t.src:4: warning: `S` is a semaphore; `mrot_rdq` takes a priority\n"
-     "t.src:4: warning: `S` is a semaphore; `mrot_rdq` takes a processor\n"
-     "t.src:6: warning: `mrot_rdq` answers E_CTX in a handler\n"),
+     ("t.src", 4, 14, 1, "`S` is a semaphore; `mrot_rdq` takes a priority"),
+     ("t.src", 4, 17, 1, "`S` is a semaphore; `mrot_rdq` takes a processor"),
+     ("t.src", 6, 13, 8, "`mrot_rdq` answers E_CTX in a handler")),
+]
+
+# A system of two processors, whose texts have no fault and no warning.
+TWO = "NUM_PRC(2); CLASS(TCL_1) { CRE_TSK(T, { TA_ACT, 0, m, 1, 64, NULL }); }", "task m { }"
+FORMS = "; each line is `run P`, `tick` or `int I`"
+RANGES = "the number is out of range; processors are numbered from 1 to 2, interrupts from 1 to 32"
+
+# A steps text for that system; the line, the column and the bytes that are marked; the code; the sentence.
+STEPS = [
+    ("\ufeffrun 1\n", 1, 1, 3, "S1", "a byte order mark stands here" + FORMS),
+    ("run 1\nrun 1\r\n", 2, 6, 1, "S1", "a carriage return stands here; lines end with a line feed alone" + FORMS),
+    ("run 1 \n", 1, 6, 1, "S1", "a blank ends the line" + FORMS),
+    ("tick\n\ttick\n", 2, 1, 1, "S1", "a blank begins the line" + FORMS),
+    ("tick\n\ntick\n", 2, 1, 1, "S1", "the line is empty" + FORMS),
+    ("run 01\n", 1, 5, 2, "S1", "the number begins with 0" + FORMS),
+    ("run one\n", 1, 5, 3, "S1", "expected the number of a processor" + FORMS),
+    ("int -1\n", 1, 5, 2, "S1", "expected the number of an interrupt" + FORMS),
+    ("tick 1\n", 1, 5, 2, "S1", "expected the end of the line behind `tick`" + FORMS),
+    ("run 1\nTick", 2, 1, 4, "S1", "this is no event" + FORMS),
+    ("run 2\nrun 3\n", 2, 5, 1, "S2", RANGES),
+    ("run 0\n", 1, 5, 1, "S2", RANGES),
+    ("int 33\nrun 3\n", 1, 5, 2, "S2", RANGES),
+    ("[1048576 times: tick\n]tick", 1048577, 1, 4, "S3",
+     "this is one step too many; a run has at most 1048576 steps"),
 ]
 
 
 def report(name, text, line, column, width, code, sentence):
     """What is printed of a fault: the head and the sentence, the line, and the marks under it."""
-    shown = text.split("\n")[line - 1]
+    shown = text.split("\n")[line - 1].removesuffix("\r")
     marks = "".join("\t" if letter == "\t" else " " for letter in shown[:column - 1]) + "^" * width
     if len(shown) > 100:
         assert column <= 47 or column == 78  # worked out for these alone
@@ -256,26 +286,42 @@ def report(name, text, line, column, width, code, sentence):
     return f"{name}:{line}:{column}: {code}: {sentence}\n    {shown}\n    {marks}\n"
 
 
-def rows():
-    """Each case: two texts, the status, and what is printed."""
+def findings():
+    """Each case: the configuration, the bodies and the steps, the status, and what is found in them."""
     for row, *place in CONFIGURATIONS:
         text = expanded(row)
-        yield text, BODIES, 1, report("t.cfg", text, *place)
+        yield (text, BODIES, ""), 1, [("t.cfg", text, *place)]
     for row, *place in SOURCES:
         text = expanded(row)
-        yield OBJECT, text, 1, report("t.src", text, *place)
-    for cfg, src, warnings in WARNINGS:
-        yield cfg, src, 0, warnings
+        yield (OBJECT, text, ""), 1, [("t.src", text, *place)]
+    for row, *place in STEPS:
+        text = expanded(row)
+        yield (*TWO, text), 1, [("t.steps", text, *place)]
+    for cfg, src, *warnings in WARNINGS:
+        texts = {"t.cfg": cfg, "t.src": src}
+        yield (cfg, src, ""), 0, [(name, texts[name], *place, "warning", sentence)
+                                  for name, *place, sentence in warnings]
+    yield (*TWO, "run 1\ntick\nrun 2\nint 32"), 0, []
+
+
+def described(name, text, line, column, width, code, sentence):
+    """What an object of JSON says of a fault."""
+    return {"file": name, "line": line, "column": column, "end": column + width, "code": code, "sentence": sentence}
 
 
 def answered(program, room):
     """Each case with what the program answers, and what it should."""
-    for cfg, src, status, wanted in rows():
-        Path(room, "t.cfg").write_text(cfg, newline="")
-        Path(room, "t.src").write_text(src, newline="")
-        done = subprocess.run([program, "fault", "t.cfg", "t.src"], cwd=room, capture_output=True)
+    for texts, status, found in findings():
+        for name, text in zip(("t.cfg", "t.src", "t.steps"), texts):
+            Path(room, name).write_text(text, encoding="utf-8", newline="")
+        words = [program, "fault", "t.cfg", "t.src", *(["t.steps"] if texts[2] else [])]
+        done = subprocess.run(words, cwd=room, capture_output=True)
         answer = done.returncode, done.stdout.decode(), done.stderr.decode()
-        yield f"{cfg[:200]!r} {src[:200]!r}", answer, (status, wanted, "")
+        title = " ".join(repr(text[:200]) for text in texts)
+        yield title, answer, (status, "".join(report(*finding) for finding in found), "")
+        done = subprocess.run([*words, "--json"], cwd=room, capture_output=True)
+        answer = done.returncode, [json.loads(line) for line in done.stdout.splitlines()], done.stderr.decode()
+        yield title + " as JSON", answer, (status, [described(*finding) for finding in found], "")
 
 
 def main():

@@ -26,6 +26,8 @@ from common.program import ROOT, located  # noqa: E402
 from common.tally import Tally  # noqa: E402
 
 PROGRAMS = {"fmp": "PROGRAM", "fmp_view": "VIEW"}  # with the word of the Makefile for each
+SPECS = ("crates/fmp_base/specs/Codes.antt", "crates/fmp_diagnosis/specs/Topics.antt")  # the codes as they are printed
+REFERENCE = "share/doc/fmp/LANGUAGE.md"
 SECTIONS = ("Commands", "Arguments", "Options")
 
 
@@ -39,9 +41,15 @@ def files(name):
     }
 
 
+def codes():
+    """The codes that `fmp_view code` explains."""
+    return [code for specs in SPECS for code in re.findall(r'codes "(\w+)"', (ROOT / specs).read_text())]
+
+
 def installed(name):
-    """Where they are installed."""
+    """Where they are installed, and the reference with them."""
     return {
+        REFERENCE: "LANGUAGE.md",
         f"share/man/man1/{name}.1": f"man/{name}.1",
         f"share/bash-completion/completions/{name}": f"completions/{name}.bash",
         f"share/zsh/site-functions/_{name}": f"completions/_{name}",
@@ -161,7 +169,9 @@ def page(manual):
     lines.append(".SH OPTIONS")
     lines += listed(top.items["Options"])
     lines += [".SH NOTES", *as_it_stands(top.rest)]
-    lines += [".SH SEE ALSO", "docs/LANGUAGE.md in the repository: the texts, service calls, traces and faults."]
+    lines.append(".SH SEE ALSO")
+    lines += [f"\\fB{roff(other)}\\fR(1)," for other in PROGRAMS if other != manual.name]
+    lines.append(f"{REFERENCE}, which is docs/LANGUAGE.md of the repository: the texts, service calls, traces and faults.")
     return "\n".join(lines) + "\n"
 
 
@@ -176,6 +186,9 @@ def bash(manual):
     for name, options in manual.options().items():
         words = " ".join(word for option in options for word in option.names())
         cases.append(f'        {name}) words="{words}" ;;')
+        if name == "code":
+            given = f'COMPREPLY=($(compgen -W "{" ".join(codes())}" -- "$word")); return;'
+            cases[-1] = f'        code) words="{words}"; [[ $word == -* ]] || {{ {given} }} ;;'
     valued = "|".join(it.names()[-1] for options in manual.options().values() for it in options if it.takes())
     first = " ".join([*manual.commands, "help", *(it for item in manual.top.items["Options"] for it in item.names())])
     return "\n".join([
@@ -216,7 +229,8 @@ def zsh(manual):
     lines += ["    fi", "    case $words[2] in"]
     for name, command in manual.commands.items():
         words = enumerate(command.items["Arguments"], 2)
-        given = [f"'{place}:{quoted(word.takes())}:_files'" for place, word in words]
+        values = f"({' '.join(codes())})" if name == "code" else "_files"
+        given = [f"'{place}:{quoted(word.takes())}:{values}'" for place, word in words]
         for option in command.items["Options"]:
             value = f":{option.takes()}:" if option.takes() else ""
             given += [f"'{word}[{named(option.text)}]{value}'" for word in option.names()]
@@ -239,6 +253,8 @@ def fish(manual):
     lines += [one("__fish_use_subcommand", item) for item in manual.top.items["Options"]]
     for name, options in manual.options().items():
         lines += [one(f"__fish_seen_subcommand_from {name}", item) for item in options]
+    if "code" in manual.commands:
+        lines.append(f"complete -c {manual.name} -f -n '__fish_seen_subcommand_from code' -a '{' '.join(codes())}'")
     return "\n".join(lines) + "\n"
 
 
@@ -258,13 +274,17 @@ def check_completion(tally, manual):
         tally.holds(f"bash completes {name}", name in completed(of, name[:2]))
         words = {word for option in options for word in option.names() if word.startswith("--")}
         tally.holds(f"bash completes the options of {name}", words <= set(completed(of, name, "--")))
-        tally.holds(f"bash completes files of {name}", "LANGUAGE.md" in completed(of, name, "LANG"))
+        if name == "code":
+            tally.holds("bash completes codes", completed(of, name, "E_P") == ["E_PAR"])
+        else:
+            tally.holds(f"bash completes files of {name}", "LANGUAGE.md" in completed(of, name, "LANG"))
 
 
 def check_install(tally, name, program):
-    with tempfile.TemporaryDirectory() as room:
-        words = ["make", "-s", "-C", ROOT, "install", f"PREFIX={room}", f"{PROGRAMS[name]}={program}"]
-        done = subprocess.run(words, capture_output=True)
+    with tempfile.TemporaryDirectory() as folder:
+        room = f"{folder}/with a blank"
+        words = ["make", "-s", "-C", ROOT, f"PREFIX={room}", f"{PROGRAMS[name]}={program}"]
+        done = subprocess.run([*words, "install"], capture_output=True)
         said = done.stdout.decode()
         tally.holds(f"make install: {done.stderr.decode()}", done.returncode == 0)
         copies = {f"{room}/{target}": ROOT / "docs" / source for target, source in installed(name).items()}
@@ -272,6 +292,16 @@ def check_install(tally, name, program):
             same = os.path.exists(target) and filecmp.cmp(target, source, shallow=False)
             tally.holds(f"make install copies {source}", same)
             tally.holds(f"make install says where it puts {source}", target in said)
+        done = subprocess.run([*words, "uninstall"], capture_output=True)
+        tally.holds(f"make uninstall: {done.stderr.decode()}", done.returncode == 0)
+        tally.holds("make uninstall removes each file", not [it for it in Path(room).rglob("*") if it.is_file()])
+
+
+def check_codes(tally, manual, program):
+    """Each code that is completed is explained."""
+    for code in codes() if "code" in manual.commands else []:
+        done = subprocess.run([program, "code", code], capture_output=True)
+        tally.holds(f"{code} is explained", done.stdout.decode().startswith(f"{code}: "))
 
 
 def main():
@@ -292,6 +322,7 @@ def main():
         stands = path.exists() and path.read_text() == text
         tally.holds(f"docs/{file} is not what the help tells: checks/program/manual.py --write makes it", stands)
     check_completion(tally, manual)
+    check_codes(tally, manual, program)
     check_install(tally, name, program)
     print(f"checks/program/manual.py: {tally}")
     return tally.status

@@ -15,6 +15,7 @@ subject=$(located fmp_view "${1:-}")
 fmp=$(located fmp "${2:-}")
 pictures=$root/checks/program/pictures.py
 dumps=$root/checks/program/dumps
+records=$root/checks/program/records.py
 
 # built NAME: the image of the two texts of this name.
 built() { "$fmp" build "$1.cfg" "$1.src" "$1.img" > /dev/null; }
@@ -103,6 +104,28 @@ F_IDX: index out of range
 END
 shows 'code: F_IDX' 0 code F_IDX
 
+# A code in small letters, and an error code by its number, with its sign or without.
+for word in e_par E_Par -17 17; do
+    cat > wanted <<'END'
+E_PAR: parameter error
+  when: A value is out of its range: a priority, a time limit, a pattern, a mode, a size.
+  example: chg_pri(1, 17), since priorities end at 16.
+END
+    shows "code: $word" 0 code $word
+done
+cat > wanted <<'END'
+E_TMOUT: polling failure or time-out
+  when: What was waited for was not there at once, or not within the time limit.
+  example: pol_sem(1) with count 0.
+END
+shows 'code: -50' 0 code -50
+cat > wanted <<'END'
+E_OK: normal completion
+  when: The call has done what it was asked to do.
+  example: sig_sem(1) on a semaphore that is below its greatest count.
+END
+shows 'code: 0' 0 code 0
+
 # Of one processor there is one order: two tasks that both end.
 printf 'run 1\nrun 1\nrun 1\nrun 1\nrun 1\nrun 1\n' > wanted
 printf 'quiet: no processor goes on, and the clock changes nothing\nprocessor 1: nothing runs there\n' > said
@@ -138,6 +161,73 @@ shows 'drive: stuck, one event' 0 drive stuck.img --events 1
 printf 'run 1\nrun 1\nrun 1\nrun 1\nrun 1\nrun 1\nrun 1\nrun 1\n' > wanted
 printf 'as many events as were asked for are done\n' > said
 shows 'drive: kept places' 0 drive sum.img --events 8 --bound 1000
+
+# A run that is built in memory: its lines with names, and what waits at the end.
+cat > wanted <<'END'
+0 p1 PRODUCER starts
+0 p1 > PRODUCER
+1 p1 PRODUCER act_tsk(CONSUMER) E_OK
+1 p1 CONSUMER starts
+1 p1 > CONSUMER
+2 p1 CONSUMER rcv_dtq(QUEUE) wait
+2 p1 > PRODUCER
+PRODUCER RUNNING p1 10
+CONSUMER WAITING p1 5 for a word of data queue QUEUE
+END
+printf 'run 1\nrun 1\n' > two.steps
+shows 'run: two events of the queue' 0 run queue.cfg queue.src two.steps
+cat > wanted <<'END'
+0 p1 PRODUCER starts
+0 p1 > PRODUCER
+1 p1 PRODUCER act_tsk(CONSUMER) E_OK
+1 p1 CONSUMER starts
+1 p1 > CONSUMER
+2 p1 CONSUMER rcv_dtq(QUEUE) wait
+2 p1 > PRODUCER
+3 p1 PRODUCER snd_dtq(QUEUE,42) E_OK
+3 p1 CONSUMER gets E_OK 42
+3 p1 > CONSUMER
+4 p1 CONSUMER put(42) E_OK
+5 p1 CONSUMER end
+5 p1 > PRODUCER
+6 p1 PRODUCER end
+PRODUCER DORMANT p1 10
+CONSUMER DORMANT p1 5
+END
+cp wanted queue.named
+cat > said <<'END'
+quiet: no processor goes on, and the clock changes nothing
+processor 1: nothing runs there
+END
+shows 'run: the queue, driven' 0 run queue.cfg queue.src
+cp queue.named wanted
+shows 'run: the queue over its steps' 0 run queue.cfg queue.src queue.steps
+cat > wanted <<'END'
+{"event":0,"what":"starts","processor":1,"actor":"PRODUCER"}
+{"event":0,"what":"runs","processor":1,"actor":"PRODUCER"}
+{"event":1,"what":"call","processor":1,"actor":"PRODUCER","call":"act_tsk","arguments":[2],"names":["CONSUMER"],"reply":"E_OK"}
+{"event":1,"what":"starts","processor":1,"actor":"CONSUMER"}
+{"event":1,"what":"runs","processor":1,"actor":"CONSUMER"}
+{"event":2,"what":"call","processor":1,"actor":"CONSUMER","call":"rcv_dtq","arguments":[1],"names":["QUEUE"],"reply":null}
+{"event":2,"what":"runs","processor":1,"actor":"PRODUCER"}
+{"what":"state","task":"PRODUCER","state":"RUNNING","processor":1,"priority":10,"waits":""}
+{"what":"state","task":"CONSUMER","state":"WAITING","processor":1,"priority":5,"waits":"for a word of data queue QUEUE"}
+END
+shows 'run: as JSON' 0 run queue.cfg queue.src two.steps --json
+printf 'run 1\nrun 2\n' > beyond.steps
+cat > wanted <<'END'
+beyond.steps:2:5: S2: the number is out of range; processors are numbered from 1 to 1, interrupts from 1 to 32
+    run 2
+        ^
+END
+shows 'run: a fault of the steps' 1 run queue.cfg queue.src beyond.steps
+echo 'task produce { put(y); } task consume { }' > unknown.src
+cat > wanted <<'END'
+unknown.src:1:20: B3: `y` is neither a variable of this body, an object nor a constant
+    task produce { put(y); } task consume { }
+                       ^
+END
+shows 'run: a fault of a text' 1 run queue.cfg unknown.src
 
 # The trace of the queue: PRODUCER calls twice, is preempted at both calls and ends; CONSUMER waits once, and ends.
 cat > wanted <<'END'
@@ -420,6 +510,15 @@ for text in "$root"/examples/*.steps; do
     holds "timeline: $system" 'no picture, or no XML' "$pictures" lanes "$system.svg" > output
 done
 
+# Each example's run as JSON is read back: it tells the trace that stands beside the example.
+for text in "$root"/examples/*.steps; do
+    system=$(basename "$text" .steps)
+    case $system in sum) bound=1000 ;; *) bound=100000 ;; esac
+    "$subject" run "$system.cfg" "$system.src" "$system.steps" --json --bound $bound > records 2> errors
+    cp "$system.trace" wanted
+    gives "run: $system as JSON, read back" sh -c '"$1" < records' reads "$records"
+done
+
 # A long run of many tasks: within 64 MB of memory and 40 MB of picture.
 awk 'BEGIN {
     print "NUM_PRC(8);"
@@ -470,7 +569,7 @@ shows 'waves: a wrong step' 1 waves queue.img wrong.steps none.vcd
 absent 'waves: no file after a fault' none.vcd
 echo 'file: none.img' > said
 shows 'drive: no image' 3 drive none.img
-for code in B8 E_PA F_ID; do refused "code: $code" 'no code is printed so' code $code; done
+for code in B8 E_PA F_ID 1 -51 017; do refused "code: $code" 'no code is printed so' code $code; done
 is_read='the file OUT is one of the two that are read'
 cp queue.img same.img
 cp queue.steps same.steps

@@ -1,1 +1,1 @@
-mod Found
+mod FoundTopics

@@ -1,5 +1,5 @@
--- A fault of a text as it is shown.
-use Rattle.std.specs.Prelude.{◌≡◌, ℕ, ◌<◌, List, [], ◌++◌, length, min, codes, decimal}
+-- What is said of a fault of a text.
+use Rattle.std.specs.Prelude.{◌≡◌, ℕ, ◌+◌, ◌-◌, ◌<◌, List, [], ◌++◌, length, max, min, codes, decimal}
 use Rattle.fmp_base.specs.Codes.{code_name}
 use Rattle.fmp_lex.specs.declared.fault.FaultKind.{FaultKind}
 use Rattle.fmp_lex.specs.declared.fault.FaultKind.TheVariants as fault
@@ -7,6 +7,7 @@ use Rattle.fmp_lex.specs.declared.fault.TextFile.{TextFile}
 use Rattle.fmp_lex.specs.declared.fault.TextFile.TheVariants as file
 use Rattle.fmp_lex.specs.declared.place.Place.{Place}
 use Rattle.fmp_diagnosis.specs.declared.excerpt.Excerpt.{Excerpt}
+use Rattle.fmp_diagnosis.specs.declared.reports.Finding.{Finding}
 use Rattle.fmp_diagnosis.specs.declared.sentence.Texts.{Texts}
 use Rattle.fmp_diagnosis.specs.Excerpts.{IsExcerpt}
 
@@ -34,20 +35,38 @@ refusal _ = []
 abbrev pub numbers : ℕ → ℕ → List ℕ
 numbers line column = codes ":" ++ decimal line ++ codes ":" ++ decimal column ++ codes ": "
 
-abbrev pub code_words : FaultKind → List ℕ
-code_words kind = code kind ++ refusal kind ++ codes ": "
+abbrev pub code_words : (code refusal : List ℕ) → List ℕ
+code_words code refusal = code ++ refusal ++ codes ": "
 
-abbrev pub head : List ℕ → ℕ → ℕ → FaultKind → List ℕ
-head name line column kind = name ++ numbers line column ++ code_words kind
+abbrev pub head : (name : List ℕ) → (line column : ℕ) → (code refusal : List ℕ) → List ℕ
+head name line column code refusal = name ++ numbers line column ++ code_words code refusal
 
 -- the line and its marks
 abbrev pub lines : Excerpt → List ℕ
 lines e = codes "\n    " ++ e.line.items ++ codes "\n    " ++ e.marks.items ++ codes "\n"
 
--- A fault of the text of a file of this name is shown: its head, a sentence, and the line that it stands in.
-pub record IsReport (name text : List ℕ) (place : Place) (kind : FaultKind) (out : List ℕ) : Type 0 where
-  pub excerpt : Excerpt
-  pub sentence : List ℕ
-  pub said : 0 < length sentence
-  pub shows : IsExcerpt text (min place.start (length text)) place.end excerpt
-  pub whole : out ≡ head name place.line excerpt.column kind ++ sentence ++ lines excerpt
+-- a finding of the text of a file of this name as it is printed: its head, its sentence, and the line that it stands in
+abbrev pub report : (name : List ℕ) → Finding → List ℕ
+report name f = head name f.line f.excerpt.column f.code.now f.refusal.now ++ f.sentence.items ++ lines f.excerpt
+
+-- the column behind a token that begins at this column, from `at` up to `end`: at least one column is marked
+abbrev pub column_behind : (column at end : ℕ) → ℕ
+column_behind column at end = column + max (end - at) 1
+
+-- What is said of a fault of a text: where it stands, its code, and some sentence.
+pub record IsFinding (text : List ℕ) (place : Place) (kind : FaultKind) (f : Finding) : Type 0 where
+  pub line : f.line ≡ place.line
+  pub shows : IsExcerpt text (min place.start (length text)) place.end f.excerpt
+  pub end : f.end ≡ column_behind f.excerpt.column (min place.start (length text)) place.end
+  pub code : f.code.now ≡ code kind
+  pub refusal : f.refusal.now ≡ refusal kind
+  pub said : 0 < length f.sentence.items
+
+-- What is said of what is legal at a place of a text, but usually a mistake.
+pub record IsWarning (text : List ℕ) (place : Place) (sentence : List ℕ) (f : Finding) : Type 0 where
+  pub line : f.line ≡ place.line
+  pub shows : IsExcerpt text (min place.start (length text)) place.end f.excerpt
+  pub end : f.end ≡ column_behind f.excerpt.column (min place.start (length text)) place.end
+  pub code : f.code.now ≡ codes "warning"
+  pub refusal : f.refusal.now ≡ []
+  pub sentence_is : f.sentence.items ≡ sentence

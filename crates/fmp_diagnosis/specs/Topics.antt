@@ -1,7 +1,10 @@
 -- The codes that the programs print, by their words.
-use Rattle.std.specs.Prelude.{ℕ, ◌≡◌, List, Option, Some, codes, find}
+use Rattle.std.specs.Prelude.{ℕ, ◌≡◌, List, Option, Some, None, Bool, false, ◌||◌, codes, decimal, find, map, unsigned_abs}
+use Rattle.std.specs.Char.{to_ascii_lowercase, to_ascii_uppercase}
+use Rattle.std.specs.Fmt.{signed_decimal}
 use Rattle.std.specs.Str.{bytes_eq}
-use Rattle.fmp_base.specs.Codes.{code_name}
+use Rattle.fmp_base.specs.declared.codes.Er.{Er}
+use Rattle.fmp_base.specs.Codes.{code_name, code_of}
 use Rattle.fmp_diagnosis.specs.declared.topics.Topic.{Topic}
 use Rattle.fmp_diagnosis.specs.declared.topics.Topic.TheVariants as topic
 use Rattle.fmp_diagnosis.specs.declared.topics.TheConstants.{TOPICS}
@@ -36,6 +39,35 @@ topic_word topic.HostThread = codes "H5"
 unfoldable pub topic_named : List ℕ → Option Topic
 topic_named word = find (λ t. bytes_eq (topic_word t) word) TOPICS
 
--- each topic is found by its word
+-- a word is the number of an error code, with its sign or without
+abbrev pub is_number_of : Er → List ℕ → Bool
+is_number_of code word =
+    bytes_eq (signed_decimal (code_of code)) word || bytes_eq (decimal (unsigned_abs (code_of code))) word
+
+abbrev pub is_numbered : Topic → List ℕ → Bool
+is_numbered (topic.Reply code) word = is_number_of code word
+is_numbered _ word = false
+
+-- the one that was found, else another
+abbrev pub or_else : Option Topic → Option Topic → Option Topic
+or_else (Some t) other = Some t
+or_else None other = other
+
+-- the topic that a word asks for: by what is printed, in letters of either case, or by the number of an error code
+unfoldable pub topic_asked : List ℕ → Option Topic
+topic_asked word = or_else (topic_named (map to_ascii_uppercase word)) (find (λ t. is_numbered t word) TOPICS)
+
+-- a topic is asked for by its word, in letters of either case
+pub record IsFound (t : Topic) : Type 0 where
+  pub named : topic_named (topic_word t) ≡ Some t
+  pub asked : topic_asked (topic_word t) ≡ Some t
+  pub lower : topic_asked (map to_ascii_lowercase (topic_word t)) ≡ Some t
+
+-- and an error code by its number too, with its sign or without
+pub record IsCounted (code : Er) : Type 0 where
+  pub signed : topic_asked (signed_decimal (code_of code)) ≡ Some (topic.Reply code)
+  pub unsigned : topic_asked (decimal (unsigned_abs (code_of code))) ≡ Some (topic.Reply code)
+
+-- each topic is found by its word, and each error code by its number
 abbrev pub EveryTopicIsFound : Type 0
-EveryTopicIsFound = (t : Topic) → topic_named (topic_word t) ≡ Some t
+EveryTopicIsFound = ((t : Topic) → IsFound t) × ((code : Er) → IsCounted code)

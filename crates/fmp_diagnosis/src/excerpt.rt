@@ -1,5 +1,5 @@
 //! The line of a text that holds a place, with marks under the token there.
-ghost use Rattle.std.specs.Prelude.{◌≡◌, ℕ, ◌+◌, ◌-◌, ◌<◌, ◌≤◌, ◌==◌, nat_lt, true, false, ◌++◌, length, max, min, replicate, slice_index, slice_range, IfOk, OnOk};
+ghost use Rattle.std.specs.Prelude.{◌≡◌, ℕ, ◌+◌, ◌-◌, ◌^◌, ◌<◌, ◌≤◌, ◌==◌, nat_lt, true, false, ◌++◌, length, max, min, replicate, slice_index, slice_range, IfOk, OnOk};
 ghost use Rattle.fmp_diagnosis.specs.Excerpts as spec;
 ghost use Rattle.fmp_diagnosis.specs.Excerpts.{IsExcerpt, IsLine};
 
@@ -185,7 +185,8 @@ fn marks(
 /// runs out.
 pub fn excerpt_at(alloc: Global, text: &[u8], at: usize, end: usize) -> Result<Excerpt, AllocError>
     requires { at ≤ length text.now }
-    ensures { IfOk result (IsExcerpt text.now at end) }
+    ensures shows { IfOk result (IsExcerpt text.now at end) }
+    ensures column { IfOk result (λ excerpt. excerpt.column ≤ 2 ^ 63) }
 {
     let begin = line_begin(text, at);
     let behind = line_finish(text, at);

@@ -3,12 +3,12 @@ ghost use Rattle.std.specs.Prelude.{OnOk};
 ghost use Rattle.fmp_diagnosis.specs.Words.{IsSaid};
 
 use crate::apis::is_symbol;
-use crate::around::{begins_body_at, is_same, line_of, name_at};
-use crate::warnings::begin;
+use crate::around::{begins_body_at, is_same, name_at};
+use crate::found::Found;
 use crate::words::{Word, say};
 use fmp_base::Name;
-use fmp_lex::{Keyword, Symbol, TokenKind, Tokens};
-use std::alloc::AllocError;
+use fmp_lex::{Keyword, Symbol, TextFile, TokenKind, Tokens};
+use std::alloc::{AllocError, Global};
 
 /// An index that is out of the range of its array.
 #[derive(Clone, Copy)]
@@ -109,22 +109,27 @@ fn say_misplaced(misplaced: Misplaced, out: &mut Vec<u8>) -> Result<(), AllocErr
             Word::Name(misplaced.array),
             Word::Text(" is out of range: the array has "),
             Word::Number(misplaced.places),
-            Word::Text(" places\n"),
+            Word::Text(" places"),
         ],
         out,
     )
 }
 
 /// Warns of the indices of a task text that are numbers out of the range of their arrays.
-pub fn warn_of_indices(name: &str, src: &Tokens<'_>, out: &mut Vec<u8>) -> Result<(), AllocError> {
+pub fn warn_of_indices(
+    alloc: Global,
+    src: &Tokens<'_>,
+    found: &mut Found<'_>,
+) -> Result<(), AllocError> {
     let mut body = 0;
     for at in 0..src.len() {
         if begins_body_at(src, at) {
             body = at;
         }
         if let Some(misplaced) = misplaced_at(src, body, at) {
-            begin(name, line_of(src, at), out)?;
-            say_misplaced(misplaced, out)?;
+            let mut sentence = Vec::new(alloc);
+            say_misplaced(misplaced, &mut sentence)?;
+            found.warn(alloc, TextFile::Source, src, at.saturating_add(2), sentence)?;
         }
     }
     Ok(())

@@ -1,22 +1,13 @@
-//! A fault of a text as it is shown: where it stands, its code, a sentence, and its line with marks.
-ghost use Rattle.std.specs.Prelude.{◌≡◌, ◌++◌, ◌<◌, length, IfOk, OnOk, decimal};
+//! What is said of a fault of a text: where it stands, its code, a sentence, and its line with marks.
+ghost use Rattle.std.specs.Prelude.{◌≡◌, ◌++◌, ◌+◌, ◌-◌, ◌^◌, ◌<◌, ◌≤◌, length, IfOk, OnOk, decimal};
 ghost use Rattle.fmp_diagnosis.specs.Reports as spec;
-ghost use Rattle.fmp_diagnosis.specs.Reports.{IsReport};
+ghost use Rattle.fmp_diagnosis.specs.Reports.{IsFinding};
 
 use crate::excerpt::{Excerpt, excerpt_at};
 use crate::sentence::{Texts, say_fault};
 use fmp_lex::{FaultKind, Place, TextFile};
 use itoa::Buffer;
 use std::alloc::{AllocError, Global};
-
-/// The names of the files of two texts.
-#[derive(Clone, Copy)]
-pub struct FileNames<'a> {
-    /// The file of the configuration.
-    pub cfg: &'a str,
-    /// The file of the bodies.
-    pub src: &'a str,
-}
 
 fn append_number(number: u64, out: &mut Vec<u8>) -> Result<(), AllocError>
     ensures { OnOk result (out.new.items ≡ out.old.items ++ decimal number) }
@@ -61,12 +52,12 @@ fn append_numbers(line: u32, column: usize, out: &mut Vec<u8>) -> Result<(), All
     out.extend_from_slice(b": ")
 }
 
-/// Appends the code of a fault.
-fn append_code(kind: FaultKind, out: &mut Vec<u8>) -> Result<(), AllocError>
-    ensures { OnOk result (out.new.items ≡ out.old.items ++ spec.code_words kind) }
+/// Appends a code in two parts.
+fn append_code(code: &str, refusal: &str, out: &mut Vec<u8>) -> Result<(), AllocError>
+    ensures { OnOk result (out.new.items ≡ out.old.items ++ spec.code_words code.now refusal.now) }
 {
-    out.extend_from_slice(code(kind).as_bytes())?;
-    out.extend_from_slice(refusal(kind).as_bytes())?;
+    out.extend_from_slice(code.as_bytes())?;
+    out.extend_from_slice(refusal.as_bytes())?;
     out.extend_from_slice(b": ")
 }
 
@@ -75,14 +66,15 @@ fn append_head(
     name: &str,
     line: u32,
     column: usize,
-    kind: FaultKind,
+    code: &str,
+    refusal: &str,
     out: &mut Vec<u8>,
 ) -> Result<(), AllocError>
-    ensures { OnOk result (out.new.items ≡ out.old.items ++ spec.head name.now line column kind) }
+    ensures { OnOk result (out.new.items ≡ out.old.items ++ spec.head name.now line column code.now refusal.now) }
 {
     out.extend_from_slice(name.as_bytes())?;
     append_numbers(line, column, out)?;
-    append_code(kind, out)
+    append_code(code, refusal, out)
 }
 
 /// Appends a line and the marks under it, each behind four spaces.
@@ -94,6 +86,44 @@ fn append_excerpt(excerpt: &Excerpt, out: &mut Vec<u8>) -> Result<(), AllocError
     out.extend_from_slice(b"\n    ")?;
     out.extend_from_slice(&excerpt.marks)?;
     out.extend_from_slice(b"\n")
+}
+
+/// What is said of a fault of a text.
+#[derive(Drop)]
+pub struct Finding {
+    /// The line, from 1.
+    pub line: u32,
+    /// The column of the token's first byte, its line and the marks under it.
+    pub excerpt: Excerpt,
+    /// The column behind the token's last byte.
+    pub end: usize,
+    /// The code, `B4 ` with a blank.
+    pub code: &'static str,
+    /// Behind `B4 ` the code with which a static API refuses, else nothing.
+    pub refusal: &'static str,
+    /// What is wrong, in one sentence.
+    pub sentence: Vec<u8>,
+}
+
+impl Finding {
+    /// The finding as it is printed, under the name of its file: the line, the column, the code and the sentence, and
+    /// the line of the text with marks. `AllocError` if memory runs out.
+    pub fn report(&self, alloc: Global, name: &str) -> Result<Vec<u8>, AllocError>
+        ensures { IfOk result (λ out. out.items ≡ spec.report name.now self.now) }
+    {
+        let mut out = Vec::new(alloc);
+        append_head(
+            name,
+            self.line,
+            self.excerpt.column,
+            self.code,
+            self.refusal,
+            &mut out,
+        )?;
+        out.extend_from_slice(&self.sentence)?;
+        append_excerpt(&self.excerpt, &mut out)?;
+        Ok(out)
+    }
 }
 
 /// The sentence on a fault.
@@ -111,41 +141,34 @@ fn sentence_of(
     Ok(sentence)
 }
 
-/// The head of a fault, a sentence, and the line with its marks.
-fn joined(
-    alloc: Global,
-    name: &str,
-    line: u32,
-    kind: FaultKind,
-    excerpt: &Excerpt,
-    sentence: &[u8],
-) -> Result<Vec<u8>, AllocError>
-    ensures { IfOk result (λ out. out.items ≡
-        spec.head name.now line excerpt.now.column kind ++ sentence.now ++ spec.lines excerpt.now) }
+/// The column behind a token that begins at this column, from `at` up to `end`; at least one column is marked.
+pub fn column_behind(column: usize, at: usize, end: usize) -> usize
+    requires column { column ≤ 2 ^ 63 }
+    requires end { end < 2 ^ 63 }
+    ensures { result ≡ spec.column_behind column at end }
 {
-    let mut out = Vec::new(alloc);
-    append_head(name, line, excerpt.column, kind, &mut out)?;
-    out.extend_from_slice(sentence)?;
-    append_excerpt(excerpt, &mut out)?;
-    Ok(out)
+    column + end.saturating_sub(at).max(1)
 }
 
-/// What is shown of a fault of one of two texts, which stands at this place of it: the name of the file, the line, the
-/// column in bytes from 1, the code, a sentence, and the line with marks under the token. `AllocError` if memory runs
-/// out.
-pub fn report(
+/// What is said of a fault of one of two texts, which stands at this place of it. `AllocError` if memory runs out.
+pub fn finding_at(
     alloc: Global,
-    name: &str,
     texts: Texts<'_>,
     file: TextFile,
     place: Place,
     kind: FaultKind,
-) -> Result<Vec<u8>, AllocError>
-    ensures { IfOk result (λ out. IsReport name.now (spec.text_of texts.entry file) place kind out.items) }
+) -> Result<Finding, AllocError>
+    ensures { IfOk result (IsFinding (spec.text_of texts.entry file) place kind) }
 {
     let text = texts.of(file);
     let at = (place.start as usize).min(text.len());
-    let sentence = sentence_of(alloc, texts, file, at, kind)?;
     let excerpt = excerpt_at(alloc, text, at, place.end as usize)?;
-    joined(alloc, name, place.line, kind, &excerpt, &sentence)
+    Ok(Finding {
+        line: place.line,
+        end: column_behind(excerpt.column, at, place.end as usize),
+        excerpt,
+        code: code(kind),
+        refusal: refusal(kind),
+        sentence: sentence_of(alloc, texts, file, at, kind)?,
+    })
 }

@@ -5,7 +5,9 @@ ghost use Rattle.fmp_base.specs.Names.{name_text};
 
 use crate::around::{Around, name_at};
 use crate::known::{apis, keywords, say_nearest, say_unknown_of, services};
-use crate::words::{Word, append_quoted, counted, say, say_quoted, say_text, say_token};
+use crate::words::{
+    BYTE_ORDER_MARK, Word, append_quoted, counted, say, say_quoted, say_text, say_token,
+};
 use crate::{expected_api, expected_statement};
 use fmp_base::Name;
 use fmp_lex::{Keyword, LexFault, Symbol, TextFile, TokenKind, Tokens};
@@ -42,6 +44,12 @@ fn say_no_token(bytes: &[u8], out: &mut Vec<u8>) -> Result<(), AllocError>
     }
     if first == b'/' {
         return say_text("the comment that begins here is not closed", out);
+    }
+    if bytes.starts_with(&BYTE_ORDER_MARK) {
+        return say_text(
+            "a byte order mark stands here; save the text without it",
+            out,
+        );
     }
     if first.is_ascii_graphic() {
         say_text("no token begins with ", out)?;

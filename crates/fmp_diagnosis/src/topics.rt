@@ -1,9 +1,12 @@
 //! The codes that the programs print.
-ghost use Rattle.std.specs.Prelude.{◌≡◌, find};
+ghost use Rattle.std.specs.Prelude.{◌≡◌, find, IfOk};
 ghost use Rattle.std.specs.Str.{bytes_eq};
-ghost use Rattle.fmp_diagnosis.specs.Topics.{EveryTopicIsFound, topic_named, topic_word};
+ghost use Rattle.fmp_diagnosis.specs.Topics as spec;
+ghost use Rattle.fmp_diagnosis.specs.Topics.{EveryTopicIsFound, is_numbered, topic_asked as topic_asked_by, topic_named, topic_word};
 
 use fmp_base::Er;
+use itoa::Buffer;
+use std::alloc::{AllocError, Global};
 
 /// A code that the programs print.
 #[derive(Clone, Copy, PartialEq, Eq)]
@@ -145,7 +148,50 @@ pub fn topic_named(word: &[u8]) -> Option<Topic>
     topic_among(&TOPICS, word)
 }
 
-/// Each topic is found by its word.
+/// Whether this word is the number of an error code, with its sign or without.
+fn is_number_of(code: Er, word: &[u8]) -> bool
+    ensures { result ≡ spec.is_number_of code word.now }
+{
+    let number = code.code();
+    Buffer::new().format(number).as_bytes() == word
+        || Buffer::new().format(number.unsigned_abs()).as_bytes() == word
+}
+
+impl Topic {
+    /// Whether it is an error code of which this word is the number.
+    fn is_numbered(self, word: &[u8]) -> bool
+        ensures { result ≡ is_numbered self word.now }
+    {
+        match self {
+            Topic::Reply(code) => is_number_of(code, word),
+            _ => false,
+        }
+    }
+}
+
+/// The error code of which this word is the number, among these.
+fn numbered_among(topics: &[Topic], word: &[u8]) -> Option<Topic>
+    ensures { result ≡ find (λ topic. is_numbered topic word.now) topics.now }
+{
+    topics.iter().copied().find(|topic| topic.is_numbered(word))
+}
+
+/// The topic that a word asks for: by what is printed, in letters of either case, or by the number of an error code,
+/// with its sign or without. `AllocError` if memory runs out.
+#[tactic(auto, unfolding(crate::specs::Topics::topic_asked))]
+pub fn topic_asked(alloc: Global, word: &[u8]) -> Result<Option<Topic>, AllocError>
+    ensures { IfOk result (λ topic. topic ≡ topic_asked_by word.now) }
+{
+    let mut letters = Vec::new(alloc);
+    letters.extend_from_slice(word)?;
+    letters.make_ascii_uppercase();
+    match topic_named(&letters) {
+        Some(topic) => Ok(Some(topic)),
+        None => Ok(numbered_among(&TOPICS, word)),
+    }
+}
+
+/// Each topic is found by its word, in letters of either case; each error code by its number, with its sign or without.
 pub fn every_topic_is_found()
     ensures { EveryTopicIsFound }
 {}

@@ -1,21 +1,21 @@
 //! What is legal in two texts but usually a mistake: a call that its body may never make; a number in place of an
 //! object's name, or an object of another kind, as the argument of a call; a number out of range as the index of an
 //! array; bodies and objects that nothing uses; semaphores that nothing signals, flags that nothing sets.
-ghost use Rattle.std.specs.Prelude.{◌<◌, OnOk};
+ghost use Rattle.std.specs.Prelude.{◌≡◌, ◌<◌, ◌+◌, length, OnOk};
 ghost use Rattle.fmp_diagnosis.specs.Words.{IsSaid};
 
 use crate::apis::{api_at, entry_of, is_symbol, value_of};
-use crate::around::{begins_body_at, is_among, line_of, list_of, name_at};
+use crate::around::{begins_body_at, is_among, list_of, name_at};
 use crate::contexts::BodyKind;
 use crate::fields::{Field, object_of};
+use crate::found::{Found, Warning};
 use crate::indices::warn_of_indices;
 use crate::objects::{Object, Objects};
-use crate::reports::FileNames;
 use crate::sentence::Texts;
 use crate::wanted::{Wanted, raised_by, takes_caller, wanted_at};
 use crate::words::{Word, say};
 use fmp_base::{Name, Service};
-use fmp_lex::{Api, Constant, Keyword, Symbol, TokenKind, Tokens};
+use fmp_lex::{Api, Constant, Keyword, Symbol, TextFile, TokenKind, Tokens};
 use std::alloc::{AllocError, Global};
 
 /// The maximum number of warnings about calls and arguments.
@@ -154,20 +154,6 @@ struct Warnings {
     room: u32,
 }
 
-/// Begins a warning: the name of the file and the line.
-pub fn begin(name: &str, line: Option<u32>, out: &mut Vec<u8>) -> Result<(), AllocError>
-    ensures { OnOk result (IsSaid out.old.items out.new.items) }
-{
-    out.extend_from_slice(name.as_bytes())?;
-    let line = i64::from(line.unwrap_or(1));
-    let words = [
-        Word::Text(":"),
-        Word::Number(line),
-        Word::Text(": warning: "),
-    ];
-    say(&words, out)
-}
-
 /// What is wrong with an argument.
 #[derive(Clone, Copy)]
 enum Wrong {
@@ -220,7 +206,6 @@ fn say_wanted(argument: Argument, out: &mut Vec<u8>) -> Result<(), AllocError>
             Word::Quoted(argument.service.name()),
             Word::Text(" takes "),
             Word::Text(argument.wanted.called()),
-            Word::Text("\n"),
         ],
         out,
     )
@@ -233,23 +218,15 @@ fn say_barred(barred: BarredCall, out: &mut Vec<u8>) -> Result<(), AllocError>
     let call = Word::Quoted(barred.service.name());
     let answers = Word::Text(" answers E_CTX in ");
     let body = Word::Text(barred.body.called());
-    let end = Word::Text("\n");
     match barred.service.counterpart() {
         Some(other) => {
             let other = Word::Quoted(other.name());
             say(
-                &[
-                    call,
-                    answers,
-                    body,
-                    Word::Text("; there it is "),
-                    other,
-                    end,
-                ],
+                &[call, answers, body, Word::Text("; there it is "), other],
                 out,
             )
         }
-        None => say(&[call, answers, body, end], out),
+        None => say(&[call, answers, body], out),
     }
 }
 
@@ -275,22 +252,24 @@ fn say_mistake(mistake: Mistake, out: &mut Vec<u8>) -> Result<(), AllocError>
 }
 
 impl Warnings {
-    /// Warns of a mistake at a call, if there is room.
+    /// Warns of a mistake at a call, which stands at a token of the task text, if there is room.
     fn warn(
         &mut self,
-        name: &str,
-        line: Option<u32>,
+        alloc: Global,
+        tokens: &Tokens<'_>,
+        at: usize,
         mistake: Mistake,
-        out: &mut Vec<u8>,
+        found: &mut Found<'_>,
     ) -> Result<(), AllocError>
-        ensures { OnOk result (0 < self.old.room → IsSaid out.old.items out.new.items) }
+        ensures { OnOk result (0 < self.old.room → length found.new.list.items ≡ length found.old.list.items + 1) }
     {
         if self.room == 0 {
             return Ok(());
         }
         self.room -= 1;
-        begin(name, line, out)?;
-        say_mistake(mistake, out)
+        let mut sentence = Vec::new(alloc);
+        say_mistake(mistake, &mut sentence)?;
+        found.warn(alloc, TextFile::Source, tokens, at, sentence)
     }
 
     /// A call signals or sets an object that is not given by its name.
@@ -356,9 +335,9 @@ impl Warnings {
     /// Walks over the calls of a task text.
     fn calls(
         &mut self,
-        name: &str,
+        alloc: Global,
         tokens: &Tokens<'_>,
-        out: &mut Vec<u8>,
+        found: &mut Found<'_>,
     ) -> Result<(), AllocError> {
         let mut walk = Walk {
             body: None,
@@ -371,13 +350,12 @@ impl Warnings {
                 self.note_name(tokens, at, kind);
                 walk = walk.behind(kind);
                 if let Some(barred) = walk.barred(kind) {
-                    let line = line_of(tokens, at);
-                    self.warn(name, line, Mistake::Barred(barred), out)?;
+                    self.warn(alloc, tokens, at, Mistake::Barred(barred), found)?;
                 }
                 if let Some(argument) = walk.argument_behind(at, kind) {
                     if let Some(wrong) = self.wrong(tokens, argument) {
-                        let line = line_of(tokens, argument.at);
-                        self.warn(name, line, Mistake::Argument(argument, wrong), out)?;
+                        let mistake = Mistake::Argument(argument, wrong);
+                        self.warn(alloc, tokens, argument.at, mistake, found)?;
                     }
                 }
             }
@@ -413,22 +391,20 @@ fn body_beside(tokens: &Tokens<'_>, at: usize, entries: &[Name]) -> Option<Name>
 
 /// Warns of the bodies of a task text that no static API names.
 fn warn_of_bodies(
-    name: &str,
+    alloc: Global,
     entries: &[Name],
     src: &Tokens<'_>,
-    out: &mut Vec<u8>,
+    found: &mut Found<'_>,
 ) -> Result<(), AllocError> {
     for at in 0..src.len() {
         if let Some(body) = body_beside(src, at, entries) {
-            begin(name, line_of(src, at), out)?;
-            say(
-                &[
-                    Word::Text("no static API names the body "),
-                    Word::Name(body),
-                    Word::Text("\n"),
-                ],
-                out,
-            )?;
+            let words = [
+                Word::Text("no static API names the body "),
+                Word::Name(body),
+            ];
+            let mut sentence = Vec::new(alloc);
+            say(&words, &mut sentence)?;
+            found.warn(alloc, TextFile::Source, src, at.saturating_add(1), sentence)?;
         }
     }
     Ok(())
@@ -471,14 +447,19 @@ impl Warnings {
     }
 
     /// Warns of the objects of a configuration that nothing uses, signals or sets.
-    fn neglected(&self, name: &str, cfg: &Tokens<'_>, out: &mut Vec<u8>) -> Result<(), AllocError> {
+    fn neglected(
+        &self,
+        alloc: Global,
+        cfg: &Tokens<'_>,
+        found: &mut Found<'_>,
+    ) -> Result<(), AllocError> {
         for object in &self.objects.list {
             if let Some(text) = self.neglect(cfg, object) {
-                begin(name, line_of(cfg, object.at), out)?;
-                say(
-                    &[Word::Name(object.name), Word::Text(text), Word::Text("\n")],
-                    out,
-                )?;
+                let words = [Word::Name(object.name), Word::Text(text)];
+                let mut sentence = Vec::new(alloc);
+                say(&words, &mut sentence)?;
+                let name = object.at.saturating_add(2);
+                found.warn(alloc, TextFile::Configuration, cfg, name, sentence)?;
             }
         }
         Ok(())
@@ -500,40 +481,25 @@ impl Warnings {
     fn look(
         &mut self,
         alloc: Global,
-        names: FileNames<'_>,
         cfg: &Tokens<'_>,
         src: &Tokens<'_>,
-        out: &mut Vec<u8>,
+        found: &mut Found<'_>,
     ) -> Result<(), AllocError> {
-        self.calls(names.src, src, out)?;
-        warn_of_indices(names.src, src, out)?;
+        self.calls(alloc, src, found)?;
+        warn_of_indices(alloc, src, found)?;
         let entries = entries(alloc, cfg)?;
-        warn_of_bodies(names.src, &entries, src, out)?;
-        self.neglected(names.cfg, cfg, out)
+        warn_of_bodies(alloc, &entries, src, found)?;
+        self.neglected(alloc, cfg, found)
     }
 }
 
-/// The warnings of texts of these tokens.
-fn warnings_on(
-    alloc: Global,
-    names: FileNames<'_>,
-    cfg: &Tokens<'_>,
-    src: &Tokens<'_>,
-) -> Result<Vec<u8>, AllocError> {
-    let mut out = Vec::new(alloc);
-    Warnings::new(alloc, cfg)?.look(alloc, names, cfg, src, &mut out)?;
-    Ok(out)
-}
-
-/// The warnings of two texts that have no fault, one line each: those of the task text in order of text, first of at
-/// most 100 of its calls and their arguments, then of indices that are numbers out of range, then of its bodies; and
-/// those of the objects of the configuration. `AllocError` if memory runs out.
-pub fn warnings_of(
-    alloc: Global,
-    names: FileNames<'_>,
-    texts: Texts<'_>,
-) -> Result<Vec<u8>, AllocError> {
+/// The warnings of two texts that have no fault: those of the task text in order of text, first of at most 100 of its
+/// calls and their arguments, then of indices that are numbers out of range, then of its bodies; and those of the
+/// objects of the configuration. `AllocError` if memory runs out.
+pub fn warnings_of(alloc: Global, texts: Texts<'_>) -> Result<Vec<Warning>, AllocError> {
     let cfg = list_of(alloc, texts.cfg)?;
     let src = list_of(alloc, texts.src)?;
-    warnings_on(alloc, names, &cfg.tokens, &src.tokens)
+    let mut found = Found::new(alloc, texts);
+    Warnings::new(alloc, &cfg.tokens)?.look(alloc, &cfg.tokens, &src.tokens, &mut found)?;
+    Ok(found.list)
 }

@@ -9,6 +9,9 @@ use fmp_lex::{Constant, Symbol, TokenKind};
 use itoa::Buffer;
 use std::alloc::AllocError;
 
+/// The bytes of a byte order mark, which editors may put in front of a text.
+pub const BYTE_ORDER_MARK: [u8; 3] = [0xEF, 0xBB, 0xBF];
+
 /// A piece of a sentence.
 #[derive(Clone, Copy)]
 pub enum Word {

@@ -2,3 +2,4 @@ pub mod Drives
 pub mod Exits
 pub mod Faults
 pub mod Shown
+pub mod Traces

@@ -1,6 +1,8 @@
 //! What the program is asked to do.
 ghost use Rattle.std.specs.Prelude.{◌≤◌, ◌^◌, IfOk};
 
+use crate::built::Running;
+use crate::faults::{FileNames, Form};
 use crate::form::{BOUND_MAX, EVENTS_MAX, program, timeline_command, waves_command};
 use clap::{ArgMatches, Error};
 use fmp_files::{mistake, mistake_of};
@@ -38,11 +40,10 @@ pub struct Drawing {
 pub enum Cmd<'a> {
     /// Say what the code of this word means.
     Code(&'a str),
-    /// Show the fault of the texts of these files, of the configuration and of the bodies, or their warnings.
-    Fault {
-        cfg: &'a str,
-        src: &'a str,
-    },
+    /// Show the fault of the texts of these files, and of steps if there are steps, or their warnings.
+    Fault(FileNames<'a>, Form),
+    /// Print the trace of a run of the texts of these files, over the steps if there are steps.
+    Run(FileNames<'a>, Running),
     /// Print steps of an image: at most `events`, 0 to 2^20, in turn or at random.
     Drive {
         image: &'a str,
@@ -86,14 +87,39 @@ fn drawing_of(words: &ArgMatches<'_>) -> Drawing {
     }
 }
 
+/// The form that the command line asks for.
+fn form_of(words: &ArgMatches<'_>) -> Form {
+    if words.get_flag("json") {
+        Form::Json
+    } else {
+        Form::Text
+    }
+}
+
+/// The names of the files of texts, and of steps if there are steps.
+fn names_of<'a>(words: &ArgMatches<'a>) -> FileNames<'a> {
+    FileNames {
+        cfg: word_of(words, "CFG"),
+        src: word_of(words, "SRC"),
+        steps: word_of(words, "STEPS"),
+    }
+}
+
+fn running_of(words: &ArgMatches<'_>) -> Running {
+    Running {
+        form: form_of(words),
+        events: words.get_one::<u32>("events").unwrap_or(0),
+        seed: words.get_one::<u64>("seed"),
+        bound: bound_of(words),
+    }
+}
+
 /// What a subcommand of this name asks for with its words.
 fn asked<'a>(name: &str, words: &ArgMatches<'a>) -> Cmd<'a> {
     match name {
         "code" => Cmd::Code(word_of(words, "CODE")),
-        "fault" => Cmd::Fault {
-            cfg: word_of(words, "CFG"),
-            src: word_of(words, "SRC"),
-        },
+        "fault" => Cmd::Fault(names_of(words), form_of(words)),
+        "run" => Cmd::Run(names_of(words), running_of(words)),
         "drive" => Cmd::Drive {
             image: word_of(words, "IMAGE"),
             events: words.get_one::<u32>("events").unwrap_or(0),

@@ -8,7 +8,7 @@ use crate::asking::{kept_bound, kept_events};
 use crate::driving::driven;
 use crate::opening::{events_of, fresh_kernel, image_of};
 use fmp_base::{Event, System};
-use fmp_diagnosis::{explain, topic_named};
+use fmp_diagnosis::{explain, topic_asked};
 use fmp_drive::{NextRun, Stop};
 use fmp_engine::SimFault;
 use fmp_frames::{Tallies, Viewer, Waves, last_frame, show_all};
@@ -22,9 +22,9 @@ pub fn made<T>(outcome: Result<T, AllocError>) -> Result<T, SimFault> {
     outcome.map_err(|_| SimFault::Memory)
 }
 
-/// What the code of this word means; none if no code is printed so.
+/// What the code that this word asks for means; none if there is none.
 pub fn code(alloc: Global, word: &str) -> Result<Option<Vec<u8>>, AllocError> {
-    let Some(topic) = topic_named(word.as_bytes()) else {
+    let Some(topic) = topic_asked(alloc, word.as_bytes())? else {
         return Ok(None);
     };
     let mut out = Vec::new(alloc);

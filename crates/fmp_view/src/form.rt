@@ -12,6 +12,7 @@ a run as a table, as a waveform or as a picture.";
 const EXAMPLE_AND_STATUS: &str = "Example, with the image of the example of 'fmp build --help':
   fmp_view code E_PAR
   fmp_view fault examples/queue.cfg examples/queue.src
+  fmp_view run examples/queue.cfg examples/queue.src
   fmp_view drive queue.img --events 20 > drive.steps
   fmp_view stats queue.img drive.steps
   fmp_view waves queue.img drive.steps queue.vcd
@@ -19,8 +20,8 @@ const EXAMPLE_AND_STATUS: &str = "Example, with the image of the example of 'fmp
 
 Status, and the line on standard error with it:
   0        done; help or the version was asked for
-  1        a fault of what was read: 'image: L2', 'steps:4: S1'; with 'fault', which prints it
-           on standard output, a fault of the texts, and not for warnings
+  1        a fault of what was read: 'image: L2', 'steps:4: S1'; with 'fault' and 'run', which
+           print it on standard output, a fault of the texts or steps, and not for warnings
   2        a mistake in the command line; a word that is no code; OUT is a file that is read;
            a picture that begins behind the last event, or has more than 40,000,000 bytes
   3        'file: NAME', a file could not be read or written ('-' is standard output); 'memory'";
@@ -55,9 +56,9 @@ pub const EVENTS_MAX: u32 = 1_048_576;
 /// A command, where there was memory for it.
 type Made<'a> = Result<Command<'a>, AllocError>;
 
-/// A command of this name, and what help says of it.
-fn named<'a>(alloc: Global, name: &'a str, about: &'a str) -> Command<'a> {
-    Command::new(alloc, name).about(about)
+/// A command of this name, what help says of it, and an example.
+fn named<'a>(alloc: Global, name: &'a str, about: &'a str, example: &'a str) -> Command<'a> {
+    Command::new(alloc, name).about(about).after_help(example)
 }
 
 /// A command with one more argument.
@@ -102,37 +103,41 @@ fn image<'a>(alloc: Global) -> Arg<'a> {
 }
 
 /// A command with the words for a run, and the option for its bound.
-fn of_run<'a>(alloc: Global, name: &'a str, about: &'a str) -> Made<'a> {
-    let command = with_argument(Ok(named(alloc, name, about)), image(alloc));
+fn of_run<'a>(alloc: Global, name: &'a str, about: &'a str, example: &'a str) -> Made<'a> {
+    let command = named(alloc, name, about, example);
+    let command = with_argument(Ok(command), image(alloc));
     let command = with_argument(command, word(alloc, "STEPS", STEPS));
     with_argument(command, bound(alloc))
 }
 
 fn code_command<'a>(alloc: Global) -> Made<'a> {
     let about = "Says what a code means, when it comes, and an example";
-    let code = "A code as it is printed: E_PAR, F_OVF, B4, L2, S1, H4";
-    with_argument(Ok(named(alloc, "code", about)), word(alloc, "CODE", code))
+    let code = "A code as it is printed, or its number: E_PAR, -17, F_OVF, B4, L2, S1, H4";
+    let code = word(alloc, "CODE", code).allow_negative_numbers(true);
+    let example = "Example: fmp_view code E_PAR";
+    with_argument(Ok(named(alloc, "code", about, example)), code)
 }
 
 fn drive_command<'a>(alloc: Global) -> Made<'a> {
     let about = "Prints a steps text that runs a system until it is quiet, or N events are done";
-    let most = u64::from(EVENTS_MAX);
-    let events = number(alloc, "events", "N", 0, most, EVENTS).default_value("1000");
-    let command = with_argument(Ok(named(alloc, "drive", about)), image(alloc));
-    let command = with_argument(command, events);
-    let command = with_argument(command, number(alloc, "seed", "S", 0, u64::MAX, SEED));
-    with_argument(command, bound(alloc))
+    let example = "Example: fmp_view drive queue.img --events 20 > drive.steps";
+    with_drive(
+        alloc,
+        with_argument(Ok(named(alloc, "drive", about, example)), image(alloc)),
+    )
 }
 
 fn stats_command<'a>(alloc: Global) -> Made<'a> {
     let about = "Prints a table of what each task of a run did, with its share of the events";
-    of_run(alloc, "stats", about)
+    let example = "Example: fmp_view stats queue.img drive.steps";
+    of_run(alloc, "stats", about, example)
 }
 
 /// The command `waves`.
 pub fn waves_command<'a>(alloc: Global) -> Made<'a> {
     let about = "Writes a run as a value change dump, which waveform viewers show";
-    let command = of_run(alloc, "waves", about);
+    let example = "Example: fmp_view waves queue.img drive.steps queue.vcd";
+    let command = of_run(alloc, "waves", about, example);
     with_argument(
         command,
         word(alloc, "OUT", "File that the dump is written to"),
@@ -153,22 +158,56 @@ pub fn timeline_command<'a>(alloc: Global) -> Made<'a> {
     let out = "File that the picture, an SVG, is written to";
     let most = u64::from(EVENTS_MAX);
     let from = number(alloc, "from", "K", 0, most, FROM).default_value("0");
-    let command = of_run(alloc, "timeline", about);
+    let example = "Example: fmp_view timeline queue.img drive.steps queue.svg --from 2 --to 5";
+    let command = of_run(alloc, "timeline", about, example);
     let command = with_argument(command, word(alloc, "OUT", out));
     let command = with_argument(command, from);
     let command = with_argument(command, number(alloc, "to", "K", 0, most, TO));
     with_argument(command, objects(alloc))
 }
 
+/// The option for JSON.
+fn json<'a>(alloc: Global) -> Arg<'a> {
+    Arg::new(alloc, "json")
+        .long("json")
+        .action(ArgAction::SetTrue)
+        .help("Print an object of JSON a line, for other programs")
+}
+
 fn fault_command<'a>(alloc: Global) -> Made<'a> {
     let about =
-        "Shows the fault of two texts and what was expected there; else their warnings, if any";
+        "Shows the fault of two texts and of steps, and what was expected there; else warnings, if any";
     let cfg = word(alloc, "CFG", "Configuration, as 'fmp check' reads it");
-    let command = with_argument(Ok(named(alloc, "fault", about)), cfg);
-    with_argument(
-        command,
-        word(alloc, "SRC", "Bodies of its tasks and handlers"),
-    )
+    let src = word(alloc, "SRC", "Bodies of its tasks and handlers");
+    let example = "Example: fmp_view fault examples/queue.cfg examples/queue.src --json";
+    let command = with_argument(Ok(named(alloc, "fault", about, example)), cfg);
+    let command = with_argument(command, src);
+    let command = with_argument(command, Arg::new(alloc, "STEPS").help(STEPS));
+    with_argument(command, json(alloc))
+}
+
+/// The options for how a system is driven.
+fn with_drive<'a>(alloc: Global, command: Made<'a>) -> Made<'a> {
+    let most = u64::from(EVENTS_MAX);
+    let events = number(alloc, "events", "N", 0, most, EVENTS).default_value("1000");
+    let command = with_argument(command, events);
+    let command = with_argument(command, number(alloc, "seed", "S", 0, u64::MAX, SEED));
+    with_argument(command, bound(alloc))
+}
+
+fn run_command<'a>(alloc: Global) -> Made<'a> {
+    let about =
+        "Prints the trace of two texts with the names of objects, and what each task waits for";
+    let cfg = word(alloc, "CFG", "Configuration, as 'fmp check' reads it");
+    let src = word(alloc, "SRC", "Bodies of its tasks and handlers");
+    let steps = Arg::new(alloc, "STEPS").help(
+        "Text of the events, as 'fmp sim' reads it; without it the system is driven",
+    );
+    let example = "Example: fmp_view run examples/queue.cfg examples/queue.src";
+    let command = with_argument(Ok(named(alloc, "run", about, example)), cfg);
+    let command = with_argument(command, src);
+    let command = with_argument(command, steps);
+    with_drive(alloc, with_argument(command, json(alloc)))
 }
 
 /// The command line with none of its commands yet.
@@ -185,6 +224,7 @@ fn bare<'a>(alloc: Global) -> Command<'a> {
 pub fn program<'a>(alloc: Global) -> Made<'a> {
     let program = with_command(Ok(bare(alloc)), code_command(alloc));
     let program = with_command(program, fault_command(alloc));
+    let program = with_command(program, run_command(alloc));
     let program = with_command(program, drive_command(alloc));
     let program = with_command(program, stats_command(alloc));
     let program = with_command(program, waves_command(alloc));

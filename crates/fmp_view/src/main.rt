@@ -6,6 +6,7 @@
 #![tactic(auto)]
 
 mod asking;
+mod built;
 mod commands;
 mod driving;
 mod exit;
@@ -15,6 +16,7 @@ mod opening;
 mod recording;
 mod running;
 mod timeline;
+mod tracing;
 mod turns;
 
 use fmp_files::{Host, refuse_words, words_of};

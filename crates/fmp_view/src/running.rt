@@ -2,12 +2,13 @@
 use crate::asking::{
     Cmd, Drawing, Run, command, dump_over_input, no_code, picture_of_nothing, picture_over_input,
 };
+use crate::built::{NoTrace, Running, Traced, traced_texts};
 use crate::commands::{Ending, Output, code, run_output, steps};
 use crate::exit::Exit;
-use crate::faults::{Shown, shown_fault};
+use crate::faults::{FileNames, Form, Shown, shown_fault};
 use crate::timeline::{TimelineFault, timeline};
 use fmp_base::Call;
-use fmp_diagnosis::{FileNames, Texts};
+use fmp_diagnosis::Texts;
 use fmp_drive::{NextRun, Stop};
 use fmp_engine::SimFault;
 use fmp_files::{Failure, Outside, end, print, read_file, refuse, refuse_mistake, write_file};
@@ -180,23 +181,70 @@ fn say_code<O: Outside>(alloc: Global, outside: &mut O, word: &str) -> u8 {
     }
 }
 
-/// What is shown of the texts of two files.
-fn shown_of<O: Outside>(alloc: Global, outside: &O, cfg: &str, src: &str) -> Result<Shown, Exit> {
-    let (cfg_text, src_text) = read_both(alloc, outside, cfg, src)?;
+/// The bytes of a file; none where it has no name.
+fn read_named<O: Outside>(alloc: Global, outside: &O, name: &str) -> Result<Vec<u8>, Failure> {
+    if name.is_empty() {
+        return Ok(Vec::new(alloc));
+    }
+    read_file(alloc, outside, name, None)
+}
+
+/// What is shown of the texts of these files.
+fn shown_of<O: Outside>(
+    alloc: Global,
+    outside: &O,
+    names: FileNames<'_>,
+    form: Form,
+) -> Result<Shown, Exit> {
+    let (cfg, src) = read_both(alloc, outside, names.cfg, names.src)?;
+    let steps = read_named(alloc, outside, names.steps)?;
     let texts = Texts {
-        cfg: &cfg_text,
-        src: &src_text,
+        cfg: &cfg,
+        src: &src,
     };
-    shown_fault(alloc, FileNames { cfg, src }, texts).map_err(|error| Exit::Failed(Failure::Memory(
+    shown_fault(alloc, form, names, texts, &steps).map_err(|error| Exit::Failed(Failure::Memory(
         error,
     )))
 }
 
-/// Prints the fault of the texts of two files, with status 1, or their warnings.
-fn print_fault<O: Outside>(alloc: Global, outside: &mut O, cfg: &str, src: &str) -> u8 {
-    match shown_of(alloc, outside, cfg, src) {
+/// Prints the fault of the texts of these files, with status 1, or their warnings.
+fn print_fault<O: Outside>(alloc: Global, outside: &mut O, names: FileNames<'_>, form: Form) -> u8 {
+    match shown_of(alloc, outside, names, form) {
         Ok(shown) => print(alloc, outside, shown.text()).max(shown.status()),
         Err(exit) => end(outside, &exit),
+    }
+}
+
+/// What is printed of a run of the texts of these files, or why there is nothing.
+fn traced_run<O: Outside>(
+    alloc: Global,
+    outside: &O,
+    names: FileNames<'_>,
+    run: Running,
+) -> Result<Result<Traced, NoTrace>, Failure> {
+    let (cfg, src) = read_both(alloc, outside, names.cfg, names.src)?;
+    if names.steps.is_empty() {
+        return Ok(traced_texts(alloc, &cfg, &src, None, run));
+    }
+    let steps = read_file(alloc, outside, names.steps, None)?;
+    Ok(traced_texts(alloc, &cfg, &src, Some(&steps), run))
+}
+
+/// Prints a trace, and says how its drive ended if it was driven.
+fn print_trace<O: Outside>(alloc: Global, outside: &mut O, traced: &Traced) -> u8 {
+    if let Some(ending) = traced.ending {
+        say_end(outside, ending);
+    }
+    print(alloc, outside, &traced.text)
+}
+
+/// Prints the trace of a run of the texts of these files, or their fault, with status 1.
+fn run_texts<O: Outside>(alloc: Global, outside: &mut O, names: FileNames<'_>, run: Running) -> u8 {
+    match traced_run(alloc, outside, names, run) {
+        Ok(Ok(traced)) => print_trace(alloc, outside, &traced),
+        Ok(Err(NoTrace::Faulty)) => print_fault(alloc, outside, names, run.form),
+        Ok(Err(NoTrace::Memory)) => end(outside, &Failure::Memory(AllocError)),
+        Err(failure) => end(outside, &failure),
     }
 }
 
@@ -204,7 +252,8 @@ fn print_fault<O: Outside>(alloc: Global, outside: &mut O, cfg: &str, src: &str)
 fn carry_out<O: Outside>(alloc: Global, outside: &mut O, cmd: Cmd<'_>) -> u8 {
     match cmd {
         Cmd::Code(word) => say_code(alloc, outside, word),
-        Cmd::Fault { cfg, src } => print_fault(alloc, outside, cfg, src),
+        Cmd::Fault(names, form) => print_fault(alloc, outside, names, form),
+        Cmd::Run(names, run) => run_texts(alloc, outside, names, run),
         Cmd::Drive {
             image,
             events,

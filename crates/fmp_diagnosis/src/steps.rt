@@ -1,0 +1,230 @@
+//! What is said of a fault of a steps text.
+ghost use Rattle.std.specs.Prelude.{◌≡◌, ◌+◌, ◌<◌, ◌≤◌, length, max, IfOk, OnOk};
+ghost use Rattle.fmp_diagnosis.specs.StepFindings as spec;
+ghost use Rattle.fmp_diagnosis.specs.StepFindings.{IsStepFinding, line_at};
+ghost use Rattle.fmp_diagnosis.specs.Words.{IsSaid};
+
+use crate::excerpt::excerpt_at;
+use crate::reports::{Finding, column_behind};
+use crate::words::{BYTE_ORDER_MARK, Word, say};
+use std::alloc::{AllocError, Global};
+
+/// What is wrong with a line of a steps text.
+#[derive(Clone, Copy, PartialEq, Eq)]
+pub enum StepFlaw {
+    /// The line is no event.
+    Form,
+    /// The number of a processor or of an interrupt is out of range; there are this many processors.
+    Range(u8),
+    /// There are more lines than a run may have events, and this is the first one too many.
+    TooMany,
+}
+
+impl StepFlaw {
+    /// Its code.
+    fn code(self) -> &'static str
+        ensures { result.now ≡ spec.code self }
+    {
+        match self {
+            StepFlaw::Form => "S1",
+            StepFlaw::Range(_) => "S2",
+            StepFlaw::TooMany => "S3",
+        }
+    }
+}
+
+/// What is wrong in a line: where it begins there, how many bytes it has, and what is said of it.
+#[derive(Clone, Copy)]
+struct Culprit {
+    from: usize,
+    length: usize,
+    said: &'static str,
+}
+
+/// A byte that shows as a blank.
+fn is_blank(byte: Option<&u8>) -> bool {
+    byte == Some(&b' ') || byte == Some(&b'\t')
+}
+
+/// A byte order mark, or a line that is empty.
+fn empty_or_marked(line: &[u8]) -> Option<Culprit> {
+    if line.is_empty() {
+        return Some(Culprit {
+            from: 0,
+            length: 0,
+            said: "the line is empty",
+        });
+    }
+    if line.starts_with(&BYTE_ORDER_MARK) {
+        return Some(Culprit {
+            from: 0,
+            length: 3,
+            said: "a byte order mark stands here",
+        });
+    }
+    None
+}
+
+/// A carriage return or a blank where none may stand: from which byte on, and what is said.
+fn stray_byte(line: &[u8]) -> Option<Culprit> {
+    let last = line.len().saturating_sub(1);
+    let (from, said) = if line.last() == Some(&b'\r') {
+        (
+            last,
+            "a carriage return stands here; lines end with a line feed alone",
+        )
+    } else if is_blank(line.last()) {
+        (last, "a blank ends the line")
+    } else if is_blank(line.first()) {
+        (0, "a blank begins the line")
+    } else {
+        return None;
+    };
+    Some(Culprit {
+        from,
+        length: 1,
+        said,
+    })
+}
+
+/// From where a line departs from an event as which it begins, and what is said.
+fn departure(line: &[u8]) -> (usize, &'static str) {
+    if line.starts_with(b"run 0") || line.starts_with(b"int 0") {
+        (4, "the number begins with 0")
+    } else if line.starts_with(b"run ") {
+        (4, "expected the number of a processor")
+    } else if line.starts_with(b"int ") {
+        (4, "expected the number of an interrupt")
+    } else if line.starts_with(b"tick") {
+        (4, "expected the end of the line behind `tick`")
+    } else {
+        (0, "this is no event")
+    }
+}
+
+/// A line that is no event for no reason that a byte alone tells.
+fn ill_formed(line: &[u8]) -> Culprit {
+    let (from, said) = departure(line);
+    Culprit {
+        from,
+        length: line.len().saturating_sub(from),
+        said,
+    }
+}
+
+/// Why a line is no event.
+fn no_event(line: &[u8]) -> Culprit {
+    match empty_or_marked(line) {
+        Some(found) => found,
+        None => match stray_byte(line) {
+            Some(found) => found,
+            None => ill_formed(line),
+        },
+    }
+}
+
+/// What is wrong in a line.
+fn wrong_in(line: &[u8], flaw: StepFlaw) -> Culprit {
+    match flaw {
+        StepFlaw::Form => no_event(line),
+        StepFlaw::Range(_) => Culprit {
+            from: 4,
+            length: line.len().saturating_sub(4),
+            said: "the number is out of range",
+        },
+        StepFlaw::TooMany => Culprit {
+            from: 0,
+            length: line.len(),
+            said: "this is one step too many",
+        },
+    }
+}
+
+/// Says what may stand in a line with this flaw.
+fn say_rule(flaw: StepFlaw, out: &mut Vec<u8>) -> Result<(), AllocError>
+    ensures { OnOk result (IsSaid out.old.items out.new.items) }
+{
+    match flaw {
+        StepFlaw::Form => say(
+            &[Word::Text("; each line is `run P`, `tick` or `int I`")],
+            out,
+        ),
+        StepFlaw::Range(processors) => say(
+            &[
+                Word::Text("; processors are numbered from 1 to "),
+                Word::Number(i64::from(processors)),
+                Word::Text(", interrupts from 1 to 32"),
+            ],
+            out,
+        ),
+        StepFlaw::TooMany => say(&[Word::Text("; a run has at most 1048576 steps")], out),
+    }
+}
+
+/// The sentence on a line with this flaw.
+fn sentence_on(alloc: Global, said: &'static str, flaw: StepFlaw) -> Result<Vec<u8>, AllocError>
+    ensures { IfOk result (λ sentence. 0 < length sentence.items) }
+{
+    let mut sentence = Vec::new(alloc);
+    say(&[Word::Text(said)], &mut sentence)?;
+    say_rule(flaw, &mut sentence)?;
+    Ok(sentence)
+}
+
+/// Where the line of this number, from 1, begins; where the text ends, if it has no such line.
+fn line_start(text: &[u8], number: u32) -> usize
+    ensures within { result ≤ length text.now }
+    ensures line { line_at text.now result ≤ max number 1 }
+    ensures end { line_at text.now result < max number 1 → result ≡ length text.now }
+{
+    let mut line = 1;
+    for i in 0..text.len() {
+        if line >= number {
+            return i;
+        }
+        if text[i] == b'\n' {
+            line += 1;
+        }
+    }
+    text.len()
+}
+
+/// The place so many bytes behind a place, but not behind its line.
+fn within_line(text: &[u8], from: usize, count: usize) -> usize
+    requires { from ≤ length text.now }
+    ensures low { from ≤ result }
+    ensures within { result ≤ length text.now }
+    ensures line { line_at text.now result ≡ line_at text.now from }
+{
+    for i in from..text.len() {
+        if i - from == count || text[i] == b'\n' {
+            return i;
+        }
+    }
+    text.len()
+}
+
+/// What is said of the line of this number, from 1, of a steps text that has this flaw. `AllocError` if memory runs out.
+pub fn step_finding(
+    alloc: Global,
+    text: &[u8],
+    number: u32,
+    flaw: StepFlaw,
+) -> Result<Finding, AllocError>
+    ensures { IfOk result (IsStepFinding text.now number flaw) }
+{
+    let start = line_start(text, number);
+    let finish = within_line(text, start, usize::MAX);
+    let found = wrong_in(&text[start..finish], flaw);
+    let at = within_line(text, start, found.from);
+    let end = within_line(text, at, found.length);
+    let excerpt = excerpt_at(alloc, text, at, end)?;
+    Ok(Finding {
+        line: number,
+        end: column_behind(excerpt.column, at, end),
+        excerpt,
+        code: flaw.code(),
+        refusal: "",
+        sentence: sentence_on(alloc, found.said, flaw)?,
+    })
+}

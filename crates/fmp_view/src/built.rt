@@ -1,0 +1,206 @@
+//! A run of a system that is built from its texts in memory.
+ghost use Rattle.std.specs.Prelude.{◌≡◌, ◌≤◌, ◌^◌, [], IfOk, length};
+ghost use Rattle.fmp_image.specs.Building.{Builds};
+ghost use Rattle.fmp_instructions.specs.Machine.{code_meaning};
+ghost use Rattle.fmp_replay.specs.Replays.{kernel_after};
+ghost use Rattle.fmp_view.specs.Traces.{IsTrace};
+
+use crate::asking::{kept_bound, kept_events};
+use crate::commands::Ending;
+use crate::driving::driven;
+use crate::faults::Form;
+use crate::opening::events_of;
+use crate::tracing::trace_on;
+use fmp_base::Event;
+use fmp_code::Vm;
+use fmp_engine::SimFault;
+use fmp_image::build;
+use fmp_image_bytes::Image;
+use fmp_kernel::Kernel;
+use fmp_lex::BuildFault;
+use fmp_replay::kernel_of;
+use std::alloc::{AllocError, Global};
+
+/// How a system is run.
+#[derive(Clone, Copy)]
+pub struct Running {
+    pub form: Form,
+    /// How many events are done at most where there are no steps, 0 to 2^20.
+    pub events: u32,
+    /// Whether processors go at random there, and by which number.
+    pub seed: Option<u64>,
+    /// The bound of a stretch, 1 to 2^48.
+    pub bound: u64,
+}
+
+/// Why there is no trace.
+#[derive(Clone, Copy)]
+pub enum NoTrace {
+    /// A text, or the steps, have a fault.
+    Faulty,
+    /// Memory ran out.
+    Memory,
+}
+
+/// What is printed of a run, and how its drive ended if it was driven.
+#[derive(Drop)]
+pub struct Traced {
+    pub text: Vec<u8>,
+    pub ending: Option<Ending>,
+}
+
+/// Steps, and how their drive ended if they were driven.
+#[derive(Drop)]
+struct Stepped {
+    events: Vec<Event>,
+    ending: Option<Ending>,
+}
+
+/// The image that two texts build.
+fn built(alloc: Global, cfg: &[u8], src: &[u8]) -> Result<Image, NoTrace>
+    ensures { IfOk result (Builds cfg.now src.now) }
+{
+    match build(alloc, cfg, src) {
+        Ok(image) => Ok(image),
+        Err(BuildFault::Memory) => Err(NoTrace::Memory),
+        Err(BuildFault::At(..)) => Err(NoTrace::Faulty),
+    }
+}
+
+/// The trace of a run of the kernel of an image over events.
+#[tactic(none)]
+fn trace_from<'a>(
+    alloc: Global,
+    form: Form,
+    image: &'a Image,
+    kernel: &mut Kernel<Vm<'a>>,
+    events: &[Event],
+    n: u64,
+) -> Result<Vec<u8>, AllocError>
+    requires kernel { kernel.old ≡ kernel_after image.now n [] }
+    requires few { length events.now ≤ 2 ^ 20 }
+    ensures { IfOk result (λ out. IsTrace form image.now.system code_meaning (kernel_after image.now n [])
+        events.now out.items) }
+{
+    trace_on(alloc, form, image.system(), kernel, events)
+}
+
+/// The trace of a run of an image over events. `AllocError` if memory runs out.
+#[tactic(none)]
+fn trace_of(
+    alloc: Global,
+    form: Form,
+    image: &Image,
+    events: &[Event],
+    n: u64,
+) -> Result<Vec<u8>, AllocError>
+    requires low { 1 ≤ n }
+    requires high { n ≤ 2 ^ 48 }
+    requires few { length events.now ≤ 2 ^ 20 }
+    ensures { IfOk result (λ out. IsTrace form image.now.system code_meaning (kernel_after image.now n [])
+        events.now out.items) }
+{
+    let mut kernel = kernel_of(alloc, image, n)?;
+    trace_from(alloc, form, image, &mut kernel, events, n)
+}
+
+/// The events that a drive of an image takes, and how it ended.
+#[tactic(none)]
+fn driven_events(alloc: Global, image: &Image, run: Running) -> Result<Stepped, AllocError>
+    ensures { IfOk result (λ s. length s.events.items ≤ 2 ^ 20) }
+{
+    let drive = driven(
+        alloc,
+        image,
+        kept_events(run.events),
+        run.seed,
+        kept_bound(run.bound),
+    )?;
+    let next = drive.next;
+    let ending = Ending {
+        stop: drive.driven.stop,
+        next,
+        processors: image.system().processors,
+    };
+    Ok(Stepped {
+        events: drive.driven.steps,
+        ending: Some(ending),
+    })
+}
+
+/// The events of a steps text for an image.
+fn read_events(alloc: Global, image: &Image, text: &[u8]) -> Result<Stepped, NoTrace>
+    ensures { IfOk result (λ s. length s.events.items ≤ 2 ^ 20) }
+{
+    match events_of(alloc, text, image.system().processors) {
+        Ok(events) => Ok(Stepped {
+            events,
+            ending: None,
+        }),
+        Err(SimFault::Memory) => Err(NoTrace::Memory),
+        Err(_) => Err(NoTrace::Faulty),
+    }
+}
+
+/// The events of a steps text for an image, or of a drive of it where there is no text.
+fn steps_for(
+    alloc: Global,
+    image: &Image,
+    steps: Option<&[u8]>,
+    run: Running,
+) -> Result<Stepped, NoTrace>
+    ensures { IfOk result (λ s. length s.events.items ≤ 2 ^ 20) }
+{
+    match steps {
+        Some(text) => read_events(alloc, image, text),
+        None => match driven_events(alloc, image, run) {
+            Ok(stepped) => Ok(stepped),
+            Err(_) => Err(NoTrace::Memory),
+        },
+    }
+}
+
+/// What is printed of a run of an image over steps.
+fn traced_over(
+    alloc: Global,
+    image: &Image,
+    stepped: Stepped,
+    run: Running,
+) -> Result<Traced, AllocError>
+    requires { length stepped.events.items ≤ 2 ^ 20 }
+{
+    let text = trace_of(
+        alloc,
+        run.form,
+        image,
+        &stepped.events,
+        kept_bound(run.bound),
+    )?;
+    Ok(Traced {
+        text,
+        ending: stepped.ending,
+    })
+}
+
+/// What is printed of a run of an image over a steps text, or of a drive of it.
+fn traced_image(
+    alloc: Global,
+    image: &Image,
+    steps: Option<&[u8]>,
+    run: Running,
+) -> Result<Traced, NoTrace> {
+    let stepped = steps_for(alloc, image, steps, run)?;
+    traced_over(alloc, image, stepped, run).map_err(|_| NoTrace::Memory)
+}
+
+/// What is printed of a run of the system of two texts: over a steps text, or of a drive where there is none.
+pub fn traced_texts(
+    alloc: Global,
+    cfg: &[u8],
+    src: &[u8],
+    steps: Option<&[u8]>,
+    run: Running,
+) -> Result<Traced, NoTrace> {
+    let image = built(alloc, cfg, src)?;
+    traced_image(alloc, &image, steps, run)
+}
