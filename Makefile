@@ -2,8 +2,8 @@
 # make uninstall [PREFIX=/usr/local] [DESTDIR=]
 #
 # Copies the proved programs, their manual pages, their completions and the reference below PREFIX, and says where; or
-# removes these files. It builds nothing: each program stands in its crate's folder out once `rt run` there, or the gate,
-# has proved it.
+# removes these files. It builds nothing: each program stands in its crate's folder out once `rt run` there, or the
+# gate, has proved it.
 
 PREFIX ?= /usr/local
 PROGRAM ?= crates/fmp/out/fmp

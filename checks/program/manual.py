@@ -171,7 +171,8 @@ def page(manual):
     lines += [".SH NOTES", *as_it_stands(top.rest)]
     lines.append(".SH SEE ALSO")
     lines += [f"\\fB{roff(other)}\\fR(1)," for other in PROGRAMS if other != manual.name]
-    lines.append(f"{REFERENCE}, which is docs/LANGUAGE.md of the repository: the texts, service calls, traces and faults.")
+    reference = f"{REFERENCE}, which is docs/LANGUAGE.md of the repository"
+    lines.append(f"{reference}: the texts, service calls, traces and faults.")
     return "\n".join(lines) + "\n"
 
 

@@ -189,7 +189,7 @@ fn line_start(text: &[u8], number: u32) -> usize
     text.len()
 }
 
-/// The place so many bytes behind a place, but not behind its line.
+/// The place this number of bytes behind another one, or the end of its line if that comes first.
 fn within_line(text: &[u8], from: usize, count: usize) -> usize
     requires { from ≤ length text.now }
     ensures low { from ≤ result }
@@ -204,7 +204,8 @@ fn within_line(text: &[u8], from: usize, count: usize) -> usize
     text.len()
 }
 
-/// What is said of the line of this number, from 1, of a steps text that has this flaw. `AllocError` if memory runs out.
+/// What is said of the line of this number, from 1, of a steps text that has this flaw. `AllocError` if memory runs
+/// out.
 pub fn step_finding(
     alloc: Global,
     text: &[u8],

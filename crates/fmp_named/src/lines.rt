@@ -178,7 +178,8 @@ fn append_called(
     reply: Option<Reply>,
     out: &mut Vec<u8>,
 ) -> Result<(), AllocError>
-    ensures { OnOk result (out.new.items ≡ out.old.items ++ spec.called (tables_of sys.now) processor caller call reply) }
+    ensures { OnOk result (out.new.items
+        ≡ out.old.items ++ spec.called (tables_of sys.now) processor caller call reply) }
 {
     append_actor(sys, processor, caller, out)?;
     append(b" ", out)?;

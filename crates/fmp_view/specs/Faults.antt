@@ -26,7 +26,7 @@ use Rattle.fmp_view.specs.declared.faults.Shown.{Shown}
 use Rattle.fmp_view.specs.declared.faults.Shown.TheVariants as shown
 use Rattle.fmp_view.specs.declared.faults.StepFault.{StepFault}
 
--- this is the first fault of two texts; or they build the image of a system with so many processors
+-- this is the first fault of two texts; or they build the image of a system with this number of processors
 abbrev pub IsFound : (cfg src : List ℕ) → Found → Type 0
 IsFound cfg src (found.Faulty f) = IsBuildFault cfg src (build.At f.file f.place f.kind)
 IsFound cfg src (found.Sound processors) =
@@ -38,7 +38,7 @@ told line flaw.Form = fault.Line line
 told line (flaw.Range processors) = fault.Range line
 told line flaw.TooMany = fault.TooMany line
 
--- this is the first fault of a steps text for so many processors; or it has none
+-- this is the first fault of a steps text for this number of processors; or it has none
 abbrev pub HasStepFault : (processors : ℕ) → List ℕ → Option StepFault → Type 0
 HasStepFault processors text (Some f) = steps_of processors text ≡ Err (told f.line f.flaw)
 HasStepFault processors text None = (es : List Event) × (steps_of processors text ≡ Ok es)

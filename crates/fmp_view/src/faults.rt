@@ -186,8 +186,8 @@ fn shown_of(
     Ok(Shown::Faulty(printed(alloc, form, name, &finding)?))
 }
 
-/// What is said of the first fault of two texts, or else of steps, which are empty where there are none; or the warnings
-/// of the texts. `AllocError` if memory runs out.
+/// What is said of the first fault of two texts, or else of steps, which are empty where there are none; or the
+/// warnings of the texts. `AllocError` if memory runs out.
 pub fn shown_fault(
     alloc: Global,
     form: Form,
