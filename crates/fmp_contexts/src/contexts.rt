@@ -9,7 +9,7 @@ ghost use Rattle.fmp_contexts.specs.Contexts.{AllContexts, Entered, Fitting, Han
 ghost use Rattle.fmp_worlds.specs.Settled.{IsThere};
 
 use crate::kept::{self, Kept};
-use fmp_base::{Body, Caller, Entry, Reply, Stop, System};
+use fmp_base::{Body, Caller, Entry, HandlerContext, Held, Reply, Stop, System};
 use fmp_tasks::Tables;
 use std::alloc::{AllocError, Global};
 use std::marker::Model;
@@ -168,6 +168,29 @@ impl<C: Copy> BodyContexts<C> {
                 Some(Some(handler)) => handler.kept.goes(),
                 _ => false,
             },
+        }
+    }
+
+    /// What is kept of a task, if there is one.
+    pub fn task(&self, t: u8) -> Option<Held<C>>
+        ensures { result ≡ context_at self.now.tasks t }
+    {
+        match self.tasks.get(t as usize) {
+            Some(Some(kept)) => Some(kept.held()),
+            _ => None,
+        }
+    }
+
+    /// What is kept of the handler that runs on a processor, if one does.
+    pub fn handler(&self, p: u8) -> Option<HandlerContext<Held<C>>>
+        ensures { result ≡ context_at self.now.handlers p }
+    {
+        match self.handlers.get(p as usize) {
+            Some(Some(handler)) => Some(HandlerContext {
+                body: handler.body,
+                context: handler.kept.held(),
+            }),
+            _ => None,
         }
     }
 

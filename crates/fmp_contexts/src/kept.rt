@@ -7,7 +7,7 @@ ghost use Rattle.fmp_base.specs.Meanings.{told};
 ghost use Rattle.fmp_base.specs.Contexts.{OfCall, stopped};
 ghost use Rattle.fmp_contexts.specs.Contexts.{OfHeld, context_held, going_context, held_by, is_call, is_going, stretched_from};
 
-use fmp_base::{Body, Reply, Stop};
+use fmp_base::{Body, Held, Reply, Stop};
 use std::marker::Model;
 
 /// A context, and whether it awaits the reply to the call of its body.
@@ -53,6 +53,17 @@ impl<C: Copy> Kept<C> {
         ensures { result ≡ is_going (Some self.now) }
     {
         !self.awaits
+    }
+
+    /// What is kept.
+    pub fn held(&self) -> Held<C>
+        ensures { result ≡ self.now }
+    {
+        if self.awaits {
+            Held::Awaits(self.context)
+        } else {
+            Held::Goes(self.context)
+        }
     }
 
     /// This context is kept, and awaits the reply to its call, or does not.

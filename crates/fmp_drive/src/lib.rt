@@ -10,3 +10,4 @@ mod trying;
 pub use driving::{Driven, Stop, drive};
 pub use next::{NextRun, next_runs};
 pub use plan::Plan;
+pub use trying::{Source, first_taken};

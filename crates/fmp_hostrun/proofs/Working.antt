@@ -208,7 +208,7 @@ within_room i n row e most was now count a h = by_count a.count refl
     by_count zero none = omega (arith, h, a.mine_is, none)
     by_count (suc k) is = let r = a.room (λ z. absurd (omega (arith, z, is))) in omega (arith, r, h)
 
--- a thread that has added at most so many has counted no more
+-- a thread that has added at most this many has counted no more
 pub mine_most : (i : ImageTables) (n : ℕ) (row : RowId) (e : Event) (most enough : ℕ) (was mid now : SeatState) → Added i n row e most was mid → now.mine ≡ mid.mine → most < enough
     → now.mine < was.mine + enough
 mine_most i n row e most enough was mid now a same lt = omega (arith, a.few, a.mine_is, same, lt)

@@ -94,7 +94,7 @@ tables_in s =
 abbrev pub parts_of : ImageTables → Parts
 parts_of i = (magic ▹ i.version ▹ i.system.processors) ▹ (i.heads ▹ i.code) ▹ tables_in i.system
 
--- the system of an image of a version: so many processors and these tables
+-- the system of an image of a version, with this number of processors and these tables
 abbrev pub system_of : (version processors : ℕ) → TheTables → SystemTables
 system_of version processors
     (tasks ▹ semaphores ▹ flags ▹ data_queues ▹ mailboxes ▹ messages ▹ shared_words ▹ spin_locks ▹ cyclics

@@ -1,5 +1,6 @@
 //! The kernel over lawful bodies: setup, and one event after the other.
 ghost use Rattle.std.specs.Prelude.{◌≡◌, ◌+◌, ◌<◌, ◌≤◌, ◌^◌, length, IfNone, IfOk, IfSome};
+ghost use Rattle.fmp_base.specs.Meanings.{context_at};
 ghost use Rattle.fmp_base.specs.Ranges.{IsInRange};
 ghost use Rattle.fmp_base.specs.Runs.{task_state};
 ghost use Rattle.fmp_base.specs.Setups.{setup};
@@ -14,7 +15,7 @@ ghost use Rattle.fmp_worlds.specs.Stamps.{actor_at_number, applied};
 use crate::actors::Actor;
 use crate::runner::Runner;
 use crate::stamps::{Stamps, run_place};
-use fmp_base::{Body, Effect, Event, Line, Stretch, System, TaskState};
+use fmp_base::{Body, Effect, Event, HandlerContext, Held, Line, Stretch, System, TaskState};
 use fmp_tasks::Tables;
 use std::alloc::{AllocError, Global};
 use std::marker::Model;
@@ -122,6 +123,20 @@ impl<B: Body> Kernel<B> {
         ensures state { result.now.state ≡ self.now.world.state }
     {
         self.runner.tables()
+    }
+
+    /// What is kept of the body of the task at place t, from 0, if there is one.
+    pub fn held(&self, t: u8) -> Option<Held<B::Ctx>>
+        ensures { result ≡ context_at self.now.world.contexts.tasks t }
+    {
+        self.runner.contexts.task(t)
+    }
+
+    /// What is kept of the body of the handler that runs on the processor at place p, from 0, if one does.
+    pub fn held_handler(&self, p: u8) -> Option<HandlerContext<Held<B::Ctx>>>
+        ensures { result ≡ context_at self.now.world.contexts.handlers p }
+    {
+        self.runner.contexts.handler(p)
     }
 
     /// An event has at most 519 lines.

@@ -1,4 +1,5 @@
 pub mod Crossing
+pub mod HoldingLemmas
 pub mod NewLemmas
 pub mod OnceLemmas
 pub mod OrderedLemmas

@@ -50,7 +50,7 @@ wait_home-below : (w : WaitQueues) (r : RingLists) (o : Option WaitQueue) → Ar
 wait_home-below w r None a l = tt
 wait_home-below w r (Some q) a l = head-below w r q a l
 
-some_queue : (w : WaitQueues) (sys : SystemTables) (x : TaskBlock) → w ≡ waits_of sys → Fits sys x → IsSomeThere w.counts (queue_of x.phase)
+pub some_queue : (w : WaitQueues) (sys : SystemTables) (x : TaskBlock) → w ≡ waits_of sys → Fits sys x → IsSomeThere w.counts (queue_of x.phase)
 some_queue w sys x e f = subst (λ (v : WaitQueues). IsSomeThere v.counts (queue_of x.phase)) (sym e) f.queue
 
 home-below : (w : WaitQueues) (sys : SystemTables) (r : RingLists) (x : TaskBlock) → w ≡ waits_of sys → AreLent w r → Fits sys x → IsBelow (length r.lists) (home w x)

@@ -1,5 +1,6 @@
 pub mod Callers
 pub mod Empties
+pub mod Holding
 pub mod Homes
 pub mod Joining
 pub mod KeptLaws

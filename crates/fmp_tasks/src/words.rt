@@ -46,6 +46,13 @@ impl Words {
         self.ring.front().copied()
     }
 
+    /// The word at this place, counted from the oldest one, if any.
+    pub fn get(&self, i: u8) -> Option<i32>
+        ensures { result ≡ slice_get self.now i }
+    {
+        self.ring.get(i as usize).copied()
+    }
+
     /// Puts a word last, if there are fewer than 255.
     pub fn append(&mut self, word: i32)
         requires { length self.old < 255 }

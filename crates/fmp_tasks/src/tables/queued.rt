@@ -1,10 +1,11 @@
 //! What data queues and mailboxes hold.
-ghost use Rattle.std.specs.Prelude.{◌≡◌, ◌<◌, ◌≤◌, ◌++◌, ◌∷◌, [], length, slice_get, true, false};
+ghost use Rattle.std.specs.Prelude.{◌≡◌, ◌<◌, ◌≤◌, ◌++◌, ◌∷◌, [], length, slice_get, true, false, IfSome};
 ghost use Rattle.fmp_base.specs.DataQueueCalls.{words_at, with_words, has_room, appended, without_oldest};
 ghost use Rattle.fmp_base.specs.MailboxCalls.{messages_at, with_messages, enqueued, message_priority, is_queued};
 ghost use Rattle.fmp_base.specs.Queues.{first_of};
 ghost use Rattle.fmp_base.specs.Systems.{mailbox_config};
-ghost use Rattle.fmp_ring.specs.RingLists.{behind_first};
+ghost use Rattle.fmp_ring.specs.RingLists.{behind_first, follower};
+ghost use Rattle.fmp_tasks.specs.Holding.{messages_holding};
 
 use crate::messages::{length_of, put};
 use crate::tables::Tables;
@@ -43,6 +44,14 @@ impl Tables {
         ensures { result ≡ slice_get (words_at self.now.state d) 0 }
     {
         self.words[d as usize].oldest()
+    }
+
+    /// The word at place i of a data queue, counted from the oldest one, if any.
+    pub fn word(&self, d: u8, i: u8) -> Option<i32>
+        requires { d < length self.now.system.data_queues }
+        ensures { result ≡ slice_get (words_at self.now.state d) i }
+    {
+        self.words[d as usize].get(i)
     }
 
     /// Puts a word last in a data queue that has room.
@@ -111,6 +120,17 @@ impl Tables {
         ensures { result ≡ first_of (messages_at self.now.state x) }
     {
         as_byte(self.mailboxes.first(x as u16, &mut Steps::new()))
+    }
+
+    /// The message right behind another one in its mailbox; none where that one is the last, or is queued nowhere.
+    pub fn message_behind(&self, g: u8) -> Option<u8>
+        ensures value { result ≡ follower g (messages_holding self.now.state.mailboxes g) }
+        ensures there { IfSome result (λ u. u < length self.now.system.messages) }
+    {
+        if !self.mailboxes.is_linked(g as u16, &mut Steps::new()) {
+            return None;
+        }
+        as_byte(self.mailboxes.next(g as u16, &mut Steps::new()))
     }
 
     /// Queues a message, which is queued nowhere, in a mailbox: last in FIFO order (TA_MFIFO), after those that are at

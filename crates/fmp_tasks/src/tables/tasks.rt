@@ -6,6 +6,7 @@ ghost use Rattle.fmp_base.specs.States.{task_at, with_task, with_last, with_remo
 ghost use Rattle.fmp_base.specs.TaskCalls.{goes_last, rotated};
 ghost use Rattle.fmp_ring.specs.Orders.{IsOrder};
 ghost use Rattle.fmp_ring.specs.RingLists.{follower};
+ghost use Rattle.fmp_tasks.specs.Holding.{queue_holding};
 ghost use Rattle.fmp_tasks.specs.Homes.{Fits, Stays, is_in_order, counts_of};
 ghost use Rattle.fmp_waitq.specs.WaitLists.{IsThere};
 
@@ -13,6 +14,7 @@ use crate::config::order_of;
 use crate::queues::{is_ready as is_able, join, leave, queue_of, set_deadline};
 use crate::tables::Tables;
 use fmp_base::{QueueOrder, Steps, TaskBlock, WaitQueue};
+use fmp_ring::as_byte;
 
 impl Tables {
     /// How many tasks there are.
@@ -74,6 +76,18 @@ impl Tables {
         ensures order { IsOrder (length self.now.system.tasks) (wait_queue self.now.system self.now.state queue) }
     {
         self.waits.next(&self.rings, queue, t, &mut Steps::new())
+    }
+
+    /// The task that stands right behind another one in its queue, the ready queue of its processor and priority or the
+    /// wait queue of an object; none where that one is the last, or stands in none.
+    pub fn behind(&self, t: u8) -> Option<u8>
+        ensures value { result ≡ follower t (queue_holding self.now.system self.now.state t) }
+        ensures there { IfSome result (λ u. u < length self.now.system.tasks) }
+    {
+        if !self.rings.is_linked(t as u16, &mut Steps::new()) {
+            return None;
+        }
+        as_byte(self.rings.next(t as u16, &mut Steps::new()))
     }
 
     /// Whether a task goes to the end when its priority changes: a ready one, and one in a queue of priority order.
