@@ -62,7 +62,9 @@ pub fn deliver_in_place(body: &BodyCode, context: &mut MachineContext, reply: Re
         },
     ) = before(body, context.pc)
     {
-        give_reply(&mut context.locals, service, out, receiver, reply);
+        if out.is_some() || receiver.is_some() {
+            give_reply(&mut context.locals, service, out, receiver, reply);
+        }
     }
 }
 

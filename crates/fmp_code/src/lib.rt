@@ -10,6 +10,7 @@ mod holding;
 pub mod laws;
 mod machine;
 mod operands;
+mod stretches;
 mod vm;
 
 pub use decoded_code::DecodedCode;
@@ -17,5 +18,6 @@ pub use delivery::{deliver, deliver_in_place};
 pub use fmp_instructions::{
     BodyCode, Code, Instruction, MachineContext, keeps_table, verify, verify_body,
 };
-pub use machine::{start, stretch, stretch_in_place};
+pub use machine::start;
+pub use stretches::{stretch, stretch_in_place};
 pub use vm::Vm;

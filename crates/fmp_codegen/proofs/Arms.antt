@@ -1,5 +1,7 @@
 -- What the arms of the emitter of statements have put together.
-use Rattle.std.proofs.Common.{◌≡◌, ℕ, ◌+◌, List, [], ◌∷◌, ◌++◌, length, ap, ◌∙◌, arith, append_assoc}
+use Rattle.std.proofs.Common.{◌≡◌, ℕ, ◌+◌, List, [], ◌∷◌, ◌++◌, length, ap, sym, ◌∙◌, arith, append_assoc, length-append}
+use Rattle.std.specs.Prelude.{slice_set}
+use Rattle.std.proofs.Math.Seq.{set-append_seam}
 use Rattle.fmp_tasklang.specs.Trees.{ExpressionTree, Block, if_then, if_else, while}
 use Rattle.fmp_tasklang.specs.Scopes.{Scope}
 use Rattle.fmp_instructions.specs.declared.instructions.Instruction.{Instruction}
@@ -8,6 +10,7 @@ use Rattle.fmp_scopes.specs.Chains.{test_code}
 use Rattle.fmp_scopes.specs.DepthTables.{expression_depths, statement_depths, block_depths}
 use Rattle.fmp_scopes.specs.Scheme.{expression_code, statement_code, block_code}
 use Rattle.fmp_scopes.specs.Sizes.{expression_size, block_size}
+use Rattle.fmp_codegen.proofs.Lengths.{length-expression_code, length-block_code}
 
 -- a test and what stands behind it
 tested : {A : Type 0} (begun first : List A) (test : A) (rest : List A) → (begun ++ (first ++ test ∷ [])) ++ rest ≡ begun ++ (first ++ (test ∷ rest))
@@ -18,6 +21,10 @@ tested begun first test rest =
 piled : {A : Type 0} (begun first second third : List A) → (begun ++ (first ++ second)) ++ third ≡ begun ++ (first ++ (second ++ third))
 piled begun first second third =
     append_assoc begun (first ++ second) third ∙ ap (λ c. begun ++ c) (append_assoc first second third)
+
+-- what stands behind a list of this length becomes another
+changed : {A : Type 0} (xs ys : List A) (y a : A) (n : ℕ) → n ≡ length xs → slice_set (xs ++ y ∷ ys) n a ≡ xs ++ a ∷ ys
+changed xs ys y a n e = ap (λ k. slice_set (xs ++ y ∷ ys) k a) e ∙ set-append_seam xs y ys a
 
 module _ (scope : Scope) (e : ExpressionTree) (b : Block) (begun made made' : List Instruction) (over again exit : ℕ)
     (did : made ≡ begun ++ test_code scope e (length begun) over) (len : length made ≡ length begun + expression_size e + 1)
@@ -32,11 +39,29 @@ module _ (scope : Scope) (e : ExpressionTree) (b : Block) (begun made made' : Li
       then_did ∙ ap (λ n. made ++ block_code scope b n again exit) len ∙ ap (λ c. c ++ inner) did
       ∙ tested begun (expression_code scope e (length begun)) (JumpIfZero (length begun + expression_size e + 1 + over)) inner
 
+  -- the test leads elsewhere
+  retested :
+      (rest : List Instruction) (at to : ℕ) → at + 1 ≡ length made →
+      slice_set (begun ++ (expression_code scope e (length begun) ++ (JumpIfZero (length begun + expression_size e + 1 + over) ∷ rest))) at (JumpIfZero to)
+      ≡ begun ++ (expression_code scope e (length begun) ++ (JumpIfZero to ∷ rest))
+  retested rest at to place =
+      let code = expression_code scope e (length begun) in
+      let test = JumpIfZero (length begun + expression_size e + 1 + over) in
+      let here : at ≡ length (begun ++ code) =
+      omega (arith, place, len, length-append begun code, length-expression_code scope e (length begun)) in
+      ap (λ c. slice_set c at (JumpIfZero to)) (sym (append_assoc begun code (test ∷ rest)))
+      ∙ changed (begun ++ code) rest test (JumpIfZero to) at here
+      ∙ append_assoc begun code (JumpIfZero to ∷ rest)
+
   pub if-emitted :
-      over ≡ block_size b → made' ≡ begun ++ statement_code scope (if_then e b) (length begun) again exit
-  if-emitted size =
-      tested-block
-      ∙ ap (λ o. begun ++ (expression_code scope e (length begun) ++ (JumpIfZero (length begun + expression_size e + 1 + o) ∷ inner))) size
+      (whole : List Instruction) (at : ℕ) → at + 1 ≡ length made → length made' ≡ length made + block_size b →
+      whole ≡ slice_set made' at (JumpIfZero (length made')) →
+      whole ≡ begun ++ statement_code scope (if_then e b) (length begun) again exit
+  if-emitted whole at place more ends =
+      let there : length made' ≡ length begun + expression_size e + 1 + block_size b = omega (arith, len, more) in
+      ends ∙ ap (λ c. slice_set c at (JumpIfZero (length made'))) tested-block
+      ∙ retested inner at (length made') place
+      ∙ ap (λ t. begun ++ (expression_code scope e (length begun) ++ (JumpIfZero t ∷ inner))) there
 
   -- a test, a block and a jump
   tested-jump :
@@ -61,24 +86,44 @@ module _ (scope : Scope) (e : ExpressionTree) (b : Block) (begun made made' : Li
       ∙ ap (λ a. begun ++ (expression_code scope e (length begun) ++ (JumpIfZero after ∷ (block_code scope b first a after ++ Jump a ∷ [])))) back
 
   pub else-emitted :
-      (r : Block) (before whole : List Instruction) (to : ℕ) → over ≡ block_size b + 1 → length made' ≡ length made + block_size b →
-      to ≡ length made' + 1 + block_size r → before ≡ made' ++ Jump to ∷ [] → length before ≡ length made' + 1 →
-      whole ≡ before ++ block_code scope r (length before) again exit →
+      (r : Block) (before turned last whole : List Instruction) (at jump : ℕ) → at + 1 ≡ length made →
+      length made' ≡ length made + block_size b → before ≡ made' ++ Jump 0 ∷ [] → length before ≡ length made' + 1 →
+      jump + 1 ≡ length before → turned ≡ slice_set before at (JumpIfZero (length before)) →
+      length turned ≡ length before → last ≡ turned ++ block_code scope r (length turned) again exit →
+      length last ≡ length turned + block_size r → whole ≡ slice_set last jump (Jump (length last)) →
       whole ≡ begun ++ statement_code scope (if_else e b r) (length begun) again exit
-  else-emitted r before whole to size more target jumps longer last =
+  else-emitted r before turned last whole at jump place more jumps longer behind turns same goes most ends =
       let first = length begun + expression_size e + 1 in
       let second = first + block_size b + 1 in
       let code = expression_code scope e (length begun) in
-      let here : length begun + expression_size e + 1 + over ≡ second = omega arith in
-      let place : length before ≡ second = omega (arith, len) in
-      let there : to ≡ second + block_size r = omega (arith, len) in
       let other = block_code scope r second again exit in
-      last ∙ ap (λ n. before ++ block_code scope r n again exit) place
-      ∙ ap (λ c. c ++ other) (tested-jump before to jumps)
-      ∙ piled begun code (JumpIfZero (length begun + expression_size e + 1 + over) ∷ (inner ++ Jump to ∷ [])) other
-      ∙ ap (λ c. begun ++ (code ++ (JumpIfZero (length begun + expression_size e + 1 + over) ∷ c))) (append_assoc inner (Jump to ∷ []) other)
-      ∙ ap (λ t. begun ++ (code ++ (JumpIfZero t ∷ (inner ++ (Jump to ∷ other))))) here
-      ∙ ap (λ t. begun ++ (code ++ (JumpIfZero second ∷ (inner ++ (Jump t ∷ other))))) there
+      let here : length before ≡ second = omega (arith, len, more, longer) in
+      let there : length turned ≡ second = omega (arith, same, here) in
+      let end : length last ≡ second + block_size r = omega (arith, most, there) in
+      let head = begun ++ (code ++ (JumpIfZero second ∷ inner)) in
+      let turned_is : turned ≡ begun ++ (code ++ (JumpIfZero second ∷ (inner ++ Jump 0 ∷ []))) =
+      turns ∙ ap (λ c. slice_set c at (JumpIfZero (length before))) (tested-jump before 0 jumps)
+      ∙ retested (inner ++ Jump 0 ∷ []) at (length before) place
+      ∙ ap (λ t. begun ++ (code ++ (JumpIfZero t ∷ (inner ++ Jump 0 ∷ [])))) here in
+      let last_is : last ≡ head ++ Jump 0 ∷ other =
+      goes ∙ ap (λ n. turned ++ block_code scope r n again exit) there
+      ∙ ap (λ c. c ++ other) turned_is
+      ∙ piled begun code (JumpIfZero second ∷ (inner ++ Jump 0 ∷ [])) other
+      ∙ ap (λ c. begun ++ (code ++ (JumpIfZero second ∷ c))) (append_assoc inner (Jump 0 ∷ []) other)
+      ∙ sym (piled begun code (JumpIfZero second ∷ inner) (Jump 0 ∷ other)) in
+      let long : length head ≡ length begun + (expression_size e + (1 + block_size b)) =
+      omega (
+        arith,
+        length-append begun (code ++ (JumpIfZero second ∷ inner)),
+        length-append code (JumpIfZero second ∷ inner),
+        length-expression_code scope e (length begun),
+        length-block_code scope b first again exit,
+      ) in
+      let at_jump : jump ≡ length head = omega (arith, behind, here, long) in
+      ends ∙ ap (λ c. slice_set c jump (Jump (length last))) last_is
+      ∙ changed head other (Jump 0) (Jump (length last)) jump at_jump
+      ∙ piled begun code (JumpIfZero second ∷ inner) (Jump (length last) ∷ other)
+      ∙ ap (λ t. begun ++ (code ++ (JumpIfZero second ∷ (inner ++ (Jump t ∷ other))))) end
 
 -- their depths
 module _ (e : ExpressionTree) (b : Block) (begun made made' : List ℕ) (did : made ≡ begun ++ (expression_depths e 0 ++ 1 ∷ []))

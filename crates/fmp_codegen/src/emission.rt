@@ -1,7 +1,9 @@
-//! The code of a tree and its depths, one instruction after another. Sizes are counted before, so that each jump is
+//! The code of a tree and its depths, one instruction after another. The jumps of an `if` get their places when these
+//! are known. The size of a loop's body and of an operand of `&&` and `||` is counted before, so that each jump there is
 //! known when it is emitted; nesting bounds how often a tree is counted.
 
-ghost use Rattle.std.specs.Prelude.{◌≡◌, ◌+◌, ◌<◌, ◌≤◌, ◌++◌, ◌∷◌, [], ℕ, map, max, length, Some, IfSome, OnOk, IfOk};
+ghost use Rattle.std.specs.Prelude.{◌≡◌, ◌+◌, ◌<◌, ◌≤◌, ◌++◌, ◌∷◌, [], ℕ, map, max, length, slice_set, Some, IfSome, OnOk, IfOk};
+ghost use Rattle.fmp_instructions.specs.declared.instructions.Instruction.TheVariants.{Jump, JumpIfZero};
 ghost use Rattle.fmp_base.specs.Systems.{tables_of};
 ghost use Rattle.fmp_tasklang.specs.Scopes.{meaning_of};
 ghost use Rattle.fmp_tasklang.specs.Values.{array_places};
@@ -351,6 +353,40 @@ fn emit_test(
     Ok(())
 }
 
+/// The last place of the code so far.
+fn last_place(out: &Output) -> usize
+    requires { 0 < length out.now.instructions.items }
+    ensures { result + 1 ≡ length out.now.instructions.items }
+{
+    out.instructions.len() - 1
+}
+
+/// The test at a place, which led to the place behind it, leads to the end of the code so far if its value is 0.
+fn end_test(out: &mut Output, at: usize)
+    requires there { at < length out.old.instructions.items }
+    requires room { length out.old.instructions.items ≤ 65535 }
+    ensures code { out.new.instructions.items
+        ≡ slice_set out.old.instructions.items at (JumpIfZero (length out.old.instructions.items)) }
+    ensures len { length out.new.instructions.items ≡ length out.old.instructions.items }
+    ensures depths { out.new.depths.items ≡ out.old.depths.items }
+{
+    let end = place(out.instructions.len());
+    out.instructions[at] = Instruction::JumpIfZero(end);
+}
+
+/// The jump at a place, which led nowhere yet, leads to the end of the code so far.
+fn end_jump(out: &mut Output, at: usize)
+    requires there { at < length out.old.instructions.items }
+    requires room { length out.old.instructions.items ≤ 65535 }
+    ensures code { out.new.instructions.items
+        ≡ slice_set out.old.instructions.items at (Jump (length out.old.instructions.items)) }
+    ensures len { length out.new.instructions.items ≡ length out.old.instructions.items }
+    ensures depths { out.new.depths.items ≡ out.old.depths.items }
+{
+    let end = place(out.instructions.len());
+    out.instructions[at] = Instruction::Jump(end);
+}
+
 #[cycle(statement_emission)]
 fn emit_statement(
     out: &mut Output,
@@ -388,8 +424,10 @@ fn emit_statement(
             Ok(())
         }
         Statement::If { condition, then } => {
-            emit_test(out, names, condition, size_of_block(then))?;
+            emit_test(out, names, condition, 0)?;
+            let test = last_place(out);
             emit_block(out, names, then, again, exit)?;
+            end_test(out, test);
             Ok(())
         }
         Statement::IfElse {
@@ -397,11 +435,14 @@ fn emit_statement(
             then,
             otherwise,
         } => {
-            emit_test(out, names, condition, size_of_block(then) + 1)?;
+            emit_test(out, names, condition, 0)?;
+            let choice = last_place(out);
             emit_block(out, names, then, again, exit)?;
-            let over = out.instructions.len() + 1 + size_of_block(otherwise);
-            put(out, Instruction::Jump(place(over)), 0)?;
+            put(out, Instruction::Jump(0), 0)?;
+            let jump = last_place(out);
+            end_test(out, choice);
             emit_block(out, names, otherwise, again, exit)?;
+            end_jump(out, jump);
             Ok(())
         }
         Statement::While { condition, body } => {
