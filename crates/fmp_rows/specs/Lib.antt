@@ -1,0 +1,5 @@
+pub mod Behind
+pub mod Numbers
+pub mod Rows
+pub mod Values
+pub mod Worlds
