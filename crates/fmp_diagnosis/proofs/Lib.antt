@@ -1,1 +1,2 @@
+mod Distances
 mod FoundTopics

@@ -1,5 +1,5 @@
 -- The line of a text that holds a place, and how it is shown with marks under a token.
-use Rattle.std.specs.Prelude.{◌≡◌, ℕ, ◌+◌, ◌-◌, ◌<◌, ◌≤◌, ◌==◌, ◌&&◌, nat_lt, nat_le, Bool, true, false, not, if◌then◌else◌, List, [], ◌∷◌, ◌++◌, length, map, max, min, replicate, slice_index, slice_range}
+use Rattle.std.specs.Prelude.{◌≡◌, ℕ, ◌+◌, ◌-◌, ◌<◌, ◌≤◌, ◌==◌, ◌&&◌, ◌||◌, nat_lt, nat_le, Bool, true, false, not, if◌then◌else◌, List, [], ◌∷◌, ◌++◌, flat_map, length, map, max, min, replicate, slice_index, slice_range}
 use Rattle.std.specs.List.{filter}
 use Rattle.fmp_diagnosis.specs.declared.excerpt.Excerpt.{Excerpt}
 
@@ -32,9 +32,21 @@ shown_to begin finish i = if is_long begin finish then min finish (i + 94) else 
 abbrev pub dots : Bool → List ℕ
 dots left_out = if left_out then 46 ∷ 46 ∷ 46 ∷ [] else []
 
+-- a byte that a terminal would obey
+abbrev pub is_control : ℕ → Bool
+is_control b = (nat_lt b 32 && not (b == 9)) || (b == 127)
+
+-- in its place stands its picture, one of the characters from U+2400 on
+abbrev pub picture : ℕ → List ℕ
+picture b = 226 ∷ 144 ∷ (if b == 127 then 161 else 128 + b) ∷ []
+
+abbrev pub shown_byte : ℕ → List ℕ
+shown_byte b = if is_control b then picture b else b ∷ []
+
 -- the line from i up to j
 abbrev pub shown : List ℕ → ℕ → ℕ → ℕ → ℕ → List ℕ
-shown text begin finish i j = dots (nat_lt begin i) ++ slice_range text i j ++ dots (nat_lt j finish)
+shown text begin finish i j =
+    dots (nat_lt begin i) ++ flat_map shown_byte (slice_range text i j) ++ dots (nat_lt j finish)
 
 -- what stands under a byte: a tab under a tab, else a space, and nothing under a byte that goes on with a character
 abbrev pub begins_character : ℕ → Bool

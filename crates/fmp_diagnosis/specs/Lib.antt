@@ -1,5 +1,7 @@
+pub mod Culprits
 pub mod Excerpts
 pub mod Excesses
+pub mod Explanations
 pub mod Nearest
 pub mod Records
 pub mod Reports

@@ -9,6 +9,7 @@ use Rattle.fmp_lex.specs.declared.place.Place.{Place}
 use Rattle.fmp_diagnosis.specs.declared.excerpt.Excerpt.{Excerpt}
 use Rattle.fmp_diagnosis.specs.declared.reports.Finding.{Finding}
 use Rattle.fmp_diagnosis.specs.declared.sentence.Texts.{Texts}
+use Rattle.fmp_diagnosis.specs.Culprits.{IsCulprit}
 use Rattle.fmp_diagnosis.specs.Excerpts.{IsExcerpt}
 
 -- the text of a file
@@ -53,11 +54,13 @@ report name f = head name f.line f.excerpt.column f.code.now f.refusal.now ++ f.
 abbrev pub column_behind : (column at end : ℕ) → ℕ
 column_behind column at end = column + max (end - at) 1
 
--- What is said of a fault of a text: where it stands, its code, and some sentence.
+-- What is said of a fault of a text: where it is shown, its code, and some sentence.
 pub record IsFinding (text : List ℕ) (place : Place) (kind : FaultKind) (f : Finding) : Type 0 where
-  pub line : f.line ≡ place.line
-  pub shows : IsExcerpt text (min place.start (length text)) place.end f.excerpt
-  pub end : f.end ≡ column_behind f.excerpt.column (min place.start (length text)) place.end
+  pub culprit : Place
+  pub is_culprit : IsCulprit text place kind culprit
+  pub line : f.line ≡ culprit.line
+  pub shows : IsExcerpt text (min culprit.start (length text)) culprit.end f.excerpt
+  pub end : f.end ≡ column_behind f.excerpt.column (min culprit.start (length text)) culprit.end
   pub code : f.code.now ≡ code kind
   pub refusal : f.refusal.now ≡ refusal kind
   pub said : 0 < length f.sentence.items

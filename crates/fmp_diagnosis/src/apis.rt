@@ -88,19 +88,43 @@ pub fn value_at(tokens: &Tokens<'_>, begin: usize) -> i32 {
     value
 }
 
+/// The place of the last token of the value that begins at a place.
+pub fn value_last(tokens: &Tokens<'_>, begin: usize) -> usize {
+    let mut last = begin;
+    for at in begin..tokens.len() {
+        if !is_in_value(tokens, at) {
+            break;
+        }
+        last = at;
+    }
+    last
+}
+
 /// The value of a field of the API at a place.
 pub fn value_of(tokens: &Tokens<'_>, at: usize, api: Api, field: Field) -> i32 {
     value_at(tokens, begin_of(tokens, at, api, field))
 }
 
-/// The first name in the value that begins at a place: an unknown constant.
-fn name_in_value(tokens: &Tokens<'_>, begin: usize) -> Option<Name> {
+/// The place of the first name in the value that begins at a place: an unknown constant.
+fn name_in_value(tokens: &Tokens<'_>, begin: usize) -> Option<usize> {
     for at in begin..tokens.len() {
         if !is_in_value(tokens, at) {
             return None;
         }
-        if let Some(name) = name_at(tokens, at) {
-            return Some(name);
+        if name_at(tokens, at).is_some() {
+            return Some(at);
+        }
+    }
+    None
+}
+
+/// The first field of the API at a place in which an unknown constant stands, and its place.
+fn unknown_in(tokens: &Tokens<'_>, at: usize, api: Api) -> Option<(Field, usize)> {
+    for field in fields_of(api) {
+        if field.is_value() {
+            if let Some(found) = name_in_value(tokens, begin_of(tokens, at, api, *field)) {
+                return Some((*field, found));
+            }
         }
     }
     None
@@ -108,14 +132,14 @@ fn name_in_value(tokens: &Tokens<'_>, begin: usize) -> Option<Name> {
 
 /// The first unknown constant of the API at a place, and the field in which it stands.
 pub fn unknown_constant(tokens: &Tokens<'_>, at: usize, api: Api) -> Option<(Field, Name)> {
-    for field in fields_of(api) {
-        if field.is_value() {
-            if let Some(name) = name_in_value(tokens, begin_of(tokens, at, api, *field)) {
-                return Some((*field, name));
-            }
-        }
-    }
-    None
+    let (field, found) = unknown_in(tokens, at, api)?;
+    Some((field, name_at(tokens, found)?))
+}
+
+/// The place of that constant.
+pub fn unknown_constant_place(tokens: &Tokens<'_>, at: usize, api: Api) -> Option<usize> {
+    let (_, found) = unknown_in(tokens, at, api)?;
+    Some(found)
 }
 
 /// The name of the body that the API at a place has as its entry, if it has one.

@@ -1,4 +1,7 @@
 //! The tokens of a text before a place, and those from it on.
+ghost use Rattle.std.specs.Prelude.{◌≡◌, ◌-◌, length, min, slice_range, IfOk};
+ghost use Rattle.fmp_diagnosis.specs.Culprits.{HasTokens};
+
 use fmp_base::Name;
 use fmp_lex::{Keyword, TokenKind, TokenList, Tokens, tokens};
 use std::alloc::{AllocError, Global};
@@ -7,7 +10,9 @@ use std::alloc::{AllocError, Global};
 const TEXT_MAX: usize = 1_048_576;
 
 /// The tokens of a text, of which at most 1,048,576 bytes are looked at.
-pub fn list_of<'a>(alloc: Global, text: &'a [u8]) -> Result<TokenList<'a>, AllocError> {
+pub fn list_of<'a>(alloc: Global, text: &'a [u8]) -> Result<TokenList<'a>, AllocError>
+    ensures { IfOk result (λ list. HasTokens text.now list.tokens) }
+{
     match tokens(alloc, &text[..text.len().min(TEXT_MAX)]) {
         Ok(list) => Ok(list),
         Err(_) => Err(AllocError),
@@ -26,11 +31,9 @@ pub struct Around<'a> {
 }
 
 /// The text around a place.
-pub fn around_place<'a>(
-    alloc: Global,
-    text: &'a [u8],
-    at: usize,
-) -> Result<Around<'a>, AllocError> {
+pub fn around_place<'a>(alloc: Global, text: &'a [u8], at: usize) -> Result<Around<'a>, AllocError>
+    ensures { IfOk result (λ around. HasTokens (slice_range text.now 0 (min at (length text.now))) around.before.tokens) }
+{
     let at = at.min(text.len());
     let bytes = &text[at..];
     Ok(Around {

@@ -1,5 +1,5 @@
 //! The line of a text that holds a place, with marks under the token there.
-ghost use Rattle.std.specs.Prelude.{◌≡◌, ℕ, ◌+◌, ◌-◌, ◌^◌, ◌<◌, ◌≤◌, ◌==◌, nat_lt, true, false, ◌++◌, length, max, min, replicate, slice_index, slice_range, IfOk, OnOk};
+ghost use Rattle.std.specs.Prelude.{◌≡◌, ℕ, ◌+◌, ◌-◌, ◌^◌, ◌<◌, ◌≤◌, ◌==◌, nat_lt, true, false, ◌++◌, flat_map, length, max, min, replicate, slice_index, slice_range, IfOk, OnOk};
 ghost use Rattle.fmp_diagnosis.specs.Excerpts as spec;
 ghost use Rattle.fmp_diagnosis.specs.Excerpts.{IsExcerpt, IsLine};
 
@@ -10,7 +10,8 @@ use std::alloc::{AllocError, Global};
 pub struct Excerpt {
     /// The column of the token's first byte, from 1, counted in bytes.
     pub column: usize,
-    /// The line without its end; of a line of more than 100 bytes a part, with `...` where something is left out.
+    /// The line without its end; of a line of more than 100 bytes a part, with `...` where something is left out. In
+    /// place of a control byte other than a tab stands its picture, a character from U+2400 on.
     pub line: Vec<u8>,
     /// What stands under the line: `^` under each byte of the token, or one if it has none.
     pub marks: Vec<u8>,
@@ -138,6 +139,44 @@ fn append_carets(count: usize, out: &mut Vec<u8>) -> Result<(), AllocError>
     Ok(())
 }
 
+/// Whether a terminal would obey a byte.
+fn is_control(byte: u8) -> bool
+    ensures { result ≡ spec.is_control byte }
+{
+    (byte < 32 && byte != b'\t') || byte == 127
+}
+
+/// The picture of a control byte.
+fn picture(byte: u8) -> [u8; 3]
+    requires { spec.is_control byte ≡ true }
+    ensures { result ≡ spec.picture byte }
+{
+    let last = if byte == 127 { 161 } else { 128 + byte };
+    [226, 144, last]
+}
+
+/// Appends a byte, or its picture where it is a control byte.
+fn append_shown(byte: u8, out: &mut Vec<u8>) -> Result<(), AllocError>
+    ensures { OnOk result (out.new.items ≡ out.old.items ++ spec.shown_byte byte) }
+{
+    if is_control(byte) {
+        out.extend_from_slice(&picture(byte))
+    } else {
+        out.push(byte)?;
+        Ok(())
+    }
+}
+
+/// Appends these bytes as they are shown.
+fn append_line(bytes: &[u8], out: &mut Vec<u8>) -> Result<(), AllocError>
+    ensures { OnOk result (out.new.items ≡ out.old.items ++ flat_map spec.shown_byte bytes.now) }
+{
+    for byte in bytes {
+        append_shown(*byte, out)?;
+    }
+    Ok(())
+}
+
 /// The line from `begin` up to `finish` as it is shown from `from` up to `to`.
 fn shown(
     alloc: Global,
@@ -153,7 +192,7 @@ fn shown(
 {
     let mut line = Vec::new(alloc);
     append_dots(begin < from, &mut line)?;
-    line.extend_from_slice(&text[from..to])?;
+    append_line(&text[from..to], &mut line)?;
     append_dots(to < finish, &mut line)?;
     Ok(line)
 }

@@ -1,5 +1,7 @@
 //! What the codes mean.
-ghost use Rattle.std.specs.Prelude.{◌≡◌, OnErr};
+ghost use Rattle.std.specs.Prelude.{◌≡◌, ◌<◌, ◌++◌, length, IfOk, OnErr, OnOk};
+ghost use Rattle.fmp_diagnosis.specs.Explanations as spec;
+ghost use Rattle.fmp_diagnosis.specs.Explanations.{IsExplained, IsExplanation};
 
 use crate::topics::Topic;
 use fmp_base::Er;
@@ -7,7 +9,9 @@ use std::alloc::{AllocError, Global};
 
 impl Topic {
     /// What the code means, in a few words.
-    pub fn meaning(self) -> &'static str {
+    pub fn meaning(self) -> &'static str
+        ensures { 0 < length result.now }
+    {
         match self {
             Topic::Reply(Er::Ok) => "normal completion",
             Topic::Reply(Er::Sys) => "system error",
@@ -47,7 +51,9 @@ impl Topic {
     }
 
     /// When it comes.
-    pub fn cause(self) -> &'static str {
+    pub fn cause(self) -> &'static str
+        ensures { 0 < length result.now }
+    {
         match self {
             Topic::Reply(Er::Ok) => "The call has done what it was asked to do.",
             Topic::Reply(Er::Sys) =>
@@ -102,7 +108,9 @@ impl Topic {
     }
 
     /// An example of it.
-    pub fn example(self) -> &'static str {
+    pub fn example(self) -> &'static str
+        ensures { 0 < length result.now }
+    {
         match self {
             Topic::Reply(Er::Ok) => "sig_sem(1) on a semaphore that is below its greatest count.",
             Topic::Reply(Er::Sys) => "put(E_SYS) prints -5.",
@@ -143,25 +151,32 @@ impl Topic {
     }
 }
 
-/// A line of a word, its text and a line feed.
-fn append_line(parts: &[&str], out: &mut Vec<u8>) -> Result<(), AllocError> {
-    for part in parts {
-        out.extend_from_slice(part.as_bytes())?;
-    }
+/// Appends a word, its text and a line feed.
+fn append_line(word: &str, text: &str, out: &mut Vec<u8>) -> Result<(), AllocError>
+    ensures { OnOk result (out.new.items ≡ out.old.items ++ spec.line word.now text.now) }
+{
+    out.extend_from_slice(word.as_bytes())?;
+    out.extend_from_slice(b": ")?;
+    out.extend_from_slice(text.as_bytes())?;
     out.extend_from_slice(b"\n")
 }
 
-fn append_parts(topic: Topic, out: &mut Vec<u8>) -> Result<(), AllocError> {
-    append_line(&[topic.word(), ": ", topic.meaning()], out)?;
-    append_line(&["  when: ", topic.cause()], out)?;
-    append_line(&["  example: ", topic.example()], out)
+/// What is said of a code.
+fn explanation(alloc: Global, topic: Topic) -> Result<Vec<u8>, AllocError>
+    ensures { IfOk result (λ said. IsExplanation topic said.items) }
+{
+    let mut said = Vec::new(alloc);
+    append_line(topic.word(), topic.meaning(), &mut said)?;
+    append_line("  when", topic.cause(), &mut said)?;
+    append_line("  example", topic.example(), &mut said)?;
+    Ok(said)
 }
 
 /// Appends what a code means, when it comes and an example, one line each. If memory runs out, nothing is appended.
 pub fn explain(alloc: Global, topic: Topic, out: &mut Vec<u8>) -> Result<(), AllocError>
+    ensures ok { OnOk result (IsExplained topic out.old.items out.new.items) }
     ensures err { OnErr result (out.new.items ≡ out.old.items) }
 {
-    let mut text = Vec::new(alloc);
-    append_parts(topic, &mut text)?;
-    out.extend_from_slice(&text)
+    let said = explanation(alloc, topic)?;
+    out.extend_from_slice(&said)
 }

@@ -24,7 +24,7 @@ pub struct Found<'a> {
     pub list: Vec<Warning>,
 }
 
-/// Where the token at a place stands, with the number behind it if it is a minus.
+/// Where the token at a place stands, with the number behind it in its line if it is a minus.
 fn place_at(tokens: &Tokens<'_>, at: usize) -> Place {
     let Some(place) = tokens.place(at) else {
         return Place {
@@ -37,11 +37,11 @@ fn place_at(tokens: &Tokens<'_>, at: usize) -> Place {
         return place;
     }
     match tokens.place(at.saturating_add(1)) {
-        Some(behind) => Place {
+        Some(behind) if behind.line == place.line => Place {
             end: behind.end,
             ..place
         },
-        None => place,
+        _ => place,
     }
 }
 

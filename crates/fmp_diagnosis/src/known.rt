@@ -1,12 +1,14 @@
 //! The names that are known at a place of the texts.
-ghost use Rattle.std.specs.Prelude.{OnOk};
+ghost use Rattle.std.specs.Prelude.{◌≡◌, slice_get, IfOk, OnOk};
+ghost use Rattle.std.specs.Option.{option_and_then};
 ghost use Rattle.fmp_base.specs.Names.{name_text};
+ghost use Rattle.fmp_diagnosis.specs.Nearest.{IsAsked, IsMeant, IsMeantName};
 ghost use Rattle.fmp_diagnosis.specs.Words.{IsSaid, IsSaidFirst, MaySay, quoted};
 
 use crate::apis::object_name;
 use crate::around::{begins_body_at, last_body, name_at};
 use crate::nearness::{nearest, other_case};
-use crate::words::{Word, say, say_of};
+use crate::words::{Word, ask_whether, say_of};
 use fmp_base::{Name, SERVICES, Service};
 use fmp_lex::words::{APIS, CONSTANTS, KEYWORDS};
 use fmp_lex::{Keyword, TextFile, TokenKind, Tokens};
@@ -105,11 +107,31 @@ pub fn variables(alloc: Global, tokens: &Tokens<'_>) -> Result<Vec<Name>, AllocE
 
 /// The place of the known name that was meant by a name: the nearest one if one is near, else one with the same letters
 /// in another case.
-fn meant(alloc: Global, name: &Name, known: &[Name]) -> Result<Option<usize>, AllocError> {
+fn meant(alloc: Global, name: &Name, known: &[Name]) -> Result<Option<usize>, AllocError>
+    ensures { IfOk result (IsMeant name.now known.now) }
+{
     match nearest(alloc, name, known)? {
         Some(place) => Ok(Some(place)),
         None => Ok(other_case(name, known)),
     }
+}
+
+/// The known name at a place, if it is given and there is one.
+fn known_at(known: &[Name], place: Option<usize>) -> Option<Name>
+    ensures { result ≡ option_and_then (λ k. slice_get known.now k) place }
+{
+    match place {
+        Some(place) => known.get(place).copied(),
+        None => None,
+    }
+}
+
+/// The known name that was meant by a name.
+fn name_meant(alloc: Global, name: &Name, known: &[Name]) -> Result<Option<Name>, AllocError>
+    ensures { IfOk result (IsMeantName name.now known.now) }
+{
+    let place = meant(alloc, name, known)?;
+    Ok(known_at(known, place))
 }
 
 /// Asks whether a known name was meant, where one is near.
@@ -119,17 +141,11 @@ pub fn say_nearest(
     known: &[Name],
     out: &mut Vec<u8>,
 ) -> Result<(), AllocError>
-    ensures { OnOk result (MaySay out.old.items out.new.items) }
+    ensures said { OnOk result (MaySay out.old.items out.new.items) }
+    ensures asks { OnOk result (IsAsked name.now known.now out.old.items out.new.items) }
 {
-    match meant(alloc, name, known)?.and_then(|place| known.get(place)) {
-        Some(found) => say(
-            &[
-                Word::Text("; did you mean "),
-                Word::Name(*found),
-                Word::Text("?"),
-            ],
-            out,
-        ),
+    match name_meant(alloc, name, known)? {
+        Some(found) => ask_whether(&found, out),
         None => Ok(()),
     }
 }

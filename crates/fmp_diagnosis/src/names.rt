@@ -130,7 +130,7 @@ pub fn say_twice(
 }
 
 /// How many processors the configuration has, by its first number.
-fn processors(tokens: &Tokens<'_>) -> i32 {
+pub fn processors(tokens: &Tokens<'_>) -> i32 {
     match tokens.kind(2) {
         Some(TokenKind::Number(number)) => number,
         _ => 1,

@@ -72,6 +72,15 @@ fn first_excess(tokens: &Tokens<'_>, api: Api) -> Option<Excess>
     None
 }
 
+/// The field of the API that begins these tokens whose value it refuses with a code.
+pub fn field_refused(tokens: &Tokens<'_>, api: Api, code: Er) -> Option<Field> {
+    match code {
+        Er::Rsatr => Some(Field::Attribute),
+        Er::Obj => Some(Field::InterruptNumber),
+        _ => Some(first_excess(tokens, api)?.field),
+    }
+}
+
 /// Says which attribute the API has, and which it may have.
 fn say_attribute(tokens: &Tokens<'_>, api: Api, out: &mut Vec<u8>) -> Result<(), AllocError>
     ensures { OnOk result (IsSaid out.old.items out.new.items) }

@@ -3,6 +3,7 @@ ghost use Rattle.std.specs.Prelude.{◌≡◌, ◌++◌, ◌+◌, ◌-◌, ◌^�
 ghost use Rattle.fmp_diagnosis.specs.Reports as spec;
 ghost use Rattle.fmp_diagnosis.specs.Reports.{IsFinding};
 
+use crate::culprit::culprit_of;
 use crate::excerpt::{Excerpt, excerpt_at};
 use crate::sentence::{Texts, say_fault};
 use fmp_lex::{FaultKind, Place, TextFile};
@@ -150,7 +151,8 @@ pub fn column_behind(column: usize, at: usize, end: usize) -> usize
     column + end.saturating_sub(at).max(1)
 }
 
-/// What is said of a fault of one of two texts, which stands at this place of it. `AllocError` if memory runs out.
+/// What is said of a fault of one of two texts, which stands at this place of it. It is shown there, or where the text
+/// is to be changed: at a word before it, behind that, or at a value of the static API. `AllocError` if memory runs out.
 pub fn finding_at(
     alloc: Global,
     texts: Texts<'_>,
@@ -161,14 +163,16 @@ pub fn finding_at(
     ensures { IfOk result (IsFinding (spec.text_of texts.entry file) place kind) }
 {
     let text = texts.of(file);
-    let at = (place.start as usize).min(text.len());
-    let excerpt = excerpt_at(alloc, text, at, place.end as usize)?;
+    let culprit = culprit_of(alloc, text, file, place, kind)?;
+    let at = (culprit.start as usize).min(text.len());
+    let excerpt = excerpt_at(alloc, text, at, culprit.end as usize)?;
+    let sentence = sentence_of(alloc, texts, file, place.start as usize, kind)?;
     Ok(Finding {
-        line: place.line,
-        end: column_behind(excerpt.column, at, place.end as usize),
+        line: culprit.line,
+        end: column_behind(excerpt.column, at, culprit.end as usize),
         excerpt,
         code: code(kind),
         refusal: refusal(kind),
-        sentence: sentence_of(alloc, texts, file, at, kind)?,
+        sentence,
     })
 }

@@ -1,5 +1,5 @@
 //! What is said of a fault of a steps text.
-ghost use Rattle.std.specs.Prelude.{◌≡◌, ◌+◌, ◌<◌, ◌≤◌, length, max, IfOk, OnOk};
+ghost use Rattle.std.specs.Prelude.{◌≡◌, ◌+◌, ◌<◌, ◌≤◌, ◌==◌, true, length, max, slice_index, IfOk, OnOk};
 ghost use Rattle.fmp_diagnosis.specs.StepFindings as spec;
 ghost use Rattle.fmp_diagnosis.specs.StepFindings.{IsStepFinding, line_at};
 ghost use Rattle.fmp_diagnosis.specs.Words.{IsSaid};
@@ -195,6 +195,8 @@ fn within_line(text: &[u8], from: usize, count: usize) -> usize
     ensures low { from ≤ result }
     ensures within { result ≤ length text.now }
     ensures line { line_at text.now result ≡ line_at text.now from }
+    ensures far { result ≤ from + count }
+    ensures end { result < from + count → result < length text.now → (slice_index text.now result == 10) ≡ true }
 {
     for i in from..text.len() {
         if i - from == count || text[i] == b'\n' {

@@ -5,6 +5,7 @@ ghost use Rattle.fmp_base.specs.Names.{name_text};
 
 use crate::around::{Around, name_at};
 use crate::known::{apis, keywords, say_nearest, say_unknown_of, services};
+use crate::left_out::{say_left_out, why_left_out};
 use crate::words::{
     BYTE_ORDER_MARK, Word, append_quoted, counted, say, say_quoted, say_text, say_token,
 };
@@ -50,6 +51,9 @@ fn say_no_token(bytes: &[u8], out: &mut Vec<u8>) -> Result<(), AllocError>
             "a byte order mark stands here; save the text without it",
             out,
         );
+    }
+    if first == b'#' {
+        return say_text("no token begins with `#`; there is no preprocessor", out);
     }
     if first.is_ascii_graphic() {
         say_text("no token begins with ", out)?;
@@ -223,6 +227,63 @@ fn say_keyword(
     }
 }
 
+/// The name before the place with which a statement begins that may not go on as it does.
+fn word_before(file: TextFile, around: &Around<'_>) -> Option<Name> {
+    if file == TextFile::Configuration {
+        return None;
+    }
+    match misspelt_call(around) {
+        Some(name) => Some(name),
+        None => expected_statement::head_name(&around.before.tokens),
+    }
+}
+
+/// The name to which a fault at the place is due, if it is left out on purpose: that at the place, or the one before.
+fn left_out(file: TextFile, around: &Around<'_>) -> Option<Name> {
+    let name = match name_at(&around.rest.tokens, 0) {
+        Some(name) if why_left_out(&name).is_some() => name,
+        _ => word_before(file, around)?,
+    };
+    why_left_out(&name)?;
+    Some(name)
+}
+
+/// Whether a fault at the place is due to the word before it: one that is no service call, or is left out on purpose.
+pub fn is_due_to_word_before(file: TextFile, around: &Around<'_>) -> bool {
+    let Some(name) = word_before(file, around) else {
+        return false;
+    };
+    match around.here() {
+        Some(TokenKind::Bad(_)) => false,
+        Some(TokenKind::Name(here)) if why_left_out(&here).is_some() => false,
+        _ => misspelt_call(around).is_some() || why_left_out(&name).is_some(),
+    }
+}
+
+/// Whether what stands at the place is wrong whatever is expected there.
+fn is_strange(file: TextFile, around: &Around<'_>) -> bool {
+    match (around.here(), file) {
+        (Some(TokenKind::Bad(_)), _) => true,
+        _ if left_out(file, around).is_some() => true,
+        (_, TextFile::Configuration) => misspelt_api(around).is_some(),
+        (_, TextFile::Source) => remark(around).is_some(),
+    }
+}
+
+/// Whether a semicolon is among what may stand at the place.
+pub fn wants_semicolon(
+    alloc: Global,
+    file: TextFile,
+    around: &Around<'_>,
+) -> Result<bool, AllocError> {
+    if is_strange(file, around) {
+        return Ok(false);
+    }
+    let mut expected = Vec::new(alloc);
+    say_expected(file, &around.before.tokens, &mut expected)?;
+    Ok(expected.windows(3).any(|word| word == b"`;`".as_slice()))
+}
+
 /// Says what may stand behind these tokens of a text.
 fn say_expected(file: TextFile, tokens: &Tokens<'_>, out: &mut Vec<u8>) -> Result<(), AllocError>
     ensures { OnOk result (IsSaid out.old.items out.new.items) }
@@ -275,6 +336,35 @@ fn say_in_source(alloc: Global, around: &Around<'_>, out: &mut Vec<u8>) -> Resul
     }
 }
 
+/// Says that a name is left out on purpose.
+fn say_word_left_out(name: &Name, out: &mut Vec<u8>) -> Result<(), AllocError>
+    ensures said { OnOk result (IsSaid out.old.items out.new.items) }
+    ensures names { OnOk result (IsSaidFirst (quoted (name_text name.now)) out.old.items out.new.items) }
+{
+    match why_left_out(name) {
+        Some(why) => say_left_out(name, why, out),
+        None => say_left_out(name, "there is no such word", out),
+    }
+}
+
+/// What a text has at the place, and what it may have there.
+fn say_in_text(
+    alloc: Global,
+    file: TextFile,
+    around: &Around<'_>,
+    out: &mut Vec<u8>,
+) -> Result<(), AllocError>
+    ensures { OnOk result (IsSaid out.old.items out.new.items) }
+{
+    if let Some(name) = left_out(file, around) {
+        return say_word_left_out(&name, out);
+    }
+    match file {
+        TextFile::Configuration => say_in_configuration(alloc, around, out),
+        TextFile::Source => say_in_source(alloc, around, out),
+    }
+}
+
 /// Says what stands at the place of a fault of syntax, and what may stand there.
 pub fn say_syntax(
     alloc: Global,
@@ -287,7 +377,6 @@ pub fn say_syntax(
     match (around.here(), file) {
         (Some(TokenKind::Bad(LexFault::Syntax)), _) => say_no_token(around.bytes, out),
         (Some(TokenKind::Bad(LexFault::Limit)), _) => say_too_great(around.bytes, out),
-        (_, TextFile::Configuration) => say_in_configuration(alloc, around, out),
-        (_, TextFile::Source) => say_in_source(alloc, around, out),
+        _ => say_in_text(alloc, file, around, out),
     }
 }

@@ -58,6 +58,32 @@ pub fn wanted_at(service: Service, place: usize) -> Option<Wanted> {
     }
 }
 
+/// The longest time, in ticks.
+const LONGEST: i64 = 1_073_741_824;
+
+/// Whether a call waits for bits of an eventflag.
+fn waits_for_bits(service: Service) -> bool {
+    matches!(
+        service,
+        Service::WaiFlg | Service::PolFlg | Service::TwaiFlg
+    )
+}
+
+/// The least and the greatest number that a call takes as the argument at a place, from 0, with this many processors;
+/// none if it takes an object or any number there.
+pub fn range_at(service: Service, place: usize, processors: i64) -> Option<(i64, i64)> {
+    match *service.parameters().get(place)? {
+        Parameter::Processor => Some((1, processors)),
+        Parameter::Priority => Some((0, 16)),
+        Parameter::Pattern if waits_for_bits(service) => Some((1, 65_535)),
+        Parameter::Pattern => Some((0, 65_535)),
+        Parameter::Mode => Some((0, 1)),
+        Parameter::Delay => Some((0, LONGEST)),
+        Parameter::Limit => Some((-1, LONGEST)),
+        _ => None,
+    }
+}
+
 /// Whether a call on a task takes 0 for the task that makes it.
 pub fn takes_caller(service: Service) -> bool {
     matches!(service.parameters().first(), Some(Parameter::TaskOrCaller))

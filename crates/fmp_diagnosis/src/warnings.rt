@@ -1,146 +1,30 @@
 //! What is legal in two texts but usually a mistake: a call that its body may never make; a number in place of an
-//! object's name, or an object of another kind, as the argument of a call; a number out of range as the index of an
-//! array; bodies and objects that nothing uses; semaphores that nothing signals, flags that nothing sets.
+//! object's name, an object of another kind or a number out of range as the argument of a call; a shared word in an
+//! expression; an index out of range; a loop that nothing ends; a spin lock within another; a constant in a packet for
+//! which it is not; bodies and objects that nothing uses; semaphores that nothing signals, flags that nothing sets.
 ghost use Rattle.std.specs.Prelude.{◌≡◌, ◌<◌, ◌+◌, length, OnOk};
-ghost use Rattle.fmp_diagnosis.specs.Words.{IsSaid};
 
-use crate::apis::{api_at, entry_of, is_symbol, value_of};
+use crate::apis::{api_at, entry_of, value_of};
 use crate::around::{begins_body_at, is_among, list_of, name_at};
-use crate::contexts::BodyKind;
-use crate::fields::{Field, object_of};
+use crate::fields::Field;
 use crate::found::{Found, Warning};
 use crate::indices::warn_of_indices;
+use crate::locks::warn_of_locks;
+use crate::loops::warn_of_loops;
+use crate::mistakes::{Mistake, Wrong, say_mistake};
+use crate::names::processors;
 use crate::objects::{Object, Objects};
+use crate::packets::warn_of_constants;
 use crate::sentence::Texts;
-use crate::wanted::{Wanted, raised_by, takes_caller, wanted_at};
+use crate::walk::{Argument, Lone, Walk, lone_argument};
+use crate::wanted::{Wanted, raised_by, range_at, takes_caller};
 use crate::words::{Word, say};
 use fmp_base::{Name, Service};
-use fmp_lex::{Api, Constant, Keyword, Symbol, TextFile, TokenKind, Tokens};
+use fmp_lex::{Api, Constant, TextFile, Tokens};
 use std::alloc::{AllocError, Global};
 
 /// The maximum number of warnings about calls and arguments.
 const CALLS: u32 = 100;
-
-/// The call of a walk.
-#[derive(Clone, Copy)]
-struct Walk {
-    /// The kind of the body that it stands in.
-    body: Option<BodyKind>,
-    service: Option<Service>,
-    /// How many parentheses are open in it.
-    open: usize,
-    /// How many of its arguments are behind.
-    argument: usize,
-}
-
-impl Walk {
-    /// The walk behind a token.
-    fn behind(self, kind: TokenKind) -> Walk {
-        match kind {
-            TokenKind::Keyword(Keyword::Task | Keyword::Handler) => Walk {
-                body: BodyKind::begun_by(kind),
-                ..self
-            },
-            TokenKind::Service(service) => Walk {
-                service: Some(service),
-                open: 0,
-                argument: 0,
-                ..self
-            },
-            TokenKind::Symbol(Symbol::LeftParen) => Walk {
-                open: self.open.saturating_add(1),
-                ..self
-            },
-            TokenKind::Symbol(Symbol::RightParen) => Walk {
-                open: self.open.saturating_sub(1),
-                ..self
-            },
-            TokenKind::Symbol(Symbol::Comma) if self.open == 1 => Walk {
-                argument: self.argument.saturating_add(1),
-                ..self
-            },
-            TokenKind::Symbol(Symbol::Semicolon) => Walk {
-                service: None,
-                ..self
-            },
-            _ => self,
-        }
-    }
-
-    /// The call of this token, where the body that it stands in may never make it.
-    fn barred(self, kind: TokenKind) -> Option<BarredCall> {
-        let TokenKind::Service(service) = kind else {
-            return None;
-        };
-        let body = self.body?;
-        if body.bars(service) {
-            Some(BarredCall { service, body })
-        } else {
-            None
-        }
-    }
-
-    /// The argument that begins behind this token at a place, if it should not be just any number.
-    fn argument_behind(self, at: usize, kind: TokenKind) -> Option<Argument> {
-        let service = match kind {
-            TokenKind::Symbol(Symbol::LeftParen | Symbol::Comma) if self.open == 1 => self.service?,
-            _ => return None,
-        };
-        Some(Argument {
-            at: at.saturating_add(1),
-            service,
-            wanted: wanted_at(service, self.argument)?,
-        })
-    }
-}
-
-/// A call that bodies of this kind may never make.
-#[derive(Clone, Copy)]
-struct BarredCall {
-    service: Service,
-    body: BodyKind,
-}
-
-/// An argument of a call: the place of its first token, the call, and what the call takes there.
-#[derive(Clone, Copy)]
-struct Argument {
-    at: usize,
-    service: Service,
-    wanted: Wanted,
-}
-
-/// What an argument is, where it is a number, a constant or a name alone.
-#[derive(Clone, Copy)]
-enum Lone {
-    Number(i64),
-    Constant(Constant),
-    Name(Name),
-}
-
-/// Whether an argument ends in front of this place.
-fn ends_argument(tokens: &Tokens<'_>, at: usize) -> bool {
-    is_symbol(tokens, at, Symbol::Comma) || is_symbol(tokens, at, Symbol::RightParen)
-}
-
-/// The argument that begins at a place, where it is a number, a constant or a name alone.
-fn lone_argument(tokens: &Tokens<'_>, at: usize) -> Option<Lone> {
-    let next = at.saturating_add(1);
-    let is_minus = is_symbol(tokens, at, Symbol::Minus);
-    let last = if is_minus { next } else { at };
-    if !ends_argument(tokens, last.saturating_add(1)) {
-        return None;
-    }
-    match tokens.kind(last)? {
-        TokenKind::Number(number) if is_minus => Some(Lone::Number(0i64.saturating_sub(i64::from(
-            number,
-        )))),
-        _ if is_minus => None,
-        TokenKind::Number(number) => Some(Lone::Number(i64::from(number))),
-        TokenKind::Constant(constant) => Some(Lone::Constant(constant)),
-        TokenKind::Name(name) => Some(Lone::Name(name)),
-        _ => None,
-    }
-}
 
 /// What is seen of the texts.
 #[derive(Drop)]
@@ -150,105 +34,10 @@ struct Warnings {
     signals_any: bool,
     /// Whether some call sets a flag that is not given by its name.
     sets_any: bool,
+    /// How many processors there are.
+    processors: i64,
     /// The number of warnings about calls and arguments that are left.
     room: u32,
-}
-
-/// What is wrong with an argument.
-#[derive(Clone, Copy)]
-enum Wrong {
-    /// It is this number, and no name.
-    Number(i64),
-    /// It is this constant, and no object.
-    Constant(Constant),
-    /// It is the name of an object that this static API makes.
-    Object(Name, Api),
-}
-
-fn say_wrong(wrong: Wrong, out: &mut Vec<u8>) -> Result<(), AllocError>
-    ensures { OnOk result (IsSaid out.old.items out.new.items) }
-{
-    match wrong {
-        Wrong::Number(number) => say(
-            &[
-                Word::Text("the argument "),
-                Word::Number(number),
-                Word::Text(" is no name; "),
-            ],
-            out,
-        ),
-        Wrong::Constant(constant) => say(
-            &[
-                Word::Text("the constant "),
-                Word::Quoted(constant.name()),
-                Word::Text(" is no object; "),
-            ],
-            out,
-        ),
-        Wrong::Object(name, api) => say(
-            &[
-                Word::Name(name),
-                Word::Text(" is "),
-                Word::Text(object_of(api)),
-                Word::Text("; "),
-            ],
-            out,
-        ),
-    }
-}
-
-/// Says what a call takes as an argument.
-fn say_wanted(argument: Argument, out: &mut Vec<u8>) -> Result<(), AllocError>
-    ensures { OnOk result (IsSaid out.old.items out.new.items) }
-{
-    say(
-        &[
-            Word::Quoted(argument.service.name()),
-            Word::Text(" takes "),
-            Word::Text(argument.wanted.called()),
-        ],
-        out,
-    )
-}
-
-/// Says what such a call answers, and which one does the same there.
-fn say_barred(barred: BarredCall, out: &mut Vec<u8>) -> Result<(), AllocError>
-    ensures { OnOk result (IsSaid out.old.items out.new.items) }
-{
-    let call = Word::Quoted(barred.service.name());
-    let answers = Word::Text(" answers E_CTX in ");
-    let body = Word::Text(barred.body.called());
-    match barred.service.counterpart() {
-        Some(other) => {
-            let other = Word::Quoted(other.name());
-            say(
-                &[call, answers, body, Word::Text("; there it is "), other],
-                out,
-            )
-        }
-        None => say(&[call, answers, body], out),
-    }
-}
-
-/// What is usually a mistake at a call.
-#[derive(Clone, Copy)]
-enum Mistake {
-    /// Its body may never make it.
-    Barred(BarredCall),
-    /// It has this argument, which is wrong.
-    Argument(Argument, Wrong),
-}
-
-fn say_mistake(mistake: Mistake, out: &mut Vec<u8>) -> Result<(), AllocError>
-    ensures { OnOk result (IsSaid out.old.items out.new.items) }
-{
-    match mistake {
-        Mistake::Barred(barred) => say_barred(barred, out),
-        Mistake::Argument(argument, wrong) => {
-            say_wrong(wrong, out)?;
-            say_wanted(argument, out)
-        }
-    }
 }
 
 impl Warnings {
@@ -307,6 +96,16 @@ impl Warnings {
         }
     }
 
+    /// What is wrong with the number that an argument stands for, where the call takes no object, if anything is.
+    fn wrong_number(&self, argument: Argument, lone: Lone) -> Option<Wrong> {
+        let number = lone.number()?;
+        let (low, high) = range_at(argument.service, argument.place, self.processors)?;
+        if low <= number && number <= high {
+            return None;
+        }
+        Some(Wrong::Range(number, (low, high)))
+    }
+
     /// What is wrong with an argument, if anything is.
     fn wrong(&mut self, tokens: &Tokens<'_>, argument: Argument) -> Option<Wrong> {
         let lone = lone_argument(tokens, argument.at);
@@ -315,7 +114,7 @@ impl Warnings {
         }
         self.note_argument(argument.service, argument.wanted);
         match (lone?, argument.wanted) {
-            (_, Wanted::Number(_)) => None,
+            (lone, Wanted::Number(_)) => self.wrong_number(argument, lone),
             (Lone::Number(0) | Lone::Constant(Constant::TskSelf), _)
                 if takes_caller(argument.service) => { None }
             (Lone::Number(number), _) => Some(Wrong::Number(number)),
@@ -324,11 +123,17 @@ impl Warnings {
         }
     }
 
-    /// Notes the object whose name stands at a place. Bodies have names of their own.
-    fn note_name(&mut self, tokens: &Tokens<'_>, at: usize, kind: TokenKind) {
-        let is_body = at > 0 && begins_body_at(tokens, at - 1);
-        if let (TokenKind::Name(name), false) = (kind, is_body) {
-            self.objects.note_named(name);
+    /// Notes the object whose name stands at a place. Bodies have names of their own. Of a shared word whose number is
+    /// used as a value there, its name.
+    fn note_name(&mut self, tokens: &Tokens<'_>, at: usize, walk: Walk) -> Option<Name> {
+        let name = name_at(tokens, at)?;
+        if at > 0 && begins_body_at(tokens, at - 1) {
+            return None;
+        }
+        self.objects.note_named(name);
+        match self.objects.api_of(name) {
+            Some(Api::CreShr) if walk.is_value(tokens, at) => Some(name),
+            _ => None,
         }
     }
 
@@ -339,16 +144,13 @@ impl Warnings {
         tokens: &Tokens<'_>,
         found: &mut Found<'_>,
     ) -> Result<(), AllocError> {
-        let mut walk = Walk {
-            body: None,
-            service: None,
-            open: 0,
-            argument: 0,
-        };
+        let mut walk = Walk::new();
         for at in 0..tokens.len() {
             if let Some(kind) = tokens.kind(at) {
-                self.note_name(tokens, at, kind);
                 walk = walk.behind(kind);
+                if let Some(name) = self.note_name(tokens, at, walk) {
+                    self.warn(alloc, tokens, at, Mistake::SharedWord(name), found)?;
+                }
                 if let Some(barred) = walk.barred(kind) {
                     self.warn(alloc, tokens, at, Mistake::Barred(barred), found)?;
                 }
@@ -473,6 +275,7 @@ impl Warnings {
             objects: Objects::of(alloc, cfg)?,
             signals_any: false,
             sets_any: false,
+            processors: i64::from(processors(cfg)),
             room: CALLS,
         })
     }
@@ -487,14 +290,17 @@ impl Warnings {
     ) -> Result<(), AllocError> {
         self.calls(alloc, src, found)?;
         warn_of_indices(alloc, src, found)?;
+        warn_of_loops(alloc, src, found)?;
+        warn_of_locks(alloc, src, found)?;
         let entries = entries(alloc, cfg)?;
         warn_of_bodies(alloc, &entries, src, found)?;
+        warn_of_constants(alloc, cfg, found)?;
         self.neglected(alloc, cfg, found)
     }
 }
 
-/// The warnings of two texts that have no fault: those of the task text in order of text, first of at most 100 of its
-/// calls and their arguments, then of indices that are numbers out of range, then of its bodies; and those of the
+/// The warnings of two texts that have no fault. Each kind comes in order of text: at most 100 of calls, their arguments
+/// and shared words in expressions; of indices; of loops; of spin locks; of bodies; of the constants and then of the
 /// objects of the configuration. `AllocError` if memory runs out.
 pub fn warnings_of(alloc: Global, texts: Texts<'_>) -> Result<Vec<Warning>, AllocError> {
     let cfg = list_of(alloc, texts.cfg)?;

@@ -2,6 +2,7 @@
 ghost use Rattle.std.specs.Prelude.{◌≡◌, ◌<◌, ◌++◌, length, OnOk};
 ghost use Rattle.fmp_diagnosis.specs.Words as spec;
 ghost use Rattle.fmp_base.specs.Names.{name_text};
+ghost use Rattle.fmp_diagnosis.specs.Nearest.{question};
 ghost use Rattle.fmp_diagnosis.specs.Words.{IsSaid, IsSaidFirst};
 
 use fmp_base::Name;
@@ -40,6 +41,15 @@ pub fn append_quoted(bytes: &[u8], out: &mut Vec<u8>) -> Result<(), AllocError>
     append("`", out)?;
     out.extend_from_slice(bytes)?;
     append("`", out)
+}
+
+/// Asks whether a name was meant.
+pub fn ask_whether(name: &Name, out: &mut Vec<u8>) -> Result<(), AllocError>
+    ensures { OnOk result (out.new.items ≡ out.old.items ++ question name.now) }
+{
+    append("; did you mean ", out)?;
+    append_quoted(name.as_bytes(), out)?;
+    append("?", out)
 }
 
 fn append_word(word: Word, out: &mut Vec<u8>) -> Result<(), AllocError>

@@ -1,0 +1,160 @@
+//! Where a fault is shown: at its place, or at the tokens beside it that are to be changed.
+ghost use Rattle.std.specs.Prelude.{◌≡◌, true, length, option_map, slice_range, min, IfOk};
+ghost use Rattle.fmp_diagnosis.specs.Culprits as spec;
+ghost use Rattle.fmp_diagnosis.specs.Culprits.{IsCulprit};
+
+use crate::apis::{api_at, begin_of, unknown_constant_place, value_last};
+use crate::around::{Around, around_place, list_of};
+use crate::fields::Field;
+use crate::refusals::field_refused;
+use crate::syntax::{is_due_to_word_before, wants_semicolon};
+use fmp_lex::{Api, FaultKind, Place, TextFile, Tokens};
+use std::alloc::{AllocError, Global};
+
+/// Where a fault is shown.
+#[derive(Clone, Copy)]
+pub enum Aim {
+    /// At its place.
+    Here,
+    /// At the token before its place.
+    Before,
+    /// Behind that token, where something is missing.
+    Behind,
+    /// From the first byte of one token of the text to the last byte of another; the first alone, if the other one stands
+    /// in another line.
+    Tokens(usize, usize),
+}
+
+/// From the first byte of one token to the last of another in its line.
+fn joined(tokens: &Tokens<'_>, first: usize, last: usize) -> Option<Place>
+    ensures { result ≡ spec.joined (spec.place_at tokens.now first) (spec.place_at tokens.now last) }
+{
+    let from = tokens.place(first)?;
+    let to = tokens.place(last)?;
+    Some(Place {
+        line: from.line,
+        start: from.start,
+        end: if to.line == from.line {
+            to.end
+        } else {
+            from.end
+        },
+    })
+}
+
+/// Behind the last byte of a token.
+fn behind(tokens: &Tokens<'_>, at: usize) -> Option<Place>
+    ensures { result ≡ option_map spec.behind (spec.place_at tokens.now at) }
+{
+    let place = tokens.place(at)?;
+    Some(Place {
+        line: place.line,
+        start: place.end,
+        end: place.end,
+    })
+}
+
+impl Aim {
+    /// Where it leads from the token at a place; nowhere if there is no such token.
+    fn place(self, tokens: &Tokens<'_>, at: usize) -> Option<Place>
+        ensures { result ≡ spec.aimed tokens.now at self }
+    {
+        match self {
+            Aim::Here => None,
+            Aim::Before => tokens.place(at.saturating_sub(1)),
+            Aim::Behind => behind(tokens, at.saturating_sub(1)),
+            Aim::Tokens(first, last) => joined(tokens, first, last),
+        }
+    }
+}
+
+/// The first and the last token of a field of the API that begins these tokens.
+fn field_span(tokens: &Tokens<'_>, api: Api, field: Field) -> (usize, usize) {
+    let first = begin_of(tokens, 0, api, field);
+    (first, value_last(tokens, first))
+}
+
+/// The field of the API that begins these tokens which has a fault of this kind.
+fn faulty_field(tokens: &Tokens<'_>, api: Api, kind: FaultKind) -> Option<Field> {
+    match kind {
+        FaultKind::Api(code) => field_refused(tokens, api, code),
+        FaultKind::TwiceNamed => Some(Field::Name),
+        FaultKind::UnknownName | FaultKind::WrongEntryKind => Some(Field::Entry),
+        FaultKind::StackTooSmall => Some(Field::StackSize),
+        FaultKind::Syntax | FaultKind::Limit | FaultKind::Shape => None,
+    }
+}
+
+/// The first and the last of the tokens to which a fault of the API that begins these tokens is due.
+fn faulty_span(tokens: &Tokens<'_>, kind: FaultKind) -> Option<(usize, usize)> {
+    let api = api_at(tokens, 0)?;
+    if kind == FaultKind::UnknownName {
+        if let Some(at) = unknown_constant_place(tokens, 0, api) {
+            return Some((at, at));
+        }
+    }
+    let field = faulty_field(tokens, api, kind)?;
+    Some(field_span(tokens, api, field))
+}
+
+/// Where a fault at the word of a static API is shown, or at another token that is no fault of syntax.
+fn aim_in_api(around: &Around<'_>, kind: FaultKind) -> Aim
+    requires { spec.is_in_api kind ≡ true }
+    ensures { spec.fits kind (length around.now.before.tokens) result ≡ true }
+{
+    match faulty_span(&around.rest.tokens, kind) {
+        Some((first, last)) => {
+            let at = around.before.tokens.len();
+            Aim::Tokens(at.saturating_add(first), at.saturating_add(last))
+        }
+        None => Aim::Here,
+    }
+}
+
+/// Where a fault of syntax is shown.
+fn aim_of_syntax(alloc: Global, file: TextFile, around: &Around<'_>) -> Result<Aim, AllocError>
+    ensures { IfOk result (λ aim. spec.fits FaultKind.Syntax (length around.now.before.tokens) aim ≡ true) }
+{
+    if is_due_to_word_before(file, around) {
+        return Ok(Aim::Before);
+    }
+    if wants_semicolon(alloc, file, around)? {
+        return Ok(Aim::Behind);
+    }
+    Ok(Aim::Here)
+}
+
+/// Where a fault of this kind is shown.
+fn aim_of(
+    alloc: Global,
+    file: TextFile,
+    around: &Around<'_>,
+    kind: FaultKind,
+) -> Result<Aim, AllocError>
+    ensures { IfOk result (λ aim. spec.fits kind (length around.now.before.tokens) aim ≡ true) }
+{
+    match kind {
+        FaultKind::Syntax => aim_of_syntax(alloc, file, around),
+        FaultKind::Limit | FaultKind::Shape => Ok(Aim::Here),
+        _ => Ok(aim_in_api(around, kind)),
+    }
+}
+
+/// Where a fault of this kind at a place of a text is shown. `AllocError` if memory runs out.
+pub fn culprit_of(
+    alloc: Global,
+    text: &[u8],
+    file: TextFile,
+    place: Place,
+    kind: FaultKind,
+) -> Result<Place, AllocError>
+    ensures { IfOk result (IsCulprit text.now place kind) }
+{
+    let around = around_place(alloc, text, place.start as usize)?;
+    let aim = aim_of(alloc, file, &around, kind)?;
+    let list = list_of(alloc, text)?;
+    Ok(
+        aim.place(&list.tokens, around.before.tokens.len())
+            .unwrap_or(place),
+    )
+}
