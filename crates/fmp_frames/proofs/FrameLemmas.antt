@@ -13,6 +13,7 @@ use Rattle.fmp_base.specs.Steps.{Reaction, Nothing, Did, Kept, effect_of, step}
 use Rattle.fmp_kernel.specs.KernelViews.{KernelView, view_after, view_after_all}
 use Rattle.fmp_kernel.proofs.FrontLemmas.{Names, step_names}
 use Rattle.fmp_worlds.specs.Stamps.{run_place}
+use Rattle.fmp_why.specs.declared.obstacles.Spin.{Spin}
 use Rattle.fmp_frames.specs.Frames.{FrameTable, frame_of, frames, framed_on, kept_frame}
 use Rattle.fmp_frames.specs.Showing.{HasShown}
 
@@ -20,9 +21,9 @@ use Rattle.fmp_frames.specs.Showing.{HasShown}
 pub map_push : {A B : Type 0} (f : A → B) (xs ys : List A) (x : A) → ys ≡ xs ++ x ∷ [] → map f ys ≡ map f xs ++ f x ∷ []
 map_push f xs ys x e = ap (map f) e ∙ map-append f xs (x ∷ [])
 
-abbrev made : List Line → Option ℕ → ℕ → List TaskState → List TaskBlock → List Processor → List ℕ → List ℕ → List ℕ
+abbrev made : List Line → Option ℕ → ℕ → List TaskState → List TaskBlock → List Processor → List (Option Spin) → List ℕ → List ℕ → List ℕ
     → List ℕ → List ℤ → List Bool → List Bool → FrameTable
-made l k c s b p m f q x w y i =
+made l k c s b p z m f q x w y i =
     record {
       lines = l;
       kept = k;
@@ -30,6 +31,7 @@ made l k c s b p m f q x w y i =
       states = s;
       blocks = b;
       processors = p;
+      spins = z;
       semaphores = m;
       flags = f;
       data_queues = q;
@@ -41,22 +43,23 @@ made l k c s b p m f q x w y i =
 
 -- a frame is known by its parts
 pub same-frame : (a b : FrameTable) → a.lines ≡ b.lines → a.kept ≡ b.kept → a.clock ≡ b.clock → a.states ≡ b.states → a.blocks ≡ b.blocks
-    → a.processors ≡ b.processors → a.semaphores ≡ b.semaphores → a.flags ≡ b.flags → a.data_queues ≡ b.data_queues
+    → a.processors ≡ b.processors → a.spins ≡ b.spins → a.semaphores ≡ b.semaphores → a.flags ≡ b.flags → a.data_queues ≡ b.data_queues
     → a.mailboxes ≡ b.mailboxes → a.shared_words ≡ b.shared_words → a.pending_cyclics ≡ b.pending_cyclics → a.pending_interrupts ≡ b.pending_interrupts → a ≡ b
-same-frame a b e1 e0 e2 e3 e4 e5 e6 e7 e8 e9 e10 e11 e12 =
-    ap (λ (x : List Line). made x a.kept a.clock a.states a.blocks a.processors a.semaphores a.flags a.data_queues a.mailboxes a.shared_words a.pending_cyclics a.pending_interrupts) e1
-    ∙ ap (λ (x : Option ℕ). made b.lines x a.clock a.states a.blocks a.processors a.semaphores a.flags a.data_queues a.mailboxes a.shared_words a.pending_cyclics a.pending_interrupts) e0
-    ∙ ap (λ (x : ℕ). made b.lines b.kept x a.states a.blocks a.processors a.semaphores a.flags a.data_queues a.mailboxes a.shared_words a.pending_cyclics a.pending_interrupts) e2
-    ∙ ap (λ (x : List TaskState). made b.lines b.kept b.clock x a.blocks a.processors a.semaphores a.flags a.data_queues a.mailboxes a.shared_words a.pending_cyclics a.pending_interrupts) e3
-    ∙ ap (λ (x : List TaskBlock). made b.lines b.kept b.clock b.states x a.processors a.semaphores a.flags a.data_queues a.mailboxes a.shared_words a.pending_cyclics a.pending_interrupts) e4
-    ∙ ap (λ (x : List Processor). made b.lines b.kept b.clock b.states b.blocks x a.semaphores a.flags a.data_queues a.mailboxes a.shared_words a.pending_cyclics a.pending_interrupts) e5
-    ∙ ap (λ (x : List ℕ). made b.lines b.kept b.clock b.states b.blocks b.processors x a.flags a.data_queues a.mailboxes a.shared_words a.pending_cyclics a.pending_interrupts) e6
-    ∙ ap (λ (x : List ℕ). made b.lines b.kept b.clock b.states b.blocks b.processors b.semaphores x a.data_queues a.mailboxes a.shared_words a.pending_cyclics a.pending_interrupts) e7
-    ∙ ap (λ (x : List ℕ). made b.lines b.kept b.clock b.states b.blocks b.processors b.semaphores b.flags x a.mailboxes a.shared_words a.pending_cyclics a.pending_interrupts) e8
-    ∙ ap (λ (x : List ℕ). made b.lines b.kept b.clock b.states b.blocks b.processors b.semaphores b.flags b.data_queues x a.shared_words a.pending_cyclics a.pending_interrupts) e9
-    ∙ ap (λ (x : List ℤ). made b.lines b.kept b.clock b.states b.blocks b.processors b.semaphores b.flags b.data_queues b.mailboxes x a.pending_cyclics a.pending_interrupts) e10
-    ∙ ap (λ (x : List Bool). made b.lines b.kept b.clock b.states b.blocks b.processors b.semaphores b.flags b.data_queues b.mailboxes b.shared_words x a.pending_interrupts) e11
-    ∙ ap (λ (x : List Bool). made b.lines b.kept b.clock b.states b.blocks b.processors b.semaphores b.flags b.data_queues b.mailboxes b.shared_words b.pending_cyclics x) e12
+same-frame a b e1 e0 e2 e3 e4 e5 e13 e6 e7 e8 e9 e10 e11 e12 =
+    ap (λ (x : List Line). made x a.kept a.clock a.states a.blocks a.processors a.spins a.semaphores a.flags a.data_queues a.mailboxes a.shared_words a.pending_cyclics a.pending_interrupts) e1
+    ∙ ap (λ (x : Option ℕ). made b.lines x a.clock a.states a.blocks a.processors a.spins a.semaphores a.flags a.data_queues a.mailboxes a.shared_words a.pending_cyclics a.pending_interrupts) e0
+    ∙ ap (λ (x : ℕ). made b.lines b.kept x a.states a.blocks a.processors a.spins a.semaphores a.flags a.data_queues a.mailboxes a.shared_words a.pending_cyclics a.pending_interrupts) e2
+    ∙ ap (λ (x : List TaskState). made b.lines b.kept b.clock x a.blocks a.processors a.spins a.semaphores a.flags a.data_queues a.mailboxes a.shared_words a.pending_cyclics a.pending_interrupts) e3
+    ∙ ap (λ (x : List TaskBlock). made b.lines b.kept b.clock b.states x a.processors a.spins a.semaphores a.flags a.data_queues a.mailboxes a.shared_words a.pending_cyclics a.pending_interrupts) e4
+    ∙ ap (λ (x : List Processor). made b.lines b.kept b.clock b.states b.blocks x a.spins a.semaphores a.flags a.data_queues a.mailboxes a.shared_words a.pending_cyclics a.pending_interrupts) e5
+    ∙ ap (λ (x : List (Option Spin)). made b.lines b.kept b.clock b.states b.blocks b.processors x a.semaphores a.flags a.data_queues a.mailboxes a.shared_words a.pending_cyclics a.pending_interrupts) e13
+    ∙ ap (λ (x : List ℕ). made b.lines b.kept b.clock b.states b.blocks b.processors b.spins x a.flags a.data_queues a.mailboxes a.shared_words a.pending_cyclics a.pending_interrupts) e6
+    ∙ ap (λ (x : List ℕ). made b.lines b.kept b.clock b.states b.blocks b.processors b.spins b.semaphores x a.data_queues a.mailboxes a.shared_words a.pending_cyclics a.pending_interrupts) e7
+    ∙ ap (λ (x : List ℕ). made b.lines b.kept b.clock b.states b.blocks b.processors b.spins b.semaphores b.flags x a.mailboxes a.shared_words a.pending_cyclics a.pending_interrupts) e8
+    ∙ ap (λ (x : List ℕ). made b.lines b.kept b.clock b.states b.blocks b.processors b.spins b.semaphores b.flags b.data_queues x a.shared_words a.pending_cyclics a.pending_interrupts) e9
+    ∙ ap (λ (x : List ℤ). made b.lines b.kept b.clock b.states b.blocks b.processors b.spins b.semaphores b.flags b.data_queues b.mailboxes x a.pending_cyclics a.pending_interrupts) e10
+    ∙ ap (λ (x : List Bool). made b.lines b.kept b.clock b.states b.blocks b.processors b.spins b.semaphores b.flags b.data_queues b.mailboxes b.shared_words x a.pending_interrupts) e11
+    ∙ ap (λ (x : List Bool). made b.lines b.kept b.clock b.states b.blocks b.processors b.spins b.semaphores b.flags b.data_queues b.mailboxes b.shared_words b.pending_cyclics x) e12
 
 module _ {B C : Type 0} (meaning : B → Meaning C) where
   abbrev step_of : KernelView B C → Event → Reaction C
@@ -67,29 +70,29 @@ module _ {B C : Type 0} (meaning : B → Meaning C) where
   frames_of k es = frames k.system (meaning k.body) k.bound k.world es
 
   abbrev pub last_of : KernelView B C → FrameTable
-  last_of k = frame_of k.system k.world.state k.lines
+  last_of k = frame_of k.system (meaning k.body) k.bound k.world k.lines
 
   -- the frame of an event that kept a place
   abbrev pub kept_of : KernelView B C → Option ℕ → FrameTable
-  kept_of k ran = kept_frame k.system k.world.state ran
+  kept_of k ran = kept_frame k.system (meaning k.body) k.bound k.world ran
 
   kept_here : (k : KernelView B C) (es : List Event) (ran : Option ℕ) (o : Reaction C) → effect.Kept ≡ effect_of o → Names ran o
-      → framed_on k.system k.world o (λ w. frames k.system (meaning k.body) k.bound w es)
+      → framed_on k.system (meaning k.body) k.bound k.world o (λ w. frames k.system (meaning k.body) k.bound w es)
       ≡ kept_of (view_after k o) ran ∷ frames_of (view_after k o) es
   kept_here k es ran Nothing h n = absurd (cc h)
   kept_here k es ran (Did d) h n = absurd (cc h)
   kept_here k es ran (Kept p v) h n =
-      ap (λ (r : Option ℕ). kept_frame k.system v.state r ∷ frames k.system (meaning k.body) k.bound v es) (sym n)
+      ap (λ (r : Option ℕ). kept_frame k.system (meaning k.body) k.bound v r ∷ frames k.system (meaning k.body) k.bound v es) (sym n)
 
   done_here : (k : KernelView B C) (es : List Event) (o : Reaction C) → effect.Done ≡ effect_of o
-      → framed_on k.system k.world o (λ w. frames k.system (meaning k.body) k.bound w es)
+      → framed_on k.system (meaning k.body) k.bound k.world o (λ w. frames k.system (meaning k.body) k.bound w es)
       ≡ last_of (view_after k o) ∷ frames_of (view_after k o) es
   done_here k es Nothing h = absurd (cc)
   done_here k es (Did d) h = refl
   done_here k es (Kept p v) h = absurd (cc h)
 
   nothing_here : (k : KernelView B C) (es : List Event) (o : Reaction C) → effect.Nothing ≡ effect_of o
-      → framed_on k.system k.world o (λ w. frames k.system (meaning k.body) k.bound w es) ≡ frames_of (view_after k o) es
+      → framed_on k.system (meaning k.body) k.bound k.world o (λ w. frames k.system (meaning k.body) k.bound w es) ≡ frames_of (view_after k o) es
   nothing_here k es Nothing h = refl
   nothing_here k es (Did d) h = absurd (cc)
   nothing_here k es (Kept p v) h = absurd (cc h)
@@ -106,6 +109,22 @@ module _ {B C : Type 0} (meaning : B → Meaning C) where
 
   pub system-step : (k k' : KernelView B C) (e : Event) → k' ≡ view_after k (step_of k e) → k'.system ≡ k.system
   system-step k k' e h = ap (λ (v : KernelView B C). v.system) h ∙ system_here k (step_of k e)
+
+  body_here : (k : KernelView B C) (o : Reaction C) → (view_after k o).body ≡ k.body
+  body_here k Nothing = refl
+  body_here k (Did d) = refl
+  body_here k (Kept p v) = refl
+
+  bound_here : (k : KernelView B C) (o : Reaction C) → (view_after k o).bound ≡ k.bound
+  bound_here k Nothing = refl
+  bound_here k (Did d) = refl
+  bound_here k (Kept p v) = refl
+
+  pub body-step : (k k' : KernelView B C) (e : Event) → k' ≡ view_after k (step_of k e) → k'.body ≡ k.body
+  body-step k k' e h = ap (λ (v : KernelView B C). v.body) h ∙ body_here k (step_of k e)
+
+  pub bound-step : (k k' : KernelView B C) (e : Event) → k' ≡ view_after k (step_of k e) → k'.bound ≡ k.bound
+  bound-step k k' e h = ap (λ (v : KernelView B C). v.bound) h ∙ bound_here k (step_of k e)
 
   pub taken-step : (k k' : KernelView B C) (e : Event) → k' ≡ view_after k (step_of k e) → k'.taken ≤ k.taken + 1
   taken-step k k' e h = subst (λ (v : KernelView B C). v.taken ≤ k.taken + 1) (sym h) (one_more k (step_of k e))

@@ -12,6 +12,9 @@ use Rattle.fmp_base.specs.declared.states.Caller.{Caller}
 use Rattle.fmp_base.specs.declared.states.Caller.TheVariants as caller
 use Rattle.fmp_base.specs.declared.states.Handler.{Handler}
 use Rattle.fmp_base.specs.declared.states.Processor.{Processor}
+use Rattle.fmp_why.specs.declared.obstacles.Spin.{Spin}
+use Rattle.fmp_why.specs.Obstacles.{spin_of}
+use Rattle.fmp_why.specs.Verdicts.{is_spin}
 use Rattle.fmp_frames.specs.Frames.{FrameTable, each}
 use Rattle.fmp_frames.specs.declared.counting.Tally.{Tally}
 use Rattle.fmp_frames.specs.declared.tallies.Tallies.{Tallies}
@@ -100,6 +103,10 @@ counted t lines kept was is x =
       events = more (more x.events (length (filter (acts t) lines))) (one_if (is_keeper t kept));
     }
 
+-- after how many events task t spun, after one more: it spins if the actor of a processor that runs it does
+abbrev pub spun : ℕ → List Processor → List (Option Spin) → ℕ → ℕ
+spun t cpus spins x = more x (one_if (is_spin (spin_of cpus spins t)))
+
 abbrev pub nothing : Tally
 nothing = record { starts = 0; calls = 0; waits = 0; time_outs = 0; preemptions = 0; kept = 0; events = 0 }
 
@@ -107,10 +114,13 @@ nothing = record { starts = 0; calls = 0; waits = 0; time_outs = 0; preemptions 
 pub record Counts : Type 0 where
   pub tallies : List Tally
   pub shown : List TaskState
+  -- after how many events each task spun
+  pub spins : List ℕ
   pub events : ℕ
 
 abbrev pub counts_of : Tallies → Counts
-counts_of x = record { tallies = x.tallies.items; shown = x.shown.items; events = x.events }
+counts_of x =
+    record { tallies = x.tallies.items; shown = x.shown.items; spins = x.spins.items; events = x.events }
 
 abbrev pub counts_after : Counts → FrameTable → Counts
 counts_after c f =
@@ -118,6 +128,7 @@ counts_after c f =
       tallies = each (λ t. counted t f.lines (keeper f.kept f.processors) c.shown f.states (get_or c.tallies t nothing))
           (length c.tallies);
       shown = f.states;
+      spins = each (λ t. spun t f.processors f.spins (get_or c.spins t 0)) (length c.spins);
       events = more c.events 1;
     }
 
@@ -127,6 +138,7 @@ first_counts f =
     record {
       tallies = each (λ t. counted t f.lines None [] f.states nothing) (length f.states);
       shown = f.states;
+      spins = each (λ t. spun t [] [] (get_or [] t 0)) (length f.states);
       events = 0;
     }
 

@@ -16,6 +16,8 @@ use Rattle.fmp_base.specs.Steps.{Reaction, Nothing, Did, Kept, step}
 use Rattle.fmp_base.specs.Systems.{SystemTables}
 use Rattle.fmp_base.specs.Ticks.{is_pending}
 use Rattle.fmp_frames.specs.declared.frame.Frame as declared
+use Rattle.fmp_frames.specs.Spinning.{spin_at}
+use Rattle.fmp_why.specs.declared.obstacles.Spin.{Spin}
 
 -- what a frame shows, without memory
 pub record FrameTable : Type 0 where
@@ -26,6 +28,8 @@ pub record FrameTable : Type 0 where
   pub states : List TaskState
   pub blocks : List TaskBlock
   pub processors : List Processor
+  -- what the actors of the processors spin for: what their next runs would come to
+  pub spins : List (Option Spin)
   pub semaphores : List ℕ
   pub flags : List ℕ
   pub data_queues : List ℕ
@@ -44,6 +48,7 @@ table_of f =
       states = f.states.items;
       blocks = f.blocks.items;
       processors = f.processors.items;
+      spins = f.spins.items;
       semaphores = f.semaphores.items;
       flags = f.flags.items;
       data_queues = f.data_queues.items;
@@ -65,36 +70,41 @@ word_count s d = length (words_at s d)
 abbrev pub message_count : KernelState → ℕ → ℕ
 message_count s mailbox = length (messages_at s mailbox)
 
--- the frame of an event that told these lines and left this state
-abbrev pub frame_of : SystemTables → KernelState → List Line → FrameTable
-frame_of sys s lines =
+-- all processors
+abbrev pub processors_of : SystemTables → KernelState → List Processor
+processors_of sys s = each (processor_at s) sys.processors
+
+-- the frame of an event that told these lines and left this world
+abbrev pub frame_of : {C : Type 0} → SystemTables → Meaning C → (bound : ℕ) → World C → List Line → FrameTable
+frame_of sys M bound w lines =
     record {
       lines = lines;
       kept = None;
-      clock = s.clock;
-      states = each (task_state s) (length sys.tasks);
-      blocks = each (task_at s.tasks) (length sys.tasks);
-      processors = each (processor_at s) sys.processors;
-      semaphores = each (λ i. get_or s.semaphores i 0) (length sys.semaphores);
-      flags = each (pattern_at s) (length sys.flags);
-      data_queues = each (word_count s) (length sys.data_queues);
-      mailboxes = each (message_count s) (length sys.mailboxes);
-      shared_words = each (λ i. get_or s.shared_words i (pos 0)) (length sys.shared_words);
-      pending_cyclics = each (is_pending s.pending_cyclics) (length sys.cyclics);
-      pending_interrupts = each (is_pending s.pending_interrupts) 32;
+      clock = w.state.clock;
+      states = each (task_state w.state) (length sys.tasks);
+      blocks = each (task_at w.state.tasks) (length sys.tasks);
+      processors = processors_of sys w.state;
+      spins = each (spin_at sys M bound w (processors_of sys w.state)) sys.processors;
+      semaphores = each (λ i. get_or w.state.semaphores i 0) (length sys.semaphores);
+      flags = each (pattern_at w.state) (length sys.flags);
+      data_queues = each (word_count w.state) (length sys.data_queues);
+      mailboxes = each (message_count w.state) (length sys.mailboxes);
+      shared_words = each (λ i. get_or w.state.shared_words i (pos 0)) (length sys.shared_words);
+      pending_cyclics = each (is_pending w.state.pending_cyclics) (length sys.cyclics);
+      pending_interrupts = each (is_pending w.state.pending_interrupts) 32;
     }
 
 -- the frame of an event that ran this processor and kept the place of its actor
-abbrev pub kept_frame : SystemTables → KernelState → Option ℕ → FrameTable
-kept_frame sys s ran = record (frame_of sys s []) { kept = ran }
+abbrev pub kept_frame : {C : Type 0} → SystemTables → Meaning C → (bound : ℕ) → World C → Option ℕ → FrameTable
+kept_frame sys M bound w ran = record (frame_of sys M bound w []) { kept = ran }
 
-abbrev pub framed_on : {C : Type 0} → SystemTables → World C → Reaction C → (World C → List FrameTable)
-    → List FrameTable
-framed_on sys w Nothing rest = rest w
-framed_on sys w (Did d) rest = frame_of sys d.world.state d.lines ∷ rest d.world
-framed_on sys w (Kept p v) rest = kept_frame sys v.state (Some p) ∷ rest v
+abbrev pub framed_on : {C : Type 0} → SystemTables → Meaning C → (bound : ℕ) → World C → Reaction C
+    → (World C → List FrameTable) → List FrameTable
+framed_on sys M bound w Nothing rest = rest w
+framed_on sys M bound w (Did d) rest = frame_of sys M bound d.world d.lines ∷ rest d.world
+framed_on sys M bound w (Kept p v) rest = kept_frame sys M bound v (Some p) ∷ rest v
 
 -- the frames of the events of a run that were taken, in order
 abbrev pub frames : {C : Type 0} → SystemTables → Meaning C → (bound : ℕ) → World C → List Event → List FrameTable
 frames sys M bound w [] = []
-frames sys M bound w (e ∷ es) = framed_on sys w (step sys M bound w e) (λ v. frames sys M bound v es)
+frames sys M bound w (e ∷ es) = framed_on sys M bound w (step sys M bound w e) (λ v. frames sys M bound v es)

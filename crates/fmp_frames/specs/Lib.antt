@@ -1,4 +1,6 @@
 pub mod Counting
 pub mod Frames
 pub mod Showing
+pub mod Shown
+pub mod Spinning
 pub mod Values

@@ -20,6 +20,7 @@ use Rattle.fmp_base.specs.declared.states.TaskBlock.{TaskBlock}
 use Rattle.fmp_base.specs.declared.states.WaitCause.{WaitCause}
 use Rattle.fmp_base.specs.declared.states.WaitCause.TheVariants as cause
 use Rattle.fmp_base.specs.States.{idle}
+use Rattle.fmp_why.specs.declared.obstacles.Spin.{Spin}
 use Rattle.fmp_frames.specs.Frames.{FrameTable}
 use Rattle.fmp_frames.specs.declared.variable.Object.{Object}
 use Rattle.fmp_frames.specs.declared.variable.Object.TheVariants as object
@@ -146,12 +147,18 @@ abbrev pub phase_of : Option TaskBlock → Phase
 phase_of None = phase.Dormant
 phase_of (Some block) = block.phase
 
+-- the lock that is spun for
+abbrev pub lock_of : Option Spin → Option ℕ
+lock_of None = None
+lock_of (Some spin) = Some spin.lock
+
 -- the value of a variable in a frame
 abbrev pub value_of : FrameTable → Variable → ℕ
 value_of f show.Clock = f.clock
 value_of f (show.Run p) = number_or_zero (get_or f.processors p idle).run
 value_of f (show.Handler p) = handler_code (get_or f.processors p idle).handler
 value_of f (show.Lock p) = lock_code (get_or f.processors p idle).lock
+value_of f (show.Spin p) = number_or_zero (lock_of (get_or f.spins p None))
 value_of f (show.Dispatch p) = one_if (not (get_or f.processors p idle).dispatch_disabled)
 value_of f (show.Refused p) = refused p (slice_get f.lines 0)
 value_of f (show.State t) = state_code (get_or f.states t unknown).word

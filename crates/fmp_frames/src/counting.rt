@@ -4,6 +4,7 @@ ghost use Rattle.std.specs.List.{filter};
 ghost use Rattle.fmp_frames.specs.Counting as spec;
 
 use fmp_base::{Caller, Er, Line, Processor, StateWord, TaskState};
+use fmp_why::{Spin, is_spin, spin_of};
 
 /// What a task did in a run. Each count stops at the greatest number that it can have.
 #[derive(Clone, Copy)]
@@ -216,4 +217,11 @@ pub fn counted(
         kept: more(tally.kept, keeps),
         events: more(more(tally.events, acts_in(lines, task)), keeps),
     }
+}
+
+/// After how many events a task spun, after one more that left these processors and what their actors spin for.
+pub fn spun(count: u32, task: usize, processors: &[Processor], spins: &[Option<Spin>]) -> u32
+    ensures { result ≡ spec.spun task processors.now spins.now count }
+{
+    more(count, one_if(is_spin(spin_of(processors, spins, task))))
 }

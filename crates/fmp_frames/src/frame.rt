@@ -6,8 +6,10 @@ use crate::reading::{
     blocks, data_queues, flags, mailboxes, pending_cyclics, pending_interrupts, processors,
     semaphores, shared_words, states,
 };
+use crate::spinning::spins;
 use fmp_base::{Line, Processor, TaskBlock, TaskState};
 use fmp_kernel::{Body, Kernel};
+use fmp_why::Spin;
 use std::alloc::{AllocError, Global};
 
 /// What setup or an event that was taken told, and the state after it. Each table is in order of number.
@@ -25,6 +27,8 @@ pub struct Frame {
     pub blocks: Vec<TaskBlock>,
     /// The processors.
     pub processors: Vec<Processor>,
+    /// What the actor of each processor spins for: what its next run would come to.
+    pub spins: Vec<Option<Spin>>,
     /// The counts of the semaphores.
     pub semaphores: Vec<u16>,
     /// The patterns of the eventflags.
@@ -45,22 +49,28 @@ pub struct Frame {
 fn frame_with<B: Body>(
     alloc: Global,
     kernel: &Kernel<B>,
+    body: &B,
+    n: u64,
     told: &[Line],
     kept: Option<u8>,
 ) -> Result<Frame, AllocError>
-    ensures { IfOk result (λ f. table_of f
-        ≡ record (frame_of kernel.now.system kernel.now.world.state told.now) { kept = kept }) }
+    requires body { body.now ≡ kernel.now.body }
+    requires bound { n ≡ kernel.now.bound }
+    ensures { IfOk result (λ f. table_of f ≡ record (frame_of kernel.now.system (B.meaning kernel.now.body)
+        kernel.now.bound kernel.now.world told.now) { kept = kept }) }
 {
     let tables = kernel.tables();
     let mut lines = Vec::new(alloc);
     lines.extend_from_slice(told)?;
+    let processors = processors(alloc, tables)?;
     Ok(Frame {
         lines,
         kept,
         clock: tables.clock(),
         states: states(alloc, kernel)?,
         blocks: blocks(alloc, tables)?,
-        processors: processors(alloc, tables)?,
+        spins: spins(alloc, kernel, body, n, &processors)?,
+        processors,
         semaphores: semaphores(alloc, tables)?,
         flags: flags(alloc, tables)?,
         data_queues: data_queues(alloc, tables)?,
@@ -71,12 +81,20 @@ fn frame_with<B: Body>(
     })
 }
 
-/// The frame of setup, or of the last event that was done. `AllocError` if memory runs out.
-pub fn last_frame<B: Body>(alloc: Global, kernel: &Kernel<B>) -> Result<Frame, AllocError>
-    ensures { IfOk result (λ f. table_of f
-        ≡ frame_of kernel.now.system kernel.now.world.state kernel.now.lines) }
+/// The frame of setup, or of the last event that was done, of a kernel over these bodies with this bound. `AllocError`
+/// if memory runs out.
+pub fn last_frame<B: Body>(
+    alloc: Global,
+    kernel: &Kernel<B>,
+    body: &B,
+    n: u64,
+) -> Result<Frame, AllocError>
+    requires body { body.now ≡ kernel.now.body }
+    requires bound { n ≡ kernel.now.bound }
+    ensures { IfOk result (λ f. table_of f ≡ frame_of kernel.now.system (B.meaning kernel.now.body) kernel.now.bound
+        kernel.now.world kernel.now.lines) }
 {
-    frame_with(alloc, kernel, kernel.lines(), None)
+    frame_with(alloc, kernel, body, n, kernel.lines(), None)
 }
 
 /// The frame of an event that kept the place of the actor of the processor that it ran. `AllocError` if memory runs
@@ -84,9 +102,14 @@ pub fn last_frame<B: Body>(alloc: Global, kernel: &Kernel<B>) -> Result<Frame, A
 pub fn kept_frame<B: Body>(
     alloc: Global,
     kernel: &Kernel<B>,
+    body: &B,
+    n: u64,
     ran: Option<u8>,
 ) -> Result<Frame, AllocError>
-    ensures { IfOk result (λ f. table_of f ≡ frame_of_kept kernel.now.system kernel.now.world.state ran) }
+    requires body { body.now ≡ kernel.now.body }
+    requires bound { n ≡ kernel.now.bound }
+    ensures { IfOk result (λ f. table_of f ≡ frame_of_kept kernel.now.system (B.meaning kernel.now.body)
+        kernel.now.bound kernel.now.world ran) }
 {
-    frame_with(alloc, kernel, &[], ran)
+    frame_with(alloc, kernel, body, n, &[], ran)
 }

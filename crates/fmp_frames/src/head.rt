@@ -13,6 +13,7 @@ const HEAD: &str = "$comment
     6 receives from a data queue, 7 mailbox
   handler: 0 none, n cyclic handler n, 256 + i interrupt i
   lock: 0 free, 1 CPU lock, 256 + s spin lock s
+  spins: the number of the spin lock for which what runs there spins, 0 for none
   refused: an event of this processor 0 as asked, 1 a code other than E_OK, 2 a fault
   cyclic and interrupt handlers: 0 idle, 1 pending, 2 runs, 3 runs and is pending again
 $end
@@ -79,7 +80,8 @@ impl Head {
         self.close()
     }
 
-    fn processor(&mut self, place: u8) -> Result<(), AllocError> {
+    /// A processor, with what it spins for where there are spin locks.
+    fn processor(&mut self, place: u8, spins: bool) -> Result<(), AllocError> {
         self.open_numbered("p", u32::from(place) + 1)?;
         let place = usize::from(place);
         self.declare_all(&[
@@ -89,6 +91,9 @@ impl Head {
             Variable::Dispatch(place),
             Variable::Refused(place),
         ])?;
+        if spins {
+            self.declare(Variable::Spin(place))?;
+        }
         self.close()
     }
 
@@ -179,7 +184,7 @@ impl Head {
 
     fn processors(&mut self, sys: &System) -> Result<(), AllocError> {
         for place in 0..sys.processors {
-            self.processor(place)?;
+            self.processor(place, !sys.spin_locks.is_empty())?;
         }
         Ok(())
     }

@@ -9,6 +9,7 @@ mod frame;
 mod head;
 mod reading;
 mod showing;
+mod spinning;
 mod table;
 mod taking;
 mod tallies;

@@ -16,7 +16,11 @@ use std::alloc::{AllocError, Global};
 const INTERRUPTS: u8 = 32;
 
 /// What a function gives for each number below a count, in order.
-fn each<T: Drop, F: Fn(u8) -> T>(alloc: Global, count: u8, read: F) -> Result<Vec<T>, AllocError>
+pub fn each<T: Drop, F: Fn(u8) -> T>(
+    alloc: Global,
+    count: u8,
+    read: F,
+) -> Result<Vec<T>, AllocError>
     requires { (i : ℕ) → i < count → F.pre read i }
     ensures { (f : ℕ → T) → ((i : ℕ) (x : T) → i < count → F.post read i x → x ≡ f i)
         → IfOk result (λ xs. xs.items ≡ spec.each f count) }

@@ -2,6 +2,7 @@
 ghost use Rattle.std.specs.Prelude.{◌≡◌, ◌+◌, ◌≤◌, ◌^◌, length, OnOk};
 ghost use Rattle.fmp_frames.specs.Frames.{FrameTable, frame_of, frames, kept_frame as frame_of_kept, table_of};
 ghost use Rattle.fmp_frames.specs.Showing.{HasShown};
+ghost use Rattle.fmp_kernel.specs.KernelViews.{view_after_all};
 
 use crate::frame::{Frame, kept_frame, last_frame};
 use fmp_base::{Effect, Event};
@@ -22,12 +23,16 @@ pub trait Viewer {
 fn show_last<B: Body, V: Viewer>(
     alloc: Global,
     kernel: &Kernel<B>,
+    body: &B,
+    n: u64,
     viewer: &mut V,
 ) -> Result<(), AllocError>
+    requires body { body.now ≡ kernel.now.body }
+    requires bound { n ≡ kernel.now.bound }
     ensures { OnOk result (V.shown viewer.old
-        (frame_of kernel.now.system kernel.now.world.state kernel.now.lines) viewer.new) }
+        (frame_of kernel.now.system (B.meaning kernel.now.body) kernel.now.bound kernel.now.world kernel.now.lines) viewer.new) }
 {
-    let frame = last_frame(alloc, kernel)?;
+    let frame = last_frame(alloc, kernel, body, n)?;
     viewer.show(alloc, &frame)
 }
 
@@ -35,13 +40,17 @@ fn show_last<B: Body, V: Viewer>(
 fn show_kept<B: Body, V: Viewer>(
     alloc: Global,
     kernel: &Kernel<B>,
+    body: &B,
+    n: u64,
     ran: Option<u8>,
     viewer: &mut V,
 ) -> Result<(), AllocError>
+    requires body { body.now ≡ kernel.now.body }
+    requires bound { n ≡ kernel.now.bound }
     ensures { OnOk result (V.shown viewer.old
-        (frame_of_kept kernel.now.system kernel.now.world.state ran) viewer.new) }
+        (frame_of_kept kernel.now.system (B.meaning kernel.now.body) kernel.now.bound kernel.now.world ran) viewer.new) }
 {
-    let frame = kept_frame(alloc, kernel, ran)?;
+    let frame = kept_frame(alloc, kernel, body, n, ran)?;
     viewer.show(alloc, &frame)
 }
 
@@ -49,18 +58,25 @@ fn show_kept<B: Body, V: Viewer>(
 pub fn show_all<B: Body, V: Viewer>(
     alloc: Global,
     kernel: &mut Kernel<B>,
+    body: &B,
+    n: u64,
     events: &[Event],
     viewer: &mut V,
 ) -> Result<(), AllocError>
-    requires { kernel.old.taken + length events.now ≤ 2 ^ 20 }
-    ensures { OnOk result (HasShown V.shown viewer.old
+    requires few { kernel.old.taken + length events.now ≤ 2 ^ 20 }
+    requires body { body.now ≡ kernel.old.body }
+    requires bound { n ≡ kernel.old.bound }
+    ensures shown { OnOk result (HasShown V.shown viewer.old
         (frames kernel.old.system (B.meaning kernel.old.body) kernel.old.bound kernel.old.world events.now)
         viewer.new) }
+    ensures after { OnOk result (kernel.new ≡ view_after_all B.meaning kernel.old events.now) }
+    ensures body { OnOk result (kernel.new.body ≡ kernel.old.body) }
+    ensures bound { OnOk result (kernel.new.bound ≡ kernel.old.bound) }
 {
     for e in events {
         match kernel.step(*e) {
-            Effect::Done => show_last(alloc, kernel, viewer)?,
-            Effect::Kept => show_kept(alloc, kernel, run_place(*e), viewer)?,
+            Effect::Done => show_last(alloc, kernel, body, n, viewer)?,
+            Effect::Kept => show_kept(alloc, kernel, body, n, run_place(*e), viewer)?,
             Effect::Nothing => {}
         }
     }

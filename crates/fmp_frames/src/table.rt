@@ -7,13 +7,14 @@ use itoa::Buffer;
 use std::alloc::{AllocError, Global};
 
 /// The heads of the columns of counts.
-const COUNTS: [&str; 7] = [
+const COUNTS: [&str; 8] = [
     "starts",
     "calls",
     "waits",
     "time-outs",
     "preemptions",
     "kept",
+    "spins",
     "events",
 ];
 
@@ -54,8 +55,8 @@ fn append_heads(width: usize, out: &mut Vec<u8>) -> Result<(), AllocError> {
     append("\n", out)
 }
 
-/// The counts of a task, each under its head.
-fn append_counts(tally: &Tally, out: &mut Vec<u8>) -> Result<(), AllocError> {
+/// The counts of a task that spun after so many events, each under its head.
+fn append_counts(tally: &Tally, spins: u32, out: &mut Vec<u8>) -> Result<(), AllocError> {
     let counts = [
         tally.starts,
         tally.calls,
@@ -63,6 +64,7 @@ fn append_counts(tally: &Tally, out: &mut Vec<u8>) -> Result<(), AllocError> {
         tally.time_outs,
         tally.preemptions,
         tally.kept,
+        spins,
         tally.events,
     ];
     for place in 0..COUNTS.len() {
@@ -80,26 +82,35 @@ fn name_width(sys: &System) -> usize {
     width
 }
 
-/// The row of a task of this name, given the number of all events.
+/// The row of a task of this name that spun after so many events, given the number of all events.
 fn append_tally(
     alloc: Global,
     name: &[u8],
     width: usize,
     tally: &Tally,
+    spins: u32,
     events: u32,
     out: &mut Vec<u8>,
 ) -> Result<(), AllocError> {
     append_name(name, width, out)?;
-    append_counts(tally, out)?;
+    append_counts(tally, spins, out)?;
     let share = u64::from(tally.events) * 1000 / u64::from(events.max(1));
     let share = format!(in alloc; "{}.{}%", share / 10, share % 10)?;
     append_cell(SHARE, &share, out)?;
     append("\n", out)
 }
 
+/// After how many events a task spun, by its place.
+fn spins_at(spins: &[u32], place: usize) -> u32 {
+    match spins.get(place) {
+        Some(count) => *count,
+        None => 0,
+    }
+}
+
 impl Tallies {
-    /// Appends the table: a line for each task, with its share of the events in tenths of a percent. `AllocError` if
-    /// memory runs out.
+    /// Appends the table: a line for each task, with its share of the events in tenths of a percent. `AllocError` if memory
+    /// runs out.
     pub fn append_table(
         &self,
         alloc: Global,
@@ -108,15 +119,18 @@ impl Tallies {
     ) -> Result<(), AllocError> {
         let width = name_width(sys);
         append_heads(width, out)?;
-        for (config, tally) in sys.tasks.iter().zip(self.tallies.as_slice()) {
-            append_tally(
-                alloc,
-                config.name.as_bytes(),
-                width,
-                tally,
-                self.events,
-                out,
-            )?;
+        for (place, config) in sys.tasks.iter().enumerate() {
+            if let Some(tally) = self.tallies.get(place) {
+                append_tally(
+                    alloc,
+                    config.name.as_bytes(),
+                    width,
+                    tally,
+                    spins_at(&self.spins, place),
+                    self.events,
+                    out,
+                )?;
+            }
         }
         Ok(())
     }

@@ -13,12 +13,16 @@ use std::alloc::{AllocError, Global};
 fn append_last<B: Body>(
     alloc: Global,
     kernel: &Kernel<B>,
+    body: &B,
+    n: u64,
     all: &mut Vec<Frame>,
 ) -> Result<(), AllocError>
+    requires body { body.now ≡ kernel.now.body }
+    requires bound { n ≡ kernel.now.bound }
     ensures { OnOk result (map table_of all.new.items ≡ map table_of all.old.items
-        ++ frame_of kernel.now.system kernel.now.world.state kernel.now.lines ∷ []) }
+        ++ frame_of kernel.now.system (B.meaning kernel.now.body) kernel.now.bound kernel.now.world kernel.now.lines ∷ []) }
 {
-    let frame = last_frame(alloc, kernel)?;
+    let frame = last_frame(alloc, kernel, body, n)?;
     all.push(frame)?;
     Ok(())
 }
@@ -28,13 +32,17 @@ fn append_last<B: Body>(
 fn append_kept<B: Body>(
     alloc: Global,
     kernel: &Kernel<B>,
+    body: &B,
+    n: u64,
     ran: Option<u8>,
     all: &mut Vec<Frame>,
 ) -> Result<(), AllocError>
+    requires body { body.now ≡ kernel.now.body }
+    requires bound { n ≡ kernel.now.bound }
     ensures { OnOk result (map table_of all.new.items ≡ map table_of all.old.items
-        ++ frame_of_kept kernel.now.system kernel.now.world.state ran ∷ []) }
+        ++ frame_of_kept kernel.now.system (B.meaning kernel.now.body) kernel.now.bound kernel.now.world ran ∷ []) }
 {
-    let frame = kept_frame(alloc, kernel, ran)?;
+    let frame = kept_frame(alloc, kernel, body, n, ran)?;
     all.push(frame)?;
     Ok(())
 }
@@ -43,9 +51,13 @@ fn append_kept<B: Body>(
 pub fn frames<B: Body>(
     alloc: Global,
     kernel: &mut Kernel<B>,
+    body: &B,
+    n: u64,
     events: &[Event],
 ) -> Result<Vec<Frame>, AllocError>
-    requires { kernel.old.taken + length events.now ≤ 2 ^ 20 }
+    requires few { kernel.old.taken + length events.now ≤ 2 ^ 20 }
+    requires body { body.now ≡ kernel.old.body }
+    requires bound { n ≡ kernel.old.bound }
     ensures frames { IfOk result (λ fs. map table_of fs.items
         ≡ frames kernel.old.system (B.meaning kernel.old.body) kernel.old.bound kernel.old.world events.now) }
     ensures after { OnOk result (kernel.new ≡ view_after_all B.meaning kernel.old events.now) }
@@ -55,8 +67,8 @@ pub fn frames<B: Body>(
     let mut all = Vec::new(alloc);
     for e in events {
         match kernel.step(*e) {
-            Effect::Done => append_last(alloc, kernel, &mut all)?,
-            Effect::Kept => append_kept(alloc, kernel, run_place(*e), &mut all)?,
+            Effect::Done => append_last(alloc, kernel, body, n, &mut all)?,
+            Effect::Kept => append_kept(alloc, kernel, body, n, run_place(*e), &mut all)?,
             Effect::Nothing => {}
         }
     }

@@ -3,9 +3,10 @@ ghost use Rattle.std.specs.Prelude.{◌≡◌, [], length, IfOk, get_or};
 ghost use Rattle.fmp_frames.specs.Frames.{each, table_of};
 ghost use Rattle.fmp_frames.specs.Counting as spec;
 
-use crate::counting::{NOTHING, Tally, counted, keeper, more};
+use crate::counting::{NOTHING, Tally, counted, keeper, more, spun};
 use crate::{Frame, Viewer};
-use fmp_base::{Line, TaskState};
+use fmp_base::{Line, Processor, TaskState};
+use fmp_why::Spin;
 use std::alloc::{AllocError, Global};
 
 /// What each task did so far in a run, in order of number.
@@ -15,6 +16,8 @@ pub struct Tallies {
     pub tallies: Vec<Tally>,
     /// What is shown of the tasks after the last event.
     pub shown: Vec<TaskState>,
+    /// After how many events each task spun.
+    pub spins: Vec<u32>,
     /// How many events were taken, up to the greatest number.
     pub events: u32,
 }
@@ -51,6 +54,35 @@ fn all_counted(
     Ok(tallies)
 }
 
+/// After how many events a task spun so far; none if there is no such task.
+fn count_at(counts: &[u32], task: usize) -> u32
+    ensures { result ≡ get_or counts.now task 0 }
+{
+    match counts.get(task) {
+        Some(count) => *count,
+        None => 0,
+    }
+}
+
+/// After how many events each of this many tasks spun, after one more that left these processors and what their actors
+/// spin for. `AllocError` if memory runs out.
+fn all_spun(
+    alloc: Global,
+    count: usize,
+    before: &[u32],
+    processors: &[Processor],
+    spins: &[Option<Spin>],
+) -> Result<Vec<u32>, AllocError>
+    ensures { IfOk result (λ counts. counts.items
+        ≡ each (λ t. spec.spun t processors.now spins.now (get_or before.now t 0)) count) }
+{
+    let mut counts = Vec::with_capacity(alloc, count)?;
+    for task in 0..count {
+        counts.push(spun(count_at(before, task), task, processors, spins))?;
+    }
+    Ok(counts)
+}
+
 /// The same states, in a vector of their own.
 fn copied(alloc: Global, states: &[TaskState]) -> Result<Vec<TaskState>, AllocError>
     ensures { IfOk result (λ copy. copy.items ≡ states.now) }
@@ -69,8 +101,39 @@ impl Tallies {
         Ok(Tallies {
             tallies: all_counted(alloc, states.len(), &[], &setup.lines, None, &[], states)?,
             shown: copied(alloc, states)?,
+            spins: all_spun(alloc, states.len(), &[], &[], &[])?,
             events: 0,
         })
+    }
+
+    /// The counts of the tasks after one more event.
+    fn tallies_after(&self, alloc: Global, frame: &Frame) -> Result<Vec<Tally>, AllocError>
+        ensures { IfOk result (λ tallies. tallies.items
+            ≡ (spec.counts_after (spec.counts_of self.now) (table_of frame.now)).tallies) }
+    {
+        all_counted(
+            alloc,
+            self.tallies.len(),
+            &self.tallies,
+            &frame.lines,
+            keeper(frame.kept, &frame.processors),
+            &self.shown,
+            &frame.states,
+        )
+    }
+
+    /// After how many events each task spun, after one more.
+    fn spins_after(&self, alloc: Global, frame: &Frame) -> Result<Vec<u32>, AllocError>
+        ensures { IfOk result (λ counts. counts.items
+            ≡ (spec.counts_after (spec.counts_of self.now) (table_of frame.now)).spins) }
+    {
+        all_spun(
+            alloc,
+            self.spins.len(),
+            &self.spins,
+            &frame.processors,
+            &frame.spins,
+        )
     }
 }
 
@@ -80,17 +143,10 @@ impl Viewer for Tallies {
     /// One event more. After an error nothing is counted of it.
     fn show(&mut self, alloc: Global, frame: &Frame) -> Result<(), AllocError> {
         let shown = copied(alloc, &frame.states)?;
-        let count = self.tallies.len();
-        self.tallies = all_counted(
-            alloc,
-            count,
-            &self.tallies,
-            &frame.lines,
-            keeper(frame.kept, &frame.processors),
-            &self.shown,
-            &frame.states,
-        )?;
+        let spins = self.spins_after(alloc, frame)?;
+        self.tallies = self.tallies_after(alloc, frame)?;
         self.shown = shown;
+        self.spins = spins;
         self.events = more(self.events, 1);
         Ok(())
     }

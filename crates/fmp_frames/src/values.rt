@@ -1,5 +1,5 @@
 //! The values of a dump's variables in a frame.
-ghost use Rattle.std.specs.Prelude.{◌≡◌, false, IfOk, get_or, length, pos, slice_get};
+ghost use Rattle.std.specs.Prelude.{◌≡◌, None, false, IfOk, get_or, length, pos, slice_get};
 ghost use Rattle.std.specs.List.{filter};
 ghost use Rattle.fmp_base.specs.States.{idle};
 ghost use Rattle.fmp_frames.specs.Frames.{table_of};
@@ -12,6 +12,7 @@ use crate::codes::{
 };
 use crate::variable::{Object, Variable};
 use fmp_base::{Handler, Line, Lock, Phase, Processor, StateWord, TaskBlock, TaskState, WaitCause};
+use fmp_why::Spin;
 use std::alloc::{AllocError, Global};
 
 /// A processor; one on which nothing runs and that nothing holds if there is none at the place.
@@ -168,6 +169,16 @@ fn waiting(blocks: &[TaskBlock], object: Object) -> usize
         .count()
 }
 
+/// The lock for which the actor of the processor at a place spins.
+fn spun_lock(spins: &[Option<Spin>], place: usize) -> Option<u8>
+    ensures { result ≡ spec.lock_of (get_or spins.now place None) }
+{
+    match spins.get(place) {
+        Some(Some(spin)) => Some(spin.lock),
+        Some(None) | None => None,
+    }
+}
+
 /// The value of a variable in a frame.
 fn value_of(frame: &Frame, variable: Variable) -> u64
     ensures { result ≡ spec.value_of (table_of frame.now) variable }
@@ -181,6 +192,7 @@ fn value_of(frame: &Frame, variable: Variable) -> u64
             u64::from(handler_code(processor_at(&frame.processors, place).handler))
         }
         Variable::Lock(place) => u64::from(lock_code(processor_at(&frame.processors, place).lock)),
+        Variable::Spin(place) => u64::from(number_or_zero(spun_lock(&frame.spins, place))),
         Variable::Dispatch(place) => {
             u64::from(one_if(!processor_at(&frame.processors, place).dispatch_disabled))
         }

@@ -20,6 +20,8 @@ pub enum Variable {
     Handler(usize),
     /// Its lock: 0 none, 1 the CPU lock, 256 and the number of a spin lock.
     Lock(usize),
+    /// The number of the spin lock for which its actor spins, 0 for none.
+    Spin(usize),
     /// Whether dispatching is enabled on it.
     Dispatch(usize),
     /// At an event of it: 0 as asked, 1 a code other than E_OK, 2 a fault.
@@ -64,6 +66,7 @@ impl Variable {
             Variable::Processor(_) => 4,
             Variable::Priority(_) => 5,
             Variable::Run(_)
+            | Variable::Spin(_)
             | Variable::WaitObject(_)
             | Variable::DataQueue(_)
             | Variable::Mailbox(_)
@@ -89,6 +92,7 @@ impl Variable {
             Variable::Run(_) => "run",
             Variable::Handler(_) => "handler",
             Variable::Lock(_) => "lock",
+            Variable::Spin(_) => "spins",
             Variable::Dispatch(_) => "dispatch",
             Variable::Refused(_) => "refused",
             Variable::State(_) => "state",

@@ -6,9 +6,11 @@ pub returns : goal.returns
 returns g c =
     let state = c.tables-tables.ensures.state in
     let system = c.tables-tables.ensures.system in
+    let all = rw (system, state) at c.in_ok-processors.ensures in
     same-frame _ _ (search rules) refl (c.clock.ensures.value ∙ ap (λ s. s.clock) state) c.in_ok-states.ensures
     (rw (system, state) at c.in_ok-blocks.ensures)
-    (rw (system, state) at c.in_ok-processors.ensures)
+    all
+    (rw (c.deref.ensures.value ∙ all) at c.in_ok-spins.ensures)
     (rw (system, state) at c.in_ok-semaphores.ensures)
     (rw (system, state) at c.in_ok-flags.ensures)
     (rw (system, state) at c.in_ok-data_queues.ensures)

@@ -1,5 +1,5 @@
 use Rattle.std.proofs.Common.{arith, ◌∙◌, ◌≤◌, ◌+◌, sym}
-use Rattle.fmp_frames.proofs.FrameLemmas.{shown-done, shown-kept, shown-nothing, taken-step}
+use Rattle.fmp_frames.proofs.FrameLemmas.{after-step, body-step, bound-step, shown-done, shown-kept, shown-nothing, taken-step}
 use Rattle.fmp_frames.proofs.showing.show_all.Goals as goal
 use Rattle.fmp_frames.proofs.showing.show_all.Goals.{in-Done+in_ok-show_last-in-Done, in-Kept+in_ok-show_kept-in-Kept, in-Nothing}
 
@@ -23,5 +23,29 @@ loop-e-preserved g c =
             (shown-nothing g.B.Body.meaning g.V.Viewer.shown c.loop-e.kernel c.step.new.self c.args.events.now c.loop-e.e-index _ _ last c.loop-e-test.true
             (sym w.in-Nothing.is ∙ c.step.ensures.effect) c.step.ensures.state (rw (← w.viewer-is) rest))
       ];
+      after = after-step g.B.Body.meaning c.loop-e.kernel c.step.new.self c.args.events.now c.loop-e.e-index _ _ c.loop-e-test.true
+          c.step.ensures.state c.loop-e.invariant.after;
+      body = body-step g.B.Body.meaning c.loop-e.kernel c.step.new.self _ c.step.ensures.state ∙ c.loop-e.invariant.body;
+      bound = bound-step g.B.Body.meaning c.loop-e.kernel c.step.new.self _ c.step.ensures.state ∙ c.loop-e.invariant.bound;
       few = omega arith;
     }
+
+pub show_last-requires-clause-body : goal.show_last-requires-clause-body
+show_last-requires-clause-body g c =
+    c.requires.body
+    ∙ sym (body-step g.B.Body.meaning c.loop-e.kernel c.step.new.self _ c.step.ensures.state ∙ c.loop-e.invariant.body)
+
+pub show_last-requires-clause-bound : goal.show_last-requires-clause-bound
+show_last-requires-clause-bound g c =
+    c.requires.bound
+    ∙ sym (bound-step g.B.Body.meaning c.loop-e.kernel c.step.new.self _ c.step.ensures.state ∙ c.loop-e.invariant.bound)
+
+pub show_kept-requires-clause-body : goal.show_kept-requires-clause-body
+show_kept-requires-clause-body g c =
+    c.requires.body
+    ∙ sym (body-step g.B.Body.meaning c.loop-e.kernel c.step.new.self _ c.step.ensures.state ∙ c.loop-e.invariant.body)
+
+pub show_kept-requires-clause-bound : goal.show_kept-requires-clause-bound
+show_kept-requires-clause-bound g c =
+    c.requires.bound
+    ∙ sym (bound-step g.B.Body.meaning c.loop-e.kernel c.step.new.self _ c.step.ensures.state ∙ c.loop-e.invariant.bound)

@@ -1,5 +1,5 @@
 use Rattle.std.proofs.Common.{arith, ◌∙◌, ◌≤◌, ◌+◌, sym}
-use Rattle.fmp_frames.proofs.FrameLemmas.{after-step, frames-done, frames-kept, frames-nothing, system-step, taken-step}
+use Rattle.fmp_frames.proofs.FrameLemmas.{after-step, body-step, bound-step, frames-done, frames-kept, frames-nothing, system-step, taken-step}
 use Rattle.fmp_frames.proofs.taking.frames.Goals as goal
 use Rattle.fmp_frames.proofs.taking.frames.Goals.{in-Done+in_ok-append_last-in-Done, in-Kept+in_ok-append_kept-in-Kept, in-Nothing}
 
@@ -22,7 +22,29 @@ loop-e-preserved g c =
       ];
       after = after-step g.B.Body.meaning c.loop-e.kernel c.step.new.self c.args.events.now c.loop-e.e-index _ _ c.loop-e-test.true
           c.step.ensures.state c.loop-e.invariant.after;
+      body = body-step g.B.Body.meaning c.loop-e.kernel c.step.new.self _ c.step.ensures.state ∙ c.loop-e.invariant.body;
+      bound = bound-step g.B.Body.meaning c.loop-e.kernel c.step.new.self _ c.step.ensures.state ∙ c.loop-e.invariant.bound;
       system = system-step g.B.Body.meaning c.loop-e.kernel c.step.new.self _ c.step.ensures.state ∙ c.loop-e.invariant.system;
       count = omega arith;
       few = omega arith;
     }
+
+pub append_last-requires-clause-body : goal.append_last-requires-clause-body
+append_last-requires-clause-body g c =
+    c.requires.body
+    ∙ sym (body-step g.B.Body.meaning c.loop-e.kernel c.step.new.self _ c.step.ensures.state ∙ c.loop-e.invariant.body)
+
+pub append_last-requires-clause-bound : goal.append_last-requires-clause-bound
+append_last-requires-clause-bound g c =
+    c.requires.bound
+    ∙ sym (bound-step g.B.Body.meaning c.loop-e.kernel c.step.new.self _ c.step.ensures.state ∙ c.loop-e.invariant.bound)
+
+pub append_kept-requires-clause-body : goal.append_kept-requires-clause-body
+append_kept-requires-clause-body g c =
+    c.requires.body
+    ∙ sym (body-step g.B.Body.meaning c.loop-e.kernel c.step.new.self _ c.step.ensures.state ∙ c.loop-e.invariant.body)
+
+pub append_kept-requires-clause-bound : goal.append_kept-requires-clause-bound
+append_kept-requires-clause-bound g c =
+    c.requires.bound
+    ∙ sym (bound-step g.B.Body.meaning c.loop-e.kernel c.step.new.self _ c.step.ensures.state ∙ c.loop-e.invariant.bound)

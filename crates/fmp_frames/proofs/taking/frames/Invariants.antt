@@ -10,6 +10,8 @@ invariant-loop-e g l =
       frames : map table_of l.all.items ++ frames_of g.B.Body.meaning l.kernel (drop l.e-index l.events)
           ≡ frames_of g.B.Body.meaning l.fn.kernel l.events;
       after : view_after_all g.B.Body.meaning l.kernel (drop l.e-index l.events) ≡ view_after_all g.B.Body.meaning l.fn.kernel l.events;
+      body : l.kernel.body ≡ l.fn.kernel.body;
+      bound : l.kernel.bound ≡ l.fn.kernel.bound;
       system : l.kernel.system ≡ l.fn.kernel.system;
       count : l.kernel.taken ≤ l.fn.kernel.taken + l.e-index;
       few : l.kernel.taken + length l.events ≤ 2 ^ 20 + l.e-index;

@@ -1,0 +1,8 @@
+use Rattle.std.proofs.Common.{◌≡◌, ◌+◌, ◌≤◌, ◌^◌, length}
+use Rattle.fmp_watch.proofs.watching.count_up_to.Given as goal
+
+abbrev pub invariant-loop-e : goal.invariant-loop-e
+invariant-loop-e g l = record {
+  few : l.kernel.taken + length l.events ≤ 2 ^ 20 + l.e-index;
+  place : l.place ≡ l.e-index;
+}

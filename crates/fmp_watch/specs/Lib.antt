@@ -1,0 +1,2 @@
+pub mod Compares
+pub mod Watches

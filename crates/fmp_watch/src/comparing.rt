@@ -1,0 +1,201 @@
+//! Two runs of an image side by side: the first event in which they differ.
+ghost use Rattle.std.specs.Prelude.{◌≡◌, ◌+◌, ◌≤◌, ◌^◌, IfOk, length};
+ghost use Rattle.fmp_frames.specs.Frames.{table_of};
+ghost use Rattle.fmp_watch.specs.Compares.{AreStates};
+ghost use Rattle.fmp_frames.specs.Shown.{WasShown};
+
+use fmp_base::{Event, System, TaskBlock, TaskState};
+use fmp_frames::{Frame, Viewer, last_frame, show_all};
+use fmp_kernel::{Body, Kernel};
+use fmp_named::{append_lines, append_state};
+use std::alloc::{AllocError, Global};
+
+/// How many events in front of the first that differs are shown.
+const BEFORE: usize = 5;
+
+/// A run as it is told, event by event.
+#[derive(Drop)]
+pub struct Told<'a> {
+    sys: &'a System,
+    /// The lines of setup and of each event, in order of their numbers.
+    texts: Vec<Vec<u8>>,
+    /// The states of the tasks after the last event.
+    states: Vec<TaskState>,
+    blocks: Vec<TaskBlock>,
+}
+
+/// The lines of a frame, which has this number.
+fn text_of(
+    alloc: Global,
+    sys: &System,
+    number: usize,
+    frame: &Frame,
+) -> Result<Vec<u8>, AllocError> {
+    let number = u32::try_from(number).unwrap_or(u32::MAX);
+    let mut text = Vec::new(alloc);
+    append_lines(sys, number, &frame.lines, &mut text)?;
+    Ok(text)
+}
+
+impl<'a> Told<'a> {
+    /// A system after setup. `AllocError` if memory runs out.
+    fn new(alloc: Global, sys: &'a System, setup: &Frame) -> Result<Told<'a>, AllocError>
+        ensures { IfOk result (λ made. AreStates made (table_of setup.now)) }
+    {
+        let mut texts = Vec::new(alloc);
+        texts.push(text_of(alloc, sys, 0, setup)?)?;
+        Ok(Told {
+            sys,
+            texts,
+            states: Vec::from_slice(alloc, &setup.states)?,
+            blocks: Vec::from_slice(alloc, &setup.blocks)?,
+        })
+    }
+}
+
+impl Viewer for Told<'_> {
+    ghost shown = { λ x f y. AreStates y f };
+
+    /// One event more: the states are those of the frame.
+    fn show(&mut self, alloc: Global, frame: &Frame) -> Result<(), AllocError> {
+        if frame.kept.is_none() {
+            let text = text_of(alloc, self.sys, self.texts.len(), frame)?;
+            self.texts.push(text)?;
+        }
+        self.states = Vec::from_slice(alloc, &frame.states)?;
+        self.blocks = Vec::from_slice(alloc, &frame.blocks)?;
+        Ok(())
+    }
+}
+
+/// What is told of a run over events of a kernel of this system, over these bodies with this bound. `AllocError` if
+/// memory runs out.
+#[tactic(none)]
+pub fn told_on<'a, B: Body>(
+    alloc: Global,
+    sys: &'a System,
+    kernel: &mut Kernel<B>,
+    body: &B,
+    n: u64,
+    events: &[Event],
+) -> Result<Told<'a>, AllocError>
+    requires few { kernel.old.taken + length events.now ≤ 2 ^ 20 }
+    requires body { body.now ≡ kernel.old.body }
+    requires bound { n ≡ kernel.old.bound }
+    ensures { IfOk result (λ told. WasShown (λ x f. AreStates x f)
+        ⟦<Told<'a> as Viewer>⟧.shown B.meaning kernel.old events.now told) }
+{
+    let setup = last_frame(alloc, kernel, body, n)?;
+    let mut told = Told::new(alloc, sys, &setup)?;
+    show_all(alloc, kernel, body, n, events, &mut told)?;
+    Ok(told)
+}
+
+/// The text of the event of a number; none if there is no such event.
+fn event_text<'b>(told: &'b Told<'_>, number: usize) -> Option<&'b [u8]> {
+    match told.texts.get(number) {
+        Some(text) => Some(text.as_slice()),
+        None => None,
+    }
+}
+
+/// Whether two runs tell the same of the event of a number.
+fn is_same(a: &Told<'_>, b: &Told<'_>, number: usize) -> bool {
+    match (event_text(a, number), event_text(b, number)) {
+        (Some(one), Some(other)) => one == other,
+        (None, None) => true,
+        _ => false,
+    }
+}
+
+/// The number of the first event that two runs tell otherwise, if there is one.
+pub fn first_difference(a: &Told<'_>, b: &Told<'_>) -> Option<usize> {
+    for number in 0..a.texts.len().max(b.texts.len()) {
+        if !is_same(a, b, number) {
+            return Some(number);
+        }
+    }
+    None
+}
+
+/// Appends lines, each behind a mark.
+fn append_marked(mark: &[u8], lines: &[u8], out: &mut Vec<u8>) -> Result<(), AllocError> {
+    let mut begins = true;
+    for byte in lines {
+        if begins {
+            out.extend_from_slice(mark)?;
+        }
+        out.push(*byte)?;
+        begins = *byte == b'\n';
+    }
+    Ok(())
+}
+
+/// Appends the text of the event of a number behind a mark, or that there is none.
+fn append_event(
+    mark: &[u8],
+    told: &Told<'_>,
+    number: usize,
+    out: &mut Vec<u8>,
+) -> Result<(), AllocError> {
+    match event_text(told, number) {
+        Some(text) => append_marked(mark, text, out),
+        None => append_marked(mark, b"the run has ended\n", out),
+    }
+}
+
+/// The line of the state of the task at a place.
+fn state_line(alloc: Global, told: &Told<'_>, task: usize) -> Result<Vec<u8>, AllocError> {
+    let mut line = Vec::new(alloc);
+    if let Some(state) = told.states.get(task)
+        && let Some(block) = told.blocks.get(task)
+    {
+        append_state(told.sys, task, *state, block, &mut line)?;
+    }
+    Ok(line)
+}
+
+/// Appends the states of the tasks that are not the same at the ends of two runs.
+fn append_states_beside(
+    alloc: Global,
+    a: &Told<'_>,
+    b: &Told<'_>,
+    out: &mut Vec<u8>,
+) -> Result<(), AllocError> {
+    for task in 0..a.states.len().max(b.states.len()) {
+        let one = state_line(alloc, a, task)?;
+        let other = state_line(alloc, b, task)?;
+        if one.as_slice() != other.as_slice() {
+            append_marked(b"- ", &one, out)?;
+            append_marked(b"+ ", &other, out)?;
+        }
+    }
+    Ok(())
+}
+
+/// Appends the event of a number in which two runs differ, behind those in front of it.
+fn append_events(
+    a: &Told<'_>,
+    b: &Told<'_>,
+    number: usize,
+    out: &mut Vec<u8>,
+) -> Result<(), AllocError> {
+    for before in number.saturating_sub(BEFORE)..number {
+        append_event(b"  ", a, before, out)?;
+    }
+    append_event(b"- ", a, number, out)?;
+    append_event(b"+ ", b, number, out)
+}
+
+/// Appends the event of a number in which two runs differ, behind those in front of it, and the states of the tasks that
+/// differ then: these are the same runs up to that event. `AllocError` if memory runs out.
+pub fn append_difference(
+    alloc: Global,
+    runs: (&Told<'_>, &Told<'_>),
+    number: usize,
+    ends: (&Told<'_>, &Told<'_>),
+    out: &mut Vec<u8>,
+) -> Result<(), AllocError> {
+    append_events(runs.0, runs.1, number, out)?;
+    append_states_beside(alloc, ends.0, ends.1, out)
+}

@@ -1,0 +1,154 @@
+//! Why nothing goes on in a run: what its tasks wait and spin for at the end.
+ghost use Rattle.std.specs.Prelude.{◌≡◌, ◌+◌, ◌≤◌, ◌^◌, IfOk, OnOk, length};
+ghost use Rattle.fmp_frames.specs.Frames.{table_of};
+ghost use Rattle.fmp_frames.specs.Shown.{WasShown};
+ghost use Rattle.fmp_watch.specs.Watches.{IsSeen};
+
+use fmp_base::{Event, Processor, System, TaskBlock};
+use fmp_drive::{NextRun, next_runs};
+use fmp_frames::{Frame, Viewer, last_frame, show_all};
+use fmp_kernel::{Body, Kernel};
+use fmp_why::{History, Scene, Spin, append_report};
+use std::alloc::{AllocError, Global};
+
+/// What was seen of a run: what its lines told, and the tasks and the processors after its last event.
+#[derive(Drop)]
+pub struct Watcher {
+    history: History,
+    /// The number of the last event.
+    number: u32,
+    /// The tasks.
+    pub blocks: Vec<TaskBlock>,
+    /// The processors.
+    pub processors: Vec<Processor>,
+    /// What the actor of each processor spins for.
+    pub spins: Vec<Option<Spin>>,
+}
+
+impl Watcher {
+    /// What is seen of a system after setup. `AllocError` if memory runs out.
+    fn new(alloc: Global, sys: &System, setup: &Frame) -> Result<Watcher, AllocError>
+        ensures { IfOk result (λ made. IsSeen made (table_of setup.now)) }
+    {
+        let mut history = History::new(alloc, sys)?;
+        history.note(&setup.lines, 0);
+        Ok(Watcher {
+            history,
+            number: 0,
+            blocks: Vec::from_slice(alloc, &setup.blocks)?,
+            processors: Vec::from_slice(alloc, &setup.processors)?,
+            spins: Vec::from_slice(alloc, &setup.spins)?,
+        })
+    }
+}
+
+impl Viewer for Watcher {
+    ghost shown = { λ x f y. IsSeen y f };
+
+    /// One event more: the tasks, the processors and what is spun for are those of the frame.
+    fn show(&mut self, alloc: Global, frame: &Frame) -> Result<(), AllocError> {
+        if frame.kept.is_none() {
+            self.number = self.number.saturating_add(1);
+        }
+        self.history.note(&frame.lines, self.number);
+        self.blocks = Vec::from_slice(alloc, &frame.blocks)?;
+        self.processors = Vec::from_slice(alloc, &frame.processors)?;
+        self.spins = Vec::from_slice(alloc, &frame.spins)?;
+        Ok(())
+    }
+}
+
+/// What is seen of a run over events of a kernel of this system, over these bodies with this bound. `AllocError` if
+/// memory runs out.
+#[tactic(none)]
+pub fn watched<B: Body>(
+    alloc: Global,
+    sys: &System,
+    kernel: &mut Kernel<B>,
+    body: &B,
+    n: u64,
+    events: &[Event],
+) -> Result<Watcher, AllocError>
+    requires few { kernel.old.taken + length events.now ≤ 2 ^ 20 }
+    requires body { body.now ≡ kernel.old.body }
+    requires bound { n ≡ kernel.old.bound }
+    ensures shown { IfOk result (λ watcher. WasShown (λ x f. IsSeen x f)
+        ⟦<Watcher as Viewer>⟧.shown B.meaning kernel.old events.now watcher) }
+    ensures body { OnOk result (kernel.new.body ≡ kernel.old.body) }
+    ensures bound { OnOk result (kernel.new.bound ≡ kernel.old.bound) }
+{
+    let setup = last_frame(alloc, kernel, body, n)?;
+    let mut watcher = Watcher::new(alloc, sys, &setup)?;
+    show_all(alloc, kernel, body, n, events, &mut watcher)?;
+    Ok(watcher)
+}
+
+/// Whether the next stretch of each of so many processors reaches the bound.
+fn over_bound(
+    alloc: Global,
+    next: &[NextRun; 8],
+    processors: usize,
+) -> Result<Vec<bool>, AllocError> {
+    let mut over = Vec::new(alloc);
+    for run in &next[..processors.min(8)] {
+        over.push(matches!(run, NextRun::OverBound))?;
+    }
+    Ok(over)
+}
+
+/// What is said of what was seen, where the next runs of the processors end so.
+fn report_of(
+    alloc: Global,
+    sys: &System,
+    watcher: &Watcher,
+    next: &[NextRun; 8],
+) -> Result<Vec<u8>, AllocError> {
+    let over = over_bound(alloc, next, watcher.processors.len())?;
+    let scene = Scene {
+        sys,
+        history: &watcher.history,
+        blocks: &watcher.blocks,
+        processors: &watcher.processors,
+        spins: &watcher.spins,
+        over: &over,
+    };
+    let mut out = Vec::new(alloc);
+    append_report(alloc, &scene, &mut out)?;
+    Ok(out)
+}
+
+/// Why nothing goes on after a run over events of a kernel of this system, over these bodies with this bound: what each
+/// task waits or spins for, and how they stand. `AllocError` if memory runs out.
+#[tactic(none)]
+pub fn why<B: Body>(
+    alloc: Global,
+    sys: &System,
+    kernel: &mut Kernel<B>,
+    body: &B,
+    n: u64,
+    events: &[Event],
+) -> Result<Vec<u8>, AllocError>
+    requires few { kernel.old.taken + length events.now ≤ 2 ^ 20 }
+    requires body { body.now ≡ kernel.old.body }
+    requires bound { n ≡ kernel.old.bound }
+{
+    let watcher = watched(alloc, sys, kernel, body, n, events)?;
+    let next = next_runs(kernel, body, n);
+    report_of(alloc, sys, &watcher, &next)
+}
+
+/// How many of these events a kernel takes up to the event of this number, which is done then if there is one.
+pub fn count_up_to<B: Body>(kernel: &mut Kernel<B>, events: &[Event], number: u32) -> usize
+    requires { kernel.old.taken + length events.now ≤ 2 ^ 20 }
+    ensures { result ≤ length events.now }
+{
+    let mut place = 0;
+    for e in events {
+        if kernel.done() >= number {
+            return place;
+        }
+        kernel.step(*e);
+        place += 1;
+    }
+    place
+}

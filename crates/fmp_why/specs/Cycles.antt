@@ -1,0 +1,26 @@
+-- Cycles of tasks that wait for one another.
+use Rattle.std.specs.Prelude.{ℕ, ◌+◌, List, Option, Some, None, Bool, false, ◌||◌, if◌then◌else◌, nat_eq, get_or, length, min, suc, zero}
+
+-- the task that task t waits for
+abbrev pub next_of : (blockers : List (Option ℕ)) → ℕ → Option ℕ
+next_of blockers t = get_or blockers t None
+
+-- from here on so many steps lead to a task
+abbrev pub leads_to : (blockers : List (Option ℕ)) → (goal fuel : ℕ) → Option ℕ → Bool
+leads_to blockers goal zero at = false
+leads_to blockers goal (suc n) None = false
+leads_to blockers goal (suc n) (Some t) = nat_eq t goal || leads_to blockers goal n (next_of blockers t)
+
+-- task t waits for itself, by way of at most as many tasks as there are
+abbrev pub is_on_cycle : (blockers : List (Option ℕ)) → ℕ → Bool
+is_on_cycle blockers t = leads_to blockers t (length blockers) (next_of blockers t)
+
+-- the first task on such a cycle, of so many from t on
+abbrev pub cycle_from : (blockers : List (Option ℕ)) → (t fuel : ℕ) → Option ℕ
+cycle_from blockers t zero = None
+cycle_from blockers t (suc n) =
+    if is_on_cycle blockers t then Some t else cycle_from blockers (t + 1) n
+
+-- the first task on such a cycle; there are at most 255 tasks
+abbrev pub first_on_cycle : (blockers : List (Option ℕ)) → Option ℕ
+first_on_cycle blockers = cycle_from blockers 0 (min (length blockers) 255)

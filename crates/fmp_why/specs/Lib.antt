@@ -1,0 +1,3 @@
+pub mod Cycles
+pub mod Obstacles
+pub mod Verdicts

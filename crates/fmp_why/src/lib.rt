@@ -1,0 +1,14 @@
+//! Why nothing goes on: what tasks wait and spin for, who took it, and whether they wait for one another.
+#![tactic(auto)]
+
+mod cycles;
+mod history;
+mod obstacles;
+mod report;
+mod verdicts;
+
+pub use cycles::{first_on_cycle, is_on_cycle, next_of};
+pub use history::{Deed, History, Trail};
+pub use obstacles::{Spin, blocker_of, may_spin, spin_of, spin_on};
+pub use report::{Scene, append_report};
+pub use verdicts::{Verdict, is_spin, verdict_of};
