@@ -1,0 +1,5 @@
+pub mod Digits
+pub mod Events
+pub mod Fronts
+pub mod Splitting
+pub mod Steps

@@ -1,0 +1,219 @@
+-- The grammar of texts of expectations. In the words of a line, without what stands behind a #:
+--
+--     sentence = "never" happening
+--              | happening "before" happening
+--              | actor "runs" "within" number "ticks" "of" "int" number
+--              | "end" state task
+--     happening = deed [ "by" actor ]
+--     deed      = code | fault | "put(" value ")"
+--
+-- An actor is the name of a task or of a cyclic handler. A line without words says nothing.
+use Rattle.std.specs.Prelude.{ℕ, ◌≡◌, ◌+◌, ◌-◌, List, [], ◌∷◌, Option, Some, None, ◌++◌, Result, Ok, Err, Bool, true, false, if◌then◌else◌, codes, find, position, bytes_eq, option_map}
+use Rattle.fmp_base.specs.declared.bodies.Fault.{Fault}
+use Rattle.fmp_base.specs.declared.codes.Er.{Er}
+use Rattle.fmp_base.specs.declared.events.StateWord.{StateWord}
+use Rattle.fmp_base.specs.Codes.{code_name}
+use Rattle.fmp_base.specs.Names.{name_text}
+use Rattle.fmp_base.specs.Systems.{SystemTables}
+use Rattle.fmp_base.specs.Texts.{fault_text, word_text}
+use Rattle.fmp_expect.specs.declared.expectation.Actor.{Actor}
+use Rattle.fmp_expect.specs.declared.expectation.Actor.TheVariants as actor
+use Rattle.fmp_expect.specs.declared.expectation.Deed.{Deed}
+use Rattle.fmp_expect.specs.declared.expectation.Deed.TheVariants as deed
+use Rattle.fmp_expect.specs.declared.expectation.Expectation.{Expectation}
+use Rattle.fmp_expect.specs.declared.expectation.Expectation.TheVariants as expectation
+use Rattle.fmp_expect.specs.declared.expectation.Expected.{Expected}
+use Rattle.fmp_expect.specs.declared.expectation.Happening.{Happening}
+use Rattle.fmp_expect.specs.declared.fault.ExpectFault.{ExpectFault}
+use Rattle.fmp_expect.specs.declared.fault.ExpectFault.TheVariants as fault
+use Rattle.fmp_expect.specs.declared.fault.Flaw.{Flaw}
+use Rattle.fmp_expect.specs.declared.fault.Flaw.TheVariants as flaw
+use Rattle.fmp_expect.specs.declared.named.TheConstants.{CODES, FAULTS, STATES}
+use Rattle.fmp_expect.specs.Words.{before_comment, lines_of, number_of, put_value, words_of}
+
+-- what is read of the first words, and the words behind it
+pub record Read (A : Type 0) : Type 0 where
+  pub value : A
+  pub rest : List (List ℕ)
+
+abbrev pub read : {A : Type 0} → A → List (List ℕ) → Result (Read A) Flaw
+read x ws = Ok (record { value = x; rest = ws })
+
+-- what is read after something else, or the first flaw
+abbrev pub and_then : {A B : Type 0} → Result A Flaw → (A → Result B Flaw) → Result B Flaw
+and_then (Ok x) f = f x
+and_then (Err e) f = Err e
+
+-- a value that was found, or a flaw
+abbrev pub found_or : {A : Type 0} → Flaw → List (List ℕ) → Option A → Result (Read A) Flaw
+found_or e ws None = Err e
+found_or e ws (Some x) = read x ws
+
+-- the words behind the first, if the first is this word
+abbrev pub behind_word : List ℕ → List (List ℕ) → Result (List (List ℕ)) Flaw
+behind_word word [] = Err flaw.Sentence
+behind_word word (w ∷ ws) = if bytes_eq w word then Ok ws else Err flaw.Sentence
+
+-- an expectation with no words behind it
+abbrev pub whole : Expectation → List (List ℕ) → Result Expectation Flaw
+whole e [] = Ok e
+whole e (w ∷ ws) = Err flaw.Sentence
+
+-- the one, or else the other
+abbrev pub or_else : {A : Type 0} → Option A → Option A → Option A
+or_else (Some x) other = Some x
+or_else None other = other
+
+abbrev pub code_named : List ℕ → Option Er
+code_named w = find (λ c. bytes_eq (code_name c) w) CODES
+
+abbrev pub fault_named : List ℕ → Option Fault
+fault_named w = find (λ f. bytes_eq (fault_text f) w) FAULTS
+
+abbrev pub state_named : List ℕ → Option StateWord
+state_named w = find (λ s. bytes_eq (word_text s) w) STATES
+
+-- the places of the task and of the cyclic handler of a name
+abbrev pub task_named : SystemTables → List ℕ → Option ℕ
+task_named sys w = position (λ t. bytes_eq (name_text t.name) w) sys.tasks
+
+abbrev pub cyclic_named : SystemTables → List ℕ → Option ℕ
+cyclic_named sys w = position (λ c. bytes_eq (name_text c.name) w) sys.cyclics
+
+-- the deed that a word tells
+abbrev pub deed_named : List ℕ → Option Deed
+deed_named w =
+    or_else (option_map (λ c. deed.Answer c) (code_named w))
+    (or_else (option_map (λ f. deed.Stop f) (fault_named w)) (option_map (λ v. deed.Put v) (put_value w)))
+
+-- the task, or else the cyclic handler, of a name
+abbrev pub actor_named : SystemTables → List ℕ → Option Actor
+actor_named sys w =
+    or_else (option_map (λ t. actor.Task t) (task_named sys w)) (option_map (λ c. actor.Cyclic c) (cyclic_named sys w))
+
+abbrev pub deed_of : List (List ℕ) → Result (Read Deed) Flaw
+deed_of [] = Err flaw.Deed
+deed_of (w ∷ ws) = found_or flaw.Deed ws (deed_named w)
+
+abbrev pub actor_of : SystemTables → List (List ℕ) → Result (Read Actor) Flaw
+actor_of sys [] = Err flaw.Name
+actor_of sys (w ∷ ws) = found_or flaw.Name ws (actor_named sys w)
+
+abbrev pub task_of : SystemTables → List (List ℕ) → Result (Read ℕ) Flaw
+task_of sys [] = Err flaw.Name
+task_of sys (w ∷ ws) = found_or flaw.Name ws (task_named sys w)
+
+abbrev pub state_of : List (List ℕ) → Result (Read StateWord) Flaw
+state_of [] = Err flaw.State
+state_of (w ∷ ws) = found_or flaw.State ws (state_named w)
+
+abbrev pub number_in : (low high : ℕ) → List (List ℕ) → Result (Read ℕ) Flaw
+number_in low high [] = Err flaw.Number
+number_in low high (w ∷ ws) = found_or flaw.Number ws (number_of low high w)
+
+abbrev pub somebody : Read Actor → Result (Read (Option Actor)) Flaw
+somebody r = read (Some r.value) r.rest
+
+-- whose deed it is: `by` and an actor, or nothing
+abbrev pub by_of : SystemTables → List (List ℕ) → Result (Read (Option Actor)) Flaw
+by_of sys [] = read None []
+by_of sys (w ∷ ws) = if bytes_eq w (codes "by") then and_then (actor_of sys ws) somebody else read None (w ∷ ws)
+
+-- a deed, and whose it is
+abbrev pub happening_of : SystemTables → List (List ℕ) → Result (Read Happening) Flaw
+happening_of sys ws =
+    and_then (deed_of ws) (λ d. and_then (by_of sys d.rest) (λ a. read (record { deed = d.value; by = a.value }) a.rest))
+
+-- `never` was read
+abbrev pub never_of : SystemTables → List (List ℕ) → Result Expectation Flaw
+never_of sys ws = and_then (happening_of sys ws) (λ h. whole (expectation.Never h.value) h.rest)
+
+-- nothing was read
+abbrev pub before_of : SystemTables → List (List ℕ) → Result Expectation Flaw
+before_of sys ws =
+    and_then (happening_of sys ws) (λ a.
+    and_then (behind_word (codes "before") a.rest) (λ rest.
+    and_then (happening_of sys rest) (λ b. whole (expectation.Before a.value b.value) b.rest)))
+
+-- `ticks` is to come
+abbrev pub interrupt_of : List (List ℕ) → Result (Read ℕ) Flaw
+interrupt_of ws =
+    and_then (behind_word (codes "ticks") ws) (λ rest.
+    and_then (behind_word (codes "of") rest) (λ rest.
+    and_then (behind_word (codes "int") rest) (λ rest. number_in 1 32 rest)))
+
+-- `runs` was read
+abbrev pub within_of : Actor → List (List ℕ) → Result Expectation Flaw
+within_of who ws =
+    and_then (behind_word (codes "within") ws) (λ rest.
+    and_then (number_in 0 2147483647 rest) (λ n.
+    and_then (interrupt_of n.rest) (λ i. whole (expectation.Within who n.value (i.value - 1)) i.rest)))
+
+-- an actor is to come, and `runs` behind it
+abbrev pub runs_of : SystemTables → List (List ℕ) → Result Expectation Flaw
+runs_of sys ws =
+    and_then (actor_of sys ws) (λ who.
+    and_then (behind_word (codes "runs") who.rest) (λ rest. within_of who.value rest))
+
+-- `end` was read
+abbrev pub end_of : SystemTables → List (List ℕ) → Result Expectation Flaw
+end_of sys ws =
+    and_then (state_of ws) (λ s. and_then (task_of sys s.rest) (λ t. whole (expectation.End s.value t.value) t.rest))
+
+-- whether the first of these words is this one
+abbrev pub begins : List ℕ → List (List ℕ) → Bool
+begins word [] = false
+begins word (w ∷ ws) = bytes_eq w word
+
+abbrev pub behind_first : List (List ℕ) → List (List ℕ)
+behind_first [] = []
+behind_first (w ∷ ws) = ws
+
+-- the expectation of the words of a line. A second word `runs` decides, so that each name may stand before it
+abbrev pub sentence_of : SystemTables → List (List ℕ) → Result Expectation Flaw
+sentence_of sys ws =
+    if begins (codes "runs") (behind_first ws) then runs_of sys ws
+    else if begins (codes "never") ws then never_of sys (behind_first ws)
+    else if begins (codes "end") ws then end_of sys (behind_first ws)
+    else before_of sys ws
+
+abbrev pub said_by : SystemTables → List (List ℕ) → Option (Result Expectation Flaw)
+said_by sys [] = None
+said_by sys (w ∷ ws) = Some (sentence_of sys (w ∷ ws))
+
+-- what a line says, if it has words
+abbrev pub line_meaning : SystemTables → List ℕ → Option (Result Expectation Flaw)
+line_meaning sys line = said_by sys (words_of (before_comment line))
+
+-- what line n says in front of what others say; the first fault comes first
+abbrev pub in_front : ℕ → Option (Result Expectation Flaw) → Result (List Expected) ExpectFault →
+    Result (List Expected) ExpectFault
+in_front n None rest = rest
+in_front n (Some (Err e)) rest = Err (fault.Line n e)
+in_front n (Some (Ok e)) (Err f) = Err f
+in_front n (Some (Ok e)) (Ok es) = Ok (record { line = n; expectation = e } ∷ es)
+
+-- the expectations of lines that are numbered from n on, or the first fault
+abbrev pub expectations_from : SystemTables → ℕ → List (List ℕ) → Result (List Expected) ExpectFault
+expectations_from sys n [] = Ok []
+expectations_from sys n (line ∷ lines) = in_front n (line_meaning sys line) (expectations_from sys (n + 1) lines)
+
+-- one expectation more in front of others, if there is one
+abbrev pub one_more : Option Expected → Result (List Expected) ExpectFault → Result (List Expected) ExpectFault
+one_more None rest = rest
+one_more (Some x) (Err f) = Err f
+one_more (Some x) (Ok xs) = Ok (x ∷ xs)
+
+-- expectations in front of others, or the fault
+abbrev pub behind_all : List Expected → Result (List Expected) ExpectFault → Result (List Expected) ExpectFault
+behind_all xs (Ok ys) = Ok (xs ++ ys)
+behind_all xs (Err f) = Err f
+
+-- the expectations of a text, or its first fault
+abbrev pub expectations_of : SystemTables → List ℕ → Result (List Expected) ExpectFault
+expectations_of sys text = expectations_from sys 1 (lines_of text)
+
+-- a reader's fault is that of the text, unless memory ran out
+abbrev pub IsFaultOf : ExpectFault → Result (List Expected) ExpectFault → Type 0
+IsFaultOf fault.Memory r = Unit {0}
+IsFaultOf (fault.Line n e) r = r ≡ Err (fault.Line n e)

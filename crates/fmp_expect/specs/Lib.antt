@@ -1,0 +1,5 @@
+pub mod Words
+pub mod Grammar
+pub mod Meaning
+pub mod Stages
+pub mod Runs

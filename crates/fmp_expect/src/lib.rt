@@ -1,0 +1,20 @@
+//! What is expected of a run: texts of expectations, and whether a run meets them.
+#![tactic(auto)]
+
+mod checker;
+mod expectation;
+mod fault;
+mod lines;
+mod named;
+mod numbers;
+mod reading;
+mod running;
+mod stages;
+mod words;
+
+pub use checker::{Broken, Checker, Watch};
+pub use expectation::{Actor, Deed, Expectation, Expected, Happening};
+pub use fault::{ExpectFault, Flaw};
+pub use reading::read_expectations;
+pub use running::tell_run;
+pub use stages::Stage;

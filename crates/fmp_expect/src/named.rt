@@ -1,0 +1,170 @@
+//! What the words of a text name.
+ghost use Rattle.std.specs.Prelude.{◌≡◌, find, position, bytes_eq, MatchOption, Some, None};
+ghost use Rattle.fmp_base.specs.Codes.{code_name};
+ghost use Rattle.fmp_base.specs.Names.{name_text};
+ghost use Rattle.fmp_base.specs.Systems.{tables_of};
+ghost use Rattle.fmp_base.specs.Texts.{fault_text, word_text};
+ghost use Rattle.fmp_expect.specs.Grammar as spec;
+ghost use Rattle.fmp_expect.specs.Words as words;
+
+use crate::expectation::{Actor, Deed};
+use crate::numbers::signed_in;
+use fmp_base::{CyclicConfig, Er, Fault, StateWord, System, TaskConfig};
+
+/// All codes.
+pub const CODES: [Er; 12] = [
+    Er::Ok,
+    Er::Sys,
+    Er::Nospt,
+    Er::Rsatr,
+    Er::Par,
+    Er::Id,
+    Er::Ctx,
+    Er::Iluse,
+    Er::Obj,
+    Er::Qovr,
+    Er::Rlwai,
+    Er::Tmout,
+];
+
+/// All faults of bodies.
+pub const FAULTS: [Fault; 3] = [Fault::Overflow, Fault::Division, Fault::Index];
+
+/// All states of a task.
+pub const STATES: [StateWord; 6] = [
+    StateWord::Running,
+    StateWord::Ready,
+    StateWord::Waiting,
+    StateWord::Suspended,
+    StateWord::WaitingSuspended,
+    StateWord::Dormant,
+];
+
+fn fault_name(fault: Fault) -> &'static str
+    ensures { result.now ≡ fault_text fault }
+{
+    match fault {
+        Fault::Overflow => "F_OVF",
+        Fault::Division => "F_DIV",
+        Fault::Index => "F_IDX",
+    }
+}
+
+fn state_name(word: StateWord) -> &'static str
+    ensures { result.now ≡ word_text word }
+{
+    match word {
+        StateWord::Running => "RUNNING",
+        StateWord::Ready => "READY",
+        StateWord::Waiting => "WAITING",
+        StateWord::Suspended => "SUSPENDED",
+        StateWord::WaitingSuspended => "WAITING-SUSPENDED",
+        StateWord::Dormant => "DORMANT",
+    }
+}
+
+fn code_among(codes: &[Er], word: &[u8]) -> Option<Er>
+    ensures { result ≡ find (λ code. bytes_eq (code_name code) word.now) codes.now }
+{
+    codes
+        .iter()
+        .copied()
+        .find(|code| code.name().as_bytes() == word)
+}
+
+fn fault_among(faults: &[Fault], word: &[u8]) -> Option<Fault>
+    ensures { result ≡ find (λ fault. bytes_eq (fault_text fault) word.now) faults.now }
+{
+    faults
+        .iter()
+        .copied()
+        .find(|fault| fault_name(*fault).as_bytes() == word)
+}
+
+/// The state of this name, among these.
+pub fn state_among(states: &[StateWord], word: &[u8]) -> Option<StateWord>
+    ensures { result ≡ find (λ state. bytes_eq (word_text state) word.now) states.now }
+{
+    states
+        .iter()
+        .copied()
+        .find(|state| state_name(*state).as_bytes() == word)
+}
+
+fn task_among(tasks: &[TaskConfig], word: &[u8]) -> Option<usize>
+    ensures { result ≡ position (λ task. bytes_eq (name_text task.name) word.now) tasks.now }
+{
+    tasks.iter().position(|task| task.name.as_bytes() == word)
+}
+
+fn cyclic_among(cyclics: &[CyclicConfig], word: &[u8]) -> Option<usize>
+    ensures { result ≡ position (λ cyclic. bytes_eq (name_text cyclic.name) word.now) cyclics.now }
+{
+    cyclics
+        .iter()
+        .position(|cyclic| cyclic.name.as_bytes() == word)
+}
+
+/// The place of the task of this name.
+pub fn task_named(sys: &System, word: &[u8]) -> Option<usize>
+    ensures { result ≡ spec.task_named (tables_of sys.now) word.now }
+{
+    task_among(&sys.tasks, word)
+}
+
+/// What stands behind this front of a word, if it begins with it.
+fn text_behind<'a>(front: &[u8], text: &'a [u8]) -> Option<&'a [u8]>
+    ensures { MatchOption result (words.behind front.now text.now ≡ None)
+        (λ rest. words.behind front.now text.now ≡ Some rest.now) }
+{
+    text.strip_prefix(front)
+}
+
+/// What stands before the closing parenthesis at the end of a text.
+fn before_close(text: &[u8]) -> Option<&[u8]>
+    ensures { MatchOption result (words.before_close text.now ≡ None)
+        (λ inner. words.before_close text.now ≡ Some inner.now) }
+{
+    match text {
+        [inner @ .., b')'] => Some(inner),
+        _ => None,
+    }
+}
+
+/// The value of a word `put(V)`.
+fn put_value(word: &[u8]) -> Option<i32>
+    ensures { result ≡ words.put_value word.now }
+{
+    let rest = text_behind(b"put(", word)?;
+    let inner = before_close(rest)?;
+    signed_in(inner)
+}
+
+/// The deed that a word tells.
+pub fn deed_named(word: &[u8]) -> Option<Deed>
+    ensures { result ≡ spec.deed_named word.now }
+{
+    if let Some(code) = code_among(&CODES, word) {
+        return Some(Deed::Answer(code));
+    }
+    if let Some(fault) = fault_among(&FAULTS, word) {
+        return Some(Deed::Stop(fault));
+    }
+    match put_value(word) {
+        Some(value) => Some(Deed::Put(value)),
+        None => None,
+    }
+}
+
+/// The task, or else the cyclic handler, of this name.
+pub fn actor_named(sys: &System, word: &[u8]) -> Option<Actor>
+    ensures { result ≡ spec.actor_named (tables_of sys.now) word.now }
+{
+    if let Some(task) = task_named(sys, word) {
+        return Some(Actor::Task(task));
+    }
+    match cyclic_among(&sys.cyclics, word) {
+        Some(cyclic) => Some(Actor::Cyclic(cyclic)),
+        None => None,
+    }
+}

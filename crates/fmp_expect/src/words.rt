@@ -1,0 +1,91 @@
+//! The lines of a text, and the words of a line.
+ghost use Rattle.std.specs.Prelude.{◌≡◌, ◌≢◌, ◌∷◌, [], ◌<◌, ◌+◌, ℕ, nat_eq, position, length, MatchOption, if◌then◌else◌};
+ghost use Rattle.fmp_base.specs.Systems.{SystemTables};
+ghost use Rattle.fmp_expect.specs.Grammar.{expectations_from, in_front, line_meaning};
+ghost use Rattle.fmp_expect.specs.Words as spec;
+ghost use Rattle.fmp_expect.specs.Words.{lines_of, words_of};
+
+fn is_blank(byte: u8) -> bool
+    ensures { result ≡ spec.is_blank byte }
+{
+    byte == b' ' || byte == b'\t' || byte == b'\r'
+}
+
+fn line_feed_in(text: &[u8]) -> Option<usize>
+    ensures { result ≡ position (λ byte. nat_eq byte 10) text.now }
+{
+    text.iter().position(|byte| *byte == b'\n')
+}
+
+fn comment_in(line: &[u8]) -> Option<usize>
+    ensures { result ≡ position (λ byte. nat_eq byte 35) line.now }
+{
+    line.iter().position(|byte| *byte == b'#')
+}
+
+fn blank_in(line: &[u8]) -> Option<usize>
+    ensures { result ≡ position spec.is_blank line.now }
+{
+    line.iter().position(|byte| is_blank(*byte))
+}
+
+/// The first line of a text, and the text behind its line feed.
+pub fn first_line(text: &[u8]) -> (&[u8], &[u8])
+    requires { text.now ≢ [] }
+    ensures lines { (sys : SystemTables) → (n : ℕ) → expectations_from sys n (lines_of text.now)
+        ≡ in_front n (line_meaning sys result.0.now) (expectations_from sys (n + 1) (lines_of result.1.now)) }
+    ensures shorter { length result.1.now < length text.now }
+{
+    match line_feed_in(text) {
+        Some(place) => (&text[..place], &text[place + 1..]),
+        None => (text, &[]),
+    }
+}
+
+/// What stands before the comment of a line.
+pub fn before_comment(line: &[u8]) -> &[u8]
+    ensures { result.now ≡ spec.before_comment line.now }
+{
+    match comment_in(line) {
+        Some(place) => &line[..place],
+        None => line,
+    }
+}
+
+fn is_word(part: &[u8]) -> bool
+    ensures { result ≡ spec.is_word part.now }
+{
+    match part {
+        [] => false,
+        _ => true,
+    }
+}
+
+/// What stands before the first blank of a line, and what stands behind it.
+fn first_part(line: &[u8]) -> (&[u8], &[u8])
+    requires { line.now ≢ [] }
+    ensures words { words_of line.now
+        ≡ (if spec.is_word result.0.now then result.0.now ∷ words_of result.1.now else words_of result.1.now) }
+    ensures shorter { length result.1.now < length line.now }
+{
+    match blank_in(line) {
+        Some(place) => (&line[..place], &line[place + 1..]),
+        None => (line, &[]),
+    }
+}
+
+/// The first word of a line, and what stands behind it.
+pub fn next_word(line: &[u8]) -> Option<(&[u8], &[u8])>
+    ensures { MatchOption result (words_of line.now ≡ [])
+        (λ next. words_of line.now ≡ next.0.now ∷ words_of next.1.now) }
+{
+    let mut rest = line;
+    while !rest.is_empty() {
+        let (part, behind) = first_part(rest);
+        if is_word(part) {
+            return Some((part, behind));
+        }
+        rest = behind;
+    }
+    None
+}
