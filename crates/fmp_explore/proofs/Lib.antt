@@ -1,0 +1,4 @@
+pub mod EndlessLemmas
+pub mod Following
+pub mod ForbiddenLemmas
+pub mod StandLemmas

@@ -1,0 +1,9 @@
+use Rattle.std.proofs.Common.{◌≡◌, [], rules}
+use Rattle.std.proofs.lemmas.List.Elements.{All-nil}
+use Rattle.fmp_explore.specs.Findings.{IsFound}
+use Rattle.fmp_explore.proofs.finding.confirmed.Goals as goal
+
+pub loop-candidate-init : goal.loop-candidate-init
+loop-candidate-init c =
+    let empty : c.new-findings.result.items ≡ [] = search rules in
+    rw empty (All-nil (IsFound c.args.image.now c.args.n c.args.question.now))

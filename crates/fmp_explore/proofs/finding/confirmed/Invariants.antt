@@ -1,0 +1,6 @@
+use Rattle.std.proofs.Common.{All}
+use Rattle.fmp_explore.specs.Findings.{IsFound}
+use Rattle.fmp_explore.proofs.finding.confirmed.Given as goal
+
+abbrev pub invariant-loop-candidate : goal.invariant-loop-candidate
+invariant-loop-candidate l = All (IsFound l.fn.image l.fn.n l.fn.question) l.findings.items

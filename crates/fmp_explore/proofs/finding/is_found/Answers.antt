@@ -1,0 +1,11 @@
+use Rattle.std.proofs.Common.{IfOk, IsTrue, List, subst}
+use Rattle.fmp_base.specs.declared.events.Event.{Event}
+use Rattle.fmp_explore.specs.Findings.{IsSo}
+use Rattle.fmp_explore.proofs.finding.is_found.Goals as goal
+
+pub returns : goal.returns
+returns c =
+    subst
+    (λ (es : List Event). IfOk c.is_shown.result
+    (λ found. IsTrue found → IsSo c.args.image.now c.args.n c.args.question.now es c.args.finding.now.sight))
+    c.deref.ensures.value c.is_shown.ensures

@@ -1,0 +1,38 @@
+-- What is found in the schedules of an image.
+use Rattle.std.specs.Prelude.{ℕ, ◌≡◌, List, Some, true, slice_get}
+use Rattle.fmp_base.specs.declared.events.Event.{Event}
+use Rattle.fmp_base.specs.declared.events.Line.{Line}
+use Rattle.fmp_base.specs.Meanings.{Meaning}
+use Rattle.fmp_base.specs.Steps.{Done}
+use Rattle.fmp_base.specs.Systems.{SystemTables}
+use Rattle.fmp_image_bytes.specs.Images.{ImageTables}
+use Rattle.fmp_instructions.specs.Machine.{code_meaning}
+use Rattle.fmp_replay.specs.Replays.{IsLegal, replay}
+use Rattle.fmp_explore.specs.declared.finding.Finding.{Finding}
+use Rattle.fmp_explore.specs.declared.finding.Sight.{Sight}
+use Rattle.fmp_explore.specs.declared.finding.Sight.TheVariants as sight
+use Rattle.fmp_explore.specs.declared.question.Question.{Question}
+use Rattle.fmp_explore.specs.Deadlocks.{IsDeadlock, may_interrupt}
+use Rattle.fmp_explore.specs.Endless.{IsEndlessOn}
+use Rattle.fmp_explore.specs.Forbidden.{IsForbidden}
+
+-- the line at a place tells something that must never happen
+pub record HasForbidden (q : Question) (lines : List Line) (place : ℕ) : Type 0 where
+  pub line : Line
+  pub there : slice_get lines place ≡ Some line
+  pub forbidden : IsForbidden q.nevers.items line
+
+-- this is seen in what events have left
+abbrev pub IsSeen : {C : Type 0} → SystemTables → Meaning C → ℕ → Question → List Event → Done C → Sight → Type 0
+IsSeen sys M n q es d (sight.Line place) = HasForbidden q d.lines place
+IsSeen sys M n q es d sight.Deadlock = IsDeadlock sys M n d.world q.rest.items (may_interrupt q.interrupts es)
+IsSeen sys M n q es d (sight.Endless p) = IsEndlessOn sys M d.world p
+
+-- each of these events does something at its place, and this is seen after them
+pub record IsSo (i : ImageTables) (n : ℕ) (q : Question) (es : List Event) (seen : Sight) : Type 0 where
+  pub legal : IsLegal i n es
+  pub shown : IsSeen i.system (code_meaning i.code) n q es (replay i n es) seen
+
+-- a finding is so
+abbrev pub IsFound : ImageTables → ℕ → Question → Finding → Type 0
+IsFound i n q f = IsSo i n q f.steps.items f.sight

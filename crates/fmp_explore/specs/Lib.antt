@@ -1,0 +1,6 @@
+pub mod Deadlocks
+pub mod Endless
+pub mod Findings
+pub mod Followed
+pub mod Forbidden
+pub mod Standing

@@ -1,0 +1,154 @@
+//! Exploring every schedule of an image.
+ghost use Rattle.std.specs.Prelude.{◌≡◌, ◌≤◌, ◌^◌, All, IfOk};
+ghost use Rattle.fmp_explore.specs.Findings.{IsFound};
+
+use crate::coverage::Coverage;
+use crate::finding::{Finding, confirmed, shortest_alone};
+use crate::question::Question;
+use crate::subject::Subject;
+use crate::survey::{Ending, Survey, Watcher};
+use crate::values::Variety;
+use fmp_code::Vm;
+use fmp_image_bytes::Image;
+use fmp_kernel::Kernel;
+use fmp_replay::kernel_of;
+use std::alloc::{AllocError, Global};
+
+/// What a search came to.
+#[derive(Drop)]
+pub struct Report {
+    /// What was found, in the order in which it was found: the shortest first.
+    pub findings: Vec<Finding>,
+    /// Why the search ended.
+    pub ending: Ending,
+    /// How many states were kept.
+    pub states: usize,
+    /// How many events did something.
+    pub events: u64,
+    /// How many events lead to the deepest state.
+    pub deep: u32,
+    /// Whether a state can go on only by an interrupt, though a task that may not rest waits.
+    pub waits: bool,
+    /// What was ever done.
+    pub coverage: Coverage,
+    /// How many values each field of a state has, where the search stopped at a limit.
+    pub varieties: Vec<Variety>,
+}
+
+/// The table of values, where the search stopped at a limit; none where there is no memory for it.
+fn table(alloc: Global, survey: &Survey, ending: Ending) -> Vec<Variety> {
+    match ending {
+        Ending::Whole | Ending::Enough => Vec::new(alloc),
+        Ending::States | Ending::Depth | Ending::Memory => {
+            match survey.varieties(alloc) {
+                Ok(table) => table,
+                Err(_) => Vec::new(alloc),
+            }
+        }
+    }
+}
+
+/// All that was noted, or the first of the shortest alone, as is asked.
+fn asked_for(
+    alloc: Global,
+    question: &Question,
+    candidates: Vec<Finding>,
+) -> Result<Vec<Finding>, AllocError> {
+    if question.all {
+        Ok(candidates)
+    } else {
+        shortest_alone(alloc, candidates)
+    }
+}
+
+/// The findings of a search that has ended, which forgets them.
+fn findings_of(
+    alloc: Global,
+    image: &Image,
+    n: u64,
+    question: &Question,
+    survey: &mut Survey,
+) -> Result<Vec<Finding>, AllocError>
+    requires low { 1 ≤ n }
+    requires high { n ≤ 2 ^ 48 }
+    ensures { IfOk result (λ findings. All (IsFound image.now n question.now) findings.items) }
+{
+    let candidates = asked_for(alloc, question, survey.take_candidates(alloc))?;
+    confirmed(alloc, image, n, question, candidates)
+}
+
+/// The report of a search that has ended, which forgets what it noted.
+fn make_report(
+    alloc: Global,
+    image: &Image,
+    n: u64,
+    question: &Question,
+    survey: &mut Survey,
+    ending: Ending,
+) -> Result<Report, AllocError>
+    requires low { 1 ≤ n }
+    requires high { n ≤ 2 ^ 48 }
+    ensures { IfOk result (λ r. All (IsFound image.now n question.now) r.findings.items) }
+{
+    let findings = findings_of(alloc, image, n, question, survey)?;
+    Ok(Report {
+        findings,
+        ending,
+        states: survey.seen.len(),
+        events: survey.notes.events,
+        deep: survey.deep(),
+        waits: survey.notes.waits,
+        coverage: survey.take_coverage(alloc),
+        varieties: table(alloc, survey, ending),
+    })
+}
+
+/// A search over a kernel of an image that was just set up.
+fn begun_on(
+    alloc: Global,
+    kernel: &Kernel<Vm<'_>>,
+    subject: &Subject<'_>,
+) -> Result<Survey, AllocError> {
+    let mut survey = Survey::new(alloc, subject, kernel)?;
+    survey.begin(alloc, subject, kernel)?;
+    Ok(survey)
+}
+
+/// A search that has seen the state after setup.
+fn begun(alloc: Global, subject: &Subject<'_>) -> Result<Survey, AllocError> {
+    let kernel = kernel_of(alloc, subject.image, subject.n)?;
+    begun_on(alloc, &kernel, subject)
+}
+
+/// Why a search ended that has now been made.
+fn ended<W: Watcher>(
+    alloc: Global,
+    survey: &mut Survey,
+    subject: &Subject<'_>,
+    watcher: &mut W,
+) -> Ending {
+    match survey.run(alloc, subject, watcher) {
+        Ok(ending) => ending,
+        Err(_) => Ending::Memory,
+    }
+}
+
+/// Explores the schedules of an image, in which a stretch of a body takes at most n instructions, 1 to 2^48. Each
+/// finding is so: its events do something, one after the other, and after them it is seen. Where there is none, nothing
+/// is claimed. `AllocError` if there is no memory to begin with, or for the findings.
+pub fn explore<W: Watcher>(
+    alloc: Global,
+    image: &Image,
+    n: u64,
+    question: &Question,
+    watcher: &mut W,
+) -> Result<Report, AllocError>
+    requires low { 1 ≤ n }
+    requires high { n ≤ 2 ^ 48 }
+    ensures { IfOk result (λ r. All (IsFound image.now n question.now) r.findings.items) }
+{
+    let subject = Subject { image, n, question };
+    let mut survey = begun(alloc, &subject)?;
+    let ending = ended(alloc, &mut survey, &subject, watcher);
+    make_report(alloc, image, n, question, &mut survey, ending)
+}

@@ -1,0 +1,273 @@
+//! What is found, and whether it is so.
+ghost use Rattle.std.specs.Prelude.{◌≡◌, ◌≤◌, ◌^◌, [], All, IfOk, IsTrue, OnOk, true};
+ghost use Rattle.fmp_instructions.specs.Machine.{code_meaning};
+ghost use Rattle.fmp_replay.specs.Replays.{kernel_after, replay};
+ghost use Rattle.fmp_explore.specs.Deadlocks.{IsDeadlock, may_interrupt as may};
+ghost use Rattle.fmp_explore.specs.Endless.{IsEndlessOn};
+ghost use Rattle.fmp_explore.specs.Findings.{HasForbidden, IsFound, IsSeen, IsSo};
+ghost use Rattle.fmp_explore.specs.Followed.{IsFollowed};
+
+use crate::coverage::Site;
+use crate::endless::is_endless;
+use crate::question::{Question, is_forbidden};
+use crate::replaying::{TAKEN_MOST, follow};
+use crate::standing::is_deadlock;
+use crate::stretching::{Started, started_tasks};
+use fmp_base::{Event, Line};
+use fmp_code::Vm;
+use fmp_image_bytes::Image;
+use fmp_kernel::Kernel;
+use fmp_replay::kernel_of;
+use std::alloc::{AllocError, Global};
+
+/// What is seen after a list of events.
+#[derive(Clone, Copy, Debug, PartialEq, Eq)]
+pub enum Sight {
+    /// The line at this place, from 0, tells what must never happen. It is one of the last event that was done, or of
+    /// setup if none was.
+    Line(usize),
+    /// No processor can do anything, no time limit runs, no cyclic handler is started, and a task that may not wait
+    /// forever is not dormant.
+    Deadlock,
+    /// The actor of the processor of this number goes on for ever without a call.
+    Endless(u8),
+}
+
+/// A list of events, each of which does something, and what is seen after them.
+#[derive(Drop)]
+pub struct Finding {
+    pub steps: Vec<Event>,
+    pub sight: Sight,
+    /// The call to which it belongs, if it belongs to one.
+    pub site: Option<Site>,
+}
+
+/// Whether the line at a place is forbidden.
+fn has_forbidden(lines: &[Line], question: &Question, place: usize) -> bool
+    ensures { IsTrue result → HasForbidden question.now lines.now place }
+{
+    match lines.get(place) {
+        Some(line) => is_forbidden(question, line),
+        None => false,
+    }
+}
+
+/// Whether the line at a place is forbidden, among those that these events left. The kernel of an image took them.
+fn tells_forbidden<'a>(
+    kernel: &Kernel<Vm<'a>>,
+    image: &'a Image,
+    n: u64,
+    question: &Question,
+    steps: &[Event],
+    place: usize,
+) -> bool
+    requires { IsFollowed image.now n steps.now kernel.now }
+    ensures { IsTrue result → HasForbidden question.now (replay image.now n steps.now).lines place }
+{
+    has_forbidden(kernel.lines(), question, place)
+}
+
+/// Whether the kernel of an image, which has taken these events, is a deadlock.
+fn stands<'a>(
+    kernel: &mut Kernel<Vm<'a>>,
+    image: &'a Image,
+    n: u64,
+    question: &Question,
+    steps: &[Event],
+) -> bool
+    requires { IsFollowed image.now n steps.now kernel.old }
+    ensures { IsTrue result → IsDeadlock image.now.system (code_meaning image.now.code) n
+        (replay image.now n steps.now).world question.now.rest.items (may question.now.interrupts steps.now) }
+{
+    if kernel.taken() >= TAKEN_MOST {
+        return false;
+    }
+    let interrupts = question.may_interrupt(steps);
+    is_deadlock(kernel, question, interrupts)
+}
+
+/// Whether the actor of a processor is known to go on for ever on the kernel of an image, which has taken these events.
+fn goes_on<'a>(kernel: &Kernel<Vm<'a>>, image: &'a Image, n: u64, steps: &[Event], p: u8) -> bool
+    requires some { 1 ≤ n }
+    requires followed { IsFollowed image.now n steps.now kernel.now }
+    ensures { IsTrue result → IsEndlessOn image.now.system (code_meaning image.now.code)
+        (replay image.now n steps.now).world p }
+{
+    is_endless(kernel, &image.vm(), n, p)
+}
+
+/// Whether this is seen on the kernel of an image, which has taken these events.
+fn is_seen<'a>(
+    kernel: &mut Kernel<Vm<'a>>,
+    image: &'a Image,
+    n: u64,
+    question: &Question,
+    steps: &[Event],
+    sight: Sight,
+) -> bool
+    requires some { 1 ≤ n }
+    requires followed { IsFollowed image.now n steps.now kernel.old }
+    ensures { IsTrue result → IsSeen image.now.system (code_meaning image.now.code) n question.now steps.now
+        (replay image.now n steps.now) sight }
+{
+    match sight {
+        Sight::Line(place) => tells_forbidden(kernel, image, n, question, steps, place),
+        Sight::Deadlock => stands(kernel, image, n, question, steps),
+        Sight::Endless(p) => goes_on(kernel, image, n, steps, p),
+    }
+}
+
+/// Whether each of these events does something on the kernel of an image that was just set up, and this is seen then.
+fn is_so<'a>(
+    kernel: &mut Kernel<Vm<'a>>,
+    image: &'a Image,
+    n: u64,
+    question: &Question,
+    steps: &[Event],
+    sight: Sight,
+) -> bool
+    requires some { 1 ≤ n }
+    requires begun { kernel.old ≡ kernel_after image.now n [] }
+    ensures { IsTrue result → IsSo image.now n question.now steps.now sight }
+{
+    if !follow(kernel, image, n, steps) {
+        return false;
+    }
+    is_seen(kernel, image, n, question, steps, sight)
+}
+
+/// Whether each of these events does something, and this is seen after them. `AllocError` if memory runs out.
+fn is_shown(
+    alloc: Global,
+    image: &Image,
+    n: u64,
+    question: &Question,
+    steps: &[Event],
+    sight: Sight,
+) -> Result<bool, AllocError>
+    requires low { 1 ≤ n }
+    requires high { n ≤ 2 ^ 48 }
+    ensures { IfOk result (λ found. IsTrue found → IsSo image.now n question.now steps.now sight) }
+{
+    let mut kernel = kernel_of(alloc, image, n)?;
+    Ok(is_so(&mut kernel, image, n, question, steps, sight))
+}
+
+/// Whether a finding is so. `AllocError` if memory runs out.
+fn is_found(
+    alloc: Global,
+    image: &Image,
+    n: u64,
+    question: &Question,
+    finding: &Finding,
+) -> Result<bool, AllocError>
+    requires low { 1 ≤ n }
+    requires high { n ≤ 2 ^ 48 }
+    ensures { IfOk result (λ found. IsTrue found → IsFound image.now n question.now finding.now) }
+{
+    is_shown(alloc, image, n, question, &finding.steps, finding.sight)
+}
+
+/// Adds a finding to others, if it is so. `AllocError` if memory runs out.
+fn add_if_found(
+    alloc: Global,
+    image: &Image,
+    n: u64,
+    question: &Question,
+    findings: &mut Vec<Finding>,
+    finding: Finding,
+) -> Result<(), AllocError>
+    requires low { 1 ≤ n }
+    requires high { n ≤ 2 ^ 48 }
+    requires found { All (IsFound image.now n question.now) findings.old.items }
+    ensures { OnOk result (All (IsFound image.now n question.now) findings.new.items) }
+{
+    let found = is_found(alloc, image, n, question, &finding)?;
+    if !found {
+        return Ok(());
+    }
+    findings.push(finding)?;
+    Ok(())
+}
+
+/// Those of the findings that are so. `AllocError` if memory runs out.
+pub fn confirmed(
+    alloc: Global,
+    image: &Image,
+    n: u64,
+    question: &Question,
+    candidates: Vec<Finding>,
+) -> Result<Vec<Finding>, AllocError>
+    requires low { 1 ≤ n }
+    requires high { n ≤ 2 ^ 48 }
+    ensures { IfOk result (λ findings. All (IsFound image.now n question.now) findings.items) }
+{
+    let mut findings = Vec::new(alloc);
+    for candidate in candidates {
+        add_if_found(alloc, image, n, question, &mut findings, candidate)?;
+    }
+    Ok(findings)
+}
+
+/// What some events have left: the number in the trace of the last one that was done, or 0 for setup, its lines, and
+/// the tasks that are started then.
+#[derive(Drop)]
+pub struct Left {
+    pub number: u32,
+    pub lines: Vec<Line>,
+    pub started: Vec<Started>,
+}
+
+/// What these events leave on the kernel of an image that was just set up.
+fn left_on<'a>(
+    alloc: Global,
+    kernel: &mut Kernel<Vm<'a>>,
+    image: &'a Image,
+    n: u64,
+    steps: &[Event],
+) -> Result<Left, AllocError>
+    requires { kernel.old ≡ kernel_after image.now n [] }
+{
+    let _all = follow(kernel, image, n, steps);
+    let lines = Vec::from_slice(alloc, kernel.lines())?;
+    let started = started_tasks(alloc, kernel, image.system())?;
+    Ok(Left {
+        number: kernel.done(),
+        lines,
+        started,
+    })
+}
+
+/// What these events leave on an image. `AllocError` if memory runs out.
+pub fn left_by(alloc: Global, image: &Image, n: u64, steps: &[Event]) -> Result<Left, AllocError>
+    requires low { 1 ≤ n }
+    requires high { n ≤ 2 ^ 48 }
+{
+    let mut kernel = kernel_of(alloc, image, n)?;
+    left_on(alloc, &mut kernel, image, n, steps)
+}
+
+/// The place of the first of the shortest findings.
+fn shortest(findings: &[Finding]) -> usize {
+    let mut place = 0;
+    let mut least = usize::MAX;
+    for (i, finding) in findings.iter().enumerate() {
+        if finding.steps.len() < least {
+            least = finding.steps.len();
+            place = i;
+        }
+    }
+    place
+}
+
+/// The first of the shortest findings alone. `AllocError` if memory runs out.
+pub fn shortest_alone(alloc: Global, findings: Vec<Finding>) -> Result<Vec<Finding>, AllocError> {
+    let place = shortest(&findings);
+    let mut alone = Vec::new(alloc);
+    for (i, finding) in findings.into_iter().enumerate() {
+        if i == place {
+            alone.push(finding)?;
+        }
+    }
+    Ok(alone)
+}

@@ -1,0 +1,31 @@
+//! Every schedule of a system: a search over all lists of events for deadlocks and for what must never happen, with the
+//! shortest list that shows it.
+#![tactic(auto)]
+
+mod coverage;
+mod endless;
+mod exploring;
+mod field;
+mod finding;
+mod notes;
+mod packing;
+mod question;
+mod reading;
+mod replaying;
+mod rows;
+mod seen;
+mod standing;
+mod stretching;
+mod subject;
+mod survey;
+mod trying;
+mod values;
+
+pub use coverage::{Coverage, Peaks, Runs, Site};
+pub use exploring::{Report, explore};
+pub use field::What;
+pub use finding::{Finding, Left, Sight, left_by};
+pub use question::{ANSWERS, Never, Question, Ticks};
+pub use stretching::Started;
+pub use survey::{Ending, Watcher};
+pub use values::Variety;

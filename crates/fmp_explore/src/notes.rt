@@ -1,0 +1,143 @@
+//! What a search notes on its way: candidates for findings, and what was ever done.
+use crate::coverage::{Coverage, Site};
+use crate::finding::{Finding, Sight};
+use crate::question::is_forbidden;
+use crate::subject::Subject;
+use fmp_base::{Event, Line};
+use std::alloc::{AllocError, Global};
+use std::mem;
+
+/// What was noted.
+#[derive(Drop)]
+pub struct Notes {
+    candidates: Vec<Finding>,
+    pub coverage: Coverage,
+    /// The last call of each task in the state that is examined: where it waits, the one in which it does.
+    pub sites: Vec<Site>,
+    /// How many events did something.
+    pub events: u64,
+    /// Whether a state can go on only by an interrupt, though a task waits.
+    pub waits: bool,
+}
+
+/// A list of events: those that lead to a state, and one more, if there is one.
+#[derive(Clone, Copy)]
+pub struct Path<'a> {
+    pub steps: &'a [Event],
+    pub last: Option<Event>,
+}
+
+/// Those events. `AllocError` if memory runs out.
+fn events_of(alloc: Global, path: Path<'_>) -> Result<Vec<Event>, AllocError> {
+    let mut events = Vec::from_slice(alloc, path.steps)?;
+    if let Some(e) = path.last {
+        events.push(e)?;
+    }
+    Ok(events)
+}
+
+/// Whether a finding is of a kind, and at a call.
+fn is_of_kind(found: &Finding, sight: Sight, site: Option<Site>) -> bool {
+    let is_same = match (found.sight, sight) {
+        (Sight::Line(_), Sight::Line(_)) => true,
+        (Sight::Deadlock, Sight::Deadlock) => true,
+        (Sight::Endless(_), Sight::Endless(_)) => true,
+        _ => false,
+    };
+    is_same && found.site == site
+}
+
+impl Notes {
+    /// Nothing is noted yet, in a system of this coverage.
+    pub fn new(alloc: Global, coverage: Coverage) -> Notes {
+        Notes {
+            candidates: Vec::new(alloc),
+            coverage,
+            sites: Vec::new(alloc),
+            events: 0,
+            waits: false,
+        }
+    }
+
+    /// The candidates, which are forgotten.
+    pub fn take_candidates(&mut self, alloc: Global) -> Vec<Finding> {
+        mem::replace(&mut self.candidates, Vec::new(alloc))
+    }
+
+    /// What was ever done, which is forgotten.
+    pub fn take_coverage(&mut self, alloc: Global) -> Coverage {
+        mem::replace(&mut self.coverage, Coverage::nothing(alloc))
+    }
+
+    /// Whether a candidate has at most this many steps.
+    pub fn has_within(&self, depth: u32) -> bool {
+        self.candidates
+            .iter()
+            .any(|found| found.steps.len() <= depth as usize)
+    }
+
+    /// Whether a candidate is of this kind, and at this call.
+    fn has_kind(&self, sight: Sight, site: Option<Site>) -> bool {
+        self.candidates
+            .iter()
+            .any(|found| is_of_kind(found, sight, site))
+    }
+
+    /// Adds what is seen after a list of events, unless the same was seen at the same call. `AllocError` if memory runs
+    /// out.
+    pub fn note_sight(
+        &mut self,
+        alloc: Global,
+        path: Path<'_>,
+        sight: Sight,
+        site: Option<Site>,
+    ) -> Result<(), AllocError> {
+        if self.has_kind(sight, site) {
+            return Ok(());
+        }
+        let steps = events_of(alloc, path)?;
+        self.candidates.push(Finding { steps, sight, site })?;
+        Ok(())
+    }
+
+    /// The call to which a line belongs: that of the stretch, or where a wait ends that of the task that waited.
+    fn site_of(&self, line: &Line, made: Option<Site>) -> Option<Site> {
+        match line {
+            Line::Gets { task, .. } => self.sites.get(usize::from(*task)).copied(),
+            _ => made,
+        }
+    }
+
+    /// A line of an event that made this call, if it made one.
+    fn note_line(
+        &mut self,
+        alloc: Global,
+        subject: &Subject<'_>,
+        path: Path<'_>,
+        made: Option<Site>,
+        place: usize,
+        line: &Line,
+    ) -> Result<(), AllocError> {
+        let site = self.site_of(line, made);
+        self.coverage.note_line(line, site);
+        if is_forbidden(subject.question, line) {
+            return self.note_sight(alloc, path, Sight::Line(place), site);
+        }
+        Ok(())
+    }
+
+    /// The lines of an event that made this call, if it made one, or of setup. `AllocError` if memory runs out.
+    pub fn note_lines(
+        &mut self,
+        alloc: Global,
+        subject: &Subject<'_>,
+        path: Path<'_>,
+        made: Option<Site>,
+        lines: &[Line],
+    ) -> Result<(), AllocError> {
+        for (place, line) in lines.iter().enumerate() {
+            self.note_line(alloc, subject, path, made, place, line)?;
+        }
+        Ok(())
+    }
+}

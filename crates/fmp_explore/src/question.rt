@@ -1,0 +1,187 @@
+//! What is asked about all schedules: what must never happen, which events may happen, and where to stop.
+
+ghost use Rattle.std.specs.Prelude.{◌≡◌, ◌<◌, IsTrue, count_by, length};
+ghost use Rattle.fmp_explore.specs.Deadlocks.{is_interrupt as is_request, may_interrupt as may};
+ghost use Rattle.fmp_explore.specs.Forbidden.{IsAnswered, IsFault, IsForbidden, IsPut, Tells};
+
+use fmp_base::{Call, Er, Event, Fault, Line};
+use std::alloc::Global;
+
+/// The codes that calls and the ends of waits answer.
+pub const ANSWERS: [Er; 9] = [
+    Er::Ok,
+    Er::Par,
+    Er::Id,
+    Er::Ctx,
+    Er::Iluse,
+    Er::Obj,
+    Er::Qovr,
+    Er::Rlwai,
+    Er::Tmout,
+];
+
+/// What must never happen.
+#[derive(Clone, Copy)]
+pub enum Never {
+    /// A call, or the end of a wait, answers this code.
+    Answer(Er),
+    /// Somebody prints this value.
+    Put(i32),
+    /// A body stops with this fault.
+    Fault(Fault),
+}
+
+/// When the clock may advance.
+#[derive(Clone, Copy, Debug, PartialEq, Eq)]
+pub enum Ticks {
+    /// At any time.
+    Any,
+    /// Only where no processor can do anything.
+    Idle,
+}
+
+/// What is asked about all schedules of a system.
+#[derive(Drop)]
+pub struct Question {
+    /// What must never happen.
+    pub nevers: Vec<Never>,
+    /// For each task, by its place, whether it may wait forever, as servers do. Tasks behind the last one may not.
+    pub rest: Vec<bool>,
+    /// When the clock may advance.
+    pub ticks: Ticks,
+    /// How many interrupts there may be; any number, if none is given.
+    pub interrupts: Option<u8>,
+    /// Whether the search goes on after the first finding, for the first of each kind and place.
+    pub all: bool,
+    /// How many states may be kept.
+    pub states: u32,
+}
+
+impl Question {
+    /// Deadlocks and bodies that go on for ever without a call are looked for, and nothing else. No task may wait
+    /// forever. Ticks and interrupts come at any time. The search stops at the first finding, or at 2^24 states.
+    pub fn new(alloc: Global) -> Question {
+        Question {
+            nevers: Vec::new(alloc),
+            rest: Vec::new(alloc),
+            ticks: Ticks::Any,
+            interrupts: None,
+            all: false,
+            states: 1 << 24,
+        }
+    }
+
+    /// Whether one more interrupt may come after these events.
+    pub fn may_interrupt(&self, steps: &[Event]) -> bool
+        ensures { result ≡ may self.now.interrupts steps.now }
+    {
+        match self.interrupts {
+            Some(most) => interrupt_count(steps) < usize::from(most),
+            None => true,
+        }
+    }
+}
+
+/// Whether an event is an interrupt.
+fn is_interrupt(e: Event) -> bool
+    ensures { result ≡ is_request e }
+{
+    match e {
+        Event::Int(_) => true,
+        Event::Run(_) | Event::Tick => false,
+    }
+}
+
+/// How many of these events are interrupts.
+pub fn interrupt_count(steps: &[Event]) -> usize
+    ensures { result ≡ count_by is_request steps.now }
+{
+    steps.iter().filter(|e| is_interrupt(**e)).count()
+}
+
+/// Whether two faults are one.
+fn is_same_fault(a: Fault, b: Fault) -> bool
+    ensures { IsTrue result → a ≡ b }
+{
+    match (a, b) {
+        (Fault::Overflow, Fault::Overflow) => true,
+        (Fault::Division, Fault::Division) => true,
+        (Fault::Index, Fault::Index) => true,
+        _ => false,
+    }
+}
+
+/// Whether a line tells that a call, or the end of a wait, answers this code.
+fn is_answered(code: Er, line: &Line) -> bool
+    ensures { IsTrue result → IsAnswered code line.now }
+{
+    match line {
+        Line::Call {
+            reply: Some(reply),
+            ..
+        } => reply.code == code,
+        Line::Gets { reply, .. } => reply.code == code,
+        _ => false,
+    }
+}
+
+/// Whether a line tells that this value is printed.
+fn is_put(value: i32, line: &Line) -> bool
+    ensures { IsTrue result → IsPut value line.now }
+{
+    match line {
+        Line::Call {
+            call: Call::Put { value: printed },
+            ..
+        } => *printed == value,
+        _ => false,
+    }
+}
+
+/// Whether a line tells that a body stops with this fault.
+fn is_fault(fault: Fault, line: &Line) -> bool
+    ensures { IsTrue result → IsFault fault line.now }
+{
+    match line {
+        Line::Fault { fault: told, .. } => is_same_fault(*told, fault),
+        _ => false,
+    }
+}
+
+/// Whether a line tells what must never happen.
+fn tells(never: Never, line: &Line) -> bool
+    ensures { IsTrue result → Tells never line.now }
+{
+    match never {
+        Never::Answer(code) => is_answered(code, line),
+        Never::Put(value) => is_put(value, line),
+        Never::Fault(fault) => is_fault(fault, line),
+    }
+}
+
+/// Whether a line tells what stands at a place of what must never happen.
+fn tells_at(nevers: &[Never], place: usize, line: &Line) -> bool
+    requires { place < length nevers.now }
+    ensures { IsTrue result → IsForbidden nevers.now line.now }
+{
+    tells(nevers[place], line)
+}
+
+/// Whether a line tells something of what must never happen.
+fn tells_any(nevers: &[Never], line: &Line) -> bool
+    ensures { IsTrue result → IsForbidden nevers.now line.now }
+{
+    for place in 0..nevers.len() {
+        if tells_at(nevers, place, line) {
+            return true;
+        }
+    }
+    false
+}
+
+/// Whether a line tells something that must never happen.
+pub fn is_forbidden(question: &Question, line: &Line) -> bool
+    ensures { IsTrue result → IsForbidden question.now.nevers.items line.now }
+{
+    tells_any(&question.nevers, line)
+}

@@ -1,0 +1,164 @@
+//! Where bodies stand: the call that the next stretch of a processor makes, and the calls in which tasks wait.
+ghost use Rattle.std.specs.Prelude.{◌≡◌};
+
+use crate::coverage::Site;
+use crate::field::low_byte;
+use fmp_base::{Entry, Event, Held, Phase, Stretch, System, TaskConfig};
+use fmp_code::MachineContext;
+use fmp_kernel::{Actor, Body, Kernel};
+use std::alloc::{AllocError, Global};
+
+/// How the stretch of an event ends.
+#[derive(Clone, Copy)]
+pub enum NextStretch {
+    /// The event has no stretch.
+    None,
+    /// With the call at this place.
+    Calls(Site),
+    /// The body ends, or stops with a fault, which is at this place or behind it.
+    Ends(Site),
+    /// It reaches the bound, from this place on.
+    Keeps(Site),
+}
+
+impl NextStretch {
+    /// The call that the stretch makes, if it makes one.
+    pub fn call(self) -> Option<Site> {
+        match self {
+            NextStretch::Calls(site) => Some(site),
+            _ => None,
+        }
+    }
+
+    /// The head of the body that makes the stretch, if there is one.
+    pub fn body(self) -> Option<Site> {
+        match self {
+            NextStretch::Calls(site) | NextStretch::Ends(site) | NextStretch::Keeps(site) => {
+                Some(Site {
+                    body: site.body,
+                    pc: 0,
+                })
+            }
+            NextStretch::None => None,
+        }
+    }
+}
+
+/// How the stretch of an actor ends.
+fn next_of<B: Body<Ctx = MachineContext>>(
+    body: &B,
+    n: u64,
+    actor: &Actor<MachineContext>,
+) -> NextStretch
+    requires entry { B.has_entry body.now actor.now.entry }
+    requires context { B.is_context body.now actor.now.entry actor.now.context }
+{
+    let site = Site {
+        body: actor.entry,
+        pc: actor.context.pc,
+    };
+    match body.stretch(actor.entry, n, actor.context) {
+        Stretch::Call(context, _) => NextStretch::Calls(Site {
+            body: actor.entry,
+            pc: context.pc.saturating_sub(1),
+        }),
+        Stretch::End(_) | Stretch::Fault(..) => NextStretch::Ends(site),
+        Stretch::Over(_) => NextStretch::Keeps(site),
+    }
+}
+
+/// How the stretch of an event would end on a kernel over these bodies with this bound.
+pub fn next_stretch<B: Body<Ctx = MachineContext>>(
+    kernel: &Kernel<B>,
+    body: &B,
+    n: u64,
+    e: Event,
+) -> NextStretch
+    requires { body.now ≡ kernel.now.body }
+{
+    let Event::Run(p) = e else {
+        return NextStretch::None;
+    };
+    match kernel.actor(p) {
+        Some(actor) => next_of(body, n, &actor),
+        None => NextStretch::None,
+    }
+}
+
+/// The place of the last call of a body of which this is kept. A call leaves its body right behind it.
+fn last_call(held: Option<Held<MachineContext>>) -> u16 {
+    match held {
+        Some(Held::Goes(context)) => context.pc.saturating_sub(1),
+        Some(Held::Awaits(context)) => context.pc.saturating_sub(1),
+        None => 0,
+    }
+}
+
+/// A task that is started, and the call in which it waits, if it does.
+#[derive(Clone, Copy, Debug, PartialEq, Eq)]
+pub struct Started {
+    pub task: u8,
+    pub waits: Option<Site>,
+}
+
+/// The body of a task.
+fn body_of(config: &TaskConfig) -> u8 {
+    match config.entry {
+        Entry::Body(body) => body,
+        Entry::Named(_) => 0,
+    }
+}
+
+/// Where a task stands, if there is one and it is started.
+fn started_at<B: Body<Ctx = MachineContext>>(
+    kernel: &Kernel<B>,
+    task: u8,
+    body: u8,
+) -> Option<Started> {
+    let tables = kernel.tables();
+    if usize::from(task) >= tables.task_count() {
+        return None;
+    }
+    match tables.task(task).phase {
+        Phase::Dormant => None,
+        Phase::Ready => Some(Started { task, waits: None }),
+        Phase::Waiting(_) => {
+            let pc = last_call(kernel.held(task));
+            let waits = Some(Site { body, pc });
+            Some(Started { task, waits })
+        }
+    }
+}
+
+/// The tasks that are started. `AllocError` if memory runs out.
+pub fn started_tasks<B: Body<Ctx = MachineContext>>(
+    alloc: Global,
+    kernel: &Kernel<B>,
+    sys: &System,
+) -> Result<Vec<Started>, AllocError> {
+    let mut all = Vec::new(alloc);
+    for (t, config) in sys.tasks.iter().enumerate() {
+        if let Some(started) = started_at(kernel, low_byte(t), body_of(config)) {
+            all.push(started)?;
+        }
+    }
+    Ok(all)
+}
+
+/// Writes the last call of each task's body into the place of what is there. Where a task waits, that is the call in
+/// which it waits. `AllocError` if memory runs out.
+pub fn task_sites<B: Body<Ctx = MachineContext>>(
+    kernel: &Kernel<B>,
+    sys: &System,
+    sites: &mut Vec<Site>,
+) -> Result<(), AllocError> {
+    sites.clear();
+    for (t, config) in sys.tasks.iter().enumerate() {
+        let pc = last_call(kernel.held(low_byte(t)));
+        sites.push(Site {
+            body: body_of(config),
+            pc,
+        })?;
+    }
+    Ok(())
+}

@@ -1,0 +1,39 @@
+//! The words in which what must never happen is written.
+use fmp_base::{Er, Fault};
+use fmp_explore::{ANSWERS, Never};
+
+/// The fault of this name.
+fn fault_named(word: &str) -> Option<Fault> {
+    match word {
+        "F_OVF" => Some(Fault::Overflow),
+        "F_DIV" => Some(Fault::Division),
+        "F_IDX" => Some(Fault::Index),
+        _ => None,
+    }
+}
+
+/// The code of this name that a call may answer.
+fn code_named(word: &str) -> Option<Er> {
+    ANSWERS.iter().copied().find(|code| code.name() == word)
+}
+
+/// The value in `put(V)`.
+fn value_put(word: &str) -> Option<i32> {
+    let value = word.strip_prefix("put(")?.strip_suffix(")")?;
+    value.parse::<i32>().ok()
+}
+
+/// What a word says must never happen: an answer, as `E_QOVR`, a value that is printed, as `put(99)`, or a fault, as
+/// `F_OVF`. None if it says nothing of the kind.
+pub fn never_named(word: &str) -> Option<Never> {
+    if let Some(value) = value_put(word) {
+        return Some(Never::Put(value));
+    }
+    if let Some(fault) = fault_named(word) {
+        return Some(Never::Fault(fault));
+    }
+    match code_named(word) {
+        Some(code) => Some(Never::Answer(code)),
+        None => None,
+    }
+}

@@ -1,0 +1,162 @@
+//! What may be asked: when the clock ticks, how many interrupts there are, which tasks may wait forever. And what falls
+//! out: calls that are never made, tasks that never run, and the fields with the most values.
+use crate::tests::planted::BURST;
+use crate::tests::searching::{expect, is_deadlock, question, searched};
+use crate::tests::texts::{INVERT_CFG, INVERT_SRC};
+use fmp_base::Er;
+use fmp_explore::{Ending, Never, Report, Site, Ticks, What};
+use fmp_explore_names::{CallLines, LocalNames, append_name, never_named};
+use fmp_image::build;
+use std::alloc::Global;
+use std::test::Fail;
+
+/// One task counts for ever.
+const COUNTER: (&str, &str) = (
+    "NUM_PRC(1);
+CLASS(TCL_1) { CRE_TSK(A, { TA_ACT, 0, count, 8, 256, NULL }); }",
+    "task count {
+    var times;
+    while (1) { times = times + 1; put(7); }
+}",
+);
+
+/// The first call of `some` is never made, and OTHER never runs.
+const UNUSED: (&str, &str) = (
+    "NUM_PRC(1);
+CLASS(TCL_1) {
+    CRE_TSK(A, { TA_ACT, 0, some, 8, 256, NULL });
+    CRE_TSK(OTHER, { TA_NULL, 0, other, 8, 256, NULL });
+    CRE_SEM(S, { TA_TFIFO, 0, 3 });
+}",
+    "task some {
+    if (exinf == 1) {
+        put(1);
+    }
+    sig_sem(S);
+    sig_sem(S);
+}
+task other { put(2); }",
+);
+
+/// With a clock that ticks at any time the high task waits too long; with one that ticks only where nothing else can
+/// happen, never.
+#[test]
+fn ticks_while_idle(rt: HostRuntime) -> Result<(), Fail> {
+    let alloc = rt.alloc();
+    let mut asked = question(alloc, Some(Never::Answer(Er::Tmout)))?;
+    asked.ticks = Ticks::Idle;
+    let report = searched(alloc, INVERT_CFG, INVERT_SRC, &asked)?;
+    assert_eq!(rt; report.findings.len(), 0);
+    assert_eq!(rt; report.ending, Ending::Whole);
+    Ok(())
+}
+
+/// Where two interrupts come and no more, the sink waits forever after 11 steps: two requests, two calls and two ends of
+/// the handler, and five calls of the sink. It may, if it is at rest then.
+#[test]
+fn two_interrupts(rt: HostRuntime) -> Result<(), Fail> {
+    let alloc = rt.alloc();
+    let mut asked = question(alloc, Some(Never::Answer(Er::Qovr)))?;
+    asked.interrupts = Some(2);
+    let report = searched(alloc, BURST.0, BURST.1, &asked)?;
+    expect(&rt, &report, "burst", is_deadlock(&report), 11);
+    asked.rest.push(true)?;
+    let report = searched(alloc, BURST.0, BURST.1, &asked)?;
+    assert_eq!(rt; report.findings.len(), 0);
+    assert_eq!(rt; report.ending, Ending::Whole);
+    Ok(())
+}
+
+/// Of the fields, the one with the most values.
+fn most_varied(report: &Report) -> Option<What> {
+    let mut most = 0;
+    let mut what = None;
+    for variety in &report.varieties {
+        if variety.values > most {
+            most = variety.values;
+            what = Some(variety.what);
+        }
+    }
+    what
+}
+
+#[test]
+fn a_counter(rt: HostRuntime) -> Result<(), Fail> {
+    let alloc = rt.alloc();
+    let mut asked = question(alloc, None)?;
+    asked.states = 20;
+    let report = searched(alloc, COUNTER.0, COUNTER.1, &asked)?;
+    assert_eq!(rt; report.findings.len(), 0);
+    assert_eq!(rt; report.ending, Ending::States);
+    assert_eq!(rt; most_varied(&report), Some(What::Local(0, 1)));
+    let image = build(alloc, COUNTER.0.as_bytes(), COUNTER.1.as_bytes())?;
+    let names = LocalNames::new(alloc, COUNTER.1.as_bytes())?;
+    let mut name = Vec::new(alloc);
+    append_name(alloc, &mut name, image.system(), &names, What::Local(0, 1))?;
+    assert_eq!(rt; name.as_slice(), "A times".as_bytes());
+    Ok(())
+}
+
+/// The poll of `a` is answered E_TMOUT before `b` gives, and E_OK after it.
+const POLLED: (&str, &str) = (
+    "NUM_PRC(2);
+CLASS(TCL_1) {
+    CRE_SEM(S, { TA_TFIFO, 0, 1 });
+    CRE_TSK(A, { TA_ACT, 0, a, 8, 256, NULL });
+}
+CLASS(TCL_2) { CRE_TSK(B, { TA_ACT, 0, b, 8, 256, NULL }); }",
+    "task a { pol_sem(S); }
+task b { sig_sem(S); }",
+);
+
+#[test]
+fn answers(rt: HostRuntime) -> Result<(), Fail> {
+    let alloc = rt.alloc();
+    let asked = question(alloc, None)?;
+    let report = searched(alloc, POLLED.0, POLLED.1, &asked)?;
+    assert_eq!(rt; report.ending, Ending::Whole);
+    let poll = Site { body: 0, pc: 1 };
+    let answers = report.coverage.answers(alloc, poll)?;
+    assert_eq!(rt; answers.as_slice(), [Er::Ok, Er::Tmout].as_slice());
+    Ok(())
+}
+
+/// The lines of the calls of a report that were never made.
+fn lines_never_made(
+    alloc: Global,
+    texts: (&str, &str),
+    report: &Report,
+) -> Result<Vec<Option<u32>>, Fail> {
+    let image = build(alloc, texts.0.as_bytes(), texts.1.as_bytes())?;
+    let lines = CallLines::new(alloc, texts.1.as_bytes())?;
+    let mut unmade = Vec::new(alloc);
+    for site in &report.coverage.never_made(alloc, image.code())? {
+        unmade.push(lines.line(image.code(), *site))?;
+    }
+    Ok(unmade)
+}
+
+#[test]
+fn what_was_never_done(rt: HostRuntime) -> Result<(), Fail> {
+    let alloc = rt.alloc();
+    let asked = question(alloc, None)?;
+    let report = searched(alloc, UNUSED.0, UNUSED.1, &asked)?;
+    assert_eq!(rt; report.ending, Ending::Whole);
+    assert_eq!(rt;
+        report.coverage.runs.tasks.as_slice(),
+        [true, false].as_slice()
+    );
+    assert_eq!(rt; report.coverage.peaks.counts.as_slice(), [2].as_slice());
+    let unmade = lines_never_made(alloc, UNUSED, &report)?;
+    assert_eq!(rt; unmade.as_slice(), [Some(3), Some(8)].as_slice());
+    Ok(())
+}
+
+#[test]
+fn words_of_what_must_never_happen(rt: HostRuntime) {
+    assert!(rt; matches!(never_named("E_QOVR"), Some(Never::Answer(Er::Qovr))));
+    assert!(rt; matches!(never_named("put(-3)"), Some(Never::Put(-3))));
+    assert!(rt; matches!(never_named("F_IDX"), Some(Never::Fault(_))));
+    assert!(rt; never_named("put()").is_none());
+    assert!(rt; never_named("E_SYS").is_none());
+}
