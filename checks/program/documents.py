@@ -14,7 +14,7 @@ says what a block is, and how it is checked:
     calls [handler]                  rows `STATEMENTS -> ANSWER, ..`: what a task (a handler) of the bench is answered
     faults cfg|src|steps|image       rows `TEXT -> FAULT`
     console                          commands behind `$ `, each with what it prints, in a copy of examples/
-    rust FILE                        code of this file of crates/, as it stands there
+    rust FILE                        code of this file of crates/, as it stands there; its blocks are the whole file
     bytes                            the image of the last system of blocks, in hexadecimal digits
     grammar, sh                      not checked: rules of a grammar, and commands of the toolchain
 
@@ -155,7 +155,7 @@ class Checker:
 
     def __init__(self, program):
         self.program, self.tally, self.faults = program, Tally(), set()
-        self.texts, self.bench = {}, {}
+        self.texts, self.bench, self.files = {}, {}, {}
 
     def begin(self, document):
         self.document, self.texts = document, {}
@@ -342,8 +342,15 @@ class Checker:
 
     def check_rust(self, line, info, text):
         path = ROOT / "crates" / info
-        stands = path.is_file() and f"\n{text}" in path.read_text()
+        stands = path.is_file() and f"\n{text}" in f"\n{path.read_text()}"
         self.verdict(line, f"code of {info}", True, stands)
+        self.files.setdefault(info, []).append(text)
+
+    def whole(self):
+        """The blocks of a file are together the whole file, in its order."""
+        self.document = "docs/LIBRARY.md"
+        for info, texts in self.files.items():
+            self.verdict(0, f"the whole of {info}", (ROOT / "crates" / info).read_text(), "\n".join(texts))
 
     def check_grammar(self, line, info, text):
         pass
@@ -361,6 +368,7 @@ def main():
             for block in blocks(ROOT / document):
                 checker.block(*block)
         checker.contexts()
+    checker.whole()
     checker.names()
     checker.crates()
     checker.kit()

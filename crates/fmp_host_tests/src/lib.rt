@@ -4,4 +4,6 @@
 #[cfg(test)]
 mod gate;
 #[cfg(test)]
+mod refusing;
+#[cfg(test)]
 mod tests;

@@ -5,4 +5,5 @@ mod hosting;
 mod keeping;
 mod playing;
 mod showing;
+mod threads;
 mod tickets;

@@ -3,7 +3,8 @@ ghost use Rattle.std.specs.Prelude.{All};
 ghost use Rattle.fmp_board.specs.Boards.{IsAt};
 
 use crate::tests::playing::{Calls, Play, Told, fed, played};
-use crate::tests::showing::{Seen, board_of, image_of, one, text_is};
+use crate::tests::showing::{Seen, board_of, image_of, text_is};
+use crate::tests::threads::one;
 use fmp_base::Event;
 use fmp_hostrun::{Board, BoardFault, Seat, Site};
 use fmp_image::Image;

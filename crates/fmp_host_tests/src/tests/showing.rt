@@ -1,5 +1,5 @@
 //! Images of texts, their boards, and what is seen of boards that are closed.
-ghost use Rattle.std.specs.Prelude.{◌≡◌, ◌+◌, ◌<◌, All, IfOk, IfSome, length};
+ghost use Rattle.std.specs.Prelude.{◌≡◌, ◌+◌, ◌<◌, All, IfOk, length};
 ghost use Rattle.fmp_board.specs.Boards.{IsAt, blank as blank_of};
 
 use fmp_base::Event;
@@ -69,15 +69,6 @@ pub fn last_of<S: Site>(seats: &mut Vec<Seat>) -> Seat
         unreachable!()
     };
     seat
-}
-
-/// A seat of those of a board.
-pub fn one<S: Site>(seats: &mut Vec<Seat>) -> Option<Seat>
-    requires { All (IsAt S.row_id) seats.old.items }
-    ensures seat { IfSome result (IsAt S.row_id) }
-    ensures others { All (IsAt S.row_id) seats.new.items }
-{
-    seats.pop()
 }
 
 /// The bytes of a text.
