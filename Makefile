@@ -3,7 +3,7 @@
 #
 # Copies the proved programs, their manual pages, their completions and the reference below PREFIX, and says where; or
 # removes these files. It builds nothing: each program stands in its crate's folder out once `rt run` there, or the
-# gate, has proved it.
+# gate, has proved it. PREFIX and DESTDIR may have blanks in them.
 
 PREFIX ?= /usr/local
 PROGRAM ?= crates/fmp/out/fmp
@@ -44,9 +44,17 @@ install: $(PROGRAM) $(VIEW)
 
 uninstall:
 	$(call all,removed)
+	@rmdir "$(ROOM)/share/doc/fmp" 2> /dev/null || true
+
+# $(call missing,PROGRAM,FOLDER)
+define missing
+@echo "There is no $(1) yet: (cd $(2) && rt run) proves and builds it, in up to an hour." >&2
+@echo "Before that, (cd crates/fmp && rt try) prints a first trace in minutes, of an unproved program." >&2
+@false
+endef
 
 $(PROGRAM):
-	@echo "There is no $(PROGRAM) yet: (cd crates/fmp && rt run) proves and builds it." >&2; false
+	$(call missing,$@,crates/fmp)
 
 $(VIEW):
-	@echo "There is no $(VIEW) yet: (cd crates/fmp_view && rt run) proves and builds it." >&2; false
+	$(call missing,$@,crates/fmp_view)

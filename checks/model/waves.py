@@ -16,8 +16,10 @@ sys.dont_write_bytecode = True  # the folders of the checks stay as they are
 sys.path[0] = str(Path(__file__).resolve().parents[1])  # the folder `checks`, whose folders are packages
 
 from common.program import ROOT  # noqa: E402
+from model.bodies import Call, stretch  # noqa: E402
 from model.harness import Wrong, expect, main  # noqa: E402
 from model.kernel import Kernel  # noqa: E402
+from model.services import LockIsHeld, Refused, Services  # noqa: E402
 from model.world import CPU, FREE, CyclicHandler, State  # noqa: E402
 
 EXAMPLES = ROOT / "examples"
@@ -51,13 +53,33 @@ def refused(number, line):
     return int(words[4:5] != [] and words[4].startswith("E_") and words[4] != "E_OK")
 
 
-def processor_values(processor, line):
+def spun_lock(kernel, processor):
+    """The spin lock for which the actor of a processor spins: its next run would come to that. 0 for none."""
+    if processor.actor is None:
+        return 0
+    what, context = stretch(kernel.system.bodies[processor.actor.body], processor.actor.context)
+    is_cut = context.units > processor.actor.context.spent + kernel.bound
+    if is_cut or not isinstance(what, Call) or what.service != "loc_spn":
+        return 0
+    number, lock = context.read(what.arguments[0]), processor.lock
+    try:
+        Services(kernel.world, processor.actor, processor).serve("loc_spn", [number])
+    except LockIsHeld:
+        return number
+    except Refused:
+        return 0
+    processor.lock = lock
+    return 0
+
+
+def processor_values(kernel, processor, line):
     """The variables of a processor after an event that told this line first."""
-    return {
+    values = {
         "run": processor.running.number if processor.running else 0, "handler": handler_code(processor.handler),
         "lock": lock_code(processor.lock), "dispatch": int(processor.dispatch_enabled),
         "refused": refused(processor.number, line),
     }
+    return values | ({"spins": spun_lock(kernel, processor)} if kernel.system.spin_locks else {})
 
 
 def waits_of(system, world):
@@ -102,7 +124,7 @@ def model_values(kernel, line):
     """The value of each variable, by its scopes and name, after an event that told this line first, if any."""
     system, world = kernel.system, kernel.world
     kinds = waits_of(system, world)
-    groups = {f"p{x.number}": processor_values(x, line) for x in world.processors}
+    groups = {f"p{x.number}": processor_values(kernel, x, line) for x in world.processors}
     groups |= {f"tasks.{x.name}": task_values(kernel, x, kinds) for x in system.tasks}
     groups |= {f"cyclic.{x.name}": {"handling": handling(world, x)} for x in system.cyclic_handlers}
     groups |= {f"interrupt.i{x.number}": {"handling": handling(world, x)} for x in system.interrupt_handlers}

@@ -34,6 +34,8 @@ FLAG = "made of `TA_TPRI`, `TA_WMUL` and `TA_CLR`, 0 to 7"
 # A configuration; the line, the column and the bytes that are marked; the code; the sentence.
 CONFIGURATIONS = [
     ("NUM_PRC(1)", 1, 11, 1, "B1", "expected `;`, but the text ends here"),
+    ("NUM_PRC(1) // one\n", 1, 11, 1, "B1", "expected `;`, but the text ends here"),
+    ("NUM_PRC(1)\nCLASS(TCL_1) { }", 1, 11, 1, "B1", "expected `;`, found `CLASS`"),
     ("NUM_PRC(1);\nCLASS(TCL_1) {", 2, 15, 1, "B1", "expected a static API or `}`, but the text ends here"),
     ("NUM_PRC(1); CLAS(TCL_1) { }", 1, 13, 4, "B1",
      "expected `CLASS` or the end of the text, found the name `CLAS`; did you mean `CLASS`?"),
@@ -56,10 +58,19 @@ CONFIGURATIONS = [
     (ONE + "CRE_TASK(T, { 0, 0, m, 1, 64, NULL }); }", 1, 28, 8, "B1",
      "`CRE_TASK` is no static API; did you mean `CRE_TSK`?"),
     (ONE + "CRE_SHR(W, { -TA_CLR }); }", 1, 42, 6, "B1", "expected a number, found the constant `TA_CLR`"),
-    (ONE + "CRE_SHR(W, { 1 }) }", 1, 46, 1, "B1", "expected `;`, found `}`"),
+    (ONE + "CRE_SHR(W, { 1 }) }", 1, 45, 1, "B1", "expected `;`, found `}`"),
+    (ONE + "CRE_ALM(A, { 0, 0, h }); }", 1, 28, 7, "B1",
+     "`CRE_ALM` is left out on purpose: there are no alarm handlers"),
+    (ONE + "CRE_MTX(M, { 0, 0 }); }", 1, 28, 7, "B1",
+     "`CRE_MTX` is left out on purpose: there are no mutexes; a semaphore with one count excludes too"),
+    (ONE + "}\nATT_INI({ 0, 0, h });", 2, 1, 7, "B1",
+     "`ATT_INI` is left out on purpose: nothing but handlers and tasks runs"),
     ("NUM_PRC(01);", 1, 9, 1, "B1", "`01` is no number"),
     ("NUM_PRC(1); /* open", 1, 13, 1, "B1", "the comment that begins here is not closed"),
-    ("NUM_PRC(1); #", 1, 13, 1, "B1", "no token begins with `#`"),
+    ("NUM_PRC(1); #", 1, 13, 1, "B1", "no token begins with `#`; there is no preprocessor"),
+    ("NUM_PRC(1); $", 1, 13, 1, "B1", "no token begins with `$`"),
+    ("NUM_PRC(1); \x1b", 1, 13, 1, "B1", "no token begins with a byte of value 27"),
+    ("/* \x1b[31m\x7f\x00 */\tNUM_PRC(9);", 1, 23, 1, "B5", "the number of processors is 9; it must be 1 to 8"),
     ("\ufeffNUM_PRC(1);", 1, 1, 1, "B1", "a byte order mark stands here; save the text without it"),
     ("NUM_PRC(9);", 1, 9, 1, "B5", "the number of processors is 9; it must be 1 to 8"),
     ("NUM_PRC(0);", 1, 9, 1, "B5", "the number of processors is 0; it must be 1 to 8"),
@@ -70,59 +81,72 @@ CONFIGURATIONS = [
      "there is no class `TCL_2`: with 1 processor they are `TCL_1` and `TCL_1_ONLY`"),
     ("NUM_PRC(2); CLASS(MAIN) { }", 1, 19, 4, "B3",
      "there is no class `MAIN`: with 2 processors they are `TCL_n` and `TCL_n_ONLY` for n from 1 to 2"),
-    ("NUM_PRC(2); CLASS(TCL_1) {\nCRE_SEM(S, { 0, 0, 1 }); }\nCLASS(TCL_2) {\nCRE_FLG(S, { 0, 0 }); }", 4, 1, 7, "B2",
+    ("NUM_PRC(2); CLASS(TCL_1) {\nCRE_SEM(S, { 0, 0, 1 }); }\nCLASS(TCL_2) {\nCRE_FLG(S, { 0, 0 }); }", 4, 9, 1, "B2",
      "`S` is the name of an object already, at line 2"),
-    (ONE + "\nCRE_SEM(S, { TA_FIFO, 0, 1 }); }", 2, 1, 7, "B3",
+    (ONE + "\nCRE_SEM(S, { TA_FIFO, 0, 1 }); }", 2, 14, 7, "B3",
      "`TA_FIFO` is no constant: the attribute of `CRE_SEM` is a value; did you mean `TA_TFIFO`?"),
-    (ONE + "\nCRE_TSK(T, { 1, 0, m, 1, 64, NULL }); }", 2, 1, 7, "B4 E_RSATR",
+    (ONE + "\nCRE_TSK(T, { 1, 0, m, 1, 64, NULL }); }", 2, 14, 1, "B4 E_RSATR",
      "the attribute of `CRE_TSK` is 1; it must be 0 or `TA_ACT`"),
-    (ONE + "\nCRE_TSK(T, { TA_ACT, 0, m, 17, 64, NULL }); }", 2, 1, 7, "B4 E_PAR",
+    (ONE + "\nCRE_TSK(T, { TA_ACT, 0, m, 17, 64, NULL }); }", 2, 28, 2, "B4 E_PAR",
      "the priority of `CRE_TSK` is 17; it must be 1 to 16"),
-    (ONE + "\n\tCRE_TSK(T, { TA_ACT, 0, m, 1, 0, NULL }); }", 2, 2, 7, "B4 E_PAR",
+    (ONE + "\n\tCRE_TSK(T, { TA_ACT, 0, m, 1, 0, NULL }); }", 2, 32, 1, "B4 E_PAR",
      "the stack size of `CRE_TSK` is 0; it must be 1 to 65536"),
-    (ONE + "CRE_SEM(S, { TA_MPRI, 0, 1 }); }", 1, 28, 7, "B4 E_RSATR",
+    (ONE + "CRE_SEM(S, { TA_MPRI, 0, 1 }); }", 1, 41, 7, "B4 E_RSATR",
      "the attribute of `CRE_SEM` is 2; it must be `TA_TFIFO` or `TA_TPRI`"),
-    (ONE + "CRE_SEM(S, { 0, 2, 1 }); }", 1, 28, 7, "B4 E_PAR",
+    (ONE + "CRE_SEM(S, { 0, 2, 1 }); }", 1, 44, 1, "B4 E_PAR",
      "the initial count of `CRE_SEM` is 2; it must be 0 to 1"),
-    (ONE + "CRE_SEM(S, { 0, 0, 65536 }); }", 1, 28, 7, "B4 E_PAR",
+    (ONE + "CRE_SEM(S, { 0, 0, 65536 }); }", 1, 47, 5, "B4 E_PAR",
      "the greatest count of `CRE_SEM` is 65536; it must be 1 to 65535"),
-    (ONE + "CRE_FLG(F, { 8, 0 }); }", 1, 28, 7, "B4 E_RSATR", "the attribute of `CRE_FLG` is 8; it must be " + FLAG),
-    (ONE + "CRE_FLG(F, { 0, 0x10000 }); }", 1, 28, 7, "B4 E_PAR",
+    (ONE + "CRE_FLG(F, { 8, 0 }); }", 1, 41, 1, "B4 E_RSATR", "the attribute of `CRE_FLG` is 8; it must be " + FLAG),
+    (ONE + "CRE_FLG(F, { TA_CLR |\n8, 0 }); }", 1, 41, 6, "B4 E_RSATR",
+     "the attribute of `CRE_FLG` is 12; it must be " + FLAG),
+    (ONE + "CRE_FLG(F, { 0, 0x10000 }); }", 1, 44, 7, "B4 E_PAR",
      "the initial pattern of `CRE_FLG` is 65536; it must be 0 to 65535"),
-    (ONE + "CRE_DTQ(D, { 0, 256, NULL }); }", 1, 28, 7, "B4 E_PAR",
+    (ONE + "CRE_DTQ(D, { 0, 256, NULL }); }", 1, 44, 3, "B4 E_PAR",
      "the capacity of `CRE_DTQ` is 256; it must be 0 to 255"),
-    (ONE + "CRE_MBX(X, { 4, 1, NULL }); }", 1, 28, 7, "B4 E_RSATR",
+    (ONE + "CRE_MBX(X, { 4, 1, NULL }); }", 1, 41, 1, "B4 E_RSATR",
      "the attribute of `CRE_MBX` is 4; it must be made of `TA_TPRI` and `TA_MPRI`, 0 to 3"),
-    (ONE + "CRE_MBX(X, { 0, 17, NULL }); }", 1, 28, 7, "B4 E_PAR",
+    (ONE + "CRE_MBX(X, { 0, 17, NULL }); }", 1, 44, 2, "B4 E_PAR",
      "the greatest message priority of `CRE_MBX` is 17; it must be 1 to 16"),
-    (ONE + "CRE_MSG(G, { 0 }); }", 1, 28, 7, "B4 E_PAR", "the message priority of `CRE_MSG` is 0; it must be 1 to 16"),
-    (ONE + "CRE_SPN(L, { 1 }); }", 1, 28, 7, "B4 E_RSATR", "the attribute of `CRE_SPN` is 1; it must be 0"),
-    (ONE + "CRE_CYC(C, { 1, 0, h, 1, 0 }); }", 1, 28, 7, "B4 E_RSATR",
+    (ONE + "CRE_MSG(G, { 0 }); }", 1, 41, 1, "B4 E_PAR", "the message priority of `CRE_MSG` is 0; it must be 1 to 16"),
+    (ONE + "CRE_SPN(L, { 1 }); }", 1, 41, 1, "B4 E_RSATR", "the attribute of `CRE_SPN` is 1; it must be 0"),
+    (ONE + "CRE_CYC(C, { 1, 0, h, 1, 0 }); }", 1, 41, 1, "B4 E_RSATR",
      "the attribute of `CRE_CYC` is 1; it must be 0 or `TA_STA`"),
-    (ONE + "CRE_CYC(C, { TA_STA, 0, h, 0, 0 }); }", 1, 28, 7, "B4 E_PAR",
+    (ONE + "CRE_CYC(C, { TA_STA, 0, h, 0, 0 }); }", 1, 55, 1, "B4 E_PAR",
      "the period of `CRE_CYC` is 0; it must be 1 to 1073741824"),
-    (ONE + "CRE_CYC(C, { TA_STA, 0, h, 1, -1 }); }", 1, 28, 7, "B4 E_PAR",
+    (ONE + "CRE_CYC(C, { TA_STA, 0, h, 1, -1 }); }", 1, 58, 2, "B4 E_PAR",
      "the phase of `CRE_CYC` is -1; it must be 0 to 1073741824"),
-    (ONE + "DEF_INH(33, { 0, h }); }", 1, 28, 7, "B4 E_PAR",
+    (ONE + "DEF_INH(33, { 0, h }); }", 1, 36, 2, "B4 E_PAR",
      "the interrupt number of `DEF_INH` is 33; it must be 1 to 32"),
-    (ONE + "DEF_INH(3, { 0, h });\nDEF_INH(3, { 0, h }); }", 2, 1, 7, "B4 E_OBJ",
+    (ONE + "DEF_INH(3, { 0, h });\nDEF_INH(3, { 0, h }); }", 2, 9, 1, "B4 E_OBJ",
      "interrupt 3 has a handler already, defined at line 1"),
     (ONE + "[256 times: CRE_SEM(S#, { 0, 0, 1 });\n] }", 256, 1, 7, "B5",
      "this is the 256th `CRE_SEM`; there are at most 255 of a kind"),
-    (ONE + "CRE_TSK(T, { 0, 0, dep, 1, 64, NULL }); }", 1, 28, 7, "B3",
+    (ONE + "CRE_TSK(T, { 0, 0, dep, 1, 64, NULL }); }", 1, 47, 3, "B3",
      "no body of the task text has the name `dep`; did you mean `deep`?"),
-    (ONE + "CRE_TSK(T, { 0, 0, h, 1, 64, NULL }); }", 1, 28, 7, "B7",
+    (ONE + "CRE_TSK(T, { 0, 0, h, 1, 64, NULL }); }", 1, 47, 1, "B7",
      "`h` is declared by `handler`; the entry of a task is declared by `task`"),
-    (ONE + "DEF_INH(3, { 0, m }); }", 1, 28, 7, "B7",
+    (ONE + "DEF_INH(3, { 0, m }); }", 1, 44, 1, "B7",
      "`m` is declared by `task`; the entry of an interrupt handler is declared by `handler`"),
-    (ONE + "CRE_TSK(T, { 0, 0, deep, 1, 7, NULL }); }", 1, 28, 7, "B6",
+    (ONE + "CRE_TSK(T, {\n0, 0, deep, 1, 7, NULL }); }", 2, 16, 1, "B6",
      "the stack has 7 bytes; `deep` needs 8, 4 for each operand that stands at once"),
     ("NUM_PRC(1); // [1048576 times: .]", 1, 1, 1, "B5", "the text has 1048591 bytes; a text has at most 1048576"),
 ]
 
 # Task texts, checked with a configuration of one object, the semaphore SEM.
 SOURCES = [
-    ("task m { put(1) }", 1, 17, 1, "B1", "expected `;`, found `}`"),
+    ("task m { put(1) }", 1, 16, 1, "B1", "expected `;`, found `}`"),
+    ("task m { put(1) // one\n    put(2); }", 1, 16, 1, "B1", "expected `;`, found the service call `put`"),
+    ("task m { exinf = 1\n\n}", 1, 19, 1, "B1", "expected an operator or `;`, found `}`"),
+    ("task m { for (exinf = 0; exinf < 3; ) { } }", 1, 10, 3, "B1",
+     "`for` is left out on purpose: the only loop is `while`"),
+    ("task m { do { } while (1); }", 1, 10, 2, "B1", "`do` is left out on purpose: the only loop is `while`"),
+    ("task m { int x; }", 1, 10, 3, "B1",
+     "`int` is left out on purpose: all values are 32-bit numbers, and `var` declares a variable"),
+    ("void m() { }", 1, 1, 4, "B1",
+     "`void` is left out on purpose: all values are 32-bit numbers, and `var` declares a variable"),
+    ("task m { sta_alm(1); }", 1, 10, 7, "B1", "`sta_alm` is left out on purpose: there are no alarm handlers"),
+    ("task m { ref_tsk(1); }", 1, 10, 7, "B1", "`ref_tsk` is left out on purpose: no call asks for a state"),
     ("task m {\n    put(1);\n", 3, 1, 1, "B1", "expected a statement or `}`, but the text ends here"),
     ("task m { put(1, 2); }", 1, 15, 1, "B1", "expected `)`, since `put` has 1 argument, found `,`"),
     ("task m { snd_dtq(1); }", 1, 19, 1, "B1", "expected `,`, since `snd_dtq` has 2 arguments, found `)`"),
@@ -130,9 +154,10 @@ SOURCES = [
     ("task m { x = put; }", 1, 17, 1, "B1", "expected `(`, found `;`"),
     ("task m() { }", 1, 7, 1, "B1", "expected `{`, found `(`"),
     ("tusk m { }", 1, 1, 4, "B1", "expected `task` or `handler`, found the name `tusk`; did you mean `task`?"),
+    ("taks m { }", 1, 1, 4, "B1", "expected `task` or `handler`, found the name `taks`; did you mean `task`?"),
     ("task m { } }", 1, 12, 1, "B1", "expected `task`, `handler` or the end of the text, found `}`"),
     ("task m { retrun; }", 1, 16, 1, "B1", "expected `=` or `[`, found `;`; did you mean `return`?"),
-    ("task m { whlie (1) { } }", 1, 16, 1, "B1", "`whlie` is no service call; did you mean `while`?"),
+    ("task m { whlie (1) { } }", 1, 10, 5, "B1", "`whlie` is no service call; did you mean `while`?"),
     ("task m { else { } }", 1, 10, 4, "B1", "expected a statement or `}`, found `else`"),
     ("task m { while (1) { } continue; }", 1, 24, 8, "B1", "`continue` stands in no loop"),
     ("task m { if (1 { } }", 1, 16, 1, "B1", "expected an operator or `)`, found `{`"),
@@ -143,7 +168,7 @@ SOURCES = [
     ("task m { put(1); var x; }", 1, 18, 3, "B1",
      "variables are declared at the head of a body, before its statements"),
     ("task m { put(act_tsk(1)); }", 1, 14, 7, "B1", "a service call is a statement, and no part of an expression"),
-    ("task m { wup_tks(1); }", 1, 17, 1, "B1", "`wup_tks` is no service call; did you mean `wup_tsk`?"),
+    ("task m { wup_tks(1); }", 1, 10, 7, "B1", "`wup_tks` is no service call; did you mean `wup_tsk`?"),
     ("task m { put(012); }", 1, 14, 1, "B1", "`012` is no number"),
     ("task m { var a[3; }", 1, 17, 1, "B1", "expected `]`, found `;`"),
     ("task m { var a[]; }", 1, 16, 1, "B1", "expected a number, 1 to 63, found `]`"),
@@ -169,6 +194,8 @@ SOURCES = [
     ("task m { put(\nx); }", 2, 1, 1, "B3", "`x` is neither a variable of this body, an object nor a constant"),
     ("task m { var level; put(levle); }", 1, 25, 5, "B3",
      "`levle` is neither a variable of this body, an object nor a constant; did you mean `level`?"),
+    ("task m { var loop; put(lopo); }", 1, 24, 4, "B3",
+     "`lopo` is neither a variable of this body, an object nor a constant; did you mean `loop`?"),
     ("task m { put(sem); }", 1, 14, 3, "B3",
      "`sem` is neither a variable of this body, an object nor a constant; did you mean `SEM`?"),
     ("task m { put(TA_ACTT); }", 1, 14, 7, "B3",
@@ -201,6 +228,13 @@ SOURCES = [
 TASK = ONE + "CRE_TSK(T, { TA_ACT, 0, m, 1, 64, NULL });"
 SEM_AND_FLAG = TASK + "\nCRE_SEM(S, { 0, 1, 1 });\nCRE_FLG(F, { 0, 0 }); }"
 WITH_HANDLER = TASK + " CRE_SEM(S, { 0, 1, 1 });\nDEF_INH(1, { 0, h }); }"
+
+WITH_WORD = TASK + " CRE_SHR(VALUE, { 0 }); }"
+SHARED = "`VALUE` is the number of a shared word here; `ld_shr` reads its value"
+WITH_LOCKS = TASK + " CRE_SPN(L, { 0 }); CRE_SPN(M, { 0 }); }"
+ON_TWO = "NUM_PRC(2); CLASS(TCL_1) { CRE_TSK(T, { TA_ACT, 0, m, 1, 64, NULL });\nCRE_SEM(S, { 0, 1, 1 });\n" \
+    "CRE_FLG(F, { 0, 0 }); }"
+ENDLESS = "nothing in this loop ends it: it makes no call, has no jump out, and does not change its condition"
 
 # Texts without a fault: the configuration, the bodies, and of each warning the file, the line, the column, the bytes
 # that are marked and the sentence.
@@ -247,6 +281,47 @@ WARNINGS = [
      ("t.src", 4, 14, 1, "`S` is a semaphore; `mrot_rdq` takes a priority"),
      ("t.src", 4, 17, 1, "`S` is a semaphore; `mrot_rdq` takes a processor"),
      ("t.src", 6, 13, 8, "`mrot_rdq` answers E_CTX in a handler")),
+    (WITH_WORD,
+     "task m {\n    var v;\n    if (VALUE > 50) { put(VALUE); }\n    ld_shr(VALUE, &v);\n    ld_shr(VALUE + v, &v);\n"
+     "    st_shr(VALUE, VALUE + 1);\n    dly_tsk(VALUE);\n    dly_tsk(VALUE + 1);\n    v = VALUE;\n}\n",
+     ("t.src", 3, 9, 5, SHARED),
+     ("t.src", 3, 27, 5, SHARED),
+     ("t.src", 6, 19, 5, SHARED),
+     ("t.src", 7, 13, 5, "`VALUE` is a shared word; `dly_tsk` takes a time"),
+     ("t.src", 8, 13, 5, SHARED),
+     ("t.src", 9, 9, 5, SHARED)),
+    (ON_TWO,
+     "task m {\n    var v;\n    dly_tsk(-1);\n    tslp_tsk(-2);\n    twai_sem(S, 0x40000001);\n    chg_pri(T, 17);\n"
+     "    mig_tsk(T, 3);\n    set_flg(F, 65536);\n    wai_flg(F, 0, 2, &v);\n    dly_tsk(TMO_FEVR);\n    sig_sem(S);\n"
+     "    dly_tsk(0x40000000);\n    tslp_tsk(TMO_FEVR);\n    chg_pri(T, 16);\n    mig_tsk(T, 2);\n    clr_flg(F, 0);\n"
+     "    twai_flg(F, 65535, TWF_ORW, &v, TMO_POL);\n}\n",
+     ("t.src", 3, 13, 2, "the argument -1 is out of range; `dly_tsk` takes a time, 0 to 1073741824"),
+     ("t.src", 4, 14, 2, "the argument -2 is out of range; `tslp_tsk` takes a time, -1 to 1073741824"),
+     ("t.src", 5, 17, 10, "the argument 1073741825 is out of range; `twai_sem` takes a time, -1 to 1073741824"),
+     ("t.src", 6, 16, 2, "the argument 17 is out of range; `chg_pri` takes a priority, 0 to 16"),
+     ("t.src", 7, 16, 1, "the argument 3 is out of range; `mig_tsk` takes a processor, 1 to 2"),
+     ("t.src", 8, 16, 5, "the argument 65536 is out of range; `set_flg` takes a bit pattern, 0 to 65535"),
+     ("t.src", 9, 16, 1, "the argument 0 is out of range; `wai_flg` takes a bit pattern, 1 to 65535"),
+     ("t.src", 9, 19, 1, "the argument 2 is out of range; `wai_flg` takes `TWF_ANDW` or `TWF_ORW`, 0 to 1"),
+     ("t.src", 10, 13, 8, "the argument -1 is out of range; `dly_tsk` takes a time, 0 to 1073741824")),
+    (TASK + " }",
+     "task m {\n    var i;\n    var a[2];\n    while (1) { }\n    while (i < 3) { i = i + 1; }\n"
+     "    while (i == 0) { put(i); }\n    while (exinf) {\n        while (i < 9) { exinf = 1; }\n    }\n"
+     "    while (1) { if (i) { break; } }\n    while (1) { if (i) { return; } }\n    while (a[0]) { a[1] = 0; }\n}\n",
+     ("t.src", 4, 5, 5, ENDLESS),
+     ("t.src", 8, 9, 5, ENDLESS)),
+    (WITH_LOCKS,
+     "task m {\n    loc_spn(L);\n    loc_spn(M);\n    unl_spn(L);\n    loc_spn(M);\n"
+     "    if (exinf) { try_spn(L); unl_spn(M); }\n    if (exinf) { loc_spn(L); } else { loc_spn(M); }\n}\n",
+     ("t.src", 3, 5, 7, "`loc_spn` answers E_CTX here: the spin lock that line 2 takes is held"),
+     ("t.src", 6, 18, 7, "`try_spn` answers E_CTX here: the spin lock that line 5 takes is held")),
+    (ONE + "CRE_TSK(T, { TA_STA, TMO_FEVR, m, 1, 64, NULL });\nCRE_MBX(X, { TA_TPRI | TA_ACT, 1, NULL });\n"
+     "CRE_SEM(S, { TA_NULL, TA_TPRI, 1 });\nCRE_SHR(W, { TA_ACT }); }",
+     "task m { var v; rcv_mbx(X, &v); wai_sem(S); sig_sem(S); ld_shr(W, &v); }",
+     ("t.cfg", 1, 41, 6, "`TA_STA` is no attribute of `CRE_TSK`; its attribute must be 0 or `TA_ACT`"),
+     ("t.cfg", 2, 24, 6,
+      "`TA_ACT` is no attribute of `CRE_MBX`; its attribute must be made of `TA_TPRI` and `TA_MPRI`, 0 to 3"),
+     ("t.cfg", 3, 23, 7, "`TA_TPRI` is an attribute, but it stands for the initial count of `CRE_SEM`")),
 ]
 
 # A system of two processors, whose texts have no fault and no warning.
@@ -274,9 +349,13 @@ STEPS = [
 ]
 
 
+# A control byte other than a tab is shown as its picture.
+PICTURES = {byte: 0x2400 + byte for byte in range(32) if byte != 9} | {127: 0x2421}
+
+
 def report(name, text, line, column, width, code, sentence):
     """What is printed of a fault: the head and the sentence, the line, and the marks under it."""
-    shown = text.split("\n")[line - 1].removesuffix("\r")
+    shown = text.split("\n")[line - 1].removesuffix("\r").translate(PICTURES)
     marks = "".join("\t" if letter == "\t" else " " for letter in shown[:column - 1]) + "^" * width
     if len(shown) > 100:
         assert column <= 47 or column == 78  # worked out for these alone

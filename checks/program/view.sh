@@ -128,12 +128,22 @@ shows 'code: 0' 0 code 0
 
 # Of one processor there is one order: two tasks that both end.
 printf 'run 1\nrun 1\nrun 1\nrun 1\nrun 1\nrun 1\n' > wanted
-printf 'quiet: no processor goes on, and the clock changes nothing\nprocessor 1: nothing runs there\n' > said
+cat > said <<'END'
+quiet: no processor goes on, and the clock changes nothing
+processor 1: nothing runs there
+every task has ended
+END
 shows 'drive: queue' 0 drive queue.img
 printf 'run 1\nrun 1\n' > wanted
-printf 'as many events as were asked for are done\n' > said
+cat > said <<'END'
+as many events as were asked for are done
+CONSUMER waits for a word of data queue QUEUE, since event 2
+END
 shows 'drive: two events' 0 drive queue.img --events 2
-printf 'as many events as were asked for are done\n' > said
+cat > said <<'END'
+as many events as were asked for are done
+no task waits or spins
+END
 shows 'drive: no events' 0 drive queue.img --events=0
 
 # A holds the lock and calls no more; B asks for the lock; and nothing runs on the third processor.
@@ -145,22 +155,99 @@ END
 echo 'task a { loc_spn(L); while (1) { } } task b { loc_spn(L); unl_spn(L); }' > stuck.src
 built stuck
 printf 'run 1\nrun 1\nrun 1\n' > wanted
-cat > said <<'END'
-as many events as were asked for are done
-processor 1: what runs there reaches the bound before its next call
+cat > spinning <<'END'
+B spins for spin lock L, since event 0; taken by A at event 1
+A holds spin lock L, and comes to no call within the bound
 END
+(echo 'as many events as were asked for are done'
+    echo 'processor 1: what runs there reaches the bound before its next call'
+    cat spinning) > said
 shows 'drive: stuck, three events' 0 drive stuck.img --events 3
+printf 'run 1\nrun 1\nrun 2\nrun 1\n' > stuck.steps
+cp spinning wanted
+shows 'why: stuck' 0 why stuck.img stuck.steps
+echo 'no task waits or spins' > wanted
+shows 'why: stuck, before the lock is taken' 0 why stuck.img stuck.steps --at 0
 echo 'run 1' > wanted
-cat > said <<'END'
-as many events as were asked for are done
-processor 1: what runs there reaches the bound before its next call
-END
+(echo 'as many events as were asked for are done'
+    echo 'processor 1: what runs there reaches the bound before its next call'
+    cat spinning) > said
 shows 'drive: stuck, one event' 0 drive stuck.img --events 1
 
 # BEAT waits; at bound 1000 five steps of SUM keep its place, and the sixth comes to its call.
 printf 'run 1\nrun 1\nrun 1\nrun 1\nrun 1\nrun 1\nrun 1\nrun 1\n' > wanted
-printf 'as many events as were asked for are done\n' > said
+cat > said <<'END'
+as many events as were asked for are done
+BEAT waits for the end of a delay, until tick 2, since event 1
+END
 shows 'drive: kept places' 0 drive sum.img --events 8 --bound 1000
+
+# Each of two tasks holds the semaphore that the other waits for.
+cat > cross.cfg <<'END'
+NUM_PRC(2);
+CLASS(TCL_1) {
+    CRE_TSK(A, { TA_ACT, 0, a, 10, 256, NULL });
+    CRE_SEM(X, { 0, 1, 1 });
+    CRE_SEM(Y, { 0, 1, 1 });
+}
+CLASS(TCL_2) { CRE_TSK(B, { TA_ACT, 0, b, 10, 256, NULL }); }
+END
+echo 'task a { wai_sem(X); wai_sem(Y); } task b { wai_sem(Y); wai_sem(X); }' > cross.src
+built cross
+printf 'run 1\nrun 2\nrun 1\nrun 2\n' > cross.steps
+cp cross.steps wanted
+cat > deadlock <<'END'
+A waits for semaphore Y, since event 3; last taken by B at event 2
+B waits for semaphore X, since event 4; last taken by A at event 1
+A waits for semaphore Y (taken by B at event 2), B waits for semaphore X (taken by A at event 1): deadlock
+END
+(echo 'quiet: no processor goes on, and the clock changes nothing'
+    echo 'processor 1: nothing runs there'
+    echo 'processor 2: nothing runs there'
+    cat deadlock) > said
+shows 'drive: a deadlock of two semaphores' 0 drive cross.img
+cp deadlock wanted
+shows 'why: a deadlock of two semaphores' 0 why cross.img cross.steps
+echo 'A waits for semaphore Y, since event 3; last taken by B at event 2' > wanted
+shows 'why: before the deadlock' 0 why cross.img cross.steps --at 3
+
+# Where one of them waits with a limit, it is none.
+cp cross.cfg limit.cfg
+echo 'task a { wai_sem(X); twai_sem(Y, 5); } task b { wai_sem(Y); wai_sem(X); }' > limit.src
+built limit
+cat > wanted <<'END'
+A waits for semaphore Y, until tick 6, since event 3; last taken by B at event 2
+B waits for semaphore X, since event 4; last taken by A at event 1
+END
+shows 'why: no deadlock where a wait has a limit' 0 why limit.img cross.steps
+
+# WAKER sets the bit before SLEEPER clears it, and so SLEEPER waits for ever.
+cat > lost.cfg <<'END'
+NUM_PRC(1);
+CLASS(TCL_1) {
+    CRE_TSK(SLEEPER, { TA_ACT, 0, sleeper, 10, 256, NULL });
+    CRE_TSK(WAKER, { TA_ACT, 0, waker, 5, 256, NULL });
+    CRE_FLG(F, { 0, 0 });
+}
+END
+echo 'task sleeper { var x; clr_flg(F, 0); wai_flg(F, 1, TWF_ORW, &x); } task waker { set_flg(F, 1); }' > lost.src
+built lost
+printf 'run 1\nrun 1\nrun 1\nrun 1\n' > wanted
+cat > said <<'END'
+quiet: no processor goes on, and the clock changes nothing
+processor 1: nothing runs there
+SLEEPER waits for any bit of 1 of eventflag F, since event 4; last set by WAKER at event 1
+nothing is left that ends these waits
+END
+shows 'drive: a lost wake-up' 0 drive lost.img
+printf 'run 1\nrun 1\nrun 1\nrun 1\n' > lost.steps
+cat > wanted <<'END'
+SLEEPER waits for any bit of 1 of eventflag F, since event 4; last set by WAKER at event 1
+nothing is left that ends these waits
+END
+shows 'why: a lost wake-up' 0 why lost.img lost.steps
+echo 'every task has ended' > wanted
+shows 'why: a good end' 0 why queue.img queue.steps
 
 # A run that is built in memory: its lines with names, and what waits at the end.
 cat > wanted <<'END'
@@ -174,6 +261,7 @@ cat > wanted <<'END'
 PRODUCER RUNNING p1 10
 CONSUMER WAITING p1 5 for a word of data queue QUEUE
 END
+echo 'CONSUMER waits for a word of data queue QUEUE, since event 2' > said
 printf 'run 1\nrun 1\n' > two.steps
 shows 'run: two events of the queue' 0 run queue.cfg queue.src two.steps
 cat > wanted <<'END'
@@ -198,9 +286,11 @@ cp wanted queue.named
 cat > said <<'END'
 quiet: no processor goes on, and the clock changes nothing
 processor 1: nothing runs there
+every task has ended
 END
 shows 'run: the queue, driven' 0 run queue.cfg queue.src
 cp queue.named wanted
+echo 'every task has ended' > said
 shows 'run: the queue over its steps' 0 run queue.cfg queue.src queue.steps
 cat > wanted <<'END'
 {"event":0,"what":"starts","processor":1,"actor":"PRODUCER"}
@@ -213,6 +303,7 @@ cat > wanted <<'END'
 {"what":"state","task":"PRODUCER","state":"RUNNING","processor":1,"priority":10,"waits":""}
 {"what":"state","task":"CONSUMER","state":"WAITING","processor":1,"priority":5,"waits":"for a word of data queue QUEUE"}
 END
+echo 'CONSUMER waits for a word of data queue QUEUE, since event 2' > said
 shows 'run: as JSON' 0 run queue.cfg queue.src two.steps --json
 printf 'run 1\nrun 2\n' > beyond.steps
 cat > wanted <<'END'
@@ -229,27 +320,226 @@ unknown.src:1:20: B3: `y` is neither a variable of this body, an object nor a co
 END
 shows 'run: a fault of a text' 1 run queue.cfg unknown.src
 
+# Two runs side by side: a tick in the place of the third step.
+cat > wanted <<'END'
+  0 p1 PRODUCER starts
+  0 p1 > PRODUCER
+  1 p1 PRODUCER act_tsk(CONSUMER) E_OK
+  1 p1 CONSUMER starts
+  1 p1 > CONSUMER
+  2 p1 CONSUMER rcv_dtq(QUEUE) wait
+  2 p1 > PRODUCER
+- 3 p1 PRODUCER snd_dtq(QUEUE,42) E_OK
+- 3 p1 CONSUMER gets E_OK 42
+- 3 p1 > CONSUMER
++ 3 tick 1
+- PRODUCER READY p1 10
++ PRODUCER RUNNING p1 10
+- CONSUMER RUNNING p1 5
++ CONSUMER WAITING p1 5 for a word of data queue QUEUE
+END
+printf 'run 1\nrun 1\ntick\nrun 1\n' > ticked.steps
+shows 'diff: a tick' 4 diff queue.img queue.steps ticked.steps
+cat > wanted <<'END'
+  1 p1 PRODUCER act_tsk(CONSUMER) E_OK
+  1 p1 CONSUMER starts
+  1 p1 > CONSUMER
+  2 p1 CONSUMER rcv_dtq(QUEUE) wait
+  2 p1 > PRODUCER
+  3 p1 PRODUCER snd_dtq(QUEUE,42) E_OK
+  3 p1 CONSUMER gets E_OK 42
+  3 p1 > CONSUMER
+  4 p1 CONSUMER put(42) E_OK
+  5 p1 CONSUMER end
+  5 p1 > PRODUCER
+- 6 p1 PRODUCER end
++ the run has ended
+- PRODUCER DORMANT p1 10
++ PRODUCER RUNNING p1 10
+END
+printf 'run 1\nrun 1\nrun 1\nrun 1\nrun 1\n' > five.steps
+shows 'diff: a run that ends before' 4 diff queue.img queue.steps five.steps
+printf 'run 1\nrun 1\nrun 1\nrun 1\nrun 1\nrun 1\n' > six.steps
+shows 'diff: a step that does nothing' 0 diff queue.img queue.steps six.steps
+echo 'steps:2: S2' > said
+shows 'diff: a fault of the steps' 1 diff queue.img queue.steps beyond.steps
+# Every schedule. Of the queue there is one: six steps, and a tick that changes the clock alone in each of seven states.
+cat > wanted <<'END'
+nothing found
+7 states, 13 events, 6 deep
+greatest lengths: QUEUE 0
+END
+shows 'explore: queue' 0 explore queue.cfg queue.src
+
+# A task waits for what nobody gives, unless it may.
+echo 'NUM_PRC(1); CLASS(TCL_1) { CRE_TSK(A, { TA_ACT, 0, a, 10, 256, NULL }); CRE_SEM(S, { 0, 0, 1 }); }' > wait.cfg
+echo 'task a { wai_sem(S); }' > wait.src
+cat > wanted <<'END'
+deadlock of A (wait.src:1): after 1 step, in wait.found.1
+2 states, 3 events, 1 deep
+greatest counts: S 0
+END
+shows 'explore: deadlock' 4 explore wait.cfg wait.src
+echo 'run 1' > wanted
+gives 'explore: steps of the deadlock' cat wait.found.1
+cat > wanted <<'END'
+nothing found
+2 states, 3 events, 1 deep
+greatest counts: S 0
+END
+shows 'explore: at rest' 0 explore wait.cfg wait.src --rest A
+
+# A semaphore of one is signalled twice: what the second call answers is told in its line.
+cat > full.src <<'END'
+task a {
+    sig_sem(S);
+    sig_sem(S);
+}
+END
+cat > wanted <<'END'
+full.src:3: 2 p1 A sig_sem(1) E_QOVR: after 2 steps, in twice.1
+3 states, 4 events, 2 deep
+greatest counts: S 1
+END
+shows 'explore: an answer' 4 explore wait.cfg full.src --never E_QOVR --out twice
+printf 'run 1\nrun 1\n' > wanted
+gives 'explore: steps of the answer' cat twice.1
+cat > wanted <<'END'
+full.src:3: 2 p1 A sig_sem(1) E_QOVR: after 2 steps, in twice.1
+4 states, 7 events, 3 deep
+greatest counts: S 1
+END
+shows 'explore: all' 4 explore wait.cfg full.src --never E_QOVR --out twice --all
+cat > wanted <<'END'
+nothing found
+4 states, 7 events, 3 deep
+greatest counts: S 1
+END
+shows 'explore: no such answer' 0 explore wait.cfg full.src --never E_TMOUT
+
+# A takes the lock and goes on for ever; B spins for it, which is nothing, or takes it first.
+cat > wanted <<'END'
+stuck.src:1: processor 1 goes on for ever without a call: after 1 step, in stuck.found.1
+4 states, 5 events, 2 deep
+calls never made: stuck.src:1
+END
+shows 'explore: no call' 4 explore stuck.cfg stuck.src
+echo 'run 1' > wanted
+gives 'explore: steps to no call' cat stuck.found.1
+
+# A task counts: the search stops, and names the counter.
+echo 'task a { var times; while (1) { times = times + 1; put(7); } }' > count.src
+cat > wanted <<'END'
+stopped: as many states as are allowed
+3 states, 6 events, 2 deep
+greatest counts: S 0
+2 values: A place in its body
+3 values: A times
+END
+shows 'explore: a counter' 5 explore wait.cfg count.src --states 3
+
+# With two pushes, a sum, its store, a load and the call a stretch takes six instructions, and its end one more.
+echo 'task a { var i; i = 1 + 2; put(i); }' > sum2.src
+cat > wanted <<'END'
+nothing found
+5 states, 9 events, 4 deep
+greatest counts: S 0
+END
+shows 'explore: bound 2' 0 explore wait.cfg sum2.src --bound 2
+
+refused 'explore: no such word' 'an answer as E_QOVR' explore queue.cfg queue.src --never E_FOO
+refused 'explore: no such task' 'no task' explore queue.cfg queue.src --rest NOBODY
+
+# Expectations of the run of the queue: CONSUMER puts 42 in event 4, and PRODUCER ends in event 6, the last one.
+cat > queue.expect <<'END'
+# the queue
+
+never E_TMOUT                # nobody waits too long
+never put(42) by PRODUCER
+put(42) by CONSUMER before F_IDX
+	PRODUCER runs within 0 ticks of int 4
+end DORMANT CONSUMER
+END
+shows 'expect: all hold' 0 expect queue.img queue.steps queue.expect
+printf '\nnever put(42)\nnever E_OK' > never.expect
+printf 'never.expect:2: event 4: never put(42)\n4 p1 CONSUMER put(42) E_OK\n' > wanted
+shows 'expect: never' 4 expect queue.img queue.steps never.expect
+printf 'end READY PRODUCER\nnever put(42)\n' > end.expect
+printf 'end.expect:1: event 6: end READY PRODUCER\n6 p1 PRODUCER end\n' > wanted
+shows 'expect: the end' 4 expect queue.img queue.steps end.expect
+echo 'put(42) before E_OK by PRODUCER' > before.expect
+cat > wanted <<'END'
+before.expect:1: event 1: put(42) before E_OK by PRODUCER
+1 p1 PRODUCER act_tsk(CONSUMER) E_OK
+1 p1 CONSUMER starts
+1 p1 > CONSUMER
+END
+shows 'expect: before' 4 expect queue.img queue.steps before.expect
+
+# The end of CONSUMER's wait answers in event 3, before its call in event 4, whose line tells both sides of the second text.
+echo 'put(42) by CONSUMER before E_OK by CONSUMER' > own.expect
+cat > wanted <<'END'
+own.expect:1: event 3: put(42) by CONSUMER before E_OK by CONSUMER
+3 p1 PRODUCER snd_dtq(QUEUE,42) E_OK
+3 p1 CONSUMER gets E_OK 42
+3 p1 > CONSUMER
+END
+shows 'expect: the end of a wait' 4 expect queue.img queue.steps own.expect
+printf 'put(42) before put(42)\r\nnever put(-2147483648)' > same.expect
+shows 'expect: one line tells both' 0 expect queue.img queue.steps same.expect
+
+# DRIVER sleeps, interrupt 3 comes in event 2, the clock ticks in events 3 and 4, and the handler wakes DRIVER in event 5.
+printf 'run 2\nint 3\ntick\ntick\nrun 1\n' > late.steps
+built interrupt
+echo 'DRIVER runs within 2 ticks of int 3' > soon.expect
+shows 'expect: soon enough' 0 expect interrupt.img late.steps soon.expect
+echo 'DRIVER runs within 1 ticks of int 3' > late.expect
+printf 'late.expect:1: event 4: DRIVER runs within 1 ticks of int 3\n4 tick 2\n' > wanted
+shows 'expect: too late' 4 expect interrupt.img late.steps late.expect
+
+printf 'never put(42)\nnever E_FOO # no code\n' > word.expect
+echo 'expect:2: no deed: a code as E_QOVR, a value as put(7), or a fault as F_IDX' > said
+shows 'expect: no such word' 1 expect queue.img queue.steps word.expect
+for number in 2147483648 07 -2147483649 4-2; do
+    echo "never put($number)" > value.expect
+    echo 'expect:1: no deed: a code as E_QOVR, a value as put(7), or a fault as F_IDX' > said
+    shows "expect: no such value, $number" 1 expect queue.img queue.steps value.expect
+done
+echo 'CONSUMER runs within 3 ticks of int 33' > number.expect
+echo 'expect:1: no number of ticks up to 2147483647, or no interrupt from 1 to 32' > said
+shows 'expect: no such interrupt' 1 expect queue.img queue.steps number.expect
+echo 'end ASLEEP CONSUMER' > state.expect
+echo 'expect:1: no state: RUNNING, READY, WAITING, SUSPENDED, WAITING-SUSPENDED or DORMANT, and then a task' > said
+shows 'expect: no such state' 1 expect queue.img queue.steps state.expect
+echo 'never put(8) put(9)' > sentence.expect
+echo "expect:1: not a sentence: 'never DEED', 'DEED before DEED', 'TASK runs within N ticks of int I' or 'end STATE TASK'" > said
+shows 'expect: no sentence' 1 expect queue.img queue.steps sentence.expect
+echo 'never put(42) by NOBODY' > name.expect
+echo 'expect:1: no task or cyclic handler of the image has this name' > said
+shows 'expect: no such name' 1 expect queue.img queue.steps name.expect
+
 # The trace of the queue: PRODUCER calls twice, is preempted at both calls and ends; CONSUMER waits once, and ends.
 cat > wanted <<'END'
-task      starts   calls   waits  time-outs  preemptions    kept  events   share
-PRODUCER       1       2       0          0            2       0       3   50.0%
-CONSUMER       1       2       1          0            0       0       3   50.0%
+task      starts   calls   waits  time-outs  preemptions    kept   spins  events   share
+PRODUCER       1       2       0          0            2       0       0       3   50.0%
+CONSUMER       1       2       1          0            0       0       0       3   50.0%
 END
 shows 'stats: queue' 0 stats queue.img queue.steps
 printf 'run 1\nrun 1\n' > two.steps
 cat > wanted <<'END'
-task      starts   calls   waits  time-outs  preemptions    kept  events   share
-PRODUCER       1       1       0          0            1       0       1   50.0%
-CONSUMER       1       1       1          0            0       0       1   50.0%
+task      starts   calls   waits  time-outs  preemptions    kept   spins  events   share
+PRODUCER       1       1       0          0            1       0       0       1   50.0%
+CONSUMER       1       1       1          0            0       0       0       1   50.0%
 END
 shows 'stats: two events' 0 stats queue.img two.steps
 
-# A calls once and then never again, so that each later turn keeps its place; B spins, which is no event.
+# A calls once and then never again, so that each later turn keeps its place; B spins after each of these events, and its
+# own turn is none.
 printf 'run 1\nrun 1\nrun 2\nrun 1\n' > stuck.steps
 cat > wanted <<'END'
-task  starts   calls   waits  time-outs  preemptions    kept  events   share
-A          1       1       0          0            0       2       3  100.0%
-B          1       0       0          0            0       0       0    0.0%
+task  starts   calls   waits  time-outs  preemptions    kept   spins  events   share
+A          1       1       0          0            0       2       0       3  100.0%
+B          1       0       0          0            0       0       3       0    0.0%
 END
 shows 'stats: kept places' 0 stats stuck.img stuck.steps
 
@@ -263,35 +553,35 @@ echo 'task a { while (1) { } } task b { put(1); put(2); }' > apart.src
 printf 'run 2\nrun 2\nrun 2\nrun 2\nrun 2\n' > apart.steps
 built apart
 cat > wanted <<'END'
-task  starts   calls   waits  time-outs  preemptions    kept  events   share
-A          1       0       0          0            0       0       0    0.0%
-B          1       2       0          0            0       2       5  100.0%
+task  starts   calls   waits  time-outs  preemptions    kept   spins  events   share
+A          1       0       0          0            0       0       0       0    0.0%
+B          1       2       0          0            0       2       0       5  100.0%
 END
 shows 'stats: places kept at bound 1' 0 stats apart.img apart.steps --bound 1
 
 # Of the 16 events of the sum 4 are ticks, and 5 keep the place of SUM, which is preempted twice.
 cat > wanted <<'END'
-task  starts   calls   waits  time-outs  preemptions    kept  events   share
-BEAT       1       5       3          0            0       0       5   31.2%
-SUM        1       1       0          0            2       5       7   43.7%
+task  starts   calls   waits  time-outs  preemptions    kept   spins  events   share
+BEAT       1       5       3          0            0       0       0       5   31.2%
+SUM        1       1       0          0            2       5       0       7   43.7%
 END
 shows 'stats: sum' 0 stats sum.img sum.steps --bound 1000
 
 # Of the 18 events of the watchdog 5 are ticks; a wait that ends by its limit is a time-out, and WORKER is preempted at
 # each call that wakes WATCHDOG.
 cat > wanted <<'END'
-task      starts   calls   waits  time-outs  preemptions    kept  events   share
-WATCHDOG       1       7       4          1            0       0       7   38.8%
-WORKER         2       6       3          0            3       0       6   33.3%
+task      starts   calls   waits  time-outs  preemptions    kept   spins  events   share
+WATCHDOG       1       7       4          1            0       0       0       7   38.8%
+WORKER         2       6       3          0            3       0       0       6   33.3%
 END
 shows 'stats: watchdog' 0 stats watchdog.img watchdog.steps
 
 # Of the 15 events of the interrupts 2 are interrupts and 4 are the handler's, which wakes DRIVER and so preempts OTHER.
 cat > wanted <<'END'
-task    starts   calls   waits  time-outs  preemptions    kept  events   share
-MAIN         1       3       0          0            0       0       4   26.6%
-DRIVER       1       4       2          0            0       0       4   26.6%
-OTHER        1       1       0          0            2       0       1    6.6%
+task    starts   calls   waits  time-outs  preemptions    kept   spins  events   share
+MAIN         1       3       0          0            0       0       0       4   26.6%
+DRIVER       1       4       2          0            0       0       0       4   26.6%
+OTHER        1       1       0          0            2       0       0       1    6.6%
 END
 shows 'stats: interrupt' 0 stats interrupt.img interrupt.steps
 
@@ -393,6 +683,13 @@ gives 'timeline: lanes of two events' "$pictures" lanes queue.svg
 shows 'timeline: up to the end and beyond' 0 timeline queue.img queue.steps late.svg --from 6 --to 1048576
 holds 'timeline: the last event' 'it does not say so' grep -q 'events 6–6 of 0–6' late.svg
 
+# A run of more events than a picture has: it says so.
+awk 'BEGIN { for (i = 0; i < 10001; i++) print "tick" }' > ticks.steps
+echo 'events 0 to 9999 of 0 to 10001 are drawn; --from 10000 draws those behind them' > said
+shows 'timeline: a run that is cut' 0 timeline queue.img ticks.steps ticks.svg
+shows 'timeline: the part that is asked for' 0 timeline queue.img ticks.steps ticks.svg --to 9999
+rm ticks.*
+
 # Marks, lane by lane: what shape each has, and the first line of its event.
 drawn() { # drawn SYSTEM WORD..: the picture 'SYSTEM.svg' of an example; there is none where the program fails
     system=$1
@@ -426,8 +723,8 @@ echo 'task t { var a[3]; put(a[2]); a[3] = 1; }' > index.src
 printf 'run 1\nrun 1\n' > index.steps
 built index
 cat > wanted <<'END'
-task  starts   calls   waits  time-outs  preemptions    kept  events   share
-T          1       1       0          0            0       0       2  100.0%
+task  starts   calls   waits  time-outs  preemptions    kept   spins  events   share
+T          1       1       0          0            0       0       0       2  100.0%
 END
 shows 'stats: an index out of range' 0 stats index.img index.steps
 shows 'waves: an index out of range' 0 waves index.img index.steps index.vcd
@@ -457,6 +754,10 @@ gives 'timeline: marks of sum' "$pictures" marks sum.svg
 shows 'waves: kept places' 0 waves stuck.img stuck.steps stuck.vcd
 printf '#0\n#1\n#2\n#3\n#4\n' > wanted
 gives 'waves: times of kept places' grep '^#' stuck.vcd
+
+# What runs on the second processor spins for lock 1 after each of these events, which is the 13th variable.
+printf '#0\nb00000000 -\n#1\nb00000001 -\n#2\n#3\n#4\n' > wanted
+gives 'waves: what is spun for' grep -e '^#' -e '^b[01]* -$' stuck.vcd
 
 holds 'timeline: the tag of an index out of range' 'it has none' grep -q '>F_IDX</text>' index.svg
 
@@ -490,12 +791,14 @@ END
 marks interrupt
 same 'timeline: the picture of the README' "$root/docs/timeline.svg" interrupt.svg
 
-# Who holds a lock, and who spins for it: up to the call that gets it.
+# Who holds a lock, and who spins for it: from when its next call asks for the lock that is held, whether or not a step
+# tries it, up to the call that gets it. FILL would ask for it at event 12.
 drawn pipeline
 cat > wanted <<'END'
 p1: spin lock LOCK held, events 2 to 5
 p1: spin lock LOCK held, events 7 to 10
 p1: spin lock LOCK held, events 17 to 20
+p1: spins for LOCK, events 12 to 17
 p2: spin lock LOCK held, events 11 to 15
 p2: spin lock LOCK held, events 24 to 27
 p2: spin lock LOCK held, events 30 to 33

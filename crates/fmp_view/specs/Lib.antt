@@ -1,5 +1,6 @@
 pub mod Drives
 pub mod Exits
+pub mod Expects
 pub mod Faults
-pub mod Shown
+pub mod Fresh
 pub mod Traces

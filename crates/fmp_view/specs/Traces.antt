@@ -11,7 +11,7 @@ use Rattle.fmp_kernel.specs.KernelViews.{KernelView}
 use Rattle.fmp_named.specs.Lines.{named_lines}
 use Rattle.fmp_named.specs.Records.{line_records, state_records}
 use Rattle.fmp_named.specs.States.{named_states}
-use Rattle.fmp_view.specs.Shown.{WasShown}
+use Rattle.fmp_frames.specs.Shown.{WasShown}
 use Rattle.fmp_view.specs.declared.faults.Form.{Form}
 use Rattle.fmp_view.specs.declared.faults.Form.TheVariants as form
 use Rattle.fmp_view.specs.declared.tracing.Tracer.{Tracer}

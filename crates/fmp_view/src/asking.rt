@@ -3,8 +3,13 @@ ghost use Rattle.std.specs.Prelude.{◌≤◌, ◌^◌, IfOk};
 
 use crate::built::Running;
 use crate::faults::{FileNames, Form};
-use crate::form::{BOUND_MAX, EVENTS_MAX, program, timeline_command, waves_command};
+use crate::form::{
+    BOUND_MAX, EVENTS_MAX, explore_command, program, timeline_command, waves_command,
+};
 use clap::{ArgMatches, Error};
+use fmp_base::Fault;
+use fmp_explore::{Never, Question, Ticks};
+use fmp_explore_names::never_named;
 use fmp_files::{mistake, mistake_of};
 use fmp_timeline::Choice;
 use std::alloc::{AllocError, Global};
@@ -14,6 +19,13 @@ const NO_CODE: &str = "no code is printed so";
 
 /// The message for a file that would replace one that is read.
 const OUT_OVER_INPUT: &str = "the file OUT is one of the two that are read";
+
+/// The message for a word that says nothing of what must never happen.
+const NO_NEVER: &str =
+    "--never wants an answer as E_QOVR, a printed value as 'put(99)', or a fault as F_IDX";
+
+/// The message for the name of a task that is not there.
+const NO_TASK: &str = "--rest names no task of the configuration";
 
 /// The message for a picture that ends before it begins.
 const FROM_AFTER_TO: &str = "--from is later than --to";
@@ -35,9 +47,24 @@ pub struct Drawing {
     pub objects: bool,
 }
 
+/// What is explored.
+#[derive(Drop)]
+pub struct Exploring<'a> {
+    pub cfg: &'a str,
+    pub src: &'a str,
+    /// What must never happen, the tasks that may wait forever by their names, and all else that is asked.
+    pub question: Question,
+    pub rest: Vec<&'a str>,
+    pub bound: u64,
+    /// The name of the files of steps, without the dot and the number.
+    pub out: Option<&'a str>,
+}
+
 /// What the program is asked to do.
-#[derive(Clone, Copy)]
+#[derive(Drop)]
 pub enum Cmd<'a> {
+    /// Explore the schedules of two texts.
+    Explore(Exploring<'a>),
     /// Say what the code of this word means.
     Code(&'a str),
     /// Show the fault of the texts of these files, and of steps if there are steps, or their warnings.
@@ -49,6 +76,17 @@ pub enum Cmd<'a> {
         image: &'a str,
         events: u32,
         seed: Option<u64>,
+        bound: u64,
+    },
+    /// Say what each task waits or spins for after an event of a run, by its number, or after the last one.
+    Why(Run<'a>, Option<u32>),
+    /// Say whether a run meets the expectations of the text of this file.
+    Expect(Run<'a>, &'a str),
+    /// Show the first event in which two runs of an image differ.
+    Diff {
+        image: &'a str,
+        a: &'a str,
+        b: &'a str,
         bound: u64,
     },
     /// Print the table of a run.
@@ -114,7 +152,57 @@ fn running_of(words: &ArgMatches<'_>) -> Running {
     }
 }
 
-/// What a subcommand of this name asks for with its words.
+/// When the clock may advance.
+fn ticks_of(words: &ArgMatches<'_>) -> Ticks {
+    match words.get_str("ticks") {
+        Some("idle") => Ticks::Idle,
+        _ => Ticks::Any,
+    }
+}
+
+/// Adds what each of these words says must never happen.
+fn add_nevers(nevers: &mut Vec<Never>, alloc: Global, words: &[&str]) -> Result<(), Error> {
+    for word in words {
+        match never_named(word) {
+            Some(never) => nevers.push(never)?,
+            None => return Err(no_never(alloc)?),
+        }
+    }
+    Ok(())
+}
+
+/// What is asked of all schedules.
+fn question_of(alloc: Global, words: &ArgMatches<'_>) -> Result<Question, Error> {
+    let mut question = Question::new(alloc);
+    question.nevers.push(Never::Fault(Fault::Overflow))?;
+    question.nevers.push(Never::Fault(Fault::Division))?;
+    if let Some(nevers) = words.get_strs("never") {
+        add_nevers(&mut question.nevers, alloc, nevers)?;
+    }
+    question.ticks = ticks_of(words);
+    question.interrupts = words.get_one::<u8>("ints");
+    question.all = words.get_flag("all");
+    question.states = words.get_one::<u32>("states").unwrap_or(1);
+    Ok(question)
+}
+
+/// What is explored.
+fn exploring_of<'a>(alloc: Global, words: &ArgMatches<'a>) -> Result<Exploring<'a>, Error> {
+    let mut rest = Vec::new(alloc);
+    if let Some(names) = words.get_strs("rest") {
+        rest.extend_from_slice(names)?;
+    }
+    Ok(Exploring {
+        cfg: word_of(words, "CFG"),
+        src: word_of(words, "SRC"),
+        question: question_of(alloc, words)?,
+        rest,
+        bound: bound_of(words),
+        out: words.get_str("out"),
+    })
+}
+
+/// What a subcommand of this name other than `explore` asks for with its words.
 fn asked<'a>(name: &str, words: &ArgMatches<'a>) -> Cmd<'a> {
     match name {
         "code" => Cmd::Code(word_of(words, "CODE")),
@@ -124,6 +212,14 @@ fn asked<'a>(name: &str, words: &ArgMatches<'a>) -> Cmd<'a> {
             image: word_of(words, "IMAGE"),
             events: words.get_one::<u32>("events").unwrap_or(0),
             seed: words.get_one::<u64>("seed"),
+            bound: bound_of(words),
+        },
+        "why" => Cmd::Why(run_of(words), words.get_one::<u32>("at")),
+        "expect" => Cmd::Expect(run_of(words), word_of(words, "EXPECT")),
+        "diff" => Cmd::Diff {
+            image: word_of(words, "IMAGE"),
+            a: word_of(words, "A"),
+            b: word_of(words, "B"),
             bound: bound_of(words),
         },
         "stats" => Cmd::Stats(run_of(words)),
@@ -140,6 +236,16 @@ pub fn no_code(alloc: Global) -> Result<Error, AllocError> {
 /// The error for a dump that would replace a file that is read, which has the status 2.
 pub fn dump_over_input(alloc: Global) -> Result<Error, AllocError> {
     mistake_of(waves_command(alloc), "fmp_view waves", OUT_OVER_INPUT)
+}
+
+/// The error for a word that says nothing of what must never happen, which has the status 2.
+fn no_never(alloc: Global) -> Result<Error, AllocError> {
+    mistake_of(explore_command(alloc), "fmp_view explore", NO_NEVER)
+}
+
+/// The error for the name of a task that is not there, which has the status 2.
+pub fn no_such_task(alloc: Global) -> Result<Error, AllocError> {
+    mistake_of(explore_command(alloc), "fmp_view explore", NO_TASK)
 }
 
 /// The error for words of `timeline` that have the right form.
@@ -160,6 +266,7 @@ pub fn picture_of_nothing(alloc: Global) -> Result<Error, AllocError> {
 /// What the words of a command line ask for that have the right form.
 fn asked_by<'a>(alloc: Global, words: &ArgMatches<'a>) -> Result<Cmd<'a>, Error> {
     match words.subcommand() {
+        Some(("explore", words)) => Ok(Cmd::Explore(exploring_of(alloc, words)?)),
         Some((name, words)) => Ok(asked(name, words)),
         None => Err(no_code(alloc)?),
     }

@@ -11,6 +11,7 @@ use crate::driving::driven;
 use crate::faults::Form;
 use crate::opening::events_of;
 use crate::tracing::trace_on;
+use crate::why::why_of;
 use fmp_base::Event;
 use fmp_code::Vm;
 use fmp_engine::SimFault;
@@ -42,11 +43,15 @@ pub enum NoTrace {
     Memory,
 }
 
-/// What is printed of a run, and how its drive ended if it was driven.
+/// What is printed and said of a run.
 #[derive(Drop)]
 pub struct Traced {
+    /// The trace, and the states at its end.
     pub text: Vec<u8>,
+    /// How its drive ended, if it was driven.
     pub ending: Option<Ending>,
+    /// What each task waits or spins for at the end.
+    pub why: Vec<u8>,
 }
 
 /// Steps, and how their drive ended if they were driven.
@@ -82,7 +87,7 @@ fn trace_from<'a>(
     ensures { IfOk result (λ out. IsTrace form image.now.system code_meaning (kernel_after image.now n [])
         events.now out.items) }
 {
-    trace_on(alloc, form, image.system(), kernel, events)
+    trace_on(alloc, form, image.system(), kernel, &image.vm(), n, events)
 }
 
 /// The trace of a run of an image over events. `AllocError` if memory runs out.
@@ -176,9 +181,11 @@ fn traced_over(
         &stepped.events,
         kept_bound(run.bound),
     )?;
+    let why = why_of(alloc, image, &stepped.events, run.bound)?;
     Ok(Traced {
         text,
         ending: stepped.ending,
+        why,
     })
 }
 

@@ -1,12 +1,13 @@
 //! What each command reads of bytes and makes of them.
 ghost use Rattle.std.specs.Prelude.{◌≡◌, ◌+◌, ◌≤◌, ◌^◌, IfOk, length};
 ghost use Rattle.fmp_frames.specs.Counting.{counts_of, first_counts};
-ghost use Rattle.fmp_view.specs.Shown.{WasShown};
+ghost use Rattle.fmp_frames.specs.Shown.{WasShown};
 ghost use Rattle.fmp_frames.specs.Values.{values_of};
 
 use crate::asking::{kept_bound, kept_events};
 use crate::driving::driven;
 use crate::opening::{events_of, fresh_kernel, image_of};
+use crate::why::why_of;
 use fmp_base::{Event, System};
 use fmp_diagnosis::{explain, topic_asked};
 use fmp_drive::{NextRun, Stop};
@@ -42,7 +43,17 @@ pub struct Ending {
     pub processors: u8,
 }
 
-/// The text of steps that run an image, why they stop, and what each processor would do next.
+/// What a drive prints and says.
+#[derive(Drop)]
+pub struct DrivenText {
+    /// The text of the steps.
+    pub steps: Vec<u8>,
+    pub ending: Ending,
+    /// What each task waits or spins for at the end.
+    pub why: Vec<u8>,
+}
+
+/// The text of steps that run an image, why they stop, what each processor would do next, and what tasks wait for then.
 #[tactic(none)]
 fn driven_text(
     alloc: Global,
@@ -50,18 +61,18 @@ fn driven_text(
     events: u32,
     seed: Option<u64>,
     bound: u64,
-) -> Result<(Vec<u8>, Ending), AllocError> {
+) -> Result<DrivenText, AllocError> {
     let drive = driven(alloc, image, kept_events(events), seed, kept_bound(bound))?;
-    let mut out = Vec::new(alloc);
-    print_steps(&drive.driven.steps, &mut out)?;
-    Ok((
-        out,
-        Ending {
-            stop: drive.driven.stop,
-            next: drive.next,
-            processors: image.system().processors,
-        },
-    ))
+    let mut steps = Vec::new(alloc);
+    print_steps(&drive.driven.steps, &mut steps)?;
+    let why = why_of(alloc, image, &drive.driven.steps, bound)?;
+    let next = drive.next;
+    let ending = Ending {
+        stop: drive.driven.stop,
+        next,
+        processors: image.system().processors,
+    };
+    Ok(DrivenText { steps, ending, why })
 }
 
 /// Steps that run the image of these bytes, why they stop, and what each processor would do next.
@@ -72,7 +83,7 @@ pub fn steps(
     events: u32,
     seed: Option<u64>,
     bound: u64,
-) -> Result<(Vec<u8>, Ending), SimFault> {
+) -> Result<DrivenText, SimFault> {
     let image = image_of(alloc, image)?;
     made(driven_text(alloc, &image, events, seed, bound))
 }
@@ -82,15 +93,19 @@ pub fn steps(
 fn tallied<B: Body>(
     alloc: Global,
     kernel: &mut Kernel<B>,
+    body: &B,
+    n: u64,
     events: &[Event],
 ) -> Result<Tallies, AllocError>
-    requires { kernel.old.taken + length events.now ≤ 2 ^ 20 }
+    requires few { kernel.old.taken + length events.now ≤ 2 ^ 20 }
+    requires body { body.now ≡ kernel.old.body }
+    requires bound { n ≡ kernel.old.bound }
     ensures { IfOk result (λ tallies. WasShown (λ x f. counts_of x ≡ first_counts f)
         ⟦<Tallies as Viewer>⟧.shown B.meaning kernel.old events.now tallies) }
 {
-    let setup = last_frame(alloc, kernel)?;
+    let setup = last_frame(alloc, kernel, body, n)?;
     let mut tallies = Tallies::new(alloc, &setup)?;
-    show_all(alloc, kernel, events, &mut tallies)?;
+    show_all(alloc, kernel, body, n, events, &mut tallies)?;
     Ok(tallies)
 }
 
@@ -100,11 +115,15 @@ fn table_on<B: Body>(
     alloc: Global,
     sys: &System,
     kernel: &mut Kernel<B>,
+    body: &B,
+    n: u64,
     events: &[Event],
 ) -> Result<Vec<u8>, AllocError>
-    requires { kernel.old.taken + length events.now ≤ 2 ^ 20 }
+    requires few { kernel.old.taken + length events.now ≤ 2 ^ 20 }
+    requires body { body.now ≡ kernel.old.body }
+    requires bound { n ≡ kernel.old.bound }
 {
-    let tallies = tallied(alloc, kernel, events)?;
+    let tallies = tallied(alloc, kernel, body, n, events)?;
     let mut out = Vec::new(alloc);
     tallies.append_table(alloc, sys, &mut out)?;
     Ok(out)
@@ -116,15 +135,19 @@ fn waved<B: Body>(
     alloc: Global,
     sys: &System,
     kernel: &mut Kernel<B>,
+    body: &B,
+    n: u64,
     events: &[Event],
 ) -> Result<Waves, AllocError>
-    requires { kernel.old.taken + length events.now ≤ 2 ^ 20 }
+    requires few { kernel.old.taken + length events.now ≤ 2 ^ 20 }
+    requires body { body.now ≡ kernel.old.body }
+    requires bound { n ≡ kernel.old.bound }
     ensures { IfOk result (λ waves. WasShown (λ x f. x.values.items ≡ values_of f x.variables.items)
         ⟦<Waves as Viewer>⟧.shown B.meaning kernel.old events.now waves) }
 {
-    let setup = last_frame(alloc, kernel)?;
+    let setup = last_frame(alloc, kernel, body, n)?;
     let mut waves = Waves::new(alloc, sys, &setup)?;
-    show_all(alloc, kernel, events, &mut waves)?;
+    show_all(alloc, kernel, body, n, events, &mut waves)?;
     Ok(waves)
 }
 
@@ -134,11 +157,15 @@ fn dump_on<B: Body>(
     alloc: Global,
     sys: &System,
     kernel: &mut Kernel<B>,
+    body: &B,
+    n: u64,
     events: &[Event],
 ) -> Result<Vec<u8>, AllocError>
-    requires { kernel.old.taken + length events.now ≤ 2 ^ 20 }
+    requires few { kernel.old.taken + length events.now ≤ 2 ^ 20 }
+    requires body { body.now ≡ kernel.old.body }
+    requires bound { n ≡ kernel.old.bound }
 {
-    waved(alloc, sys, kernel, events)?.finish()
+    waved(alloc, sys, kernel, body, n, events)?.finish()
 }
 
 /// What is made of a run.
@@ -156,14 +183,18 @@ fn output_on<B: Body>(
     alloc: Global,
     sys: &System,
     kernel: &mut Kernel<B>,
+    body: &B,
+    n: u64,
     events: &[Event],
     output: Output,
 ) -> Result<Vec<u8>, AllocError>
-    requires { kernel.old.taken + length events.now ≤ 2 ^ 20 }
+    requires few { kernel.old.taken + length events.now ≤ 2 ^ 20 }
+    requires body { body.now ≡ kernel.old.body }
+    requires bound { n ≡ kernel.old.bound }
 {
     match output {
-        Output::Table => table_on(alloc, sys, kernel, events),
-        Output::Dump => dump_on(alloc, sys, kernel, events),
+        Output::Table => table_on(alloc, sys, kernel, body, n, events),
+        Output::Dump => dump_on(alloc, sys, kernel, body, n, events),
     }
 }
 
@@ -178,8 +209,17 @@ fn output_of(
 ) -> Result<Vec<u8>, AllocError>
     requires { length events.now ≤ 2 ^ 20 }
 {
-    let mut kernel = fresh_kernel(alloc, image, kept_bound(bound))?;
-    output_on(alloc, image.system(), &mut kernel, events, output)
+    let n = kept_bound(bound);
+    let mut kernel = fresh_kernel(alloc, image, n)?;
+    output_on(
+        alloc,
+        image.system(),
+        &mut kernel,
+        &image.vm(),
+        n,
+        events,
+        output,
+    )
 }
 
 /// What is made of a run of an image over a steps text.

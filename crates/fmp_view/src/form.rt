@@ -13,18 +13,25 @@ const EXAMPLE_AND_STATUS: &str = "Example, with the image of the example of 'fmp
   fmp_view code E_PAR
   fmp_view fault examples/queue.cfg examples/queue.src
   fmp_view run examples/queue.cfg examples/queue.src
+  fmp_view explore examples/queue.cfg examples/queue.src
   fmp_view drive queue.img --events 20 > drive.steps
+  fmp_view why queue.img drive.steps --at 2
+  fmp_view expect queue.img drive.steps queue.expect
   fmp_view stats queue.img drive.steps
   fmp_view waves queue.img drive.steps queue.vcd
   fmp_view timeline queue.img drive.steps queue.svg
 
 Status, and the line on standard error with it:
   0        done; help or the version was asked for
-  1        a fault of what was read: 'image: L2', 'steps:4: S1'; with 'fault' and 'run', which
+  1        a fault of what was read: 'image: L2', 'steps:4: S1',
+           'expect:3: no deed ..'; with 'fault' and 'run', which
            print it on standard output, a fault of the texts or steps, and not for warnings
   2        a mistake in the command line; a word that is no code; OUT is a file that is read;
            a picture that begins behind the last event, or has more than 40,000,000 bytes
-  3        'file: NAME', a file could not be read or written ('-' is standard output); 'memory'";
+  3        'file: NAME', a file could not be read or written ('-' is standard output); 'memory'
+  4        with 'diff', the runs differ; with 'expect', the run fails an expectation; with 'explore', something
+           was found
+  5        'explore' stopped before it had seen all states";
 
 /// What a steps text is.
 const STEPS: &str = "Text of the events, one a line, as 'fmp sim' reads it";
@@ -46,6 +53,31 @@ const FROM: &str = "First event that is drawn, 0 to 2^20; setup is 0";
 /// What the last event of a picture is.
 const TO: &str = "Last event that is drawn, 0 to 2^20; without it the last of the run.
 At most 10,000 events are drawn";
+
+/// What must never happen.
+const NEVER: &str =
+    "What must never happen: an answer, as E_QOVR, a printed value, as 'put(99)', or a
+fault, as F_IDX; it may be given again. F_OVF and F_DIV must never happen anyway";
+
+/// Which task may wait forever.
+const REST: &str = "Name of a task that may wait forever, as servers do; it may be given again";
+
+/// When the clock may advance.
+const TICKS: &str =
+    "When the clock may advance: at any time, or only where all processors are idle";
+
+/// The words for when the clock may advance.
+const TICKS_WHEN: &[&str] = &["any", "idle"];
+
+/// How many interrupts there may be.
+const INTS: &str = "How many interrupts there may be, 0 to 255; without it any number";
+
+/// How many states are kept.
+const STATES: &str = "How many states are kept at most, 1 to 2^31";
+
+/// Where the steps of findings go.
+const OUT: &str = "The steps of the findings are written to NAME.1 and on; without it NAME is that
+of CFG, with '.found' in place of '.cfg'";
 
 /// The largest bound, 2^48.
 pub const BOUND_MAX: u64 = 281_474_976_710_656;
@@ -144,6 +176,48 @@ pub fn waves_command<'a>(alloc: Global) -> Made<'a> {
     )
 }
 
+/// What the event of `why` is.
+const AT: &str = "Event after which tasks are looked at, 0 to 2^20; without it the last of the run";
+
+fn why_command<'a>(alloc: Global) -> Made<'a> {
+    let about = "Says what each task waits or spins for, who took it, and whether it is a deadlock";
+    let most = u64::from(EVENTS_MAX);
+    let example = "Example: fmp_view why queue.img drive.steps --at 2";
+    with_argument(
+        of_run(alloc, "why", about, example),
+        number(alloc, "at", "K", 0, most, AT),
+    )
+}
+
+/// What a text of expectations is.
+const EXPECT: &str = "Text of expectations, one a line, with comments from # on:
+  never E_QOVR
+  put(7) by LOGGER before put(9) by FILTER
+  LOGGER runs within 3 ticks of int 4
+  end DORMANT MAIN";
+
+fn expect_command<'a>(alloc: Global) -> Made<'a> {
+    let about = "Says which line of a text of expectations a run fails first, and in which event";
+    let example = "Example: fmp_view expect queue.img drive.steps queue.expect";
+    with_argument(
+        of_run(alloc, "expect", about, example),
+        word(alloc, "EXPECT", EXPECT),
+    )
+}
+
+fn diff_command<'a>(alloc: Global) -> Made<'a> {
+    let about = "Shows the first event in which two runs of an image differ, and the states then";
+    let example = "Example: fmp_view diff queue.img drive.steps other.steps";
+    let command = named(alloc, "diff", about, example);
+    let command = with_argument(Ok(command), image(alloc));
+    let command = with_argument(command, word(alloc, "A", STEPS));
+    let command = with_argument(
+        command,
+        word(alloc, "B", "Text of the events of the other run"),
+    );
+    with_argument(command, bound(alloc))
+}
+
 /// The option for whether the objects are drawn too.
 fn objects<'a>(alloc: Global) -> Arg<'a> {
     Arg::new(alloc, "objects")
@@ -210,6 +284,56 @@ fn run_command<'a>(alloc: Global) -> Made<'a> {
     with_drive(alloc, with_argument(command, json(alloc)))
 }
 
+/// An option with a value, which may be given again.
+fn again<'a>(alloc: Global, id: &'a str, value: &'a str, help: &'a str) -> Arg<'a> {
+    Arg::new(alloc, id)
+        .long(id)
+        .value_name(value)
+        .action(ArgAction::Append)
+        .help(help)
+}
+
+/// The option for when the clock may advance.
+fn ticks<'a>(alloc: Global) -> Arg<'a> {
+    Arg::new(alloc, "ticks")
+        .long("ticks")
+        .value_name("WHEN")
+        .value_parser(TICKS_WHEN)
+        .default_value("any")
+        .help(TICKS)
+}
+
+/// The option for whether the search goes on.
+fn all<'a>(alloc: Global) -> Arg<'a> {
+    Arg::new(alloc, "all")
+        .long("all")
+        .action(ArgAction::SetTrue)
+        .help("Go on after the first finding, for the first of each kind at each call")
+}
+
+/// The command `explore`.
+pub fn explore_command<'a>(alloc: Global) -> Made<'a> {
+    let about = "Looks at every schedule for deadlocks, faults and what must never happen";
+    let cfg = word(alloc, "CFG", "Configuration, as 'fmp check' reads it");
+    let src = word(alloc, "SRC", "Bodies of its tasks and handlers");
+    let states = number(alloc, "states", "S", 1, 1 << 31, STATES).default_value("16777216");
+    let out = Arg::new(alloc, "out")
+        .long("out")
+        .value_name("NAME")
+        .help(OUT);
+    let example = "Example: fmp_view explore examples/queue.cfg examples/queue.src --never E_TMOUT";
+    let command = with_argument(Ok(named(alloc, "explore", about, example)), cfg);
+    let command = with_argument(command, src);
+    let command = with_argument(command, again(alloc, "never", "WHAT", NEVER));
+    let command = with_argument(command, again(alloc, "rest", "TASK", REST));
+    let command = with_argument(command, ticks(alloc));
+    let command = with_argument(command, number(alloc, "ints", "K", 0, 255, INTS));
+    let command = with_argument(command, bound(alloc));
+    let command = with_argument(command, states);
+    let command = with_argument(command, all(alloc));
+    with_argument(command, out)
+}
+
 /// The command line with none of its commands yet.
 fn bare<'a>(alloc: Global) -> Command<'a> {
     Command::new(alloc, "fmp_view")
@@ -226,6 +350,10 @@ pub fn program<'a>(alloc: Global) -> Made<'a> {
     let program = with_command(program, fault_command(alloc));
     let program = with_command(program, run_command(alloc));
     let program = with_command(program, drive_command(alloc));
+    let program = with_command(program, why_command(alloc));
+    let program = with_command(program, explore_command(alloc));
+    let program = with_command(program, diff_command(alloc));
+    let program = with_command(program, expect_command(alloc));
     let program = with_command(program, stats_command(alloc));
     let program = with_command(program, waves_command(alloc));
     with_command(program, timeline_command(alloc))

@@ -2,14 +2,18 @@
 //! table, as a waveform or as a picture.
 //!
 //! It ends with the statuses of `fmp`: 0 if it did what it was asked, 1 for a fault of what it read, 2 for a mistake in
-//! the command line, and 3 if a file could not be read or written or memory ran out.
+//! the command line, and 3 if a file could not be read or written or memory ran out; and with 4 if runs differ that it
+//! was asked to compare, or a run fails an expectation.
 #![tactic(auto)]
 
 mod asking;
 mod built;
 mod commands;
+mod comparing;
 mod driving;
 mod exit;
+mod expecting;
+mod exploring;
 mod faults;
 mod form;
 mod opening;
@@ -17,7 +21,7 @@ mod recording;
 mod running;
 mod timeline;
 mod tracing;
-mod turns;
+mod why;
 
 use fmp_files::{Host, refuse_words, words_of};
 use form::program;

@@ -1,5 +1,6 @@
 //! The image, and the events of a steps text.
-ghost use Rattle.std.specs.Prelude.{◌≡◌, ◌≤◌, ◌^◌, IfOk, length};
+ghost use Rattle.std.specs.Prelude.{◌≤◌, ◌^◌, IfOk, length};
+ghost use Rattle.fmp_view.specs.Fresh.{IsFresh};
 
 use fmp_base::Event;
 use fmp_code::Vm;
@@ -39,7 +40,7 @@ pub fn fresh_kernel<'a>(
 ) -> Result<Kernel<Vm<'a>>, AllocError>
     requires low { 1 ≤ n }
     requires high { n ≤ 2 ^ 48 }
-    ensures { IfOk result (λ kernel. kernel.taken ≡ 0) }
+    ensures { IfOk result (λ kernel. IsFresh image.now n kernel) }
 {
     kernel_of(alloc, image, n)
 }

@@ -2,11 +2,11 @@
 ghost use Rattle.std.specs.Prelude.{◌≡◌, IfOk, OnOk};
 ghost use Rattle.fmp_timeline.specs.Shown as spec;
 
-use crate::turns::IdleTurn;
 use fmp_base::System;
 use fmp_frames::{Frame, Viewer};
 use fmp_timeline::{Moment, Run, TaskShown, tasks_shown};
 use fmp_trace::print;
+use fmp_watch::IdleTurn;
 use std::alloc::{AllocError, Global};
 
 /// A run so far.
@@ -58,6 +58,15 @@ impl<'a> Recorder<'a> {
         }
     }
 
+    /// Notes the processors whose actors spin after the last event.
+    fn take_spins(&mut self, frame: &Frame) {
+        for place in 0..frame.spins.len().min(255) as u8 {
+            if let Some(Some(_)) = frame.spins.get(usize::from(place)) {
+                self.run.turn_in_vain(place);
+            }
+        }
+    }
+
     /// One frame more.
     fn record(&mut self, alloc: Global, frame: &Frame) -> Result<(), AllocError>
         ensures { OnOk result (self.new.shown.items
@@ -84,6 +93,7 @@ impl<'a> Recorder<'a> {
                 pending_interrupts: &frame.pending_interrupts,
             },
         )?;
+        self.take_spins(frame);
         self.shown = shown;
         Ok(())
     }
@@ -97,6 +107,7 @@ impl<'a> Recorder<'a> {
         self.take_turns();
         let shown = tasks_shown(alloc, &frame.states, &frame.blocks, &frame.processors)?;
         self.run.keep_place(processor)?;
+        self.take_spins(frame);
         self.shown = shown;
         Ok(())
     }

@@ -1,17 +1,25 @@
 //! A run of the program, from the words of its command line to its status.
 use crate::asking::{
-    Cmd, Drawing, Run, command, dump_over_input, no_code, picture_of_nothing, picture_over_input,
+    Cmd, Drawing, Exploring, Run, command, dump_over_input, no_code, no_such_task,
+    picture_of_nothing, picture_over_input,
 };
 use crate::built::{NoTrace, Running, Traced, traced_texts};
-use crate::commands::{Ending, Output, code, run_output, steps};
+use crate::commands::{DrivenText, Ending, Output, code, run_output, steps};
+use crate::comparing::diff;
 use crate::exit::Exit;
+use crate::expecting::expect;
+use crate::exploring::{Explored, Named, explored_image};
 use crate::faults::{FileNames, Form, Shown, shown_fault};
-use crate::timeline::{TimelineFault, timeline};
-use fmp_base::Call;
+use crate::timeline::{Cut, Picture, TimelineFault, timeline};
+use crate::why::why;
+use fmp_base::{Call, System};
 use fmp_diagnosis::Texts;
 use fmp_drive::{NextRun, Stop};
 use fmp_engine::SimFault;
+use fmp_explore::Watcher;
 use fmp_files::{Failure, Outside, end, print, read_file, refuse, refuse_mistake, write_file};
+use fmp_image::build;
+use fmp_image_bytes::Image;
 use std::alloc::{AllocError, Global};
 
 /// What was made of files, or the fault of what was read.
@@ -27,7 +35,7 @@ fn driven_steps<O: Outside>(
     events: u32,
     seed: Option<u64>,
     bound: u64,
-) -> Result<(Vec<u8>, Ending), Exit> {
+) -> Result<DrivenText, Exit> {
     let image = read_file(alloc, outside, image, None)?;
     or_fault(steps(alloc, &image, events, seed, bound))
 }
@@ -87,15 +95,35 @@ fn say_end<O: Outside>(outside: &mut O, ending: Ending) {
     }
 }
 
-fn run_drive<O: Outside>(
+/// Says a text that was put together.
+fn say_text<O: Outside>(alloc: Global, outside: &mut O, text: &[u8]) -> Result<(), AllocError> {
+    let text = String::from_utf8_lossy(alloc, text)?;
+    outside.say(text);
+    Ok(())
+}
+
+/// Prints a text, and says how its drive ended if it was driven, and what tasks wait for then.
+fn print_run<O: Outside>(
     alloc: Global,
     outside: &mut O,
-    made: Result<(Vec<u8>, Ending), Exit>,
+    text: &[u8],
+    ending: Option<Ending>,
+    why: &[u8],
 ) -> u8 {
+    if let Some(ending) = ending {
+        say_end(outside, ending);
+    }
+    match say_text(alloc, outside, why) {
+        Ok(()) => print(alloc, outside, text),
+        Err(error) => end(outside, &Failure::Memory(error)),
+    }
+}
+
+fn run_drive<O: Outside>(alloc: Global, outside: &mut O, made: Result<DrivenText, Exit>) -> u8 {
     match made {
-        Ok((text, ending)) => {
-            say_end(outside, ending);
-            print(alloc, outside, &text)
+        Ok(driven) => {
+            let ending = Some(driven.ending);
+            print_run(alloc, outside, &driven.steps, ending, &driven.why)
         }
         Err(exit) => end(outside, &exit),
     }
@@ -137,19 +165,93 @@ fn title_of(image: &str) -> &str {
     }
 }
 
+/// The status where two runs differ, or a run fails an expectation.
+const DIFFER: u8 = 4;
+
+/// The difference of the runs of an image over two steps texts.
+fn difference_of<O: Outside>(
+    alloc: Global,
+    outside: &O,
+    image: &str,
+    a: &str,
+    b: &str,
+    bound: u64,
+) -> Result<Option<Vec<u8>>, Exit> {
+    let image = read_file(alloc, outside, image, None)?;
+    let (a, b) = read_both(alloc, outside, a, b)?;
+    or_fault(diff(alloc, &image, &a, &b, bound))
+}
+
+/// What is printed of a run that fails an expectation.
+fn failure_of<O: Outside>(
+    alloc: Global,
+    outside: &O,
+    run: Run<'_>,
+    name: &str,
+) -> Result<Option<Vec<u8>>, Exit> {
+    let (image, steps) = read_both(alloc, outside, run.image, run.steps)?;
+    let text = read_file(alloc, outside, name, None)?;
+    expect(alloc, &image, &steps, run.bound, name, &text)
+}
+
+/// Prints a difference or a failure, if there is one, with status 4.
+fn print_difference<O: Outside>(
+    alloc: Global,
+    outside: &mut O,
+    made: Result<Option<Vec<u8>>, Exit>,
+) -> u8 {
+    match made {
+        Ok(Some(text)) => match print(alloc, outside, &text) {
+            0 => DIFFER,
+            status => status,
+        },
+        Ok(None) => 0,
+        Err(exit) => end(outside, &exit),
+    }
+}
+
+/// Why nothing of a run is printed or drawn.
+fn exit_of(fault: TimelineFault) -> Exit {
+    match fault {
+        TimelineFault::Sim(fault) => Exit::Sim(fault),
+        fault => Exit::Picture(fault),
+    }
+}
+
+/// What each task of a run waits or spins for after an event.
+fn why_of_run<O: Outside>(
+    alloc: Global,
+    outside: &O,
+    run: Run<'_>,
+    at: Option<u32>,
+) -> Result<Vec<u8>, Exit> {
+    let (image, steps) = read_both(alloc, outside, run.image, run.steps)?;
+    why(alloc, &image, &steps, run.bound, at).map_err(|fault| exit_of(fault))
+}
+
 /// The picture of a run.
 fn run_timeline<O: Outside>(
     alloc: Global,
     outside: &O,
     run: Run<'_>,
     drawing: Drawing,
-) -> Result<Vec<u8>, Exit> {
+) -> Result<Picture, Exit> {
     let (image, steps) = read_both(alloc, outside, run.image, run.steps)?;
     let title = title_of(run.image).as_bytes();
-    match timeline(alloc, &image, &steps, run.bound, title, drawing) {
-        Ok(picture) => Ok(picture),
-        Err(TimelineFault::Sim(fault)) => Err(Exit::Sim(fault)),
-        Err(fault) => Err(Exit::Picture(fault)),
+    timeline(alloc, &image, &steps, run.bound, title, drawing).map_err(|fault| exit_of(fault))
+}
+
+/// Says which events a picture has, where it has not all that were asked for.
+fn say_cut<O: Outside>(outside: &mut O, cut: Option<Cut>) {
+    if let Some(cut) = cut {
+        outside.say(format_args!(
+            "events {} to {} of {} to {} are drawn; --from {} draws those behind them\n",
+            cut.first,
+            cut.last,
+            cut.first,
+            cut.end,
+            cut.last.saturating_add(1)
+        ));
     }
 }
 
@@ -168,7 +270,10 @@ fn write_timeline<O: Outside>(
         return refuse_mistake(outside, picture_of_nothing(alloc));
     }
     match run_timeline(alloc, outside, run, drawing) {
-        Ok(picture) => write(alloc, outside, out, &picture),
+        Ok(picture) => {
+            say_cut(outside, picture.cut);
+            write(alloc, outside, out, &picture.bytes)
+        }
         Err(exit) => end(outside, &exit),
     }
 }
@@ -230,21 +335,127 @@ fn traced_run<O: Outside>(
     Ok(traced_texts(alloc, &cfg, &src, Some(&steps), run))
 }
 
-/// Prints a trace, and says how its drive ended if it was driven.
-fn print_trace<O: Outside>(alloc: Global, outside: &mut O, traced: &Traced) -> u8 {
-    if let Some(ending) = traced.ending {
-        say_end(outside, ending);
-    }
-    print(alloc, outside, &traced.text)
-}
-
 /// Prints the trace of a run of the texts of these files, or their fault, with status 1.
 fn run_texts<O: Outside>(alloc: Global, outside: &mut O, names: FileNames<'_>, run: Running) -> u8 {
     match traced_run(alloc, outside, names, run) {
-        Ok(Ok(traced)) => print_trace(alloc, outside, &traced),
+        Ok(Ok(traced)) => print_run(alloc, outside, &traced.text, traced.ending, &traced.why),
         Ok(Err(NoTrace::Faulty)) => print_fault(alloc, outside, names, run.form),
         Ok(Err(NoTrace::Memory)) => end(outside, &Failure::Memory(AllocError)),
         Err(failure) => end(outside, &failure),
+    }
+}
+
+/// What an exploration tells on standard error while it goes on.
+#[derive(Drop)]
+struct Telling<'o, O: Outside> {
+    outside: &'o mut O,
+}
+
+impl<O: Outside> Watcher for Telling<'_, O> {
+    fn grown(&mut self, states: usize, examined: usize, deep: u32) {
+        self.outside.say(format_args!(
+            "{states} states, {examined} of them examined, {deep} deep\n"
+        ));
+    }
+}
+
+/// Marks the tasks of these names, which may wait forever. False if a name is that of no task.
+fn mark_rest(sys: &System, names: &[&str], rest: &mut Vec<bool>) -> Result<bool, AllocError> {
+    let mut found: usize = 0;
+    for config in &sys.tasks {
+        let is_named = names
+            .iter()
+            .any(|name| name.as_bytes() == config.name.as_bytes());
+        rest.push(is_named)?;
+        if is_named {
+            found = found.saturating_add(1);
+        }
+    }
+    Ok(found == names.len())
+}
+
+/// The name of the files of steps: the one that was asked for, or that of the configuration.
+fn out_name(alloc: Global, asked: &Exploring<'_>) -> Result<String, AllocError> {
+    match asked.out {
+        Some(name) => String::from_str(alloc, name),
+        None => {
+            let stem = asked.cfg.strip_suffix(".cfg").unwrap_or(asked.cfg);
+            format!(in alloc; "{stem}.found")
+        }
+    }
+}
+
+/// Writes the steps texts to their files, up to the first that cannot be written.
+fn write_steps<O: Outside>(
+    alloc: Global,
+    outside: &mut O,
+    name: &str,
+    texts: &[Vec<u8>],
+) -> Result<(), Failure> {
+    for (i, text) in texts.iter().enumerate() {
+        let number = i.saturating_add(1);
+        let file = format!(in alloc; "{name}.{number}").map_err(|error| Failure::Memory(error))?;
+        write_file(alloc, outside, file.as_str(), text)?;
+    }
+    Ok(())
+}
+
+/// Prints what an exploration came to, and writes its steps texts. The status is that of the exploration, or of what
+/// went wrong.
+fn give<O: Outside>(alloc: Global, outside: &mut O, name: &str, explored: &Explored) -> u8 {
+    match write_steps(alloc, outside, name, &explored.steps) {
+        Ok(()) => print(alloc, outside, &explored.text).max(explored.status),
+        Err(failure) => end(outside, &failure),
+    }
+}
+
+/// Explores the image of two texts.
+fn explore_image<O: Outside>(
+    alloc: Global,
+    outside: &mut O,
+    image: &Image,
+    src: &[u8],
+    asked: &mut Exploring<'_>,
+) -> Result<u8, AllocError> {
+    if !mark_rest(image.system(), &asked.rest, &mut asked.question.rest)? {
+        return Ok(refuse_mistake(outside, no_such_task(alloc)));
+    }
+    let name = out_name(alloc, asked)?;
+    let named = Named {
+        src: asked.src,
+        out: name.as_str(),
+    };
+    let explored = explored_image(
+        alloc,
+        image,
+        src,
+        named,
+        &asked.question,
+        asked.bound,
+        &mut Telling { outside },
+    )?;
+    Ok(give(alloc, outside, name.as_str(), &explored))
+}
+
+/// Explores the schedules of the texts of two files, or prints their first fault, with status 1.
+fn run_explore<O: Outside>(alloc: Global, outside: &mut O, mut asked: Exploring<'_>) -> u8 {
+    let (cfg, src) = match read_both(alloc, outside, asked.cfg, asked.src) {
+        Ok(texts) => texts,
+        Err(failure) => return end(outside, &failure),
+    };
+    match build(alloc, &cfg, &src) {
+        Ok(image) => match explore_image(alloc, outside, &image, &src, &mut asked) {
+            Ok(status) => status,
+            Err(_) => end(outside, &Failure::Memory(AllocError)),
+        },
+        Err(_) => {
+            let names = FileNames {
+                cfg: asked.cfg,
+                src: asked.src,
+                steps: "",
+            };
+            print_fault(alloc, outside, names, Form::Text)
+        }
     }
 }
 
@@ -254,6 +465,7 @@ fn carry_out<O: Outside>(alloc: Global, outside: &mut O, cmd: Cmd<'_>) -> u8 {
         Cmd::Code(word) => say_code(alloc, outside, word),
         Cmd::Fault(names, form) => print_fault(alloc, outside, names, form),
         Cmd::Run(names, run) => run_texts(alloc, outside, names, run),
+        Cmd::Explore(asked) => run_explore(alloc, outside, asked),
         Cmd::Drive {
             image,
             events,
@@ -262,6 +474,18 @@ fn carry_out<O: Outside>(alloc: Global, outside: &mut O, cmd: Cmd<'_>) -> u8 {
         } => {
             let made = driven_steps(alloc, outside, image, events, seed, bound);
             run_drive(alloc, outside, made)
+        }
+        Cmd::Why(run, at) => match why_of_run(alloc, outside, run, at) {
+            Ok(text) => print(alloc, outside, &text),
+            Err(exit) => end(outside, &exit),
+        },
+        Cmd::Expect(run, name) => {
+            let made = failure_of(alloc, outside, run, name);
+            print_difference(alloc, outside, made)
+        }
+        Cmd::Diff { image, a, b, bound } => {
+            let made = difference_of(alloc, outside, image, a, b, bound);
+            print_difference(alloc, outside, made)
         }
         Cmd::Stats(run) => match made_of_run(alloc, outside, run, Output::Table) {
             Ok(table) => print(alloc, outside, &table),

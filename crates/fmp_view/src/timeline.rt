@@ -1,13 +1,12 @@
 //! The picture of a run.
 ghost use Rattle.std.specs.Prelude.{◌≡◌, ◌+◌, ◌≤◌, ◌^◌, IfOk, length};
 ghost use Rattle.fmp_timeline.specs.Shown.{tasks_shown};
-ghost use Rattle.fmp_view.specs.Shown.{WasShown};
+ghost use Rattle.fmp_frames.specs.Shown.{WasShown};
 
 use crate::asking::{Drawing, kept_bound};
 use crate::commands::made;
 use crate::opening::{events_of, fresh_kernel, image_of};
 use crate::recording::Recorder;
-use crate::turns::{IdleTurn, idle_turns};
 use fmp_base::{Event, System};
 use fmp_drawing::{DrawFault, MOST_BYTES, draw};
 use fmp_engine::SimFault;
@@ -15,6 +14,7 @@ use fmp_frames::{Viewer, last_frame, show_all};
 use fmp_image_bytes::Image;
 use fmp_kernel::{Body, Kernel};
 use fmp_timeline::{Page, Run};
+use fmp_watch::{IdleTurn, idle_turns};
 use std::alloc::{AllocError, Global};
 use thiserror::Error;
 
@@ -32,24 +32,57 @@ pub enum TimelineFault {
     TooLarge(u32, u32),
 }
 
+/// Which events of those that are asked for a picture has, where it has not all of them.
+#[derive(Clone, Copy)]
+pub struct Cut {
+    pub first: u32,
+    pub last: u32,
+    /// The last event that was asked for, and that the run has.
+    pub end: u32,
+}
+
+/// A picture, and whether it was cut.
+#[derive(Drop)]
+pub struct Picture {
+    pub bytes: Vec<u8>,
+    pub cut: Option<Cut>,
+}
+
+/// Whether a page has not all events that are asked for, of a run whose last event is this.
+fn cut_of(page: &Page, drawing: Drawing, last: u32) -> Option<Cut> {
+    let end = drawing.choice.last.min(last);
+    if page.last >= end {
+        return None;
+    }
+    Some(Cut {
+        first: page.first,
+        last: page.last,
+        end,
+    })
+}
+
 /// What is recorded of a run of a kernel of this system over events.
 #[tactic(none)]
 fn recorded<'a, B: Body>(
     alloc: Global,
     sys: &'a System,
     kernel: &mut Kernel<B>,
+    body: &B,
+    n: u64,
     events: &[Event],
     objects: bool,
     turns: &'a [IdleTurn],
 ) -> Result<Recorder<'a>, AllocError>
-    requires { kernel.old.taken + length events.now ≤ 2 ^ 20 }
+    requires few { kernel.old.taken + length events.now ≤ 2 ^ 20 }
+    requires body { body.now ≡ kernel.old.body }
+    requires bound { n ≡ kernel.old.bound }
     ensures { IfOk result (λ recorder. WasShown
         (λ x f. x.shown.items ≡ tasks_shown f.states f.blocks f.processors)
         ⟦<Recorder<'a> as Viewer>⟧.shown B.meaning kernel.old events.now recorder) }
 {
-    let setup = last_frame(alloc, kernel)?;
+    let setup = last_frame(alloc, kernel, body, n)?;
     let mut recorder = Recorder::new(alloc, sys, objects, turns, &setup)?;
-    show_all(alloc, kernel, events, &mut recorder)?;
+    show_all(alloc, kernel, body, n, events, &mut recorder)?;
     Ok(recorder)
 }
 
@@ -59,13 +92,17 @@ fn run_on<B: Body>(
     alloc: Global,
     sys: &System,
     kernel: &mut Kernel<B>,
+    body: &B,
+    n: u64,
     events: &[Event],
     objects: bool,
     turns: &[IdleTurn],
 ) -> Result<Run, AllocError>
-    requires { kernel.old.taken + length events.now ≤ 2 ^ 20 }
+    requires few { kernel.old.taken + length events.now ≤ 2 ^ 20 }
+    requires body { body.now ≡ kernel.old.body }
+    requires bound { n ≡ kernel.old.bound }
 {
-    let recorder = recorded(alloc, sys, kernel, events, objects, turns)?;
+    let recorder = recorded(alloc, sys, kernel, body, n, events, objects, turns)?;
     Ok(recorder.finish())
 }
 
@@ -95,8 +132,18 @@ fn run_of(
     requires { length events.now ≤ 2 ^ 20 }
 {
     let turns = turns_of(alloc, image, events, bound)?;
-    let mut kernel = fresh_kernel(alloc, image, kept_bound(bound))?;
-    run_on(alloc, image.system(), &mut kernel, events, objects, &turns)
+    let n = kept_bound(bound);
+    let mut kernel = fresh_kernel(alloc, image, n)?;
+    run_on(
+        alloc,
+        image.system(),
+        &mut kernel,
+        &image.vm(),
+        n,
+        events,
+        objects,
+        &turns,
+    )
 }
 
 /// The picture that is asked for of a run.
@@ -106,14 +153,17 @@ fn picture_of(
     run: &Run,
     name: &[u8],
     drawing: Drawing,
-) -> Result<Vec<u8>, TimelineFault> {
+) -> Result<Picture, TimelineFault> {
     let last = run.next_event().saturating_sub(1);
     if drawing.choice.first > last {
         return Err(TimelineFault::NoEvent(last));
     }
     let page = Page::new(sys, run, drawing.choice);
     match draw(alloc, sys, run, name, page) {
-        Ok(picture) => Ok(picture),
+        Ok(bytes) => Ok(Picture {
+            bytes,
+            cut: cut_of(&page, drawing, last),
+        }),
         Err(DrawFault::Memory(_)) => Err(TimelineFault::Sim(SimFault::Memory)),
         Err(DrawFault::TooLarge) => {
             let half = page.last.saturating_sub(page.first) / 2;
@@ -143,7 +193,7 @@ fn picture_over(
     bound: u64,
     name: &[u8],
     drawing: Drawing,
-) -> Result<Vec<u8>, TimelineFault> {
+) -> Result<Picture, TimelineFault> {
     match run_over(alloc, image, steps, bound, drawing.objects) {
         Ok(run) => picture_of(alloc, image.system(), &run, name, drawing),
         Err(fault) => Err(TimelineFault::Sim(fault)),
@@ -158,7 +208,7 @@ pub fn timeline(
     bound: u64,
     name: &[u8],
     drawing: Drawing,
-) -> Result<Vec<u8>, TimelineFault> {
+) -> Result<Picture, TimelineFault> {
     match image_of(alloc, image) {
         Ok(image) => picture_over(alloc, &image, steps, bound, name, drawing),
         Err(fault) => Err(TimelineFault::Sim(fault)),

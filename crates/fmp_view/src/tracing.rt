@@ -2,7 +2,7 @@
 ghost use Rattle.std.specs.Prelude.{◌≡◌, ◌+◌, ◌≤◌, ◌^◌, ◌++◌, IfOk, OnOk, length};
 ghost use Rattle.fmp_base.specs.Systems.{tables_of};
 ghost use Rattle.fmp_frames.specs.Frames.{table_of};
-ghost use Rattle.fmp_view.specs.Shown.{WasShown};
+ghost use Rattle.fmp_frames.specs.Shown.{WasShown};
 ghost use Rattle.fmp_view.specs.Traces as spec;
 ghost use Rattle.fmp_view.specs.Traces.{IsBegun, IsTrace, Traces, lines_text, states_text};
 
@@ -139,15 +139,19 @@ fn traced<'a, B: Body>(
     form: Form,
     sys: &'a System,
     kernel: &mut Kernel<B>,
+    body: &B,
+    n: u64,
     events: &[Event],
 ) -> Result<Tracer<'a>, AllocError>
-    requires { kernel.old.taken + length events.now ≤ 2 ^ 20 }
+    requires few { kernel.old.taken + length events.now ≤ 2 ^ 20 }
+    requires body { body.now ≡ kernel.old.body }
+    requires bound { n ≡ kernel.old.bound }
     ensures { IfOk result (λ tracer. WasShown (IsBegun form (tables_of sys.now))
         ⟦<Tracer<'a> as Viewer>⟧.shown B.meaning kernel.old events.now tracer) }
 {
-    let setup = last_frame(alloc, kernel)?;
+    let setup = last_frame(alloc, kernel, body, n)?;
     let mut tracer = Tracer::new(alloc, form, sys, &setup)?;
-    show_all(alloc, kernel, events, &mut tracer)?;
+    show_all(alloc, kernel, body, n, events, &mut tracer)?;
     Ok(tracer)
 }
 
@@ -158,11 +162,15 @@ pub fn trace_on<B: Body>(
     form: Form,
     sys: &System,
     kernel: &mut Kernel<B>,
+    body: &B,
+    n: u64,
     events: &[Event],
 ) -> Result<Vec<u8>, AllocError>
-    requires { kernel.old.taken + length events.now ≤ 2 ^ 20 }
+    requires few { kernel.old.taken + length events.now ≤ 2 ^ 20 }
+    requires body { body.now ≡ kernel.old.body }
+    requires bound { n ≡ kernel.old.bound }
     ensures { IfOk result (λ out. IsTrace form (tables_of sys.now) B.meaning kernel.old events.now out.items) }
 {
-    let tracer = traced(alloc, form, sys, kernel, events)?;
+    let tracer = traced(alloc, form, sys, kernel, body, n, events)?;
     tracer.finish(alloc)
 }

@@ -1,4 +1,4 @@
-use Rattle.std.proofs.Common.{◌≡◌, ℕ, List, length, refl, subst}
+use Rattle.std.proofs.Common.{◌≡◌, ◌∙◌, ℕ, List, ap, length, refl, subst, sym}
 use Rattle.std.proofs.lemmas.Result.{IfOk-weaker}
 use Rattle.fmp_base.specs.declared.events.Event.{Event}
 use Rattle.fmp_base.specs.Systems.{SystemTables}
@@ -18,8 +18,16 @@ traced_so form sys sys' k k' es out same is h =
     subst (λ (x : KernelView (List BodyTables) MachineContext). IsTrace form sys' code_meaning x es out) is
     (subst (λ (t : SystemTables). IsTrace form t code_meaning k es out) same h)
 
-pub trace_on-requires : goal.trace_on-requires
-trace_on-requires c = rw c.requires.kernel (room 0 (length c.args.events.now) refl c.requires.few)
+pub trace_on-requires-clause-few : goal.trace_on-requires-clause-few
+trace_on-requires-clause-few c = rw c.requires.kernel (room 0 (length c.args.events.now) refl c.requires.few)
+
+pub trace_on-requires-clause-body : goal.trace_on-requires-clause-body
+trace_on-requires-clause-body c =
+    c.vm.ensures ∙ sym (ap (λ (k : KernelView (List BodyTables) MachineContext). k.body) c.requires.kernel)
+
+pub trace_on-requires-clause-bound : goal.trace_on-requires-clause-bound
+trace_on-requires-clause-bound c =
+    sym (ap (λ (k : KernelView (List BodyTables) MachineContext). k.bound) c.requires.kernel)
 
 pub returns : goal.returns
 returns c =

@@ -9,4 +9,6 @@ pub kernel_of-requires-clause-high : goal.kernel_of-requires-clause-high
 kernel_of-requires-clause-high c = c.requires.high
 
 pub returns : goal.returns
-returns c = IfOk-weaker c.kernel_of.result _ _ (λ k h. rw h refl) c.kernel_of.ensures
+returns c =
+    IfOk-weaker c.kernel_of.result _ _
+    (λ k h. record { taken = rw h refl; body = rw h refl; bound = rw h refl }) c.kernel_of.ensures

@@ -4,8 +4,20 @@ use Rattle.fmp_frames.specs.Frames.{FrameTable}
 use Rattle.fmp_timeline.specs.Shown.{tasks_shown}
 use Rattle.fmp_view.proofs.timeline.recorded.Goals as goal
 
-pub show_all-requires : goal.show_all-requires
-show_all-requires g c = c.requires
+pub last_frame-requires-clause-body : goal.last_frame-requires-clause-body
+last_frame-requires-clause-body g c = c.requires.body
+
+pub last_frame-requires-clause-bound : goal.last_frame-requires-clause-bound
+last_frame-requires-clause-bound g c = c.requires.bound
+
+pub show_all-requires-clause-few : goal.show_all-requires-clause-few
+show_all-requires-clause-few g c = c.requires.few
+
+pub show_all-requires-clause-body : goal.show_all-requires-clause-body
+show_all-requires-clause-body g c = c.requires.body
+
+pub show_all-requires-clause-bound : goal.show_all-requires-clause-bound
+show_all-requires-clause-bound g c = c.requires.bound
 
 pub returns-in_err-setup : goal.returns-in_err-setup
 returns-in_err-setup g c =
@@ -25,5 +37,5 @@ returns g c =
       first = c.in_ok-recorder.recorder;
       begins = c.in_ok-recorder.ensures
           ∙ ap (λ (f : FrameTable). tasks_shown f.states f.blocks f.processors) c.in_ok-setup.ensures;
-      frames = c.in_ok-show_all.ensures;
+      frames = c.in_ok-show_all.ensures.shown;
     }

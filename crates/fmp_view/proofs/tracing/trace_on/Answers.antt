@@ -1,8 +1,14 @@
 use Rattle.std.proofs.lemmas.Result.{IfOk-weaker, err_from_is_err_and}
 use Rattle.fmp_view.proofs.tracing.trace_on.Goals as goal
 
-pub traced-requires : goal.traced-requires
-traced-requires g c = c.requires
+pub traced-requires-clause-few : goal.traced-requires-clause-few
+traced-requires-clause-few g c = c.requires.few
+
+pub traced-requires-clause-body : goal.traced-requires-clause-body
+traced-requires-clause-body g c = c.requires.body
+
+pub traced-requires-clause-bound : goal.traced-requires-clause-bound
+traced-requires-clause-bound g c = c.requires.bound
 
 pub returns-in_err-tracer : goal.returns-in_err-tracer
 returns-in_err-tracer g c =

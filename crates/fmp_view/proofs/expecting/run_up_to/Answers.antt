@@ -1,6 +1,6 @@
 use Rattle.std.proofs.Common.{arith, ◌+◌, ◌≤◌}
 use Rattle.fmp_frames.proofs.FrameLemmas.{taken-step}
-use Rattle.fmp_view.proofs.turns.idle_turns.Goals as goal
+use Rattle.fmp_view.proofs.expecting.run_up_to.Goals as goal
 
 pub loop-e-preserved : goal.loop-e-preserved
 loop-e-preserved g c =

@@ -1,0 +1,235 @@
+"""A second search of all schedules, over the model of the kernel: breadth first, with a copy of it for each state."""
+
+import copy
+from collections import deque
+from dataclasses import dataclass, field, replace
+from math import inf
+
+from model.bodies import Call, Endless, Faulted, Return, do, meets, stretch
+from model.kernel import Kernel
+from model.world import State
+
+ENDLESS_LOOP = 3  # the instructions of `while (1) { }`
+
+
+@dataclass
+class Searched:
+    """What a search came to: how many states there are, how many events did something, how deep the deepest state is,
+    what was found, and whether every state was examined."""
+
+    states: int = 1
+    events: int = 0
+    deep: int = 0
+    found: list = field(default_factory=list)  # of what, the events, and the line
+    waits: bool = False
+    is_whole: bool = True
+
+
+def place_of_queues(system):
+    """The wait queues of a system by their identity: a name for each, and a list of those of objects."""
+    names, queues = {}, []
+    objects = {"sem": system.semaphores, "flg": system.flags, "mbx": system.mailboxes}
+    for kind, things in objects.items():
+        for number, thing in enumerate(things):
+            names[id(thing.waiters)] = kind, number
+            queues.append(thing.waiters)
+    for number, queue in enumerate(system.data_queues):
+        names[id(queue.senders)], names[id(queue.receivers)] = ("snd", number), ("rcv", number)
+        queues += [queue.senders, queue.receivers]
+    return names, queues
+
+
+def pass_on(body, context):
+    """Goes through what stands next in a body: its loop's end or head, or a statement. False where that stops."""
+    if context.position == len(body.statements):
+        context.units += 1
+        context.position = 0
+        return body.repeats
+    if body.repeats and context.position == 0 and not context.entered:
+        context.units += 2
+        context.entered = True
+        return True
+    statement = body.statements[context.position]
+    context.position, context.entered = context.position + 1, False
+    if statement.only_if and not meets(context, statement.only_if):
+        return True
+    if isinstance(statement.action, Endless):
+        context.units = inf
+    if isinstance(statement.action, (Call, Return, Endless)):
+        return False
+    do(statement.action, context)
+    return True
+
+
+def place_of(body, context):
+    """Where a body stands: the statement, whether its loop is entered, the locals, and how many instructions of the
+    statement it has made, those of an endless loop without the rounds."""
+    at = replace(context, units=0, spent=0)
+    at.entered = False
+    while True:
+        before = copy.copy(at)
+        try:
+            goes_on = pass_on(body, at)
+        except Faulted:
+            goes_on = False
+        if not goes_on or at.units > context.spent:
+            made = context.spent - before.units
+            made = made % ENDLESS_LOOP if at.units == inf else made
+            return before.position, before.entered, before.exinf, before.v, before.r, before.a, made
+
+
+def context_key(system, actor):
+    """Where the body of a task or handler stands, and its locals."""
+    return actor.context and place_of(system.bodies[actor.body], actor.context)
+
+
+def task_key(world, names, task):
+    wait = task.wait and (names.get(id(task.wait.queue)), task.wait.bits, task.wait.mode, task.wait.word)
+    ticks_left = None if task.deadline is None else task.deadline - world.clock
+    return (
+        task.state, task.suspended, task.priority, task.processor, task.activations, task.stored_processor,
+        task.wakeups, wait, ticks_left, None if task.state is State.DORMANT else context_key(world.system, task),
+    )
+
+
+def processor_key(system, processor):
+    handler = processor.handler
+    return (
+        processor.running and processor.running.number, processor.lock, processor.dispatch_enabled,
+        handler and handler.name, handler and context_key(system, handler),
+        tuple(sorted(pending.name for pending in processor.pending)),
+    )
+
+
+def ready_key(world, processor):
+    """The ready tasks of a processor, in order, of each priority."""
+    ready = world.ready(processor)
+    return tuple(sorted(
+        (priority, tuple(task.number for task in ready if task.priority == priority))
+        for priority in {task.priority for task in ready}))
+
+
+def state_key(kernel):
+    """All that a later event can show: no clock, and queues in place of the one order."""
+    world, system = kernel.world, kernel.system
+    names, queues = place_of_queues(system)
+    names[id(world.sleepers)], names[id(world.delayed)] = ("slp", 0), ("dly", 0)
+    return (
+        tuple(task_key(world, names, task) for task in world.tasks),
+        tuple(ready_key(world, processor.number) for processor in world.processors),
+        tuple(tuple(task.number for task in world.members(queue)) for queue in queues),
+        tuple(processor_key(system, processor) for processor in world.processors),
+        tuple(semaphore.count for semaphore in system.semaphores),
+        tuple(flag.pattern for flag in system.flags),
+        tuple(tuple(queue.words) for queue in system.data_queues),
+        tuple(tuple(mailbox.queued) for mailbox in system.mailboxes),
+        tuple(system.shared_words),
+        tuple(handler.due and handler.due - world.clock for handler in system.cyclic_handlers),
+    )
+
+
+def tells(line, never):
+    """Whether a line tells what must never happen: `put(V)`, a code or a fault."""
+    return f" {never} " in f"{line} " if never.startswith("put(") else line.endswith(f" {never}")
+
+
+def tries_of(system):
+    """The events that are tried in each state, in order."""
+    runs = [f"run {number + 1}" for number in range(system.processor_count)]
+    return [*runs, "tick", *(f"int {number}" for number in sorted(h.number for h in system.interrupt_handlers))]
+
+
+def is_stuck(world):
+    """Whether no time runs, and a task is started."""
+    return (
+        all(task.deadline is None for task in world.tasks)
+        and all(handler.due is None for handler in world.system.cyclic_handlers)
+        and any(task.state is not State.DORMANT for task in world.tasks))
+
+
+def goes_on_for_ever(kernel, event):
+    """Whether an event is a run whose actor never comes to a call, its end or a fault."""
+    kind, *number = event.split()
+    actor = kind == "run" and kernel.world.processors[int(number[0]) - 1].actor
+    return bool(actor) and stretch(kernel.system.bodies[actor.body], actor.context)[1].units == inf
+
+
+def after(kernel, event):
+    """A copy of the kernel after an event; none if it does nothing."""
+    bodies = kernel.system.bodies
+    other = copy.deepcopy(kernel, {id(bodies): bodies})
+    other.world.lines, other.world.event, other.taken = [], 0, 0
+    other.step(event)
+    return other if other.taken else None
+
+
+def is_deadlock(kernel):
+    """Whether no event but a tick does anything, no time runs, and a task is started."""
+    return is_stuck(kernel.world) and not any(after(kernel, event) for event in tries_of(kernel.system) if event != "tick")
+
+
+class Search:
+    """A search under way. The keys of the states that were seen have the key before them, the event between, and the
+    depth."""
+
+    def __init__(self, system, bound, nevers, most):
+        self.start, self.nevers, self.most = Kernel(system, bound), nevers, most
+        self.tries = tries_of(system)
+        first = state_key(self.start)
+        self.seen = {first: (None, None, 0)}
+        self.queue = deque([(self.start, first)])
+        self.result = Searched()
+
+    def path(self, key):
+        events = []
+        while self.seen[key][0] is not None:
+            before, event, _ = self.seen[key]
+            events.append(event)
+            key = before
+        return events[::-1]
+
+    def note(self, kernel, key, event):
+        """An event that did something, after which the kernel is this one."""
+        result = self.result
+        result.events += 1
+        for line in kernel.world.lines:
+            if any(tells(line, never) for never in self.nevers):
+                result.found.append((line.split(" ", 1)[1], [*self.path(key), event]))
+        reached = state_key(kernel)
+        if reached not in self.seen:
+            self.seen[reached] = key, event, self.seen[key][2] + 1
+            self.queue.append((kernel, reached))
+
+    def examine(self, kernel, key):
+        done = set()
+        for event in self.tries:
+            reached = after(kernel, event)
+            if reached is None:
+                continue
+            done.add(event.split()[0])
+            if goes_on_for_ever(kernel, event):
+                self.result.found.append(("endless", self.path(key)))
+            self.note(reached, key, event)
+        if "run" not in done and is_stuck(kernel.world):
+            if "int" in done:
+                self.result.waits = True
+            else:
+                self.result.found.append(("deadlock", self.path(key)))
+
+    def run(self, goes_on=False):
+        """Examines the states in order, up to the first finding unless it goes on."""
+        result = self.result
+        while self.queue:
+            kernel, key = self.queue.popleft()
+            depth = self.seen[key][2]
+            if not goes_on and any(len(events) <= depth for _, events in result.found):
+                result.is_whole = False
+                break
+            if len(self.seen) > self.most:
+                result.is_whole = False
+                break
+            self.examine(kernel, key)
+        result.states = len(self.seen)
+        result.deep = max(depth for _, _, depth in self.seen.values())
+        result.found.sort(key=lambda finding: len(finding[1]))
+        return result

@@ -1,0 +1,403 @@
+//! What `explore` prints of the schedules of two texts.
+ghost use Rattle.std.specs.Prelude.{◌≡◌, ◌≤◌, ◌^◌};
+
+use crate::asking::kept_bound;
+use fmp_base::{Line, Name, System};
+use fmp_explore::{
+    Coverage, Ending, Finding, Question, Report, Sight, Site, Started, Watcher, explore, left_by,
+};
+use fmp_explore_names::{CallLines, LocalNames, append_name};
+use fmp_image_bytes::Image;
+use fmp_trace::{print, print_steps};
+use std::alloc::{AllocError, Global};
+
+/// The names of the files that an exploration speaks of.
+#[derive(Clone, Copy)]
+pub struct Named<'a> {
+    /// The file of the bodies.
+    pub src: &'a str,
+    /// The files of steps are this name, a dot and a number from 1 on.
+    pub out: &'a str,
+}
+
+/// What an exploration came to: what is printed, the steps text of each finding, and the status.
+#[derive(Drop)]
+pub struct Explored {
+    pub text: Vec<u8>,
+    pub steps: Vec<Vec<u8>>,
+    pub status: u8,
+}
+
+/// What is explored, and where its calls stand in the text.
+#[derive(Drop)]
+struct Sources<'a> {
+    image: &'a Image,
+    bound: u64,
+    lines: &'a CallLines,
+    names: &'a LocalNames,
+    named: Named<'a>,
+    ghost low: { 1 ≤ bound },
+    ghost high: { bound ≤ 2 ^ 48 },
+}
+
+/// Appends text.
+fn say(out: &mut Vec<u8>, text: &str) -> Result<(), AllocError> {
+    out.extend_from_slice(text.as_bytes())
+}
+
+/// Appends a line of the file of the bodies.
+fn say_place(
+    alloc: Global,
+    out: &mut Vec<u8>,
+    sources: &Sources<'_>,
+    line: Option<u32>,
+) -> Result<(), AllocError> {
+    say(out, sources.named.src)?;
+    if let Some(line) = line {
+        say(out, format!(in alloc; ":{line}")?.as_str())?;
+    }
+    Ok(())
+}
+
+/// The line of a finding: of its call, or of the head of the body that goes on for ever.
+fn line_of(sources: &Sources<'_>, finding: &Finding, site: Site) -> Option<u32> {
+    match finding.sight {
+        Sight::Endless(_) => sources.lines.head(site.body),
+        Sight::Line(_) | Sight::Deadlock => sources.lines.line(sources.image.code(), site),
+    }
+}
+
+/// Appends a line of the trace, without its line feed.
+fn say_line(
+    out: &mut Vec<u8>,
+    sys: &System,
+    number: u32,
+    lines: &[Line],
+    place: usize,
+) -> Result<(), AllocError> {
+    if let Some(line) = lines.get(place) {
+        print(sys, number, &[*line], out)?;
+        let _feed = out.pop();
+    }
+    Ok(())
+}
+
+/// Appends a task that is started, with the call in which it waits.
+fn say_started(
+    alloc: Global,
+    out: &mut Vec<u8>,
+    sources: &Sources<'_>,
+    started: Started,
+) -> Result<(), AllocError> {
+    if let Some(config) = sources.image.system().tasks.get(usize::from(started.task)) {
+        out.extend_from_slice(config.name.as_bytes())?;
+    }
+    if let Some(site) = started.waits {
+        say(out, " (")?;
+        say_place(
+            alloc,
+            out,
+            sources,
+            sources.lines.line(sources.image.code(), site),
+        )?;
+        say(out, ")")?;
+    }
+    Ok(())
+}
+
+/// Appends the tasks of a deadlock.
+fn say_deadlock(
+    alloc: Global,
+    out: &mut Vec<u8>,
+    sources: &Sources<'_>,
+    started: &[Started],
+) -> Result<(), AllocError> {
+    for (i, task) in started.iter().enumerate() {
+        say(out, if i == 0 { "deadlock of " } else { ", " })?;
+        say_started(alloc, out, sources, *task)?;
+    }
+    Ok(())
+}
+
+/// Appends what is seen after the steps of a finding.
+fn say_sight(
+    alloc: Global,
+    out: &mut Vec<u8>,
+    sources: &Sources<'_>,
+    finding: &Finding,
+) -> Result<(), AllocError> {
+    let left = left_by(alloc, sources.image, sources.bound, &finding.steps)?;
+    match finding.sight {
+        Sight::Line(place) => {
+            say_line(out, sources.image.system(), left.number, &left.lines, place)
+        }
+        Sight::Deadlock => say_deadlock(alloc, out, sources, &left.started),
+        Sight::Endless(p) => say(
+            out,
+            format!(in alloc; "processor {p} goes on for ever without a call")?.as_str(),
+        ),
+    }
+}
+
+/// Appends a finding, the one of this number.
+fn say_finding(
+    alloc: Global,
+    out: &mut Vec<u8>,
+    sources: &Sources<'_>,
+    finding: &Finding,
+    number: usize,
+) -> Result<(), AllocError> {
+    if let Some(site) = finding.site {
+        say_place(alloc, out, sources, line_of(sources, finding, site))?;
+        say(out, ": ")?;
+    }
+    say_sight(alloc, out, sources, finding)?;
+    let count = finding.steps.len();
+    let word = if count == 1 { "step" } else { "steps" };
+    let name = sources.named.out;
+    say(
+        out,
+        format!(in alloc; ": after {count} {word}, in {name}.{number}\n")?.as_str(),
+    )
+}
+
+/// Appends why the search ended, and how much it saw.
+fn say_ending(alloc: Global, out: &mut Vec<u8>, report: &Report) -> Result<(), AllocError> {
+    match report.ending {
+        Ending::Whole if report.findings.is_empty() => say(out, "nothing found\n")?,
+        Ending::Whole | Ending::Enough => {}
+        Ending::States => say(out, "stopped: as many states as are allowed\n")?,
+        Ending::Depth => say(out, "stopped: as deep as the search goes\n")?,
+        Ending::Memory => say(out, "stopped: out of memory\n")?,
+    }
+    if report.waits {
+        say(out, "a task waits for an interrupt\n")?;
+    }
+    let (states, events, deep) = (report.states, report.events, report.deep);
+    say(
+        out,
+        format!(in alloc; "{states} states, {events} events, {deep} deep\n")?.as_str(),
+    )
+}
+
+/// Appends the calls that were never made.
+fn say_unmade(
+    alloc: Global,
+    out: &mut Vec<u8>,
+    sources: &Sources<'_>,
+    coverage: &Coverage,
+) -> Result<(), AllocError> {
+    let sites = coverage.never_made(alloc, sources.image.code())?;
+    if sites.is_empty() {
+        return Ok(());
+    }
+    say(out, "calls never made:")?;
+    let mut last = None;
+    for site in &sites {
+        let line = sources.lines.line(sources.image.code(), *site);
+        if line != last {
+            say(out, " ")?;
+            say_place(alloc, out, sources, line)?;
+            last = line;
+        }
+    }
+    say(out, "\n")
+}
+
+/// A line of what there is of one kind, which begins with a title where there is any.
+#[derive(Drop)]
+struct Row<'a> {
+    title: &'a str,
+    is_begun: bool,
+}
+
+impl<'a> Row<'a> {
+    /// A line with this title.
+    fn new(title: &'a str) -> Row<'a> {
+        Row {
+            title,
+            is_begun: false,
+        }
+    }
+
+    /// Appends a name.
+    fn say_name(&mut self, out: &mut Vec<u8>, name: Name) -> Result<(), AllocError> {
+        say(out, if self.is_begun { " " } else { self.title })?;
+        self.is_begun = true;
+        out.extend_from_slice(name.as_bytes())
+    }
+
+    /// Appends a name with a number.
+    fn say_number(
+        &mut self,
+        alloc: Global,
+        out: &mut Vec<u8>,
+        name: Name,
+        number: usize,
+    ) -> Result<(), AllocError> {
+        self.say_name(out, name)?;
+        say(out, format!(in alloc; " {number}")?.as_str())
+    }
+
+    /// Ends the line, if there is one.
+    fn end(self, out: &mut Vec<u8>) -> Result<(), AllocError> {
+        if self.is_begun {
+            say(out, "\n")
+        } else {
+            Ok(())
+        }
+    }
+}
+
+/// Appends the tasks and the cyclic handlers that never ran.
+fn say_unrun(out: &mut Vec<u8>, sys: &System, coverage: &Coverage) -> Result<(), AllocError> {
+    let mut row = Row::new("never run: ");
+    for (t, config) in sys.tasks.iter().enumerate() {
+        if coverage.runs.tasks.get(t) == Some(&false) {
+            row.say_name(out, config.name)?;
+        }
+    }
+    for (c, config) in sys.cyclics.iter().enumerate() {
+        if coverage.runs.cyclics.get(c) == Some(&false) {
+            row.say_name(out, config.name)?;
+        }
+    }
+    row.end(out)
+}
+
+/// Appends the greatest count of each semaphore.
+fn say_counts(
+    alloc: Global,
+    out: &mut Vec<u8>,
+    sys: &System,
+    counts: &[u16],
+) -> Result<(), AllocError> {
+    let mut row = Row::new("greatest counts: ");
+    for (s, config) in sys.semaphores.iter().enumerate() {
+        if let Some(count) = counts.get(s) {
+            row.say_number(alloc, out, config.name, usize::from(*count))?;
+        }
+    }
+    row.end(out)
+}
+
+/// Appends the greatest length of each data queue and mailbox.
+fn say_lengths(
+    alloc: Global,
+    out: &mut Vec<u8>,
+    sys: &System,
+    coverage: &Coverage,
+) -> Result<(), AllocError> {
+    let mut row = Row::new("greatest lengths: ");
+    for (d, config) in sys.data_queues.iter().enumerate() {
+        if let Some(words) = coverage.peaks.words.get(d) {
+            row.say_number(alloc, out, config.name, usize::from(*words))?;
+        }
+    }
+    for (x, config) in sys.mailboxes.iter().enumerate() {
+        if let Some(messages) = coverage.peaks.messages.get(x) {
+            row.say_number(alloc, out, config.name, usize::from(*messages))?;
+        }
+    }
+    row.end(out)
+}
+
+/// Appends what falls out of a search.
+fn say_coverage(
+    alloc: Global,
+    out: &mut Vec<u8>,
+    sources: &Sources<'_>,
+    coverage: &Coverage,
+) -> Result<(), AllocError> {
+    let sys = sources.image.system();
+    say_unmade(alloc, out, sources, coverage)?;
+    say_unrun(out, sys, coverage)?;
+    say_counts(alloc, out, sys, &coverage.peaks.counts)?;
+    say_lengths(alloc, out, sys, coverage)
+}
+
+/// Appends how many values the most varied fields have, where the search stopped at a limit.
+fn say_varieties(
+    alloc: Global,
+    out: &mut Vec<u8>,
+    sources: &Sources<'_>,
+    report: &Report,
+) -> Result<(), AllocError> {
+    let mut most = 0;
+    for variety in &report.varieties {
+        most = variety.values.max(most);
+    }
+    for variety in &report.varieties {
+        if variety.values > 1 && variety.values >= most / 2 {
+            let values = variety.values;
+            say(out, format!(in alloc; "{values} values: ")?.as_str())?;
+            append_name(
+                alloc,
+                out,
+                sources.image.system(),
+                sources.names,
+                variety.what,
+            )?;
+            say(out, "\n")?;
+        }
+    }
+    Ok(())
+}
+
+/// The status: 4 where something was found, 5 where the search stopped, else 0.
+fn status_of(report: &Report) -> u8 {
+    match report.ending {
+        _ if !report.findings.is_empty() => 4,
+        Ending::Whole | Ending::Enough => 0,
+        Ending::States | Ending::Depth | Ending::Memory => 5,
+    }
+}
+
+/// What is printed of a report, and its steps texts.
+fn explored_report(
+    alloc: Global,
+    sources: &Sources<'_>,
+    report: &Report,
+) -> Result<Explored, AllocError> {
+    let mut text = Vec::new(alloc);
+    let mut steps = Vec::new(alloc);
+    for (i, finding) in report.findings.iter().enumerate() {
+        say_finding(alloc, &mut text, sources, finding, i.saturating_add(1))?;
+        let mut events = Vec::new(alloc);
+        print_steps(&finding.steps, &mut events)?;
+        steps.push(events)?;
+    }
+    say_ending(alloc, &mut text, report)?;
+    say_coverage(alloc, &mut text, sources, &report.coverage)?;
+    say_varieties(alloc, &mut text, sources, report)?;
+    Ok(Explored {
+        text,
+        steps,
+        status: status_of(report),
+    })
+}
+
+/// Explores the schedules of an image whose bodies have this text. `AllocError` if there is no memory to begin with, or
+/// for what is printed.
+pub fn explored_image<W: Watcher>(
+    alloc: Global,
+    image: &Image,
+    src: &[u8],
+    named: Named<'_>,
+    question: &Question,
+    bound: u64,
+    watcher: &mut W,
+) -> Result<Explored, AllocError> {
+    let bound = kept_bound(bound);
+    let report = explore(alloc, image, bound, question, watcher)?;
+    let lines = CallLines::new(alloc, src)?;
+    let names = LocalNames::new(alloc, src)?;
+    let sources = Sources {
+        image,
+        bound,
+        lines: &lines,
+        names: &names,
+        named,
+    };
+    explored_report(alloc, &sources, &report)
+}
