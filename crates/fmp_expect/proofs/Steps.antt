@@ -16,7 +16,7 @@ use Rattle.fmp_expect.specs.Grammar.{or_else}
 use Rattle.fmp_expect.specs.Meaning.{Told, broken_at, failure, fails_at_end, first_broken, if_fails, is_interrupt, is_owed, is_tick, is_told, is_zero, outcome, runs, tells, with_lines}
 use Rattle.fmp_expect.specs.Stages.{AreTold, before_by, failed_by, first_failed, never_by, next_stage, next_watch, next_watches, open_stage, stage_by, stage_of, told_stage, waited, waiting_stage, watch_of, within_by}
 
--- so many ticks have been waited, or more
+-- this many ticks have been waited, or more
 abbrev reached : ℕ → Option ℕ → Bool
 reached n None = false
 reached n (Some m) = nat_le n m

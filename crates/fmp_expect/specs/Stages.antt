@@ -25,7 +25,7 @@ abbrev pub told_stage : Bool → Stage
 told_stage true = stage.Held
 told_stage false = stage.Open
 
--- so many ticks may still come
+-- this many ticks may still come
 abbrev pub waiting_stage : (ticks : ℕ) → Option ℕ → Stage
 waiting_stage n None = stage.Open
 waiting_stage n (Some m) = stage.Waiting (n - m)

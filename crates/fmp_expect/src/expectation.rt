@@ -39,7 +39,7 @@ pub enum Expectation {
         first: Happening,
         second: Happening,
     },
-    /// Whenever the interrupt is requested, this actor runs before more than so many ticks are done.
+    /// Whenever the interrupt is requested, this actor runs before more than this many ticks are done.
     Within {
         actor: Actor,
         /// 0 to 2147483647.

@@ -12,7 +12,7 @@ use fmp_base::Line;
 pub enum Stage {
     /// It may still fail, and nothing is kept.
     Open,
-    /// The actor has not run since an interrupt, and so many ticks may still come before it does.
+    /// The actor has not run since an interrupt, and this many ticks may still come before it does.
     Waiting(u32),
     /// The first happened, so it cannot fail any more.
     Held,
@@ -54,7 +54,7 @@ fn after_before(first: Happening, second: Happening, stage: Stage, number: u32, 
     }
 }
 
-/// The stage after an interrupt, where so many ticks may come.
+/// The stage after an interrupt, where this many ticks may come.
 fn after_interrupt(ticks: u32, stage: Stage) -> Stage
     ensures { result ≡ spec.after_interrupt ticks stage }
 {

@@ -32,7 +32,7 @@ same_context a b p c l o =
     ∙ ap (λ (xs : List ℤ). context_of b.pc b.count xs a.operands) l
     ∙ ap (λ (xs : List ℤ). context_of b.pc b.count b.locals xs) o
 
--- so many rounds of so many instructions
+-- this many rounds of this many instructions
 laps : (made rounds : ℕ) → ℕ
 laps made zero = 0
 laps made (suc rounds) = made + laps made rounds

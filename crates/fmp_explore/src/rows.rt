@@ -36,7 +36,7 @@ impl Rows {
         read(kernel, 0, &self.fields, &mut self.first)
     }
 
-    /// Writes the row of a kernel's state, where so many interrupts came. `AllocError` if memory runs out.
+    /// Writes the row of a kernel's state, where this many interrupts came. `AllocError` if memory runs out.
     pub fn write(&mut self, kernel: &Kernel<Vm<'_>>, came: usize) -> Result<(), AllocError> {
         read(kernel, came, &self.fields, &mut self.values)?;
         pack(&self.values, &self.first, &mut self.row)

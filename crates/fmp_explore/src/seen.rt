@@ -54,7 +54,7 @@ fn hash_of(row: &[u8]) -> u64 {
 }
 
 impl Seen {
-    /// No state yet, of at most so many. `AllocError` if memory runs out.
+    /// No state yet, of at most this many. `AllocError` if memory runs out.
     pub fn new(alloc: Global, most: u32) -> Result<Seen, AllocError> {
         Ok(Seen {
             rows: Vec::new(alloc),

@@ -55,7 +55,7 @@ fn append_heads(width: usize, out: &mut Vec<u8>) -> Result<(), AllocError> {
     append("\n", out)
 }
 
-/// The counts of a task that spun after so many events, each under its head.
+/// The counts of a task that spun after this many events, each under its head.
 fn append_counts(tally: &Tally, spins: u32, out: &mut Vec<u8>) -> Result<(), AllocError> {
     let counts = [
         tally.starts,
@@ -82,7 +82,7 @@ fn name_width(sys: &System) -> usize {
     width
 }
 
-/// The row of a task of this name that spun after so many events, given the number of all events.
+/// The row of a task of this name that spun after this many events, given the number of all events.
 fn append_tally(
     alloc: Global,
     name: &[u8],

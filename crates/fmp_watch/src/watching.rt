@@ -83,7 +83,7 @@ pub fn watched<B: Body>(
     Ok(watcher)
 }
 
-/// Whether the next stretch of each of so many processors reaches the bound.
+/// Whether the next stretch of each of this many processors reaches the bound.
 fn over_bound(
     alloc: Global,
     next: &[NextRun; 8],

@@ -5,7 +5,7 @@ use Rattle.std.specs.Prelude.{ℕ, ◌+◌, List, Option, Some, None, Bool, fals
 abbrev pub next_of : (blockers : List (Option ℕ)) → ℕ → Option ℕ
 next_of blockers t = get_or blockers t None
 
--- from here on so many steps lead to a task
+-- from here on this many steps lead to a task
 abbrev pub leads_to : (blockers : List (Option ℕ)) → (goal fuel : ℕ) → Option ℕ → Bool
 leads_to blockers goal zero at = false
 leads_to blockers goal (suc n) None = false
@@ -15,7 +15,7 @@ leads_to blockers goal (suc n) (Some t) = nat_eq t goal || leads_to blockers goa
 abbrev pub is_on_cycle : (blockers : List (Option ℕ)) → ℕ → Bool
 is_on_cycle blockers t = leads_to blockers t (length blockers) (next_of blockers t)
 
--- the first task on such a cycle, of so many from t on
+-- the first task on such a cycle, of this many from t on
 abbrev pub cycle_from : (blockers : List (Option ℕ)) → (t fuel : ℕ) → Option ℕ
 cycle_from blockers t zero = None
 cycle_from blockers t (suc n) =

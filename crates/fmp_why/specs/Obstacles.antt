@@ -18,7 +18,7 @@ use Rattle.fmp_base.specs.Outcomes.{numbered}
 use Rattle.fmp_base.specs.ProcessorCalls.{is_free, is_spin}
 use Rattle.fmp_why.specs.declared.obstacles.Spin.{Spin}
 
--- the spin lock that a call asks for by loc_spn, of so many
+-- the spin lock that a call asks for by loc_spn, of this many
 abbrev pub asked_lock : (locks : ℕ) → Option Call → Option ℕ
 asked_lock locks (Some (call.LocSpn l)) = numbered locks l
 asked_lock locks _ = None

@@ -15,7 +15,7 @@ pub struct Spin {
     pub holder: usize,
 }
 
-/// The spin lock that a call asks for by `loc_spn`, of so many.
+/// The spin lock that a call asks for by `loc_spn`, of this many.
 fn asked_lock(locks: u8, call: Option<Call>) -> Option<u8>
     ensures { result ≡ spec.asked_lock locks call }
 {
@@ -111,7 +111,7 @@ pub fn may_spin(processors: &[Processor], cpu: &Processor) -> bool
 }
 
 /// What the actor of a processor spins for, if its next call is this one: the spin lock that it asks for, if it may ask
-/// and some processor holds it. There are so many spin locks.
+/// and some processor holds it. There are this many spin locks.
 pub fn spin_on(
     processors: &[Processor],
     locks: u8,

@@ -53,7 +53,7 @@ pub fn searched(alloc: Global, cfg: &str, src: &str, question: &Question) -> Res
     searched_at(alloc, 100_000, cfg, src, question)
 }
 
-/// The first finding shows this after so many steps.
+/// The first finding shows this after this many steps.
 pub fn expect(rt: &impl Abort, report: &Report, name: &str, is_expected: bool, steps: usize) {
     assert_eq!(rt;
         report.findings.len(),
