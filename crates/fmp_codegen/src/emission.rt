@@ -1,6 +1,6 @@
 //! The code of a tree and its depths, one instruction after another. The jumps of an `if` get their places when these
-//! are known. The size of a loop's body and of an operand of `&&` and `||` is counted before, so that each jump there is
-//! known when it is emitted; nesting bounds how often a tree is counted.
+//! are known. The size of a loop's body and of an operand of `&&` and `||` is counted before, so that each jump there
+//! is known when it is emitted; nesting bounds how often a tree is counted.
 
 ghost use Rattle.std.specs.Prelude.{◌≡◌, ◌+◌, ◌<◌, ◌≤◌, ◌++◌, ◌∷◌, [], ℕ, map, max, length, slice_set, Some, IfSome, OnOk, IfOk};
 ghost use Rattle.fmp_instructions.specs.declared.instructions.Instruction.TheVariants.{Jump, JumpIfZero};

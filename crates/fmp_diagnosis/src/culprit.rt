@@ -20,8 +20,8 @@ pub enum Aim {
     Before,
     /// Behind that token, where something is missing.
     Behind,
-    /// From the first byte of one token of the text to the last byte of another; the first alone, if the other one stands
-    /// in another line.
+    /// From the first byte of one token of the text to the last byte of another; the first alone, if the other one
+    /// stands in another line.
     Tokens(usize, usize),
 }
 

@@ -152,7 +152,8 @@ pub fn column_behind(column: usize, at: usize, end: usize) -> usize
 }
 
 /// What is said of a fault of one of two texts, which stands at this place of it. It is shown there, or where the text
-/// is to be changed: at a word before it, behind that, or at a value of the static API. `AllocError` if memory runs out.
+/// is to be changed: at a word before it, behind that, or at a value of the static API. `AllocError` if memory runs
+/// out.
 pub fn finding_at(
     alloc: Global,
     texts: Texts<'_>,

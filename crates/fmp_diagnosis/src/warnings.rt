@@ -299,9 +299,9 @@ impl Warnings {
     }
 }
 
-/// The warnings of two texts that have no fault. Each kind comes in order of text: at most 100 of calls, their arguments
-/// and shared words in expressions; of indices; of loops; of spin locks; of bodies; of the constants and then of the
-/// objects of the configuration. `AllocError` if memory runs out.
+/// The warnings of two texts that have no fault. Each kind comes in order of text: at most 100 of calls, their
+/// arguments and shared words in expressions; of indices; of loops; of spin locks; of bodies; of the constants and then
+/// of the objects of the configuration. `AllocError` if memory runs out.
 pub fn warnings_of(alloc: Global, texts: Texts<'_>) -> Result<Vec<Warning>, AllocError> {
     let cfg = list_of(alloc, texts.cfg)?;
     let src = list_of(alloc, texts.src)?;

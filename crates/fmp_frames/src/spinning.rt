@@ -34,8 +34,8 @@ fn next_call<B: Body>(kernel: &Kernel<B>, body: &B, n: u64, p: u8) -> Option<Cal
     }
 }
 
-/// What the actor of the processor at a place spins for; these are all processors. No stretch is made where no spin lock
-/// is held, or the processor may not ask for one.
+/// What the actor of the processor at a place spins for; these are all processors. No stretch is made where no spin
+/// lock is held, or the processor may not ask for one.
 fn spin_at<B: Body>(
     kernel: &Kernel<B>,
     body: &B,

@@ -109,8 +109,8 @@ fn spins_at(spins: &[u32], place: usize) -> u32 {
 }
 
 impl Tallies {
-    /// Appends the table: a line for each task, with its share of the events in tenths of a percent. `AllocError` if memory
-    /// runs out.
+    /// Appends the table: a line for each task, with its share of the events in tenths of a percent. `AllocError` if
+    /// memory runs out.
     pub fn append_table(
         &self,
         alloc: Global,

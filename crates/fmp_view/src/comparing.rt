@@ -56,8 +56,8 @@ fn told_up_to<'a>(
     told_of(alloc, image, &events[..count], bound)
 }
 
-/// The first event in which the runs of an image over two lists of events differ, with the events in front of it and the
-/// states that differ then; none if they tell the same. `AllocError` if memory runs out.
+/// The first event in which the runs of an image over two lists of events differ, with the events in front of it and
+/// the states that differ then; none if they tell the same. `AllocError` if memory runs out.
 fn difference(
     alloc: Global,
     image: &Image,

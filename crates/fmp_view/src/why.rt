@@ -100,8 +100,8 @@ fn why_over(
     }
 }
 
-/// What each task of the image of these bytes waits or spins for after an event of a steps text, by its number, or after
-/// the last one.
+/// What each task of the image of these bytes waits or spins for after an event of a steps text, by its number, or
+/// after the last one.
 pub fn why(
     alloc: Global,
     image: &[u8],

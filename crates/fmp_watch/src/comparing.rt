@@ -187,8 +187,8 @@ fn append_events(
     append_event(b"+ ", b, number, out)
 }
 
-/// Appends the event of a number in which two runs differ, behind those in front of it, and the states of the tasks that
-/// differ then: these are the same runs up to that event. `AllocError` if memory runs out.
+/// Appends the event of a number in which two runs differ, behind those in front of it, and the states of the tasks
+/// that differ then: these are the same runs up to that event. `AllocError` if memory runs out.
 pub fn append_difference(
     alloc: Global,
     runs: (&Told<'_>, &Told<'_>),

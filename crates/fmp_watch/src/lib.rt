@@ -1,5 +1,5 @@
-//! Runs as they are watched: what tasks wait and spin for at their end, the first event in which two of them differ, and
-//! turns that do nothing.
+//! Runs as they are watched: what tasks wait and spin for at their end, the first event in which two of them differ,
+//! and turns that do nothing.
 #![tactic(auto)]
 
 mod comparing;

@@ -289,9 +289,9 @@ fn append_verdict(
     }
 }
 
-/// Appends what each task waits or spins for, since when, until when, and who took it last; and how the tasks stand: all
-/// have ended, they are in a deadlock, or nothing is left that ends their waits. What is waited and spun for is so in the
-/// state; since when, and who took it, are read from the trace.
+/// Appends what each task waits or spins for, since when, until when, and who took it last; and how the tasks stand:
+/// all have ended, they are in a deadlock, or nothing is left that ends their waits. What is waited and spun for is so
+/// in the state; since when, and who took it, are read from the trace.
 pub fn append_report(
     alloc: Global,
     scene: &Scene<'_>,

@@ -51,8 +51,8 @@ fn ticks_while_idle(rt: HostRuntime) -> Result<(), Fail> {
     Ok(())
 }
 
-/// Where two interrupts come and no more, the sink waits forever after 11 steps: two requests, two calls and two ends of
-/// the handler, and five calls of the sink. It may, if it is at rest then.
+/// Where two interrupts come and no more, the sink waits forever after 11 steps: two requests, two calls and two ends
+/// of the handler, and five calls of the sink. It may, if it is at rest then.
 #[test]
 fn two_interrupts(rt: HostRuntime) -> Result<(), Fail> {
     let alloc = rt.alloc();

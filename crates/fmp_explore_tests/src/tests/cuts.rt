@@ -1,5 +1,5 @@
-//! Stretches that are cut at the bound, and bodies that go on for ever. What is found, and how many states there are, was
-//! written by hand from the texts.
+//! Stretches that are cut at the bound, and bodies that go on for ever. What is found, and how many states there are,
+//! was written by hand from the texts.
 use crate::tests::searching::{endless, expect, is_line, question, searched_at};
 use fmp_base::Fault;
 use fmp_explore::{Ending, Never};
