@@ -1,7 +1,7 @@
 -- What the arms of the emitter of statements have put together.
-use Rattle.std.proofs.Common.{◌≡◌, ℕ, ◌+◌, List, [], ◌∷◌, ◌++◌, length, ap, sym, ◌∙◌, arith, append_assoc, length-append}
+use Rattle.std.proofs.Common.{◌≡◌, ℕ, ◌+◌, List, [], ◌∷◌, ◌++◌, length, ap, sym, ◌∙◌, arith, append_assoc, drop, length-append}
 use Rattle.std.specs.Prelude.{slice_set}
-use Rattle.std.proofs.Math.Seq.{set-append_seam}
+use Rattle.std.proofs.Math.Seq.{drop-append_seam, set-append_seam}
 use Rattle.fmp_tasklang.specs.Trees.{ExpressionTree, Block, if_then, if_else, while}
 use Rattle.fmp_tasklang.specs.Scopes.{Scope}
 use Rattle.fmp_instructions.specs.declared.instructions.Instruction.{Instruction}
@@ -10,6 +10,8 @@ use Rattle.fmp_scopes.specs.Chains.{test_code}
 use Rattle.fmp_scopes.specs.DepthTables.{expression_depths, statement_depths, block_depths}
 use Rattle.fmp_scopes.specs.Scheme.{expression_code, statement_code, block_code}
 use Rattle.fmp_scopes.specs.Sizes.{expression_size, block_size}
+use Rattle.fmp_codegen.specs.Breaks.{block_breaks, led_to}
+use Rattle.fmp_codegen.proofs.BreakLemmas.{led-block}
 use Rattle.fmp_codegen.proofs.Lengths.{length-expression_code, length-block_code}
 
 -- a test and what stands behind it
@@ -71,19 +73,42 @@ module _ (scope : Scope) (e : ExpressionTree) (b : Block) (begun made made' : Li
       jumps ∙ ap (λ c. c ++ Jump to ∷ []) tested-block
       ∙ piled begun (expression_code scope e (length begun)) (JumpIfZero (length begun + expression_size e + 1 + over) ∷ inner) (Jump to ∷ [])
 
+  -- the test leads behind the jump back, and the jumps of `break`s lead there too
   pub while-emitted :
-      (whole : List Instruction) → over ≡ block_size b + 1 → again ≡ length begun → exit ≡ length made + over →
-      whole ≡ made' ++ Jump again ∷ [] → (again' exit' : ℕ) →
+      exit ≡ 0 → (jumped turned whole : List Instruction) (at outer : ℕ) (old noted : List ℕ) → at + 1 ≡ length made →
+      length made' ≡ length made + block_size b → again ≡ length begun → jumped ≡ made' ++ Jump again ∷ [] →
+      length jumped ≡ length made' + 1 → turned ≡ slice_set jumped at (JumpIfZero (length jumped)) →
+      length turned ≡ length jumped → outer ≡ length old → noted ≡ old ++ block_breaks b (length made) →
+      whole ≡ led_to (length turned) (drop outer noted) turned → (again' exit' : ℕ) →
       whole ≡ begun ++ statement_code scope (while e b) (length begun) again' exit'
-  while-emitted whole size back out jumps again' exit' =
+  while-emitted none jumped turned whole at outer old noted place more back jumps longer turns same before notes ends again' exit' =
       let first = length begun + expression_size e + 1 in
       let after = first + block_size b + 1 in
-      let here : length begun + expression_size e + 1 + over ≡ after = omega arith in
-      let there : exit ≡ after = omega (arith, len) in
-      tested-jump whole again jumps
-      ∙ ap (λ t. begun ++ (expression_code scope e (length begun) ++ (JumpIfZero t ∷ (inner ++ Jump again ∷ [])))) here
-      ∙ ap (λ x. begun ++ (expression_code scope e (length begun) ++ (JumpIfZero after ∷ (block_code scope b first again x ++ Jump again ∷ [])))) there
-      ∙ ap (λ a. begun ++ (expression_code scope e (length begun) ++ (JumpIfZero after ∷ (block_code scope b first a after ++ Jump a ∷ [])))) back
+      let code = expression_code scope e (length begun) in
+      let here : length jumped ≡ after = omega (arith, len, more, longer) in
+      let there : length turned ≡ after = omega (arith, same, here) in
+      let inner0 = block_code scope b first again 0 in
+      let turned_is : turned ≡ begun ++ (code ++ (JumpIfZero after ∷ (inner0 ++ Jump again ∷ []))) =
+      turns ∙ ap (λ c. slice_set c at (JumpIfZero (length jumped))) (tested-jump jumped again jumps)
+      ∙ retested (inner ++ Jump again ∷ []) at (length jumped) place
+      ∙ ap (λ t. begun ++ (code ++ (JumpIfZero t ∷ (inner ++ Jump again ∷ [])))) here
+      ∙ ap (λ x. begun ++ (code ++ (JumpIfZero after ∷ (block_code scope b first again x ++ Jump again ∷ [])))) none in
+      let places : drop outer noted ≡ block_breaks b first =
+      ap (λ k. drop k noted) before ∙ ap (drop (length old)) notes ∙ drop-append_seam old (block_breaks b (length made))
+      ∙ ap (block_breaks b) len in
+      let head = begun ++ (code ++ JumpIfZero after ∷ []) in
+      let long : first ≡ length head =
+      omega (
+        arith,
+        length-append begun (code ++ JumpIfZero after ∷ []),
+        length-append code (JumpIfZero after ∷ []),
+        length-expression_code scope e (length begun),
+      ) in
+      ends ∙ ap (λ n. led_to n (drop outer noted) turned) there ∙ ap (λ ps. led_to after ps turned) places
+      ∙ ap (led_to after (block_breaks b first)) (turned_is ∙ sym (tested begun code (JumpIfZero after) (inner0 ++ Jump again ∷ [])))
+      ∙ led-block scope again after b head (Jump again ∷ []) first long
+      ∙ tested begun code (JumpIfZero after) (block_code scope b first again after ++ Jump again ∷ [])
+      ∙ ap (λ a. begun ++ (code ++ (JumpIfZero after ∷ (block_code scope b first a after ++ Jump a ∷ [])))) back
 
   pub else-emitted :
       (r : Block) (before turned last whole : List Instruction) (at jump : ℕ) → at + 1 ≡ length made →
@@ -146,3 +171,13 @@ module _ (e : ExpressionTree) (b : Block) (begun made made' : List ℕ) (did : m
       last ∙ ap (λ c. c ++ block_depths r) (tested-deep before jumps)
       ∙ piled begun (expression_depths e 0) (1 ∷ (block_depths b ++ 0 ∷ [])) (block_depths r)
       ∙ ap (λ c. begun ++ (expression_depths e 0 ++ (1 ∷ c))) (append_assoc (block_depths b) (0 ∷ []) (block_depths r))
+
+-- the `break`s of two blocks, one behind the other
+pub both-noted :
+    (noted : List ℕ) (b r : Block) (first : ℕ) (more last : List ℕ) (at behind : ℕ) → at ≡ first →
+    behind ≡ first + block_size b + 1 → more ≡ noted ++ block_breaks b at → last ≡ more ++ block_breaks r behind →
+    last ≡ noted ++ (block_breaks b first ++ block_breaks r (first + block_size b + 1))
+both-noted noted b r first more last at behind here there one two =
+    two ∙ ap (λ ps. ps ++ block_breaks r behind) (one ∙ ap (λ n. noted ++ block_breaks b n) here)
+    ∙ ap (λ n. (noted ++ block_breaks b first) ++ block_breaks r n) there
+    ∙ append_assoc noted (block_breaks b first) (block_breaks r (first + block_size b + 1))

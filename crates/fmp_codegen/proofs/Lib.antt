@@ -1,6 +1,7 @@
 mod Arms
 mod Behaves
 mod Bodies
+mod BreakLemmas
 mod DepthLengths
 mod Emitted
 mod Expressions

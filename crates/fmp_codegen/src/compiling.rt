@@ -16,7 +16,7 @@ ghost use Rattle.fmp_codegen.specs.Laws.{DoesText};
 ghost use Rattle.fmp_scopes.specs.Scopes.{HoldsNumbers, locals_with};
 ghost use Rattle.fmp_scopes.specs.Sizes.{block_size};
 
-use crate::emission::{Output, emit_block, put};
+use crate::emission::{Output, emit_statements, put};
 use fmp_base::System;
 use fmp_instructions::{BodyCode, Code, Instruction};
 use fmp_lex::{BuildFault, FaultKind, Tokens};
@@ -173,7 +173,7 @@ pub fn compile_body(
         instructions: Vec::with_capacity(alloc, usize::from(size) + 1)?,
         depths: Vec::with_capacity(alloc, usize::from(size) + 1)?,
     };
-    emit_block(&mut out, &names, &body.statements, size, size)?;
+    emit_statements(alloc, &mut out, &names, &body.statements, size)?;
     put(&mut out, Instruction::End, 0)?;
     Ok(BodyCode {
         locals: places_of_body(&body.variables),

@@ -1,8 +1,8 @@
-//! The code of a tree and its depths, one instruction after another. The jumps of an `if` get their places when these
-//! are known. The size of a loop's body and of an operand of `&&` and `||` is counted before, so that each jump there
-//! is known when it is emitted; nesting bounds how often a tree is counted.
+//! The code of a tree and its depths, one instruction after another. The jumps of an `if` and of a loop, and those of
+//! its `break`s, get their places when these are known. The size of an operand of `&&` and `||` is counted before, so
+//! that each jump there is known when it is emitted; nesting bounds how often an operand is counted.
 
-ghost use Rattle.std.specs.Prelude.{◌≡◌, ◌+◌, ◌<◌, ◌≤◌, ◌++◌, ◌∷◌, [], ℕ, map, max, length, slice_set, Some, IfSome, OnOk, IfOk};
+ghost use Rattle.std.specs.Prelude.{◌≡◌, ◌+◌, ◌<◌, ◌≤◌, ◌++◌, ◌∷◌, [], ℕ, map, max, length, drop, take, slice_set, Some, IfSome, OnOk, IfOk};
 ghost use Rattle.fmp_instructions.specs.declared.instructions.Instruction.TheVariants.{Jump, JumpIfZero};
 ghost use Rattle.fmp_base.specs.Systems.{tables_of};
 ghost use Rattle.fmp_tasklang.specs.Scopes.{meaning_of};
@@ -14,13 +14,12 @@ ghost use Rattle.fmp_scopes.specs.DepthTables.{expression_depths, arguments_dept
 ghost use Rattle.fmp_scopes.specs.Scheme.{array_base, load_element, store_element, element_code, name_code, word_place, expression_code, arguments_code, target_place, call_instruction, statement_code, block_code};
 ghost use Rattle.fmp_scopes.specs.Scopes.{IsHeld, meaning_view, scope_view};
 ghost use Rattle.fmp_scopes.specs.Sizes.{expression_size, arguments_size, statement_size, block_size};
+ghost use Rattle.fmp_codegen.specs.Breaks.{statement_breaks, block_breaks, led_to};
 
 use fmp_instructions::Instruction;
-use fmp_scopes::{
-    Meaning, Names, block_extent, expression_extent, first_place_in, meaning_in, places_in,
-};
+use fmp_scopes::{Meaning, Names, expression_extent, first_place_in, meaning_in, places_in};
 use fmp_tasklang::{Expression, Link, Operator, ServiceCall, Statement, Word};
-use std::alloc::AllocError;
+use std::alloc::{AllocError, Global};
 
 /// The code that is made so far, with the number of operands before each instruction.
 #[derive(Drop)]
@@ -125,14 +124,6 @@ fn size_of(e: &Expression) -> usize
     ensures { result ≡ expression_size (expression_view e.now) }
 {
     expression_extent(e).size
-}
-
-/// The size of a block of a body that is small enough.
-fn size_of_block(statements: &[Statement]) -> usize
-    requires { block_size (block_view statements.now) ≤ 65535 }
-    ensures { result ≡ block_size (block_view statements.now) }
-{
-    block_extent(statements).size
 }
 
 /// The code of an expression before which this many operands stand.
@@ -329,26 +320,20 @@ fn emit_element(
     Ok(())
 }
 
-/// The code of a condition, and a jump over this many instructions behind it if it is 0.
-fn emit_test(
-    out: &mut Output,
-    names: &Names<'_>,
-    condition: &Expression,
-    over: usize,
-) -> Result<(), AllocError>
+/// The code of a condition, and a jump to the place behind it if it is 0.
+fn emit_test(out: &mut Output, names: &Names<'_>, condition: &Expression) -> Result<(), AllocError>
     requires held { IsHeld names.now }
-    requires room { length out.old.instructions.items + expression_size (expression_view condition.now) + 1 + over ≤
-        65535 }
+    requires room { length out.old.instructions.items + expression_size (expression_view condition.now) + 1 ≤ 65535 }
     requires low { expression_depth (expression_view condition.now) ≤ 64 }
     ensures code { OnOk result (out.new.instructions.items ≡ out.old.instructions.items ++
-        test_code (scope_view names.now) (expression_view condition.now) (length out.old.instructions.items) over) }
+        test_code (scope_view names.now) (expression_view condition.now) (length out.old.instructions.items) 0) }
     ensures len { OnOk result (length out.new.instructions.items ≡
         length out.old.instructions.items + expression_size (expression_view condition.now) + 1) }
     ensures depths { OnOk result (out.new.depths.items ≡ out.old.depths.items ++
         (expression_depths (expression_view condition.now) 0 ++ 1 ∷ [])) }
 {
     emit_expression(out, names, condition, 0)?;
-    let target = place(out.instructions.len() + 1 + over);
+    let target = place(out.instructions.len() + 1);
     put(out, Instruction::JumpIfZero(target), 1)?;
     Ok(())
 }
@@ -387,23 +372,55 @@ fn end_jump(out: &mut Output, at: usize)
     out.instructions[at] = Instruction::Jump(end);
 }
 
+/// The jump at a place, if there is one, leads to another place.
+fn lead(out: &mut Output, at: u16, to: u16)
+    ensures code { out.new.instructions.items ≡ slice_set out.old.instructions.items at (Jump to) }
+    ensures len { length out.new.instructions.items ≡ length out.old.instructions.items }
+    ensures depths { out.new.depths.items ≡ out.old.depths.items }
+{
+    if usize::from(at) < out.instructions.len() {
+        out.instructions[usize::from(at)] = Instruction::Jump(to);
+    }
+}
+
+/// The jumps at these places, from the one at a place of the list on, lead to the end of the code so far. They leave the
+/// list.
+fn end_breaks(out: &mut Output, breaks: &mut Vec<u16>, from: usize)
+    requires room { length out.old.instructions.items ≤ 65535 }
+    ensures code { out.new.instructions.items
+        ≡ led_to (length out.old.instructions.items) (drop from breaks.old.items) out.old.instructions.items }
+    ensures len { length out.new.instructions.items ≡ length out.old.instructions.items }
+    ensures depths { out.new.depths.items ≡ out.old.depths.items }
+    ensures breaks { breaks.new.items ≡ take from breaks.old.items }
+{
+    let end = place(out.instructions.len());
+    for i in from..breaks.len() {
+        lead(out, breaks[i], end);
+    }
+    breaks.truncate(from);
+}
+
+/// The code of a statement; `again` is the place to which a `continue` leads. Where a `break` leads is not known yet:
+/// its jump leads to 0, and its place is noted.
 #[cycle(statement_emission)]
 fn emit_statement(
     out: &mut Output,
     names: &Names<'_>,
     s: &Statement,
     again: u16,
-    exit: u16,
+    breaks: &mut Vec<u16>,
 ) -> Result<(), AllocError>
     requires held { IsHeld names.now }
     requires room { length out.old.instructions.items + statement_size (statement_view s.now) ≤ 65535 }
     requires low { statement_depth (statement_view s.now) ≤ 64 }
     ensures code { OnOk result (out.new.instructions.items ≡ out.old.instructions.items ++
-        statement_code (scope_view names.now) (statement_view s.now) (length out.old.instructions.items) again exit) }
+        statement_code (scope_view names.now) (statement_view s.now) (length out.old.instructions.items) again 0) }
     ensures len { OnOk result (length out.new.instructions.items ≡
         length out.old.instructions.items + statement_size (statement_view s.now)) }
     ensures depths { OnOk result
         (out.new.depths.items ≡ out.old.depths.items ++ statement_depths (statement_view s.now)) }
+    ensures breaks { OnOk result (breaks.new.items ≡ breaks.old.items ++
+        statement_breaks (statement_view s.now) (length out.old.instructions.items)) }
 {
     match s {
         Statement::Assign { target, value } => {
@@ -424,9 +441,9 @@ fn emit_statement(
             Ok(())
         }
         Statement::If { condition, then } => {
-            emit_test(out, names, condition, 0)?;
+            emit_test(out, names, condition)?;
             let test = last_place(out);
-            emit_block(out, names, then, again, exit)?;
+            emit_block(out, names, then, again, breaks)?;
             end_test(out, test);
             Ok(())
         }
@@ -435,27 +452,30 @@ fn emit_statement(
             then,
             otherwise,
         } => {
-            emit_test(out, names, condition, 0)?;
+            emit_test(out, names, condition)?;
             let choice = last_place(out);
-            emit_block(out, names, then, again, exit)?;
+            emit_block(out, names, then, again, breaks)?;
             put(out, Instruction::Jump(0), 0)?;
             let jump = last_place(out);
             end_test(out, choice);
-            emit_block(out, names, otherwise, again, exit)?;
+            emit_block(out, names, otherwise, again, breaks)?;
             end_jump(out, jump);
             Ok(())
         }
         Statement::While { condition, body } => {
             let start = place(out.instructions.len());
-            let over = size_of_block(body) + 1;
-            emit_test(out, names, condition, over)?;
-            let end = place(out.instructions.len() + over);
-            emit_block(out, names, body, start, end)?;
+            let outer = breaks.len();
+            emit_test(out, names, condition)?;
+            let test = last_place(out);
+            emit_block(out, names, body, start, breaks)?;
             put(out, Instruction::Jump(start), 0)?;
+            end_test(out, test);
+            end_breaks(out, breaks, outer);
             Ok(())
         }
         Statement::Break => {
-            put(out, Instruction::Jump(exit), 0)?;
+            breaks.push(place(out.instructions.len()))?;
+            put(out, Instruction::Jump(0), 0)?;
             Ok(())
         }
         Statement::Continue => {
@@ -469,28 +489,53 @@ fn emit_statement(
     }
 }
 
-/// The code of the statements of a block; `again` is the place to which a `continue` leads, `exit` that to which a
-/// `break` leads.
+/// The code of the statements of a block, as of one.
 #[cycle(statement_emission)]
-pub fn emit_block(
+fn emit_block(
     out: &mut Output,
     names: &Names<'_>,
     statements: &[Statement],
     again: u16,
-    exit: u16,
+    breaks: &mut Vec<u16>,
 ) -> Result<(), AllocError>
     requires held { IsHeld names.now }
     requires room { length out.old.instructions.items + block_size (block_view statements.now) ≤ 65535 }
     requires low { block_depth (block_view statements.now) ≤ 64 }
     ensures code { OnOk result (out.new.instructions.items ≡ out.old.instructions.items ++
-        block_code (scope_view names.now) (block_view statements.now) (length out.old.instructions.items) again exit) }
+        block_code (scope_view names.now) (block_view statements.now) (length out.old.instructions.items) again 0) }
     ensures len { OnOk result (length out.new.instructions.items ≡
         length out.old.instructions.items + block_size (block_view statements.now)) }
     ensures depths { OnOk result
         (out.new.depths.items ≡ out.old.depths.items ++ block_depths (block_view statements.now)) }
+    ensures breaks { OnOk result (breaks.new.items ≡ breaks.old.items ++
+        block_breaks (block_view statements.now) (length out.old.instructions.items)) }
 {
     for s in statements {
-        emit_statement(out, names, s, again, exit)?;
+        emit_statement(out, names, s, again, breaks)?;
     }
+    Ok(())
+}
+
+/// The code of the statements of a body, before which there is none. Outside of loops `break` and `continue` lead to the
+/// end, which is at this place.
+pub fn emit_statements(
+    alloc: Global,
+    out: &mut Output,
+    names: &Names<'_>,
+    statements: &[Statement],
+    end: u16,
+) -> Result<(), AllocError>
+    requires held { IsHeld names.now }
+    requires begun { out.old.instructions.items ≡ [] }
+    requires size { block_size (block_view statements.now) ≡ end }
+    requires low { block_depth (block_view statements.now) ≤ 64 }
+    ensures code { OnOk result (out.new.instructions.items ≡
+        block_code (scope_view names.now) (block_view statements.now) 0 end end) }
+    ensures depths { OnOk result
+        (out.new.depths.items ≡ out.old.depths.items ++ block_depths (block_view statements.now)) }
+{
+    let mut breaks = Vec::new(alloc);
+    emit_block(out, names, statements, end, &mut breaks)?;
+    end_breaks(out, &mut breaks, 0);
     Ok(())
 }

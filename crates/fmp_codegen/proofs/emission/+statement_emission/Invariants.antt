@@ -5,6 +5,7 @@ use Rattle.fmp_scopes.specs.DepthTables.{block_depths}
 use Rattle.fmp_scopes.specs.Scheme.{block_code}
 use Rattle.fmp_scopes.specs.Scopes.{scope_view}
 use Rattle.fmp_scopes.specs.Sizes.{block_size}
+use Rattle.fmp_codegen.specs.Breaks.{block_breaks}
 use Rattle.fmp_codegen.proofs.emission.+statement_emission.Given as goal
 
 abbrev pub invariant-emit_block-loop-s : goal.invariant-emit_block-loop-s
@@ -14,9 +15,10 @@ invariant-emit_block-loop-s l =
     let rest = block_view (drop l.s-index l.statements) in
     let whole = block_view l.statements in
     record {
-      code : made ++ block_code (scope_view l.names) rest (length made) l.again l.exit ≡
-          begun ++ block_code (scope_view l.names) whole (length begun) l.again l.exit;
+      code : made ++ block_code (scope_view l.names) rest (length made) l.again 0 ≡
+          begun ++ block_code (scope_view l.names) whole (length begun) l.again 0;
       len : length made + block_size rest ≡ length begun + block_size whole;
       depths : l.out.depths.items ++ block_depths rest ≡ l.fn.out.depths.items ++ block_depths whole;
+      breaks : l.breaks.items ++ block_breaks rest (length made) ≡ l.fn.breaks.items ++ block_breaks whole (length begun);
       low : block_depth rest ≤ 64;
     }
