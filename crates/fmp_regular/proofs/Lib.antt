@@ -1,0 +1,10 @@
+pub mod Apart
+pub mod CallChanges
+pub mod Changes
+pub mod EventChanges
+pub mod HeldLaws
+pub mod ReplayLaws
+pub mod Stands
+pub mod StepLaws
+pub mod TaskChanges
+pub mod WorldLaws

@@ -1,0 +1,9 @@
+use Rattle.fmp_regular.proofs.ReplayLaws.{replays-reached}
+use Rattle.fmp_regular.proofs.WorldLaws.{reached-regular, reached-sized}
+use Rattle.fmp_regular.proofs.laws.replays_are_regular.Goals as goal
+
+pub returns-clause-regular : goal.returns-clause-regular
+returns-clause-regular c i n es range = reached-regular i.system _ (replays-reached i n es range)
+
+pub returns-clause-sizes : goal.returns-clause-sizes
+returns-clause-sizes c i n es range = reached-sized i.system _ (replays-reached i n es range)

@@ -1,0 +1,35 @@
+//! The laws, each the contract of a function that does nothing. `C` is the type of the contexts of bodies.
+ghost use Rattle.std.specs.Prelude.{ℕ, List};
+ghost use Rattle.fmp_base.specs.declared.events.Event.{Event};
+ghost use Rattle.fmp_base.specs.Meanings.{Meaning};
+ghost use Rattle.fmp_base.specs.Ranges.{IsInRange};
+ghost use Rattle.fmp_base.specs.Runs.{run};
+ghost use Rattle.fmp_base.specs.Setups.{setup};
+ghost use Rattle.fmp_base.specs.States.{KernelState};
+ghost use Rattle.fmp_base.specs.Systems.{SystemTables};
+ghost use Rattle.fmp_image_bytes.specs.Images.{ImageTables};
+ghost use Rattle.fmp_replay.specs.Replays.{replay};
+ghost use Rattle.fmp_rows.specs.Values.{SameSizes};
+ghost use Rattle.fmp_rows.specs.Worlds.{IsRegularWorld};
+ghost use Rattle.fmp_regular.specs.Sizes.{IsOfSystem, IsWorldOfSystem};
+
+/// Every world that setup and events reach is regular, and has as many of each as its system.
+pub fn worlds_are_regular<C>()
+    ensures regular { (sys : SystemTables) (M : Meaning C) (n : ℕ) (es : List Event) → IsInRange sys →
+        IsRegularWorld sys (run sys M n (setup sys M).world es).world }
+    ensures sizes { (sys : SystemTables) (M : Meaning C) (n : ℕ) (es : List Event) → IsInRange sys →
+        IsWorldOfSystem sys (run sys M n (setup sys M).world es).world }
+{}
+
+/// So is every world of a replay on an image, whose system is in range.
+pub fn replays_are_regular()
+    ensures regular { (i : ImageTables) (n : ℕ) (es : List Event) → IsInRange i.system →
+        IsRegularWorld i.system (replay i n es).world }
+    ensures sizes { (i : ImageTables) (n : ℕ) (es : List Event) → IsInRange i.system →
+        IsWorldOfSystem i.system (replay i n es).world }
+{}
+
+/// Two states of one system have as many of each.
+pub fn states_of_a_system_have_the_same_sizes()
+    ensures { (sys : SystemTables) (s u : KernelState) → IsOfSystem sys s → IsOfSystem sys u → SameSizes s u }
+{}

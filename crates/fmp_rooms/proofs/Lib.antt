@@ -1,0 +1,11 @@
+pub mod MachineLaws
+pub mod BodyLaws
+pub mod TiedRooms
+pub mod BeginLaws
+pub mod HandlerLaws
+pub mod WorldLaws
+pub mod ToldLaws
+pub mod ContextLaws
+pub mod ImageRooms
+pub mod ReplayRooms
+pub mod SameBodies
