@@ -1,0 +1,96 @@
+-- A closed set shows what holds along all schedules.
+use Rattle.std.proofs.Common.{◌≡◌, ◌+◌, ℕ, List, [], ◌∷◌, Option, Some, None, Bool, true, false, ◌||◌, nat_lt, refl, sym, ◌∙◌, ap, subst, count_by, arith}
+use Rattle.std.proofs.lemmas.List.Sums.{sum_by-cons}
+use Rattle.std.specs.List.{list_any}
+use Rattle.fmp_base.specs.declared.events.Event.{Event}
+use Rattle.fmp_base.specs.declared.events.Line.{Line}
+use Rattle.fmp_base.specs.Meanings.{Meaning, World}
+use Rattle.fmp_base.specs.Setups.{setup}
+use Rattle.fmp_base.specs.Steps.{step}
+use Rattle.fmp_base.specs.Systems.{SystemTables}
+use Rattle.fmp_alike.specs.Alike.{Alike}
+use Rattle.fmp_alike.specs.Closed.{IsClosed, IsCovered, NoneIsBad, watched}
+use Rattle.fmp_alike.proofs.ClosedLaws.{run-covers}
+use Rattle.fmp_alike.proofs.StepLaws.{step-same}
+use Rattle.fmp_alike.proofs.WorldLaws.{worlds-chained}
+use Rattle.fmp_schedules.specs.Deadlocks.{IsDeadlock}
+use Rattle.fmp_schedules.specs.Schedules.{Holds, IsSchedule, Rules, Watched, at_first, watched_at_setup, is_request, is_told, lines_after, may_come, may_still, requests, watch, watched_on, reached}
+use Rattle.fmp_schedules.specs.Tried.{IsSearched, IsTimeless, NoneIsDeadlock}
+use Rattle.fmp_schedules.proofs.DeadlockLaws.{deadlock-alike}
+use Rattle.fmp_schedules.proofs.RuleLaws.{may_come-same, watch-blind}
+use Rattle.fmp_schedules.proofs.TriedLaws.{tried-closed}
+
+or-none : (a : Bool) → a ≡ (a || false)
+or-none true = refl
+or-none false = refl
+
+or-assoc : (a b c : Bool) → ((a || b) || c) ≡ (a || (b || c))
+or-assoc true b c = refl
+or-assoc false b c = refl
+
+told-watched : (rules : Rules) (forbidden : Line → Bool) (a : Watched) (events : List (List Line))
+    → (watched (watch rules forbidden) a events).told ≡ (a.told || is_told forbidden events)
+told-watched rules forbidden a [] = or-none a.told
+told-watched rules forbidden a (ls ∷ rest) =
+    told-watched rules forbidden (watched_on rules forbidden a ls) rest
+    ∙ or-assoc a.told (list_any forbidden ls) (is_told forbidden rest)
+
+abbrev limited : Bool → ℕ → Rules
+limited idle most = record { idle_ticks = idle; most = Some most }
+
+came-watched : (idle : Bool) (most : ℕ) (forbidden : Line → Bool) (a : Watched) (events : List (List Line))
+    → (watched (watch (limited idle most) forbidden) a events).came ≡ a.came + requests events
+came-watched idle most forbidden a [] = omega arith
+came-watched idle most forbidden a (ls ∷ rest) =
+    let e : (a.came + count_by is_request ls) + requests rest ≡ a.came + (count_by is_request ls + requests rest) = omega arith in
+    came-watched idle most forbidden (watched_on (limited idle most) forbidden a ls) rest
+    ∙ e
+    ∙ ap (λ (k : ℕ). a.came + k) (sym (sum_by-cons (λ (events : List Line). count_by is_request events) ls rest))
+
+still-watched : (idle : Bool) (most : Option ℕ) (forbidden : Line → Bool) (a : Watched) (events : List (List Line))
+    → may_still most (watched (watch (record { idle_ticks = idle; most = most }) forbidden) a events).came
+    ≡ may_still most (a.came + requests events)
+still-watched idle None forbidden a events = refl
+still-watched idle (Some most) forbidden a events = ap (λ (came : ℕ). nat_lt came most) (came-watched idle most forbidden a events)
+
+module _ {C : Type 0} (rules : Rules) (sys : SystemTables) (M : Meaning C) (n : ℕ) (forbidden : Line → Bool) (rest : List Bool)
+    (K : World C → Watched → Type 0) (even : IsTimeless forbidden)
+    (closed : IsClosed (Alike sys) (watch rules forbidden) (may_come rules sys M n) (step sys M n) K)
+    (first : IsCovered (Alike sys) K (setup sys M).world (watched_at_setup rules sys M forbidden))
+    (clean : NoneIsBad (watch rules forbidden) K) (free : NoneIsDeadlock rules sys M n rest K) where
+  abbrev watched_after : List Event → Watched
+  watched_after es = watched (watch rules forbidden) at_first (lines_after sys M n es)
+
+  covered : (es : List Event) → IsSchedule rules sys M n forbidden es
+      → IsCovered (Alike sys) K (reached sys M n es) (watched_after es)
+  covered es schedule =
+      run-covers (Alike sys) (watch rules forbidden) (worlds-chained sys) (watch-blind forbidden even rules) K (may_come rules sys M n)
+      (may_come-same sys M n rules) sys M n (step-same sys M n) closed (setup sys M).world (watched_at_setup rules sys M forbidden) es
+      schedule first
+
+  still-after : (es : List Event)
+      → may_still rules.most (requests (lines_after sys M n es)) ≡ may_still rules.most (watched_after es).came
+  still-after es =
+      let e : requests (lines_after sys M n es) ≡ 0 + requests (lines_after sys M n es) = omega arith in
+      ap (λ (came : ℕ). may_still rules.most came) e
+      ∙ sym (still-watched rules.idle_ticks rules.most forbidden at_first (lines_after sys M n es))
+
+  pub closed-holds : Holds rules sys M n forbidden rest
+  closed-holds =
+      record {
+        never = λ es schedule. let k = covered es schedule in
+            sym (told-watched rules forbidden at_first (lines_after sys M n es)) ∙ clean k.world (watched_after es) k.kept;
+        free = λ es schedule d. let k = covered es schedule in
+            free k.world (watched_after es) k.kept
+            (deadlock-alike sys M n (reached sys M n es) k.world rest (may_still rules.most (watched_after es).came)
+            (subst (λ (b : Bool). IsDeadlock sys M n (reached sys M n es) rest b) (still-after es) d) k.alike);
+      }
+
+-- a search that tried each event and found nothing shows that all schedules hold
+pub searched-holds : {C : Type 0} (rules : Rules) (sys : SystemTables) (M : Meaning C) (n : ℕ) (forbidden : Line → Bool)
+    (rest : List Bool) (K : World C → Watched → Type 0) → IsTimeless forbidden → IsSearched rules sys M n forbidden rest K
+    → Holds rules sys M n forbidden rest
+searched-holds rules sys M n forbidden rest K even h =
+    closed-holds rules sys M n forbidden rest K even
+    (tried-closed sys M n (watch rules forbidden) (may_come rules sys M n) K (watch-blind forbidden even rules) h.whole h.tried)
+    h.first h.clean h.free

@@ -1,0 +1,106 @@
+-- Which lists of events are looked at, and what holds along all of them.
+use Rattle.std.specs.Prelude.{ℕ, zero, suc, ◌+◌, ◌≡◌, List, ◌∷◌, Option, Some, None, Bool, true, false, count_by, sum_by, nat_lt, not, ◌&&◌, ◌||◌}
+use Rattle.std.specs.List.{list_any}
+use Rattle.fmp_base.specs.declared.events.Event.{Event}
+use Rattle.fmp_base.specs.declared.events.Event.TheVariants as event
+use Rattle.fmp_base.specs.declared.events.Line.{Line}
+use Rattle.fmp_base.specs.declared.events.Line.TheVariants as line
+use Rattle.fmp_base.specs.Meanings.{Meaning, World}
+use Rattle.fmp_base.specs.Runs.{run}
+use Rattle.fmp_base.specs.Setups.{setup}
+use Rattle.fmp_base.specs.Steps.{Reaction, Nothing, Did, Kept, step}
+use Rattle.fmp_base.specs.Systems.{SystemTables}
+use Rattle.fmp_alike.specs.Closed.{AreAllowed, Watch}
+use Rattle.fmp_schedules.specs.Deadlocks.{IsDeadlock}
+
+-- Which events may come. Processors run in any order, any number of times; the rules say when the clock may advance,
+-- and how many interrupts may come.
+pub record Rules : Type 0 where
+  -- the clock may advance only where no processor can do anything; else at any time
+  pub idle_ticks : Bool
+  -- how many interrupts may do something; any number, if none is given
+  pub most : Option ℕ
+
+-- the line of an interrupt that did something
+abbrev pub is_request : Line → Bool
+is_request (line.Int i) = true
+is_request _ = false
+
+-- how many interrupts did something, by the lines of each event
+abbrev pub requests : List (List Line) → ℕ
+requests events = sum_by (λ ls. count_by is_request ls) events
+
+-- one more interrupt may come where this many did something
+abbrev pub may_still : Option ℕ → (came : ℕ) → Bool
+may_still None came = true
+may_still (Some most) came = nat_lt came most
+
+abbrev pub is_nothing : {C : Type 0} → Reaction C → Bool
+is_nothing Nothing = true
+is_nothing (Did d) = false
+is_nothing (Kept p w) = false
+
+-- none of the processors with these numbers, 1 and on, can do anything
+abbrev pub none_runs : {C : Type 0} → SystemTables → Meaning C → (n : ℕ) → World C → (processors : ℕ) → Bool
+none_runs sys M n w zero = true
+none_runs sys M n w (suc p) = is_nothing (step sys M n w (event.Run (suc p))) && none_runs sys M n w p
+
+-- what is watched: how many interrupts did something, and whether a forbidden line was told
+pub record Watched : Type 0 where
+  pub came : ℕ
+  pub told : Bool
+
+abbrev pub at_first : Watched
+at_first = record { came = 0; told = false }
+
+-- interrupts are counted only if the rules limit them: a count without a limit would make new states without end
+abbrev pub came_after : Option ℕ → (came : ℕ) → List Line → ℕ
+came_after None came ls = came
+came_after (Some most) came ls = came + count_by is_request ls
+
+abbrev pub watched_on : Rules → (Line → Bool) → Watched → List Line → Watched
+watched_on rules forbidden a ls =
+    record { came = came_after rules.most a.came ls; told = a.told || list_any forbidden ls }
+
+abbrev pub watch : Rules → (Line → Bool) → Watch Watched
+watch rules forbidden = record { next = watched_on rules forbidden; is_bad = λ a. a.told }
+
+-- the rules let an event come to a world
+abbrev pub may_come : {C : Type 0} → Rules → SystemTables → Meaning C → (n : ℕ) → World C → Watched → Event → Bool
+may_come rules sys M n w a (event.Run p) = true
+may_come rules sys M n w a event.Tick = not rules.idle_ticks || none_runs sys M n w sys.processors
+may_come rules sys M n w a (event.Int i) = may_still rules.most a.came
+
+-- what is watched at setup
+abbrev pub watched_at_setup : {C : Type 0} → Rules → SystemTables → Meaning C → (Line → Bool) → Watched
+watched_at_setup rules sys M forbidden = watched_on rules forbidden at_first (setup sys M).lines
+
+-- a list of events that come one after the other from setup on, each as the rules let it come
+abbrev pub IsSchedule : {C : Type 0} → Rules → SystemTables → Meaning C → (n : ℕ) → (forbidden : Line → Bool)
+    → List Event → Type 0
+IsSchedule rules sys M n forbidden es =
+    AreAllowed (watch rules forbidden) (may_come rules sys M n) (step sys M n) (setup sys M).world
+    (watched_at_setup rules sys M forbidden) es
+
+-- the world after setup and these events
+abbrev pub reached : {C : Type 0} → SystemTables → Meaning C → (n : ℕ) → List Event → World C
+reached sys M n es = (run sys M n (setup sys M).world es).world
+
+-- the lines of setup, and of each of these events that did something
+abbrev pub lines_after : {C : Type 0} → SystemTables → Meaning C → (n : ℕ) → List Event → List (List Line)
+lines_after sys M n es = (setup sys M).lines ∷ (run sys M n (setup sys M).world es).events
+
+-- a forbidden line is among these
+abbrev pub is_told : (forbidden : Line → Bool) → List (List Line) → Bool
+is_told forbidden events = list_any (λ ls. list_any forbidden ls) events
+
+-- Whatever events come, in whatever order, as the rules let them come: no forbidden line is ever told, and no deadlock
+-- is ever reached.
+pub record Holds {C : Type 0} (rules : Rules) (sys : SystemTables) (M : Meaning C) (n : ℕ) (forbidden : Line → Bool)
+    (rest : List Bool) : Type 0 where
+  pub never :
+      (es : List Event) → IsSchedule rules sys M n forbidden es →
+      is_told forbidden (lines_after sys M n es) ≡ false
+  pub free :
+      (es : List Event) → IsSchedule rules sys M n forbidden es →
+      IsDeadlock sys M n (reached sys M n es) rest (may_still rules.most (requests (lines_after sys M n es))) → ⊥

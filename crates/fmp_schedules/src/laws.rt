@@ -1,0 +1,83 @@
+//! The laws, each the contract of a function that does nothing. `C` is the type of the contexts of bodies, `S` that of
+//! what is watched. Those of lists of worlds are proved for any set of worlds: by `tried-closed` of `proofs/TriedLaws`,
+//! and by `closed-holds` and `searched-holds` of `proofs/HoldLaws`. No contract can speak of all sets.
+ghost use Rattle.std.specs.Prelude.{◌≡◌, ◌+◌, ◌<◌, ◌≤◌, ℕ, Bool, List, None, false, true, length};
+ghost use Rattle.fmp_base.specs.declared.events.Event.{Event};
+ghost use Rattle.fmp_base.specs.declared.events.Event.TheVariants.{Run};
+ghost use Rattle.fmp_base.specs.declared.events.Line.{Line};
+ghost use Rattle.fmp_base.specs.Meanings.{Meaning, World};
+ghost use Rattle.fmp_base.specs.Setups.{setup};
+ghost use Rattle.fmp_base.specs.Steps.{Nothing, step};
+ghost use Rattle.fmp_base.specs.Systems.{SystemTables};
+ghost use Rattle.fmp_alike.specs.Alike.{Alike};
+ghost use Rattle.fmp_alike.specs.Closed.{IsBlind, IsClosed, IsCovered, IsListed, IsRule, NoneIsBad, Seen, Watch};
+ghost use Rattle.fmp_schedules.specs.Deadlocks.{IsDeadlock};
+ghost use Rattle.fmp_schedules.specs.Schedules.{Holds, IsSchedule, Rules, Watched, watched_at_setup, may_come, none_runs, watch};
+ghost use Rattle.fmp_schedules.specs.Tried.{IsSearched, IsTimeless, IsTried, NoneIsDeadlock, is_event_of};
+
+/// Where the clock may advance at any time and any number of interrupts may come, every list of events is a schedule.
+pub fn all_lists_are_schedules<C>()
+    ensures { (rules : Rules) (sys : SystemTables) (M : Meaning C) (n : ℕ) (forbidden : Line → Bool)
+        (es : List Event) → rules.idle_ticks ≡ false → rules.most ≡ None →
+        IsSchedule rules sys M n forbidden es }
+{}
+
+/// `none_runs` is true exactly where none of the processors with these numbers can do anything.
+pub fn idle_processors_do_nothing<C>()
+    ensures each { (sys : SystemTables) (M : Meaning C) (n : ℕ) (w : World C) (processors : ℕ) →
+        none_runs sys M n w processors ≡ true →
+        (p : ℕ) → 1 ≤ p → p < processors + 1 → step sys M n w (Run p) ≡ Nothing }
+    ensures none { (sys : SystemTables) (M : Meaning C) (n : ℕ) (w : World C) (processors : ℕ) →
+        ((p : ℕ) → 1 ≤ p → p < processors + 1 → step sys M n w (Run p) ≡ Nothing) →
+        none_runs sys M n w processors ≡ true }
+{}
+
+/// The rules let the same events come to alike worlds. What is watched does not look at the number of the clock, unless
+/// the forbidden lines do.
+pub fn rules_are_rules<C>()
+    ensures rules { (rules : Rules) (sys : SystemTables) (M : Meaning C) (n : ℕ) →
+        IsRule (Alike sys) (may_come rules sys M n) }
+    ensures watch { (rules : Rules) (forbidden : Line → Bool) → IsTimeless forbidden →
+        IsBlind (watch rules forbidden) }
+{}
+
+/// What is like a deadlock is a deadlock.
+pub fn deadlocks_are_alike<C>()
+    ensures { (sys : SystemTables) (M : Meaning C) (n : ℕ) (v w : World C) (rest : List Bool) (interrupts : Bool) →
+        IsDeadlock sys M n v rest interrupts → Alike sys v w → IsDeadlock sys M n w rest interrupts }
+{}
+
+/// An event that is none of a system's does nothing in any world that has its processors.
+pub fn other_events_do_nothing<C>()
+    ensures { (sys : SystemTables) (M : Meaning C) (n : ℕ) (w : World C) (e : Event) →
+        length w.state.processors ≡ sys.processors → is_event_of sys e ≡ false → step sys M n w e ≡ Nothing }
+{}
+
+/// A list of worlds is closed if each of the system's events that may come to one of them was tried, on that world or
+/// one like it, and led to nothing outside the list.
+pub fn tried_lists_are_closed<C, S>()
+    ensures { (sys : SystemTables) (M : Meaning C) (n : ℕ) (W : Watch S) (may : World C → S → Event → Bool)
+        (seen : List (Seen C S)) → IsBlind W →
+        ((w : World C) (a : S) → IsListed seen w a → length w.state.processors ≡ sys.processors) →
+        ((w : World C) (a : S) (e : Event) → IsListed seen w a → is_event_of sys e ≡ true → may w a e ≡ true →
+        IsTried (Alike sys) W (step sys M n) (IsListed seen) w a e) →
+        IsClosed (Alike sys) W may (step sys M n) (IsListed seen) }
+{}
+
+/// If a closed list has a world like that after setup, and in none of its worlds was a forbidden line told, and none is
+/// a deadlock, then no schedule, however long, tells a forbidden line or reaches a deadlock.
+pub fn closed_lists_hold<C>()
+    ensures { (rules : Rules) (sys : SystemTables) (M : Meaning C) (n : ℕ) (forbidden : Line → Bool)
+        (rest : List Bool) (seen : List (Seen C Watched)) → IsTimeless forbidden →
+        IsClosed (Alike sys) (watch rules forbidden) (may_come rules sys M n) (step sys M n) (IsListed seen) →
+        IsCovered (Alike sys) (IsListed seen) (setup sys M).world (watched_at_setup rules sys M forbidden) →
+        NoneIsBad (watch rules forbidden) (IsListed seen) → NoneIsDeadlock rules sys M n rest (IsListed seen) →
+        Holds rules sys M n forbidden rest }
+{}
+
+/// A search that tried each event and found nothing shows the same.
+pub fn complete_searches_hold<C>()
+    ensures { (rules : Rules) (sys : SystemTables) (M : Meaning C) (n : ℕ) (forbidden : Line → Bool)
+        (rest : List Bool) (seen : List (Seen C Watched)) → IsTimeless forbidden →
+        IsSearched rules sys M n forbidden rest (IsListed seen) → Holds rules sys M n forbidden rest }
+{}
