@@ -13,7 +13,7 @@ use Rattle.fmp_kernel.specs.KernelViews.{KernelView, view_after}
 use Rattle.fmp_replay.specs.Replays.{kernel_after, reaction, replay}
 use Rattle.fmp_replay.proofs.Replaying.{kernel_last, legal_last, none_legal, step_of_replay}
 use Rattle.fmp_explore.specs.declared.question.Question.{Question}
-use Rattle.fmp_explore.specs.Deadlocks.{IsDeadlock}
+use Rattle.fmp_schedules.specs.Deadlocks.{IsDeadlock}
 use Rattle.fmp_explore.specs.Endless.{IsEndlessOn}
 use Rattle.fmp_explore.specs.Findings.{HasForbidden}
 use Rattle.fmp_explore.specs.Followed.{IsFollowed}

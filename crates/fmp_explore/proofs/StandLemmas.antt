@@ -9,7 +9,7 @@ use Rattle.fmp_drive.specs.Driving.{AllStand, TakesFirst}
 use Rattle.fmp_drive.specs.declared.trying.Source.{Source}
 use Rattle.fmp_drive.specs.declared.trying.Source.TheVariants.{Interrupt, Processor}
 use Rattle.fmp_kernel.specs.KernelViews.{KernelView}
-use Rattle.fmp_explore.specs.Deadlocks.{IsDeadlock, IsStuck}
+use Rattle.fmp_schedules.specs.Deadlocks.{IsDeadlock, IsStuck}
 use Rattle.fmp_explore.specs.Standing.{NoneDoes, StandsStill}
 
 module _ {B C : Type 0} (meaning : B → Meaning C) where

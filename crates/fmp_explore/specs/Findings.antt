@@ -7,12 +7,13 @@ use Rattle.fmp_base.specs.Steps.{Done}
 use Rattle.fmp_base.specs.Systems.{SystemTables}
 use Rattle.fmp_image_bytes.specs.Images.{ImageTables}
 use Rattle.fmp_instructions.specs.Machine.{code_meaning}
-use Rattle.fmp_replay.specs.Replays.{IsLegal, replay}
+use Rattle.fmp_replay.specs.Replays.{IsLegal, done_count, replay}
 use Rattle.fmp_explore.specs.declared.finding.Finding.{Finding}
+use Rattle.fmp_explore.specs.declared.finding.Left.{Left}
 use Rattle.fmp_explore.specs.declared.finding.Sight.{Sight}
 use Rattle.fmp_explore.specs.declared.finding.Sight.TheVariants as sight
 use Rattle.fmp_explore.specs.declared.question.Question.{Question}
-use Rattle.fmp_explore.specs.Deadlocks.{IsDeadlock, may_interrupt}
+use Rattle.fmp_schedules.specs.Deadlocks.{IsDeadlock, may_interrupt}
 use Rattle.fmp_explore.specs.Endless.{IsEndlessOn}
 use Rattle.fmp_explore.specs.Forbidden.{IsForbidden}
 
@@ -36,3 +37,9 @@ pub record IsSo (i : ImageTables) (n : ℕ) (q : Question) (es : List Event) (se
 -- a finding is so
 abbrev pub IsFound : ImageTables → ℕ → Question → Finding → Type 0
 IsFound i n q f = IsSo i n q f.steps.items f.sight
+
+-- what legal events have left: the lines of the last one that was done, with its number in the trace
+pub record IsLeft (i : ImageTables) (n : ℕ) (es : List Event) (left : Left) : Type 0 where
+  pub legal : IsLegal i n es
+  pub number : left.number ≡ done_count i n es
+  pub lines : left.lines.items ≡ (replay i n es).lines

@@ -1,4 +1,3 @@
-pub mod Deadlocks
 pub mod Endless
 pub mod Findings
 pub mod Followed

@@ -6,7 +6,7 @@ use Rattle.fmp_base.specs.Systems.{SystemTables, found}
 use Rattle.fmp_drive.specs.Driving.{AllStand}
 use Rattle.fmp_drive.specs.declared.trying.Source.TheVariants.{Processor, Interrupt}
 use Rattle.fmp_kernel.specs.KernelViews.{KernelView}
-use Rattle.fmp_explore.specs.Deadlocks.{IsStuck}
+use Rattle.fmp_schedules.specs.Deadlocks.{IsStuck}
 
 -- no wait of these tasks ends by the clock
 abbrev pub NoWaitEnds : KernelState → (tasks : ℕ) → Type 0

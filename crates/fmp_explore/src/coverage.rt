@@ -1,8 +1,8 @@
 //! What was ever done: calls that were made, tasks and handlers that ran, and how full the queues became.
-use crate::field::low_byte;
 use crate::question::ANSWERS;
 use fmp_base::{Caller, Er, Handler, Line};
 use fmp_code::{Code, Instruction};
+use fmp_fields::low_byte;
 use fmp_tasks::Tables;
 use std::alloc::{AllocError, Global};
 

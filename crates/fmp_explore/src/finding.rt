@@ -1,10 +1,10 @@
 //! What is found, and whether it is so.
-ghost use Rattle.std.specs.Prelude.{◌≡◌, ◌≤◌, ◌^◌, [], All, IfOk, IsTrue, OnOk, true};
+ghost use Rattle.std.specs.Prelude.{◌≡◌, ◌≤◌, ◌^◌, [], All, IfOk, IfSome, IsTrue, OnOk, true};
 ghost use Rattle.fmp_instructions.specs.Machine.{code_meaning};
 ghost use Rattle.fmp_replay.specs.Replays.{kernel_after, replay};
-ghost use Rattle.fmp_explore.specs.Deadlocks.{IsDeadlock, may_interrupt as may};
+ghost use Rattle.fmp_schedules.specs.Deadlocks.{IsDeadlock, may_interrupt as may};
 ghost use Rattle.fmp_explore.specs.Endless.{IsEndlessOn};
-ghost use Rattle.fmp_explore.specs.Findings.{HasForbidden, IsFound, IsSeen, IsSo};
+ghost use Rattle.fmp_explore.specs.Findings.{HasForbidden, IsFound, IsLeft, IsSeen, IsSo};
 ghost use Rattle.fmp_explore.specs.Followed.{IsFollowed};
 
 use crate::coverage::Site;
@@ -218,19 +218,19 @@ pub struct Left {
     pub started: Vec<Started>,
 }
 
-/// What these events leave on the kernel of an image that was just set up.
-fn left_on<'a>(
+/// What the kernel of an image shows, which has taken these events.
+fn shown_by<'a>(
     alloc: Global,
-    kernel: &mut Kernel<Vm<'a>>,
+    kernel: &Kernel<Vm<'a>>,
     image: &'a Image,
     n: u64,
     steps: &[Event],
 ) -> Result<Left, AllocError>
-    requires { kernel.old ≡ kernel_after image.now n [] }
+    requires { IsFollowed image.now n steps.now kernel.now }
+    ensures { IfOk result (λ left. IsLeft image.now n steps.now left) }
 {
-    let _all = follow(kernel, image, n, steps);
-    let lines = Vec::from_slice(alloc, kernel.lines())?;
     let started = started_tasks(alloc, kernel, image.system())?;
+    let lines = Vec::from_slice(alloc, kernel.lines())?;
     Ok(Left {
         number: kernel.done(),
         lines,
@@ -238,10 +238,35 @@ fn left_on<'a>(
     })
 }
 
-/// What these events leave on an image. `AllocError` if memory runs out.
-pub fn left_by(alloc: Global, image: &Image, n: u64, steps: &[Event]) -> Result<Left, AllocError>
+/// What these events leave on the kernel of an image that was just set up, if each of them does something.
+fn left_on<'a>(
+    alloc: Global,
+    kernel: &mut Kernel<Vm<'a>>,
+    image: &'a Image,
+    n: u64,
+    steps: &[Event],
+) -> Result<Option<Left>, AllocError>
+    requires { kernel.old ≡ kernel_after image.now n [] }
+    ensures { IfOk result (λ left. IfSome left (IsLeft image.now n steps.now)) }
+{
+    let is_legal = follow(kernel, image, n, steps);
+    if !is_legal {
+        return Ok(None);
+    }
+    let left = shown_by(alloc, kernel, image, n, steps)?;
+    Ok(Some(left))
+}
+
+/// What these events leave on an image, if each of them does something. `AllocError` if memory runs out.
+pub fn left_by(
+    alloc: Global,
+    image: &Image,
+    n: u64,
+    steps: &[Event],
+) -> Result<Option<Left>, AllocError>
     requires low { 1 ≤ n }
     requires high { n ≤ 2 ^ 48 }
+    ensures { IfOk result (λ left. IfSome left (IsLeft image.now n steps.now)) }
 {
     let mut kernel = kernel_of(alloc, image, n)?;
     left_on(alloc, &mut kernel, image, n, steps)

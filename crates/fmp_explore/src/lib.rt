@@ -5,15 +5,11 @@
 mod coverage;
 mod endless;
 mod exploring;
-mod field;
 mod finding;
 mod notes;
-mod packing;
 mod question;
-mod reading;
 mod replaying;
 mod rows;
-mod seen;
 mod standing;
 mod stretching;
 mod subject;
@@ -23,7 +19,6 @@ mod values;
 
 pub use coverage::{Coverage, Peaks, Runs, Site};
 pub use exploring::{Report, explore};
-pub use field::What;
 pub use finding::{Finding, Left, Sight, left_by};
 pub use question::{ANSWERS, Never, Question, Ticks};
 pub use stretching::Started;

@@ -1,7 +1,7 @@
 //! What is asked about all schedules: what must never happen, which events may happen, and where to stop.
 
 ghost use Rattle.std.specs.Prelude.{◌≡◌, ◌<◌, IsTrue, count_by, length};
-ghost use Rattle.fmp_explore.specs.Deadlocks.{is_interrupt as is_request, may_interrupt as may};
+ghost use Rattle.fmp_schedules.specs.Deadlocks.{is_interrupt as is_request, may_interrupt as may};
 ghost use Rattle.fmp_explore.specs.Forbidden.{IsAnswered, IsFault, IsForbidden, IsPut, Tells};
 
 use fmp_base::{Call, Er, Event, Fault, Line};

@@ -1,10 +1,9 @@
 //! Rows of the states of a system.
-use crate::field::{What, fields_of};
-use crate::packing::pack;
-use crate::reading::read;
 use crate::subject::Subject;
 use fmp_code::Vm;
+use fmp_fields::{What, fields_of, read};
 use fmp_kernel::Kernel;
+use fmp_seen::pack;
 use std::alloc::{AllocError, Global};
 
 /// The fields of the states, and room for their values and the row of one.

@@ -1,7 +1,7 @@
 //! Deadlocks: states in which no processor can do anything and no time runs, though a task waits.
 ghost use Rattle.std.specs.Prelude.{◌≡◌, ◌<◌, ◌≤◌, ◌^◌, ◌≢◌, IsTrue, false, length, slice_index_or};
 ghost use Rattle.fmp_drive.specs.Driving.{AllStand};
-ghost use Rattle.fmp_explore.specs.Deadlocks.{IsDeadlock, IsStuck};
+ghost use Rattle.fmp_schedules.specs.Deadlocks.{IsDeadlock, IsStuck};
 ghost use Rattle.fmp_explore.specs.Standing.{NoHandlerComes, NoWaitEnds, NoneDoes, StandsStill};
 
 use crate::question::Question;

@@ -2,9 +2,9 @@
 ghost use Rattle.std.specs.Prelude.{◌≡◌};
 
 use crate::coverage::Site;
-use crate::field::low_byte;
 use fmp_base::{Entry, Event, Held, Phase, Stretch, System, TaskConfig};
 use fmp_code::MachineContext;
+use fmp_fields::low_byte;
 use fmp_kernel::{Actor, Body, Kernel};
 use std::alloc::{AllocError, Global};
 

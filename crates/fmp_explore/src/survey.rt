@@ -9,7 +9,6 @@ use crate::notes::{Notes, Path};
 use crate::question::Ticks;
 use crate::replaying::{advance, follow};
 use crate::rows::Rows;
-use crate::seen::{Entry, Link, Seen};
 use crate::standing::stands_still;
 use crate::stretching::{NextStretch, next_stretch, task_sites};
 use crate::subject::Subject;
@@ -19,6 +18,7 @@ use fmp_base::{Effect, Event};
 use fmp_code::Vm;
 use fmp_kernel::Kernel;
 use fmp_replay::kernel_of;
+use fmp_seen::{Entry, Link, Seen};
 use std::alloc::{AllocError, Global};
 
 /// How many states there are when it is told first how far the search has come.

@@ -1,8 +1,8 @@
 //! The events that are tried in each state.
 use crate::notes::Path;
 use crate::question::interrupt_count;
-use crate::seen::Link;
 use fmp_base::{Event, System};
+use fmp_seen::Link;
 use std::alloc::{AllocError, Global};
 
 /// The most events that lead to a state.

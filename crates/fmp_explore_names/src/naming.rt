@@ -1,7 +1,7 @@
 //! The names of fields, in the words of the two texts.
 use crate::sites::begins_body;
 use fmp_base::{Entry, Name, System};
-use fmp_explore::What;
+use fmp_fields::What;
 use fmp_lex::{Keyword, Symbol, TextFault, TokenKind, Tokens, tokens};
 use std::alloc::{AllocError, Global};
 

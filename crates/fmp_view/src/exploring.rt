@@ -126,7 +126,9 @@ fn say_sight(
     sources: &Sources<'_>,
     finding: &Finding,
 ) -> Result<(), AllocError> {
-    let left = left_by(alloc, sources.image, sources.bound, &finding.steps)?;
+    let Some(left) = left_by(alloc, sources.image, sources.bound, &finding.steps)? else {
+        return Ok(());
+    };
     match finding.sight {
         Sight::Line(place) => {
             say_line(out, sources.image.system(), left.number, &left.lines, place)

@@ -1,7 +1,7 @@
 use Rattle.std.proofs.Common.{Bool, subst}
 use Rattle.fmp_instructions.specs.Machine.{code_meaning}
 use Rattle.fmp_replay.specs.Replays.{replay}
-use Rattle.fmp_explore.specs.Deadlocks.{IsDeadlock}
+use Rattle.fmp_schedules.specs.Deadlocks.{IsDeadlock}
 use Rattle.fmp_explore.proofs.Following.{deadlock_there}
 use Rattle.fmp_explore.proofs.finding.stands.Goals as goal
 

@@ -3,7 +3,7 @@
 ghost use Rattle.std.specs.Prelude.{◌≡◌, ◌%◌};
 
 use fmp_base::{Entry, System};
-use fmp_code::{BodyCode, Code};
+use fmp_instructions::{BodyCode, Code};
 use std::alloc::{AllocError, Global};
 
 /// A field of a state, and of what it is. Tasks, processors and objects go by their places, from 0. A number that may

@@ -1,0 +1,4 @@
+pub mod BodyFields
+pub mod FieldLaws
+pub mod StateFields
+pub mod WordLaws

@@ -1,0 +1,3 @@
+pub mod FieldNumbers
+pub mod Fields
+pub mod Reading

@@ -1,0 +1,26 @@
+//! The laws, each the contract of a function that does nothing.
+ghost use Rattle.std.specs.Prelude.{◌≡◌, ◌<◌, ℕ, Bool, List, map, true};
+ghost use Rattle.fmp_alike.specs.Alike.{Alike};
+ghost use Rattle.fmp_base.specs.Meanings.{World};
+ghost use Rattle.fmp_base.specs.Systems.{SystemTables};
+ghost use Rattle.fmp_fields.specs.declared.field.What.{What};
+ghost use Rattle.fmp_fields.specs.FieldNumbers.{number_of};
+ghost use Rattle.fmp_fields.specs.Fields.{AreAllFields, IsReadable};
+ghost use Rattle.fmp_instructions.specs.declared.instructions.MachineContext.{MachineContext};
+ghost use Rattle.fmp_instructions.specs.Instructions.{BodyTables};
+
+/// Worlds of one system and code in which each field has the same number are alike.
+pub fn worlds_of_the_same_numbers_are_alike()
+    ensures { (sys : SystemTables) (bodies : List BodyTables) (limited : Bool) (fields : List What)
+        (v w : World MachineContext) (came other : ℕ) → AreAllFields sys bodies limited fields →
+        IsReadable sys bodies v → IsReadable sys bodies w →
+        map (number_of sys v came) fields ≡ map (number_of sys w other) fields → Alike sys v w }
+{}
+
+/// Where their number is limited, the numbers of the fields tell how many interrupts came, if these were fewer than 256.
+pub fn numbers_tell_how_many_interrupts_came()
+    ensures { (sys : SystemTables) (bodies : List BodyTables) (limited : Bool) (fields : List What)
+        (v w : World MachineContext) (came other : ℕ) → AreAllFields sys bodies limited fields → limited ≡ true →
+        came < 256 → other < 256 →
+        map (number_of sys v came) fields ≡ map (number_of sys w other) fields → came ≡ other }
+{}

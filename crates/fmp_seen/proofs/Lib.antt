@@ -1,0 +1,5 @@
+pub mod KeptLemmas
+pub mod LinkLemmas
+pub mod NumberLemmas
+pub mod ReadingLemmas
+pub mod RowLemmas
