@@ -1,2 +1,3 @@
 pub mod CycleLemmas
+pub mod HistoryLemmas
 pub mod SpinLaws

@@ -1,5 +1,13 @@
 //! Who took what, and since when tasks stand where they do: read from the lines of a trace, and from no state.
-use fmp_base::{Action, Call, Caller, Er, Line, ObjectKind, Reply, Service, System};
+ghost use Rattle.std.specs.Prelude.{◌≡◌, [], IfOk, slice_get};
+ghost use Rattle.fmp_base.specs.Services.{argument, arguments_of, parameters};
+ghost use Rattle.fmp_base.specs.Systems.{SystemTables, tables_of};
+ghost use Rattle.fmp_why.specs.Histories as spec;
+ghost use Rattle.fmp_why.specs.HistoryTables as rows;
+
+use fmp_base::{
+    Action, Call, Caller, Er, Line, ObjectKind, Reply, SemaphoreConfig, Service, System,
+};
 use std::alloc::{AllocError, Global};
 
 /// What an actor did to an object, by the event.
@@ -49,71 +57,225 @@ pub struct History {
 
 /// What a call does to the object that its first argument names.
 #[derive(Clone, Copy)]
-enum Turn {
+enum Way {
     Takes,
     Gives,
 }
 
-impl Turn {
-    fn of(service: Service) -> Option<Turn> {
-        match (service, service.action()) {
-            (Service::LocSpn | Service::TrySpn, _) | (_, Some(Action::Takes)) => Some(Turn::Takes),
-            (Service::UnlSpn, _) | (_, Some(Action::Gives)) => Some(Turn::Gives),
-            _ => None,
-        }
-    }
+/// What a call does, and to which object: that of a kind at a place.
+#[derive(Clone, Copy)]
+struct Act {
+    way: Way,
+    kind: ObjectKind,
+    place: usize,
 }
 
 /// The place of a task, if an actor is one.
-fn task_of(actor: Caller) -> Option<u8> {
+fn task_of(actor: Caller) -> Option<u8>
+    ensures { result ≡ spec.task_of actor }
+{
     match actor {
         Caller::Task(task) => Some(task),
         Caller::Handler(_) => None,
     }
 }
 
+/// The task that has a part in a line: it calls, is released or starts.
+fn part_in(line: Line) -> Option<u8>
+    ensures { result ≡ spec.part_in line }
+{
+    match line {
+        Line::Call { caller, .. } => task_of(caller),
+        Line::Gets { task, .. } => Some(task),
+        Line::Starts { task, .. } => Some(task),
+        _ => None,
+    }
+}
+
+/// The call with which a task waits from a line on.
+fn waits_from(line: Line) -> Option<Call>
+    ensures { result ≡ spec.waits_from line }
+{
+    match line {
+        Line::Call {
+            call,
+            reply: None,
+            ..
+        } => Some(call),
+        _ => None,
+    }
+}
+
+/// Whether a call was answered as it was asked.
+fn is_done(reply: Reply) -> bool
+    ensures { result ≡ spec.is_done reply }
+{
+    match reply.code {
+        Er::Ok => true,
+        _ => false,
+    }
+}
+
+/// The call with which a task waits.
+fn waits_of(parts: &[Part], task: u8) -> Option<Call>
+    ensures { result ≡ spec.waits_of (slice_get parts.now task) }
+{
+    match parts.get(usize::from(task)) {
+        Some(part) => part.waits,
+        None => None,
+    }
+}
+
+/// The call from which a task is released with a reply, if it did what it asks for.
+fn released(parts: &[Part], task: u8, reply: Reply) -> Option<(Caller, Call)>
+    ensures { result ≡ spec.released_with (spec.is_done reply) task (spec.waits_of (slice_get parts.now task)) }
+{
+    if !is_done(reply) {
+        return None;
+    }
+    match waits_of(parts, task) {
+        Some(call) => Some((Caller::Task(task), call)),
+        None => None,
+    }
+}
+
+/// Which actor did, by a line, what which call asks for.
+fn done_in(parts: &[Part], line: Line) -> Option<(Caller, Call)>
+    ensures { result ≡ spec.done_in (λ t. spec.waits_of (slice_get parts.now t)) line }
+{
+    match line {
+        Line::Call {
+            caller,
+            call,
+            reply: Some(reply),
+            ..
+        } => if is_done(reply) {
+            Some((caller, call))
+        } else {
+            None
+        },
+        Line::Gets { task, reply, .. } => released(parts, task, reply),
+        _ => None,
+    }
+}
+
+fn way_by(action: Option<Action>) -> Option<Way>
+    ensures { result ≡ spec.way_by action }
+{
+    match action {
+        Some(Action::Takes) => Some(Way::Takes),
+        Some(Action::Gives) => Some(Way::Gives),
+        _ => None,
+    }
+}
+
+/// What a service does to the object that its first argument names.
+fn way_of(service: Service) -> Option<Way>
+    ensures { result ≡ spec.way_of service }
+{
+    match service {
+        Service::LocSpn | Service::TrySpn => Some(Way::Takes),
+        Service::UnlSpn => Some(Way::Gives),
+        _ => way_by(service.action()),
+    }
+}
+
+/// The kind of the objects of which the first argument of a service names one.
+fn kind_of(service: Service) -> Option<ObjectKind>
+    ensures { result ≡ spec.first_kind (parameters service) }
+{
+    match service.parameters() {
+        [first, ..] => first.object_kind(),
+        [] => None,
+    }
+}
+
+/// The place that a number from 1 on names.
+fn place_of(number: i32) -> Option<usize>
+    ensures { result ≡ spec.place_of number }
+{
+    if number > 0 {
+        Some((number - 1) as usize)
+    } else {
+        None
+    }
+}
+
+/// The place that the first argument of a call names.
+fn first_place(call: Call) -> Option<usize>
+    ensures { result ≡ spec.place_of (argument (arguments_of call) 0) }
+{
+    let arguments = call.arguments();
+    match arguments.as_slice() {
+        [number, ..] => place_of(*number),
+        [] => None,
+    }
+}
+
+/// Which object a call takes or gives, if it does.
+fn act_of(call: Call) -> Option<Act>
+    ensures { result ≡ spec.act_of call }
+{
+    let service = call.service();
+    match (way_of(service), kind_of(service), first_place(call)) {
+        (Some(way), Some(kind), Some(place)) => Some(Act { way, kind, place }),
+        _ => None,
+    }
+}
+
+/// The holder after a task, or a handler, gave.
+fn holder_after(giver: Option<u8>, holder: Option<u8>) -> Option<u8>
+    ensures { result ≡ spec.holder_after giver holder }
+{
+    match (giver, holder) {
+        (Some(giver), Some(task)) if giver == task => None,
+        _ => holder,
+    }
+}
+
 impl Trail {
     /// What was done last, after this too.
-    fn with(self, turn: Turn, deed: Deed) -> Trail {
-        match turn {
-            Turn::Takes => Trail {
+    fn with(self, way: Way, deed: Deed) -> Trail
+        ensures { result ≡ spec.after_deed way deed self }
+    {
+        match way {
+            Way::Takes => Trail {
                 taken: Some(deed),
                 holder: task_of(deed.actor),
                 ..self
             },
-            Turn::Gives => Trail {
+            Way::Gives => Trail {
                 given: Some(deed),
-                holder: if task_of(deed.actor) == self.holder {
-                    None
-                } else {
-                    self.holder
-                },
+                holder: holder_after(task_of(deed.actor), self.holder),
                 ..self
             },
         }
     }
 }
 
-/// The place that a number from 1 on names.
-fn place_of(number: i32) -> Option<usize> {
-    usize::try_from(number.checked_sub(1)?).ok()
-}
-
 /// One thing more was done to the object at a place.
-fn add(trails: &mut Vec<Trail>, place: usize, turn: Turn, deed: Deed) {
-    if let Some(trail) = trails.get_mut(place) {
-        *trail = trail.with(turn, deed);
+fn add(trails: &mut Vec<Trail>, place: usize, way: Way, deed: Deed)
+    ensures { trails.new.items ≡ rows.changed_at (spec.after_deed way deed) trails.old.items place }
+{
+    if place < trails.len() {
+        trails[place] = trails[place].with(way, deed);
     }
 }
 
-/// Whether a call was answered as it was asked.
-fn is_done(reply: Reply) -> bool {
-    reply.code == Er::Ok
+/// A task had this part in a line.
+fn set_part(parts: &mut Vec<Part>, task: usize, part: Part)
+    ensures { parts.new.items ≡ rows.changed_at (λ _. part) parts.old.items task }
+{
+    if task < parts.len() {
+        parts[task] = part;
+    }
 }
 
 impl History {
     /// Nothing is told of a system. `AllocError` if memory runs out.
-    pub fn new(alloc: Global, sys: &System) -> Result<History, AllocError> {
+    pub fn new(alloc: Global, sys: &System) -> Result<History, AllocError>
+        ensures { IfOk result (λ made. rows.IsTold (tables_of sys.now) [] (rows.tables made)) }
+    {
         let part = Part {
             event: 0,
             waits: None,
@@ -128,97 +290,99 @@ impl History {
         })
     }
 
-    /// A call was done.
-    fn note_done(&mut self, actor: Caller, call: Call, event: u32) -> Option<()> {
-        let service = call.service();
-        let turn = Turn::of(service)?;
-        let place = place_of(*call.arguments().as_slice().first()?)?;
-        let deed = Deed { actor, event };
-        match service.parameters().first()?.object_kind()? {
-            ObjectKind::Semaphore => add(&mut self.semaphores, place, turn, deed),
-            ObjectKind::Flag => add(&mut self.flags, place, turn, deed),
-            ObjectKind::DataQueue => add(&mut self.data_queues, place, turn, deed),
-            ObjectKind::Mailbox => add(&mut self.mailboxes, place, turn, deed),
-            ObjectKind::SpinLock => add(&mut self.spin_locks, place, turn, deed),
-            _ => {}
-        }
-        Some(())
-    }
-
-    /// A task had a part in an event, and waits with this call from then on, if it does.
-    fn note_part(&mut self, task: u8, event: u32, waits: Option<Call>) {
-        if let Some(part) = self.tasks.get_mut(usize::from(task)) {
-            *part = Part { event, waits };
-        }
-    }
-
-    /// An actor called.
-    fn note_call(&mut self, actor: Caller, call: Call, reply: Option<Reply>, event: u32) {
-        let waits = if reply.is_none() { Some(call) } else { None };
-        if let Some(task) = task_of(actor) {
-            self.note_part(task, event, waits);
-        }
-        if let Some(reply) = reply
-            && is_done(reply)
-        {
-            self.note_done(actor, call, event);
-        }
-    }
-
-    /// A task that waited was released.
-    fn note_release(&mut self, task: u8, reply: Reply, event: u32) {
-        let waited = match self.tasks.get(usize::from(task)) {
-            Some(part) => part.waits,
-            None => None,
-        };
-        self.note_part(task, event, None);
-        if let Some(call) = waited
-            && is_done(reply)
-        {
-            self.note_done(Caller::Task(task), call, event);
-        }
-    }
-
-    fn note_line(&mut self, line: Line, event: u32) {
-        match line {
-            Line::Call {
-                caller,
-                call,
-                reply,
-                ..
-            } => self.note_call(caller, call, reply, event),
-            Line::Gets { task, reply, .. } => self.note_release(task, reply, event),
-            Line::Starts { task, .. } => self.note_part(task, event, None),
+    /// An actor did to an object what a call does.
+    fn note_act(&mut self, act: Act, deed: Deed)
+        ensures { rows.tables self.new
+            ≡ rows.deed_noted act.kind act.place (spec.after_deed act.way deed) (rows.tables self.old) }
+    {
+        match act.kind {
+            ObjectKind::Semaphore => add(&mut self.semaphores, act.place, act.way, deed),
+            ObjectKind::Flag => add(&mut self.flags, act.place, act.way, deed),
+            ObjectKind::DataQueue => add(&mut self.data_queues, act.place, act.way, deed),
+            ObjectKind::Mailbox => add(&mut self.mailboxes, act.place, act.way, deed),
+            ObjectKind::SpinLock => add(&mut self.spin_locks, act.place, act.way, deed),
             _ => {}
         }
     }
 
-    /// Notes what the lines of an event told.
-    pub fn note(&mut self, lines: &[Line], event: u32) {
+    /// An actor did what a call asks for, if it is some.
+    fn note_done(&mut self, done: Option<(Caller, Call)>, event: u32)
+        ensures { rows.tables self.new ≡ rows.done_noted event done (rows.tables self.old) }
+    {
+        if let Some((actor, call)) = done
+            && let Some(act) = act_of(call)
+        {
+            self.note_act(act, Deed { actor, event });
+        }
+    }
+
+    /// A task, if it is some, had this part in a line.
+    fn note_part(&mut self, task: Option<u8>, part: Part)
+        ensures { rows.tables self.new ≡ rows.part_noted task part (rows.tables self.old) }
+    {
+        if let Some(task) = task {
+            set_part(&mut self.tasks, usize::from(task), part);
+        }
+    }
+
+    /// Notes what a line told.
+    fn note_line(&mut self, line: Line, event: u32)
+        ensures { rows.tables self.new ≡ rows.line_noted event line (rows.tables self.old) }
+    {
+        let done = done_in(&self.tasks, line);
+        let waits = waits_from(line);
+        self.note_part(part_in(line), Part { event, waits });
+        self.note_done(done, event);
+    }
+
+    /// Notes what lines told, one after another.
+    fn note_lines(&mut self, lines: &[Line], event: u32)
+        ensures { rows.tables self.new ≡ rows.lines_noted event lines.now (rows.tables self.old) }
+    {
         for line in lines {
             self.note_line(*line, event);
         }
     }
 
+    /// Notes what the lines of an event told.
+    pub fn note(&mut self, lines: &[Line], event: u32)
+        ensures { (sys : SystemTables) (told : spec.Told) → rows.IsTold sys told (rows.tables self.old)
+            → rows.IsTold sys (spec.told_with lines.now event told) (rows.tables self.new) }
+    {
+        self.note_lines(lines, event);
+    }
+
     /// The last event that a task had a part in: where it waits, that of its call.
-    pub fn since(&self, task: usize) -> u32 {
+    pub fn since(&self, task: usize) -> u32
+        ensures { (sys : SystemTables) (told : spec.Told) → rows.IsTold sys told (rows.tables self.now)
+            → result ≡ spec.event_of (spec.part_told sys told task) }
+    {
         match self.tasks.get(task) {
             Some(part) => part.event,
             None => 0,
         }
     }
 
-    /// What was done to an object of a kind that is waited or spun for.
-    pub fn trail(&self, kind: ObjectKind, place: u8) -> Trail {
-        let trails = match kind {
+    /// What was done to the objects of a kind that is waited or spun for.
+    fn trails(&self, kind: ObjectKind) -> &[Trail]
+        ensures { result.now ≡ rows.trails_in (rows.tables self.now) kind }
+    {
+        match kind {
             ObjectKind::Semaphore => &self.semaphores,
             ObjectKind::Flag => &self.flags,
             ObjectKind::DataQueue => &self.data_queues,
             ObjectKind::Mailbox => &self.mailboxes,
             ObjectKind::SpinLock => &self.spin_locks,
-            _ => return NOTHING,
-        };
-        match trails.get(usize::from(place)) {
+            _ => &[],
+        }
+    }
+
+    /// What was done to an object of a kind that is waited or spun for.
+    pub fn trail(&self, kind: ObjectKind, place: u8) -> Trail
+        ensures { (sys : SystemTables) (told : spec.Told) → rows.IsTold sys told (rows.tables self.now)
+            → result ≡ spec.trail_or (spec.trail_told sys told kind place) }
+    {
+        match self.trails(kind).get(usize::from(place)) {
             Some(trail) => *trail,
             None => NOTHING,
         }
@@ -226,15 +390,41 @@ impl History {
 
     /// The task that holds each semaphore: the one that took it last and has not signalled it since. A semaphore that
     /// begins with no resource is held by none: it is waited for as a sign, and not as a lock.
-    pub fn holders(&self, alloc: Global, sys: &System) -> Result<Vec<Option<u8>>, AllocError> {
-        let mut holders = Vec::new(alloc);
-        for (config, trail) in sys.semaphores.iter().zip(self.semaphores.as_slice()) {
-            holders.push(if config.initial > 0 {
-                trail.holder
-            } else {
-                None
-            })?;
-        }
-        Ok(holders)
+    pub fn holders(&self, alloc: Global, sys: &System) -> Result<Vec<Option<u8>>, AllocError>
+        ensures { (told : spec.Told) → rows.IsTold (tables_of sys.now) told (rows.tables self.now)
+            → IfOk result (λ holders. holders.items ≡ spec.holders_told (tables_of sys.now) told) }
+    {
+        holders_of(alloc, &sys.semaphores, &self.semaphores)
     }
+}
+
+/// The task that holds a semaphore, by what was done to it.
+fn holder_of(config: &SemaphoreConfig, trail: Trail) -> Option<u8>
+    ensures { result ≡ spec.holder_of config.now trail }
+{
+    if config.initial > 0 {
+        trail.holder
+    } else {
+        None
+    }
+}
+
+/// The task that holds each of these semaphores, by what was done to each.
+fn holders_of(
+    alloc: Global,
+    semaphores: &[SemaphoreConfig],
+    trails: &[Trail],
+) -> Result<Vec<Option<u8>>, AllocError>
+    ensures { IfOk result (λ holders. holders.items ≡ rows.holders_in semaphores.now trails.now) }
+{
+    let mut holders = Vec::new(alloc);
+    let mut rest = trails;
+    for config in semaphores {
+        let [trail, more @ ..] = rest else {
+            return Ok(holders);
+        };
+        holders.push(holder_of(config, *trail))?;
+        rest = more;
+    }
+    Ok(holders)
 }
