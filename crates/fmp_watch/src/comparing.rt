@@ -1,7 +1,8 @@
 //! Two runs of an image side by side: the first event in which they differ.
-ghost use Rattle.std.specs.Prelude.{◌≡◌, ◌+◌, ◌≤◌, ◌^◌, IfOk, length};
+ghost use Rattle.std.specs.Bool.{Decides};
+ghost use Rattle.std.specs.Prelude.{◌≡◌, ◌+◌, ◌≤◌, ◌^◌, IfOk, length, option_map, slice_get};
 ghost use Rattle.fmp_frames.specs.Frames.{table_of};
-ghost use Rattle.fmp_watch.specs.Compares.{AreStates};
+ghost use Rattle.fmp_watch.specs.Compares.{AreStates, IsFirstDifference, events_of};
 ghost use Rattle.fmp_frames.specs.Shown.{WasShown};
 
 use fmp_base::{Event, System, TaskBlock, TaskState};
@@ -92,7 +93,9 @@ pub fn told_on<'a, B: Body>(
 }
 
 /// The text of the event of a number; none if there is no such event.
-fn event_text<'b>(told: &'b Told<'_>, number: usize) -> Option<&'b [u8]> {
+fn event_text<'b>(told: &'b Told<'_>, number: usize) -> Option<&'b [u8]>
+    ensures { option_map (λ text. text.now) result ≡ slice_get (events_of told.now) number }
+{
     match told.texts.get(number) {
         Some(text) => Some(text.as_slice()),
         None => None,
@@ -100,7 +103,9 @@ fn event_text<'b>(told: &'b Told<'_>, number: usize) -> Option<&'b [u8]> {
 }
 
 /// Whether two runs tell the same of the event of a number.
-fn is_same(a: &Told<'_>, b: &Told<'_>, number: usize) -> bool {
+fn is_same(a: &Told<'_>, b: &Told<'_>, number: usize) -> bool
+    ensures { Decides result (slice_get (events_of a.now) number ≡ slice_get (events_of b.now) number) }
+{
     match (event_text(a, number), event_text(b, number)) {
         (Some(one), Some(other)) => one == other,
         (None, None) => true,
@@ -108,8 +113,11 @@ fn is_same(a: &Told<'_>, b: &Told<'_>, number: usize) -> bool {
     }
 }
 
-/// The number of the first event that two runs tell otherwise, if there is one.
-pub fn first_difference(a: &Told<'_>, b: &Told<'_>) -> Option<usize> {
+/// The number of the first event that two runs tell otherwise, setup being number 0; none where both tell the same
+/// events.
+pub fn first_difference(a: &Told<'_>, b: &Told<'_>) -> Option<usize>
+    ensures { IsFirstDifference (events_of a.now) (events_of b.now) result }
+{
     for number in 0..a.texts.len().max(b.texts.len()) {
         if !is_same(a, b, number) {
             return Some(number);
