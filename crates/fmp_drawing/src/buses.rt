@@ -65,7 +65,7 @@ fn put_value_title(scene: &Scene<'_>, topic: Topic, stay: &Stay<ObjectShown>, ou
 fn put_value_text(strip: &Strip, left: Tenths, text: &Canvas, out: &mut Canvas) {
     out.put(
         "<text class=\"wt q\" x=\"{}\" y=\"{}\" xml:space=\"preserve\">{}</text>\n",
-        &[At(left + px(5)), At(strip.middle(30)), Label(text)],
+        &[At(left + px(5)), At(strip.middle(22)), Label(text)],
     );
 }
 
@@ -110,8 +110,8 @@ fn put_hexagon(strip: &Strip, (left, right): (Tenths, Tenths), slant: Tenths, ou
 /// The bar at the foot of a value while tasks wait.
 fn put_queue_bar(strip: &Strip, (left, right): (Tenths, Tenths), out: &mut Canvas) {
     out.put(
-        "<path class=\"bq q\" d=\"M{} {}H{}v2.5H{}z\"/>\n",
-        &[At(left), At(strip.middle(35)), At(right), At(left)],
+        "<path class=\"bq q\" d=\"M{} {}H{}v1.7H{}z\"/>\n",
+        &[At(left), At(strip.middle(43)), At(right), At(left)],
     );
 }
 

@@ -1,10 +1,11 @@
 //! The names of service calls, each at the end of the stretch that made it.
 use crate::scene::{Scene, Taken, fit_right};
-use crate::shapes::{put_box, put_text};
+use crate::shapes::{put_label_in, put_plate};
 use crate::strips::{Lane, Strip};
 use crate::titles::put_area;
-use fmp_timeline::Piece::{At, Label, Numbered, Raw};
+use fmp_timeline::Piece::{At, Label, Raw};
 use fmp_timeline::{Canvas, Made, Span, Tenths, append_call, append_value, px};
+use std::alloc::AllocError;
 
 /// The size of calls.
 const CALL: Tenths = Tenths(85);
@@ -35,6 +36,7 @@ fn fit_call(
     made: &Made,
     text: &mut Canvas,
 ) -> Option<Tenths> {
+    text.shorten(0);
     append_call(scene.sys, made.call, text);
     let middle = text.len();
     append_value(made.reply, text);
@@ -52,36 +54,104 @@ fn fit_call(
 /// The text of a call: in a task's box in its colour, in a handler's on a plate.
 fn put_call_text(scene: &Scene<'_>, strip: &Strip, x: Tenths, text: &Canvas, out: &mut Canvas) {
     if let Lane::Task(task, _) = strip.lane {
-        let class = Numbered("e s8 d", scene.colour(task), " q");
-        return put_text(class, (x, strip.y(140)), Label(text), out);
+        let place = (x, strip.y(140));
+        return put_label_in(scene, task, "e s8", place, Label(text), out);
     }
     let wide = text.width(CALL) + px(2);
     let corner = (x - wide + px(1), strip.middle(-45));
-    put_box(Raw("tb q"), corner, (wide, px(9)), out);
-    out.raw("/>");
-    put_text(Raw("e s8 q"), (x, strip.middle(30)), Label(text), out);
+    let place = (x, strip.middle(30));
+    put_plate(
+        (corner, (wide, px(9))),
+        Raw("e s8 q"),
+        place,
+        Label(text),
+        out,
+    );
 }
 
-/// A call of a lane whose stretch begins with this event, after the lane's event before it.
-fn put_call(
+/// A call of a lane, and where it can be named: its own room, behind the lane's call before it, and all that the
+/// stretch has.
+#[derive(Clone, Copy)]
+struct Place {
+    made: Made,
+    own: Tenths,
+    least: Tenths,
+}
+
+/// The name of a call where it fits: in its own room, or from there on to the left, if it is named first.
+fn put_name(
     scene: &Scene<'_>,
     span: &Span,
     strip: &Strip,
-    taken: &[Taken],
-    (start, previous, made): (u32, Tenths, &Made),
+    taken: &mut Vec<Taken>,
+    place: &Place,
     out: &mut Canvas,
-) {
-    let from = if start < span.first {
+) -> Result<(), AllocError> {
+    let mut text = Canvas::new(scene.alloc);
+    let end = span.x(place.made.event);
+    for left in [place.own, place.least] {
+        if let Some(x) = fit_call(scene, span, taken, (left, end), &place.made, &mut text) {
+            put_call_text(scene, strip, x, &text, out);
+            let from = x - text.width(CALL);
+            taken.push(Taken { from, to: x })?;
+            break;
+        }
+    }
+    Ok(())
+}
+
+/// The names of the calls that are named first, or of the others.
+fn put_names(
+    scene: &Scene<'_>,
+    span: &Span,
+    strip: &Strip,
+    (places, first): (&[Place], bool),
+    taken: &mut Vec<Taken>,
+    out: &mut Canvas,
+) -> Result<(), AllocError> {
+    for place in places {
+        if place.made.is_named_first() == first {
+            put_name(scene, span, strip, taken, place, out)?;
+        }
+    }
+    Ok(())
+}
+
+/// Where the stretch of a lane that begins with this event begins in a panel.
+fn stretch_left(span: &Span, start: u32) -> Tenths {
+    if start < span.first {
         span.page.left()
     } else {
         span.x(start)
-    };
-    let ends = (previous.or_more(from), span.x(made.event));
-    let size = (ends.1 - ends.0, px(strip.height) - px(4));
-    put_area(scene.run, (ends.0, strip.y(20)), size, made.event, out);
-    let mut text = Canvas::new(scene.alloc);
-    if let Some(x) = fit_call(scene, span, taken, ends, made, &mut text) {
-        put_call_text(scene, strip, x, &text, out);
+    }
+}
+
+/// The calls of a lane in a panel, each with its place.
+fn places_of(scene: &Scene<'_>, span: &Span, lane: Lane) -> Result<Vec<Place>, AllocError> {
+    let mut places = Vec::new(scene.alloc);
+    let mut previous = px(0);
+    for made in calls_of(scene, span, lane) {
+        if let Some(start) = stretch_start(scene, lane, made.event) {
+            let left = stretch_left(span, start);
+            let own = previous.or_more(left);
+            let least = if made.is_named_first() { left } else { own };
+            places.push(Place {
+                made: *made,
+                own,
+                least,
+            })?;
+            previous = span.x(made.event);
+        }
+    }
+    Ok(places)
+}
+
+/// What is pointed at for each of these calls.
+fn put_areas(scene: &Scene<'_>, span: &Span, strip: &Strip, places: &[Place], out: &mut Canvas) {
+    for place in places {
+        let event = place.made.event;
+        let size = (span.x(event) - place.own, px(strip.height) - px(4));
+        put_area(scene.run, (place.own, strip.y(20)), size, event, out);
     }
 }
 
@@ -114,20 +184,25 @@ fn put_notches(scene: &Scene<'_>, span: &Span, strip: &Strip, calls: &[Made], ou
     }
 }
 
-/// The calls of a lane in a panel, and a notch at the foot of a task's box for each.
-pub fn put_calls(scene: &Scene<'_>, span: &Span, strip: &Strip, taken: &[Taken], out: &mut Canvas) {
+/// The calls of a lane in a panel, beside these pixels of its marks, and a notch at the foot of a task's box for each.
+/// Those that wait, are refused or end a wait are named first, and the others where there is room left. `AllocError` if
+/// memory runs out.
+pub fn put_calls(
+    scene: &Scene<'_>,
+    span: &Span,
+    strip: &Strip,
+    mut taken: Vec<Taken>,
+    out: &mut Canvas,
+) -> Result<(), AllocError> {
     if span.is_narrow() {
-        return;
+        return Ok(());
     }
-    let calls = calls_of(scene, span, strip.lane);
-    let mut previous = px(0);
-    for made in calls {
-        if let Some(start) = stretch_start(scene, strip.lane, made.event) {
-            put_call(scene, span, strip, taken, (start, previous, made), out);
-            previous = span.x(made.event);
-        }
-    }
+    let places = places_of(scene, span, strip.lane)?;
+    put_areas(scene, span, strip, &places, out);
+    put_names(scene, span, strip, (&places, true), &mut taken, out)?;
+    put_names(scene, span, strip, (&places, false), &mut taken, out)?;
     if matches!(strip.lane, Lane::Task(..)) {
-        put_notches(scene, span, strip, calls, out);
+        put_notches(scene, span, strip, calls_of(scene, span, strip.lane), out);
     }
+    Ok(())
 }

@@ -1,8 +1,8 @@
 //! The legend.
 use crate::scene::Scene;
-use crate::shapes::put_text;
-use fmp_timeline::Piece::{At, Number, Raw};
-use fmp_timeline::{Canvas, Tenths, px, width};
+use crate::shapes::{put_number, put_text};
+use fmp_timeline::Piece::{At, Number, Raw, Text};
+use fmp_timeline::{Canvas, Tenths, px, task_bytes, width};
 
 /// A shape, what it means, and how wide it is in pixels.
 struct Item(&'static str, &'static str, u32);
@@ -56,6 +56,16 @@ static TASK: [Item; 10] = [
         26,
     ),
 ];
+
+/// A task beyond the eighth.
+static HATCHED: Item = Item(
+    "<path class=\"c0 f\" d=\"M0-7h26v14h-26z\"/><path class=\"x1w\" d=\"M0-7h26v14h-26z\"/>",
+    "running, one of the tasks 9 to 16 from above",
+    26,
+);
+
+/// With more tasks than this, the legend does not list them.
+const MANY_TASKS: usize = 32;
 
 /// What processors and handlers show.
 static PROCESSOR: [Item; 5] = [
@@ -146,13 +156,18 @@ impl Pen {
         Pen { x: px(ITEMS), y }
     }
 
-    /// An item, in a new line where it does not fit into this one.
-    fn put(&mut self, scene: &Scene<'_>, item: &Item, out: &mut Canvas) {
-        let wide = px(item.2) + width(item.1.as_bytes(), Tenths(90));
+    /// Begins a new line where this one has no room for something so wide.
+    fn make_room(&mut self, scene: &Scene<'_>, wide: Tenths) {
         if (px(scene.page.wide) - px(20)).is_below(self.x + wide) {
             self.x = px(ITEMS);
             self.y = self.below();
         }
+    }
+
+    /// An item, in a new line where it does not fit into this one.
+    fn put(&mut self, scene: &Scene<'_>, item: &Item, out: &mut Canvas) {
+        let wide = px(item.2) + width(item.1.as_bytes(), Tenths(90));
+        self.make_room(scene, wide);
         put_item(item, self.x, self.y, out);
         self.x = self.x + wide + px(20);
     }
@@ -164,10 +179,35 @@ impl Pen {
         }
     }
 
+    /// A task: its number in its colour, and its name.
+    fn put_task(&mut self, scene: &Scene<'_>, task: u8, out: &mut Canvas) {
+        let name = task_bytes(scene.sys, task);
+        let wide = width(name, Tenths(90)) + px(23);
+        self.make_room(scene, wide);
+        let corner = (self.x, px(self.y) - Tenths(55));
+        put_number(scene, corner, task, out);
+        let place = (self.x + px(23), px(self.y.saturating_add(3)));
+        put_text(Raw("l"), place, Text(name), out);
+        self.x = self.x + wide + px(16);
+    }
+
     /// The height below the line.
     fn below(&self) -> u32 {
         self.y.saturating_add(20)
     }
+}
+
+/// A line of all tasks, if their numbers stand in the picture and they are few: the height below it.
+fn put_tasks(scene: &Scene<'_>, top: u32, out: &mut Canvas) -> u32 {
+    let count = scene.looks.len();
+    if !scene.is_numbered() || count > MANY_TASKS {
+        return top;
+    }
+    let mut pen = Pen::new("Tasks", top, out);
+    for task in 0..count.min(MANY_TASKS) as u8 {
+        pen.put_task(scene, task, out);
+    }
+    pen.below()
 }
 
 /// The legend from this height on: the height below it.
@@ -175,6 +215,9 @@ pub fn put_legend(scene: &Scene<'_>, top: u32, out: &mut Canvas) -> u32 {
     out.raw("<g role=\"group\" aria-label=\"Legend\">\n");
     let mut pen = Pen::new("Task", top, out);
     pen.put_all(scene, &TASK, out);
+    if scene.is_numbered() {
+        pen.put(scene, &HATCHED, out);
+    }
     let mut pen = Pen::new("Processor", pen.below(), out);
     pen.put_all(scene, &PROCESSOR, out);
     if !scene.run.objects.all.is_empty() {
@@ -182,6 +225,8 @@ pub fn put_legend(scene: &Scene<'_>, top: u32, out: &mut Canvas) -> u32 {
     }
     let mut pen = Pen::new("Marks", pen.below(), out);
     pen.put_all(scene, &MARKS, out);
+    let below = put_tasks(scene, pen.below(), out);
+    out.settle();
     out.raw("</g>\n");
-    pen.below()
+    below
 }

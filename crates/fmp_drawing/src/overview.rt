@@ -1,16 +1,16 @@
 //! The overview over a long run: what ran most in each part of it, and a link for each panel.
 use crate::scene::Scene;
-use crate::shapes::{put_line, put_text};
+use crate::shapes::{put_label_in, put_line, put_text};
 use fmp_timeline::Piece::{At, Number, Raw};
-use fmp_timeline::{Canvas, Occupant, Tenths, px};
+use fmp_timeline::{Canvas, Occupant, Tenths, number_width, px};
 use std::alloc::AllocError;
 
-/// The eight colours, a handler, and nothing.
-const LOOKS: usize = 10;
+/// What most events of a part show: a task at its place, a handler, or nothing.
+const KINDS: usize = 257;
 
-const HANDLER: usize = 8;
+const HANDLER: usize = 255;
 
-const IDLE: usize = 9;
+const IDLE: usize = 256;
 
 /// The parts of the run that have one look each.
 #[derive(Clone, Copy)]
@@ -58,86 +58,160 @@ impl Bins {
     }
 }
 
-/// The look of what a processor does.
-fn look_of(scene: &Scene<'_>, occupant: Occupant) -> usize {
+/// The kind of what a processor does.
+fn kind_of(occupant: Occupant) -> usize {
     match (occupant.handler, occupant.task) {
         (Some(_), _) => HANDLER,
-        (None, Some(task)) => scene.colour(task) as usize,
+        (None, Some(task)) => usize::from(task),
         (None, None) => IDLE,
     }
 }
 
-/// The look that most events of a part have on a processor.
-fn most_in(scene: &Scene<'_>, processor: u8, first: u32, end: u32) -> usize {
-    let mut counts = [0u32; LOOKS];
+/// How many events of a part each kind has on a processor.
+fn counts_in(scene: &Scene<'_>, processor: u8, first: u32, end: u32) -> [u32; KINDS] {
+    let mut counts = [0u32; KINDS];
     let Some(track) = scene.run.occupants.get(usize::from(processor)) else {
-        return IDLE;
+        return counts;
     };
     for place in track.places(first, end.saturating_sub(1)) {
         if let Some(stay) = track.stay(place)
-            && let Some(count) = counts.get_mut(look_of(scene, stay.state))
+            && let Some(count) = counts.get_mut(kind_of(stay.state))
         {
             let to = stay.to.unwrap_or(end).min(end);
             *count = count.saturating_add(to.saturating_sub(stay.from.max(first)));
         }
     }
+    counts
+}
+
+/// The kind that most events of a part have on a processor.
+fn most_in(scene: &Scene<'_>, processor: u8, first: u32, end: u32) -> usize {
     let mut best = IDLE;
     let mut most = 0;
-    for (look, count) in counts.iter().enumerate() {
+    for (kind, count) in counts_in(scene, processor, first, end).iter().enumerate() {
         if *count > most {
-            best = look;
+            best = kind;
             most = *count;
         }
     }
     best
 }
 
-/// The looks of all parts on a processor.
-fn looks_of(scene: &Scene<'_>, bins: &Bins, processor: u8) -> Result<Vec<usize>, AllocError> {
-    let mut looks = Vec::new(scene.alloc);
+/// The kinds of all parts on a processor.
+fn kinds_of(scene: &Scene<'_>, bins: &Bins, processor: u8) -> Result<Vec<usize>, AllocError> {
+    let mut kinds = Vec::new(scene.alloc);
     for bin in 0..bins.bins {
         let end = bins.start(bin.saturating_add(1));
-        looks.push(most_in(scene, processor, bins.start(bin), end))?;
+        kinds.push(most_in(scene, processor, bins.start(bin), end))?;
     }
-    Ok(looks)
+    Ok(kinds)
 }
 
-/// Parts that are neighbours, from one up to another, as a box of a path.
-fn put_run(bins: &Bins, from: u32, to: u32, y: u32, out: &mut Canvas) {
-    let x = bins.x(from);
-    let wide = bins.x(to) - x;
-    out.put(
-        "M{} {}h{}v10h{}z",
-        &[At(x), Number(y), At(wide), At(wide.back())],
-    );
+/// Neighbouring parts of one kind, from one up to another.
+#[derive(Clone, Copy)]
+struct Stretch {
+    from: u32,
+    to: u32,
 }
 
-/// The parts of one look, neighbours joined, as the boxes of a path.
-fn put_parts(bins: &Bins, looks: &[usize], look: usize, y: u32, out: &mut Canvas) {
+/// All stretches of a kind.
+fn stretches_of(
+    scene: &Scene<'_>,
+    bins: &Bins,
+    kinds: &[usize],
+    kind: usize,
+) -> Result<Vec<Stretch>, AllocError> {
+    let mut all = Vec::new(scene.alloc);
     let mut from: Option<u32> = None;
     for bin in 0..=bins.bins {
-        let is_look = looks.get(bin as usize) == Some(&look);
+        let is_kind = kinds.get(bin as usize) == Some(&kind);
         match from {
-            None if is_look => from = Some(bin),
-            Some(start) if !is_look => {
-                put_run(bins, start, bin, y, out);
+            None if is_kind => from = Some(bin),
+            Some(start) if !is_kind => {
+                all.push(Stretch {
+                    from: start,
+                    to: bin,
+                })?;
                 from = None;
             }
             _ => {}
         }
     }
+    Ok(all)
 }
 
-/// The path of the parts of one look.
-fn put_look(bins: &Bins, looks: &[usize], look: usize, y: u32, out: &mut Canvas) {
-    if look == HANDLER {
-        out.raw("<path class=\"hov");
-    } else {
-        out.numbered("<path class=\"c", u32::try_from(look).unwrap_or(0), " f");
-    }
+/// Stretches as the boxes of a path, behind its class.
+fn put_boxes(bins: &Bins, stretches: &[Stretch], y: u32, out: &mut Canvas) {
     out.raw("\" d=\"");
-    put_parts(bins, looks, look, y, out);
+    for stretch in stretches {
+        let x = bins.x(stretch.from);
+        let wide = bins.x(stretch.to) - x;
+        out.put(
+            "M{} {}h{}v10h{}z",
+            &[At(x), Number(y), At(wide), At(wide.back())],
+        );
+    }
     out.raw("\"/>\n");
+}
+
+/// The number of a task in those of its stretches that have room for it.
+fn put_numbers(
+    scene: &Scene<'_>,
+    bins: &Bins,
+    stretches: &[Stretch],
+    task: u8,
+    y: u32,
+    out: &mut Canvas,
+) {
+    let number = u32::from(task).saturating_add(1);
+    let need = number_width(number, Tenths(80)) + px(2);
+    for stretch in stretches {
+        let (left, right) = (bins.x(stretch.from), bins.x(stretch.to));
+        if need.is_below(right - left) {
+            let place = (left + (right - left).half(), px(y.saturating_add(8)));
+            put_label_in(scene, task, "s7 c", place, Number(number), out);
+        }
+    }
+}
+
+/// The stretches of a task: in its colour, with its hatch, and with its number where there are more tasks than colours.
+fn put_task(
+    scene: &Scene<'_>,
+    bins: &Bins,
+    stretches: &[Stretch],
+    task: u8,
+    y: u32,
+    out: &mut Canvas,
+) {
+    out.numbered("<path class=\"c", scene.colour(task), " f");
+    put_boxes(bins, stretches, y, out);
+    if let Some((number, letter)) = scene.hatch(task) {
+        out.put("<path class=\"x{}{}", &[Number(number), Raw(letter)]);
+        put_boxes(bins, stretches, y, out);
+    }
+    if scene.is_numbered() {
+        put_numbers(scene, bins, stretches, task, y, out);
+    }
+}
+
+/// The stretches of a kind.
+fn put_kind(
+    scene: &Scene<'_>,
+    bins: &Bins,
+    kinds: &[usize],
+    kind: usize,
+    y: u32,
+    out: &mut Canvas,
+) -> Result<(), AllocError> {
+    let stretches = stretches_of(scene, bins, kinds, kind)?;
+    match u8::try_from(kind) {
+        Ok(task) if kind < HANDLER => put_task(scene, bins, &stretches, task, y, out),
+        _ => {
+            out.raw("<path class=\"hov");
+            put_boxes(bins, &stretches, y, out);
+        }
+    }
+    Ok(())
 }
 
 /// The number of a processor at its strip, and the line of the strip.
@@ -162,12 +236,13 @@ fn put_strip(
     out: &mut Canvas,
 ) -> Result<(), AllocError> {
     put_strip_head(bins, processor, y, out);
-    let looks = looks_of(scene, bins, processor)?;
-    for look in 0..IDLE {
-        if looks.contains(&look) {
-            put_look(bins, &looks, look, y, out);
+    let kinds = kinds_of(scene, bins, processor)?;
+    for kind in 0..IDLE {
+        if kinds.contains(&kind) {
+            put_kind(scene, bins, &kinds, kind, y, out)?;
         }
     }
+    out.settle();
     Ok(())
 }
 

@@ -4,13 +4,13 @@ use crate::buses::{put_object, put_objects_head};
 use crate::links::put_links;
 use crate::picture::MOST_BYTES;
 use crate::processors::{put_dispatch, put_handler, put_lock, put_processor};
-use crate::scene::{Scene, Taken};
+use crate::scene::Scene;
 use crate::signs::{put_marks, taken_in};
 use crate::strips::{Lane, Strip, Strips};
 use crate::tasks::put_task;
 use fmp_base::StateWord;
 use fmp_timeline::Piece::{At, Number, Raw, Text};
-use fmp_timeline::{Canvas, Span, px, task_bytes};
+use fmp_timeline::{Canvas, Span, bytes_of, px, task_bytes};
 use std::alloc::AllocError;
 
 /// The height of an axis.
@@ -30,27 +30,19 @@ fn put_bands(span: &Span, strips: &Strips, out: &mut Canvas) {
     out.raw("\"/>\n");
 }
 
-/// A lane with its boxes and texts, beside these pixels of its marks.
-fn put_lane_beside(
-    scene: &Scene<'_>,
-    span: &Span,
-    strip: &Strip,
-    taken: &[Taken],
-    out: &mut Canvas,
-) {
+/// A lane of a processor's head or of objects.
+fn put_lane_alone(scene: &Scene<'_>, span: &Span, strip: &Strip, out: &mut Canvas) {
     match strip.lane {
         Lane::Processor(processor) => put_processor(scene, span, strip, processor, out),
         Lane::Lock(processor) => put_lock(scene, span, strip, processor, out),
         Lane::Dispatch(processor) => put_dispatch(scene, span, strip, processor, out),
-        Lane::Handler(handler) => put_handler(scene, span, strip, taken, handler, out),
-        Lane::Task(task, processor) => put_task(scene, span, strip, taken, (task, processor), out),
         Lane::ObjectsHead => put_objects_head(strip, out),
         Lane::Object(place) => {
             if let Some(object) = scene.run.objects.all.get(place) {
                 put_object(scene, span, strip, object, out);
             }
         }
-        Lane::Gap => {}
+        Lane::Handler(_) | Lane::Task(..) | Lane::Gap => {}
     }
 }
 
@@ -62,8 +54,14 @@ fn put_lane(
     out: &mut Canvas,
 ) -> Result<(), AllocError> {
     let taken = taken_in(scene, span, strip.lane)?;
-    put_lane_beside(scene, span, strip, &taken, out);
-    Ok(())
+    match strip.lane {
+        Lane::Handler(handler) => put_handler(scene, span, strip, taken, handler, out),
+        Lane::Task(task, processor) => put_task(scene, span, strip, taken, (task, processor), out),
+        _ => {
+            put_lane_alone(scene, span, strip, out);
+            Ok(())
+        }
+    }
 }
 
 /// The wash over the lead, which shows the states that the panel begins with.
@@ -149,7 +147,32 @@ fn put_asleep_in(
     count > 0
 }
 
-/// The line that says which tasks have no lane.
+/// The names of the first four objects without a lane.
+fn put_still_names(scene: &Scene<'_>, strips: &Strips, out: &mut Canvas) {
+    let mut count: u32 = 0;
+    for place in strips.still.as_slice() {
+        if count < 4
+            && let Some(object) = scene.run.objects.all.get(*place)
+        {
+            out.raw(if count > 0 { ", " } else { "" });
+            out.text(bytes_of(scene.sys, object.topic));
+            count = count.saturating_add(1);
+        }
+    }
+}
+
+/// Says how many objects have no lane, with the names of the first four.
+fn put_still(scene: &Scene<'_>, strips: &Strips, before: &str, out: &mut Canvas) {
+    let count = u32::try_from(strips.still.len()).unwrap_or(u32::MAX);
+    if count > 0 {
+        out.put("{}{} object", &[Raw(before), Number(count)]);
+        out.raw(if count > 1 { "s (" } else { " (" });
+        put_still_names(scene, strips, out);
+        out.raw(if count > 4 { ", …)" } else { ")" });
+    }
+}
+
+/// The line that says which tasks and objects have no lane.
 fn put_asleep(scene: &Scene<'_>, span: &Span, strips: &Strips, out: &mut Canvas) {
     let y = px(strips.bottom) + px(11);
     out.put(
@@ -168,6 +191,7 @@ fn put_asleep(scene: &Scene<'_>, span: &Span, strips: &Strips, out: &mut Canvas)
             before = "; ";
         }
     }
+    put_still(scene, strips, before, out);
     out.raw("</text>\n");
 }
 
@@ -221,8 +245,9 @@ fn put_rows(
     }
     put_lead(span, top.saturating_add(AXIS), strips.bottom, out);
     put_links(scene, span, strips, out);
+    out.settle();
     put_all_marks(scene, span, strips, out)?;
-    if !strips.asleep.is_empty() {
+    if strips.leaves_out() {
         put_asleep(scene, span, strips, out);
     }
     out.raw("</g>\n");

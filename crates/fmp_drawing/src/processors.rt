@@ -1,16 +1,19 @@
 //! Lanes of processors, with their locks and their dispatching, and of handlers.
 use crate::calls::put_calls;
 use crate::scene::{Scene, Taken, letters_that_fit};
-use crate::shapes::{put_box, put_frame, put_line, put_text};
+use crate::shapes::{
+    put_box, put_frame, put_hatch, put_label, put_label_in, put_line, put_plate, put_text,
+};
 use crate::strips::Strip;
 use crate::tasks::{NAME, put_name, put_side};
-use crate::titles::put_title;
+use crate::titles::{put_title, put_title_with};
 use fmp_base::{Handler, Lock};
 use fmp_timeline::Piece::{At, Label, Number, Numbered, Raw, Text};
 use fmp_timeline::{
     Canvas, Handling, Occupant, Span, Spin, Stay, Tenths, Topic, Track, bytes_of, handler_text, px,
     task_bytes, width,
 };
+use std::alloc::AllocError;
 
 /// The size of names in a processor's boxes.
 const BOLD: Tenths = Tenths(100);
@@ -38,11 +41,9 @@ fn put_handler_plate(
     let label = handler_text(scene.alloc, scene.sys, handler, "int ");
     let wide = label.width(BOLD) + px(6);
     if (wide + px(4)).is_below(right - left) {
-        let corner = (left + px(3), strip.middle(-70));
-        put_box(Raw("tb q"), corner, (wide, px(14)), out);
-        out.raw("/>");
+        let plate = ((left + px(3), strip.middle(-70)), (wide, px(14)));
         let place = (left + px(6), strip.middle(40));
-        put_text(Raw("k q"), place, Label(&label), out);
+        put_plate(plate, Raw("k q"), place, Label(&label), out);
     }
 }
 
@@ -82,13 +83,11 @@ fn put_occupant_name(
 ) {
     let name = task_bytes(scene.sys, task);
     if let Some((letters, dots)) = fit_name(name, right - left - px(6)) {
-        let colour = Number(scene.colour(task));
-        let letters = Text(name.get(..letters).unwrap_or(name));
-        let (x, y) = (At(left + px(4)), At(strip.middle(40)));
-        out.put(
-            "<text class=\"k d{} q\" x=\"{}\" y=\"{}\">{}{}</text>\n",
-            &[colour, x, y, letters, Raw(dots)],
-        );
+        let mut label = Canvas::new(scene.alloc);
+        label.plain(name.get(..letters).unwrap_or(name));
+        label.raw(dots);
+        let place = (left + px(4), strip.middle(40));
+        put_label_in(scene, task, "k", place, Label(&label), out);
     }
 }
 
@@ -103,12 +102,20 @@ fn put_task_box(
 ) {
     let (left, right) = (span.box_left(stay), span.box_right(stay));
     let class = Numbered("c", scene.colour(task), " f");
-    put_frame(class, (left, strip.y(40)), (right - left, px(20)), out);
+    let (corner, size) = ((left, strip.y(40)), (right - left, px(20)));
+    put_frame(class, corner, size, out);
     let head = [
         Number(processor_number(processor)),
         Text(task_bytes(scene.sys, task)),
     ];
     put_title(scene.run, "p{}: {}", &head, stay, out);
+    put_hatch(
+        scene,
+        task,
+        (corner.0 + Tenths(5), corner.1),
+        (size.0 - px(1), size.1),
+        out,
+    );
     put_occupant_name(scene, strip, task, (text_left(span, stay), right), out);
 }
 
@@ -182,7 +189,7 @@ fn put_bar_text(
     let fits = (width(label, BAR) + px(4)).is_below(right - left);
     if fits {
         let place = (left + px(3), strip.y(80));
-        put_text(Raw(class), place, Text(label), out);
+        put_label(Raw(class), place, Text(label), out);
     }
     fits
 }
@@ -208,36 +215,42 @@ fn put_held_lock(
     put_bar_text("lct q", strip, (text_left(span, stay), ends.1), label, out);
 }
 
+/// Appends a line that says who took the lock of a spinning span last before the span ended, and at which event.
+fn append_taker(scene: &Scene<'_>, lock: Option<u8>, stay: &Stay<Spin>, text: &mut Canvas) {
+    if let Some(lock) = lock
+        && let Some(deed) = scene.run.waits.taker(lock, stay.to)
+    {
+        text.raw("\ntaken by ");
+        text.caller(scene.sys, deed.actor);
+        text.numbered(" at event ", deed.event, "");
+    }
+}
+
 /// The text of a spinning span: words, and the name of the lock.
-fn spin_text<'a>(scene: &Scene<'a>, spin: &Spin) -> (&'static str, &'a [u8]) {
-    match scene.run.lock_of(spin) {
+fn spin_text<'a>(scene: &Scene<'a>, lock: Option<u8>) -> (&'static str, &'a [u8]) {
+    match lock {
         Some(lock) => ("spins for ", bytes_of(scene.sys, Topic::SpinLock(lock))),
         None => ("no progress", &[]),
     }
 }
 
 /// Puts the text of such a span between two places, if it fits, and says whether it does.
-fn put_spin_text<'a>(
+fn put_spin_text(
+    scene: &Scene<'_>,
     strip: &Strip,
     (left, right): (Tenths, Tenths),
-    words: &'a str,
-    name: &'a [u8],
+    (words, name): (&str, &[u8]),
     out: &mut Canvas,
 ) -> bool {
     let wide = width(words.as_bytes(), BAR) + width(name, BAR) + px(5);
     let fits = (wide + px(20)).is_below(right - left);
     if fits {
-        let corner = (left + px(4), strip.y(10));
-        put_box(Raw("tb q"), corner, (wide, px(8)), out);
-        out.put(
-            "/><text class=\"spt q\" x=\"{}\" y=\"{}\">{}{}</text>\n",
-            &[
-                At(left + Tenths(65)),
-                At(strip.y(80)),
-                Raw(words),
-                Text(name),
-            ],
-        );
+        let mut label = Canvas::new(scene.alloc);
+        label.raw(words);
+        label.plain(name);
+        let plate = ((left + px(4), strip.y(10)), (wide, px(8)));
+        let place = (left + Tenths(65), strip.y(80));
+        put_plate(plate, Raw("spt q"), place, Label(&label), out);
     }
     fits
 }
@@ -245,15 +258,18 @@ fn put_spin_text<'a>(
 /// A span in which a processor's actor spins.
 fn put_spin(scene: &Scene<'_>, span: &Span, strip: &Strip, stay: &Stay<Spin>, out: &mut Canvas) {
     let (left, right) = (span.box_left(stay), span.box_right(stay));
-    let (words, name) = spin_text(scene, &stay.state);
+    let lock = scene.run.lock_of(&stay.state);
+    let (words, name) = spin_text(scene, lock);
     let size = (right - left, px(9));
     put_frame(Raw("spb"), (left, strip.y(5)), size, out);
     let number = Number(processor_number(stay.state.processor));
     let head = [number, Raw(words), Text(name)];
-    put_title(scene.run, "p{}: {}{}", &head, stay, out);
+    let mut more = Canvas::new(scene.alloc);
+    append_taker(scene, lock, stay, &mut more);
+    put_title_with(scene.run, ("p{}: {}{}", &head), Label(&more), stay, out);
     let ends = (text_left(span, stay), right);
-    if !put_spin_text(strip, ends, words, name, out) {
-        put_spin_text(strip, ends, "", name, out);
+    if !put_spin_text(scene, strip, ends, (words, name), out) {
+        put_spin_text(scene, strip, ends, ("", name), out);
     }
 }
 
@@ -387,24 +403,37 @@ fn put_handling(
     }
 }
 
-/// The lane of a handler.
+/// The states of a handler in its lane.
+fn put_handlings(
+    scene: &Scene<'_>,
+    span: &Span,
+    strip: &Strip,
+    handler: Handler,
+    name: &Canvas,
+    out: &mut Canvas,
+) {
+    if let Some(track) = scene.run.handling(handler) {
+        for place in track.places(span.first, span.last) {
+            if let Some(stay) = track.stay(place) {
+                put_handling(scene, span, strip, name, &stay, out);
+            }
+        }
+    }
+}
+
+/// The lane of a handler, beside these pixels of its marks. `AllocError` if memory runs out.
 pub fn put_handler(
     scene: &Scene<'_>,
     span: &Span,
     strip: &Strip,
-    taken: &[Taken],
+    taken: Vec<Taken>,
     handler: Handler,
     out: &mut Canvas,
-) {
+) -> Result<(), AllocError> {
     let name = handler_text(scene.alloc, scene.sys, handler, "interrupt ");
     put_handler_gutter(scene, strip, handler, &name, out);
-    if let Some(track) = scene.run.handling(handler) {
-        for place in track.places(span.first, span.last) {
-            if let Some(stay) = track.stay(place) {
-                put_handling(scene, span, strip, &name, &stay, out);
-            }
-        }
-    }
-    put_calls(scene, span, strip, taken, out);
+    put_handlings(scene, span, strip, handler, &name, out);
+    put_calls(scene, span, strip, taken, out)?;
     out.raw("</g>\n");
+    Ok(())
 }

@@ -1,7 +1,7 @@
 //! The source of all parts of a picture, and where a text can stand.
-use crate::strips::{Lane, colours};
+use crate::strips::Lane;
 use fmp_base::System;
-use fmp_timeline::{Deeds, Page, Run, Span, Tenths, px, width};
+use fmp_timeline::{Deeds, Look, Page, Run, Span, Tenths, all_looks, px, width};
 use std::alloc::{AllocError, Global};
 
 /// The source of a picture.
@@ -11,8 +11,8 @@ pub struct Scene<'a> {
     pub sys: &'a System,
     pub run: &'a Run,
     pub page: Page,
-    /// The colours of the tasks.
-    pub colours: Vec<u8>,
+    /// The looks of the tasks.
+    pub looks: Vec<Look>,
 }
 
 impl<'a> Scene<'a> {
@@ -28,7 +28,7 @@ impl<'a> Scene<'a> {
             sys,
             run,
             page,
-            colours: colours(alloc, sys)?,
+            looks: all_looks(alloc, sys)?,
         })
     }
 
@@ -42,9 +42,30 @@ impl<'a> Scene<'a> {
         self.run.next_event().saturating_sub(1)
     }
 
+    /// The look of a task.
+    fn look(&self, task: u8) -> Look {
+        let first = Look {
+            colour: 0,
+            hatch: 0,
+        };
+        self.looks.get(usize::from(task)).copied().unwrap_or(first)
+    }
+
     /// The number of a task's colour.
     pub fn colour(&self, task: u8) -> u32 {
-        u32::from(self.colours.get(usize::from(task)).copied().unwrap_or(0))
+        u32::from(self.look(task).colour)
+    }
+
+    /// The number of a task's hatch, and its letter: `w` for white on a dark colour, `b` for black on a light one.
+    pub fn hatch(&self, task: u8) -> Option<(u32, &'static str)> {
+        let look = self.look(task);
+        let letter = if look.colour % 2 == 0 { "w" } else { "b" };
+        (look.hatch > 0).then_some((u32::from(look.hatch), letter))
+    }
+
+    /// Whether colours and hatches alone do not tell tasks apart at a glance, so that their numbers stand beside them.
+    pub fn is_numbered(&self) -> bool {
+        self.looks.len() > 8
     }
 
     /// What the owner of this lane did, and what was done to it.

@@ -1,5 +1,6 @@
 //! Shapes that many parts of a picture have: boxes, lines and texts.
-use fmp_timeline::Piece::{At, Raw};
+use crate::scene::Scene;
+use fmp_timeline::Piece::{At, Number, Numbered, Raw};
 use fmp_timeline::{Canvas, Piece, Tenths, px};
 
 /// A box without the end of its element: where its upper left corner is, and how wide and high it is.
@@ -9,10 +10,16 @@ pub fn put_box(
     (wide, high): (Tenths, Tenths),
     out: &mut Canvas,
 ) {
+    out.put("<path class=\"{}\"", &[class]);
+    put_outline((x, y), (wide, high), out);
+}
+
+/// The outline of a box, as the attribute of its path.
+fn put_outline((x, y): (Tenths, Tenths), (wide, high): (Tenths, Tenths), out: &mut Canvas) {
     let back = wide.back();
     out.put(
-        "<path class=\"{}\" d=\"M{} {}h{}v{}h{}z\"",
-        &[class, At(x), At(y), At(wide), At(high), At(back)],
+        " d=\"M{} {}h{}v{}h{}z\"",
+        &[At(x), At(y), At(wide), At(high), At(back)],
     );
 }
 
@@ -32,6 +39,77 @@ pub fn put_line(class: &str, (x, y): (Tenths, Tenths), long: Tenths, out: &mut C
         "<path class=\"{}\" d=\"M{} {}h{}\"",
         &[Raw(class), At(x), At(y), At(long)],
     );
+}
+
+/// A text that stands above the lines of the panel.
+pub fn put_label<'a>(class: Piece<'a>, place: (Tenths, Tenths), text: Piece<'a>, out: &mut Canvas) {
+    out.raise();
+    put_text(class, place, text, out);
+    out.lower();
+}
+
+/// A text on a plate of this size at a corner, both above the lines of the panel.
+pub fn put_plate<'a>(
+    (corner, size): ((Tenths, Tenths), (Tenths, Tenths)),
+    class: Piece<'a>,
+    place: (Tenths, Tenths),
+    text: Piece<'a>,
+    out: &mut Canvas,
+) {
+    out.raise();
+    put_box(Raw("tb q"), corner, size, out);
+    out.raw("/>");
+    put_text(class, place, text, out);
+    out.lower();
+}
+
+/// The hatch of a task over a box of its colour, if it has one.
+pub fn put_hatch(
+    scene: &Scene<'_>,
+    task: u8,
+    corner: (Tenths, Tenths),
+    size: (Tenths, Tenths),
+    out: &mut Canvas,
+) {
+    if let Some((number, letter)) = scene.hatch(task) {
+        out.put("<path class=\"x{}{} q\"", &[Number(number), Raw(letter)]);
+        put_outline(corner, size, out);
+        out.raw("/>\n");
+    }
+}
+
+/// A text in a box of a task's colour, above the lines of the panel; on a hatch it has an edge of that colour.
+pub fn put_label_in<'a>(
+    scene: &Scene<'_>,
+    task: u8,
+    class: &'a str,
+    (x, y): (Tenths, Tenths),
+    text: Piece<'a>,
+    out: &mut Canvas,
+) {
+    let colour = Number(scene.colour(task));
+    let edge = if scene.hatch(task).is_some() {
+        Numbered(" p", scene.colour(task), "")
+    } else {
+        Raw("")
+    };
+    out.raise();
+    out.put(
+        "<text class=\"{} d{}{} q\" x=\"{}\" y=\"{}\">{}</text>\n",
+        &[Raw(class), colour, edge, At(x), At(y), text],
+    );
+    out.lower();
+}
+
+/// The number of a task in a box of its colour.
+pub fn put_number(scene: &Scene<'_>, corner: (Tenths, Tenths), task: u8, out: &mut Canvas) {
+    let size = (px(18), px(11));
+    put_box(Numbered("c", scene.colour(task), " f"), corner, size, out);
+    out.raw("/>");
+    put_hatch(scene, task, corner, size, out);
+    let place = (corner.0 + px(9), corner.1 + Tenths(85));
+    let number = Number(u32::from(task).saturating_add(1));
+    put_label_in(scene, task, "s7 c", place, number, out);
 }
 
 /// A text, and a line feed.

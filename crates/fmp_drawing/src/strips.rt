@@ -1,9 +1,11 @@
 //! Which lanes a panel has, and where they stand.
 use fmp_base::{Caller, Handler, Lock, StateWord, System};
-use fmp_timeline::{Run, Span, TaskShown, Tenths, Track, px};
+use fmp_timeline::{
+    Object, Presence, Run, Showing, Span, TaskShown, Tenths, Track, px, showing_of,
+};
 use std::alloc::{AllocError, Global};
 
-/// With more tasks than this, a panel has no lanes in which nothing happens.
+/// With more tasks than this, a panel has no lanes of tasks and handlers to which nothing happens.
 const MANY_TASKS: usize = 24;
 
 /// What a lane shows.
@@ -30,11 +32,14 @@ pub struct Strip {
     pub height: u32,
 }
 
-/// The lanes of a panel, and the tasks that have none because nothing happens to them.
+/// The lanes of a panel, and what has none because nothing happens to it.
 #[derive(Drop)]
 pub struct Strips {
     pub strips: Vec<Strip>,
+    /// The tasks without a lane.
     pub asleep: Vec<u8>,
+    /// The places of the objects without a lane.
+    pub still: Vec<usize>,
     pub bottom: u32,
 }
 
@@ -102,6 +107,52 @@ fn any_state<S: Copy + PartialEq + Drop, F: Fn(S) -> bool>(
 fn is_here(run: &Run, task: u8, processor: u8, first: u32, last: u32) -> bool {
     let track = run.tasks.get(usize::from(task));
     any_state(track, first, last, |shown| shown.processor == processor)
+}
+
+/// Whether a task is assigned to a processor after the event before a panel, and not behind the panel's first event.
+fn leaves(run: &Run, task: u8, processor: u8, first: u32) -> bool {
+    let before = first.saturating_sub(1);
+    is_here(run, task, processor, before, before) && !is_here(run, task, processor, first, first)
+}
+
+/// Whether a task is dormant after each event of a panel.
+fn is_dormant(run: &Run, task: u8, span: &Span) -> bool {
+    let track = run.tasks.get(usize::from(task));
+    !any_state(
+        track,
+        span.first,
+        span.last,
+        |shown| shown.word != StateWord::Dormant,
+    )
+}
+
+/// How a task is there on a processor, over the events of a panel.
+fn presence_of(run: &Run, span: &Span, task: u8, processor: u8) -> Presence {
+    Presence {
+        is_here: is_here(run, task, processor, span.first, span.last),
+        leaves: leaves(run, task, processor, span.first),
+        is_awake: is_awake(run, task, span),
+        is_dormant: is_dormant(run, task, span),
+    }
+}
+
+/// Whether an object changes in a panel, or tasks wait for it.
+fn is_moving(object: &Object, span: &Span) -> bool {
+    let waited = match object.track.at(span.first) {
+        Some(shown) => shown.start < shown.end,
+        None => false,
+    };
+    waited || object.track.places(span.first, span.last).len() > 1
+}
+
+/// Whether some object changes in a panel, or tasks wait for it.
+fn is_any_moving(objects: &[Object], span: &Span) -> bool {
+    for object in objects {
+        if is_moving(object, span) {
+            return true;
+        }
+    }
+    false
 }
 
 /// Whether something happens to a task in a panel: it runs, changes or has a mark.
@@ -222,18 +273,12 @@ impl Strips {
         run: &Run,
         span: &Span,
         many: bool,
-        (task, home, processor): (u8, u8, u8),
+        (task, processor): (u8, u8),
     ) -> Result<(), AllocError> {
-        let page = &span.page;
-        if home != processor && !is_here(run, task, processor, page.first, page.last) {
-            return Ok(());
-        }
-        let here = is_here(run, task, processor, span.first, span.last);
-        if !many || (here && is_awake(run, task, span)) {
-            return self.add(Lane::Task(task, processor));
-        }
-        if here {
-            self.asleep.push(task)?;
+        match showing_of(many, presence_of(run, span, task, processor)) {
+            Showing::Lane => self.add(Lane::Task(task, processor))?,
+            Showing::Count => self.asleep.push(task)?,
+            Showing::Nothing => {}
         }
         Ok(())
     }
@@ -248,24 +293,29 @@ impl Strips {
         let many = sys.tasks.len() > MANY_TASKS;
         for priority in 1..=16u8 {
             for task in 0..sys.tasks.len().min(255) as u8 {
-                let config = &sys.tasks[usize::from(task)];
-                if config.priority == priority {
-                    self.add_task(run, span, many, (task, config.processor, processor))?;
+                if sys.tasks[usize::from(task)].priority == priority {
+                    self.add_task(run, span, many, (task, processor))?;
                 }
             }
         }
         Ok(())
     }
 
-    fn add_objects(&mut self, sys: &System, run: &Run, span: &Span) -> Result<(), AllocError> {
-        let many = sys.tasks.len() > MANY_TASKS;
-        if !run.objects.all.is_empty() {
+    /// The lane of the object at a place, if it has one.
+    fn add_object(&mut self, object: &Object, place: usize, span: &Span) -> Result<(), AllocError> {
+        if is_moving(object, span) {
+            return self.add(Lane::Object(place));
+        }
+        self.still.push(place)?;
+        Ok(())
+    }
+
+    fn add_objects(&mut self, run: &Run, span: &Span) -> Result<(), AllocError> {
+        if is_any_moving(&run.objects.all, span) {
             self.add(Lane::ObjectsHead)?;
         }
         for (place, object) in run.objects.all.iter().enumerate() {
-            if !many || object.track.places(span.first, span.last).len() > 1 {
-                self.add(Lane::Object(place))?;
-            }
+            self.add_object(object, place, span)?;
         }
         Ok(())
     }
@@ -278,7 +328,7 @@ impl Strips {
             self.add_tasks(sys, run, span, processor)?;
             self.add(Lane::Gap)?;
         }
-        self.add_objects(sys, run, span)
+        self.add_objects(run, span)
     }
 
     /// The lanes of a panel that begins at this height.
@@ -292,18 +342,24 @@ impl Strips {
         let mut strips = Strips {
             strips: Vec::new(alloc),
             asleep: Vec::new(alloc),
+            still: Vec::new(alloc),
             bottom: top,
         };
         strips.add_all(sys, run, span)?;
         Ok(strips)
     }
 
-    /// The lower end, with a line for tasks without lanes.
+    /// Whether something has no lane.
+    pub fn leaves_out(&self) -> bool {
+        !self.asleep.is_empty() || !self.still.is_empty()
+    }
+
+    /// The lower end, with a line for what has no lane.
     pub fn end(&self) -> u32 {
-        if self.asleep.is_empty() {
-            return self.bottom;
+        if self.leaves_out() {
+            return self.bottom.saturating_add(14);
         }
-        self.bottom.saturating_add(14)
+        self.bottom
     }
 
     fn of_lane(&self, lane: Lane) -> Option<Strip> {
@@ -330,22 +386,4 @@ impl Strips {
             Caller::Handler(handler) => self.of_lane(Lane::Handler(handler)),
         }
     }
-}
-
-/// The colours of the tasks, by their places in the groups of their first processors, so that neighbours differ.
-pub fn colours(alloc: Global, sys: &System) -> Result<Vec<u8>, AllocError> {
-    let mut all = vec![in alloc; 0; sys.tasks.len()]?;
-    for processor in 0..sys.processors {
-        let mut next = processor % 8 * 3 % 8;
-        for priority in 1..=16u8 {
-            for task in 0..all.len().min(sys.tasks.len()) {
-                let config = &sys.tasks[task];
-                if config.processor == processor && config.priority == priority {
-                    all[task] = next;
-                    next = (next % 8 + 1) % 8;
-                }
-            }
-        }
-    }
-    Ok(all)
 }

@@ -11,7 +11,8 @@ sans-serif;font-size:9px;fill:#1c2329}
 .tk{stroke:#8d99a6;fill:none;stroke-dasharray:2 2}
 .tkb{fill:#5a6570}.tkt{fill:#fff;font-weight:600}.lead{fill:#fff;fill-opacity:.55}
 .dorm{stroke:#b4bdc6;fill:none}.away{stroke:#b4bdc6;fill:none;stroke-dasharray:1 4}
-.w{fill:#fff;stroke:#7b8794}.wt{fill:#39434d}.s{fill:url(#hs);stroke:#5a6570}.ws{fill:url(#hs);stroke:none}
+.w{fill:#fff;stroke:#7b8794}.wt{fill:#39434d;paint-order:stroke;stroke:#fff;stroke-width:1.5px}
+.s{fill:url(#hs);stroke:#5a6570}.ws{fill:url(#hs);stroke:none}
 .i{fill:none;stroke:#c3cad1}.y{fill-opacity:.2;stroke-width:1}.over{fill:url(#ho)}.hold{fill:url(#hh)}
 .hr{fill:url(#hd);stroke:#1c2329}.hp{fill:#fff;stroke:#1c2329;stroke-dasharray:2 2}
 .lc{fill:#1c2329}.lct{fill:#fff;font-size:8px}.ls{fill:#1c2329}.sp{fill:url(#sp)}
@@ -39,6 +40,11 @@ a text{text-decoration:underline}.cut{stroke-opacity:.55;fill:none;stroke:#fff}
 .c5{fill:#46cdd4;stroke:#128a91}.d5{fill:#000}.g5{fill:none;stroke:#000}
 .c6{fill:#614c65;stroke:#614c65}.d6{fill:#fff}.g6{fill:none;stroke:#fff}
 .c7{fill:#a3a9ff;stroke:#6a70d0}.d7{fill:#000}.g7{fill:none;stroke:#000}
+.p0,.p1,.p2,.p3,.p4,.p5,.p6,.p7{paint-order:stroke;stroke-width:4px;stroke-linejoin:round}
+.p0{stroke:#433c9b}.p1{stroke:#bbc24c}.p2{stroke:#0d7f50}.p3{stroke:#ffb29b}
+.p4{stroke:#956200}.p5{stroke:#46cdd4}.p6{stroke:#614c65}.p7{stroke:#a3a9ff}
+.x1w{fill:url(#x1w)}.x2w{fill:url(#x2w)}.x3w{fill:url(#x3w)}
+.x1b{fill:url(#x1b)}.x2b{fill:url(#x2b)}.x3b{fill:url(#x3b)}
 .f{stroke:none}.o{fill:none}"##;
 
 /// What differs on a dark screen.
@@ -46,7 +52,7 @@ pub const DARK: &str = r##"svg{background:#14181c}
 text{fill:#e4e9ee}.h2,.m{fill:#9aa7b4}.band{fill:#1b2026}.pband{fill:#272e36}.grid{stroke:#2a3139}
 .tk{stroke:#6b7783}
 .tkb{fill:#9aa7b4}.tkt{fill:#14181c}.lead{fill:#14181c}.dorm,.away{stroke:#4d5965}
-.w{fill:#14181c;stroke:#8592a0}.wt{fill:#d3dbe3}
+.w{fill:#14181c;stroke:#8592a0}.wt{fill:#d3dbe3;stroke:#14181c}
 .s{stroke:#9aa7b4}.i{stroke:#3a444e}.y{fill-opacity:.42}.hr{stroke:#e4e9ee}.hp{fill:#14181c;stroke:#e4e9ee}
 .lc,.ls{fill:#e4e9ee}.lct{fill:#14181c}
 .spb{stroke:#e4e9ee}.ld{fill:#6b7783}.ln{stroke:#e4e9ee}.dot{fill:#e4e9ee}.mk{fill:#e4e9ee;stroke:#e4e9ee}
@@ -65,6 +71,7 @@ text{fill:#e4e9ee}.h2,.m{fill:#9aa7b4}.band{fill:#1b2026}.pband{fill:#272e36}.gr
 .c5{fill:#46cdd4;stroke:#46cdd4}
 .c6{fill:#7a6380;stroke:#7a6380}
 .c7{fill:#a3a9ff;stroke:#a3a9ff}
+.p0{stroke:#5a52bd}.p6{stroke:#7a6380}
 .f{stroke:none}.o{fill:none}"##;
 
 /// Hatches and marks. Each mark has its middle at the event's line.
@@ -81,6 +88,18 @@ pub const SHAPES: &str = r##"<defs>
 <path class="ph" d="M-1 1l2-2M0 5l5-5M4 6l2-2" stroke="#39434d" stroke-width="1.1"/></pattern>
 <pattern id="sp" width="6" height="10" patternUnits="userSpaceOnUse">
 <path class="pi" d="M0 5l1.5-2.5l3 5l1.5-2.5" stroke="#1c2329" fill="none"/></pattern>
+<pattern id="x1w" width="7" height="7" patternUnits="userSpaceOnUse">
+<path d="M-1 6l2 2M0 0l7 7M6-1l2 2" stroke="#fff" stroke-opacity=".45" stroke-width="1.5"/></pattern>
+<pattern id="x2w" width="5" height="5" patternUnits="userSpaceOnUse">
+<circle cx="2.5" cy="2.5" r="1.1" fill="#fff" fill-opacity=".55"/></pattern>
+<pattern id="x3w" width="5" height="5" patternUnits="userSpaceOnUse">
+<path d="M1.5 0V5" stroke="#fff" stroke-opacity=".45" stroke-width="1.5"/></pattern>
+<pattern id="x1b" width="7" height="7" patternUnits="userSpaceOnUse">
+<path d="M-1 6l2 2M0 0l7 7M6-1l2 2" stroke="#000" stroke-opacity=".38" stroke-width="1.5"/></pattern>
+<pattern id="x2b" width="5" height="5" patternUnits="userSpaceOnUse">
+<circle cx="2.5" cy="2.5" r="1.1" fill="#000" fill-opacity=".45"/></pattern>
+<pattern id="x3b" width="5" height="5" patternUnits="userSpaceOnUse">
+<path d="M1.5 0V5" stroke="#000" stroke-opacity=".38" stroke-width="1.5"/></pattern>
 <g id="act"><path class="mk" d="M0 9V-7" fill="none" stroke-width="1.6"/>
 <path class="mk" d="M0-10l3 5h-6z" stroke-width=".5"/></g>
 <g id="queued"><path class="mk" d="M0 9V-5" fill="none" stroke-width="1.2" stroke-dasharray="2 1.5"/>

@@ -1,15 +1,16 @@
 //! Lanes of tasks.
 use crate::calls::put_calls;
 use crate::scene::{Scene, Taken, fit_left};
-use crate::shapes::{put_box, put_frame, put_line, put_text};
+use crate::shapes::{put_box, put_frame, put_hatch, put_label, put_line, put_number, put_text};
 use crate::strips::Strip;
-use crate::titles::put_title;
+use crate::titles::put_title_with;
 use fmp_base::{Caller, StateWord};
 use fmp_timeline::Piece::{At, Label, Number, Numbered, Raw, Text};
 use fmp_timeline::{
-    Canvas, Piece, Span, Spin, Stay, TaskShown, Tenths, append_handler, px, task_bytes, wait_name,
-    width,
+    Canvas, Piece, Span, Spin, Stay, TaskShown, Tenths, append_handler, deed_words, px, task_bytes,
+    wait_name, width,
 };
+use std::alloc::AllocError;
 
 /// The size of names in the gutter.
 pub const NAME: Tenths = Tenths(115);
@@ -66,7 +67,7 @@ fn side_text(scene: &Scene<'_>, task: u8, processor: u8) -> Canvas {
     text
 }
 
-/// The small square of a task's colour.
+/// The small square of a task's colour: full on its first processor, and otherwise pale.
 fn put_square(strip: &Strip, colour: u32, home: bool, out: &mut Canvas) {
     if home {
         let corner = (px(16), strip.middle(-40));
@@ -76,6 +77,29 @@ fn put_square(strip: &Strip, colour: u32, home: bool, out: &mut Canvas) {
         put_box(Numbered("c", colour, " y"), corner, (px(7), px(7)), out);
     }
     out.raw("/>");
+}
+
+/// The number of a task that is a guest on its lane's processor, in a pale box of its colour.
+fn put_guest(scene: &Scene<'_>, strip: &Strip, task: u8, out: &mut Canvas) {
+    let class = Numbered("c", scene.colour(task), " y");
+    put_box(
+        class,
+        (Tenths(85), strip.middle(-50)),
+        (px(17), px(10)),
+        out,
+    );
+    out.raw("/>");
+    let number = Number(u32::from(task).saturating_add(1));
+    put_text(Raw("s7 c"), (px(17), strip.middle(30)), number, out);
+}
+
+/// The mark of a task's colour before its name, with its number where there are more tasks than colours.
+fn put_colour(scene: &Scene<'_>, strip: &Strip, task: u8, home: bool, out: &mut Canvas) {
+    match (scene.is_numbered(), home) {
+        (false, _) => put_square(strip, scene.colour(task), home, out),
+        (true, true) => put_number(scene, (px(8), strip.middle(-55)), task, out),
+        (true, false) => put_guest(scene, strip, task, out),
+    }
 }
 
 /// Whether a processor is the first one of a task.
@@ -95,7 +119,7 @@ fn put_gutter(scene: &Scene<'_>, strip: &Strip, (task, processor): (u8, u8), out
         "<g role=\"group\" aria-label=\"Task {} on processor {}\">",
         &[Text(name), number],
     );
-    put_square(strip, scene.colour(task), home, out);
+    put_colour(scene, strip, task, home, out);
     let side = side_text(scene, task, processor);
     let room = scene.page.left() - px(44) - side.width(SMALL);
     put_name(strip, Text(name), width(name, NAME), room, !home, out);
@@ -198,13 +222,32 @@ fn append_head(scene: &Scene<'_>, task: u8, shown: &TaskShown, head: &mut Canvas
     }
 }
 
-/// The end of a state's path with its title: its head, the processor, and since when.
+/// Appends a line on a wait: for what, until when, since which event, and who acted last on what it is for.
+fn append_told(scene: &Scene<'_>, task: u8, stay: &Stay<TaskShown>, text: &mut Canvas) {
+    let (Some(cause), Some(told)) = (stay.state.wait, scene.run.waits.told(task, stay)) else {
+        return;
+    };
+    text.raw("\n");
+    text.plain(task_bytes(scene.sys, task));
+    text.raw(" waits ");
+    text.wait(scene.sys, cause, stay.state.deadline);
+    text.numbered(", since event ", told.since, "");
+    if let Some(deed) = told.deed {
+        text.raw(deed_words(cause));
+        text.caller(scene.sys, deed.actor);
+        text.numbered(" at event ", deed.event, "");
+    }
+}
+
+/// The end of a state's path with its title: its head, the processor, since when, and what is told of a wait.
 fn put_task_title(scene: &Scene<'_>, task: u8, stay: &Stay<TaskShown>, out: &mut Canvas) {
     let mut head = Canvas::new(scene.alloc);
     append_head(scene, task, &stay.state, &mut head);
+    let mut more = Canvas::new(scene.alloc);
+    append_told(scene, task, stay, &mut more);
     let processor = Number(u32::from(stay.state.processor).saturating_add(1));
     let values = [Label(&head), processor];
-    put_title(scene.run, "{}, p{}", &values, stay, out);
+    put_title_with(scene.run, ("{}, p{}", &values), Label(&more), stay, out);
 }
 
 /// The text of a wait between two places of its lane, lowered by this many tenths, if it fits.
@@ -219,7 +262,7 @@ fn put_wait_text(
 ) {
     let mut label = Canvas::new(scene.alloc);
     if let Some(x) = fit_label(scene, span, taken, ends, shown, &mut label) {
-        put_text(Raw(class), (x, y), Label(&label), out);
+        put_label(Raw(class), (x, y), Label(&label), out);
     }
 }
 
@@ -260,6 +303,7 @@ fn put_running(
     let class = Numbered("c", scene.colour(task), " f");
     put_box(class, corner, size, out);
     put_task_title(scene, task, stay, out);
+    put_hatch(scene, task, corner, size, out);
     if stay.state.under.is_some() {
         put_box(Raw("over q"), corner, size, out);
         out.raw("/>\n");
@@ -363,8 +407,8 @@ fn put_stay(
     out.raw("/>\n");
 }
 
-/// The lane of a task on a processor.
-pub fn put_task(
+/// The states of a task in its lane on a processor.
+fn put_stays(
     scene: &Scene<'_>,
     span: &Span,
     strip: &Strip,
@@ -372,7 +416,6 @@ pub fn put_task(
     (task, processor): (u8, u8),
     out: &mut Canvas,
 ) {
-    put_gutter(scene, strip, (task, processor), out);
     if let Some(track) = scene.run.tasks.get(usize::from(task)) {
         for place in track.places(span.first, span.last) {
             if let Some(stay) = track.stay(place) {
@@ -380,7 +423,21 @@ pub fn put_task(
             }
         }
     }
+}
+
+/// The lane of a task on a processor, beside these pixels of its marks. `AllocError` if memory runs out.
+pub fn put_task(
+    scene: &Scene<'_>,
+    span: &Span,
+    strip: &Strip,
+    taken: Vec<Taken>,
+    (task, processor): (u8, u8),
+    out: &mut Canvas,
+) -> Result<(), AllocError> {
+    put_gutter(scene, strip, (task, processor), out);
+    put_stays(scene, span, strip, &taken, (task, processor), out);
     put_spins(scene, span, strip, (task, processor), out);
-    put_calls(scene, span, strip, taken, out);
+    put_calls(scene, span, strip, taken, out)?;
     out.raw("</g>\n");
+    Ok(())
 }

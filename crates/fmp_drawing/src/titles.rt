@@ -69,11 +69,25 @@ pub fn put_area(
 /// The end of a path with a title: a head as a form and its values, from where to where a state lasts, and the lines of
 /// the event that began it.
 pub fn put_title<S>(run: &Run, head: &str, values: &[Piece<'_>], stay: &Stay<S>, out: &mut Canvas) {
+    put_title_with(run, (head, values), Raw(""), stay, out);
+}
+
+/// The same, with this behind its first line.
+pub fn put_title_with<S>(
+    run: &Run,
+    (head, values): (&str, &[Piece<'_>]),
+    more: Piece<'_>,
+    stay: &Stay<S>,
+    out: &mut Canvas,
+) {
     out.raw("><title>");
     out.put(head, values);
     match stay.to {
-        Some(to) => out.put(", events {} to {}\n", &[Number(stay.from), Number(to)]),
-        None => out.numbered(", from event ", stay.from, " on\n"),
+        Some(to) => out.put(
+            ", events {} to {}{}\n",
+            &[Number(stay.from), Number(to), more],
+        ),
+        None => out.put(", from event {} on{}\n", &[Number(stay.from), more]),
     }
     put_lines(lines_of(run, stay.from), out);
     out.raw("</title></path>\n");

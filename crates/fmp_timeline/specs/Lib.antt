@@ -1,1 +1,5 @@
+pub mod Lanes
+pub mod Looks
+pub mod Marks
 pub mod Shown
+pub mod Waits

@@ -1,8 +1,11 @@
 //! The text that a picture is drawn into.
 use crate::font::width;
 use crate::lengths::Tenths;
+use fmp_base::{Caller, Phase, System, TaskBlock, WaitCause};
+use fmp_named::{append_caller, append_wait};
 use itoa::Buffer;
 use std::alloc::{AllocError, Global};
+use std::mem::swap;
 
 /// A value in the text of a picture.
 #[derive(Clone, Copy)]
@@ -24,10 +27,14 @@ pub enum Piece<'a> {
 /// The digits of hexadecimal numbers.
 const DIGITS: &[u8; 16] = b"0123456789ABCDEF";
 
-/// The text of a picture, or of a label in it. Once memory has run out it takes no more, which `finish` reports.
+/// The text of a picture, or of a label in it. What is written while it is raised comes behind what is written before
+/// it settles, and so stands above that in the picture. Once memory has run out it takes no more, which `finish`
+/// reports.
 #[derive(Drop)]
 pub struct Canvas {
     bytes: Vec<u8>,
+    /// The other layer: the upper one, unless the canvas is raised.
+    other: Vec<u8>,
     is_cut: bool,
 }
 
@@ -36,6 +43,7 @@ impl Canvas {
     pub fn new(alloc: Global) -> Canvas {
         Canvas {
             bytes: Vec::new(alloc),
+            other: Vec::new(alloc),
             is_cut: false,
         }
     }
@@ -73,6 +81,42 @@ impl Canvas {
 
     fn byte(&mut self, byte: u8) {
         self.is_cut = self.is_cut || self.bytes.push(byte).is_err();
+    }
+
+    /// From here on the upper layer is written.
+    pub fn raise(&mut self) {
+        swap(&mut self.bytes, &mut self.other);
+    }
+
+    /// From here on the lower layer is written again.
+    pub fn lower(&mut self) {
+        swap(&mut self.bytes, &mut self.other);
+    }
+
+    /// Puts the upper layer behind the lower one, and begins a new one.
+    pub fn settle(&mut self) {
+        self.is_cut = self.is_cut || self.bytes.extend_from_slice(&self.other).is_err();
+        self.other.truncate(0);
+    }
+
+    /// What a wait is for, and until when, in words.
+    pub fn wait(&mut self, sys: &System, cause: WaitCause, deadline: Option<u32>) {
+        let block = TaskBlock {
+            phase: Phase::Waiting(cause),
+            suspended: false,
+            priority: 0,
+            processor: 0,
+            activations: 0,
+            next_processor: None,
+            wakeups: 0,
+            deadline,
+        };
+        self.is_cut = self.is_cut || append_wait(sys, &block, &mut self.bytes).is_err();
+    }
+
+    /// The name of a task or a handler.
+    pub fn caller(&mut self, sys: &System, caller: Caller) {
+        self.is_cut = self.is_cut || append_caller(sys, caller, &mut self.bytes).is_err();
     }
 
     /// A number in decimal digits.

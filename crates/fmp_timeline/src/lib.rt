@@ -3,7 +3,9 @@
 
 mod canvas;
 mod font;
+mod lanes;
 mod lengths;
+mod looks;
 mod marks;
 mod names;
 mod objects;
@@ -13,10 +15,13 @@ mod run;
 mod spins;
 mod states;
 mod tracks;
+mod waits;
 
 pub use canvas::{Canvas, Piece};
 pub use font::{number_width, width};
+pub use lanes::{Presence, Showing, showing_of};
 pub use lengths::{Tenths, px};
+pub use looks::{Look, all_looks, look_of};
 pub use marks::{Bond, Link, Made, Mark, Migration, Sign};
 pub use names::{
     Topic, append_call, append_handler, append_value, bytes_of, handler_text, task_bytes, wait_name,
@@ -27,3 +32,4 @@ pub use run::{Deeds, Note, Run};
 pub use spins::{Spin, Spins};
 pub use states::{Handling, Moment, Occupant, TaskShown, tasks_shown};
 pub use tracks::{Stay, Track};
+pub use waits::{Told, Waits, deed_words};

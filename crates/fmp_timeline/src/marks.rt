@@ -1,4 +1,7 @@
 //! What events do to tasks and handlers: marks in their lanes, and links between them.
+ghost use Rattle.std.specs.Prelude.{◌≡◌};
+ghost use Rattle.fmp_timeline.specs.Marks as spec;
+
 use fmp_base::{Action, Call, Caller, Er, Fault, Handler, Line, Reply};
 
 /// What a mark says.
@@ -64,6 +67,37 @@ pub struct Made {
     pub event: u32,
     pub call: Call,
     pub reply: Option<Reply>,
+    /// Whether a wait ended at the event.
+    pub releases: bool,
+}
+
+fn is_ok(code: Er) -> bool
+    ensures { result ≡ spec.is_ok code }
+{
+    match code {
+        Er::Ok => true,
+        _ => false,
+    }
+}
+
+/// Whether a call was answered at once, and with `E_OK`.
+fn is_accepted(reply: Option<Reply>) -> bool
+    ensures { result ≡ spec.is_accepted reply }
+{
+    match reply {
+        Some(reply) => is_ok(reply.code),
+        None => false,
+    }
+}
+
+impl Made {
+    /// Whether the name of the call stands in its lane before those of others do: if it waits, is refused, or ends a
+    /// wait.
+    pub fn is_named_first(&self) -> bool
+        ensures { result ≡ spec.is_named_first self.now }
+    {
+        self.releases || !is_accepted(self.reply)
+    }
 }
 
 /// What an actor did to another task at an event.
@@ -134,6 +168,16 @@ pub fn moves(lines: &[Line], place: u8) -> bool {
         if let Line::Starts { task, .. } | Line::Gets { task, .. } = line
             && *task == place
         {
+            return true;
+        }
+    }
+    false
+}
+
+/// Whether one of these lines says that a wait ended.
+pub fn ends_wait(lines: &[Line]) -> bool {
+    for line in lines {
+        if matches!(line, Line::Gets { .. }) {
             return true;
         }
     }

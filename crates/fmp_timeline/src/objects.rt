@@ -1,5 +1,5 @@
 //! The objects of a run: their values, and the tasks that wait for them in the order of their queues.
-use crate::marks::task_named;
+use crate::marks::{ends_wait, task_named};
 use crate::names::Topic;
 use crate::states::Moment;
 use crate::tracks::Track;
@@ -109,16 +109,6 @@ fn replaced_task(lines: &[Line]) -> Option<u8> {
         (Call::ChgPri { task, .. }, caller) => task_named(task, caller),
         _ => None,
     }
-}
-
-/// Whether an event released a task.
-fn releases(lines: &[Line]) -> bool {
-    for line in lines {
-        if matches!(line, Line::Gets { .. }) {
-            return true;
-        }
-    }
-    false
 }
 
 /// The tasks that wait for an object, each with what it queues by before it, in no order.
@@ -317,7 +307,7 @@ impl Objects {
 
     /// The words and letters that are queued after an event.
     fn take_levels(&mut self, lines: &[Line]) {
-        if releases(lines) {
+        if ends_wait(lines) {
             return;
         }
         let Some((call, _)) = accepted(lines) else {

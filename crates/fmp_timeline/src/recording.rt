@@ -52,6 +52,21 @@ impl Run {
         Ok(())
     }
 
+    /// Keeps what is told of the waits that an event ends, or changes.
+    fn end_waits(&mut self, event: u32, moment: &Moment<'_>) -> Result<(), AllocError> {
+        for task in 0..moment.tasks.len().min(255) as u8 {
+            let place = usize::from(task);
+            if let Some(track) = self.tasks.get(place)
+                && let Some(last) = track.last()
+                && let Some(cause) = last.wait
+                && last != moment.tasks[place]
+            {
+                self.waits.end(event, task, cause)?;
+            }
+        }
+        Ok(())
+    }
+
     fn show_tasks(&mut self, event: u32, moment: &Moment<'_>) -> Result<(), AllocError> {
         for (place, shown) in moment.tasks.iter().enumerate() {
             show_at(&mut self.tasks, place, event, *shown)?;
@@ -105,6 +120,8 @@ impl Run {
 
     /// What an event did.
     fn take_deeds(&mut self, event: u32, moment: &Moment<'_>) -> Result<(), AllocError> {
+        self.end_waits(event, moment)?;
+        self.waits.note(event, moment.lines)?;
         self.take_lines(event, moment.lines)?;
         self.take_call(event, moment)?;
         self.take_migrations(event, moment)?;

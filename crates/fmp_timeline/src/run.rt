@@ -1,13 +1,14 @@
 //! A run as it is drawn: the states of its lanes over its events, and what its events did.
 use crate::marks::{
-    Bond, Link, Made, Mark, Migration, Sign, actor_of, bond_of, line_link, line_sign, moves,
-    task_named,
+    Bond, Link, Made, Mark, Migration, Sign, actor_of, bond_of, ends_wait, line_link, line_sign,
+    moves, task_named,
 };
 use crate::objects::Objects;
 use crate::page::Span;
 use crate::spins::Spins;
 use crate::states::{Handling, Moment, Occupant, TaskShown};
 use crate::tracks::Track;
+use crate::waits::Waits;
 use fmp_base::{Call, Caller, Er, Handler, Line, Lock, System};
 use std::alloc::{AllocError, Global};
 
@@ -53,6 +54,7 @@ pub struct Run {
     pub migrations: Vec<Migration>,
     pub spins: Spins,
     pub objects: Objects,
+    pub waits: Waits,
     /// The events at which a call was refused or a body at fault.
     pub wrong: Vec<u32>,
 }
@@ -84,6 +86,7 @@ impl Run {
     pub fn new(alloc: Global, sys: &System, objects: bool) -> Result<Run, AllocError> {
         let spins = Spins::new(alloc, usize::from(sys.processors))?;
         let objects = Objects::new(alloc, sys, objects)?;
+        let waits = Waits::new(alloc, sys)?;
         let mut run = Run {
             notes: Vec::new(alloc),
             text: Vec::new(alloc),
@@ -99,6 +102,7 @@ impl Run {
             migrations: Vec::new(alloc),
             spins,
             objects,
+            waits,
             wrong: Vec::new(alloc),
         };
         run.add_lanes(alloc, sys)?;
@@ -295,6 +299,7 @@ impl Run {
                 event,
                 call: *call,
                 reply: *reply,
+                releases: ends_wait(moment.lines),
             })?;
         }
         match reply {
