@@ -1,0 +1,163 @@
+//! The events of a session, and the kernel after them.
+ghost use Rattle.std.specs.Prelude.{◌≡◌, ◌≤◌, ◌^◌, ◌-◌, ◌++◌, IfOk, OnErr, OnOk, length, take};
+ghost use Rattle.fmp_drive.specs.NextRuns.{AreNext};
+ghost use Rattle.fmp_instructions.specs.Machine.{code_meaning};
+ghost use Rattle.fmp_steps.specs.Steps.{steps_text};
+ghost use Rattle.fmp_session.specs.Sessions.{IsSession, IsTakenAs, lines_now, with_event};
+
+use crate::replaying::kernel_over;
+use fmp_base::{Effect, Event};
+use fmp_code::Vm;
+use fmp_drive::{NextRun, next_runs};
+use fmp_image_bytes::Image;
+use fmp_kernel::Kernel;
+use fmp_named::append_lines;
+use fmp_replay::kernel_of;
+use fmp_trace::print_steps;
+use std::alloc::{AllocError, Global};
+
+/// The most events of a session.
+const MOST: u32 = 1 << 20;
+
+/// What an event came to.
+#[derive(Clone, Copy, Debug, PartialEq, Eq)]
+pub enum Taken {
+    /// It was done: its lines are those of the kernel.
+    Done,
+    /// What runs on its processor has reached the bound, and keeps its place.
+    Kept,
+    /// It does nothing, and is none of the session's events.
+    Nothing,
+    /// The session has as many events as it may have, and takes no more.
+    Full,
+}
+
+/// A system, the events that it has taken, each of which did something, and its kernel after them.
+#[derive(Drop)]
+pub struct Session<'a> {
+    image: &'a Image,
+    /// The bound of a stretch, 1 to 2^48.
+    bound: u64,
+    events: Vec<Event>,
+    kernel: Kernel<Vm<'a>>,
+}
+
+impl<'a> Session<'a> {
+    /// The session of an image after setup. A stretch of a body takes at most n instructions, 1 to 2^48. `AllocError`
+    /// if memory runs out.
+    #[tactic(none)]
+    pub fn new(alloc: Global, image: &'a Image, n: u64) -> Result<Session<'a>, AllocError>
+        requires low { 1 ≤ n }
+        requires high { n ≤ 2 ^ 48 }
+        ensures { IfOk result (λ session. IsSession session) }
+    {
+        let kernel = kernel_of(alloc, image, n)?;
+        Ok(Session {
+            image,
+            bound: n,
+            events: Vec::new(alloc),
+            kernel,
+        })
+    }
+
+    /// The image.
+    pub fn image(&self) -> &'a Image
+        ensures { result.now ≡ self.now.image.now }
+    {
+        self.image
+    }
+
+    /// The bound of a stretch.
+    pub fn bound(&self) -> u64
+        ensures { result ≡ self.now.bound }
+    {
+        self.bound
+    }
+
+    /// The events, in order.
+    pub fn events(&self) -> &[Event]
+        ensures { result.now ≡ self.now.events.items }
+    {
+        &self.events
+    }
+
+    /// The kernel after the events.
+    pub fn kernel(&self) -> &Kernel<Vm<'a>>
+        ensures { result.now ≡ self.now.kernel }
+    {
+        &self.kernel
+    }
+
+    /// Takes an event, if there are fewer than 2^20. One that does nothing leaves all as it was. `AllocError` if memory
+    /// runs out: then nothing has changed.
+    pub fn take(&mut self, e: Event) -> Result<Taken, AllocError>
+        requires { IsSession self.old }
+        ensures session { IsSession self.new }
+        ensures image { self.new.image.now ≡ self.old.image.now }
+        ensures events { IfOk result (λ taken. self.new.events.items ≡ with_event taken e self.old.events.items) }
+        ensures exact { IfOk result (λ taken. IsTakenAs self.old e taken) }
+        ensures err { OnErr result (self.new.events.items ≡ self.old.events.items) }
+    {
+        if self.kernel.taken() >= MOST {
+            return Ok(Taken::Full);
+        }
+        let count = self.events.len();
+        self.events.push(e)?;
+        match self.kernel.step(e) {
+            Effect::Done => Ok(Taken::Done),
+            Effect::Kept => Ok(Taken::Kept),
+            Effect::Nothing => {
+                self.events.truncate(count);
+                Ok(Taken::Nothing)
+            }
+        }
+    }
+
+    /// Takes the last events back, this many or all that there are: those before them are taken anew from setup on.
+    /// `AllocError` if memory runs out: then nothing has changed.
+    pub fn back(&mut self, alloc: Global, count: usize) -> Result<(), AllocError>
+        requires { IsSession self.old }
+        ensures session { IsSession self.new }
+        ensures image { self.new.image.now ≡ self.old.image.now }
+        ensures events { OnOk result (self.new.events.items
+            ≡ take (length self.old.events.items - count) self.old.events.items) }
+        ensures err { OnErr result (self.new.events.items ≡ self.old.events.items) }
+    {
+        let left = self.events.len().saturating_sub(count);
+        self.kernel = kernel_over(alloc, self.image, self.bound, &self.events[..left])?;
+        self.events.truncate(left);
+        Ok(())
+    }
+
+    /// How the next run of each processor ends, by places from 0.
+    pub fn next_runs(&self) -> [NextRun; 8]
+        requires { IsSession self.now }
+        ensures { AreNext code_meaning self.now.kernel result }
+    {
+        next_runs(&self.kernel, &self.image.vm(), self.bound)
+    }
+
+    /// The lines of the last event that was done, or of setup, with the names of objects. `AllocError` if memory runs
+    /// out.
+    pub fn append_last(&self, out: &mut Vec<u8>) -> Result<(), AllocError>
+        requires { IsSession self.now }
+        ensures { OnOk result (out.new.items ≡ out.old.items ++ lines_now self.now.kernel) }
+    {
+        append_lines(
+            self.image.system(),
+            self.kernel.done(),
+            self.kernel.lines(),
+            out,
+        )
+    }
+
+    /// The steps text of the events, over which `fmp sim` runs the image so again with the same bound. `AllocError` if
+    /// memory runs out.
+    pub fn steps(&self, alloc: Global) -> Result<Vec<u8>, AllocError>
+        ensures { IfOk result (λ text. text.items ≡ steps_text self.now.events.items) }
+    {
+        let mut text = Vec::new(alloc);
+        print_steps(&self.events, &mut text)?;
+        Ok(text)
+    }
+}

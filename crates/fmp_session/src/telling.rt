@@ -1,0 +1,92 @@
+//! What is told of events that leave no lines.
+ghost use Rattle.std.specs.Prelude.{◌≡◌, ◌++◌, OnOk};
+ghost use Rattle.fmp_base.specs.Systems.{tables_of};
+ghost use Rattle.fmp_session.specs.Tellings as spec;
+
+use fmp_base::{Event, System};
+use fmp_drive::NextRun;
+use itoa::Buffer;
+use std::alloc::AllocError;
+
+/// Appends words, a number, and words behind it.
+fn append_around(
+    front: &[u8],
+    number: u8,
+    behind: &[u8],
+    out: &mut Vec<u8>,
+) -> Result<(), AllocError>
+    ensures { OnOk result (out.new.items ≡ out.old.items ++ spec.around front.now number behind.now) }
+{
+    out.extend_from_slice(front)?;
+    out.extend_from_slice(Buffer::new().format(number).as_bytes())?;
+    out.extend_from_slice(behind)
+}
+
+/// Appends why the run of the processor of this number does nothing, where its next run ends so: a call does nothing
+/// only where it asks for a spin lock that is held.
+fn append_standing(number: u8, next: NextRun, out: &mut Vec<u8>) -> Result<(), AllocError>
+    ensures { OnOk result (out.new.items ≡ out.old.items ++ spec.standing number next) }
+{
+    match next {
+        NextRun::NoActor => append_around(b"nothing: processor ", number, b" is idle\n", out),
+        NextRun::Calls(_) => append_around(
+            b"nothing: what runs on processor ",
+            number,
+            b" spins for a spin lock\n",
+            out,
+        ),
+        NextRun::OverBound | NextRun::Ends => {
+            append_around(b"nothing: processor ", number, b" stands\n", out)
+        }
+    }
+}
+
+/// Whether an interrupt has a handler.
+fn has_handler(sys: &System, number: u8) -> bool
+    ensures { result ≡ spec.has_handler (tables_of sys.now) number }
+{
+    sys.interrupts.iter().any(|config| config.number == number)
+}
+
+/// Appends why an event does nothing, where the next runs of the processors end so. `AllocError` if memory runs out.
+pub fn append_nothing(
+    sys: &System,
+    e: Event,
+    next: &[NextRun; 8],
+    out: &mut Vec<u8>,
+) -> Result<(), AllocError>
+    ensures { OnOk result (out.new.items ≡ out.old.items ++ spec.nothing (tables_of sys.now) e next.now) }
+{
+    match e {
+        Event::Run(number) => {
+            let place = usize::from(number).saturating_sub(1);
+            let run = next.get(place).copied().unwrap_or(NextRun::NoActor);
+            append_standing(number, run, out)
+        }
+        Event::Int(number) if has_handler(sys, number) => append_around(
+            b"nothing: the handler of interrupt ",
+            number,
+            b" is pending\n",
+            out,
+        ),
+        Event::Int(number) => {
+            append_around(b"nothing: interrupt ", number, b" has no handler\n", out)
+        }
+        Event::Tick => Ok(()),
+    }
+}
+
+/// Appends that the run of a processor kept a place. `AllocError` if memory runs out.
+pub fn append_kept(e: Event, out: &mut Vec<u8>) -> Result<(), AllocError>
+    ensures { OnOk result (out.new.items ≡ out.old.items ++ spec.kept e) }
+{
+    match e {
+        Event::Run(number) => append_around(
+            b"kept: what runs on processor ",
+            number,
+            b" reached the bound, and goes on from there\n",
+            out,
+        ),
+        _ => Ok(()),
+    }
+}
