@@ -36,6 +36,20 @@ shows() {
     nothing
 }
 
+# types NAME STATUS WORD..: as `shows`, with the file `typed` on standard input.
+types() {
+    name=$1 wanted_status=$2
+    shift 2
+    status=0
+    "$subject" "$@" > output 2> errors < typed || status=$?
+    problem=
+    [ "$status" -eq "$wanted_status" ] || problem="status $status, not $wanted_status; "
+    cmp -s wanted output || problem="${problem}standard output differs; "
+    cmp -s said errors || problem="${problem}standard error differs: '$(head -c 200 errors)'"
+    verdict "$name" "$problem"
+    nothing
+}
+
 # gives NAME COMMAND..: the command succeeds, and prints the file `wanted`.
 gives() {
     name=$1
@@ -319,6 +333,169 @@ unknown.src:1:20: B3: `y` is neither a variable of this body, an object nor a co
                        ^
 END
 shows 'run: a fault of a text' 1 run queue.cfg unknown.src
+
+# A session: each event prints the lines of a run, one is taken back and done again, and what is saved is run again.
+printf 'run 1\nrun 2\nrun 1\nback\nrun 1\nrun 2\nrun 2\nwhy\nstate\nsave cross.saved\n' > typed
+cat > wanted <<'END'
+0 p1 A starts
+0 p2 B starts
+0 p1 > A
+0 p2 > B
+1 p1 A wai_sem(X) E_OK
+2 p2 B wai_sem(Y) E_OK
+3 p1 A wai_sem(Y) wait
+3 p1 > -
+taken back: run 1
+3 p1 A wai_sem(Y) wait
+3 p1 > -
+4 p2 B wai_sem(X) wait
+4 p2 > -
+nothing: processor 2 is idle
+END
+cat deadlock >> wanted
+cat >> wanted <<'END'
+A WAITING p1 10 for semaphore Y
+B WAITING p2 10 for semaphore X
+saved: cross.saved
+END
+types 'step: a deadlock' 0 step cross.cfg cross.src
+cp cross.steps wanted
+gives 'step: what is saved' cat cross.saved
+cat > wanted <<'END'
+0 p1 A starts
+0 p2 B starts
+0 p1 > A
+0 p2 > B
+1 p1 A wai_sem(1) E_OK
+2 p2 B wai_sem(2) E_OK
+3 p1 A wai_sem(2) wait
+3 p1 > -
+4 p2 B wai_sem(1) wait
+4 p2 > -
+A WAITING p1 10
+B WAITING p2 10
+END
+gives 'step: fmp sim runs what is saved' "$fmp" sim cross.img cross.saved
+
+# Events that do nothing, and one that keeps a place: A holds the lock that B wants, and nothing runs on processor 3.
+printf 'run 1\nrun 2\nrun 3\nrun 1\nint 7\nsave stuck.one\nback\nsave stuck.two\n' > typed
+cat > wanted <<'END'
+0 p1 A starts
+0 p2 B starts
+0 p1 > A
+0 p2 > B
+1 p1 A loc_spn(L) E_OK
+nothing: what runs on processor 2 spins for a spin lock
+nothing: processor 3 is idle
+kept: what runs on processor 1 reached the bound, and goes on from there
+nothing: interrupt 7 has no handler
+saved: stuck.one
+taken back: run 1
+saved: stuck.two
+END
+types 'step: events that do nothing' 0 step stuck.cfg stuck.src
+printf 'run 1\nrun 1\n' > wanted
+gives 'step: a kept place is saved' cat stuck.one
+echo 'run 1' > wanted
+gives 'step: and taken back' cat stuck.two
+
+# While the CPU of processor 1 is locked, its interrupt stays pending.
+printf 'run 2\nrun 1\nint 3\nint 3\nrun 1\ntick\nquit\nrun 1\n' > typed
+cat > wanted <<'END'
+0 p1 MAIN starts
+0 p2 DRIVER starts
+0 p2 OTHER starts
+0 p1 > MAIN
+0 p2 > DRIVER
+1 p2 DRIVER slp_tsk() wait
+1 p2 > OTHER
+2 p1 MAIN loc_cpu() E_OK
+3 int 3
+nothing: the handler of interrupt 3 is pending
+4 p1 MAIN unl_cpu() E_OK
+4 p1 begin #3
+5 tick 1
+END
+types 'step: an interrupt' 0 step interrupt.cfg interrupt.src
+
+# Several events are taken back, the last one first; and the words of the commands.
+printf 'run 1\nrun 1\ntick\n back 2\t\r\n\nstate\nback 1048576\nback\nhelp' > typed
+cat > wanted <<'END'
+0 p1 PRODUCER starts
+0 p1 > PRODUCER
+1 p1 PRODUCER act_tsk(CONSUMER) E_OK
+1 p1 CONSUMER starts
+1 p1 > CONSUMER
+2 p1 CONSUMER rcv_dtq(QUEUE) wait
+2 p1 > PRODUCER
+3 tick 1
+taken back: tick
+taken back: run 1
+PRODUCER READY p1 10
+CONSUMER RUNNING p1 5
+taken back: run 1
+nothing: there is no event to take back
+run P      processor P goes on, to its next service call
+tick       the clock advances
+int N      interrupt N is raised
+back [K]   the last event is taken back, or the last K
+why        what each task waits or spins for
+state      the states of the tasks
+save FILE  the events that did something, as steps for 'fmp sim' with the same bound
+help       these lines
+quit       the end, as the end of the input is
+END
+types 'step: back to setup' 0 step queue.cfg queue.src
+
+# Lines that are no commands are told, and the session goes on; so it does where a file cannot be written.
+cat > typed <<'END'
+rnu 1
+next
+run 2
+run
+run  1
+int 33
+back 0
+back 1048577
+why not
+tick 1
+save
+save queue.cfg
+save nowhere/queue.saved
+run 1
+END
+cat > wanted <<'END'
+0 p1 PRODUCER starts
+0 p1 > PRODUCER
+1 p1 PRODUCER act_tsk(CONSUMER) E_OK
+1 p1 CONSUMER starts
+1 p1 > CONSUMER
+END
+cat > said <<'END'
+line 1: `rnu` is no command; did you mean `run`?
+line 2: `next` is no command; `help` prints them
+line 3: `run` wants the number of a processor, 1 to 1
+line 4: `run` wants the number of a processor, 1 to 1
+line 5: `run` wants the number of a processor, 1 to 1
+line 6: `int` wants the number of an interrupt, 1 to 32
+line 7: `back` wants how many events, 1 to 1048576, or nothing
+line 8: `back` wants how many events, 1 to 1048576, or nothing
+line 9: nothing stands behind `why`
+line 10: nothing stands behind `tick`
+line 11: `save` wants the name of a file
+line 12: the file is one of the two that are read
+file: nowhere/queue.saved
+END
+cp queue.cfg queue.before
+types 'step: lines that are no commands' 3 step queue.cfg queue.src
+same 'step: a text is not written over' queue.before queue.cfg
+: > typed
+cat > wanted <<'END'
+unknown.src:1:20: B3: `y` is neither a variable of this body, an object nor a constant
+    task produce { put(y); } task consume { }
+                       ^
+END
+types 'step: a fault of a text' 1 step queue.cfg unknown.src
 
 # Two runs side by side: a tick in the place of the third step.
 cat > wanted <<'END'
@@ -805,6 +982,95 @@ p2: spin lock LOCK held, events 30 to 33
 p2: spins for LOCK, events 7 to 11
 END
 gives 'timeline: locks of pipeline' sed -n 's/.*<title>\(p[12]: .*\(held\|spins for\).*\)$/\1/p' pipeline.svg
+
+cat > wanted <<'END'
+taken by DRAIN at event 11
+taken by FILL at event 7
+DRAIN waits for a word of data queue PIPE, since event 1
+DRAIN waits for a word of data queue PIPE, since event 35; last received by DRAIN at event 29
+END
+gives 'timeline: what pipeline waits and spins for' "$pictures" waits pipeline.svg
+
+# A bar that waits tells for what, since which event and until when, and who took or filled that last, and at which
+# event; nothing is told of an object that nobody took. What nothing happens to has no lane.
+cat > told.cfg <<'END'
+NUM_PRC(1);
+CLASS(TCL_1) {
+    CRE_TSK(A, { TA_ACT, 0, a, 10, 256, NULL });
+    CRE_TSK(B, { TA_NULL, 0, b, 5, 256, NULL });
+    CRE_TSK(C, { TA_NULL, 0, b, 7, 256, NULL });
+    CRE_SEM(S, { TA_TFIFO, 1, 1 });
+    CRE_SEM(U, { TA_TFIFO, 1, 1 });
+    CRE_DTQ(D, { TA_TFIFO, 1, NULL });
+}
+END
+cat > told.src <<'END'
+task a { wai_sem(S); act_tsk(B); sig_sem(S); snd_dtq(D, 1); snd_dtq(D, 2); tsnd_dtq(D, 3, 4); }
+task b { var x; wai_sem(S); rcv_dtq(D, &x); slp_tsk(); }
+END
+for step in 1 2 3 4 5 6 7 8 9; do echo 'run 1'; done > told.steps
+drawn told --objects
+cat > wanted <<'END'
+B waits for semaphore S, since event 3; last taken by A at event 1
+B waits for a word of data queue D, since event 5
+B waits for a wakeup, since event 7
+A waits for room in data queue D, until tick 5, since event 9; last sent by A at event 8
+END
+gives 'timeline: what waits tell' "$pictures" waits told.svg
+printf 'Task B on processor 1 c0\nTask A on processor 1 c2\n' > wanted
+gives 'timeline: no lane for a task that is dormant all the time' "$pictures" looks told.svg
+echo '>No change and no lane here: 1 dormant (C); 1 object (U)<' > wanted
+gives 'timeline: how many lanes are left out' grep -o '>No change[^<]*<' told.svg
+
+# The tenth of ten tasks has the colour of the second, and a hatch; its number stands in its lane, in the legend and in
+# the overview, which a part of a run has.
+awk 'BEGIN {
+    print "NUM_PRC(1); CLASS(TCL_1) {"
+    for (i = 1; i <= 10; i++) printf "CRE_TSK(T_%d, { TA_ACT, 0, t, %d, 256, NULL });\n", i, i
+    print "}" }' > ten.cfg
+echo 'task t { slp_tsk(); }' > ten.src
+for step in 1 2 3 4 5 6 7 8 9 10; do echo 'run 1'; done > ten.steps
+drawn ten --from 1
+cat > wanted <<'END'
+Task T_1 on processor 1 c0
+Task T_2 on processor 1 c1
+Task T_3 on processor 1 c2
+Task T_4 on processor 1 c3
+Task T_5 on processor 1 c4
+Task T_6 on processor 1 c5
+Task T_7 on processor 1 c6
+Task T_8 on processor 1 c7
+Task T_9 on processor 1 c0 x1w
+Task T_10 on processor 1 c1 x1b
+END
+gives 'timeline: hatches' "$pictures" looks ten.svg
+echo 3 > wanted
+gives 'timeline: the number of the tenth task' grep -c 'class="s7 c d1 p1 q".*>10</text>' ten.svg
+
+# Of nine calls one is refused. Columns are too narrow for the names of the others: that of each refusal stands there.
+cat > busy.cfg <<'END'
+NUM_PRC(1); CLASS(TCL_1) {
+    CRE_TSK(A, { TA_ACT, 0, a, 10, 256, NULL });
+    CRE_TSK(B, { TA_NULL, 0, a, 5, 256, NULL });
+}
+END
+awk 'BEGIN {
+    printf "task a { while (1) { "
+    for (i = 0; i < 8; i++) printf "ena_dsp(); "
+    print "wup_tsk(B); } }" }' > busy.src
+awk 'BEGIN { for (i = 0; i < 180; i++) print "run 1" }' > busy.steps
+drawn busy
+echo 20 > wanted
+gives 'timeline: the names of refused calls' grep -c '>wup_tsk(B)</text>' busy.svg
+
+# No line from lane to lane is drawn over a text of these lanes: all lines come first.
+is_behind() { # is_behind PICTURE: of a picture with one panel
+    lines=$(grep -n -e 'class="ln q"' -e ' q o mg"' "$1" | tail -n 1 | cut -d: -f1)
+    texts=$(grep -n -e '"e s8 ' -e '"wt q' -e '"k d' "$1" | head -n 1 | cut -d: -f1)
+    [ "$lines" -lt "$texts" ]
+}
+holds 'timeline: lines behind texts' 'they are not' is_behind interrupt.svg
+holds 'timeline: migrations behind texts' 'they are not' is_behind migration.svg
 
 # Each example's picture is XML.
 for text in "$root"/examples/*.steps; do

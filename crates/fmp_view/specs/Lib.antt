@@ -3,4 +3,5 @@ pub mod Exits
 pub mod Expects
 pub mod Faults
 pub mod Fresh
+pub mod Stepped
 pub mod Traces

@@ -71,6 +71,8 @@ pub enum Cmd<'a> {
     Fault(FileNames<'a>, Form),
     /// Print the trace of a run of the texts of these files, over the steps if there are steps.
     Run(FileNames<'a>, Running),
+    /// Take events of standard input on the system of the texts of these files, with this bound, 1 to 2^48.
+    Step(FileNames<'a>, u64),
     /// Print steps of an image: at most `events`, 0 to 2^20, in turn or at random.
     Drive {
         image: &'a str,
@@ -208,6 +210,7 @@ fn asked<'a>(name: &str, words: &ArgMatches<'a>) -> Cmd<'a> {
         "code" => Cmd::Code(word_of(words, "CODE")),
         "fault" => Cmd::Fault(names_of(words), form_of(words)),
         "run" => Cmd::Run(names_of(words), running_of(words)),
+        "step" => Cmd::Step(names_of(words), bound_of(words)),
         "drive" => Cmd::Drive {
             image: word_of(words, "IMAGE"),
             events: words.get_one::<u32>("events").unwrap_or(0),

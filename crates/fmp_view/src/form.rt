@@ -13,6 +13,7 @@ const EXAMPLE_AND_STATUS: &str = "Example, with the image of the example of 'fmp
   fmp_view code E_PAR
   fmp_view fault examples/queue.cfg examples/queue.src
   fmp_view run examples/queue.cfg examples/queue.src
+  fmp_view step examples/queue.cfg examples/queue.src
   fmp_view explore examples/queue.cfg examples/queue.src
   fmp_view drive queue.img --events 20 > drive.steps
   fmp_view why queue.img drive.steps --at 2
@@ -24,11 +25,12 @@ const EXAMPLE_AND_STATUS: &str = "Example, with the image of the example of 'fmp
 Status, and the line on standard error with it:
   0        done; help or the version was asked for
   1        a fault of what was read: 'image: L2', 'steps:4: S1',
-           'expect:3: no deed ..'; with 'fault' and 'run', which
-           print it on standard output, a fault of the texts or steps, and not for warnings
+           'expect:3: no deed ..'; with 'fault', 'run' and
+           'step', which print it on standard output, a fault of the texts or steps, and not for warnings
   2        a mistake in the command line; a word that is no code; OUT is a file that is read;
            a picture that begins behind the last event, or has more than 40,000,000 bytes
-  3        'file: NAME', a file could not be read or written ('-' is standard output); 'memory'
+  3        'file: NAME', a file could not be read or written ('-' is standard output, 'stdin' standard input);
+           'memory'
   4        with 'diff', the runs differ; with 'expect', the run fails an expectation; with 'explore', something
            was found
   5        'explore' stopped before it had seen all states";
@@ -284,6 +286,28 @@ fn run_command<'a>(alloc: Global) -> Made<'a> {
     with_drive(alloc, with_argument(command, json(alloc)))
 }
 
+/// The commands of a session.
+const LINES: &str = "Commands, one a line of standard input:
+  run P      processor P goes on, to its next service call
+  tick       the clock advances
+  int N      interrupt N is raised
+  back [K]   the last event is taken back, or the last K
+  why        what each task waits or spins for, as 'fmp_view why' says it
+  state      the states of the tasks
+  save FILE  the events that did something, as steps for 'fmp sim' with the same bound
+  help       these lines
+  quit       the end, as the end of the input is
+
+Example: fmp_view step examples/queue.cfg examples/queue.src";
+
+fn step_command<'a>(alloc: Global) -> Made<'a> {
+    let about = "Takes events one by one as they are typed, and tells what each of them does";
+    let cfg = word(alloc, "CFG", "Configuration, as 'fmp check' reads it");
+    let src = word(alloc, "SRC", "Bodies of its tasks and handlers");
+    let command = with_argument(Ok(named(alloc, "step", about, LINES)), cfg);
+    with_argument(with_argument(command, src), bound(alloc))
+}
+
 /// An option with a value, which may be given again.
 fn again<'a>(alloc: Global, id: &'a str, value: &'a str, help: &'a str) -> Arg<'a> {
     Arg::new(alloc, id)
@@ -349,6 +373,7 @@ pub fn program<'a>(alloc: Global) -> Made<'a> {
     let program = with_command(Ok(bare(alloc)), code_command(alloc));
     let program = with_command(program, fault_command(alloc));
     let program = with_command(program, run_command(alloc));
+    let program = with_command(program, step_command(alloc));
     let program = with_command(program, drive_command(alloc));
     let program = with_command(program, why_command(alloc));
     let program = with_command(program, explore_command(alloc));

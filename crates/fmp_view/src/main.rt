@@ -1,5 +1,5 @@
-//! The program `fmp_view`: it looks at a system. It says what a code means, drives an image, and shows a run of it as a
-//! table, as a waveform or as a picture.
+//! The program `fmp_view`: it looks at a system. It says what a code means, drives an image, takes events one by one as
+//! they are typed, and shows a run as a table, as a waveform or as a picture.
 //!
 //! It ends with the statuses of `fmp`: 0 if it did what it was asked, 1 for a fault of what it read, 2 for a mistake in
 //! the command line, and 3 if a file could not be read or written or memory ran out; and with 4 if runs differ that it
@@ -19,6 +19,7 @@ mod form;
 mod opening;
 mod recording;
 mod running;
+mod stepping;
 mod timeline;
 mod tracing;
 mod why;
@@ -31,7 +32,7 @@ use std::process::ExitCode;
 fn main(rt: HostRuntime) -> ExitCode {
     let mut host = Host::new(&rt);
     let status = match words_of(&rt) {
-        Ok(words) => run(rt.alloc(), &mut host, &words),
+        Ok(words) => run(rt.alloc(), &mut host, &rt, &words),
         Err(fault) => refuse_words(&mut host, program(rt.alloc()), fault),
     };
     ExitCode::from(status)

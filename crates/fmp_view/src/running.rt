@@ -10,6 +10,7 @@ use crate::exit::Exit;
 use crate::expecting::expect;
 use crate::exploring::{Explored, Named, explored_image};
 use crate::faults::{FileNames, Form, Shown, shown_fault};
+use crate::stepping::step_image;
 use crate::timeline::{Cut, Picture, TimelineFault, timeline};
 use crate::why::why;
 use fmp_base::{Call, System};
@@ -21,6 +22,7 @@ use fmp_files::{Failure, Outside, end, print, read_file, refuse, refuse_mistake,
 use fmp_image::build;
 use fmp_image_bytes::Image;
 use std::alloc::{AllocError, Global};
+use std::io::Input;
 
 /// What was made of files, or the fault of what was read.
 fn or_fault<T>(made: Result<T, SimFault>) -> Result<T, Exit> {
@@ -459,9 +461,31 @@ fn run_explore<O: Outside>(alloc: Global, outside: &mut O, mut asked: Exploring<
     }
 }
 
+/// Takes events of standard input on the system of these texts, or prints their first fault, with status 1.
+fn run_step<O: Outside, R: Input>(
+    alloc: Global,
+    outside: &mut O,
+    rt: &R,
+    names: FileNames<'_>,
+    bound: u64,
+) -> u8 {
+    let (cfg, src) = match read_both(alloc, outside, names.cfg, names.src) {
+        Ok(texts) => texts,
+        Err(failure) => return end(outside, &failure),
+    };
+    match build(alloc, &cfg, &src) {
+        Ok(image) => match step_image(alloc, outside, rt, &image, names, bound) {
+            Ok(status) => status,
+            Err(_) => end(outside, &Failure::Memory(AllocError)),
+        },
+        Err(_) => print_fault(alloc, outside, names, Form::Text),
+    }
+}
+
 /// Carries out a command, and gives the status.
-fn carry_out<O: Outside>(alloc: Global, outside: &mut O, cmd: Cmd<'_>) -> u8 {
+fn carry_out<O: Outside, R: Input>(alloc: Global, outside: &mut O, rt: &R, cmd: Cmd<'_>) -> u8 {
     match cmd {
+        Cmd::Step(names, bound) => run_step(alloc, outside, rt, names, bound),
         Cmd::Code(word) => say_code(alloc, outside, word),
         Cmd::Fault(names, form) => print_fault(alloc, outside, names, form),
         Cmd::Run(names, run) => run_texts(alloc, outside, names, run),
@@ -497,9 +521,10 @@ fn carry_out<O: Outside>(alloc: Global, outside: &mut O, cmd: Cmd<'_>) -> u8 {
 }
 
 /// Does what the words of a command line ask for, of which the first is the program's name, and gives the status.
-pub fn run<O: Outside>(alloc: Global, outside: &mut O, words: &[String]) -> u8 {
+/// Its standard input is that of this runtime.
+pub fn run<O: Outside, R: Input>(alloc: Global, outside: &mut O, rt: &R, words: &[String]) -> u8 {
     match command(alloc, words) {
-        Ok(cmd) => carry_out(alloc, outside, cmd),
+        Ok(cmd) => carry_out(alloc, outside, rt, cmd),
         Err(error) => refuse(alloc, outside, &error),
     }
 }
