@@ -1,4 +1,4 @@
-//! Systems with findings that were written by hand before: their kind, line and number of steps.
+//! What falls out of searches of all schedules: answers, calls that are never made, the fields with the most values.
 #![tactic(auto)]
 
 #[cfg(test)]

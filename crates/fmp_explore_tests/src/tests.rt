@@ -1,7 +1,4 @@
-//! The systems, each with what is asked and what is to be found.
+//! Small systems, each with what is asked and what falls out.
 
 mod asking;
-mod cuts;
-mod planted;
 mod searching;
-mod texts;

@@ -1,10 +1,8 @@
-//! What may be asked: when the clock ticks, how many interrupts there are, which tasks may wait forever. And what falls
-//! out: calls that are never made, tasks that never run, and the fields with the most values.
-use crate::tests::planted::BURST;
-use crate::tests::searching::{expect, is_deadlock, question, searched};
-use crate::tests::texts::{INVERT_CFG, INVERT_SRC};
+//! What falls out of a search: the answers of calls, calls that are never made, tasks that never run, and the fields with
+//! the most values. And the words of what must never happen.
+use crate::tests::searching::{question, searched};
 use fmp_base::Er;
-use fmp_explore::{Ending, Never, Report, Site, Ticks};
+use fmp_explore::{Ending, Never, Report, Site};
 use fmp_explore_names::{CallLines, LocalNames, append_name, never_named};
 use fmp_fields::What;
 use fmp_image::build;
@@ -39,35 +37,6 @@ CLASS(TCL_1) {
 task other { put(2); }",
 );
 
-/// With a clock that ticks at any time the high task waits too long; with one that ticks only where nothing else can
-/// happen, never.
-#[test]
-fn ticks_while_idle(rt: HostRuntime) -> Result<(), Fail> {
-    let alloc = rt.alloc();
-    let mut asked = question(alloc, Some(Never::Answer(Er::Tmout)))?;
-    asked.ticks = Ticks::Idle;
-    let report = searched(alloc, INVERT_CFG, INVERT_SRC, &asked)?;
-    assert_eq!(rt; report.findings.len(), 0);
-    assert_eq!(rt; report.ending, Ending::Whole);
-    Ok(())
-}
-
-/// Where two interrupts come and no more, the sink waits forever after 11 steps: two requests, two calls and two ends
-/// of the handler, and five calls of the sink. It may, if it is at rest then.
-#[test]
-fn two_interrupts(rt: HostRuntime) -> Result<(), Fail> {
-    let alloc = rt.alloc();
-    let mut asked = question(alloc, Some(Never::Answer(Er::Qovr)))?;
-    asked.interrupts = Some(2);
-    let report = searched(alloc, BURST.0, BURST.1, &asked)?;
-    expect(&rt, &report, "burst", is_deadlock(&report), 11);
-    asked.rest.push(true)?;
-    let report = searched(alloc, BURST.0, BURST.1, &asked)?;
-    assert_eq!(rt; report.findings.len(), 0);
-    assert_eq!(rt; report.ending, Ending::Whole);
-    Ok(())
-}
-
 /// Of the fields, the one with the most values.
 fn most_varied(report: &Report) -> Option<What> {
     let mut most = 0;
@@ -84,7 +53,7 @@ fn most_varied(report: &Report) -> Option<What> {
 #[test]
 fn a_counter(rt: HostRuntime) -> Result<(), Fail> {
     let alloc = rt.alloc();
-    let mut asked = question(alloc, None)?;
+    let mut asked = question(alloc)?;
     asked.states = 20;
     let report = searched(alloc, COUNTER.0, COUNTER.1, &asked)?;
     assert_eq!(rt; report.findings.len(), 0);
@@ -113,7 +82,7 @@ task b { sig_sem(S); }",
 #[test]
 fn answers(rt: HostRuntime) -> Result<(), Fail> {
     let alloc = rt.alloc();
-    let asked = question(alloc, None)?;
+    let asked = question(alloc)?;
     let report = searched(alloc, POLLED.0, POLLED.1, &asked)?;
     assert_eq!(rt; report.ending, Ending::Whole);
     let poll = Site { body: 0, pc: 1 };
@@ -140,7 +109,7 @@ fn lines_never_made(
 #[test]
 fn what_was_never_done(rt: HostRuntime) -> Result<(), Fail> {
     let alloc = rt.alloc();
-    let asked = question(alloc, None)?;
+    let asked = question(alloc)?;
     let report = searched(alloc, UNUSED.0, UNUSED.1, &asked)?;
     assert_eq!(rt; report.ending, Ending::Whole);
     assert_eq!(rt;
