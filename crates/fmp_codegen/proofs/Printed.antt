@@ -66,4 +66,6 @@ prints_text sys bodies code n es does one =
       finishes = like.finished;
       text = trace_text-same sys (setup sys machine).lines (setup sys text).lines made like.trace
           (setup-alike sys bodies code n does one) (sym like.events) (sym like.state);
+      first_lines = setup-alike sys bodies code n does one;
+      lines = sym like.events;
     }
