@@ -2,6 +2,7 @@
 //! a state, and the words for what must never happen.
 #![tactic(auto)]
 
+pub mod laws;
 mod naming;
 mod sites;
 mod words;

@@ -1,0 +1,13 @@
+use Rattle.std.proofs.Common.{ap₂, sym, ◌∙◌, ◌∷◌, List}
+use Rattle.fmp_base.specs.declared.events.Line.{Line}
+use Rattle.fmp_schedules.specs.Schedules.{is_told}
+use Rattle.fmp_explore_names.proofs.laws.texts_never_tell.Goals as goal
+
+pub returns : goal.returns
+returns c = λ cfg src i b rules n forbidden rest low holds es schedule.
+    let like = c.built_image_prints_text.ensures cfg src i b n es low in
+    record {
+      prints = like;
+      never = ap₂ (λ (first : List Line) (more : List (List Line)). is_told forbidden (first ∷ more)) (sym like.first_lines) (sym like.lines)
+          ∙ holds.never es schedule;
+    }
