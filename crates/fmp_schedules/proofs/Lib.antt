@@ -1,4 +1,6 @@
+pub mod CallLines
 pub mod DeadlockLaws
+pub mod EventLines
 pub mod HoldLaws
 pub mod IdleLaws
 pub mod RuleLaws

@@ -1,18 +1,18 @@
 //! The laws, each the contract of a function that does nothing. `C` is the type of the contexts of bodies, `S` that of
 //! what is watched. Those of lists of worlds are proved for any set of worlds: by `tried-closed` of `proofs/TriedLaws`,
 //! and by `closed-holds` and `searched-holds` of `proofs/HoldLaws`. No contract can speak of all sets.
-ghost use Rattle.std.specs.Prelude.{◌≡◌, ◌+◌, ◌<◌, ◌≤◌, ℕ, Bool, List, None, false, true, length};
+ghost use Rattle.std.specs.Prelude.{◌≡◌, ◌+◌, ◌<◌, ◌≤◌, ℕ, Bool, List, None, false, true, count_by, length, if◌then◌else◌};
 ghost use Rattle.fmp_base.specs.declared.events.Event.{Event};
 ghost use Rattle.fmp_base.specs.declared.events.Event.TheVariants.{Run};
 ghost use Rattle.fmp_base.specs.declared.events.Line.{Line};
 ghost use Rattle.fmp_base.specs.Meanings.{Meaning, World};
 ghost use Rattle.fmp_base.specs.Setups.{setup};
-ghost use Rattle.fmp_base.specs.Steps.{Nothing, step};
+ghost use Rattle.fmp_base.specs.Steps.{Did, Done, Nothing, step};
 ghost use Rattle.fmp_base.specs.Systems.{SystemTables};
 ghost use Rattle.fmp_alike.specs.Alike.{Alike};
 ghost use Rattle.fmp_alike.specs.Closed.{IsBlind, IsClosed, IsCovered, IsListed, IsRule, NoneIsBad, Seen, Watch};
-ghost use Rattle.fmp_schedules.specs.Deadlocks.{IsDeadlock};
-ghost use Rattle.fmp_schedules.specs.Schedules.{Holds, IsSchedule, Rules, Watched, watched_at_setup, may_come, none_runs, watch};
+ghost use Rattle.fmp_schedules.specs.Deadlocks.{IsDeadlock, is_interrupt};
+ghost use Rattle.fmp_schedules.specs.Schedules.{Holds, IsSchedule, Rules, Watched, watched_at_setup, is_request, may_come, none_runs, watch};
 ghost use Rattle.fmp_schedules.specs.Tried.{IsSearched, IsTimeless, IsTried, NoneIsDeadlock, is_event_of};
 
 /// Where the clock may advance at any time and any number of interrupts may come, every list of events is a schedule.
@@ -30,6 +30,13 @@ pub fn idle_processors_do_nothing<C>()
     ensures none { (sys : SystemTables) (M : Meaning C) (n : ℕ) (w : World C) (processors : ℕ) →
         ((p : ℕ) → 1 ≤ p → p < processors + 1 → step sys M n w (Run p) ≡ Nothing) →
         none_runs sys M n w processors ≡ true }
+{}
+
+/// An interrupt that is done tells one line of an interrupt. Every other event that is done tells none, nor does setup.
+pub fn interrupts_tell_one_line<C>()
+    ensures done { (sys : SystemTables) (M : Meaning C) (n : ℕ) (w : World C) (e : Event) (d : Done C) →
+        step sys M n w e ≡ Did d → count_by is_request d.lines ≡ (if is_interrupt e then 1 else 0) }
+    ensures setup { (sys : SystemTables) (M : Meaning C) → count_by is_request (setup sys M).lines ≡ 0 }
 {}
 
 /// The rules let the same events come to alike worlds. What is watched does not look at the number of the clock, unless
