@@ -48,13 +48,15 @@ quiet-append xs ys h k =
 abbrev pub IsQuiet : Progress → Type 0
 IsQuiet g = AreQuiet g.lines
 
-pub started-quiet : (sys : SystemTables) (g : Progress) (t : ℕ) (x : TaskBlock) → IsQuiet g → IsQuiet (started sys g t x)
+pub started-quiet : (sys : SystemTables) (g : Progress) (t : ℕ) (x : TaskBlock) → IsQuiet g
+    → IsQuiet (started sys g t x)
 started-quiet sys g t x h = quiet-append g.lines _ h refl
 
 pub released-quiet : (g : Progress) (t : ℕ) (x : TaskBlock) (reply : Reply) → IsQuiet g → IsQuiet (released g t x reply)
 released-quiet g t x reply h = quiet-append g.lines _ h refl
 
-ended_by-quiet : (n : ℕ) (sys : SystemTables) (g : Progress) (t : ℕ) (y : TaskBlock) → IsQuiet g → IsQuiet (ended_by n sys g t y)
+ended_by-quiet : (n : ℕ) (sys : SystemTables) (g : Progress) (t : ℕ) (y : TaskBlock) → IsQuiet g
+    → IsQuiet (ended_by n sys g t y)
 ended_by-quiet zero sys g t y h = h
 ended_by-quiet (suc n) sys g t y h = started-quiet sys g t (record y { activations = n }) h
 
@@ -163,7 +165,8 @@ module _ (sys : SystemTables) (s : KernelState) where
       tested-quiet er.Id (numbered (length s.flags) f) _ (λ i. tested-quiet er.Par (ranged 1 65535 bits) _
       (λ n. tested-quiet er.Par (mode_of o) (next i n) (λ mode. k i n mode)))
 
-  queued_by-quiet : (r : Bool) (me : ℕ) (x : TaskBlock) (m : TimeLimit) (d : ℕ) (w : ℤ) → Quiet (queued_by r s me x m d w)
+  queued_by-quiet : (r : Bool) (me : ℕ) (x : TaskBlock) (m : TimeLimit) (d : ℕ) (w : ℤ)
+      → Quiet (queued_by r s me x m d w)
   queued_by-quiet true me x m d w = refl
   queued_by-quiet false me x m d w = waits-quiet m me x (cause.Sending d w)
 
@@ -252,16 +255,19 @@ module _ (sys : SystemTables) (s : KernelState) where
       → Quiet (tested s er.Id (numbered (length s.mailboxes) i) f)
   boxes i f k = tested-quiet er.Id (numbered (length s.mailboxes) i) f k
 
-  limits : (t : ℤ) (f : TimeLimit → CallOutcome) → ((m : TimeLimit) → Quiet (f m)) → Quiet (tested s er.Par (limit_of t) f)
+  limits : (t : ℤ) (f : TimeLimit → CallOutcome) → ((m : TimeLimit) → Quiet (f m))
+      → Quiet (tested s er.Par (limit_of t) f)
   limits t f k = tested-quiet er.Par (limit_of t) f k
 
   signals : (i : ℤ) → Quiet (case_of sys s 0 0 (task_at [] 0) (call.SigSem i))
-  signals i = semaphores i _ (λ n. signalled_to-quiet (first_waiting sys s (queue.Semaphore n)) n (get_or s.semaphores n 0))
+  signals i =
+      semaphores i _ (λ n. signalled_to-quiet (first_waiting sys s (queue.Semaphore n)) n (get_or s.semaphores n 0))
 
   sets : (f bits : ℤ) → Quiet (case_of sys s 0 0 (task_at [] 0) (call.SetFlg f bits))
   sets f bits =
       tested-quiet er.Id (numbered (length s.flags) f) _ (λ i. tested-quiet er.Par (ranged 0 65535 bits) _
-      (λ n. walk-quiet (flag_config sys i).clears i (bit_or (pattern_at s i) n) (wait_queue sys s (queue.Flag i)) _ refl))
+      (λ n. walk-quiet (flag_config sys i).clears i (bit_or (pattern_at s i) n) (wait_queue sys s (queue.Flag i)) _
+      refl))
 
   activates : (o : Option ℕ) → Quiet (on_task s o (λ t x. activated_by x.phase sys s t x))
   activates o = on_task-quiet o _ (λ t x. activated_by-quiet x.phase t x)
@@ -275,13 +281,15 @@ module _ (sys : SystemTables) (s : KernelState) where
   case_of-quiet : (p me : ℕ) (x : TaskBlock) (c : Call) → Quiet (case_of sys s p me x c)
   case_of-quiet p me x (call.Put value) = refl
   case_of-quiet p me x (call.LdShr word) = tested-quiet er.Id (numbered (length s.shared_words) word) _ (λ n. refl)
-  case_of-quiet p me x (call.StShr word value) = tested-quiet er.Id (numbered (length s.shared_words) word) _ (λ n. refl)
+  case_of-quiet p me x (call.StShr word value) =
+      tested-quiet er.Id (numbered (length s.shared_words) word) _ (λ n. refl)
   case_of-quiet p me x (call.ActTsk task) = activates (self_or s me task)
   case_of-quiet p me x (call.CanAct task) = on_task-quiet (self_or s me task) _ (λ t y. refl)
   case_of-quiet p me x call.ExtTsk = ended-quiet sys _ me x refl
   case_of-quiet p me x (call.TerTsk task) =
       on_task-quiet (by_number s task) _ (λ t y. refused_if-quiet (nat_eq t me) er.Iluse _
-      (refused_if-quiet (is_dormant y.phase || not (nat_eq y.processor p)) er.Obj _ (ended-quiet sys (unchanged s) t y refl)))
+      (refused_if-quiet (is_dormant y.phase || not (nat_eq y.processor p)) er.Obj _
+      (ended-quiet sys (unchanged s) t y refl)))
   case_of-quiet p me x (call.ChgPri task priority) =
       on_task-quiet (self_or s me task) _ (λ t y. tested-quiet er.Par (ranged 0 16 priority) _
       (λ n. refused_if-quiet (is_dormant y.phase) er.Obj _ refl))
@@ -314,7 +322,8 @@ module _ (sys : SystemTables) (s : KernelState) where
       semaphores semaphore _ (λ n. limits tmout _ (λ m. acquired_by-quiet (get_or s.semaphores n 0) me x m n))
   case_of-quiet p me x (call.SetFlg flag pattern) = sets flag pattern
   case_of-quiet p me x (call.ClrFlg flag pattern) =
-      tested-quiet er.Id (numbered (length s.flags) flag) _ (λ i. tested-quiet er.Par (ranged 0 65535 pattern) _ (λ n. refl))
+      tested-quiet er.Id (numbered (length s.flags) flag) _
+      (λ i. tested-quiet er.Par (ranged 0 65535 pattern) _ (λ n. refl))
   case_of-quiet p me x (call.WaiFlg flag pattern mode) =
       flag_tested-quiet flag pattern mode _ (λ i bits o. awaited-quiet me x i bits o limit.Forever)
   case_of-quiet p me x (call.PolFlg flag pattern mode) =
@@ -358,7 +367,8 @@ module _ (sys : SystemTables) (s : KernelState) where
   case_of-quiet p me x (call.IfsndDtq queue word) = forces queue word
   case_of-quiet p me x (call.IrotRdq priority) = tested-quiet er.Par (ranged 1 16 priority) _ (λ n. refl)
   case_of-quiet p me x (call.MrotRdq priority processor) =
-      tested-quiet er.Par (ranged 0 16 priority) _ (λ n. tested-quiet er.Par (numbered sys.processors processor) _ (λ q. refl))
+      tested-quiet er.Par (ranged 0 16 priority) _
+      (λ n. tested-quiet er.Par (numbered sys.processors processor) _ (λ q. refl))
 
   case_by-quiet : (p : ℕ) (who : Caller) (c : Call) → Quiet (case_by sys s p who c)
   case_by-quiet p (caller.Task me) c = case_of-quiet p me (task_at s.tasks me) c

@@ -35,7 +35,8 @@ use Rattle.fmp_schedules.specs.Schedules.{is_request}
 use Rattle.fmp_schedules.proofs.CallLines.{AreQuiet, IsQuiet, called-quiet, ended-quiet, quiet-append, released-quiet, started-quiet}
 
 -- how many lines of interrupts there are behind one
-count-behind : (l : Line) (ls : List Line) → count_by is_request (l ∷ ls) ≡ cond (is_request l) 1 0 + count_by is_request ls
+count-behind : (l : Line) (ls : List Line)
+    → count_by is_request (l ∷ ls) ≡ cond (is_request l) 1 0 + count_by is_request ls
 count-behind l ls = sum_by-cons (λ x. cond (is_request x) 1 0) l ls
 
 quiet-count : (ls : List Line) → AreQuiet ls → count_by is_request ls ≡ 0
@@ -54,7 +55,8 @@ module _ (sys : SystemTables) where
   dispatch-quiet true p t = refl
   dispatch-quiet false p t = refl
 
-  settled_with-quiet : (b : Option Handler) (g : Progress) (p : ℕ) (cpu : Processor) → IsQuiet g → IsQuiet (settled_with b g p cpu)
+  settled_with-quiet : (b : Option Handler) (g : Progress) (p : ℕ) (cpu : Processor) → IsQuiet g
+      → IsQuiet (settled_with b g p cpu)
   settled_with-quiet (Some i) g p cpu h = quiet-append g.lines _ h refl
   settled_with-quiet None g p cpu h =
       elim (is_dispatch_held cpu) as (λ b. IsQuiet (cond b g (dispatched g p cpu (top g.state p)))) [
@@ -72,7 +74,8 @@ module _ (sys : SystemTables) where
   settled-quiet g h = all_settled-quiet g (places_from 0 (length g.state.processors)) h
 
   -- the clock
-  timed_out_by-quiet : (b : Bool) (g : Progress) (t : ℕ) → IsQuiet g → IsQuiet (timed_out_by b g t (task_at g.state.tasks t))
+  timed_out_by-quiet : (b : Bool) (g : Progress) (t : ℕ) → IsQuiet g
+      → IsQuiet (timed_out_by b g t (task_at g.state.tasks t))
   timed_out_by-quiet true g t h =
       released-quiet g t (task_at g.state.tasks t) (code (timeout_code (task_at g.state.tasks t).phase)) h
   timed_out_by-quiet false g t h = h
@@ -119,7 +122,8 @@ module _ {C : Type 0} (sys : SystemTables) (M : Meaning C) where
   setup-counts =
       let g = all_started sys (unchanged (created_state sys)) (places_from 0 (length sys.tasks)) in
       quiet-count (setup sys M).lines
-      (settled-quiet sys g (all_started-quiet sys (unchanged (created_state sys)) (places_from 0 (length sys.tasks)) refl))
+      (settled-quiet sys g
+      (all_started-quiet sys (unchanged (created_state sys)) (places_from 0 (length sys.tasks)) refl))
 
   -- of an event with this line in front
   own-count : (cs : Contexts (Held C)) (own : Line) (g : Progress) → IsQuiet g
@@ -135,8 +139,8 @@ module _ {C : Type 0} (sys : SystemTables) (M : Meaning C) where
   Counts k (Did d) = count_by is_request d.lines ≡ k
   Counts k (Kept p w) = Unit {0}
 
-  answered-counts : (answer : Answer) (cs : Contexts (Held C)) (p : ℕ) (who : Caller) (c : Call) (g : Progress) → IsQuiet g
-      → Counts 0 (answered answer sys M cs p who c g)
+  answered-counts : (answer : Answer) (cs : Contexts (Held C)) (p : ℕ) (who : Caller) (c : Call) (g : Progress)
+      → IsQuiet g → Counts 0 (answered answer sys M cs p who c g)
   answered-counts (Replies reply) cs p who c g h = own-count cs (line.Call p who c (Some reply)) g h
   answered-counts Waits cs p who c g h = own-count cs (line.Call p who c None) g h
   answered-counts Ends cs p who c g h = own-count cs (line.End p who) g h
@@ -150,9 +154,11 @@ module _ {C : Type 0} (sys : SystemTables) (M : Meaning C) where
     stretched-counts : (p : ℕ) (who : Caller) (x : Ending C) → Counts 0 (stretched sys M w p who x)
     stretched-counts p who (ends.Call c made) =
         let o = called sys w.state p who made in
-        answered-counts o.answer (with_context w.contexts p who (Some (Awaits c))) p who made o.progress (called-quiet sys w.state p who made)
+        answered-counts o.answer (with_context w.contexts p who (Some (Awaits c))) p who made o.progress
+        (called-quiet sys w.state p who made)
     stretched-counts p who (ends.End c) =
-        own-count (contexts_ended sys M w.contexts p who) (line.End p who) (actor_ended sys w.state p who) (actor_ended-quiet w.state p who)
+        own-count (contexts_ended sys M w.contexts p who) (line.End p who) (actor_ended sys w.state p who)
+        (actor_ended-quiet w.state p who)
     stretched-counts p who (ends.Fault c fault) =
         own-count (contexts_ended sys M w.contexts p who) (line.Fault p who fault) (actor_ended sys w.state p who)
         (actor_ended-quiet w.state p who)
@@ -170,7 +176,8 @@ module _ {C : Type 0} (sys : SystemTables) (M : Meaning C) where
 
     interrupted_by-counts : (b : Bool) (i : ℕ) → Counts 1 (interrupted_by b sys M w i)
     interrupted_by-counts true i = tt
-    interrupted_by-counts false i = own-count w.contexts (line.Int i) (unchanged (with_interrupt_pending w.state i)) refl
+    interrupted_by-counts false i =
+        own-count w.contexts (line.Int i) (unchanged (with_interrupt_pending w.state i)) refl
 
     interrupted-counts : (o : Option InterruptConfig) (i : ℕ) → Counts 1 (interrupted o sys M w i)
     interrupted-counts None i = tt
@@ -179,7 +186,8 @@ module _ {C : Type 0} (sys : SystemTables) (M : Meaning C) where
     step-counts : (n : ℕ) (e : Event) → Counts (if is_interrupt e then 1 else 0) (step sys M n w e)
     step-counts n (Run zero) = tt
     step-counts n (Run (suc p)) = run_by-counts n p (actor_of (processor_at w.state p))
-    step-counts n Tick = own-count w.contexts (line.Tick (w.state.clock + 1)) (ticked sys w.state) (ticked-quiet sys w.state)
+    step-counts n Tick =
+        own-count w.contexts (line.Tick (w.state.clock + 1)) (ticked sys w.state) (ticked-quiet sys w.state)
     step-counts n (Int zero) = tt
     step-counts n (Int (suc i)) = interrupted-counts (interrupt_config sys i) i
 
