@@ -37,7 +37,9 @@ use Rattle.fmp_base.specs.TaskCalls.{is_dormant, self_or, by_number, activated_b
 use Rattle.fmp_ring.specs.LinkedLaws.{is_linked-queued}
 use Rattle.fmp_tasks.specs.Homes.{is_in_order, is_waiting}
 use Rattle.fmp_rows.specs.Numbers.{IsAhead}
+use Rattle.fmp_regular.specs.Sizes.{AreWithinCapacity}
 use Rattle.fmp_regular.proofs.Apart.{AreApart, apart-at, new-enqueued, new-rest, order-enqueued, order-rest, unlinked-at}
+use Rattle.fmp_regular.proofs.Capacities.{room-for, room-forced, room-refilled, room-taken}
 use Rattle.fmp_regular.proofs.Changes.{AreFine, Change, Count, Cpu, Due, InPlace, IsFair, IsFine, IsFineBlock, Messages, Moves, Out, Pattern, ToEnd, Word, Words, changed}
 use Rattle.fmp_regular.proofs.Stands.{first-ready, first-true, first-waits, goes_last-stands, named-there, numbered-there, off, ready-joins, ready-leaves, ready-on, there, waits-on, waits-stands}
 use Rattle.fmp_regular.proofs.TaskChanges.{ended-comes, released-comes, started-comes, walk-comes}
@@ -52,7 +54,8 @@ ComesBy P W Spins g = P g
 module _ (sys : SystemTables) (P : Progress → Type 0)
     (go : (g : Progress) (c : Change) → P g → IsFair sys g.state c → P (changed c g)) where
   module _ (s : KernelState) (h : P (unchanged s)) (b : AreFine (s.clock + 1) s.tasks s.order)
-      (a : AreApart (length sys.messages) s.mailboxes) (W : Progress → Type 0) where
+      (a : AreApart (length sys.messages) s.mailboxes) (r : AreWithinCapacity sys s.data_queues)
+      (W : Progress → Type 0) where
     abbrev Comes : CallOutcome → Type 0
     Comes o = ComesBy P W o.answer o.progress
 
@@ -214,10 +217,10 @@ module _ (sys : SystemTables) (P : Progress → Type 0)
         → Comes (waits_within m s me x (cause.Sending d w))
         → Comes (word_sent_to o sys s me x m d w)
     word_sent_to-comes (Some t) me x m d w on k = frees t (given w) (on t refl)
-    word_sent_to-comes None me x m d w on k = by_room (has_room sys s d) where
-      by_room : (r : Bool) → Comes (queued_by r s me x m d w)
-      by_room true = step (Words d (words_at s d ++ w ∷ [])) tt
-      by_room false = k
+    word_sent_to-comes None me x m d w on k = by_room (has_room sys s d) refl where
+      by_room : (b : Bool) → has_room sys s d ≡ b → Comes (queued_by b s me x m d w)
+      by_room true e = step (Words d (words_at s d ++ w ∷ [])) (room-for sys s d w e)
+      by_room false e = k
 
     word_sent-comes : (me : ℕ) (x : TaskBlock) (m : TimeLimit) (d : ℕ) (w : ℤ)
         → Comes (waits_within m s me x (cause.Sending d w))
@@ -225,28 +228,31 @@ module _ (sys : SystemTables) (P : Progress → Type 0)
     word_sent-comes me x m d w k =
         word_sent_to-comes (first_waiting sys s (queue.Receivers d)) me x m d w (λ t e. first-waits sys s (queue.Receivers d) t e) k
 
-    forced_to-comes : (o : Option ℕ) (d : ℕ) (w : ℤ)
+    forced_to-comes : (o : Option ℕ) (d : ℕ) (w : ℤ) → nat_eq (data_queue_config sys d).capacity 0 ≡ false
         → ((t : ℕ) → o ≡ Some t → is_waiting (task_at s.tasks t).phase ≡ true)
         → Comes (forced_to o sys s d w)
-    forced_to-comes (Some t) d w on = frees t (given w) (on t refl)
-    forced_to-comes None d w on = by_room (has_room sys s d) where
-      by_room : (r : Bool) → Comes (forced_in r s d w)
-      by_room true = step (Words d (words_at s d ++ w ∷ [])) tt
-      by_room false = step (Words d (without_oldest (words_at s d) ++ w ∷ [])) tt
+    forced_to-comes (Some t) d w some on = frees t (given w) (on t refl)
+    forced_to-comes None d w some on = by_room (has_room sys s d) refl where
+      by_room : (b : Bool) → has_room sys s d ≡ b → Comes (forced_in b s d w)
+      by_room true e = step (Words d (words_at s d ++ w ∷ [])) (room-for sys s d w e)
+      by_room false e =
+          step (Words d (without_oldest (words_at s d) ++ w ∷ []))
+          (room-forced (words_at s d) w (data_queue_config sys d).capacity some (r d))
 
     forces : (d w : ℤ) → Comes (case_of sys s 0 0 (task_at [] 0) (call.FsndDtq d w))
     forces d w =
         tested-comes er.Id (numbered (length s.data_queues) d) _
         (λ i e. refused_if-comes (nat_eq (data_queue_config sys i).capacity 0) er.Iluse _
-        (λ k. forced_to-comes (first_waiting sys s (queue.Receivers i)) i w (λ t f. first-waits sys s (queue.Receivers i) t f)))
+        (λ k. forced_to-comes (first_waiting sys s (queue.Receivers i)) i w k (λ t f. first-waits sys s (queue.Receivers i) t f)))
 
-    oldest_taken-comes : (o : Option ℕ) (d : ℕ) (w : ℤ) (ws : List ℤ)
+    oldest_taken-comes : (o : Option ℕ) (d : ℕ) (w : ℤ) (ws : List ℤ) → words_at s d ≡ w ∷ ws
         → ((t : ℕ) → o ≡ Some t → is_waiting (task_at s.tasks t).phase ≡ true)
         → Comes (oldest_taken o s d w ws)
-    oldest_taken-comes None d w ws on = step (Words d ws) tt
-    oldest_taken-comes (Some t) d w ws on =
+    oldest_taken-comes None d w ws e on = step (Words d ws) (room-taken (words_at s d) w ws _ e (r d))
+    oldest_taken-comes (Some t) d w ws e on =
         let more = ws ++ offered_word (task_at s.tasks t).phase ∷ [] in
-        released-comes sys P go (unchanged (with_words s d more)) t (task_at s.tasks t) (code er.Ok) (step (Words d more) tt)
+        released-comes sys P go (unchanged (with_words s d more)) t (task_at s.tasks t) (code er.Ok)
+        (step (Words d more) (room-refilled (words_at s d) w (offered_word (task_at s.tasks t).phase) ws _ e (r d)))
         (there s.tasks t (waits-on (task_at s.tasks t).phase (on t refl)))
 
     message_sent_to-comes : (o : Option ℕ) (mailbox message : ℕ)
@@ -338,20 +344,21 @@ module _ (sys : SystemTables) (P : Progress → Type 0)
           tested-comes er.Id (numbered (length s.flags) f) _ (λ i e. tested-comes er.Par (ranged 1 65535 bits) _
           (λ n g. tested-comes er.Par (mode_of o) (next i n) (λ mode j. k i n mode)))
 
-      received_from-comes : (words : List ℤ) (m : TimeLimit) (d : ℕ) → Comes (word_received_from words sys s me x m d)
-      received_from-comes [] m d =
+      received_from-comes : (words : List ℤ) (m : TimeLimit) (d : ℕ) → words_at s d ≡ words
+          → Comes (word_received_from words sys s me x m d)
+      received_from-comes [] m d e =
           by_sender (first_waiting sys s (queue.Senders d)) (λ t e. first-waits sys s (queue.Senders d) t e) where
             by_sender : (o : Option ℕ) → ((t : ℕ) → o ≡ Some t → is_waiting (task_at s.tasks t).phase ≡ true)
                 → Comes (sender_taken_from o s me x m d)
             by_sender None k = waits_within-comes m (cause.Receiving d)
             by_sender (Some t) k = frees t (code er.Ok) (k t refl)
-      received_from-comes (w ∷ ws) m d =
-          oldest_taken-comes (first_waiting sys s (queue.Senders d)) d w ws (λ t e. first-waits sys s (queue.Senders d) t e)
+      received_from-comes (w ∷ ws) m d e =
+          oldest_taken-comes (first_waiting sys s (queue.Senders d)) d w ws e (λ t f. first-waits sys s (queue.Senders d) t f)
 
       receives : (d : ℤ) (m : TimeLimit)
           → Comes (tested s er.Id (numbered (length s.data_queues) d) (λ i. word_received_from (words_at s i) sys s me x m i))
       receives d m =
-          tested-comes er.Id (numbered (length s.data_queues) d) _ (λ i e. received_from-comes (words_at s i) m i)
+          tested-comes er.Id (numbered (length s.data_queues) d) _ (λ i e. received_from-comes (words_at s i) m i refl)
 
       taken_from-comes : (messages : List ℕ) (m : TimeLimit) (mailbox : ℕ) → messages_at s mailbox ≡ messages
           → Comes (message_taken_from messages s me x m mailbox)
@@ -442,7 +449,7 @@ module _ (sys : SystemTables) (P : Progress → Type 0)
       case_of-comes p (call.PrcvDtq queue) = receives queue limit.Poll
       case_of-comes p (call.TrcvDtq queue tmout) =
           tested-comes er.Id (numbered (length s.data_queues) queue) _ (λ i e. tested-comes er.Par (limit_of tmout) _
-          (λ m f. received_from-comes (words_at s i) m i))
+          (λ m f. received_from-comes (words_at s i) m i refl))
       case_of-comes p (call.SndMbx mailbox message) =
           tested-comes er.Id (numbered (length s.mailboxes) mailbox) _ (λ i e. tested-comes er.Id (numbered (length sys.messages) message) _
           (λ g f. refused_if-comes (is_by_priority (mailbox_config sys i).message_order && nat_lt (mailbox_config sys i).most

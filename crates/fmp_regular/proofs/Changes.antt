@@ -13,7 +13,7 @@ use Rattle.fmp_base.specs.MailboxCalls.{with_messages}
 use Rattle.fmp_base.specs.ProcessorCalls.{with_due}
 use Rattle.fmp_base.specs.SemaphoreCalls.{with_count}
 use Rattle.fmp_base.specs.States.{KernelState, Progress, unchanged, task_at, to_end, with_last, with_processor, with_removed, with_task, without}
-use Rattle.fmp_base.specs.Systems.{SystemTables, found, interrupt_config}
+use Rattle.fmp_base.specs.Systems.{SystemTables, data_queue_config, found, interrupt_config}
 use Rattle.fmp_base.specs.TaskCalls.{is_dormant}
 use Rattle.fmp_base.specs.Ticks.{is_pending}
 use Rattle.fmp_ring.specs.OrderLaws.{IsOrder-to_end, IsOrder-without}
@@ -22,7 +22,9 @@ use Rattle.fmp_tasks.specs.Homes.{Standing, is_in_order, is_waiting}
 use Rattle.fmp_tasks.proofs.StandLemmas.{Standing-last, Standing-left, Standing-stays}
 use Rattle.fmp_worlds.proofs.Assigned.{set_at}
 use Rattle.fmp_rows.specs.Numbers.{IsAhead}
+use Rattle.fmp_regular.specs.Sizes.{AreWithinCapacity}
 use Rattle.fmp_regular.proofs.Apart.{AreApart, AreNew, apart-set}
+use Rattle.fmp_regular.proofs.Capacities.{within-set}
 
 -- a dormant task has no deadline and is not suspended, and no deadline is below the bound
 pub record IsFine (low : ℕ) (phase : Phase) (suspended : Bool) (deadline : Option ℕ) : Type 0 where
@@ -104,6 +106,7 @@ pub record IsMove (s : KernelState) (m : Move) (t : ℕ) (y : TaskBlock) : Type 
 
 -- what holds where a change is made
 abbrev pub IsFair : SystemTables → KernelState → Change → Type 0
+IsFair sys s (Words d ws) = length ws ≤ (data_queue_config sys d).capacity
 IsFair sys s (Interrupts i b) = interrupt_config sys i ≡ None → b ≡ false
 IsFair sys s (Due c d) = IsAhead (s.clock + 1) d
 IsFair sys s (Messages x ms) = IsOrder (length sys.messages) ms × AreNew s.mailboxes x ms
@@ -176,6 +179,7 @@ pub record Keeps (sys : SystemTables) (low now : ℕ) (before : List TaskBlock) 
   pub blocks : AreFine low g.state.tasks g.state.order
   pub cyclics : AreAllAhead low g.state.due_times
   pub messages : AreApart (length sys.messages) g.state.mailboxes
+  pub words : AreWithinCapacity sys g.state.data_queues
   pub quiet : IsQuiet sys g.state.pending_interrupts
   pub lasts : Lasts before g.state.tasks g.lines
   pub sizes : sizes g.state ≡ sizes_of sys
@@ -264,6 +268,14 @@ module _ (sys : SystemTables) (low now : ℕ) (before : List TaskBlock) where
   messages-changed g (Moves Out t y) h k = h
   messages-changed g c h k = h
 
+  words-changed : (g : Progress) (c : Change) → AreWithinCapacity sys g.state.data_queues → IsFair sys g.state c
+      → AreWithinCapacity sys (changed c g).state.data_queues
+  words-changed g (Words d ws) h k = within-set sys g.state.data_queues d ws h k
+  words-changed g (Moves InPlace t y) h k = h
+  words-changed g (Moves ToEnd t y) h k = h
+  words-changed g (Moves Out t y) h k = h
+  words-changed g c h k = h
+
   quiet-changed : (g : Progress) (c : Change) → IsQuiet sys g.state.pending_interrupts → IsFair sys g.state c
       → IsQuiet sys (changed c g).state.pending_interrupts
   quiet-changed g (Interrupts i b) h k =
@@ -319,6 +331,7 @@ module _ (sys : SystemTables) (low now : ℕ) (before : List TaskBlock) where
         blocks = blocks-changed g c l h.blocks k;
         cyclics = cyclics-changed g c l h.cyclics k;
         messages = messages-changed g c h.messages k;
+        words = words-changed g c h.words k;
         quiet = quiet-changed g c h.quiet k;
         lasts = lasts-changed g c h.lasts k;
         sizes = sizes-changed g c ∙ h.sizes;
@@ -331,6 +344,7 @@ pub record IsSteady (sys : SystemTables) (s : KernelState) : Type 0 where
   pub blocks : AreFine (s.clock + 1) s.tasks s.order
   pub cyclics : AreAllAhead (s.clock + 1) s.due_times
   pub messages : AreApart (length sys.messages) s.mailboxes
+  pub words : AreWithinCapacity sys s.data_queues
   pub quiet : IsQuiet sys s.pending_interrupts
   pub sizes : sizes s ≡ sizes_of sys
 
@@ -341,6 +355,7 @@ keeps-start sys s h =
       blocks = h.blocks;
       cyclics = h.cyclics;
       messages = h.messages;
+      words = h.words;
       quiet = h.quiet;
       lasts = record { each = λ t w. (w, refl) };
       sizes = h.sizes;
@@ -356,6 +371,7 @@ keeps-end sys now before g k =
       blocks = subst (λ (n : ℕ). AreFine (n + 1) g.state.tasks g.state.order) (sym k.clock) k.blocks;
       cyclics = subst (λ (n : ℕ). AreAllAhead (n + 1) g.state.due_times) (sym k.clock) k.cyclics;
       messages = k.messages;
+      words = k.words;
       quiet = k.quiet;
       sizes = k.sizes;
     }
@@ -369,6 +385,7 @@ keeps-own sys low now before own g k f =
       blocks = k.blocks;
       cyclics = k.cyclics;
       messages = k.messages;
+      words = k.words;
       quiet = k.quiet;
       lasts = record {
         each = λ t w. let l = k.lasts.each t w in
@@ -387,6 +404,7 @@ steady-waits sys s t y h l f p =
       blocks = fine-moved (s.clock + 1) s ToEnd t y h.blocks l f p;
       cyclics = h.cyclics;
       messages = h.messages;
+      words = h.words;
       quiet = h.quiet;
       sizes = sizes-changed (unchanged s) (Moves ToEnd t y) ∙ h.sizes;
     }

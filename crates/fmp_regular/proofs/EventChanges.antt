@@ -22,6 +22,7 @@ use Rattle.fmp_ring.specs.RingLists.{is_in}
 use Rattle.fmp_tasks.specs.Homes.{is_in_order}
 use Rattle.fmp_worlds.proofs.Assigned.{set_over}
 use Rattle.fmp_regular.proofs.Apart.{apart-empty}
+use Rattle.fmp_regular.proofs.Capacities.{within-empty}
 use Rattle.fmp_rows.specs.Numbers.{IsAhead}
 use Rattle.fmp_regular.proofs.Changes.{Change, Cpu, Due, Interrupts, IsFair, IsFineBlock, IsSteady, Keeps, Pends, Says, changed, is_told, Sizes, keeps-changed, keeps-start, sizes, sizes_of}
 use Rattle.fmp_regular.proofs.Stands.{off}
@@ -285,6 +286,7 @@ module _ (sys : SystemTables) where
           blocks = h.blocks;
           cyclics = h.cyclics;
           messages = h.messages;
+          words = h.words;
           quiet = h.quiet;
           lasts = record { each = λ t w. (w, refl) };
           sizes = h.sizes;
@@ -319,6 +321,7 @@ module _ (sys : SystemTables) where
                 (cyclics-calm freed (length s.due_times) c many));
           };
           messages = last.messages;
+          words = last.words;
           quiet = last.quiet;
           lasts = last.lasts;
           sizes = last.sizes;
@@ -379,6 +382,7 @@ created-steady sys =
       };
       cyclics = record { each = λ c. created-ahead sys.cyclics c };
       messages = apart-empty (length sys.messages) (length sys.mailboxes);
+      words = within-empty sys (length sys.data_queues);
       quiet = record { each = λ i e. created-quiet 32 i };
       sizes = created-sizes sys;
     }

@@ -1,5 +1,6 @@
 pub mod Apart
 pub mod CallChanges
+pub mod Capacities
 pub mod Changes
 pub mod EventChanges
 pub mod HeldLaws

@@ -232,13 +232,13 @@ module _ {C : Type 0} (sys : SystemTables) (M : Meaning C) where
         let o = called sys s p (caller.Task me) made in
         let state = h.state in
         answered-task o.answer p me c made o.progress a
-        (task-comes sys P go s start state.blocks state.messages (IsGone s me) me a.0
+        (task-comes sys P go s start state.blocks state.messages state.words (IsGone s me) me a.0
         (λ z d k. record { cause = z; deadline = d; ahead = k; is = refl }) p made)
     call-steady p (caller.Handler i) c made a =
         let o = called sys s p (caller.Handler i) made in
         let state = h.state in
         answered-handler o.answer p i c made o.progress
-        (handler-comes sys P go s start state.blocks state.messages (λ z. ⊥) p i made)
+        (handler-comes sys P go s start state.blocks state.messages state.words (λ z. ⊥) p i made)
 
     stretched-steady : (p : ℕ) (who : Caller) (x : Ending C) → IsActing s who → Leaves (stretched sys M w p who x)
     stretched-steady p who (ends.Call c made) a = call-steady p who c made a

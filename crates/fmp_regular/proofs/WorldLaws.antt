@@ -22,7 +22,7 @@ use Rattle.fmp_rows.specs.Numbers.{IsAhead}
 use Rattle.fmp_rows.specs.Rows.{IsRegular}
 use Rattle.fmp_rows.specs.Values.{SameSizes}
 use Rattle.fmp_rows.specs.Worlds.{IsHeldBy, IsRegularWorld}
-use Rattle.fmp_regular.specs.Sizes.{IsOfSystem, IsWorldOfSystem}
+use Rattle.fmp_regular.specs.Sizes.{AreWithinCapacity, IsOfSystem, IsWorldOfSystem}
 use Rattle.fmp_regular.proofs.Apart.{AreApart, apart-at, linked-at}
 use Rattle.fmp_regular.proofs.Changes.{IsSteady, Sizes}
 use Rattle.fmp_regular.proofs.EventChanges.{setup-keeps}
@@ -128,6 +128,10 @@ reached-regular sys w h =
 
 pub reached-sized : {C : Type 0} (sys : SystemTables) (w : World C) → IsReached sys w → IsWorldOfSystem sys w
 reached-sized sys w h = let a = h.steady in record { state = steady-sized sys w.state a.state; contexts = a.tasks }
+
+pub reached-within : {C : Type 0} (sys : SystemTables) (w : World C) → IsReached sys w
+    → AreWithinCapacity sys w.state.data_queues
+reached-within sys w h = let a = h.steady in let state = a.state in state.words
 
 steady-whole : {C : Type 0} (sys : SystemTables) (w : World C) → IsSteadyWorld sys w → IsWorldOf sys w
 steady-whole sys w a =

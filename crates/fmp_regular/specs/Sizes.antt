@@ -1,8 +1,8 @@
--- How many of each a system has.
-use Rattle.std.specs.Prelude.{◌≡◌, length}
+-- How many of each a system has, and how many words its data queues hold.
+use Rattle.std.specs.Prelude.{◌≡◌, ◌≤◌, ℕ, ℤ, List, [], get_or, length}
 use Rattle.fmp_base.specs.Meanings.{World}
 use Rattle.fmp_base.specs.States.{KernelState}
-use Rattle.fmp_base.specs.Systems.{SystemTables}
+use Rattle.fmp_base.specs.Systems.{SystemTables, data_queue_config}
 
 -- a state has as many of each as its system
 pub record IsOfSystem (sys : SystemTables) (s : KernelState) : Type 0 where
@@ -21,3 +21,7 @@ pub record IsOfSystem (sys : SystemTables) (s : KernelState) : Type 0 where
 pub record IsWorldOfSystem {C : Type 0} (sys : SystemTables) (w : World C) : Type 0 where
   pub state : IsOfSystem sys w.state
   pub contexts : length w.contexts.tasks ≡ length sys.tasks
+
+-- none of a system's data queues holds more words than its capacity
+abbrev pub AreWithinCapacity : SystemTables → (queues : List (List ℤ)) → Type 0
+AreWithinCapacity sys queues = (d : ℕ) → length (get_or queues d []) ≤ (data_queue_config sys d).capacity

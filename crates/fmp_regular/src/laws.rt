@@ -11,14 +11,17 @@ ghost use Rattle.fmp_image_bytes.specs.Images.{ImageTables};
 ghost use Rattle.fmp_replay.specs.Replays.{replay};
 ghost use Rattle.fmp_rows.specs.Values.{SameSizes};
 ghost use Rattle.fmp_rows.specs.Worlds.{IsRegularWorld};
-ghost use Rattle.fmp_regular.specs.Sizes.{IsOfSystem, IsWorldOfSystem};
+ghost use Rattle.fmp_regular.specs.Sizes.{AreWithinCapacity, IsOfSystem, IsWorldOfSystem};
 
-/// Every world that setup and events reach is regular, and has as many of each as its system.
+/// Every world that setup and events reach is regular, and has as many of each as its system. None of its data queues
+/// holds more words than its capacity.
 pub fn worlds_are_regular<C>()
     ensures regular { (sys : SystemTables) (M : Meaning C) (n : ℕ) (es : List Event) → IsInRange sys →
         IsRegularWorld sys (run sys M n (setup sys M).world es).world }
     ensures sizes { (sys : SystemTables) (M : Meaning C) (n : ℕ) (es : List Event) → IsInRange sys →
         IsWorldOfSystem sys (run sys M n (setup sys M).world es).world }
+    ensures words { (sys : SystemTables) (M : Meaning C) (n : ℕ) (es : List Event) → IsInRange sys →
+        AreWithinCapacity sys (run sys M n (setup sys M).world es).world.state.data_queues }
 {}
 
 /// So is every world of a replay on an image, whose system is in range.
@@ -27,6 +30,8 @@ pub fn replays_are_regular()
         IsRegularWorld i.system (replay i n es).world }
     ensures sizes { (i : ImageTables) (n : ℕ) (es : List Event) → IsInRange i.system →
         IsWorldOfSystem i.system (replay i n es).world }
+    ensures words { (i : ImageTables) (n : ℕ) (es : List Event) → IsInRange i.system →
+        AreWithinCapacity i.system (replay i n es).world.state.data_queues }
 {}
 
 /// Two states of one system have as many of each.

@@ -1,4 +1,4 @@
-use Rattle.fmp_regular.proofs.WorldLaws.{reached-regular, reached-sized, runs-reached}
+use Rattle.fmp_regular.proofs.WorldLaws.{reached-regular, reached-sized, reached-within, runs-reached}
 use Rattle.fmp_regular.proofs.laws.worlds_are_regular.Goals as goal
 
 pub returns-clause-regular : goal.returns-clause-regular
@@ -6,3 +6,6 @@ returns-clause-regular g c sys M n es range = reached-regular sys _ (runs-reache
 
 pub returns-clause-sizes : goal.returns-clause-sizes
 returns-clause-sizes g c sys M n es range = reached-sized sys _ (runs-reached sys M range n es)
+
+pub returns-clause-words : goal.returns-clause-words
+returns-clause-words g c sys M n es range = reached-within sys _ (runs-reached sys M range n es)
