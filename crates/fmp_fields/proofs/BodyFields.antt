@@ -1,5 +1,5 @@
 -- Worlds whose fields have the same numbers keep contexts of which the same is told.
-use Rattle.std.proofs.Common.{◌≡◌, ℕ, ◌<◌, ◌≤◌, List, Option, Some, None, Bool, true, false, length, refl, sym, ap, ◌∙◌, subst, arith, ⊎_elim, pos}
+use Rattle.std.proofs.Common.{◌≡◌, ℕ, ◌<◌, List, Option, Some, None, Bool, true, false, length, refl, sym, ap, ◌∙◌, subst, ⊎_elim, pos}
 use Rattle.std.specs.Prelude.{get_or, slice_get}
 use Rattle.std.proofs.lemmas.Bool.{cases_lt}
 use Rattle.std.proofs.lemmas.Option.{slice_get_past}
@@ -20,7 +20,7 @@ use Rattle.fmp_alike.proofs.TimeLaws.{blocks-at}
 use Rattle.fmp_fields.specs.declared.field.What.{What}
 use Rattle.fmp_fields.specs.declared.field.What.TheVariants as what
 use Rattle.fmp_fields.specs.declared.owner.Owner.TheVariants as owner
-use Rattle.fmp_fields.specs.FieldNumbers.{body_number, context_number, number_of, owned_by, unless}
+use Rattle.fmp_fields.specs.FieldNumbers.{body_number, context_number, owned_by, unless}
 use Rattle.fmp_fields.specs.Fields.{IsReadable}
 use Rattle.fmp_fields.proofs.StateFields.{SameFields, within}
 use Rattle.fmp_instructions.specs.declared.instructions.MachineContext.{MachineContext}

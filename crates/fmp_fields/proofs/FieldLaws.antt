@@ -1,5 +1,5 @@
 -- Worlds whose fields have the same numbers are alike.
-use Rattle.std.proofs.Common.{◌≡◌, ℕ, ◌<◌, ◌%◌, List, Bool, true, arith, sym, ◌∙◌}
+use Rattle.std.proofs.Common.{◌≡◌, ℕ, ◌<◌, ◌%◌, List, Bool, true, arith}
 use Rattle.std.specs.Prelude.{map}
 use Rattle.fmp_base.specs.Meanings.{World}
 use Rattle.fmp_base.specs.Systems.{SystemTables}

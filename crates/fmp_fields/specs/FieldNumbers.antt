@@ -1,6 +1,5 @@
 -- The numbers of fields: what a row tells of a world.
 use Rattle.std.specs.Prelude.{ℕ, ◌%◌, [], pos, Bool, true, false, Option, Some, None, length, get_or, nat_lt, ◌&&◌}
-use Rattle.fmp_base.specs.declared.bodies.Held.{Held}
 use Rattle.fmp_base.specs.Queues.{first_of}
 use Rattle.fmp_base.specs.Meanings.{World, context_at, context_in}
 use Rattle.fmp_base.specs.States.{KernelState, processor_at, task_at}

@@ -1,5 +1,5 @@
 -- The fields of the states of a system and its code, and what is asked of worlds whose fields are read.
-use Rattle.std.specs.Prelude.{◌≡◌, ℕ, ◌+◌, ◌<◌, ◌≤◌, [], Bool, true, List, Some, length, get_or, slice_get}
+use Rattle.std.specs.Prelude.{◌≡◌, ℕ, ◌<◌, ◌≤◌, [], Bool, true, List, Some, length, get_or, slice_get}
 use Rattle.std.specs.List.{Contains}
 use Rattle.fmp_base.specs.declared.bodies.HandlerStart.{HandlerStart}
 use Rattle.fmp_base.specs.declared.states.Handler.{Handler}

@@ -1,3 +1,4 @@
 pub mod FieldNumbers
 pub mod Fields
+pub mod Listing
 pub mod Reading

@@ -3,10 +3,13 @@
 
 mod field;
 pub mod laws;
+mod listing;
 mod numbers;
 mod owner;
 mod reading;
+mod room;
 mod state_values;
 
-pub use field::{What, fields_of, low_byte};
+pub use field::{What, low_byte};
+pub use listing::fields_of;
 pub use reading::read;
