@@ -1,5 +1,6 @@
 -- A list that has the fields of each kind has all fields.
-use Rattle.std.proofs.Common.{◌≡◌, List, Bool, true, refl}
+use Rattle.std.proofs.Common.{◌≡◌, ℕ, ◌<◌, List, Bool, true, length, refl}
+use Rattle.std.specs.Prelude.{get_or, nat_lt}
 use Rattle.std.specs.List.{Contains}
 use Rattle.fmp_base.specs.Systems.{SystemTables}
 use Rattle.fmp_fields.specs.declared.field.What.{What}
@@ -18,53 +19,37 @@ module _ (sys : SystemTables) (bodies : List BodyTables) (a b c d : List What) (
   ad : AreAmong a d
   ad f there = bd f (ab f there)
 
+  task-part : (t : ℕ) → t < length sys.tasks → (k : ℕ) (f : What) → nat_lt k (length (task_parts t)) ≡ true
+      → get_or (task_parts t) k f ≡ f → Contains d f
+  task-part t lt k f below is = ad f ((tasks t lt).parts f (at-place (task_parts t) k f below is))
+
+  processor-part : (p : ℕ) → p < sys.processors → (k : ℕ) (f : What) → nat_lt k (length (processor_parts p)) ≡ true
+      → get_or (processor_parts p) k f ≡ f → Contains d f
+  processor-part p lt k f below is = ad f ((processors p lt).parts f (at-place (processor_parts p) k f below is))
+
   pub each-field : (f : What) → IsField sys bodies f → Contains d f
   each-field what.Interrupts is = absurd is
-  each-field (what.Phase t) is =
-      ad (what.Phase t) ((tasks t is).parts (what.Phase t) (at-place (task_parts t) 0 (what.Phase t) refl refl))
-  each-field (what.Object t) is =
-      ad (what.Object t) ((tasks t is).parts (what.Object t) (at-place (task_parts t) 1 (what.Object t) refl refl))
-  each-field (what.Wanted t) is =
-      ad (what.Wanted t) ((tasks t is).parts (what.Wanted t) (at-place (task_parts t) 2 (what.Wanted t) refl refl))
-  each-field (what.Suspended t) is =
-      ad (what.Suspended t) ((tasks t is).parts (what.Suspended t) (at-place (task_parts t) 3 (what.Suspended t) refl refl))
-  each-field (what.Priority t) is =
-      ad (what.Priority t) ((tasks t is).parts (what.Priority t) (at-place (task_parts t) 4 (what.Priority t) refl refl))
-  each-field (what.Processor t) is =
-      ad (what.Processor t) ((tasks t is).parts (what.Processor t) (at-place (task_parts t) 5 (what.Processor t) refl refl))
-  each-field (what.Activations t) is =
-      ad (what.Activations t) ((tasks t is).parts (what.Activations t) (at-place (task_parts t) 6 (what.Activations t) refl refl))
-  each-field (what.NextProcessor t) is =
-      ad (what.NextProcessor t) ((tasks t is).parts (what.NextProcessor t) (at-place (task_parts t) 7 (what.NextProcessor t) refl refl))
-  each-field (what.Wakeups t) is =
-      ad (what.Wakeups t) ((tasks t is).parts (what.Wakeups t) (at-place (task_parts t) 8 (what.Wakeups t) refl refl))
-  each-field (what.TicksLeft t) is =
-      ad (what.TicksLeft t) ((tasks t is).parts (what.TicksLeft t) (at-place (task_parts t) 9 (what.TicksLeft t) refl refl))
-  each-field (what.Behind t) is =
-      ad (what.Behind t) ((tasks t is).parts (what.Behind t) (at-place (task_parts t) 10 (what.Behind t) refl refl))
-  each-field (what.Pc t) is =
-      ad (what.Pc t) ((tasks t is).parts (what.Pc t) (at-place (task_parts t) 11 (what.Pc t) refl refl))
+  each-field (what.Phase t) is = task-part t is 0 (what.Phase t) refl refl
+  each-field (what.Object t) is = task-part t is 1 (what.Object t) refl refl
+  each-field (what.Wanted t) is = task-part t is 2 (what.Wanted t) refl refl
+  each-field (what.Suspended t) is = task-part t is 3 (what.Suspended t) refl refl
+  each-field (what.Priority t) is = task-part t is 4 (what.Priority t) refl refl
+  each-field (what.Processor t) is = task-part t is 5 (what.Processor t) refl refl
+  each-field (what.Activations t) is = task-part t is 6 (what.Activations t) refl refl
+  each-field (what.NextProcessor t) is = task-part t is 7 (what.NextProcessor t) refl refl
+  each-field (what.Wakeups t) is = task-part t is 8 (what.Wakeups t) refl refl
+  each-field (what.TicksLeft t) is = task-part t is 9 (what.TicksLeft t) refl refl
+  each-field (what.Behind t) is = task-part t is 10 (what.Behind t) refl refl
+  each-field (what.Pc t) is = task-part t is 11 (what.Pc t) refl refl
   each-field (what.Local t l) is = ad (what.Local t l) ((tasks t is.0).locals l is.1)
   each-field (what.Operands t) is = ad (what.Operands t) (tasks t is).count
   each-field (what.Operand t i) is = ad (what.Operand t i) ((tasks t is.0).operands i is.1)
-  each-field (what.Runs p) is =
-      ad (what.Runs p)
-      ((processors p is).parts (what.Runs p) (at-place (processor_parts p) 0 (what.Runs p) refl refl))
-  each-field (what.Lock p) is =
-      ad (what.Lock p)
-      ((processors p is).parts (what.Lock p) (at-place (processor_parts p) 1 (what.Lock p) refl refl))
-  each-field (what.DispatchDisabled p) is =
-      ad (what.DispatchDisabled p)
-      ((processors p is).parts (what.DispatchDisabled p) (at-place (processor_parts p) 2 (what.DispatchDisabled p) refl refl))
-  each-field (what.InterruptHandler p) is =
-      ad (what.InterruptHandler p)
-      ((processors p is).parts (what.InterruptHandler p) (at-place (processor_parts p) 3 (what.InterruptHandler p) refl refl))
-  each-field (what.CyclicHandler p) is =
-      ad (what.CyclicHandler p)
-      ((processors p is).parts (what.CyclicHandler p) (at-place (processor_parts p) 4 (what.CyclicHandler p) refl refl))
-  each-field (what.HandlerPc p) is =
-      ad (what.HandlerPc p)
-      ((processors p is).parts (what.HandlerPc p) (at-place (processor_parts p) 5 (what.HandlerPc p) refl refl))
+  each-field (what.Runs p) is = processor-part p is 0 (what.Runs p) refl refl
+  each-field (what.Lock p) is = processor-part p is 1 (what.Lock p) refl refl
+  each-field (what.DispatchDisabled p) is = processor-part p is 2 (what.DispatchDisabled p) refl refl
+  each-field (what.InterruptHandler p) is = processor-part p is 3 (what.InterruptHandler p) refl refl
+  each-field (what.CyclicHandler p) is = processor-part p is 4 (what.CyclicHandler p) refl refl
+  each-field (what.HandlerPc p) is = processor-part p is 5 (what.HandlerPc p) refl refl
   each-field (what.HandlerLocal p l) is = ad (what.HandlerLocal p l) ((processors p is.0).locals l is.1)
   each-field (what.HandlerOperands p) is = ad (what.HandlerOperands p) (processors p is).count
   each-field (what.HandlerOperand p i) is = ad (what.HandlerOperand p i) ((processors p is.0).operands i is.1)

@@ -78,9 +78,11 @@ queue-kept d capacity a b ab h =
 -- the fields of an actor are added: its own, those of its locals, the number of operands, and those of its operands
 module _ (a b c d e : List What) (bc : AreAmong b c) (de : AreAmong d e) where
   pub actor-kept : (parts : List What) (count : What) → b ≡ a ++ parts → d ≡ c ++ count ∷ [] → AreAmong a e
-  actor-kept parts count eb ed f there = de f (among-more c d (count ∷ []) ed f (bc f (among-more a b parts eb f there)))
+  actor-kept parts count eb ed f there =
+      de f (among-more c d (count ∷ []) ed f (bc f (among-more a b parts eb f there)))
 
-  pub task-added : (bodies : List BodyTables) (t body : ℕ) (room : Room) → HasRoom bodies body room → b ≡ a ++ task_parts t
+  pub task-added : (bodies : List BodyTables) (t body : ℕ) (room : Room) → HasRoom bodies body room
+      → b ≡ a ++ task_parts t
       → ((l : ℕ) → l < room.locals → Contains c (what.Local t l)) → d ≡ c ++ what.Operands t ∷ []
       → ((i : ℕ) → i < room.operands → Contains e (what.Operand t i)) → HasTask bodies t body e
   task-added bodies t body room has eb locals ed operands =
@@ -95,7 +97,8 @@ module _ (a b c d e : List What) (bc : AreAmong b c) (de : AreAmong d e) where
             operands i (omega (arith, under, most));
       }
 
-  pub processor-added : (sys : SystemTables) (bodies : List BodyTables) (p : ℕ) (room : Room) → HasHandlerRoom sys bodies p room
+  pub processor-added : (sys : SystemTables) (bodies : List BodyTables) (p : ℕ) (room : Room)
+      → HasHandlerRoom sys bodies p room
       → b ≡ a ++ processor_parts p → ((l : ℕ) → l < room.locals → Contains c (what.HandlerLocal p l))
       → d ≡ c ++ what.HandlerOperands p ∷ []
       → ((i : ℕ) → i < room.operands → Contains e (what.HandlerOperand p i)) → HasProcessor sys bodies p e
@@ -130,7 +133,8 @@ capacity-at sys d x lt = rw (slice_get-get_or sys.data_queues d x lt) refl
 
 -- each handler's interrupt has its field
 pub interrupts-added : (sys : SystemTables) (fields : List What)
-    → EachBefore (λ (x : InterruptConfig). Contains fields (what.PendingInterrupt (x.number - 1))) sys.interrupts (length sys.interrupts)
+    → EachBefore (λ (x : InterruptConfig). Contains fields (what.PendingInterrupt (x.number - 1))) sys.interrupts
+    (length sys.interrupts)
     → HasInterrupts sys fields
 interrupts-added sys fields each i there = by_config (interrupt_config sys i) refl there where
   by_config : (o : Option InterruptConfig) → interrupt_config sys i ≡ o → IsThere o

@@ -47,7 +47,9 @@ body-in None = 0
 body-in (Some start) = start.body
 
 module _ (sys : SystemTables) (bodies : List BodyTables) (p : ℕ) (room : Room) where
-  pub cyclics-room : EachBefore (λ (h : CyclicConfig). h.processor ≡ p → HasRoom bodies (body_of h.entry) room) sys.cyclics (length sys.cyclics)
+  pub cyclics-room :
+      EachBefore (λ (h : CyclicConfig). h.processor ≡ p → HasRoom bodies (body_of h.entry) room) sys.cyclics
+      (length sys.cyclics)
       → (c : ℕ) (start : HandlerStart) → cycles_on sys p c ≡ true → cyclic_start (slice_get sys.cyclics c) ≡ Some start
       → HasRoom bodies start.body room
   cyclics-room each c start own starts = by_config (slice_get sys.cyclics c) refl starts where
@@ -60,7 +62,9 @@ module _ (sys : SystemTables) (bodies : List BodyTables) (p : ℕ) (room : Room)
         subst (λ (n : ℕ). HasRoom bodies n room) body
         (each c x (slice_get_within sys.cyclics c x e) e (same-number x.processor p on))
 
-  pub interrupts-room : EachBefore (λ (h : InterruptConfig). h.processor ≡ p → HasRoom bodies (body_of h.entry) room) sys.interrupts (length sys.interrupts)
+  pub interrupts-room :
+      EachBefore (λ (h : InterruptConfig). h.processor ≡ p → HasRoom bodies (body_of h.entry) room) sys.interrupts
+      (length sys.interrupts)
       → (i : ℕ) (start : HandlerStart) → interrupts_on sys p i ≡ true
       → interrupt_start (interrupt_config sys i) ≡ Some start → HasRoom bodies start.body room
   interrupts-room each i start own starts = by_config (interrupt_config sys i) refl own starts where

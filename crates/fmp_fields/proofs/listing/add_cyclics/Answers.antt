@@ -11,8 +11,10 @@ loop-c-preserved c =
     let b = c.push.new.self.items in
     let d = c.push-in-loop-c.new.self.items in
     let lt = c.loop-c-test.true in
-    let first : c.low_byte.result ≡ c.loop-c.c = omega (arith, c.low_byte.ensures, lt, c.len-c-end.ensures, c.requires) in
-    let second : c.low_byte-in-loop-c.result ≡ c.loop-c.c = omega (arith, c.low_byte-in-loop-c.ensures, lt, c.len-c-end.ensures, c.requires) in
+    let first : c.low_byte.result ≡ c.loop-c.c =
+    omega (arith, c.low_byte.ensures, lt, c.len-c-end.ensures, c.requires) in
+    let second : c.low_byte-in-loop-c.result ≡ c.loop-c.c =
+    omega (arith, c.low_byte-in-loop-c.ensures, lt, c.len-c-end.ensures, c.requires) in
     let bd : AreAmong b d = among-more b d _ c.in_ok-push-2.ensures.items in
     let ad : AreAmong a d = λ f there. bd f (among-more a b _ c.in_ok-push.ensures.items f there) in
     record {

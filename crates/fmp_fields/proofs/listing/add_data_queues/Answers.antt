@@ -19,7 +19,8 @@ loop-d-preserved c =
     record {
       kept = λ f there. kept f (c.loop-d.invariant.kept f there);
       added = places-more (λ (d : ℕ). HasQueue d (data_queue_config sys d).capacity after) c.loop-d.d
-          (λ d less. queue-kept d (data_queue_config sys d).capacity before after kept (c.loop-d.invariant.added d less))
+          (λ d less. queue-kept d (data_queue_config sys d).capacity before after kept
+          (c.loop-d.invariant.added d less))
           (subst (λ (n : ℕ). HasQueue c.loop-d.d n after) capacity
           (subst (λ (d : ℕ). HasQueue d c.index.result.now.capacity after) at c.in_ok-add_data_queue.ensures.added));
     }

@@ -9,7 +9,8 @@ loop-place-preserved g c =
     let before = c.loop-place.fields.items in
     let after = c.push.new.self.items in
     let items = c.in_ok-push.ensures.items in
-    let at : c.low_byte.result ≡ c.loop-place.place = omega (arith, c.low_byte.ensures, c.loop-place-test.true, c.requires.few) in
+    let at : c.low_byte.result ≡ c.loop-place.place =
+    omega (arith, c.low_byte.ensures, c.loop-place-test.true, c.requires.few) in
     record {
       kept = λ f there. among-more before after _ items f (c.loop-place.invariant.kept f there);
       added = places-more

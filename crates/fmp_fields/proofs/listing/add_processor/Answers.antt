@@ -15,8 +15,8 @@ returns-clause-kept c =
     let d = c.push.new.self.items in
     let e = c.add_each-2.new.fields.items in
     if-both (AreAmong d e) (AreAmong d e) (AreAmong a e) c.add_each-2.result
-    (λ de _. actor-kept a b m d e c.in_ok-add_each.ensures.kept de (processor_parts c.args.p) (what.HandlerOperands c.args.p)
-    c.in_ok-extend_from_slice.ensures.items c.in_ok-push.ensures.items)
+    (λ de _. actor-kept a b m d e c.in_ok-add_each.ensures.kept de (processor_parts c.args.p)
+    (what.HandlerOperands c.args.p) c.in_ok-extend_from_slice.ensures.items c.in_ok-push.ensures.items)
     c.add_each-2.ensures.kept c.add_each-2.ensures.kept
 
 pub returns-clause-added : goal.returns-clause-added

@@ -24,5 +24,6 @@ loop-t-preserved c =
       added = places-more (λ (t : ℕ). HasTask bodies t (task_body sys t) after) c.loop-t.t
           (λ t less. task-kept bodies t (task_body sys t) before after kept (c.loop-t.invariant.added t less))
           (subst (λ (b : ℕ). HasTask bodies c.loop-t.t b after) body
-          (subst (λ (t : ℕ). HasTask bodies t (body_of c.index.result.now.entry) after) at c.in_ok-add_task.ensures.added));
+          (subst (λ (t : ℕ). HasTask bodies t (body_of c.index.result.now.entry) after) at
+          c.in_ok-add_task.ensures.added));
     }

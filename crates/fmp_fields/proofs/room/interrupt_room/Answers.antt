@@ -26,7 +26,8 @@ loop-handler-preserved c =
           (λ h at own. room-kept bodies (body_of h.entry) w.room_of.result w.or-room.result
           w.or-room.ensures.other_locals w.or-room.ensures.other_operands
           (subst (λ (z : InterruptConfig). HasRoom bodies (body_of z.entry) w.room_of.result)
-          (read-at c.deref-handler-items.result.now xs i _ h c.deref-handler-items.ensures.value at) w.room_of.ensures)))
+          (read-at c.deref-handler-items.result.now xs i _ h c.deref-handler-items.ensures.value at)
+          w.room_of.ensures)))
       | else-handler-p w ↦
           rw w.room-is
           (each-more
@@ -35,7 +36,8 @@ loop-handler-preserved c =
           xs i before
           (λ h had. had)
           (λ h at own. absurd (w.if-handler-p.false
-          (ap (λ (z : InterruptConfig). z.processor) (read-at c.deref-handler-items.result.now xs i _ h c.deref-handler-items.ensures.value at) ∙ own))))
+          (ap (λ (z : InterruptConfig). z.processor)
+          (read-at c.deref-handler-items.result.now xs i _ h c.deref-handler-items.ensures.value at) ∙ own))))
     ]
 
 pub returns : goal.returns

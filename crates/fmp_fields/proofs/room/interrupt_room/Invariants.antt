@@ -8,5 +8,6 @@ use Rattle.fmp_instructions.specs.Instructions.{code_tables}
 
 abbrev pub invariant-loop-handler : goal.invariant-loop-handler
 invariant-loop-handler l =
-    EachBefore (λ (h : InterruptConfig). h.processor ≡ l.fn.p → HasRoom (code_tables l.fn.code) (body_of h.entry) l.room)
+    EachBefore
+    (λ (h : InterruptConfig). h.processor ≡ l.fn.p → HasRoom (code_tables l.fn.code) (body_of h.entry) l.room)
     l.fn.sys.interrupts.items l.handler-index
