@@ -55,8 +55,8 @@ class Endless:
 
 @dataclass(frozen=True)
 class Nothing:
-    """Nothing is found. The states, events and depth are these, where they are given, and calls of these lines are never
-    made."""
+    """Nothing is found, and the first line says so of all lists of events that may come. The states, events and depth are
+    these, where they are given, and calls of these lines are never made."""
 
     numbers: tuple = ()
     unmade: tuple = ()
@@ -95,6 +95,9 @@ ROWS = [
     ("phil5", (), Deadlock(15)),
     ("spinpair", never("E_CTX"), Line(2, (6, 14), "E_CTX")),
     ("race", never("put(99)"), Line(23, (17,), "put(99) E_OK")),
+    ("locked", never("put(99)"), Nothing(unmade=(20,))),
+    ("alarm", never("put(99)"), Line(9, (10,), "put(99) E_OK")),
+    ("alarm", never("put(99)", "--ticks", "idle"), Nothing(unmade=(10,))),
     ("peterson", never("put(99)"), Nothing((652, 1956, 25))),
     ("meet", never("put(99)"), Nothing((128, 342, 15))),
     ("server", never("put(99)"), Nothing()),
@@ -204,8 +207,20 @@ def shows_endless(search, text, row):
     return search.replayed(steps + 100 * [f"run {processor}"]) == search.replayed(steps)
 
 
+def claim_of(options):
+    """The first line where something holds, by what was asked."""
+    words = list(zip(options, (*options[1:], "")))
+    nevers = [f"never {word}, " for option, word in words if option == "--never"]
+    ints = [word for option, word in words if option == "--ints"]
+    few = f" with at most {ints[0]} interrupt{'' if ints[0] == '1' else 's'}" if ints else ""
+    idle = " in which the clock ticks only where no processor can do anything" if ("--ticks", "idle") in words else ""
+    return f"{''.join(nevers)}no deadlock, no fault: over all lists of events{few}{',' if few and idle else ''}{idle}"
+
+
 def shows_nothing(search, text, row):
-    """Whether nothing is found, in as many states and events, and these calls are never made."""
+    """Whether it is said that nothing is found, in as many states and events, and these calls are never made."""
+    if text.splitlines()[0] != claim_of(search.options):
+        return False
     numbers = re.search(r"^(\d+) states, (\d+) events, (\d+) deep$", text, re.MULTILINE)
     unmade = re.search(r"^calls never made: (.*)$", text, re.MULTILINE)
     places = " ".join(f"{search.name}.src:{line}" for line in row.unmade)
