@@ -13,7 +13,7 @@ ghost use Rattle.fmp_codegen.specs.Compiling as spec;
 ghost use Rattle.fmp_codegen.specs.Compiling.{compiled_body, IsCompiled};
 ghost use Rattle.fmp_scopes.specs.Depths.{body_depth};
 ghost use Rattle.fmp_codegen.specs.Laws.{DoesText};
-ghost use Rattle.fmp_scopes.specs.Scopes.{HoldsNumbers, locals_with};
+ghost use Rattle.fmp_scopes.specs.Scopes.{AreNumbers, HoldsNumbers, locals_with};
 ghost use Rattle.fmp_scopes.specs.Sizes.{block_size};
 
 use crate::emission::{Output, emit_statements, put};
@@ -21,8 +21,9 @@ use fmp_base::System;
 use fmp_instructions::{BodyCode, Code, Instruction};
 use fmp_lex::{BuildFault, FaultKind, Tokens};
 use fmp_scopes::{
-    Extent, HasName, Names, Objects, Offence, append, block_extent, block_offence, is_exinf,
-    is_object, number_objects, place_in, places_of_body, places_of_length, source_fault,
+    Extent, HasName, Names, ObjectNumbers, Objects, Offence, append, block_extent, block_offence,
+    first_places, is_exinf, is_named_before, is_object, number_objects, number_variables, place_in,
+    places_of_body, places_of_length, source_fault,
 };
 use fmp_tasklang::{Body, Declaration, Length, Program};
 use std::alloc::{AllocError, Global};
@@ -53,8 +54,13 @@ fn length_offence(length: Option<Length>) -> Option<Offence>
 
 /// The first fault of the declared variables of a body: the 65th place, a name of another variable or of an object, or
 /// the length of an array.
-fn variables_offence(objects: &Objects<'_>, variables: &[Declaration]) -> Option<Offence>
-    requires { HoldsNumbers objects.now }
+fn variables_offence(
+    objects: &Objects<'_>,
+    numbers: &Option<ObjectNumbers>,
+    variables: &[Declaration],
+) -> Option<Offence>
+    requires objects { HoldsNumbers objects.now }
+    requires numbers { AreNumbers numbers.now variables.now }
     ensures first { result ≡
         spec.variables_offence (tables_of objects.now.system.now) (exinf_local ∷ []) variables.now }
     ensures few { IfNone result (length variables.now ≤ 63) }
@@ -72,7 +78,7 @@ fn variables_offence(objects: &Objects<'_>, variables: &[Declaration]) -> Option
             });
         }
         if is_exinf(&word.name)
-            || place_in(&variables[..i], &word.name).is_some()
+            || is_named_before(numbers, variables, i, &word.name)
             || is_object(objects, &word.name)
         {
             return Some(Offence {
@@ -107,13 +113,16 @@ fn extent_of_body(body: &Body) -> Result<Extent, Offence>
     Ok(extent)
 }
 
-/// What the statements of a body take, or the body's first fault, after bodies of these names.
+/// What the statements of a body take, or the body's first fault, after bodies of these names. The numbers are those of
+/// its variables.
 pub fn judge_body<T: HasName>(
     objects: &Objects<'_>,
     earlier: &[T],
+    numbers: &Option<ObjectNumbers>,
     body: &Body,
 ) -> Result<Extent, Offence>
-    requires { HoldsNumbers objects.now }
+    requires objects { HoldsNumbers objects.now }
+    requires numbers { AreNumbers numbers.now body.now.variables.items }
     ensures first { let tables = tables_of objects.now.system.now in MatchResult result
         (λ _. spec.body_offence tables (map T.name_of earlier.now) (body_view body.now) ≡ None)
         (λ offence. spec.body_offence tables (map T.name_of earlier.now) (body_view body.now) ≡ Some offence) }
@@ -136,12 +145,14 @@ pub fn judge_body<T: HasName>(
             why: FaultKind::TwiceNamed,
         });
     }
-    if let Some(offence) = variables_offence(objects, &body.variables) {
+    if let Some(offence) = variables_offence(objects, numbers, &body.variables) {
         return Err(offence);
     }
     let names = Names {
         objects: *objects,
         variables: &body.variables,
+        numbers,
+        places: &[],
     };
     if let Some(offence) = block_offence(&names, &body.statements) {
         return Err(offence);
@@ -149,14 +160,17 @@ pub fn judge_body<T: HasName>(
     extent_of_body(body)
 }
 
-/// The code of a body that has no fault and whose statements take `size` instructions.
+/// The code of a body that has no fault and whose statements take `size` instructions. The numbers are those of its
+/// variables.
 pub fn compile_body(
     alloc: Global,
     objects: &Objects<'_>,
+    numbers: &Option<ObjectNumbers>,
     body: &Body,
     size: u16,
 ) -> Result<BodyCode, AllocError>
     requires objects { HoldsNumbers objects.now }
+    requires numbers { AreNumbers numbers.now body.now.variables.items }
     requires variables { length body.now.variables.items ≤ 63 }
     requires places { total_places (locals_with body.now.variables.items) ≤ 64 }
     requires size { size ≡ block_size (block_view body.now.statements.items) }
@@ -165,9 +179,12 @@ pub fn compile_body(
     ensures { IfOk result (λ code. body_tables code ≡
         compiled_body (tables_of objects.now.system.now) (body_view body.now)) }
 {
+    let places = first_places(alloc, &body.variables)?;
     let names = Names {
         objects: *objects,
         variables: &body.variables,
+        numbers,
+        places: &places,
     };
     let mut out = Output {
         instructions: Vec::with_capacity(alloc, usize::from(size) + 1)?,
@@ -211,9 +228,10 @@ pub fn compile(
     let mut bodies = Vec::new(alloc);
     for i in 0..program.bodies.len() {
         let body = &program.bodies[i];
-        match judge_body(&objects, &program.bodies[..i], body) {
+        let numbers = number_variables(alloc, &body.variables)?;
+        match judge_body(&objects, &program.bodies[..i], &numbers, body) {
             Ok(extent) => {
-                let code = compile_body(alloc, &objects, body, extent.size as u16)?;
+                let code = compile_body(alloc, &objects, &numbers, body, extent.size as u16)?;
                 append(&mut bodies, code)?;
             }
             Err(offence) => {

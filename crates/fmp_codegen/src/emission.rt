@@ -17,7 +17,7 @@ ghost use Rattle.fmp_scopes.specs.Sizes.{expression_size, arguments_size, statem
 ghost use Rattle.fmp_codegen.specs.Breaks.{statement_breaks, block_breaks, led_to};
 
 use fmp_instructions::Instruction;
-use fmp_scopes::{Meaning, Names, expression_extent, first_place_in, meaning_in, places_in};
+use fmp_scopes::{Meaning, Names, expression_extent, first_place_of, meaning_in, places_in};
 use fmp_tasklang::{Expression, Link, Operator, ServiceCall, Statement, Word};
 use std::alloc::{AllocError, Global};
 
@@ -53,7 +53,7 @@ fn name_instruction(names: &Names<'_>, word: &Word) -> Instruction
     ensures { result ≡ name_code (scope_view names.now).locals (meaning_of (scope_view names.now) word.now.name) }
 {
     match meaning_in(names, &word.name) {
-        Meaning::Variable(v) => Instruction::Load(first_place_in(names.variables, v)),
+        Meaning::Variable(v) => Instruction::Load(first_place_of(names, v)),
         Meaning::Array(_) => Instruction::Push(0),
         Meaning::Object(number) => Instruction::Push(number as i32),
         Meaning::Unknown => Instruction::Push(0),
@@ -67,10 +67,7 @@ fn array_of(names: &Names<'_>, word: &Word) -> (u8, u8)
     ensures places { result.1 ≡ array_places (scope_view names.now) (meaning_of (scope_view names.now) word.now.name) }
 {
     match meaning_in(names, &word.name) {
-        Meaning::Array(v) => (
-            first_place_in(names.variables, v),
-            places_in(names.variables, v),
-        ),
+        Meaning::Array(v) => (first_place_of(names, v), places_in(names.variables, v)),
         _ => (0, 0),
     }
 }
@@ -99,7 +96,7 @@ fn target_of(names: &Names<'_>, word: &Word) -> u8
     ensures { result ≡ target_place (scope_view names.now) word.now }
 {
     match meaning_in(names, &word.name) {
-        Meaning::Variable(v) => first_place_in(names.variables, v),
+        Meaning::Variable(v) => first_place_of(names, v),
         _ => 0,
     }
 }
@@ -112,7 +109,7 @@ fn place_of_word(names: &Names<'_>, word: Option<Word>) -> Option<u8>
     match word {
         None => None,
         Some(word) => match meaning_in(names, &word.name) {
-            Meaning::Variable(v) => Some(first_place_in(names.variables, v)),
+            Meaning::Variable(v) => Some(first_place_of(names, v)),
             _ => None,
         },
     }

@@ -8,7 +8,7 @@ ghost use Rattle.fmp_base.specs.Systems.{tables_of};
 ghost use Rattle.fmp_lex.specs.Reading.{kinds_of};
 ghost use Rattle.fmp_tasklang.specs.Trees.{BodyTree};
 ghost use Rattle.fmp_tasklang.specs.Views.{body_view};
-ghost use Rattle.fmp_scopes.specs.Scopes.{HoldsNumbers};
+ghost use Rattle.fmp_scopes.specs.Scopes.{AreNumbers, HoldsNumbers};
 ghost use Rattle.fmp_codegen.specs.Texts.{AreMade, IsMadeUpTo, IsMadeOf, IsTextCompiled, MadeText};
 
 use crate::compiling::{compile_body, judge_body};
@@ -18,7 +18,10 @@ use fmp_lex::{
     BuildFault, FirstFault, GrammarFault, ReadError, TextFault, TextFile, Tokens, fault_at, tokens,
     too_long,
 };
-use fmp_scopes::{Heading, Objects, Offence, append, heading_with, number_objects, source_fault};
+use fmp_scopes::{
+    Heading, ObjectNumbers, Objects, Offence, append, heading_with, number_objects,
+    number_variables, source_fault,
+};
 use fmp_tasklang::{Body, body, body_kind_at};
 use std::alloc::{AllocError, Global};
 
@@ -37,6 +40,34 @@ pub struct Made {
     pub offence: Option<Offence>,
 }
 
+/// Judges a body that stands behind those before it, and compiles it if there is no fault. The numbers are those of its
+/// variables.
+fn add_numbered(
+    alloc: Global,
+    objects: &Objects<'_>,
+    made: &mut Made,
+    numbers: &Option<ObjectNumbers>,
+    body: &Body,
+) -> Result<(), AllocError>
+    requires objects { HoldsNumbers objects.now }
+    requires numbers { AreNumbers numbers.now body.now.variables.items }
+    ensures { let tables = tables_of objects.now.system.now in OnOk result ((bodies : List BodyTree) →
+        AreMade tables made.old bodies → AreMade tables made.new (bodies ++ body_view body.now ∷ [])) }
+{
+    if made.offence.is_some() {
+        return Ok(());
+    }
+    match judge_body(objects, &made.headings, numbers, body) {
+        Ok(extent) => {
+            let code = compile_body(alloc, objects, numbers, body, extent.size as u16)?;
+            append(&mut made.bodies, code)?;
+            append(&mut made.headings, heading_with(body, extent.depth))?;
+        }
+        Err(offence) => made.offence = Some(offence),
+    }
+    Ok(())
+}
+
 /// Judges a body that stands behind those before it, and compiles it if there is no fault.
 fn add_body(
     alloc: Global,
@@ -48,18 +79,8 @@ fn add_body(
     ensures { let tables = tables_of objects.now.system.now in OnOk result ((bodies : List BodyTree) →
         AreMade tables made.old bodies → AreMade tables made.new (bodies ++ body_view body.now ∷ [])) }
 {
-    if made.offence.is_some() {
-        return Ok(());
-    }
-    match judge_body(objects, &made.headings, body) {
-        Ok(extent) => {
-            let code = compile_body(alloc, objects, body, extent.size as u16)?;
-            append(&mut made.bodies, code)?;
-            append(&mut made.headings, heading_with(body, extent.depth))?;
-        }
-        Err(offence) => made.offence = Some(offence),
-    }
-    Ok(())
+    let numbers = number_variables(alloc, &body.variables)?;
+    add_numbered(alloc, objects, made, &numbers, body)
 }
 
 /// What is made of the bodies at the head of these tokens, and the place behind them.

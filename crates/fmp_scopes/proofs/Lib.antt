@@ -1,6 +1,8 @@
 mod ChainTrees
 mod Checking
+mod EarlierNames
 mod Entering
+mod FirstPlaces
 pub mod Headed
 pub mod KnownNames
 pub mod LeastDepths

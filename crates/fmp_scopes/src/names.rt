@@ -11,6 +11,7 @@ ghost use Rattle.fmp_scopes.specs.Naming.{Reads, Writes, ReadsElement, WritesEle
 ghost use Rattle.fmp_scopes.specs.Scopes.{HoldsNumbers, IsHeld, meaning_view, scope_view};
 
 use crate::headings::Heading;
+use crate::locals::variable_place;
 use crate::numbers::ObjectNumbers;
 use crate::offences::Offence;
 use fmp_base::{
@@ -190,6 +191,10 @@ pub struct Names<'a> {
     pub objects: Objects<'a>,
     /// The declared variables, without `exinf`.
     pub variables: &'a [Declaration],
+    /// The number of each variable by its name, as `number_variables` gives them; none where a search is as fast.
+    pub numbers: &'a Option<ObjectNumbers>,
+    /// The first places of the locals, by their numbers, as `first_places` gives them; none where a search is as fast.
+    pub places: &'a [u8],
 }
 
 /// Whether a name is `exinf`, that of local 0.
@@ -228,7 +233,7 @@ pub fn meaning_in(names: &Names<'_>, name: &Name) -> Meaning
     if is_exinf(name) {
         return Meaning::Variable(0);
     }
-    match place_in(names.variables, name) {
+    match variable_place(names, name) {
         Some(place) => local_meaning(&names.variables[place], place as u8 + 1),
         None => object_in(&names.objects, name),
     }

@@ -26,7 +26,10 @@ fn numbered(place: usize) -> u8
 }
 
 /// Gives the objects of a table their numbers. Of those with one name the first comes last, and its number stays.
-fn number_rows<T: HasName>(numbers: &mut ObjectNumbers, rows: &[T]) -> Result<(), AllocError>
+pub(crate) fn number_rows<T: HasName>(
+    numbers: &mut ObjectNumbers,
+    rows: &[T],
+) -> Result<(), AllocError>
     requires { length rows.now ≤ 255 }
     ensures { OnOk result ((name : base.Name) → object_named numbers.new name ≡
         number_or (place_of (name_text name) (map T.name_of rows.now)) (object_named numbers.old name)) }

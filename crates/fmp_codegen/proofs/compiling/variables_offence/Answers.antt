@@ -1,5 +1,4 @@
-use Rattle.std.proofs.Common.{◌≡◌, ◌+◌, ◌≤◌, ◌∷◌, [], true, false, None, map, take, get_or, refl, ap, sym, ◌∙◌, arith}
-use Rattle.std.specs.Prelude.{is_some}
+use Rattle.std.proofs.Common.{◌≡◌, ◌+◌, ◌≤◌, ◌∷◌, [], true, false, None, map, take, get_or, refl, sym, ◌∙◌, arith}
 use Rattle.std.specs.Str.{bytes_eq}
 use Rattle.std.proofs.lemmas.List.{get_or_default}
 use Rattle.fmp_base.specs.Names.{name_text}
@@ -12,7 +11,7 @@ use Rattle.fmp_scopes.proofs.Sums.{no_declaration}
 use Rattle.fmp_codegen.proofs.Bodies.{length_some}
 use Rattle.fmp_codegen.proofs.Variables.{places-on, variable-on, variable-twice, variable-length}
 use Rattle.fmp_codegen.proofs.compiling.variables_offence.Goals as goal
-use Rattle.fmp_codegen.proofs.compiling.variables_offence.Goals.{then-is_exinf-via-then-is_exinf, then-is_exinf-via-else-is_exinf+then-is_some, then-is_exinf-via-else-is_exinf+else-is_some+then-is_object}
+use Rattle.fmp_codegen.proofs.compiling.variables_offence.Goals.{then-is_exinf-via-then-is_exinf, then-is_exinf-via-else-is_exinf+then-is_named_before, then-is_exinf-via-else-is_exinf+else-is_named_before+then-is_object}
 
 pub loop-i-preserved : goal.loop-i-preserved
 loop-i-preserved c =
@@ -25,7 +24,7 @@ loop-i-preserved c =
     omega (arith, c.loop-i.invariant.counted, c.places_of_length-places.ensures.places, c.if-places-gt-MOST_PLACES.false) in
     let first : bytes_eq (name_text d.name.name) (name_text exinf_name) ≡ false = sym c.is_exinf.ensures ∙ c.if-is_exinf.false in
     let among : is_among d.name.name (map (λ (v : Declaration). v.name.name) (take i variables)) ≡ false =
-    sym (c.is_some.ensures ∙ ap is_some c.place_in.ensures.place) ∙ c.if-is_some.false in
+    sym c.is_named_before.ensures ∙ c.if-is_named_before.false in
     let object : is_object tables d.name.name ≡ false = sym c.is_object.ensures ∙ c.if-is_object.false in
     let right : length_offence d.length ≡ None = sym c.length_offence.ensures ∙ c.in_default.is in
     let some = length_some d.length right in
@@ -53,14 +52,14 @@ returns-then-is_exinf-clause-first c =
       | then-is_exinf-via-then-is_exinf w ↦
           variable-twice tables variables i d c.loop-i-test.true read whole true among object few
           (sym c.is_exinf.ensures ∙ w.if-is_exinf.true) refl refl refl c.loop-i.invariant.rest
-      | then-is_exinf-via-else-is_exinf+then-is_some w ↦
+      | then-is_exinf-via-else-is_exinf+then-is_named_before w ↦
           variable-twice tables variables i d c.loop-i-test.true read whole false true object few
           (sym c.is_exinf.ensures ∙ w.if-is_exinf.false)
-          (sym (w.is_some.ensures ∙ ap is_some w.place_in.ensures.place) ∙ w.if-is_some.true) refl refl c.loop-i.invariant.rest
-      | then-is_exinf-via-else-is_exinf+else-is_some+then-is_object w ↦
+          (sym w.is_named_before.ensures ∙ w.if-is_named_before.true) refl refl c.loop-i.invariant.rest
+      | then-is_exinf-via-else-is_exinf+else-is_named_before+then-is_object w ↦
           variable-twice tables variables i d c.loop-i-test.true read whole false false true few
           (sym c.is_exinf.ensures ∙ w.if-is_exinf.false)
-          (sym (w.is_some.ensures ∙ ap is_some w.place_in.ensures.place) ∙ w.if-is_some.false)
+          (sym w.is_named_before.ensures ∙ w.if-is_named_before.false)
           (sym w.is_object.ensures ∙ w.if-is_object.true) refl c.loop-i.invariant.rest
     ]
 
@@ -75,5 +74,5 @@ returns-in-Some-clause-first c =
     omega (arith, c.loop-i.invariant.counted, c.places_of_length-places.ensures.places, c.if-places-gt-MOST_PLACES.false) in
     variable-length tables variables i d c.loop-i-test.true read (variables_offence tables (exinf_local ∷ []) variables)
     c.in-Some.offence few (sym c.is_exinf.ensures ∙ c.if-is_exinf.false)
-    (sym (c.is_some.ensures ∙ ap is_some c.place_in.ensures.place) ∙ c.if-is_some.false)
+    (sym c.is_named_before.ensures ∙ c.if-is_named_before.false)
     (sym c.is_object.ensures ∙ c.if-is_object.false) (sym c.in-Some.is ∙ c.length_offence.ensures) c.loop-i.invariant.rest

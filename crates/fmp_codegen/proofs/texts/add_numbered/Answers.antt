@@ -4,7 +4,7 @@ use Rattle.fmp_tasklang.specs.Views.{body_view}
 use Rattle.fmp_scopes.specs.declared.headings.Heading.{Heading}
 use Rattle.fmp_codegen.specs.Compiling.{body_offence}
 use Rattle.fmp_codegen.proofs.TextMaking.{made-stays, made-stops, made-more, code-more, some-there, none-there}
-use Rattle.fmp_codegen.proofs.texts.add_body.Goals as goal
+use Rattle.fmp_codegen.proofs.texts.add_numbered.Goals as goal
 
 pub returns-then-is_some : goal.returns-then-is_some
 returns-then-is_some c = λ bodies are.
