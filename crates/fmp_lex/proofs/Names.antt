@@ -96,7 +96,7 @@ found_step name word x y true rest same later e =
     subst (λ z. word ≡ name z) it (sym equal)
 found_step name word x y false rest same later e = later e
 
-found_named : {X : Type 0} (name : X → List ℕ) (word : List ℕ) (x : X) (xs : List X) → find (λ y. bytes_eq (name y) word) xs ≡ Some x → word ≡ name x
+pub found_named : {X : Type 0} (name : X → List ℕ) (word : List ℕ) (x : X) (xs : List X) → find (λ y. bytes_eq (name y) word) xs ≡ Some x → word ≡ name x
 found_named name word x [] e = cc
 found_named name word x (y ∷ ys) e =
     found_step name word x y (bytes_eq (name y) word) (find (λ z. bytes_eq (name z) word) ys) refl (found_named name word x ys) e

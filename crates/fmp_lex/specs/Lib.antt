@@ -1,3 +1,4 @@
+pub mod Beginnings
 pub mod Cutting
 pub mod Faults
 pub mod Forms

@@ -7,13 +7,13 @@ ghost use Rattle.fmp_lex.specs.Scanning.{Saturated, IsRun, in_class};
 ghost use Rattle.fmp_lex.specs.declared.scanning.Class.TheVariants as class;
 ghost use Rattle.fmp_lex.specs.Cutting.{word_kind, hex_piece, long_symbol, short_symbol, start_of, Piece, IsPiece, number_piece, word_piece, symbol_piece, Cuts, EndsWithin, line_at};
 
-use crate::lengths::may_be_word;
+use crate::lengths::{api_of, constant_of, may_be_word, service_of};
 use crate::packed::{Packed, Shape, Tokens};
 use crate::place::Place;
 use crate::scanning::{Class, find_close, is_in, line_feeds, run_end, value_of};
 use crate::small::{Four, Three};
 use crate::token::{LexFault, Symbol, TextFault, Token, TokenList};
-use crate::words::{find_api, find_constant, find_keyword, find_service};
+use crate::words::find_keyword;
 use fmp_base::Name;
 use std::alloc::{AllocError, Global};
 
@@ -55,6 +55,7 @@ fn long_sign(b: u8, c: u8) -> Option<Symbol>
     }
 }
 
+#[inline(always)]
 fn short_sign(b: u8) -> Option<Symbol>
     ensures { result ≡ short_symbol b }
 {
@@ -143,13 +144,13 @@ fn find_word(bytes: &[u8]) -> Option<Shape>
     if !may_be_word(bytes) {
         return None;
     }
-    if let Some(constant) = find_constant(bytes) {
+    if let Some(constant) = constant_of(bytes) {
         return Some(Shape::Constant(constant));
     }
-    if let Some(api) = find_api(bytes) {
+    if let Some(api) = api_of(bytes) {
         return Some(Shape::Api(api));
     }
-    if let Some(service) = find_service(bytes) {
+    if let Some(service) = service_of(bytes) {
         return Some(Shape::Service(service));
     }
     match find_keyword(bytes) {

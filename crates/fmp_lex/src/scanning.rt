@@ -17,10 +17,10 @@ pub enum Class {
     SameLine,
 }
 
-/// For each byte a `1` if it is a letter, a digit or `_`.
-static WORD: [u8; 256] = *b"\
-    00000000000000000000000000000000\
-    00000000000000001111111111000000\
+/// For each byte a `1` if it is a letter, a digit or `_`, and a `2` if it is a space.
+static CLASSES: [u8; 256] = *b"\
+    00000000022002000000000000000000\
+    20000000000000001111111111000000\
     01111111111111111111111111100001\
     01111111111111111111111111100000\
     00000000000000000000000000000000\
@@ -34,10 +34,10 @@ pub(crate) fn is_in(class: Class, b: u8) -> bool
     ensures { result ≡ in_class class b }
 {
     match class {
-        Class::Word => WORD[b as usize] == b'1',
+        Class::Word => CLASSES[b as usize] == b'1',
         Class::Digit => b.is_ascii_digit(),
         Class::Hex => b.is_ascii_hexdigit(),
-        Class::Space => matches!(b, b' ' | b'\t' | b'\r' | b'\n'),
+        Class::Space => CLASSES[b as usize] == b'2',
         Class::SameLine => b != b'\n',
     }
 }
