@@ -2,4 +2,3 @@ pub mod Lanes
 pub mod Looks
 pub mod Marks
 pub mod Shown
-pub mod Waits

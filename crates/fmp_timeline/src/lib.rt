@@ -18,6 +18,7 @@ mod tracks;
 mod waits;
 
 pub use canvas::{Canvas, Piece};
+pub use fmp_why::deed_words;
 pub use font::{number_width, width};
 pub use lanes::{Presence, Showing, showing_of};
 pub use lengths::{Tenths, px};
@@ -32,4 +33,4 @@ pub use run::{Deeds, Note, Run};
 pub use spins::{Spin, Spins};
 pub use states::{Handling, Moment, Occupant, TaskShown, tasks_shown};
 pub use tracks::{Stay, Track};
-pub use waits::{Told, Waits, deed_words};
+pub use waits::{Told, Waits};

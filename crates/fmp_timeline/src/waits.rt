@@ -1,11 +1,8 @@
 //! What a trace tells of waits: since when each lasts, and who acted last on what it is for.
-ghost use Rattle.std.specs.Prelude.{◌≡◌};
-ghost use Rattle.fmp_timeline.specs.Waits as spec;
-
 use crate::states::TaskShown;
 use crate::tracks::Stay;
 use fmp_base::{Call, Caller, Er, Line, ObjectKind, System, WaitCause};
-use fmp_why::{Deed, History, Trail};
+use fmp_why::{Deed, History, deed_for, object_of};
 use std::alloc::{AllocError, Global};
 
 /// What is told of a wait as it was before an event, or at the end of the run.
@@ -32,43 +29,6 @@ pub struct Waits {
     ended: Vec<Vec<Ended>>,
     /// Who took each spin lock, in order of the events.
     takers: Vec<Vec<Deed>>,
-}
-
-/// The object that a wait is for.
-fn object_of(cause: WaitCause) -> Option<(ObjectKind, u8)>
-    ensures { result ≡ spec.object_of cause }
-{
-    match cause {
-        WaitCause::Sleep | WaitCause::Delay => None,
-        WaitCause::Semaphore(place) => Some((ObjectKind::Semaphore, place)),
-        WaitCause::Flag { flag, .. } => Some((ObjectKind::Flag, flag)),
-        WaitCause::Sending { queue, .. } => Some((ObjectKind::DataQueue, queue)),
-        WaitCause::Receiving(queue) => Some((ObjectKind::DataQueue, queue)),
-        WaitCause::Mailbox(place) => Some((ObjectKind::Mailbox, place)),
-    }
-}
-
-/// Which deed is told of the object of a wait: who set or sent to it last, if the wait is for a flag or for room, and
-/// otherwise who took it last.
-fn deed_for(cause: WaitCause, trail: Trail) -> Option<Deed>
-    ensures { result ≡ spec.deed_for cause trail }
-{
-    match cause {
-        WaitCause::Flag { .. } | WaitCause::Sending { .. } => trail.given,
-        _ => trail.taken,
-    }
-}
-
-/// The words before the deed that is told of a wait.
-pub fn deed_words(cause: WaitCause) -> &'static str
-    ensures { result.now ≡ spec.deed_words cause }
-{
-    match cause {
-        WaitCause::Semaphore(_) => "; last taken by ",
-        WaitCause::Flag { .. } => "; last set by ",
-        WaitCause::Sending { .. } => "; last sent by ",
-        _ => "; last received by ",
-    }
 }
 
 /// The place of the spin lock that a line says is taken.

@@ -1,5 +1,5 @@
 -- One step more on the way of tasks that wait for one another.
-use Rattle.std.proofs.Common.{◌≡◌, refl, sym, ap, ◌∙◌, ℕ, suc, zero, ◌+◌, ◌-◌, ◌<◌, ◌≤◌, List, [], ◌∷◌, Option, Some, None, Bool, true, false, ◌||◌, if◌then◌else◌, nat_eq, arith, length}
+use Rattle.std.proofs.Common.{◌≡◌, refl, ap, ◌∙◌, ℕ, suc, zero, ◌+◌, ◌-◌, ◌<◌, ◌≤◌, List, [], ◌∷◌, Option, Some, None, Bool, true, false, ◌||◌, if◌then◌else◌, nat_eq, arith, length}
 use Rattle.fmp_why.specs.declared.obstacles.Spin.{Spin}
 use Rattle.fmp_base.specs.declared.states.Processor.{Processor}
 use Rattle.fmp_why.specs.Cycles.{cycle_from, is_on_cycle, leads_to, next_of}

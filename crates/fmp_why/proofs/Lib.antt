@@ -1,3 +1,4 @@
 pub mod CycleLemmas
 pub mod HistoryLemmas
+pub mod ReportLemmas
 pub mod SpinLaws

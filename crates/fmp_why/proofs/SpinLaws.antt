@@ -1,9 +1,8 @@
 -- What a processor spins for, by the kernel's own answer to its next call; and where nothing is spun for.
 use Rattle.std.proofs.Common.{◌≡◌, refl, sym, ap, ◌∙◌, ℕ, ℤ, ◌+◌, List, [], ◌∷◌, Option, Some, None, Bool, true, false, ◌&&◌, ◌||◌, not, if◌then◌else◌, length}
-use Rattle.std.specs.Prelude.{cond, position}
+use Rattle.std.specs.Prelude.{cond}
 use Rattle.std.specs.List.{position_from}
 use Rattle.std.proofs.lemmas.Iterator.Adapters.{position_from-zero}
-use Rattle.fmp_base.specs.declared.calls.Answer.{Answer}
 use Rattle.fmp_base.specs.declared.calls.Call.{Call}
 use Rattle.fmp_base.specs.declared.calls.Call.TheVariants as call
 use Rattle.fmp_base.specs.declared.codes.Er.TheVariants as er

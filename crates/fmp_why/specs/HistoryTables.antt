@@ -8,11 +8,10 @@ use Rattle.fmp_base.specs.declared.states.Caller.{Caller}
 use Rattle.fmp_base.specs.declared.systems.SemaphoreConfig.{SemaphoreConfig}
 use Rattle.fmp_base.specs.Systems.{SystemTables}
 use Rattle.fmp_why.specs.declared.history.Act.{Act}
-use Rattle.fmp_why.specs.declared.history.Deed.{Deed}
 use Rattle.fmp_why.specs.declared.history.History as declared
 use Rattle.fmp_why.specs.declared.history.Part.{Part}
 use Rattle.fmp_why.specs.declared.history.Trail.{Trail}
-use Rattle.fmp_why.specs.Histories.{Told, act_of, after_deed, done_in, holder_of, part_in, part_told, trail_told, waits_from, waits_of}
+use Rattle.fmp_why.specs.Histories.{Told, act_of, after_deed, done_in, event_of, holder_of, part_in, part_told, trail_or, trail_told, waits_from, waits_of}
 
 pub record Tables : Type 0 where
   pub semaphores : List Trail
@@ -42,6 +41,14 @@ trails_in h kind.DataQueue = h.data_queues
 trails_in h kind.Mailbox = h.mailboxes
 trails_in h kind.SpinLock = h.spin_locks
 trails_in h _ = []
+
+-- the last event that task t had a part in
+abbrev pub since_in : Tables → (t : ℕ) → ℕ
+since_in h t = event_of (slice_get h.tasks t)
+
+-- what was done last to the object of a kind at a place
+abbrev pub trail_in : Tables → ObjectKind → (i : ℕ) → Trail
+trail_in h k i = trail_or (slice_get (trails_in h k) i)
 
 -- the tables are what a trace has told, for each object and each task that the system has
 pub record IsTold (sys : SystemTables) (told : Told) (h : Tables) : Type 0 where

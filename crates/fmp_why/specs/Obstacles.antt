@@ -1,6 +1,6 @@
 -- What tasks wait and spin for, and which task holds it.
-use Rattle.std.specs.Prelude.{ℕ, ◌≡◌, List, [], ◌∷◌, Option, Some, None, Bool, true, false, ◌&&◌, ◌||◌, if◌then◌else◌, nat_eq, position, slice_get}
-use Rattle.std.specs.Option.{option_and_then, option_map}
+use Rattle.std.specs.Prelude.{ℕ, List, [], ◌∷◌, Option, Some, None, Bool, true, false, ◌&&◌, if◌then◌else◌, nat_eq, position, slice_get}
+use Rattle.std.specs.Option.{option_and_then}
 use Rattle.fmp_base.specs.declared.calls.Answer.{Answer}
 use Rattle.fmp_base.specs.declared.calls.Answer.TheVariants as answer
 use Rattle.fmp_base.specs.declared.calls.Call.{Call}
@@ -12,7 +12,6 @@ use Rattle.fmp_base.specs.declared.states.Phase.{Phase}
 use Rattle.fmp_base.specs.declared.states.Phase.TheVariants as phase
 use Rattle.fmp_base.specs.declared.states.Processor.{Processor}
 use Rattle.fmp_base.specs.declared.states.TaskBlock.{TaskBlock}
-use Rattle.fmp_base.specs.declared.states.WaitCause.{WaitCause}
 use Rattle.fmp_base.specs.declared.states.WaitCause.TheVariants as cause
 use Rattle.fmp_base.specs.Outcomes.{numbered}
 use Rattle.fmp_base.specs.ProcessorCalls.{is_free, is_spin}

@@ -1,6 +1,8 @@
 //! Cycles of tasks that wait for one another.
-ghost use Rattle.std.specs.Prelude.{◌≡◌};
+ghost use Rattle.std.specs.Prelude.{◌≡◌, IfOk, Some, length};
 ghost use Rattle.fmp_why.specs.Cycles as spec;
+
+use std::alloc::{AllocError, Global};
 
 /// The task that a task waits for, if it waits for one.
 pub fn next_of(blockers: &[Option<u8>], task: u8) -> Option<u8>
@@ -40,4 +42,32 @@ pub fn first_on_cycle(blockers: &[Option<u8>]) -> Option<u8>
         }
     }
     None
+}
+
+/// The task that a task waits for, unless that is the first one of a cycle.
+fn next_but(blockers: &[Option<u8>], task: u8, first: u8) -> Option<u8>
+    ensures { result ≡ spec.next_but (spec.next_of blockers.now task) first }
+{
+    match next_of(blockers, task) {
+        Some(next) if next != first => Some(next),
+        _ => None,
+    }
+}
+
+/// The tasks of the cycle that a task is on, this one first: each waits for the next one, and the last one for the
+/// first. `AllocError` if memory runs out.
+pub fn cycle_tasks(alloc: Global, blockers: &[Option<u8>], first: u8) -> Result<Vec<u8>, AllocError>
+    ensures { IfOk result (λ tasks. tasks.items
+        ≡ spec.cycle_tasks blockers.now first (length blockers.now) (Some first)) }
+{
+    let mut tasks = Vec::new(alloc);
+    let mut at = Some(first);
+    for _link in 0..blockers.len() {
+        let Some(task) = at else {
+            return Ok(tasks);
+        };
+        tasks.push(task)?;
+        at = next_but(blockers, task, first);
+    }
+    Ok(tasks)
 }

@@ -354,7 +354,8 @@ impl History {
 
     /// The last event that a task had a part in: where it waits, that of its call.
     pub fn since(&self, task: usize) -> u32
-        ensures { (sys : SystemTables) (told : spec.Told) → rows.IsTold sys told (rows.tables self.now)
+        ensures row { result ≡ rows.since_in (rows.tables self.now) task }
+        ensures told { (sys : SystemTables) (told : spec.Told) → rows.IsTold sys told (rows.tables self.now)
             → result ≡ spec.event_of (spec.part_told sys told task) }
     {
         match self.tasks.get(task) {
@@ -379,7 +380,8 @@ impl History {
 
     /// What was done to an object of a kind that is waited or spun for.
     pub fn trail(&self, kind: ObjectKind, place: u8) -> Trail
-        ensures { (sys : SystemTables) (told : spec.Told) → rows.IsTold sys told (rows.tables self.now)
+        ensures row { result ≡ rows.trail_in (rows.tables self.now) kind place }
+        ensures told { (sys : SystemTables) (told : spec.Told) → rows.IsTold sys told (rows.tables self.now)
             → result ≡ spec.trail_or (spec.trail_told sys told kind place) }
     {
         match self.trails(kind).get(usize::from(place)) {
@@ -391,7 +393,9 @@ impl History {
     /// The task that holds each semaphore: the one that took it last and has not signalled it since. A semaphore that
     /// begins with no resource is held by none: it is waited for as a sign, and not as a lock.
     pub fn holders(&self, alloc: Global, sys: &System) -> Result<Vec<Option<u8>>, AllocError>
-        ensures { (told : spec.Told) → rows.IsTold (tables_of sys.now) told (rows.tables self.now)
+        ensures rows { IfOk result (λ holders. holders.items
+            ≡ rows.holders_in (tables_of sys.now).semaphores (rows.tables self.now).semaphores) }
+        ensures told { (told : spec.Told) → rows.IsTold (tables_of sys.now) told (rows.tables self.now)
             → IfOk result (λ holders. holders.items ≡ spec.holders_told (tables_of sys.now) told) }
     {
         holders_of(alloc, &sys.semaphores, &self.semaphores)

@@ -1,8 +1,17 @@
 //! What is said of the tasks that wait and spin.
-use crate::cycles::next_of;
-use crate::history::{Deed, History, Trail};
+ghost use Rattle.std.specs.Prelude.{◌≡◌, ◌++◌, IfOk, OnOk, decimal, length, zip};
+ghost use Rattle.std.specs.List.{list_all};
+ghost use Rattle.fmp_base.specs.Systems.{tables_of};
+ghost use Rattle.fmp_why.specs.declared.verdicts.Verdict.TheVariants.{Deadlock};
+ghost use Rattle.fmp_why.specs.Reports as spec;
+ghost use Rattle.fmp_why.specs.Reports.{report, sight_of};
+ghost use Rattle.fmp_why.specs.Waits.{object_of as for_object};
+
+use crate::cycles::cycle_tasks;
+use crate::history::{Deed, History};
 use crate::obstacles::{Spin, blocker_of, spin_of};
-use crate::verdicts::{Verdict, is_waiting, verdict_of};
+use crate::verdicts::{Verdict, is_spin, verdict_of};
+use crate::waits::{deed_for, deed_words, object_of};
 use fmp_base::{Lock, ObjectKind, Phase, Processor, System, TaskBlock, WaitCause};
 use fmp_named::{append_caller, append_object, append_task, append_wait};
 use itoa::Buffer;
@@ -23,282 +32,478 @@ pub struct Scene<'a> {
     pub over: &'a [bool],
 }
 
-fn append(text: &str, out: &mut Vec<u8>) -> Result<(), AllocError> {
-    out.extend_from_slice(text.as_bytes())
+fn append(text: &[u8], out: &mut Vec<u8>) -> Result<(), AllocError>
+    ensures { OnOk result (out.new.items ≡ out.old.items ++ text.now) }
+{
+    out.extend_from_slice(text)
 }
 
-fn append_event(words: &str, event: u32, out: &mut Vec<u8>) -> Result<(), AllocError> {
+fn append_event(words: &[u8], event: u32, out: &mut Vec<u8>) -> Result<(), AllocError>
+    ensures { OnOk result (out.new.items ≡ out.old.items ++ (words.now ++ decimal event)) }
+{
     append(words, out)?;
-    append(Buffer::new().format(event), out)
+    append(Buffer::new().format(event).as_bytes(), out)
 }
 
-/// What was done to an object last, in words that say what for.
+/// Appends what was done to an object last, between words.
 fn append_deed(
     sys: &System,
-    words: &str,
+    front: &[u8],
+    back: &[u8],
     deed: Option<Deed>,
     out: &mut Vec<u8>,
-) -> Result<(), AllocError> {
-    let Some(deed) = deed else {
-        return Ok(());
-    };
-    append(words, out)?;
-    append_caller(sys, deed.actor, out)?;
-    append_event(" at event ", deed.event, out)
-}
-
-/// The object that a wait is for, and in which words what was done to it last is told.
-fn object_of(cause: WaitCause) -> Option<(ObjectKind, u8)> {
-    match cause {
-        WaitCause::Sleep | WaitCause::Delay => None,
-        WaitCause::Semaphore(place) => Some((ObjectKind::Semaphore, place)),
-        WaitCause::Flag { flag, .. } => Some((ObjectKind::Flag, flag)),
-        WaitCause::Sending { queue, .. } => Some((ObjectKind::DataQueue, queue)),
-        WaitCause::Receiving(queue) => Some((ObjectKind::DataQueue, queue)),
-        WaitCause::Mailbox(place) => Some((ObjectKind::Mailbox, place)),
+) -> Result<(), AllocError>
+    ensures { OnOk result (out.new.items
+        ≡ out.old.items ++ spec.deed_text (tables_of sys.now) front.now back.now deed) }
+{
+    match deed {
+        Some(deed) => {
+            append(front, out)?;
+            append_caller(sys, deed.actor, out)?;
+            append_event(b" at event ", deed.event, out)?;
+            append(back, out)
+        }
+        None => Ok(()),
     }
 }
 
-/// Which deed is told of the object of a wait, and in which words.
-fn deed_for(cause: WaitCause, trail: Trail) -> (&'static str, Option<Deed>) {
-    match cause {
-        WaitCause::Semaphore(_) => ("; last taken by ", trail.taken),
-        WaitCause::Flag { .. } => ("; last set by ", trail.given),
-        WaitCause::Sending { .. } => ("; last sent by ", trail.given),
-        _ => ("; last received by ", trail.taken),
-    }
+/// Who took an object last, and at which event.
+fn taken_of(scene: &Scene<'_>, kind: ObjectKind, place: u8) -> Option<Deed>
+    ensures { result ≡ spec.taken_of (sight_of scene.now) kind place }
+{
+    scene.history.trail(kind, place).taken
 }
 
-/// Who acted on what a task waits for.
-fn append_wait_deed(
+/// Appends who took an object last, between words.
+#[tactic(auto, unfolding(crate::specs::Reports::taken_text))]
+fn append_taken(
     scene: &Scene<'_>,
-    cause: WaitCause,
+    front: &[u8],
+    back: &[u8],
+    kind: ObjectKind,
+    place: u8,
     out: &mut Vec<u8>,
-) -> Result<(), AllocError> {
-    let Some((kind, place)) = object_of(cause) else {
-        return Ok(());
-    };
-    let (words, deed) = deed_for(cause, scene.history.trail(kind, place));
-    append_deed(scene.sys, words, deed, out)
+) -> Result<(), AllocError>
+    ensures { OnOk result (out.new.items
+        ≡ out.old.items ++ spec.taken_text (sight_of scene.now) front.now back.now kind place) }
+{
+    append_deed(scene.sys, front, back, taken_of(scene, kind, place), out)
 }
 
-/// A task that waits: for what, until when, since which event, and who acted last on what it waits for.
+/// Appends who acted last on what a task waits for.
+fn append_acted(scene: &Scene<'_>, cause: WaitCause, out: &mut Vec<u8>) -> Result<(), AllocError>
+    ensures { OnOk result (out.new.items
+        ≡ out.old.items ++ spec.acted_text (sight_of scene.now) cause (for_object cause)) }
+{
+    match object_of(cause) {
+        Some((kind, place)) => {
+            let deed = deed_for(cause, scene.history.trail(kind, place));
+            append_deed(scene.sys, deed_words(cause).as_bytes(), b"", deed, out)
+        }
+        None => Ok(()),
+    }
+}
+
+/// Appends since which event a task stands where it does.
+fn append_since(scene: &Scene<'_>, task: usize, out: &mut Vec<u8>) -> Result<(), AllocError>
+    ensures { OnOk result (out.new.items ≡ out.old.items ++ spec.since_text (sight_of scene.now) task) }
+{
+    append_event(b", since event ", scene.history.since(task), out)
+}
+
+/// Appends for what a task waits, until when, since which event, and who acted last on what it waits for.
 fn append_waiting(
     scene: &Scene<'_>,
     task: usize,
     block: &TaskBlock,
+    cause: WaitCause,
     out: &mut Vec<u8>,
-) -> Result<(), AllocError> {
-    let Phase::Waiting(cause) = block.phase else {
-        return Ok(());
-    };
+) -> Result<(), AllocError>
+    ensures { OnOk result (out.new.items
+        ≡ out.old.items ++ spec.waiting_line (sight_of scene.now) task block.now cause) }
+{
     append_task(scene.sys, task, out)?;
-    append(" waits ", out)?;
+    append(b" waits ", out)?;
     append_wait(scene.sys, block, out)?;
-    append_event(", since event ", scene.history.since(task), out)?;
-    append_wait_deed(scene, cause, out)?;
-    append("\n", out)
+    append_since(scene, task, out)?;
+    append_acted(scene, cause, out)?;
+    append(b"\n", out)
 }
 
-/// A task that spins: for what, since which event, and who holds it.
-fn append_spinning(
+/// Appends what a task does, and for which object.
+#[tactic(auto, unfolding(crate::specs::Reports::doing_text))]
+fn append_doing(
+    scene: &Scene<'_>,
+    task: usize,
+    does: &[u8],
+    kind: ObjectKind,
+    place: u8,
+    out: &mut Vec<u8>,
+) -> Result<(), AllocError>
+    ensures { OnOk result (out.new.items
+        ≡ out.old.items ++ spec.doing_text (sight_of scene.now) task does.now kind place) }
+{
+    append_task(scene.sys, task, out)?;
+    append(does, out)?;
+    append_object(scene.sys, kind, place, out)
+}
+
+/// Appends for what a task spins, since which event, and who took it.
+fn append_spin(
     scene: &Scene<'_>,
     task: usize,
     spin: Spin,
     out: &mut Vec<u8>,
-) -> Result<(), AllocError> {
-    append_task(scene.sys, task, out)?;
-    append(" spins for ", out)?;
-    append_object(scene.sys, ObjectKind::SpinLock, spin.lock, out)?;
-    append_event(", since event ", scene.history.since(task), out)?;
-    let trail = scene.history.trail(ObjectKind::SpinLock, spin.lock);
-    append_deed(scene.sys, "; taken by ", trail.taken, out)?;
-    append("\n", out)
+) -> Result<(), AllocError>
+    ensures { OnOk result (out.new.items ≡ out.old.items ++ spec.spin_line (sight_of scene.now) task spin) }
+{
+    let kind = ObjectKind::SpinLock;
+    append_doing(scene, task, b" spins for ", kind, spin.lock, out)?;
+    append_since(scene, task, out)?;
+    append_taken(scene, b"; taken by ", b"", kind, spin.lock, out)?;
+    append(b"\n", out)
 }
 
-/// A task that is suspended and does not wait.
-fn append_suspended(scene: &Scene<'_>, task: usize, out: &mut Vec<u8>) -> Result<(), AllocError> {
-    append_task(scene.sys, task, out)?;
-    append(" is suspended\n", out)
-}
-
-/// What holds up the task at a place, if anything does.
-fn append_held_up(
+/// Appends for what a task spins, if it does.
+fn append_spinning(
     scene: &Scene<'_>,
-    task: u8,
+    task: usize,
+    spin: Option<Spin>,
+    out: &mut Vec<u8>,
+) -> Result<(), AllocError>
+    ensures { OnOk result (out.new.items
+        ≡ out.old.items ++ spec.spinning_line (sight_of scene.now) task spin) }
+{
+    match spin {
+        Some(spin) => append_spin(scene, task, spin, out),
+        None => Ok(()),
+    }
+}
+
+/// Appends that a task is suspended.
+fn append_suspended(scene: &Scene<'_>, task: usize, out: &mut Vec<u8>) -> Result<(), AllocError>
+    ensures { OnOk result (out.new.items ≡ out.old.items ++ spec.suspended_line (sight_of scene.now) task) }
+{
+    append_task(scene.sys, task, out)?;
+    append(b" is suspended\n", out)
+}
+
+/// Appends what holds up a task that does not wait, if anything does.
+fn append_ready(
+    scene: &Scene<'_>,
+    task: usize,
     block: &TaskBlock,
     out: &mut Vec<u8>,
-) -> Result<(), AllocError> {
-    let place = usize::from(task);
-    if is_waiting(block.phase) {
-        append_waiting(scene, place, block, out)
-    } else if block.suspended {
-        append_suspended(scene, place, out)
-    } else if let Some(spin) = spin_of(scene.processors, scene.spins, place) {
-        append_spinning(scene, place, spin, out)
+) -> Result<(), AllocError>
+    ensures { OnOk result (out.new.items ≡ out.old.items ++ spec.ready_line (sight_of scene.now) task block.now) }
+{
+    if block.suspended {
+        append_suspended(scene, task, out)
+    } else {
+        let spin = spin_of(scene.processors, scene.spins, task);
+        append_spinning(scene, task, spin, out)
+    }
+}
+
+/// Appends what holds up a task, if anything does.
+fn append_held_up(
+    scene: &Scene<'_>,
+    task: usize,
+    block: &TaskBlock,
+    out: &mut Vec<u8>,
+) -> Result<(), AllocError>
+    ensures { OnOk result (out.new.items
+        ≡ out.old.items ++ spec.held_up_line (sight_of scene.now) task block.now block.now.phase) }
+{
+    match block.phase {
+        Phase::Waiting(cause) => append_waiting(scene, task, block, cause, out),
+        Phase::Dormant | Phase::Ready => append_ready(scene, task, block, out),
+    }
+}
+
+/// Appends what holds up each task that is held up, a line each.
+fn append_all(scene: &Scene<'_>, out: &mut Vec<u8>) -> Result<(), AllocError>
+    ensures { OnOk result (out.new.items
+        ≡ out.old.items ++ spec.held_up_lines (sight_of scene.now) 0 scene.now.blocks.now) }
+{
+    for (task, block) in scene.blocks.iter().enumerate() {
+        append_held_up(scene, task, block, out)?;
+    }
+    Ok(())
+}
+
+/// Whether an actor spins for what the processor at a place holds.
+fn is_held_by(place: usize, spin: Option<Spin>) -> bool
+    ensures { result ≡ spec.is_held_by place spin }
+{
+    match spin {
+        Some(spin) => spin.holder == place,
+        None => false,
+    }
+}
+
+/// Whether some actor spins for what the processor at a place holds.
+fn is_spun_for(scene: &Scene<'_>, place: usize) -> bool
+    ensures { result ≡ spec.is_spun_for (sight_of scene.now) place }
+{
+    scene.spins.iter().any(|spin| is_held_by(place, *spin))
+}
+
+/// Appends the task that a processor runs, and the spin lock that it holds.
+fn append_holder(scene: &Scene<'_>, cpu: &Processor, out: &mut Vec<u8>) -> Result<(), AllocError>
+    ensures { OnOk result (out.new.items
+        ≡ out.old.items ++ spec.holder_line (sight_of scene.now) cpu.now.run cpu.now.lock) }
+{
+    match (cpu.run, cpu.lock) {
+        (Some(task), Lock::Spin(lock)) => {
+            append_task(scene.sys, usize::from(task), out)?;
+            append(b" holds ", out)?;
+            append_object(scene.sys, ObjectKind::SpinLock, lock, out)?;
+            append(b", and comes to no call within the bound\n", out)
+        }
+        _ => Ok(()),
+    }
+}
+
+/// Appends the task on the processor at a place, if it holds a spin lock for which others spin, and comes to no call.
+fn append_holder_at(
+    scene: &Scene<'_>,
+    place: usize,
+    cpu: &Processor,
+    over: bool,
+    out: &mut Vec<u8>,
+) -> Result<(), AllocError>
+    ensures { OnOk result (out.new.items
+        ≡ out.old.items ++ spec.holder_at (sight_of scene.now) place cpu.now over) }
+{
+    if over && is_spun_for(scene, place) {
+        append_holder(scene, cpu, out)
     } else {
         Ok(())
     }
 }
 
-/// What holds up each task that is held up, a line each.
-fn append_all(scene: &Scene<'_>, out: &mut Vec<u8>) -> Result<(), AllocError> {
-    for task in 0..scene.blocks.len().min(255) as u8 {
-        if let Some(block) = scene.blocks.get(usize::from(task)) {
-            append_held_up(scene, task, block, out)?;
-        }
+/// Appends each task that holds a spin lock for which others spin, and comes to no call.
+fn append_holders(scene: &Scene<'_>, out: &mut Vec<u8>) -> Result<(), AllocError>
+    ensures { OnOk result (out.new.items ≡ out.old.items
+        ++ spec.holder_lines (sight_of scene.now) 0 scene.now.processors.now scene.now.over.now) }
+{
+    let mut rest = scene.over;
+    for (place, cpu) in scene.processors.iter().enumerate() {
+        let [over, more @ ..] = rest else {
+            return Ok(());
+        };
+        append_holder_at(scene, place, cpu, *over, out)?;
+        rest = more;
     }
     Ok(())
 }
 
-/// The task that each task waits for.
-fn blockers(alloc: Global, scene: &Scene<'_>) -> Result<Vec<Option<u8>>, AllocError> {
-    let holders = scene.history.holders(alloc, scene.sys)?;
+/// The task that each task waits for, by the holders of the semaphores.
+fn blockers_by(
+    alloc: Global,
+    scene: &Scene<'_>,
+    holders: &[Option<u8>],
+) -> Result<Vec<Option<u8>>, AllocError>
+    ensures { IfOk result (λ blockers. blockers.items
+        ≡ spec.blockers_from (sight_of scene.now) holders.now 0 scene.now.blocks.now) }
+{
     let mut blockers = Vec::new(alloc);
-    for task in 0..scene.blocks.len().min(255) as u8 {
-        if let Some(block) = scene.blocks.get(usize::from(task)) {
-            let spin = spin_of(scene.processors, scene.spins, usize::from(task));
-            blockers.push(blocker_of(&holders, scene.processors, block, spin))?;
-        }
+    for (task, block) in scene.blocks.iter().enumerate() {
+        let spin = spin_of(scene.processors, scene.spins, task);
+        blockers.push(blocker_of(holders, scene.processors, block, spin))?;
     }
     Ok(blockers)
 }
 
-/// The object that a task of this block waits for, if it waits for one.
-fn waited_for(block: &TaskBlock) -> Option<(ObjectKind, u8)> {
-    match block.phase {
+/// The task that each task waits for.
+fn blockers(alloc: Global, scene: &Scene<'_>) -> Result<Vec<Option<u8>>, AllocError>
+    ensures { IfOk result (λ blockers. blockers.items ≡ spec.blockers (sight_of scene.now)) }
+{
+    let holders = scene.history.holders(alloc, scene.sys)?;
+    blockers_by(alloc, scene, &holders)
+}
+
+/// Appends what a task does, for which object, and who took that when.
+fn append_does(
+    scene: &Scene<'_>,
+    task: usize,
+    does: &[u8],
+    kind: ObjectKind,
+    place: u8,
+    out: &mut Vec<u8>,
+) -> Result<(), AllocError>
+    ensures { OnOk result (out.new.items
+        ≡ out.old.items ++ spec.link (sight_of scene.now) task does.now kind place) }
+{
+    append_doing(scene, task, does, kind, place, out)?;
+    append_taken(scene, b" (taken by ", b")", kind, place, out)
+}
+
+/// The object that a task in this phase waits for, if it waits for one.
+fn waited_for(phase: Phase) -> Option<(ObjectKind, u8)>
+    ensures { result ≡ spec.waited_for phase }
+{
+    match phase {
         Phase::Waiting(cause) => object_of(cause),
         Phase::Dormant | Phase::Ready => None,
     }
 }
 
-/// What a task on a cycle does, and the object for which it does so.
-fn link_of(scene: &Scene<'_>, task: u8) -> Option<(&'static str, ObjectKind, u8)> {
-    let block = scene.blocks.get(usize::from(task))?;
-    if let Some((kind, place)) = waited_for(block) {
-        return Some((" waits for ", kind, place));
-    }
-    let spin = spin_of(scene.processors, scene.spins, usize::from(task))?;
-    Some((" spins for ", ObjectKind::SpinLock, spin.lock))
-}
-
-/// A link of a cycle: a task, what it waits or spins for, and who took that when.
-fn append_link(scene: &Scene<'_>, task: u8, out: &mut Vec<u8>) -> Result<(), AllocError> {
-    let Some((words, kind, place)) = link_of(scene, task) else {
-        return Ok(());
-    };
-    append_task(scene.sys, usize::from(task), out)?;
-    append(words, out)?;
-    append_object(scene.sys, kind, place, out)?;
-    let taken = scene.history.trail(kind, place).taken;
-    append_deed(scene.sys, " (taken by ", taken, out)?;
-    append(")", out)
-}
-
-/// The cycle that a task is on: each link in one line, and what it is.
-fn append_cycle(
+/// Appends what a task waits for, or else what it spins for.
+fn append_link_by(
     scene: &Scene<'_>,
-    blockers: &[Option<u8>],
-    first: u8,
+    task: usize,
+    waited: Option<(ObjectKind, u8)>,
+    spun: Option<Spin>,
     out: &mut Vec<u8>,
-) -> Result<(), AllocError> {
-    let mut at = first;
-    for _link in 0..blockers.len() {
-        append_link(scene, at, out)?;
-        match next_of(blockers, at) {
-            Some(next) if next != first => at = next,
-            _ => break,
+) -> Result<(), AllocError>
+    ensures { OnOk result (out.new.items
+        ≡ out.old.items ++ spec.link_by (sight_of scene.now) task waited spun) }
+{
+    match (waited, spun) {
+        (Some((kind, place)), _) => append_does(scene, task, b" waits for ", kind, place, out),
+        (None, Some(spin)) => {
+            let kind = ObjectKind::SpinLock;
+            append_does(scene, task, b" spins for ", kind, spin.lock, out)
         }
-        append(", ", out)?;
+        (None, None) => Ok(()),
     }
-    append(": deadlock\n", out)
 }
 
-/// Whether some actor spins for what the processor at a place holds.
-fn is_spun_for(scene: &Scene<'_>, place: usize) -> bool {
-    for spin in scene.spins {
-        if let Some(spin) = *spin
-            && spin.holder == place
-        {
-            return true;
+/// Appends a task on a cycle: what it waits or spins for, and who took that when.
+fn append_link(scene: &Scene<'_>, task: usize, out: &mut Vec<u8>) -> Result<(), AllocError>
+    ensures { OnOk result (out.new.items ≡ out.old.items ++ spec.link_text (sight_of scene.now) task) }
+{
+    match scene.blocks.get(task) {
+        Some(block) => {
+            let spun = spin_of(scene.processors, scene.spins, task);
+            append_link_by(scene, task, waited_for(block.phase), spun, out)
         }
+        None => Ok(()),
     }
-    false
 }
 
-/// The task that a processor runs, and the spin lock that it holds for which others spin.
-fn append_holder(scene: &Scene<'_>, cpu: &Processor, out: &mut Vec<u8>) -> Result<(), AllocError> {
-    let (Some(task), Lock::Spin(lock)) = (cpu.run, cpu.lock) else {
-        return Ok(());
-    };
-    append_task(scene.sys, usize::from(task), out)?;
-    append(" holds ", out)?;
-    append_object(scene.sys, ObjectKind::SpinLock, lock, out)?;
-    append(", and comes to no call within the bound\n", out)
-}
-
-/// Each task that holds a spin lock for which others spin, and comes to no call.
-fn append_holders(scene: &Scene<'_>, out: &mut Vec<u8>) -> Result<(), AllocError> {
-    for (place, cpu) in scene.processors.iter().enumerate() {
-        if scene.over.get(place) == Some(&true) && is_spun_for(scene, place) {
-            append_holder(scene, cpu, out)?;
-        }
+/// Appends further tasks of a cycle, each behind a comma.
+fn append_more_links(scene: &Scene<'_>, tasks: &[u8], out: &mut Vec<u8>) -> Result<(), AllocError>
+    ensures { OnOk result (out.new.items ≡ out.old.items ++ spec.more_links (sight_of scene.now) tasks.now) }
+{
+    for task in tasks {
+        append(b", ", out)?;
+        append_link(scene, usize::from(*task), out)?;
     }
     Ok(())
 }
 
-/// Whether a processor does nothing: it runs nothing, or its actor spins.
-fn stands(cpu: &Processor, spin: Option<Spin>) -> bool {
-    spin.is_some() || (cpu.run.is_none() && cpu.handler.is_none())
+/// Appends the tasks of a cycle, with commas between.
+fn append_links(scene: &Scene<'_>, tasks: &[u8], out: &mut Vec<u8>) -> Result<(), AllocError>
+    ensures { OnOk result (out.new.items ≡ out.old.items ++ spec.links (sight_of scene.now) tasks.now) }
+{
+    match tasks {
+        [first, more @ ..] => {
+            append_link(scene, usize::from(*first), out)?;
+            append_more_links(scene, more, out)
+        }
+        [] => Ok(()),
+    }
 }
 
-/// Whether no processor goes on, no wait has a limit, and no cyclic handler is there.
-fn is_quiet(scene: &Scene<'_>) -> bool {
-    for (cpu, spin) in scene.processors.iter().zip(scene.spins) {
+/// Appends the cycle that a task is on, in one line, and what it is.
+fn append_deadlock(
+    alloc: Global,
+    scene: &Scene<'_>,
+    blockers: &[Option<u8>],
+    first: u8,
+    out: &mut Vec<u8>,
+) -> Result<(), AllocError>
+    ensures { OnOk result (out.new.items ≡ out.old.items
+        ++ spec.verdict_text (sight_of scene.now) blockers.now (Deadlock first)) }
+{
+    let tasks = cycle_tasks(alloc, blockers, first)?;
+    append_links(scene, &tasks, out)?;
+    append(b": deadlock\n", out)
+}
+
+/// Whether a processor does nothing: it runs nothing, or its actor spins.
+fn stands(cpu: &Processor, spin: Option<Spin>) -> bool
+    ensures { result ≡ spec.stands (cpu.now, spin) }
+{
+    is_spin(spin) || (cpu.run.is_none() && cpu.handler.is_none())
+}
+
+/// Whether every processor does nothing.
+fn all_stand(processors: &[Processor], spins: &[Option<Spin>]) -> bool
+    ensures { result ≡ list_all spec.stands (zip processors.now spins.now) }
+{
+    let mut rest = spins;
+    for cpu in processors {
+        let [spin, more @ ..] = rest else {
+            return true;
+        };
         if !stands(cpu, *spin) {
             return false;
         }
+        rest = more;
     }
-    for block in scene.blocks {
-        if block.deadline.is_some() {
-            return false;
-        }
-    }
-    scene.sys.cyclics.is_empty()
+    true
 }
 
-/// How the tasks stand, in a line.
+/// Whether no wait has a limit.
+fn has_no_limit(blocks: &[TaskBlock]) -> bool
+    ensures { result ≡ list_all spec.has_no_limit blocks.now }
+{
+    blocks.iter().all(|block| block.deadline.is_none())
+}
+
+/// Whether no processor goes on, no wait has a limit, and no cyclic handler is there.
+fn is_quiet(scene: &Scene<'_>) -> bool
+    ensures { result ≡ spec.is_quiet (sight_of scene.now) }
+{
+    all_stand(scene.processors, scene.spins)
+        && has_no_limit(scene.blocks)
+        && scene.sys.cyclics.is_empty()
+}
+
+/// What is left that may end the waits of tasks, where all is quiet.
+fn left_text(sys: &System) -> &'static str
+    ensures { result.now ≡ spec.left_text (length (tables_of sys.now).interrupts) }
+{
+    if sys.interrupts.is_empty() {
+        "nothing is left that ends these waits\n"
+    } else {
+        "nothing but an interrupt is left that may end these waits\n"
+    }
+}
+
+/// Appends how the tasks stand, in a line.
 fn append_verdict(
+    alloc: Global,
     scene: &Scene<'_>,
     blockers: &[Option<u8>],
+    verdict: Verdict,
     out: &mut Vec<u8>,
-) -> Result<(), AllocError> {
-    match verdict_of(scene.blocks, scene.spins, blockers) {
-        Verdict::Ended => append("every task has ended\n", out),
-        Verdict::Deadlock(task) => append_cycle(scene, blockers, task, out),
-        Verdict::HeldUp if !is_quiet(scene) => Ok(()),
-        Verdict::HeldUp if scene.sys.interrupts.is_empty() => append(
-            "nothing is left that ends these waits\n",
-            out,
-        ),
-        Verdict::HeldUp => append(
-            "nothing but an interrupt is left that may end these waits\n",
-            out,
-        ),
-        Verdict::Free => append("no task waits or spins\n", out),
+) -> Result<(), AllocError>
+    ensures { OnOk result (out.new.items
+        ≡ out.old.items ++ spec.verdict_text (sight_of scene.now) blockers.now verdict) }
+{
+    match verdict {
+        Verdict::Ended => append(b"every task has ended\n", out),
+        Verdict::Deadlock(task) => append_deadlock(alloc, scene, blockers, task, out),
+        Verdict::HeldUp if is_quiet(scene) => append(left_text(scene.sys).as_bytes(), out),
+        Verdict::HeldUp => Ok(()),
+        Verdict::Free => append(b"no task waits or spins\n", out),
     }
 }
 
 /// Appends what each task waits or spins for, since when, until when, and who took it last; and how the tasks stand:
 /// all have ended, they are in a deadlock, or nothing is left that ends their waits. What is waited and spun for is so
-/// in the state; since when, and who took it, are read from the trace.
-pub fn append_report(
-    alloc: Global,
-    scene: &Scene<'_>,
-    out: &mut Vec<u8>,
-) -> Result<(), AllocError> {
+/// in the state; since when, and who took it, are read from the trace. `AllocError` if memory runs out.
+pub fn append_report(alloc: Global, scene: &Scene<'_>, out: &mut Vec<u8>) -> Result<(), AllocError>
+    ensures { OnOk result (out.new.items ≡ out.old.items ++ report (sight_of scene.now)) }
+{
     append_all(scene, out)?;
     append_holders(scene, out)?;
     let blockers = blockers(alloc, scene)?;
-    append_verdict(scene, &blockers, out)
+    let verdict = verdict_of(scene.blocks, scene.spins, &blockers);
+    append_verdict(alloc, scene, &blockers, verdict, out)
 }

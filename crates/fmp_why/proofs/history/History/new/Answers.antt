@@ -1,6 +1,5 @@
 use Rattle.std.proofs.Common.{rules}
 use Rattle.fmp_base.specs.Systems.{tables_of}
-use Rattle.fmp_why.specs.HistoryTables.{tables}
 use Rattle.fmp_why.proofs.HistoryLemmas.{none-told}
 use Rattle.fmp_why.proofs.history.History.new.Goals as goal
 

@@ -1,6 +1,3 @@
-use Rattle.std.proofs.Common.{subst}
-use Rattle.fmp_why.specs.Histories.{told_with}
-use Rattle.fmp_why.specs.HistoryTables.{IsTold, Tables, tables}
 use Rattle.fmp_why.proofs.HistoryLemmas.{lines-told}
 use Rattle.fmp_why.proofs.history.History.note.Goals as goal
 

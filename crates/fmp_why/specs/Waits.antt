@@ -1,4 +1,4 @@
--- What is told of a wait.
+-- What a wait is for, and what is told of that.
 use Rattle.std.specs.Prelude.{ℕ, List, Option, None, Some, codes}
 use Rattle.fmp_base.specs.declared.catalogue.ObjectKind.{ObjectKind}
 use Rattle.fmp_base.specs.declared.catalogue.ObjectKind.TheVariants as kind
