@@ -1,8 +1,11 @@
--- Lists that are the same at each place are the same.
-use Rattle.std.proofs.Common.{◌≡◌, ℕ, zero, suc, ◌+◌, ◌<◌, ◌≤◌, List, [], ◌∷◌, length, refl, sym, subst, ap, ◌∙◌, arith, ⊎_elim}
+-- Lists that are the same at each place are the same; and texts of which one part more stands.
+use Rattle.std.proofs.Common.{◌≡◌, ℕ, zero, suc, ◌+◌, ◌-◌, ◌<◌, ◌≤◌, List, [], ◌∷◌, ◌++◌, append_assoc, length, refl, sym, subst, ap, ◌∙◌, arith, ⊎_elim}
 use Rattle.std.specs.Prelude.{slice_get}
 use Rattle.std.proofs.lemmas.Bool.{cases_lt}
 use Rattle.std.proofs.lemmas.Option.{slice_get_past}
+use Rattle.std.specs.Prelude.{codes}
+use Rattle.fmp_watch.specs.declared.comparing.Told.{Told}
+use Rattle.fmp_watch.specs.Compares.{beside, event_shown, events_shown, state_line, states_beside}
 
 -- what is so of all places below one, and of that one
 pub further : (P : ℕ → Type 0) (n : ℕ) → ((i : ℕ) → i < n → P i) → P n → (i : ℕ) → i < n + 1 → P i
@@ -27,3 +30,21 @@ same-throughout xs ys n short also h =
     ⊎_elim (λ (below : i < n). h i below)
     (λ (past : n ≤ i). slice_get_past xs i (omega (arith, short, past)) ∙ sym (slice_get_past ys i (omega (arith, also, past))))
     (cases_lt i n))
+
+-- one part of what is to be appended stands
+pub appended : (old new part rest all whole : List ℕ) → new ≡ old ++ part → all ≡ part ++ rest → old ++ all ≡ whole → new ++ rest ≡ whole
+appended old new part rest all whole one parts h =
+    ap (λ xs. xs ++ rest) one ∙ append_assoc old part rest ∙ ap (λ xs. old ++ xs) (sym parts) ∙ h
+
+one-less : (n i : ℕ) → i < n → n - i ≡ suc (n - (i + 1))
+one-less n i lt = omega (arith, lt)
+
+-- one event more
+pub events-more : (x : Told) (n i : ℕ) → i < n
+    → events_shown x i (n - i) ≡ event_shown (codes "  ") x i ++ events_shown x (i + 1) (n - (i + 1))
+events-more x n i lt = ap (λ (k : ℕ). events_shown x i k) (one-less n i lt)
+
+-- one task more
+pub beside-more : (a b : Told) (n t : ℕ) → t < n
+    → states_beside a b t (n - t) ≡ beside (state_line a t) (state_line b t) ++ states_beside a b (t + 1) (n - (t + 1))
+beside-more a b n t lt = ap (λ (k : ℕ). states_beside a b t k) (one-less n t lt)

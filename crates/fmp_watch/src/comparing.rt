@@ -1,7 +1,8 @@
 //! Two runs of an image side by side: the first event in which they differ.
 ghost use Rattle.std.specs.Bool.{Decides};
-ghost use Rattle.std.specs.Prelude.{◌≡◌, ◌+◌, ◌≤◌, ◌^◌, IfOk, length, option_map, slice_get};
+ghost use Rattle.std.specs.Prelude.{◌≡◌, ◌+◌, ◌-◌, ◌++◌, ◌≤◌, ◌^◌, IfOk, OnOk, length, option_map, slice_get};
 ghost use Rattle.fmp_frames.specs.Frames.{table_of};
+ghost use Rattle.fmp_watch.specs.Compares as spec;
 ghost use Rattle.fmp_watch.specs.Compares.{AreStates, IsFirstDifference, events_of};
 ghost use Rattle.fmp_frames.specs.Shown.{WasShown};
 
@@ -127,7 +128,10 @@ pub fn first_difference(a: &Told<'_>, b: &Told<'_>) -> Option<usize>
 }
 
 /// Appends lines, each behind a mark.
-fn append_marked(mark: &[u8], lines: &[u8], out: &mut Vec<u8>) -> Result<(), AllocError> {
+#[tactic(auto, unfolding(crate::specs::Compares::marked))]
+fn append_marked(mark: &[u8], lines: &[u8], out: &mut Vec<u8>) -> Result<(), AllocError>
+    ensures { OnOk result (out.new.items ≡ out.old.items ++ spec.marked mark.now lines.now) }
+{
     let mut begins = true;
     for byte in lines {
         if begins {
@@ -145,7 +149,9 @@ fn append_event(
     told: &Told<'_>,
     number: usize,
     out: &mut Vec<u8>,
-) -> Result<(), AllocError> {
+) -> Result<(), AllocError>
+    ensures { OnOk result (out.new.items ≡ out.old.items ++ spec.event_shown mark.now told.now number) }
+{
     match event_text(told, number) {
         Some(text) => append_marked(mark, text, out),
         None => append_marked(mark, b"the run has ended\n", out),
@@ -153,30 +159,74 @@ fn append_event(
 }
 
 /// The line of the state of the task at a place.
-fn state_line(alloc: Global, told: &Told<'_>, task: usize) -> Result<Vec<u8>, AllocError> {
+fn state_line(alloc: Global, told: &Told<'_>, task: usize) -> Result<Vec<u8>, AllocError>
+    ensures { IfOk result (λ line. line.items ≡ spec.state_line told.now task) }
+{
     let mut line = Vec::new(alloc);
-    if let Some(state) = told.states.get(task)
-        && let Some(block) = told.blocks.get(task)
-    {
-        append_state(told.sys, task, *state, block, &mut line)?;
+    match (told.states.get(task), told.blocks.get(task)) {
+        (Some(state), Some(block)) => append_state(told.sys, task, *state, block, &mut line)?,
+        _ => {}
     }
     Ok(line)
 }
 
-/// Appends the states of the tasks that are not the same at the ends of two runs.
+/// Appends two lines, each behind its mark, if they are not the same.
+fn append_beside(one: &[u8], other: &[u8], out: &mut Vec<u8>) -> Result<(), AllocError>
+    ensures { OnOk result (out.new.items ≡ out.old.items ++ spec.beside one.now other.now) }
+{
+    if one == other {
+        return Ok(());
+    }
+    append_marked(b"- ", one, out)?;
+    append_marked(b"+ ", other, out)
+}
+
+/// Appends the states of the task at a place at the ends of two runs, if they are not the same.
+fn append_task_beside(
+    alloc: Global,
+    a: &Told<'_>,
+    b: &Told<'_>,
+    task: usize,
+    out: &mut Vec<u8>,
+) -> Result<(), AllocError>
+    ensures { OnOk result (out.new.items
+        ≡ out.old.items ++ spec.beside (spec.state_line a.now task) (spec.state_line b.now task)) }
+{
+    let one = state_line(alloc, a, task)?;
+    let other = state_line(alloc, b, task)?;
+    append_beside(&one, &other, out)
+}
+
+/// How many tasks have states at the end of one of two runs.
+fn task_count(a: &Told<'_>, b: &Told<'_>) -> usize
+    ensures { result ≡ spec.task_count a.now b.now }
+{
+    a.states.len().max(b.states.len())
+}
+
+/// Appends the states of so many tasks that are not the same at the ends of two runs.
 fn append_states_beside(
     alloc: Global,
     a: &Told<'_>,
     b: &Told<'_>,
+    count: usize,
     out: &mut Vec<u8>,
-) -> Result<(), AllocError> {
-    for task in 0..a.states.len().max(b.states.len()) {
-        let one = state_line(alloc, a, task)?;
-        let other = state_line(alloc, b, task)?;
-        if one.as_slice() != other.as_slice() {
-            append_marked(b"- ", &one, out)?;
-            append_marked(b"+ ", &other, out)?;
-        }
+) -> Result<(), AllocError>
+    ensures { OnOk result (out.new.items ≡ out.old.items ++ spec.states_beside a.now b.now 0 count) }
+{
+    for task in 0..count {
+        append_task_beside(alloc, a, b, task, out)?;
+    }
+    Ok(())
+}
+
+/// Appends the events of a run in front of the one of this number.
+fn append_before(told: &Told<'_>, number: usize, out: &mut Vec<u8>) -> Result<(), AllocError>
+    ensures { OnOk result (out.new.items
+        ≡ out.old.items ++ spec.events_shown told.now (number - 5) (number - (number - 5))) }
+{
+    for before in number.saturating_sub(BEFORE)..number {
+        append_event(b"  ", told, before, out)?;
     }
     Ok(())
 }
@@ -187,10 +237,10 @@ fn append_events(
     b: &Told<'_>,
     number: usize,
     out: &mut Vec<u8>,
-) -> Result<(), AllocError> {
-    for before in number.saturating_sub(BEFORE)..number {
-        append_event(b"  ", a, before, out)?;
-    }
+) -> Result<(), AllocError>
+    ensures { OnOk result (out.new.items ≡ out.old.items ++ spec.events_beside a.now b.now number) }
+{
+    append_before(a, number, out)?;
     append_event(b"- ", a, number, out)?;
     append_event(b"+ ", b, number, out)
 }
@@ -203,7 +253,10 @@ pub fn append_difference(
     number: usize,
     ends: (&Told<'_>, &Told<'_>),
     out: &mut Vec<u8>,
-) -> Result<(), AllocError> {
+) -> Result<(), AllocError>
+    ensures { OnOk result (out.new.items ≡ out.old.items
+        ++ spec.difference runs.entry.0.now runs.entry.1.now number ends.entry.0.now ends.entry.1.now) }
+{
     append_events(runs.0, runs.1, number, out)?;
-    append_states_beside(alloc, ends.0, ends.1, out)
+    append_states_beside(alloc, ends.0, ends.1, task_count(ends.0, ends.1), out)
 }

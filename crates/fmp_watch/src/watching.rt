@@ -2,7 +2,7 @@
 ghost use Rattle.std.specs.Prelude.{◌≡◌, ◌+◌, ◌≤◌, ◌^◌, IfOk, OnOk, length};
 ghost use Rattle.fmp_frames.specs.Frames.{table_of};
 ghost use Rattle.fmp_frames.specs.Shown.{WasShown};
-ghost use Rattle.fmp_watch.specs.Watches.{IsSeen};
+ghost use Rattle.fmp_watch.specs.Watches.{IsSeen, LeadUp, after_first};
 
 use fmp_base::{Event, Processor, System, TaskBlock};
 use fmp_drive::{NextRun, next_runs};
@@ -137,10 +137,13 @@ pub fn why<B: Body>(
     report_of(alloc, sys, &watcher, &next)
 }
 
-/// How many of these events a kernel takes up to the event of this number, which is done then if there is one.
+/// How many of these events a kernel takes up to the event of this number: as few as there can be for that event to be
+/// done, or all of them if it is not done with them.
 pub fn count_up_to<B: Body>(kernel: &mut Kernel<B>, events: &[Event], number: u32) -> usize
     requires { kernel.old.taken + length events.now ≤ 2 ^ 20 }
-    ensures { result ≤ length events.now }
+    ensures few { result ≤ length events.now }
+    ensures count { LeadUp B.meaning kernel.old events.now number result }
+    ensures after { kernel.new ≡ after_first B.meaning kernel.old events.now result }
 {
     let mut place = 0;
     for e in events {

@@ -15,4 +15,4 @@ pub count_up_to-requires : goal.count_up_to-requires
 count_up_to-requires c = room _ _ c.in_ok-kernel.ensures.taken c.requires
 
 pub returns : goal.returns
-returns c = c.count_up_to.ensures
+returns c = c.count_up_to.ensures.few
