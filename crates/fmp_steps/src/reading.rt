@@ -69,6 +69,24 @@ fn first_line(text: &[u8]) -> (&[u8], &[u8])
     }
 }
 
+/// The digit that a number spells with a line feed behind it, if it is one from 1 to `most`. One comparison looks at both
+/// bytes.
+#[inline(always)]
+fn ended_digit(digit: u8, feed: u8, most: u8) -> Option<u8>
+    requires { most ≤ 9 }
+    ensures low { IfSome result (λ number. 1 ≤ number) }
+    ensures high { IfSome result (λ number. number ≤ most) }
+    ensures digit { IfSome result (λ number. digit ≡ 48 + number) }
+    ensures feed { IfSome result (λ number. feed ≡ 10) }
+{
+    let above = u16::from_le_bytes([digit, feed]).wrapping_sub(u16::from_le_bytes(*b"1\n"));
+    if above < u16::from(most) {
+        Some(above as u8 + 1)
+    } else {
+        None
+    }
+}
+
 /// The processor that the first line of a text lets run, if the line says no more and the number is from 1 to `most`,
 /// and the text behind the line.
 #[inline(always)]
@@ -82,12 +100,10 @@ fn short_run(text: &[u8], most: u8) -> Option<(u8, &[u8])>
         return None;
     };
     let word = u32::from_le_bytes([*r, *u, *n, *blank]);
-    let place = digit.wrapping_sub(b'1');
-    if word == u32::from_le_bytes(*b"run ") && *feed == b'\n' && place < most {
-        Some((place + 1, rest))
-    } else {
-        None
+    if word != u32::from_le_bytes(*b"run ") {
+        return None;
     }
+    Some((ended_digit(*digit, *feed, most)?, rest))
 }
 
 /// The interrupt that the first line of a text raises, if the line says no more and the number has one digit, and the
@@ -102,12 +118,10 @@ fn short_int(text: &[u8]) -> Option<(u8, &[u8])>
         return None;
     };
     let word = u32::from_le_bytes([*i, *n, *t, *blank]);
-    let place = digit.wrapping_sub(b'1');
-    if word == u32::from_le_bytes(*b"int ") && *feed == b'\n' && place < 9 {
-        Some((place + 1, rest))
-    } else {
-        None
+    if word != u32::from_le_bytes(*b"int ") {
+        return None;
     }
+    Some((ended_digit(*digit, *feed, 9)?, rest))
 }
 
 /// What stands behind the first line of a text, if the line is `tick`.

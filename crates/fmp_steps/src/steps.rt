@@ -13,24 +13,21 @@ use std::marker::Model;
 /// seen as the list of these events.
 #[derive(Drop)]
 pub struct Steps<'a> {
-    /// The text from the next line on.
+    /// The text from the next line on. What its lines mean does not depend on their numbers, since it has no fault.
     text: &'a [u8],
-    /// The number of the next line.
-    number: u32,
     processors: u8,
 }
 
 impl<'a> Model for Steps<'a> {
     ghost use Rattle.std.specs.Prelude.{◌≡◌, List, Ok};
     ghost use Rattle.fmp_base.specs.declared.events.Event.{Event};
-    ghost use Rattle.fmp_steps.specs.Steps.{events_of, lines_of, read_events};
+    ghost use Rattle.fmp_steps.specs.Steps.{read_events, steps_of};
 
     ghost Value = { List Event };
 
-    ghost view = { λ s. read_events (events_of s.processors s.number (lines_of s.text.now)) };
+    ghost view = { λ s. read_events (steps_of s.processors s.text.now) };
 
-    ghost invariant = { λ s. events_of s.processors s.number (lines_of s.text.now)
-        ≡ Ok (read_events (events_of s.processors s.number (lines_of s.text.now))) };
+    ghost invariant = { λ s. steps_of s.processors s.text.now ≡ Ok (read_events (steps_of s.processors s.text.now)) };
 }
 
 /// The text behind those lines of `short_event` that a text begins with, and the number of its first line. The first
@@ -72,30 +69,25 @@ impl<'a> Steps<'a> {
         ensures fault { IfErr result (λ fault. steps_of processors text.now ≡ Err fault) }
     {
         check(text, processors)?;
-        Ok(Steps {
-            text,
-            number: 1,
-            processors,
-        })
+        Ok(Steps { text, processors })
     }
 
     /// Takes the next event, if there is one.
+    #[tactic(auto, using(crate::proofs::EventsRead::left_whole, crate::proofs::EventsRead::first_and_left))]
     pub fn next_event(&mut self) -> Option<Event>
         ensures { MatchOption result (self.old ≡ []) (λ event. self.old ≡ event ∷ self.new) }
     {
-        if let Some((event, rest)) = short_event(self.text, self.number, self.processors) {
+        if let Some((event, rest)) = short_event(self.text, 1, self.processors) {
             self.text = rest;
-            self.number += 1;
             return Some(event);
         }
         if self.text.is_empty() {
             return None;
         }
-        let Ok((event, rest)) = long_event(self.text, self.number, self.processors) else {
+        let Ok((event, rest)) = long_event(self.text, 1, self.processors) else {
             return None;
         };
         self.text = rest;
-        self.number += 1;
         Some(event)
     }
 }
