@@ -69,7 +69,7 @@ fn first_line(text: &[u8]) -> (&[u8], &[u8])
     }
 }
 
-/// The digit that a number spells with a line feed behind it, if it is one from 1 to `most`. One comparison looks at both
+/// The number that a digit spells with a line feed behind it, if it is from 1 to `most`. One comparison looks at both
 /// bytes.
 #[inline(always)]
 fn ended_digit(digit: u8, feed: u8, most: u8) -> Option<u8>
