@@ -6,7 +6,7 @@ ghost use Rattle.fmp_base.specs.Runs.{task_state};
 ghost use Rattle.fmp_base.specs.Setups.{setup};
 ghost use Rattle.fmp_base.specs.States.{places_from};
 ghost use Rattle.fmp_base.specs.Systems.{tables_of};
-ghost use Rattle.fmp_base.specs.Texts.{states_text, whole_text};
+ghost use Rattle.fmp_base.specs.Texts.{lines_text, states_text, whole_text};
 ghost use Rattle.fmp_contexts.specs.Contexts.{Entered};
 ghost use Rattle.fmp_kernel.specs.KernelViews.{view_of_setup};
 ghost use Rattle.fmp_engine.specs.Outlets.{Given, GivenFront};
@@ -17,13 +17,10 @@ use crate::fault::Cut;
 use crate::outlet::{Outlet, Stopped};
 use fmp_base::{Body, Effect, System, TaskState};
 use fmp_kernel::Kernel;
-use fmp_trace::{Page, print, print_states};
+use fmp_trace::{PIECE, Page, print_states};
 use std::alloc::{AllocError, Global};
 
-/// A text of this many bytes is a piece that the outlet is given.
-const PIECE: usize = 65_536;
-
-/// Room for a piece, for the lines of one more event and for those of the states at the end.
+/// Room for what is left on a page, and for the lines of the states at the end.
 const PIECE_ROOM: usize = 393_216;
 
 /// The most tasks that a system has.
@@ -42,53 +39,69 @@ fn give_all<T: Outlet>(text: &mut Vec<u8>, outlet: &mut T) -> Result<(), Stopped
     given
 }
 
-/// Gives the outlet the text that was put together, if it is a piece. The text that is left is shorter than one.
-#[inline(always)]
-fn give_piece<T: Outlet>(text: &mut Vec<u8>, outlet: &mut T) -> Result<(), Stopped>
-    ensures ok { OnOk result (Given T.gave outlet.old outlet.new text.new.items text.old.items) }
-    ensures err { OnErr result (GivenFront T.stopped outlet.old outlet.new text.old.items) }
-    ensures short { vec_len text.new < PIECE }
-    ensures capacity { vec_capacity text.new ≡ vec_capacity text.old }
+/// Gives the outlet a page. Then nothing is left on it.
+fn give_page<T: Outlet>(page: &mut Page, outlet: &mut T) -> Result<(), Stopped>
+    ensures ok { OnOk result (Given T.gave outlet.old outlet.new [] page.old) }
+    ensures err { OnErr result (GivenFront T.stopped outlet.old outlet.new page.old) }
+    ensures left { page.new ≡ [] }
 {
-    if text.len() < PIECE {
-        return Ok(());
-    }
-    give_all(text, outlet)
+    let given = outlet.give(page.bytes());
+    page.clear();
+    given
 }
 
-/// Takes all events on a kernel: the text of their lines goes to the outlet, and what is no piece is left.
+/// Gives the outlet a page if it is full. The page that is left is not full.
+#[inline(always)]
+fn give_piece<T: Outlet>(page: &mut Page, outlet: &mut T) -> Result<(), Stopped>
+    ensures ok { OnOk result (Given T.gave outlet.old outlet.new page.new page.old) }
+    ensures err { OnErr result (GivenFront T.stopped outlet.old outlet.new page.old) }
+    ensures short { length page.new < PIECE }
+{
+    if page.len() < PIECE {
+        return Ok(());
+    }
+    give_page(page, outlet)
+}
+
+/// Takes all events on a kernel: their lines go to the outlet, page by page, and what fills no page is left on it.
 fn take<B: Body, E: Events, T: Outlet>(
     sys: &System,
     kernel: &mut Kernel<B>,
     events: &mut E,
-    text: &mut Vec<u8>,
+    page: &mut Page,
     outlet: &mut T,
 ) -> Result<(), Stopped>
     requires system { kernel.old.system ≡ tables_of sys.now }
     requires few { kernel.old.taken + length (E.left events.old) ≤ 2 ^ 20 }
-    requires short { vec_len text.old < PIECE }
-    requires room { PIECE_ROOM ≤ vec_capacity text.old }
+    requires short { length page.old < PIECE }
     ensures ok { OnOk result (HasGiven T.gave B.meaning kernel.old kernel.new (E.left events.old)
-        outlet.old outlet.new text.old.items text.new.items) }
+        outlet.old outlet.new page.old page.new) }
     ensures err { OnErr result (GivenFront T.stopped outlet.old outlet.new
-        (text.old.items ++ text_of_events B.meaning kernel.old (E.left events.old))) }
-    ensures short { OnOk result (vec_len text.new < PIECE + 1120) }
-    ensures room { vec_capacity text.old ≤ vec_capacity text.new }
+        (page.old ++ text_of_events B.meaning kernel.old (E.left events.old))) }
+    ensures short { OnOk result (length page.new < PIECE) }
 {
-    let mut page = Page::new();
     while let Some(event) = events.next_event() {
         match kernel.step(event) {
             Effect::Done => {
                 kernel.lines_are_few();
-                page.print(sys, kernel.done(), kernel.lines(), text);
-                give_piece(text, outlet)?;
+                page.print(sys, kernel.done(), kernel.lines());
+                give_piece(page, outlet)?;
             }
             Effect::Kept => {}
             Effect::Nothing => {}
         }
     }
-    page.finish(text);
     Ok(())
+}
+
+/// Prints the lines of setup on a page that is not full.
+#[inline(never)]
+fn print_setup<B: Body>(sys: &System, kernel: &Kernel<B>, page: &mut Page)
+    requires { length page.old < PIECE }
+    ensures { page.new ≡ page.old ++ lines_text (tables_of sys.now) 0 kernel.now.lines }
+{
+    kernel.lines_are_few();
+    page.print(sys, 0, kernel.lines());
 }
 
 /// Puts the states of all tasks, in order of number, into a list that has room for them.
@@ -114,7 +127,7 @@ fn give_states<B: Body, T: Outlet>(
 ) -> Result<(), Stopped>
     requires system { kernel.now.system ≡ tables_of sys.now }
     requires tasks { length sys.now.tasks.items ≤ TASKS_MAX }
-    requires short { vec_len text.old < PIECE + 1120 }
+    requires short { vec_len text.old < PIECE }
     requires room { PIECE_ROOM ≤ vec_capacity text.old }
     requires no_states { states.old.items ≡ [] }
     requires states_room { TASKS_MAX ≤ vec_capacity states.old }
@@ -132,6 +145,7 @@ fn give_states<B: Body, T: Outlet>(
 
 /// Gives the outlet the text of a run of a kernel after setup: its lines, those of the events that were done, and
 /// the states at the end.
+#[inline(always)]
 fn give_from_setup<B: Body, E: Events, T: Outlet>(
     sys: &System,
     kernel: &mut Kernel<B>,
@@ -157,12 +171,11 @@ fn give_from_setup<B: Body, E: Events, T: Outlet>(
         OnErr result (GivenFront T.stopped outlet.old outlet.new
         (whole_text (tables_of sys.now) (B.meaning body) n (E.left events.old))) }
 {
-    kernel.lines_are_few();
-    if print(sys, 0, kernel.lines(), text).is_err() {
-        unreachable!();
-    }
-    give_piece(text, outlet)?;
-    take(sys, kernel, events, text, outlet)?;
+    let mut page = Page::new();
+    print_setup(sys, kernel, &mut page);
+    give_piece(&mut page, outlet)?;
+    take(sys, kernel, events, &mut page, outlet)?;
+    page.finish(text);
     give_states(sys, kernel, text, states, outlet)
 }
 

@@ -5,10 +5,6 @@ use Rattle.std.specs.Prelude.{ℕ, ◌+◌, ◌*◌}
 abbrev pub lines_room : (lines : ℕ) → ℕ
 lines_room lines = 127 * lines + 96
 
--- room for what stands on a page, and for n lines
-abbrev pub page_room : (lines : ℕ) → ℕ
-page_room lines = 1024 + lines_room lines
-
 -- room for the lines of n states: each has at most 1024 bytes
 abbrev pub states_room : (states : ℕ) → ℕ
 states_room states = 1024 * states + 96

@@ -5,13 +5,13 @@ ghost use Rattle.std.specs.Fmt.{signed_decimal};
 ghost use Rattle.fmp_base.specs.Texts.{more_numbers_text, numbers_text, call_text, value_text, reply_text, answer_text};
 
 use crate::padded::{code_word, opening};
-use crate::texts::{LineBytes, ROOM, append_array, append_front, append_signed};
+use crate::texts::{append_array, append_front, append_signed};
 use fmp_base::{Call, Reply};
 
 /// A comma and a number.
 #[inline(always)]
-fn append_next_number(number: i32, line: &mut LineBytes, end: usize) -> usize
-    requires { end + 18 ≤ ROOM }
+fn append_next_number(number: i32, line: &mut [u8], end: usize) -> usize
+    requires { end + 18 ≤ length line.old }
     ensures text { take result line.new ≡ take end line.old ++ (codes "," ++ signed_decimal number) }
     ensures short { result ≤ end + 12 }
 {
@@ -20,8 +20,8 @@ fn append_next_number(number: i32, line: &mut LineBytes, end: usize) -> usize
 }
 
 /// Numbers, each with a comma in front.
-fn append_more_numbers(numbers: &[i32], line: &mut LineBytes, end: usize) -> usize
-    requires { end + 18 * length numbers.now ≤ ROOM }
+fn append_more_numbers(numbers: &[i32], line: &mut [u8], end: usize) -> usize
+    requires { end + 18 * length numbers.now ≤ length line.old }
     ensures text { take result line.new ≡ take end line.old ++ more_numbers_text numbers.now }
     ensures short { result ≤ end + 12 * length numbers.now }
 {
@@ -34,8 +34,8 @@ fn append_more_numbers(numbers: &[i32], line: &mut LineBytes, end: usize) -> usi
 
 /// Numbers, with commas between.
 #[inline(always)]
-fn append_numbers(numbers: &[i32], line: &mut LineBytes, end: usize) -> usize
-    requires { end + 18 * length numbers.now ≤ ROOM }
+fn append_numbers(numbers: &[i32], line: &mut [u8], end: usize) -> usize
+    requires { end + 18 * length numbers.now ≤ length line.old }
     ensures text { take result line.new ≡ take end line.old ++ numbers_text numbers.now }
     ensures short { result ≤ end + (12 * length numbers.now - 1) }
 {
@@ -86,8 +86,8 @@ fn single_argument(call: &Call) -> Option<i32>
 /// The arguments of a call, with commas between.
 #[tactic(auto, using(crate::proofs::Short::few_arguments))]
 #[inline(never)]
-fn append_arguments(call: &Call, line: &mut LineBytes, end: usize) -> usize
-    requires { end + 72 ≤ ROOM }
+fn append_arguments(call: &Call, line: &mut [u8], end: usize) -> usize
+    requires { end + 72 ≤ length line.old }
     ensures text { take result line.new ≡ take end line.old ++ numbers_text (arguments_of call.now) }
     ensures short { result ≤ end + 47 }
 {
@@ -96,8 +96,8 @@ fn append_arguments(call: &Call, line: &mut LineBytes, end: usize) -> usize
 
 /// The argument of a call that has one, or all arguments with commas between.
 #[inline(always)]
-fn append_argument(call: &Call, line: &mut LineBytes, end: usize) -> usize
-    requires { end + 72 ≤ ROOM }
+fn append_argument(call: &Call, line: &mut [u8], end: usize) -> usize
+    requires { end + 72 ≤ length line.old }
     ensures text { take result line.new ≡ take end line.old ++ numbers_text (arguments_of call.now) }
     ensures short { result ≤ end + 47 }
 {
@@ -109,8 +109,8 @@ fn append_argument(call: &Call, line: &mut LineBytes, end: usize) -> usize
 
 /// A blank, the name of a call, and its arguments between parentheses.
 #[inline(always)]
-pub fn append_call(call: &Call, line: &mut LineBytes, end: usize) -> usize
-    requires { end + 84 ≤ ROOM }
+pub fn append_call(call: &Call, line: &mut [u8], end: usize) -> usize
+    requires { end + 84 ≤ length line.old }
     ensures text { take result line.new ≡ take end line.old ++ (codes " " ++ call_text call.now) }
     ensures short { result ≤ end + 59 }
 {
@@ -121,8 +121,8 @@ pub fn append_call(call: &Call, line: &mut LineBytes, end: usize) -> usize
 }
 
 #[inline(always)]
-fn append_value(value: Option<i32>, line: &mut LineBytes, end: usize) -> usize
-    requires { end + 18 ≤ ROOM }
+fn append_value(value: Option<i32>, line: &mut [u8], end: usize) -> usize
+    requires { end + 18 ≤ length line.old }
     ensures text { take result line.new ≡ take end line.old ++ value_text value }
     ensures short { result ≤ end + 12 }
 {
@@ -137,8 +137,8 @@ fn append_value(value: Option<i32>, line: &mut LineBytes, end: usize) -> usize
 
 /// The name of the code, and the value if there is one.
 #[inline(always)]
-pub fn append_reply(reply: &Reply, line: &mut LineBytes, end: usize) -> usize
-    requires { end + 26 ≤ ROOM }
+pub fn append_reply(reply: &Reply, line: &mut [u8], end: usize) -> usize
+    requires { end + 26 ≤ length line.old }
     ensures text { take result line.new ≡ take end line.old ++ reply_text reply.now }
     ensures short { result ≤ end + 19 }
 {
@@ -149,8 +149,8 @@ pub fn append_reply(reply: &Reply, line: &mut LineBytes, end: usize) -> usize
 
 /// A reply, or `wait` where the caller waits.
 #[inline(always)]
-pub fn append_answer(reply: &Option<Reply>, line: &mut LineBytes, end: usize) -> usize
-    requires { end + 26 ≤ ROOM }
+pub fn append_answer(reply: &Option<Reply>, line: &mut [u8], end: usize) -> usize
+    requires { end + 26 ≤ length line.old }
     ensures text { take result line.new ≡ take end line.old ++ answer_text reply.now }
     ensures short { result ≤ end + 19 }
 {

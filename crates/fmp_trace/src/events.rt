@@ -1,5 +1,5 @@
 //! Steps texts, as they are written.
-ghost use Rattle.std.specs.Prelude.{◌≡◌, ◌≤◌, ◌+◌, ◌∷◌, [], ◌++◌, take, OnOk, OnErr};
+ghost use Rattle.std.specs.Prelude.{◌≡◌, ◌≤◌, ◌+◌, ◌∷◌, [], ◌++◌, length, take, OnOk, OnErr};
 ghost use Rattle.fmp_trace.specs.Fronts.{Begins};
 ghost use Rattle.fmp_steps.specs.Steps.{event_text, steps_text};
 ghost use Rattle.fmp_trace.specs.StepsLaws.{PrintedStepsReadBack};
@@ -8,8 +8,8 @@ use crate::texts::{LineBytes, ROOM, append_array, append_line, append_number};
 use fmp_base::Event;
 use std::alloc::AllocError;
 
-fn append_event(event: Event, line: &mut LineBytes, end: usize) -> usize
-    requires { end + 20 ≤ ROOM }
+fn append_event(event: Event, line: &mut [u8], end: usize) -> usize
+    requires { end + 20 ≤ length line.old }
     ensures text { take result line.new ≡ take end line.old ++ event_text event }
     ensures short { result ≤ end + 20 }
 {

@@ -15,5 +15,5 @@ mod texts;
 pub use events::{print_steps, printed_steps_read_back};
 pub use fmp_steps::{MOST_STEPS, Steps, StepsFault, read_steps};
 pub use lines::print;
-pub use page::Page;
+pub use page::{PIECE, Page};
 pub use states::{listed_states_are_states, print_states};

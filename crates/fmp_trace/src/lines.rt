@@ -20,18 +20,12 @@ const LONGEST: usize = 127;
 
 /// Putting a line together writes at most this far from its beginning: a short piece is copied with the bytes behind
 /// its end.
-pub const REACH: usize = 179;
+const REACH: usize = 179;
 
 /// The name of the task or handler that acts, behind its processor.
 #[inline(always)]
-fn append_actor(
-    sys: &System,
-    processor: u8,
-    caller: &Caller,
-    line: &mut LineBytes,
-    end: usize,
-) -> usize
-    requires { end + 50 ≤ ROOM }
+fn append_actor(sys: &System, processor: u8, caller: &Caller, line: &mut [u8], end: usize) -> usize
+    requires { end + 50 ≤ length line.old }
     ensures text { take result line.new ≡
         take end line.old ++ (processor_text processor ++ caller_name (tables_of sys.now) caller.now) }
     ensures short { result ≤ end + 37 }
@@ -42,8 +36,8 @@ fn append_actor(
 
 /// The name of a task, behind its processor.
 #[inline(always)]
-fn append_task(sys: &System, processor: u8, task: u8, line: &mut LineBytes, end: usize) -> usize
-    requires { end + 50 ≤ ROOM }
+fn append_task(sys: &System, processor: u8, task: u8, line: &mut [u8], end: usize) -> usize
+    requires { end + 50 ≤ length line.old }
     ensures text { take result line.new ≡
         take end line.old ++ (processor_text processor ++ task_name (tables_of sys.now) task) }
     ensures short { result ≤ end + 50 }
@@ -53,8 +47,8 @@ fn append_task(sys: &System, processor: u8, task: u8, line: &mut LineBytes, end:
 }
 
 #[inline(always)]
-fn append_tick(clock: u32, line: &mut LineBytes, end: usize) -> usize
-    requires { end + 22 ≤ ROOM }
+fn append_tick(clock: u32, line: &mut [u8], end: usize) -> usize
+    requires { end + 22 ≤ length line.old }
     ensures text { take result line.new ≡ take end line.old ++ (codes " tick " ++ decimal clock) }
     ensures short { result ≤ end + 22 }
 {
@@ -62,8 +56,8 @@ fn append_tick(clock: u32, line: &mut LineBytes, end: usize) -> usize
     append_number(clock, line, end)
 }
 
-fn append_interrupt(place: u8, line: &mut LineBytes, end: usize) -> usize
-    requires { end + 21 ≤ ROOM }
+fn append_interrupt(place: u8, line: &mut [u8], end: usize) -> usize
+    requires { end + 21 ≤ length line.old }
     ensures text { take result line.new ≡ take end line.old ++ (codes " int " ++ decimal (place + 1)) }
     ensures short { result ≤ end + 21 }
 {
@@ -78,10 +72,10 @@ fn append_request(
     processor: u8,
     caller: &Caller,
     call: &Call,
-    line: &mut LineBytes,
+    line: &mut [u8],
     end: usize,
 ) -> usize
-    requires { end + 135 ≤ ROOM }
+    requires { end + 135 ≤ length line.old }
     ensures text { take result line.new ≡
         take end line.old ++ (processor_text processor
         ++ (caller_name (tables_of sys.now) caller.now ++ (codes " " ++ call_text call.now))) }
@@ -99,10 +93,10 @@ fn append_called(
     caller: &Caller,
     call: &Call,
     reply: &Option<Reply>,
-    line: &mut LineBytes,
+    line: &mut [u8],
     end: usize,
 ) -> usize
-    requires { end + 162 ≤ ROOM }
+    requires { end + 162 ≤ length line.old }
     ensures text { take result line.new ≡
         take end line.old ++ (processor_text processor
         ++ (caller_name (tables_of sys.now) caller.now
@@ -114,14 +108,8 @@ fn append_called(
     append_answer(reply, line, end)
 }
 
-fn append_end(
-    sys: &System,
-    processor: u8,
-    caller: &Caller,
-    line: &mut LineBytes,
-    end: usize,
-) -> usize
-    requires { end + 54 ≤ ROOM }
+fn append_end(sys: &System, processor: u8, caller: &Caller, line: &mut [u8], end: usize) -> usize
+    requires { end + 54 ≤ length line.old }
     ensures text { take result line.new ≡
         take end line.old ++ (processor_text processor
         ++ (caller_name (tables_of sys.now) caller.now ++ codes " end")) }
@@ -147,10 +135,10 @@ fn append_fault(
     processor: u8,
     caller: &Caller,
     fault: Fault,
-    line: &mut LineBytes,
+    line: &mut [u8],
     end: usize,
 ) -> usize
-    requires { end + 56 ≤ ROOM }
+    requires { end + 56 ≤ length line.old }
     ensures text { take result line.new ≡
         take end line.old ++ (processor_text processor
         ++ (caller_name (tables_of sys.now) caller.now ++ (codes " " ++ fault_text fault))) }
@@ -167,10 +155,10 @@ fn append_release(
     processor: u8,
     task: u8,
     reply: &Reply,
-    line: &mut LineBytes,
+    line: &mut [u8],
     end: usize,
 ) -> usize
-    requires { end + 82 ≤ ROOM }
+    requires { end + 82 ≤ length line.old }
     ensures text { take result line.new ≡
         take end line.old ++ (processor_text processor
         ++ (task_name (tables_of sys.now) task ++ (codes " gets " ++ reply_text reply.now))) }
@@ -182,8 +170,8 @@ fn append_release(
 }
 
 #[inline(always)]
-fn append_start(sys: &System, processor: u8, task: u8, line: &mut LineBytes, end: usize) -> usize
-    requires { end + 57 ≤ ROOM }
+fn append_start(sys: &System, processor: u8, task: u8, line: &mut [u8], end: usize) -> usize
+    requires { end + 57 ≤ length line.old }
     ensures text { take result line.new ≡
         take end line.old ++ (processor_text processor ++ (task_name (tables_of sys.now) task ++ codes " starts")) }
     ensures short { result ≤ end + 57 }
@@ -192,14 +180,8 @@ fn append_start(sys: &System, processor: u8, task: u8, line: &mut LineBytes, end
     append_array(*b" starts", line, end)
 }
 
-fn append_pending(
-    sys: &System,
-    processor: u8,
-    cyclic: u8,
-    line: &mut LineBytes,
-    end: usize,
-) -> usize
-    requires { end + 54 ≤ ROOM }
+fn append_pending(sys: &System, processor: u8, cyclic: u8, line: &mut [u8], end: usize) -> usize
+    requires { end + 54 ≤ length line.old }
     ensures text { take result line.new ≡
         take end line.old ++ (processor_text processor
         ++ (codes "cyc " ++ name_text (cyclic_config (tables_of sys.now) cyclic).name)) }
@@ -210,14 +192,8 @@ fn append_pending(
     append_cyclic_name(sys, cyclic, line, end)
 }
 
-fn append_begin(
-    sys: &System,
-    processor: u8,
-    handler: Handler,
-    line: &mut LineBytes,
-    end: usize,
-) -> usize
-    requires { end + 56 ≤ ROOM }
+fn append_begin(sys: &System, processor: u8, handler: Handler, line: &mut [u8], end: usize) -> usize
+    requires { end + 56 ≤ length line.old }
     ensures text { take result line.new ≡
         take end line.old ++ (processor_text processor
         ++ (codes "begin " ++ handler_name (tables_of sys.now) handler)) }
@@ -233,10 +209,10 @@ fn append_dispatch(
     sys: &System,
     processor: u8,
     task: Option<u8>,
-    line: &mut LineBytes,
+    line: &mut [u8],
     end: usize,
 ) -> usize
-    requires { end + 52 ≤ ROOM }
+    requires { end + 52 ≤ length line.old }
     ensures text { take result line.new ≡
         take end line.old ++ (processor_text processor ++ (codes "> " ++ run_text (tables_of sys.now) task)) }
     ensures short { result ≤ end + 52 }
@@ -248,8 +224,8 @@ fn append_dispatch(
 
 /// A line without its number and its end.
 #[inline(always)]
-fn append_body(sys: &System, printed: &Line, line: &mut LineBytes, end: usize) -> usize
-    requires { end + 162 ≤ ROOM }
+fn append_body(sys: &System, printed: &Line, line: &mut [u8], end: usize) -> usize
+    requires { end + 162 ≤ length line.old }
     ensures text { take result line.new ≡ take end line.old ++ line_body (tables_of sys.now) printed.now }
     ensures short { result ≤ end + 116 }
 {
@@ -282,20 +258,35 @@ fn append_body(sys: &System, printed: &Line, line: &mut LineBytes, end: usize) -
 
 /// A line, with its number in front and a line feed behind.
 #[inline(always)]
-fn put_line(
-    sys: &System,
-    number: &Numeral,
-    printed: &Line,
-    line: &mut LineBytes,
-    end: usize,
-) -> usize
-    requires { end + REACH ≤ ROOM }
+fn put_line(sys: &System, number: &Numeral, printed: &Line, line: &mut [u8], end: usize) -> usize
+    requires { end + REACH ≤ length line.old }
     ensures text { take result line.new ≡ take end line.old ++ line_text (tables_of sys.now) number.now printed.now }
     ensures short { result ≤ end + LONGEST }
 {
     let end = number.append(line, end);
     let end = append_body(sys, printed, line, end);
     append_array(*b"\n", line, end)
+}
+
+/// Puts the lines of the event of this number together behind what ends at this place, and gives their end.
+#[inline(always)]
+pub fn put_event(
+    sys: &System,
+    number: &Numeral,
+    lines: &[Line],
+    bytes: &mut [u8],
+    end: usize,
+) -> usize
+    requires { end + 127 * length lines.now + REACH ≤ length bytes.old }
+    ensures text { take result bytes.new
+        ≡ take end bytes.old ++ lines_text (tables_of sys.now) number.now lines.now }
+    ensures short { result ≤ end + 127 * length lines.now }
+{
+    let mut end = end;
+    for line in lines {
+        end = put_line(sys, number, line, bytes, end);
+    }
+    end
 }
 
 /// Appends the lines so far to the text.
@@ -333,7 +324,7 @@ fn make_room(line: &LineBytes, end: usize, out: &mut Vec<u8>) -> Result<usize, A
 /// Puts the lines of the event of this number together behind what ends at this place, and gives their end. If there is
 /// no room for one more line, the lines so far are appended.
 #[inline(always)]
-pub fn put_lines(
+fn put_lines(
     sys: &System,
     number: &Numeral,
     lines: &[Line],

@@ -1,16 +1,16 @@
 //! The names of tasks and handlers.
-ghost use Rattle.std.specs.Prelude.{◌≡◌, ◌≤◌, ◌+◌, ◌++◌, take};
+ghost use Rattle.std.specs.Prelude.{◌≡◌, ◌≤◌, ◌+◌, ◌++◌, length, take};
 ghost use Rattle.fmp_base.specs.Names.{name_text};
 ghost use Rattle.fmp_base.specs.Systems.{tables_of, cyclic_config};
 ghost use Rattle.fmp_base.specs.Texts.{task_name, handler_name, caller_name, run_text};
 
-use crate::texts::{LineBytes, ROOM, append_array, append_name, append_number};
+use crate::texts::{append_array, append_name, append_number};
 use fmp_base::{Caller, Handler, System};
 
 /// The name of the task at this place, or nothing if there is none.
 #[inline(always)]
-pub fn append_name_at(sys: &System, task: usize, line: &mut LineBytes, end: usize) -> usize
-    requires { end + 31 ≤ ROOM }
+pub fn append_name_at(sys: &System, task: usize, line: &mut [u8], end: usize) -> usize
+    requires { end + 31 ≤ length line.old }
     ensures text { take result line.new ≡ take end line.old ++ task_name (tables_of sys.now) task }
     ensures short { result ≤ end + 31 }
 {
@@ -22,8 +22,8 @@ pub fn append_name_at(sys: &System, task: usize, line: &mut LineBytes, end: usiz
 
 /// Puts the name of a task behind the end of a line: where the line ends then.
 #[inline(always)]
-pub fn append_task_name(sys: &System, task: u8, line: &mut LineBytes, end: usize) -> usize
-    requires { end + 31 ≤ ROOM }
+pub fn append_task_name(sys: &System, task: u8, line: &mut [u8], end: usize) -> usize
+    requires { end + 31 ≤ length line.old }
     ensures text { take result line.new ≡ take end line.old ++ task_name (tables_of sys.now) task }
     ensures short { result ≤ end + 31 }
 {
@@ -31,8 +31,8 @@ pub fn append_task_name(sys: &System, task: u8, line: &mut LineBytes, end: usize
 }
 
 /// The name of the cyclic handler at this place, or nothing if there is none.
-pub fn append_cyclic_name(sys: &System, cyclic: u8, line: &mut LineBytes, end: usize) -> usize
-    requires { end + 31 ≤ ROOM }
+pub fn append_cyclic_name(sys: &System, cyclic: u8, line: &mut [u8], end: usize) -> usize
+    requires { end + 31 ≤ length line.old }
     ensures text { take result line.new ≡
         take end line.old ++ name_text (cyclic_config (tables_of sys.now) cyclic).name }
     ensures short { result ≤ end + 31 }
@@ -45,8 +45,8 @@ pub fn append_cyclic_name(sys: &System, cyclic: u8, line: &mut LineBytes, end: u
 
 /// The name of the task that runs, or `-`.
 #[inline(always)]
-pub fn append_run(sys: &System, task: Option<u8>, line: &mut LineBytes, end: usize) -> usize
-    requires { end + 31 ≤ ROOM }
+pub fn append_run(sys: &System, task: Option<u8>, line: &mut [u8], end: usize) -> usize
+    requires { end + 31 ≤ length line.old }
     ensures text { take result line.new ≡ take end line.old ++ run_text (tables_of sys.now) task }
     ensures short { result ≤ end + 31 }
 {
@@ -57,8 +57,8 @@ pub fn append_run(sys: &System, task: Option<u8>, line: &mut LineBytes, end: usi
 }
 
 /// A cyclic handler's name, or `#i` for the handler of interrupt i.
-pub fn append_handler(sys: &System, handler: Handler, line: &mut LineBytes, end: usize) -> usize
-    requires { end + 31 ≤ ROOM }
+pub fn append_handler(sys: &System, handler: Handler, line: &mut [u8], end: usize) -> usize
+    requires { end + 31 ≤ length line.old }
     ensures text { take result line.new ≡ take end line.old ++ handler_name (tables_of sys.now) handler }
     ensures short { result ≤ end + 31 }
 {
@@ -73,8 +73,8 @@ pub fn append_handler(sys: &System, handler: Handler, line: &mut LineBytes, end:
 
 /// Puts the name of a task or handler that acts behind the end of a line: where the line ends then.
 #[inline(always)]
-pub fn append_caller(sys: &System, caller: &Caller, line: &mut LineBytes, end: usize) -> usize
-    requires { end + 31 ≤ ROOM }
+pub fn append_caller(sys: &System, caller: &Caller, line: &mut [u8], end: usize) -> usize
+    requires { end + 31 ≤ length line.old }
     ensures text { take result line.new ≡ take end line.old ++ caller_name (tables_of sys.now) caller.now }
     ensures short { result ≤ end + 31 }
 {

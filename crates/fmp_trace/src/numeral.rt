@@ -1,7 +1,7 @@
 //! Numbers that are written many times.
 ghost use Rattle.std.specs.Prelude.{◌≡◌, ◌<◌, ◌≤◌, ◌^◌, ◌++◌, ◌+◌, ◌-◌, ℕ, decimal, get_or, length, take, false, true};
 
-use crate::texts::{LineBytes, ROOM, append_front};
+use crate::texts::append_front;
 use itoa::write_digits;
 use std::marker::Model;
 
@@ -106,8 +106,8 @@ impl Numeral {
 
     /// Puts the number into a line.
     #[inline(always)]
-    pub fn append(&self, line: &mut LineBytes, end: usize) -> usize
-        requires { end + 16 ≤ ROOM }
+    pub fn append(&self, line: &mut [u8], end: usize) -> usize
+        requires { end + 16 ≤ length line.old }
         ensures text { take result line.new ≡ take end line.old ++ decimal self.now }
         ensures place { result ≡ end + length (decimal self.now) }
         ensures short { result ≤ end + 10 }

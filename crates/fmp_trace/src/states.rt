@@ -28,14 +28,8 @@ fn name_of_word(word: StateWord) -> &'static [u8]
 }
 
 /// The name of the task at this place, and the word for its state.
-fn append_word(
-    sys: &System,
-    task: usize,
-    word: StateWord,
-    line: &mut LineBytes,
-    end: usize,
-) -> usize
-    requires { end + 49 ≤ ROOM }
+fn append_word(sys: &System, task: usize, word: StateWord, line: &mut [u8], end: usize) -> usize
+    requires { end + 49 ≤ length line.old }
     ensures text { take result line.new ≡
         take end line.old ++ (task_name (tables_of sys.now) task ++ (codes " " ++ word_text word)) }
     ensures short { result ≤ end + 49 }

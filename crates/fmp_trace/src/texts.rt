@@ -21,8 +21,8 @@ const SHORT: usize = 96;
 
 /// A text of any length.
 #[inline(always)]
-pub fn append(text: &[u8], line: &mut LineBytes, end: usize) -> usize
-    requires { end + length text.now ≤ ROOM }
+pub fn append(text: &[u8], line: &mut [u8], end: usize) -> usize
+    requires { end + length text.now ≤ length line.old }
     ensures text { take result line.new ≡ take end line.old ++ text.now }
     ensures place { result ≡ end + length text.now }
 {
@@ -33,8 +33,8 @@ pub fn append(text: &[u8], line: &mut LineBytes, end: usize) -> usize
 /// A text whose length is known at compile time. It is taken by value, so that no copy tests whether it lies in the
 /// line.
 #[inline(always)]
-pub fn append_array<const N: usize>(text: [u8; N], line: &mut LineBytes, end: usize) -> usize
-    requires { end + N ≤ ROOM }
+pub fn append_array<const N: usize>(text: [u8; N], line: &mut [u8], end: usize) -> usize
+    requires { end + N ≤ length line.old }
     ensures text { take result line.new ≡ take end line.old ++ text.entry }
     ensures place { result ≡ end + N }
 {
@@ -47,11 +47,11 @@ pub fn append_array<const N: usize>(text: [u8; N], line: &mut LineBytes, end: us
 pub fn append_front<const N: usize>(
     bytes: &[u8; N],
     count: usize,
-    line: &mut LineBytes,
+    line: &mut [u8],
     end: usize,
 ) -> usize
     requires count { count ≤ N }
-    requires room { end + N ≤ ROOM }
+    requires room { end + N ≤ length line.old }
     ensures text { take result line.new ≡ take end line.old ++ take count bytes.now }
     ensures place { result ≡ end + count }
 {
@@ -62,8 +62,8 @@ pub fn append_front<const N: usize>(
 
 /// A name of any length: its first 15 bytes and its last 16, so that two copies of known length suffice.
 #[inline(never)]
-fn append_long_name(name: &Name, line: &mut LineBytes, end: usize) -> usize
-    requires { end + 31 ≤ ROOM }
+fn append_long_name(name: &Name, line: &mut [u8], end: usize) -> usize
+    requires { end + 31 ≤ length line.old }
     ensures text { take result line.new ≡ take end line.old ++ name_text name.now }
     ensures short { result ≤ end + 31 }
 {
@@ -80,8 +80,8 @@ fn append_long_name(name: &Name, line: &mut LineBytes, end: usize) -> usize
 
 /// A name. Most have at most 16 bytes, and one copy suffices.
 #[inline(always)]
-pub fn append_name(name: &Name, line: &mut LineBytes, end: usize) -> usize
-    requires { end + 31 ≤ ROOM }
+pub fn append_name(name: &Name, line: &mut [u8], end: usize) -> usize
+    requires { end + 31 ≤ length line.old }
     ensures text { take result line.new ≡ take end line.old ++ name_text name.now }
     ensures short { result ≤ end + 31 }
 {
@@ -94,9 +94,9 @@ pub fn append_name(name: &Name, line: &mut LineBytes, end: usize) -> usize
 
 /// A number below 10 as its digit.
 #[inline(always)]
-fn append_digit(digit: u8, line: &mut LineBytes, end: usize) -> usize
+fn append_digit(digit: u8, line: &mut [u8], end: usize) -> usize
     requires digit { digit < 10 }
-    requires room { end + 1 ≤ ROOM }
+    requires room { end + 1 ≤ length line.old }
     ensures text { take result line.new ≡ take end line.old ++ (48 + digit) ∷ [] }
     ensures place { result ≡ end + 1 }
 {
@@ -105,10 +105,10 @@ fn append_digit(digit: u8, line: &mut LineBytes, end: usize) -> usize
 
 /// A number of three digits.
 #[tactic(auto, using(crate::proofs::Hundreds::decimal_hundreds))]
-fn append_hundreds(number: u32, line: &mut LineBytes, end: usize) -> usize
+fn append_hundreds(number: u32, line: &mut [u8], end: usize) -> usize
     requires least { 100 ≤ number }
     requires most { number < 1000 }
-    requires room { end + 16 ≤ ROOM }
+    requires room { end + 16 ≤ length line.old }
     ensures text { take result line.new ≡ take end line.old ++ decimal number }
     ensures place { result ≡ end + length (decimal number) }
 {
@@ -126,9 +126,9 @@ fn append_hundreds(number: u32, line: &mut LineBytes, end: usize) -> usize
 /// A number in decimal digits, of which there are several.
 #[tactic(auto, using(std::proofs::lemmas::Fmt::decimal_digit, std::proofs::lemmas::Fmt::decimal_step))]
 #[inline(never)]
-fn append_digits(number: u32, line: &mut LineBytes, end: usize) -> usize
+fn append_digits(number: u32, line: &mut [u8], end: usize) -> usize
     requires several { 10 ≤ number }
-    requires room { end + 16 ≤ ROOM }
+    requires room { end + 16 ≤ length line.old }
     ensures text { take result line.new ≡ take end line.old ++ decimal number }
     ensures place { result ≡ end + length (decimal number) }
 {
@@ -148,8 +148,8 @@ fn append_digits(number: u32, line: &mut LineBytes, end: usize) -> usize
 /// A number in decimal digits, at most ten.
 #[tactic(auto, using(std::proofs::lemmas::Fmt::decimal_digit, crate::proofs::Short::short_number))]
 #[inline(always)]
-pub fn append_number(number: u32, line: &mut LineBytes, end: usize) -> usize
-    requires { end + 16 ≤ ROOM }
+pub fn append_number(number: u32, line: &mut [u8], end: usize) -> usize
+    requires { end + 16 ≤ length line.old }
     ensures text { take result line.new ≡ take end line.old ++ decimal number }
     ensures place { result ≡ end + length (decimal number) }
     ensures short { result ≤ end + 10 }
@@ -162,8 +162,8 @@ pub fn append_number(number: u32, line: &mut LineBytes, end: usize) -> usize
 
 /// A number in decimal digits, with `-` in front if it is negative.
 #[inline(never)]
-fn append_any_signed(number: i32, line: &mut LineBytes, end: usize) -> usize
-    requires { end + 17 ≤ ROOM }
+fn append_any_signed(number: i32, line: &mut [u8], end: usize) -> usize
+    requires { end + 17 ≤ length line.old }
     ensures text { take result line.new ≡ take end line.old ++ signed_decimal number }
     ensures short { result ≤ end + 11 }
 {
@@ -177,8 +177,8 @@ fn append_any_signed(number: i32, line: &mut LineBytes, end: usize) -> usize
 /// A number in decimal digits, with `-` in front if it is negative. Most have one digit.
 #[tactic(auto, using(std::proofs::lemmas::Fmt::decimal_digit))]
 #[inline(always)]
-pub fn append_signed(number: i32, line: &mut LineBytes, end: usize) -> usize
-    requires { end + 17 ≤ ROOM }
+pub fn append_signed(number: i32, line: &mut [u8], end: usize) -> usize
+    requires { end + 17 ≤ length line.old }
     ensures text { take result line.new ≡ take end line.old ++ signed_decimal number }
     ensures short { result ≤ end + 11 }
 {
@@ -191,8 +191,8 @@ pub fn append_signed(number: i32, line: &mut LineBytes, end: usize) -> usize
 /// The number of the processor at this place, with the blanks around it.
 #[tactic(auto, using(std::proofs::lemmas::Fmt::decimal_digit, crate::proofs::Short::short_byte))]
 #[inline(always)]
-pub fn append_processor(place: u8, line: &mut LineBytes, end: usize) -> usize
-    requires { end + 19 ≤ ROOM }
+pub fn append_processor(place: u8, line: &mut [u8], end: usize) -> usize
+    requires { end + 19 ≤ length line.old }
     ensures text { take result line.new ≡ take end line.old ++ processor_text place }
     ensures short { result ≤ end + 6 }
 {

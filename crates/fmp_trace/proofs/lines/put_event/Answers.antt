@@ -1,0 +1,30 @@
+use Rattle.std.proofs.Common.{◌≡◌, ℕ, suc, List, ◌+◌, ◌++◌, ◌∙◌, ap, append_assoc, sym, arith, drop, get_or, take}
+use Rattle.std.proofs.Math.Seq.{drop-cons}
+use Rattle.fmp_base.specs.declared.events.Line.{Line}
+use Rattle.fmp_base.specs.declared.events.Line.TheVariants as line
+use Rattle.fmp_base.specs.Systems.{tables_of}
+use Rattle.fmp_base.specs.Texts.{line_text, lines_text}
+use Rattle.fmp_trace.proofs.lines.put_event.Goals as goal
+
+pub loop-line-preserved : goal.loop-line-preserved
+loop-line-preserved c =
+    let i = c.loop-line.invariant in
+    let sys = tables_of c.args.sys.now in
+    let number = c.args.number.now in
+    let k = c.loop-line.line-index in
+    let lines = c.args.lines.now in
+    let printed = get_or lines k (line.Tick 0) in
+    let piece = take c.loop-line.end c.loop-line.bytes in
+    let rest = lines_text sys number (drop (k + 1) lines) in
+    let one : suc k ≡ k + 1 = omega arith in
+    let next : lines_text sys number (drop k lines) ≡ line_text sys number printed ++ rest =
+    ap (λ (ls : List Line). lines_text sys number ls) (drop-cons lines k (line.Tick 0) (omega (arith, c.loop-line-test.true)))
+    ∙ ap (λ (j : ℕ). line_text sys number printed ++ lines_text sys number (drop j lines)) one in
+    record {
+      text =
+          ap (λ (xs : List ℕ). xs ++ rest) c.put_line-end.ensures.text
+          ∙ append_assoc piece (line_text sys number printed) rest
+          ∙ ap (λ (xs : List ℕ). piece ++ xs) (sym next)
+          ∙ i.text;
+      size = omega (arith, i.size, c.put_line-end.ensures.short);
+    }
