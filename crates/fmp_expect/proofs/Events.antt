@@ -1,14 +1,13 @@
 -- What is told of a run, event by event.
-use Rattle.std.proofs.Common.{◌≡◌, ◌∙◌, ℕ, ◌+◌, ◌<◌, ◌≤◌, List, [], ◌∷◌, length, drop, drop-cons, get_or, add-one, refl, ap, sym, subst, arith}
-use Rattle.fmp_base.specs.declared.events.Effect.{Effect}
+use Rattle.std.proofs.Common.{◌≡◌, ◌∙◌, ℕ, ◌+◌, ◌<◌, ◌≤◌, List, ◌∷◌, length, drop, drop-cons, get_or, add-one, refl, ap, sym, subst, arith}
 use Rattle.fmp_base.specs.declared.events.Effect.TheVariants as effect
 use Rattle.fmp_base.specs.declared.events.Event.{Event}
-use Rattle.fmp_base.specs.Meanings.{Meaning, World}
+use Rattle.fmp_base.specs.Meanings.{Meaning}
 use Rattle.fmp_base.specs.Runs.{run, run_on}
 use Rattle.fmp_base.specs.Steps.{Reaction, Nothing, Did, Kept, effect_of}
 use Rattle.fmp_kernel.specs.KernelViews.{KernelView, view_after, view_after_all}
 use Rattle.fmp_expect.specs.Meaning.{Told, with_lines}
-use Rattle.fmp_expect.specs.Runs.{reaction_of, rest_told, run_told, told_after, with_events}
+use Rattle.fmp_expect.specs.Runs.{reaction_of, rest_told, told_after, with_events}
 
 module _ {B C : Type 0} (meaning : B → Meaning C) where
   by_reaction : (k : KernelView B C) (es : List Event) (told : List Told) (x : Reaction C)

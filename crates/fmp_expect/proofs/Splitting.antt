@@ -1,5 +1,5 @@
 -- The lines of a text, and the words of a line.
-use Rattle.std.proofs.Common.{◌≡◌, ◌≢◌, ◌∙◌, ℕ, zero, suc, ◌+◌, ◌-◌, ◌<◌, ◌≤◌, List, [], ◌∷◌, ◌++◌, Option, Some, None, Bool, true, false, not, cond, nat_eq, nat_lt, length, take, drop, get_or, position, length-drop, refl, ap, sym, arith}
+use Rattle.std.proofs.Common.{◌≡◌, ◌∙◌, ℕ, suc, ◌+◌, ◌-◌, ◌≤◌, List, [], ◌∷◌, Option, Some, None, Bool, true, false, not, cond, nat_eq, nat_lt, length, take, drop, position, length-drop, refl, ap, sym, arith}
 use Rattle.std.specs.List.{before_first, filter, onto_first, position_or_len, slice_split}
 use Rattle.std.proofs.Math.Seq.{take-length}
 use Rattle.std.proofs.lemmas.Bool.{ltb-true, ltb-false}

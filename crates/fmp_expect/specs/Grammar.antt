@@ -8,7 +8,7 @@
 --     deed      = code | fault | "put(" value ")"
 --
 -- An actor is the name of a task or of a cyclic handler. A line without words says nothing.
-use Rattle.std.specs.Prelude.{ℕ, ◌≡◌, ◌+◌, ◌-◌, List, [], ◌∷◌, Option, Some, None, ◌++◌, Result, Ok, Err, Bool, true, false, if◌then◌else◌, codes, find, position, bytes_eq, option_map}
+use Rattle.std.specs.Prelude.{ℕ, ◌≡◌, ◌+◌, ◌-◌, List, [], ◌∷◌, length, Option, Some, None, ◌++◌, Result, Ok, Err, Bool, true, false, if◌then◌else◌, codes, find, position, bytes_eq, option_map, slice_get}
 use Rattle.fmp_base.specs.declared.bodies.Fault.{Fault}
 use Rattle.fmp_base.specs.declared.codes.Er.{Er}
 use Rattle.fmp_base.specs.declared.events.StateWord.{StateWord}
@@ -26,8 +26,9 @@ use Rattle.fmp_expect.specs.declared.expectation.Expected.{Expected}
 use Rattle.fmp_expect.specs.declared.expectation.Happening.{Happening}
 use Rattle.fmp_expect.specs.declared.fault.ExpectFault.{ExpectFault}
 use Rattle.fmp_expect.specs.declared.fault.ExpectFault.TheVariants as fault
+use Rattle.fmp_expect.specs.declared.fault.Expects.{Expects}
+use Rattle.fmp_expect.specs.declared.fault.Expects.TheVariants as expects
 use Rattle.fmp_expect.specs.declared.fault.Flaw.{Flaw}
-use Rattle.fmp_expect.specs.declared.fault.Flaw.TheVariants as flaw
 use Rattle.fmp_expect.specs.declared.named.TheConstants.{CODES, FAULTS, STATES}
 use Rattle.fmp_expect.specs.Words.{before_comment, lines_of, number_of, put_value, words_of}
 
@@ -44,20 +45,29 @@ abbrev pub and_then : {A B : Type 0} → Result A Flaw → (A → Result B Flaw)
 and_then (Ok x) f = f x
 and_then (Err e) f = Err e
 
--- a value that was found, or a flaw
-abbrev pub found_or : {A : Type 0} → Flaw → List (List ℕ) → Option A → Result (Read A) Flaw
-found_or e ws None = Err e
-found_or e ws (Some x) = read x ws
+-- this is expected in place of the first of these words, or of the end of the line
+abbrev pub flaw_at : Expects → List (List ℕ) → Flaw
+flaw_at e ws = record { expects = e; left = length ws }
+
+-- the word of a line at which a flaw stands, if it is not at the end of the line
+abbrev pub faulty_word : (line : List ℕ) → Flaw → Option (List ℕ)
+faulty_word line f =
+    let ws = words_of (before_comment line) in slice_get ws (length ws - f.left)
+
+-- a value that was found in the first of words, with those behind it; or a flaw
+abbrev pub found_or : {A : Type 0} → Expects → (words behind : List (List ℕ)) → Option A → Result (Read A) Flaw
+found_or e ws behind None = Err (flaw_at e ws)
+found_or e ws behind (Some x) = read x behind
 
 -- the words behind the first, if the first is this word
-abbrev pub behind_word : List ℕ → List (List ℕ) → Result (List (List ℕ)) Flaw
-behind_word word [] = Err flaw.Sentence
-behind_word word (w ∷ ws) = if bytes_eq w word then Ok ws else Err flaw.Sentence
+abbrev pub behind_word : Expects → List ℕ → List (List ℕ) → Result (List (List ℕ)) Flaw
+behind_word e word [] = Err (flaw_at e [])
+behind_word e word (w ∷ ws) = if bytes_eq w word then Ok ws else Err (flaw_at e (w ∷ ws))
 
 -- an expectation with no words behind it
-abbrev pub whole : Expectation → List (List ℕ) → Result Expectation Flaw
-whole e [] = Ok e
-whole e (w ∷ ws) = Err flaw.Sentence
+abbrev pub whole : Expects → Expectation → List (List ℕ) → Result Expectation Flaw
+whole e x [] = Ok x
+whole e x (w ∷ ws) = Err (flaw_at e (w ∷ ws))
 
 -- the one, or else the other
 abbrev pub or_else : {A : Type 0} → Option A → Option A → Option A
@@ -92,24 +102,24 @@ actor_named sys w =
     or_else (option_map (λ t. actor.Task t) (task_named sys w)) (option_map (λ c. actor.Cyclic c) (cyclic_named sys w))
 
 abbrev pub deed_of : List (List ℕ) → Result (Read Deed) Flaw
-deed_of [] = Err flaw.Deed
-deed_of (w ∷ ws) = found_or flaw.Deed ws (deed_named w)
+deed_of [] = Err (flaw_at expects.Deed [])
+deed_of (w ∷ ws) = found_or expects.Deed (w ∷ ws) ws (deed_named w)
 
 abbrev pub actor_of : SystemTables → List (List ℕ) → Result (Read Actor) Flaw
-actor_of sys [] = Err flaw.Name
-actor_of sys (w ∷ ws) = found_or flaw.Name ws (actor_named sys w)
+actor_of sys [] = Err (flaw_at expects.Actor [])
+actor_of sys (w ∷ ws) = found_or expects.Actor (w ∷ ws) ws (actor_named sys w)
 
 abbrev pub task_of : SystemTables → List (List ℕ) → Result (Read ℕ) Flaw
-task_of sys [] = Err flaw.Name
-task_of sys (w ∷ ws) = found_or flaw.Name ws (task_named sys w)
+task_of sys [] = Err (flaw_at expects.Task [])
+task_of sys (w ∷ ws) = found_or expects.Task (w ∷ ws) ws (task_named sys w)
 
 abbrev pub state_of : List (List ℕ) → Result (Read StateWord) Flaw
-state_of [] = Err flaw.State
-state_of (w ∷ ws) = found_or flaw.State ws (state_named w)
+state_of [] = Err (flaw_at expects.State [])
+state_of (w ∷ ws) = found_or expects.State (w ∷ ws) ws (state_named w)
 
-abbrev pub number_in : (low high : ℕ) → List (List ℕ) → Result (Read ℕ) Flaw
-number_in low high [] = Err flaw.Number
-number_in low high (w ∷ ws) = found_or flaw.Number ws (number_of low high w)
+abbrev pub number_in : Expects → (low high : ℕ) → List (List ℕ) → Result (Read ℕ) Flaw
+number_in e low high [] = Err (flaw_at e [])
+number_in e low high (w ∷ ws) = found_or e (w ∷ ws) ws (number_of low high w)
 
 abbrev pub somebody : Read Actor → Result (Read (Option Actor)) Flaw
 somebody r = read (Some r.value) r.rest
@@ -124,41 +134,54 @@ abbrev pub happening_of : SystemTables → List (List ℕ) → Result (Read Happ
 happening_of sys ws =
     and_then (deed_of ws) (λ d. and_then (by_of sys d.rest) (λ a. read (record { deed = d.value; by = a.value }) a.rest))
 
+-- the line ends behind a deed, or `by` says whose it is if nothing does yet
+abbrev pub end_behind : Option Actor → Expects
+end_behind None = expects.EndOrBy
+end_behind (Some who) = expects.End
+
+-- `before` stands behind a deed, or `by`
+abbrev pub before_behind : Option Actor → Expects
+before_behind None = expects.BeforeOrBy
+before_behind (Some who) = expects.Before
+
 -- `never` was read
 abbrev pub never_of : SystemTables → List (List ℕ) → Result Expectation Flaw
-never_of sys ws = and_then (happening_of sys ws) (λ h. whole (expectation.Never h.value) h.rest)
+never_of sys ws = and_then (happening_of sys ws) (λ h. whole (end_behind h.value.by) (expectation.Never h.value) h.rest)
 
 -- nothing was read
 abbrev pub before_of : SystemTables → List (List ℕ) → Result Expectation Flaw
 before_of sys ws =
     and_then (happening_of sys ws) (λ a.
-    and_then (behind_word (codes "before") a.rest) (λ rest.
-    and_then (happening_of sys rest) (λ b. whole (expectation.Before a.value b.value) b.rest)))
+    and_then (behind_word (before_behind a.value.by) (codes "before") a.rest) (λ rest.
+    and_then (happening_of sys rest) (λ b.
+    whole (end_behind b.value.by) (expectation.Before a.value b.value) b.rest)))
 
 -- `ticks` is to come
 abbrev pub interrupt_of : List (List ℕ) → Result (Read ℕ) Flaw
 interrupt_of ws =
-    and_then (behind_word (codes "ticks") ws) (λ rest.
-    and_then (behind_word (codes "of") rest) (λ rest.
-    and_then (behind_word (codes "int") rest) (λ rest. number_in 1 32 rest)))
+    and_then (behind_word expects.Ticks (codes "ticks") ws) (λ rest.
+    and_then (behind_word expects.Of (codes "of") rest) (λ rest.
+    and_then (behind_word expects.Int (codes "int") rest) (λ rest. number_in expects.Interrupt 1 32 rest)))
 
 -- `runs` was read
 abbrev pub within_of : Actor → List (List ℕ) → Result Expectation Flaw
 within_of who ws =
-    and_then (behind_word (codes "within") ws) (λ rest.
-    and_then (number_in 0 2147483647 rest) (λ n.
-    and_then (interrupt_of n.rest) (λ i. whole (expectation.Within who n.value (i.value - 1)) i.rest)))
+    and_then (behind_word expects.Within (codes "within") ws) (λ rest.
+    and_then (number_in expects.Count 0 2147483647 rest) (λ n.
+    and_then (interrupt_of n.rest) (λ i.
+    whole expects.End (expectation.Within who n.value (i.value - 1)) i.rest)))
 
 -- an actor is to come, and `runs` behind it
 abbrev pub runs_of : SystemTables → List (List ℕ) → Result Expectation Flaw
 runs_of sys ws =
     and_then (actor_of sys ws) (λ who.
-    and_then (behind_word (codes "runs") who.rest) (λ rest. within_of who.value rest))
+    and_then (behind_word expects.Runs (codes "runs") who.rest) (λ rest. within_of who.value rest))
 
 -- `end` was read
 abbrev pub end_of : SystemTables → List (List ℕ) → Result Expectation Flaw
 end_of sys ws =
-    and_then (state_of ws) (λ s. and_then (task_of sys s.rest) (λ t. whole (expectation.End s.value t.value) t.rest))
+    and_then (state_of ws) (λ s.
+    and_then (task_of sys s.rest) (λ t. whole expects.End (expectation.End s.value t.value) t.rest))
 
 -- whether the first of these words is this one
 abbrev pub begins : List ℕ → List (List ℕ) → Bool
@@ -169,13 +192,32 @@ abbrev pub behind_first : List (List ℕ) → List (List ℕ)
 behind_first [] = []
 behind_first (w ∷ ws) = ws
 
+abbrev pub is_found : {A : Type 0} → Option A → Bool
+is_found None = false
+is_found (Some x) = true
+
+-- whether the first of these words is a deed, and whether it is an actor
+abbrev pub begins_deed : List (List ℕ) → Bool
+begins_deed [] = false
+begins_deed (w ∷ ws) = is_found (deed_named w)
+
+abbrev pub begins_actor : SystemTables → List (List ℕ) → Bool
+begins_actor sys [] = false
+begins_actor sys (w ∷ ws) = is_found (actor_named sys w)
+
+-- these words begin no sentence: behind an actor `runs` is to come
+abbrev pub no_sentence : SystemTables → List (List ℕ) → Flaw
+no_sentence sys ws =
+    if begins_actor sys ws then flaw_at expects.Runs (behind_first ws) else flaw_at expects.Sentence ws
+
 -- the expectation of the words of a line. A second word `runs` decides, so that each name may stand before it
 abbrev pub sentence_of : SystemTables → List (List ℕ) → Result Expectation Flaw
 sentence_of sys ws =
     if begins (codes "runs") (behind_first ws) then runs_of sys ws
     else if begins (codes "never") ws then never_of sys (behind_first ws)
     else if begins (codes "end") ws then end_of sys (behind_first ws)
-    else before_of sys ws
+    else if begins_deed ws then before_of sys ws
+    else Err (no_sentence sys ws)
 
 abbrev pub said_by : SystemTables → List (List ℕ) → Option (Result Expectation Flaw)
 said_by sys [] = None

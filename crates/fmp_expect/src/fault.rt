@@ -1,24 +1,67 @@
 //! What can be wrong with a text of expectations.
 use thiserror::Error;
 
+/// What may stand at a place of a line.
+#[derive(Clone, Copy, Debug, PartialEq, Eq, Error)]
+pub enum Expects {
+    /// The first word of a sentence.
+    #[error("a sentence: 'never DEED', 'DEED before DEED', 'TASK runs within N ticks of int I' or 'end STATE TASK'")]
+    Sentence,
+    /// A deed.
+    #[error("a deed: a code as E_QOVR, a value as put(7), or a fault as F_IDX")]
+    Deed,
+    /// The name of a task or of a cyclic handler.
+    #[error("the name of a task or a cyclic handler")]
+    Actor,
+    /// The name of a task.
+    #[error("the name of a task")]
+    Task,
+    /// A state of a task.
+    #[error("a state: RUNNING, READY, WAITING, SUSPENDED, WAITING-SUSPENDED or DORMANT")]
+    State,
+    /// A number of ticks.
+    #[error("a number of ticks, 0 to 2147483647")]
+    Count,
+    /// The number of an interrupt.
+    #[error("the number of an interrupt, 1 to 32")]
+    Interrupt,
+    /// The word `runs`.
+    #[error("`runs`")]
+    Runs,
+    /// The word `within`.
+    #[error("`within`")]
+    Within,
+    /// The word `ticks`.
+    #[error("`ticks`")]
+    Ticks,
+    /// The word `of`.
+    #[error("`of`")]
+    Of,
+    /// The word `int`.
+    #[error("`int`")]
+    Int,
+    /// The word `before`.
+    #[error("`before`")]
+    Before,
+    /// The word `before`, or `by` with an actor.
+    #[error("`before` or `by`")]
+    BeforeOrBy,
+    /// Nothing.
+    #[error("the end of the line")]
+    End,
+    /// Nothing, or `by` with an actor.
+    #[error("the end of the line or `by`")]
+    EndOrBy,
+}
+
 /// What is wrong with a line.
 #[derive(Clone, Copy, Debug, PartialEq, Eq, Error)]
-pub enum Flaw {
-    /// It is no sentence of the grammar.
-    #[error("not a sentence: 'never DEED', 'DEED before DEED', 'TASK runs within N ticks of int I' or 'end STATE TASK'")]
-    Sentence,
-    /// No deed stands where one is needed.
-    #[error("no deed: a code as E_QOVR, a value as put(7), or a fault as F_IDX")]
-    Deed,
-    /// No task or cyclic handler has the name that stands there.
-    #[error("no task or cyclic handler of the image has this name")]
-    Name,
-    /// No state of a task stands where one is needed.
-    #[error("no state: RUNNING, READY, WAITING, SUSPENDED, WAITING-SUSPENDED or DORMANT, and then a task")]
-    State,
-    /// No number stands where one is needed, or it is out of range.
-    #[error("no number of ticks up to 2147483647, or no interrupt from 1 to 32")]
-    Number,
+#[error("expected {expects}")]
+pub struct Flaw {
+    /// What is expected in place of a word, or of the end of the line.
+    pub expects: Expects,
+    /// How many words of the line are left, that word being the first of them; 0 at the end of the line.
+    pub left: usize,
 }
 
 /// Why a text gives no expectations.

@@ -14,7 +14,8 @@ mod words;
 
 pub use checker::{Broken, Checker, Watch};
 pub use expectation::{Actor, Deed, Expectation, Expected, Happening};
-pub use fault::{ExpectFault, Flaw};
-pub use reading::read_expectations;
+pub use fault::{ExpectFault, Expects, Flaw};
+pub use named::{CODES, FAULTS, STATES, fault_name, state_name};
+pub use reading::{faulty_word, read_expectations};
 pub use running::tell_run;
 pub use stages::Stage;

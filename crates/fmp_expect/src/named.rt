@@ -40,7 +40,8 @@ pub const STATES: [StateWord; 6] = [
     StateWord::Dormant,
 ];
 
-fn fault_name(fault: Fault) -> &'static str
+/// The name of a fault.
+pub fn fault_name(fault: Fault) -> &'static str
     ensures { result.now ≡ fault_text fault }
 {
     match fault {
@@ -50,7 +51,8 @@ fn fault_name(fault: Fault) -> &'static str
     }
 }
 
-fn state_name(word: StateWord) -> &'static str
+/// A state in the words of a trace.
+pub fn state_name(word: StateWord) -> &'static str
     ensures { result.now ≡ word_text word }
 {
     match word {

@@ -1,5 +1,5 @@
 //! The reader of texts of expectations.
-ghost use Rattle.std.specs.Prelude.{◌≡◌, ◌+◌, IfOk, IfErr, OnOk, Ok, Err, Result, List};
+ghost use Rattle.std.specs.Prelude.{◌≡◌, ◌+◌, IfOk, IfErr, OnOk, Ok, Err, Result, List, option_map};
 ghost use Rattle.fmp_base.specs.Systems.{tables_of};
 ghost use Rattle.fmp_expect.specs.declared.expectation.Expected.{Expected};
 ghost use Rattle.fmp_expect.specs.declared.fault.ExpectFault.{ExpectFault};
@@ -9,22 +9,45 @@ ghost use Rattle.fmp_expect.specs.Grammar.{IsFaultOf, behind_all, expectations_o
 ghost use Rattle.fmp_expect.specs.Words.{words_of};
 
 use crate::expectation::{Actor, Deed, Expectation, Expected, Happening};
-use crate::fault::{ExpectFault, Flaw};
+use crate::fault::{ExpectFault, Expects, Flaw};
 use crate::named::{STATES, actor_named, deed_named, state_among, task_named};
 use crate::numbers::number_in;
-use crate::words::{before_comment, first_line, next_word};
+use crate::words::{before_comment, first_line, next_word, word_at, word_count};
 use fmp_base::{StateWord, System};
 use std::alloc::Global;
 
-/// What was found, with what stands behind it, or a flaw.
-fn found_or<A: Copy>(flaw: Flaw, rest: &[u8], found: Option<A>) -> Result<(A, &[u8]), Flaw>
-    ensures read { IfOk result (λ r. spec.found_or flaw (words_of rest.now) found
+/// The flaw of a line in which this is expected in place of the first word.
+fn flaw_at(expects: Expects, line: &[u8]) -> Flaw
+    ensures { result ≡ spec.flaw_at expects (words_of line.now) }
+{
+    Flaw {
+        expects,
+        left: word_count(line),
+    }
+}
+
+/// The word at which a flaw of a line stands; none at the end of the line.
+pub fn faulty_word(line: &[u8], flaw: Flaw) -> Option<&[u8]>
+    ensures { option_map (λ word. word.now) result ≡ spec.faulty_word line.now flaw }
+{
+    let words = before_comment(line);
+    word_at(words, word_count(words).saturating_sub(flaw.left))
+}
+
+/// What was found in the first word of a line, with what stands behind it, or a flaw.
+fn found_or<'a, A: Copy>(
+    expects: Expects,
+    line: &[u8],
+    rest: &'a [u8],
+    found: Option<A>,
+) -> Result<(A, &'a [u8]), Flaw>
+    ensures read { IfOk result (λ r. spec.found_or expects (words_of line.now) (words_of rest.now) found
         ≡ Ok (record { value = r.0; rest = words_of r.1.now })) }
-    ensures fault { IfErr result (λ e. spec.found_or flaw (words_of rest.now) found ≡ Err e) }
+    ensures fault { IfErr result (λ e. spec.found_or expects (words_of line.now) (words_of rest.now) found ≡ Err e) }
 {
     match found {
         Some(value) => Ok((value, rest)),
-        None => Err(flaw),
+        None => Err(flaw_at(expects, line)),
     }
 }
 
@@ -34,8 +57,8 @@ fn deed_in(line: &[u8]) -> Result<(Deed, &[u8]), Flaw>
     ensures fault { IfErr result (λ e. spec.deed_of (words_of line.now) ≡ Err e) }
 {
     match next_word(line) {
-        Some((word, rest)) => found_or(Flaw::Deed, rest, deed_named(word)),
-        None => Err(Flaw::Deed),
+        Some((word, rest)) => found_or(Expects::Deed, line, rest, deed_named(word)),
+        None => Err(flaw_at(Expects::Deed, line)),
     }
 }
 
@@ -45,8 +68,8 @@ fn actor_in<'a>(sys: &System, line: &'a [u8]) -> Result<(Actor, &'a [u8]), Flaw>
     ensures fault { IfErr result (λ e. spec.actor_of (tables_of sys.now) (words_of line.now) ≡ Err e) }
 {
     match next_word(line) {
-        Some((word, rest)) => found_or(Flaw::Name, rest, actor_named(sys, word)),
-        None => Err(Flaw::Name),
+        Some((word, rest)) => found_or(Expects::Actor, line, rest, actor_named(sys, word)),
+        None => Err(flaw_at(Expects::Actor, line)),
     }
 }
 
@@ -56,8 +79,8 @@ fn task_in<'a>(sys: &System, line: &'a [u8]) -> Result<(usize, &'a [u8]), Flaw>
     ensures fault { IfErr result (λ e. spec.task_of (tables_of sys.now) (words_of line.now) ≡ Err e) }
 {
     match next_word(line) {
-        Some((word, rest)) => found_or(Flaw::Name, rest, task_named(sys, word)),
-        None => Err(Flaw::Name),
+        Some((word, rest)) => found_or(Expects::Task, line, rest, task_named(sys, word)),
+        None => Err(flaw_at(Expects::Task, line)),
     }
 }
 
@@ -67,39 +90,39 @@ fn state_in(line: &[u8]) -> Result<(StateWord, &[u8]), Flaw>
     ensures fault { IfErr result (λ e. spec.state_of (words_of line.now) ≡ Err e) }
 {
     match next_word(line) {
-        Some((word, rest)) => found_or(Flaw::State, rest, state_among(&STATES, word)),
-        None => Err(Flaw::State),
+        Some((word, rest)) => found_or(Expects::State, line, rest, state_among(&STATES, word)),
+        None => Err(flaw_at(Expects::State, line)),
     }
 }
 
-fn ranged_in(low: u32, high: u32, line: &[u8]) -> Result<(u32, &[u8]), Flaw>
-    ensures read { IfOk result (λ r. spec.number_in low high (words_of line.now)
+fn ranged_in(expects: Expects, low: u32, high: u32, line: &[u8]) -> Result<(u32, &[u8]), Flaw>
+    ensures read { IfOk result (λ r. spec.number_in expects low high (words_of line.now)
         ≡ Ok (record { value = r.0; rest = words_of r.1.now })) }
-    ensures fault { IfErr result (λ e. spec.number_in low high (words_of line.now) ≡ Err e) }
+    ensures fault { IfErr result (λ e. spec.number_in expects low high (words_of line.now) ≡ Err e) }
 {
     match next_word(line) {
-        Some((word, rest)) => found_or(Flaw::Number, rest, number_in(low, high, word)),
-        None => Err(Flaw::Number),
+        Some((word, rest)) => found_or(expects, line, rest, number_in(low, high, word)),
+        None => Err(flaw_at(expects, line)),
     }
 }
 
 /// What stands behind the first word of a line, if it is this one.
-fn behind_word<'a>(word: &[u8], line: &'a [u8]) -> Result<&'a [u8], Flaw>
-    ensures read { IfOk result (λ rest. spec.behind_word word.now (words_of line.now) ≡ Ok (words_of rest.now)) }
-    ensures fault { IfErr result (λ e. spec.behind_word word.now (words_of line.now) ≡ Err e) }
+fn behind_word<'a>(expects: Expects, word: &[u8], line: &'a [u8]) -> Result<&'a [u8], Flaw>
+    ensures read { IfOk result (λ rest. spec.behind_word expects word.now (words_of line.now) ≡ Ok (words_of rest.now)) }
+    ensures fault { IfErr result (λ e. spec.behind_word expects word.now (words_of line.now) ≡ Err e) }
 {
     match next_word(line) {
         Some((first, rest)) if first == word => Ok(rest),
-        _ => Err(Flaw::Sentence),
+        _ => Err(flaw_at(expects, line)),
     }
 }
 
 /// An expectation, if no words are left.
-fn whole(expectation: Expectation, line: &[u8]) -> Result<Expectation, Flaw>
-    ensures { result ≡ spec.whole expectation (words_of line.now) }
+fn whole(expects: Expects, expectation: Expectation, line: &[u8]) -> Result<Expectation, Flaw>
+    ensures { result ≡ spec.whole expects expectation (words_of line.now) }
 {
     match next_word(line) {
-        Some(_) => Err(Flaw::Sentence),
+        Some(_) => Err(flaw_at(expects, line)),
         None => Ok(expectation),
     }
 }
@@ -129,20 +152,48 @@ fn happening_in<'a>(sys: &System, line: &'a [u8]) -> Result<(Happening, &'a [u8]
     Ok((Happening { deed, by }, rest))
 }
 
+/// What is expected at the end of a line, behind a deed of this actor if it is some.
+fn end_behind(by: Option<Actor>) -> Expects
+    ensures { result ≡ spec.end_behind by }
+{
+    match by {
+        Some(_) => Expects::End,
+        None => Expects::EndOrBy,
+    }
+}
+
+/// What is expected in place of `before`, behind a deed of this actor if it is some.
+fn before_behind(by: Option<Actor>) -> Expects
+    ensures { result ≡ spec.before_behind by }
+{
+    match by {
+        Some(_) => Expects::Before,
+        None => Expects::BeforeOrBy,
+    }
+}
+
 fn never_in(sys: &System, line: &[u8]) -> Result<Expectation, Flaw>
     ensures { result ≡ spec.never_of (tables_of sys.now) (words_of line.now) }
 {
     let (happening, rest) = happening_in(sys, line)?;
-    whole(Expectation::Never(happening), rest)
+    whole(
+        end_behind(happening.by),
+        Expectation::Never(happening),
+        rest,
+    )
 }
 
 fn before_in(sys: &System, line: &[u8]) -> Result<Expectation, Flaw>
     ensures { result ≡ spec.before_of (tables_of sys.now) (words_of line.now) }
 {
     let (first, rest) = happening_in(sys, line)?;
-    let rest = behind_word(b"before", rest)?;
+    let rest = behind_word(before_behind(first.by), b"before", rest)?;
     let (second, rest) = happening_in(sys, rest)?;
-    whole(Expectation::Before { first, second }, rest)
+    whole(
+        end_behind(second.by),
+        Expectation::Before { first, second },
+        rest,
+    )
 }
 
 fn interrupt_in(line: &[u8]) -> Result<(u32, &[u8]), Flaw>
@@ -150,31 +201,31 @@ fn interrupt_in(line: &[u8]) -> Result<(u32, &[u8]), Flaw>
         ≡ Ok (record { value = r.0; rest = words_of r.1.now })) }
     ensures fault { IfErr result (λ e. spec.interrupt_of (words_of line.now) ≡ Err e) }
 {
-    let rest = behind_word(b"ticks", line)?;
-    let rest = behind_word(b"of", rest)?;
-    let rest = behind_word(b"int", rest)?;
-    ranged_in(1, 32, rest)
+    let rest = behind_word(Expects::Ticks, b"ticks", line)?;
+    let rest = behind_word(Expects::Of, b"of", rest)?;
+    let rest = behind_word(Expects::Int, b"int", rest)?;
+    ranged_in(Expects::Interrupt, 1, 32, rest)
 }
 
 fn within_in(actor: Actor, line: &[u8]) -> Result<Expectation, Flaw>
     ensures { result ≡ spec.within_of actor (words_of line.now) }
 {
-    let rest = behind_word(b"within", line)?;
-    let (ticks, rest) = ranged_in(0, 2147483647, rest)?;
+    let rest = behind_word(Expects::Within, b"within", line)?;
+    let (ticks, rest) = ranged_in(Expects::Count, 0, 2147483647, rest)?;
     let (number, rest) = interrupt_in(rest)?;
     let within = Expectation::Within {
         actor,
         ticks,
         interrupt: (number - 1) as u8,
     };
-    whole(within, rest)
+    whole(Expects::End, within, rest)
 }
 
 fn runs_in(sys: &System, line: &[u8]) -> Result<Expectation, Flaw>
     ensures { result ≡ spec.runs_of (tables_of sys.now) (words_of line.now) }
 {
     let (actor, rest) = actor_in(sys, line)?;
-    let rest = behind_word(b"runs", rest)?;
+    let rest = behind_word(Expects::Runs, b"runs", rest)?;
     within_in(actor, rest)
 }
 
@@ -183,7 +234,7 @@ fn end_in(sys: &System, line: &[u8]) -> Result<Expectation, Flaw>
 {
     let (word, rest) = state_in(line)?;
     let (task, rest) = task_in(sys, rest)?;
-    whole(Expectation::End { word, task }, rest)
+    whole(Expects::End, Expectation::End { word, task }, rest)
 }
 
 /// Whether the first word of a line is this one.
@@ -206,6 +257,37 @@ fn behind_first(line: &[u8]) -> &[u8]
     }
 }
 
+/// Whether the first word of a line is a deed.
+fn begins_deed(line: &[u8]) -> bool
+    ensures { result ≡ spec.begins_deed (words_of line.now) }
+{
+    match next_word(line) {
+        Some((word, _)) => deed_named(word).is_some(),
+        None => false,
+    }
+}
+
+/// Whether the first word of a line is an actor.
+fn begins_actor(sys: &System, line: &[u8]) -> bool
+    ensures { result ≡ spec.begins_actor (tables_of sys.now) (words_of line.now) }
+{
+    match next_word(line) {
+        Some((word, _)) => actor_named(sys, word).is_some(),
+        None => false,
+    }
+}
+
+/// The flaw of a line that begins no sentence.
+fn no_sentence(sys: &System, line: &[u8]) -> Flaw
+    ensures { result ≡ spec.no_sentence (tables_of sys.now) (words_of line.now) }
+{
+    if begins_actor(sys, line) {
+        flaw_at(Expects::Runs, behind_first(line))
+    } else {
+        flaw_at(Expects::Sentence, line)
+    }
+}
+
 /// The expectation of a line.
 fn sentence_in(sys: &System, line: &[u8]) -> Result<Expectation, Flaw>
     ensures { result ≡ spec.sentence_of (tables_of sys.now) (words_of line.now) }
@@ -217,8 +299,10 @@ fn sentence_in(sys: &System, line: &[u8]) -> Result<Expectation, Flaw>
         never_in(sys, behind)
     } else if begins(b"end", line) {
         end_in(sys, behind)
-    } else {
+    } else if begins_deed(line) {
         before_in(sys, line)
+    } else {
+        Err(no_sentence(sys, line))
     }
 }
 

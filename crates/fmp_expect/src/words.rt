@@ -1,5 +1,5 @@
 //! The lines of a text, and the words of a line.
-ghost use Rattle.std.specs.Prelude.{◌≡◌, ◌≢◌, ◌∷◌, [], ◌<◌, ◌+◌, ℕ, nat_eq, position, length, MatchOption, if◌then◌else◌};
+ghost use Rattle.std.specs.Prelude.{◌≡◌, ◌≢◌, ◌∷◌, [], ◌<◌, ◌+◌, ℕ, nat_eq, position, length, slice_get, option_map, IfSome, MatchOption, if◌then◌else◌};
 ghost use Rattle.fmp_base.specs.Systems.{SystemTables};
 ghost use Rattle.fmp_expect.specs.Grammar.{expectations_from, in_front, line_meaning};
 ghost use Rattle.fmp_expect.specs.Words as spec;
@@ -76,8 +76,9 @@ fn first_part(line: &[u8]) -> (&[u8], &[u8])
 
 /// The first word of a line, and what stands behind it.
 pub fn next_word(line: &[u8]) -> Option<(&[u8], &[u8])>
-    ensures { MatchOption result (words_of line.now ≡ [])
+    ensures word { MatchOption result (words_of line.now ≡ [])
         (λ next. words_of line.now ≡ next.0.now ∷ words_of next.1.now) }
+    ensures shorter { IfSome result (λ next. length next.1.now < length line.now) }
 {
     let mut rest = line;
     while !rest.is_empty() {
@@ -85,6 +86,35 @@ pub fn next_word(line: &[u8]) -> Option<(&[u8], &[u8])>
         if is_word(part) {
             return Some((part, behind));
         }
+        rest = behind;
+    }
+    None
+}
+
+/// How many words a line has.
+pub fn word_count(line: &[u8]) -> usize
+    ensures { result ≡ length (words_of line.now) }
+{
+    let mut count = 0;
+    let mut rest = line;
+    while let Some((_, behind)) = next_word(rest) {
+        count += 1;
+        rest = behind;
+    }
+    count
+}
+
+/// The word at a place of a line, from 0.
+pub fn word_at(line: &[u8], place: usize) -> Option<&[u8]>
+    ensures { option_map (λ word. word.now) result ≡ slice_get (words_of line.now) place }
+{
+    let mut rest = line;
+    let mut left = place;
+    while let Some((word, behind)) = next_word(rest) {
+        if left == 0 {
+            return Some(word);
+        }
+        left -= 1;
         rest = behind;
     }
     None

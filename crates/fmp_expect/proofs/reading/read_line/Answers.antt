@@ -1,5 +1,4 @@
 use Rattle.std.proofs.Common.{List, Result, subst, sym}
-use Rattle.fmp_base.specs.Systems.{tables_of}
 use Rattle.fmp_expect.specs.declared.expectation.Expected.{Expected}
 use Rattle.fmp_expect.specs.declared.fault.ExpectFault.{ExpectFault}
 use Rattle.fmp_expect.specs.Grammar.{IsFaultOf, behind_all}

@@ -1,6 +1,5 @@
 use Rattle.std.proofs.Common.{◌≡◌, ◌∙◌, ℕ, List, ap, subst, sym}
 use Rattle.fmp_base.specs.declared.events.Line.{Line}
-use Rattle.fmp_kernel.specs.KernelViews.{KernelView, view_after}
 use Rattle.fmp_expect.specs.Meaning.{Told, with_lines}
 use Rattle.fmp_expect.specs.Runs.{reaction_of, told_after}
 use Rattle.fmp_expect.specs.Stages.{AreTold}

@@ -1,10 +1,10 @@
-use Rattle.std.proofs.Common.{◌≡◌, ◌∙◌, ◌+◌, ◌≤◌, ◌<◌, ◌^◌, ℕ, List, [], ap, arith, refl, subst, sym, drop, length}
+use Rattle.std.proofs.Common.{◌≡◌, ◌∙◌, ◌≤◌, ℕ, List, [], ap, arith, refl, subst, sym, length}
 use Rattle.std.proofs.lemmas.List.{drop_all}
 use Rattle.fmp_base.specs.declared.events.Event.{Event}
 use Rattle.fmp_base.specs.declared.events.Line.{Line}
 use Rattle.fmp_kernel.specs.KernelViews.{view_after_all}
 use Rattle.fmp_expect.specs.Meaning.{Told, with_lines}
-use Rattle.fmp_expect.specs.Runs.{reaction_of, rest_told, run_told, told_after}
+use Rattle.fmp_expect.specs.Runs.{reaction_of, rest_told, told_after}
 use Rattle.fmp_expect.specs.Stages.{AreTold}
 use Rattle.fmp_expect.proofs.Events.{state_step, taken_step, told_step}
 use Rattle.fmp_expect.proofs.running.tell_run.Goals as goal
