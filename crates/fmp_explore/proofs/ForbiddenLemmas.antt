@@ -1,11 +1,16 @@
--- A forbidden line, by the place of what must never happen.
-use Rattle.std.proofs.Common.{ℕ, ◌<◌, List, get_or, length}
-use Rattle.std.proofs.lemmas.Option.{slice_get-get_or}
-use Rattle.fmp_base.specs.declared.events.Line.{Line}
+-- Forbidden lines.
+use Rattle.std.proofs.Common.{◌≡◌, ◌||◌, ℕ, List, [], ◌∷◌, ap, refl}
+use Rattle.fmp_base.specs.declared.events.Line.TheVariants as line
 use Rattle.fmp_explore.specs.declared.question.Never.{Never}
-use Rattle.fmp_explore.specs.Forbidden.{IsForbidden, Tells}
+use Rattle.fmp_explore.specs.declared.question.Never.TheVariants as kind
+use Rattle.fmp_explore.specs.Forbidden.{forbids, tells}
 
-pub told_at : (nevers : List Never) (l : Line) (i : ℕ) (d : Never) → i < length nevers → Tells (get_or nevers i d) l
-    → IsForbidden nevers l
-told_at nevers l i d lt t =
-    record { place = i; never = get_or nevers i d; named = slice_get-get_or nevers i d lt; told = t }
+tells-timeless : (never : Never) (a b : ℕ) → tells never (line.Tick a) ≡ tells never (line.Tick b)
+tells-timeless (kind.Answer code) a b = refl
+tells-timeless (kind.Put value) a b = refl
+tells-timeless (kind.Fault fault) a b = refl
+
+-- no line of the clock tells what is asked about
+pub forbids-timeless : (nevers : List Never) (a b : ℕ) → forbids nevers (line.Tick a) ≡ forbids nevers (line.Tick b)
+forbids-timeless [] a b = refl
+forbids-timeless (never ∷ rest) a b = rw (tells-timeless never a b, forbids-timeless rest a b)

@@ -15,13 +15,13 @@ use Rattle.fmp_explore.specs.declared.finding.Sight.TheVariants as sight
 use Rattle.fmp_explore.specs.declared.question.Question.{Question}
 use Rattle.fmp_schedules.specs.Deadlocks.{IsDeadlock, may_interrupt}
 use Rattle.fmp_explore.specs.Endless.{IsEndlessOn}
-use Rattle.fmp_explore.specs.Forbidden.{IsForbidden}
+use Rattle.fmp_explore.specs.Forbidden.{forbids}
 
 -- the line at a place tells something that must never happen
 pub record HasForbidden (q : Question) (lines : List Line) (place : ℕ) : Type 0 where
   pub line : Line
   pub there : slice_get lines place ≡ Some line
-  pub forbidden : IsForbidden q.nevers.items line
+  pub forbidden : forbids q.nevers.items line ≡ true
 
 -- this is seen in what events have left
 abbrev pub IsSeen : {C : Type 0} → SystemTables → Meaning C → ℕ → Question → List Event → Done C → Sight → Type 0

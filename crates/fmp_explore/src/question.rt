@@ -1,8 +1,10 @@
 //! What is asked about all schedules: what must never happen, which events may happen, and where to stop.
 
-ghost use Rattle.std.specs.Prelude.{◌≡◌, ◌<◌, IsTrue, count_by, length};
+ghost use Rattle.std.specs.Prelude.{◌≡◌, count_by};
 ghost use Rattle.fmp_schedules.specs.Deadlocks.{is_interrupt as is_request, may_interrupt as may};
-ghost use Rattle.fmp_explore.specs.Forbidden.{IsAnswered, IsFault, IsForbidden, IsPut, Tells};
+ghost use Rattle.fmp_explore.specs.Forbidden.{forbids, is_answered as answers, is_fault as stops_with};
+ghost use Rattle.fmp_explore.specs.Forbidden.{is_put as prints, is_same_code as same_code, is_same_fault as same_fault};
+ghost use Rattle.fmp_explore.specs.Forbidden.{tells as names};
 
 use fmp_base::{Call, Er, Event, Fault, Line};
 use std::alloc::Global;
@@ -99,9 +101,16 @@ pub fn interrupt_count(steps: &[Event]) -> usize
     steps.iter().filter(|e| is_interrupt(**e)).count()
 }
 
+/// Whether two codes are one.
+fn is_same_code(a: Er, b: Er) -> bool
+    ensures { result ≡ same_code a b }
+{
+    a == b
+}
+
 /// Whether two faults are one.
 fn is_same_fault(a: Fault, b: Fault) -> bool
-    ensures { IsTrue result → a ≡ b }
+    ensures { result ≡ same_fault a b }
 {
     match (a, b) {
         (Fault::Overflow, Fault::Overflow) => true,
@@ -113,21 +122,21 @@ fn is_same_fault(a: Fault, b: Fault) -> bool
 
 /// Whether a line tells that a call, or the end of a wait, answers this code.
 fn is_answered(code: Er, line: &Line) -> bool
-    ensures { IsTrue result → IsAnswered code line.now }
+    ensures { result ≡ answers code line.now }
 {
     match line {
         Line::Call {
             reply: Some(reply),
             ..
-        } => reply.code == code,
-        Line::Gets { reply, .. } => reply.code == code,
+        } => is_same_code(reply.code, code),
+        Line::Gets { reply, .. } => is_same_code(reply.code, code),
         _ => false,
     }
 }
 
 /// Whether a line tells that this value is printed.
 fn is_put(value: i32, line: &Line) -> bool
-    ensures { IsTrue result → IsPut value line.now }
+    ensures { result ≡ prints value line.now }
 {
     match line {
         Line::Call {
@@ -140,7 +149,7 @@ fn is_put(value: i32, line: &Line) -> bool
 
 /// Whether a line tells that a body stops with this fault.
 fn is_fault(fault: Fault, line: &Line) -> bool
-    ensures { IsTrue result → IsFault fault line.now }
+    ensures { result ≡ stops_with fault line.now }
 {
     match line {
         Line::Fault { fault: told, .. } => is_same_fault(*told, fault),
@@ -150,7 +159,7 @@ fn is_fault(fault: Fault, line: &Line) -> bool
 
 /// Whether a line tells what must never happen.
 fn tells(never: Never, line: &Line) -> bool
-    ensures { IsTrue result → Tells never line.now }
+    ensures { result ≡ names never line.now }
 {
     match never {
         Never::Answer(code) => is_answered(code, line),
@@ -159,20 +168,12 @@ fn tells(never: Never, line: &Line) -> bool
     }
 }
 
-/// Whether a line tells what stands at a place of what must never happen.
-fn tells_at(nevers: &[Never], place: usize, line: &Line) -> bool
-    requires { place < length nevers.now }
-    ensures { IsTrue result → IsForbidden nevers.now line.now }
-{
-    tells(nevers[place], line)
-}
-
 /// Whether a line tells something of what must never happen.
 fn tells_any(nevers: &[Never], line: &Line) -> bool
-    ensures { IsTrue result → IsForbidden nevers.now line.now }
+    ensures { result ≡ forbids nevers.now line.now }
 {
-    for place in 0..nevers.len() {
-        if tells_at(nevers, place, line) {
+    for never in nevers {
+        if tells(*never, line) {
             return true;
         }
     }
@@ -181,7 +182,7 @@ fn tells_any(nevers: &[Never], line: &Line) -> bool
 
 /// Whether a line tells something that must never happen.
 pub fn is_forbidden(question: &Question, line: &Line) -> bool
-    ensures { IsTrue result → IsForbidden question.now.nevers.items line.now }
+    ensures { result ≡ forbids question.now.nevers.items line.now }
 {
     tells_any(&question.nevers, line)
 }
