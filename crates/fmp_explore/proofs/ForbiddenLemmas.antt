@@ -1,5 +1,5 @@
 -- Forbidden lines.
-use Rattle.std.proofs.Common.{◌≡◌, ◌||◌, ℕ, List, [], ◌∷◌, ap, refl}
+use Rattle.std.proofs.Common.{◌≡◌, ℕ, List, [], ◌∷◌, refl}
 use Rattle.fmp_base.specs.declared.events.Line.TheVariants as line
 use Rattle.fmp_explore.specs.declared.question.Never.{Never}
 use Rattle.fmp_explore.specs.declared.question.Never.TheVariants as kind

@@ -3,3 +3,4 @@ pub mod Findings
 pub mod Followed
 pub mod Forbidden
 pub mod Standing
+pub mod Tries
