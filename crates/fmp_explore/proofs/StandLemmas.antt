@@ -1,15 +1,14 @@
 -- The parts of a deadlock.
-use Rattle.std.proofs.Common.{◌≡◌, ℕ, ◌+◌, ◌<◌, List, Option, Some, None, Bool, true, false, subst, arith, ◌≢◌, slice_index_or}
+use Rattle.std.proofs.Common.{◌≡◌, ℕ, ◌+◌, ◌↔◌, List, Option, Some, None, Bool, true, IsTrue, subst, arith}
 use Rattle.fmp_base.specs.declared.events.Event.{Event}
-use Rattle.fmp_base.specs.Meanings.{Meaning}
-use Rattle.fmp_base.specs.declared.states.Phase.TheVariants.{Dormant}
-use Rattle.fmp_base.specs.States.{KernelState, task_at}
+use Rattle.fmp_base.specs.Meanings.{Meaning, World}
+use Rattle.fmp_base.specs.States.{KernelState}
 use Rattle.fmp_base.specs.Systems.{SystemTables}
 use Rattle.fmp_drive.specs.Driving.{AllStand, TakesFirst}
 use Rattle.fmp_drive.specs.declared.trying.Source.{Source}
 use Rattle.fmp_drive.specs.declared.trying.Source.TheVariants.{Interrupt, Processor}
 use Rattle.fmp_kernel.specs.KernelViews.{KernelView}
-use Rattle.fmp_schedules.specs.Deadlocks.{IsDeadlock, IsStuck}
+use Rattle.fmp_schedules.specs.Deadlocks.{IsDeadlock}
 use Rattle.fmp_explore.specs.Standing.{NoneDoes, StandsStill}
 
 module _ {B C : Type 0} (meaning : B → Meaning C) where
@@ -43,14 +42,15 @@ module _ {B C : Type 0} (meaning : B → Meaning C) where
         stuck = still.stuck;
       }
 
--- what is found of tables is found of the kernel that has them
-pub moved : (rest : List Bool) (y y' : SystemTables) (s s' : KernelState) → y ≡ y' → s ≡ s'
-    → StandsStill rest y s → StandsStill rest y' s'
-moved rest y y' s s' e f h =
-    subst (λ (x : KernelState). StandsStill rest y' x) f (subst (λ (x : SystemTables). StandsStill rest x s) e h)
+-- a deadlock stands still
+pub still_of_deadlock : {C : Type 0} (sys : SystemTables) (M : Meaning C) (n : ℕ) (w : World C) (rest : List Bool)
+    (interrupts : Bool) → IsDeadlock sys M n w rest interrupts → StandsStill rest sys w.state
+still_of_deadlock sys M n w rest interrupts d =
+    record { waits = d.waits; handlers = d.handlers; stuck = d.stuck }
 
--- a task at a place is stuck
-pub stuck_at : (rest : List Bool) (s : KernelState) (n t : ℕ) → t < n → slice_index_or rest t false ≡ false
-    → (task_at s.tasks t).phase ≢ Dormant → IsStuck rest s n
-stuck_at rest s n t lt rests started =
-    record { task = t; there = lt; may_not_rest = rests; started = started }
+-- what is found of tables is found of the kernel that has them
+pub moved : (result : Bool) (rest : List Bool) (y y' : SystemTables) (s s' : KernelState) → y ≡ y' → s ≡ s'
+    → (IsTrue result ↔ StandsStill rest y s) → IsTrue result ↔ StandsStill rest y' s'
+moved result rest y y' s s' e f h =
+    subst (λ (x : KernelState). IsTrue result ↔ StandsStill rest y' x) f
+    (subst (λ (x : SystemTables). IsTrue result ↔ StandsStill rest x s) e h)

@@ -1,8 +1,8 @@
 //! Deadlocks: states in which no processor can do anything and no time runs, though a task waits.
-ghost use Rattle.std.specs.Prelude.{◌≡◌, ◌<◌, ◌≤◌, ◌^◌, ◌≢◌, IsTrue, false, length, slice_index_or};
+ghost use Rattle.std.specs.Prelude.{◌≡◌, ◌<◌, ◌≤◌, ◌^◌, ◌≢◌, ◌↔◌, IsTrue, false, length, slice_index_or};
 ghost use Rattle.fmp_drive.specs.Driving.{AllStand};
 ghost use Rattle.fmp_schedules.specs.Deadlocks.{IsDeadlock, IsStuck};
-ghost use Rattle.fmp_explore.specs.Standing.{NoHandlerComes, NoWaitEnds, NoneDoes, StandsStill};
+ghost use Rattle.fmp_explore.specs.Standing.{IsStuckAt, NoHandlerComes, NoWaitEnds, NoneDoes, StandsStill};
 
 use crate::question::Question;
 use fmp_base::Phase;
@@ -15,7 +15,7 @@ const INTERRUPTS_END: u8 = 33;
 
 /// Whether no wait of a task ends by the clock.
 fn no_wait_ends(tables: &Tables) -> bool
-    ensures { IsTrue result → NoWaitEnds tables.now.state (length tables.now.system.tasks) }
+    ensures { IsTrue result ↔ NoWaitEnds tables.now.state (length tables.now.system.tasks) }
 {
     for t in 0..tables.task_count() as u8 {
         match tables.task(t).deadline {
@@ -28,7 +28,7 @@ fn no_wait_ends(tables: &Tables) -> bool
 
 /// Whether no cyclic handler is started.
 fn no_handler_comes(tables: &Tables) -> bool
-    ensures { IsTrue result → NoHandlerComes tables.now.state (length tables.now.system.cyclics) }
+    ensures { IsTrue result ↔ NoHandlerComes tables.now.state (length tables.now.system.cyclics) }
 {
     for c in 0..tables.cyclic_count() as u8 {
         match tables.due_time(c) {
@@ -51,7 +51,7 @@ fn may_rest(question: &Question, t: u8) -> bool
 
 /// Whether a task in this phase is started.
 fn is_started(phase: Phase) -> bool
-    ensures { IsTrue result → phase ≢ Phase.Dormant }
+    ensures { IsTrue result ↔ (phase ≢ Phase.Dormant) }
 {
     match phase {
         Phase::Dormant => false,
@@ -62,8 +62,7 @@ fn is_started(phase: Phase) -> bool
 /// Whether the task at a place is started, and may not wait forever.
 fn is_stuck_at(tables: &Tables, question: &Question, t: u8) -> bool
     requires { t < length tables.now.system.tasks }
-    ensures { IsTrue result
-        → IsStuck question.now.rest.items tables.now.state (length tables.now.system.tasks) }
+    ensures { IsTrue result ↔ IsStuckAt question.now.rest.items tables.now.state t }
 {
     if may_rest(question, t) {
         return false;
@@ -74,7 +73,7 @@ fn is_stuck_at(tables: &Tables, question: &Question, t: u8) -> bool
 /// Whether a task that may not wait forever is started.
 fn is_someone_stuck(tables: &Tables, question: &Question) -> bool
     ensures { IsTrue result
-        → IsStuck question.now.rest.items tables.now.state (length tables.now.system.tasks) }
+        ↔ IsStuck question.now.rest.items tables.now.state (length tables.now.system.tasks) }
 {
     for t in 0..tables.task_count() as u8 {
         if is_stuck_at(tables, question, t) {
@@ -86,7 +85,7 @@ fn is_someone_stuck(tables: &Tables, question: &Question) -> bool
 
 /// Whether no time runs, and a task that may not wait forever is started.
 fn time_stands(tables: &Tables, question: &Question) -> bool
-    ensures { IsTrue result → StandsStill question.now.rest.items tables.now.system tables.now.state }
+    ensures { IsTrue result ↔ StandsStill question.now.rest.items tables.now.system tables.now.state }
 {
     if !no_wait_ends(tables) {
         return false;
@@ -99,7 +98,7 @@ fn time_stands(tables: &Tables, question: &Question) -> bool
 
 /// The same of a kernel.
 pub fn stands_still<B: Body>(kernel: &Kernel<B>, question: &Question) -> bool
-    ensures { IsTrue result → StandsStill question.now.rest.items kernel.now.system kernel.now.world.state }
+    ensures { IsTrue result ↔ StandsStill question.now.rest.items kernel.now.system kernel.now.world.state }
 {
     time_stands(kernel.tables(), question)
 }
