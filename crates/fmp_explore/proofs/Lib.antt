@@ -1,5 +1,12 @@
 pub mod EndlessLemmas
 pub mod Following
 pub mod ForbiddenLemmas
+pub mod MarkLemmas
+pub mod NextLemmas
+pub mod SearchLemmas
 pub mod StandLemmas
+pub mod StateLemmas
+pub mod StepLemmas
+pub mod SurveyLemmas
 pub mod TryLemmas
+pub mod TryingLemmas

@@ -2,5 +2,8 @@ pub mod Endless
 pub mod Findings
 pub mod Followed
 pub mod Forbidden
+pub mod Rules
+pub mod Searching
 pub mod Standing
+pub mod States
 pub mod Tries

@@ -1,12 +1,19 @@
 //! Exploring every schedule of an image.
-ghost use Rattle.std.specs.Prelude.{◌≡◌, ◌≤◌, ◌^◌, All, IfOk};
+ghost use Rattle.std.specs.Prelude.{◌≡◌, ◌≤◌, ◌^◌, [], All, IfOk, IsTrue, true};
+ghost use Rattle.fmp_instructions.specs.Machine.{code_meaning};
+ghost use Rattle.fmp_replay.specs.Replays.{kernel_after};
+ghost use Rattle.fmp_schedules.specs.Schedules.{Holds};
 ghost use Rattle.fmp_explore.specs.Findings.{IsFound};
+ghost use Rattle.fmp_explore.specs.Forbidden.{forbids};
+ghost use Rattle.fmp_explore.specs.Rules.{rules_of};
+ghost use Rattle.fmp_explore.specs.Searching.{IsBegun, NothingIsFound};
 
 use crate::coverage::Coverage;
 use crate::finding::{Finding, confirmed, shortest_alone};
 use crate::question::Question;
+use crate::searching::{Ending, Watcher};
 use crate::subject::Subject;
-use crate::survey::{Ending, Survey, Watcher};
+use crate::survey::Survey;
 use crate::values::Variety;
 use fmp_code::Vm;
 use fmp_image_bytes::Image;
@@ -21,6 +28,9 @@ pub struct Report {
     pub findings: Vec<Finding>,
     /// Why the search ended.
     pub ending: Ending,
+    /// Whether it is shown of all schedules that no deadlock is reached and nothing happens that must never happen:
+    /// the search is whole, and nothing was found.
+    pub holds: bool,
     /// How many states were kept.
     pub states: usize,
     /// How many events did something.
@@ -77,6 +87,17 @@ fn findings_of(
     confirmed(alloc, image, n, question, candidates)
 }
 
+/// Whether a search that ended so shows that nothing is found along any schedule.
+fn shows_all(survey: &Survey, ending: Ending) -> bool
+    ensures ending { IsTrue result → ending ≡ Ending.Whole }
+    ensures sure { IsTrue result → survey.now.sure ≡ true }
+{
+    match ending {
+        Ending::Whole => survey.sure,
+        Ending::Enough | Ending::States | Ending::Depth | Ending::Memory => false,
+    }
+}
+
 /// The report of a search that has ended, which forgets what it noted.
 fn make_report(
     alloc: Global,
@@ -88,12 +109,16 @@ fn make_report(
 ) -> Result<Report, AllocError>
     requires low { 1 ≤ n }
     requires high { n ≤ 2 ^ 48 }
-    ensures { IfOk result (λ r. All (IsFound image.now n question.now) r.findings.items) }
+    requires holds { ending ≡ Ending.Whole → survey.old.sure ≡ true → NothingIsFound image.now n question.now }
+    ensures findings { IfOk result (λ r. All (IsFound image.now n question.now) r.findings.items) }
+    ensures holds { IfOk result (λ r. r.holds ≡ true → NothingIsFound image.now n question.now) }
 {
+    let holds = shows_all(survey, ending);
     let findings = findings_of(alloc, image, n, question, survey)?;
     Ok(Report {
         findings,
         ending,
+        holds,
         states: survey.seen.len(),
         events: survey.notes.events,
         deep: survey.deep(),
@@ -108,14 +133,19 @@ fn begun_on(
     alloc: Global,
     kernel: &Kernel<Vm<'_>>,
     subject: &Subject<'_>,
-) -> Result<Survey, AllocError> {
+) -> Result<Survey, AllocError>
+    requires { kernel.now ≡ kernel_after subject.now.image.now subject.now.n [] }
+    ensures { IfOk result (IsBegun subject.now.image.now subject.now.n subject.now.question.now) }
+{
     let mut survey = Survey::new(alloc, subject, kernel)?;
     survey.begin(alloc, subject, kernel)?;
     Ok(survey)
 }
 
 /// A search that has seen the state after setup.
-fn begun(alloc: Global, subject: &Subject<'_>) -> Result<Survey, AllocError> {
+fn begun(alloc: Global, subject: &Subject<'_>) -> Result<Survey, AllocError>
+    ensures { IfOk result (IsBegun subject.now.image.now subject.now.n subject.now.question.now) }
+{
     let kernel = kernel_of(alloc, subject.image, subject.n)?;
     begun_on(alloc, &kernel, subject)
 }
@@ -126,7 +156,11 @@ fn ended<W: Watcher>(
     survey: &mut Survey,
     subject: &Subject<'_>,
     watcher: &mut W,
-) -> Ending {
+) -> Ending
+    requires { IsBegun subject.now.image.now subject.now.n subject.now.question.now survey.old }
+    ensures { result ≡ Ending.Whole → survey.new.sure ≡ true →
+        NothingIsFound subject.now.image.now subject.now.n subject.now.question.now }
+{
     match survey.run(alloc, subject, watcher) {
         Ok(ending) => ending,
         Err(_) => Ending::Memory,
@@ -134,8 +168,9 @@ fn ended<W: Watcher>(
 }
 
 /// Explores the schedules of an image, in which a stretch of a body takes at most n instructions, 1 to 2^48. Each
-/// finding is so: its events do something, one after the other, and after them it is seen. Where there is none, nothing
-/// is claimed. `AllocError` if there is no memory to begin with, or for the findings.
+/// finding is so: its events do something, one after the other, and after them it is seen. Where the report says that
+/// it holds, no schedule tells a forbidden line or reaches a deadlock, however long it is. Else nothing is claimed where
+/// there is no finding. `AllocError` if there is no memory to begin with, or for the findings.
 pub fn explore<W: Watcher>(
     alloc: Global,
     image: &Image,
@@ -145,7 +180,9 @@ pub fn explore<W: Watcher>(
 ) -> Result<Report, AllocError>
     requires low { 1 ≤ n }
     requires high { n ≤ 2 ^ 48 }
-    ensures { IfOk result (λ r. All (IsFound image.now n question.now) r.findings.items) }
+    ensures findings { IfOk result (λ r. All (IsFound image.now n question.now) r.findings.items) }
+    ensures holds { IfOk result (λ r. r.holds ≡ true → Holds (rules_of question.now) image.now.system
+        (code_meaning image.now.code) n (forbids question.now.nevers.items) question.now.rest.items) }
 {
     let subject = Subject { image, n, question };
     let mut survey = begun(alloc, &subject)?;

@@ -1,4 +1,8 @@
 //! What a search notes on its way: candidates for findings, and what was ever done.
+ghost use Rattle.std.specs.Prelude.{◌≡◌, IfOk};
+ghost use Rattle.std.specs.List.{list_any};
+ghost use Rattle.fmp_explore.specs.Forbidden.{forbids};
+
 use crate::coverage::{Coverage, Site};
 use crate::finding::{Finding, Sight};
 use crate::question::is_forbidden;
@@ -108,7 +112,7 @@ impl Notes {
         }
     }
 
-    /// A line of an event that made this call, if it made one.
+    /// Notes a line of an event that made this call, if it made one: whether it must never be told.
     fn note_line(
         &mut self,
         alloc: Global,
@@ -117,16 +121,20 @@ impl Notes {
         made: Option<Site>,
         place: usize,
         line: &Line,
-    ) -> Result<(), AllocError> {
+    ) -> Result<bool, AllocError>
+        ensures { IfOk result (λ found. found ≡ forbids subject.now.question.now.nevers.items line.now) }
+    {
         let site = self.site_of(line, made);
         self.coverage.note_line(line, site);
-        if is_forbidden(subject.question, line) {
-            return self.note_sight(alloc, path, Sight::Line(place), site);
+        let found = is_forbidden(subject.question, line);
+        if found {
+            self.note_sight(alloc, path, Sight::Line(place), site)?;
         }
-        Ok(())
+        Ok(found)
     }
 
-    /// The lines of an event that made this call, if it made one, or of setup. `AllocError` if memory runs out.
+    /// Notes the lines of an event that made this call, if it made one, or of setup: whether one of them must never be
+    /// told. `AllocError` if memory runs out.
     pub fn note_lines(
         &mut self,
         alloc: Global,
@@ -134,10 +142,15 @@ impl Notes {
         path: Path<'_>,
         made: Option<Site>,
         lines: &[Line],
-    ) -> Result<(), AllocError> {
-        for (place, line) in lines.iter().enumerate() {
-            self.note_line(alloc, subject, path, made, place, line)?;
+    ) -> Result<bool, AllocError>
+        ensures { IfOk result (λ found. found ≡ list_any (forbids subject.now.question.now.nevers.items) lines.now) }
+    {
+        let mut found = false;
+        for place in 0..lines.len() {
+            if self.note_line(alloc, subject, path, made, place, &lines[place])? {
+                found = true;
+            }
         }
-        Ok(())
+        Ok(found)
     }
 }

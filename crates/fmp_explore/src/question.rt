@@ -1,6 +1,6 @@
 //! What is asked about all schedules: what must never happen, which events may happen, and where to stop.
 
-ghost use Rattle.std.specs.Prelude.{◌≡◌, count_by};
+ghost use Rattle.std.specs.Prelude.{◌<◌, ◌≡◌, IsTrue, count_by, is_some, true};
 ghost use Rattle.fmp_schedules.specs.Deadlocks.{is_interrupt as is_request, may_interrupt as may};
 ghost use Rattle.fmp_explore.specs.Forbidden.{forbids, is_answered as answers, is_fault as stops_with};
 ghost use Rattle.fmp_explore.specs.Forbidden.{is_put as prints, is_same_code as same_code, is_same_fault as same_fault};
@@ -75,7 +75,8 @@ impl Question {
 
     /// Whether one more interrupt may come after these events.
     pub fn may_interrupt(&self, steps: &[Event]) -> bool
-        ensures { result ≡ may self.now.interrupts steps.now }
+        ensures may { result ≡ may self.now.interrupts steps.now }
+        ensures few { IsTrue result → is_some self.now.interrupts ≡ true → count_by is_request steps.now < 255 }
     {
         match self.interrupts {
             Some(most) => interrupt_count(steps) < usize::from(most),

@@ -1,65 +1,52 @@
-//! The search: breadth first over the states of a system, each reached again from setup by the events that lead to it.
-ghost use Rattle.std.specs.Prelude.{◌≡◌, []};
+//! What a search keeps: the states that it has seen, and what it has noted on its way.
+ghost use Rattle.std.specs.Prelude.{◌≡◌, [], ◌∷◌, ◌++◌, IfOk, OnOk, count_by, false, true};
+ghost use Rattle.std.specs.List.{list_any};
+ghost use Rattle.fmp_schedules.specs.Deadlocks.{is_interrupt as is_request};
 ghost use Rattle.fmp_replay.specs.Replays.{kernel_after};
+ghost use Rattle.fmp_explore.specs.States.{AreFew, path_by};
+ghost use Rattle.fmp_explore.specs.Followed.{IsFollowed};
+ghost use Rattle.fmp_explore.specs.Forbidden.{forbids};
+ghost use Rattle.fmp_explore.specs.Searching.{
+  HasDealt,
+  HasDone,
+  HasKept,
+  HasKeptPlace,
+  HasStepped,
+  IsAt,
+  IsBegun,
+  IsFresh,
+  IsNext,
+  IsSurvey,
+  Stays,
+};
 
 use crate::coverage::{Coverage, Site};
 use crate::endless::is_endless;
 use crate::finding::{Finding, Sight};
 use crate::notes::{Notes, Path};
-use crate::question::Ticks;
-use crate::replaying::{advance, follow};
 use crate::rows::Rows;
-use crate::standing::stands_still;
-use crate::stretching::{NextStretch, next_stretch, task_sites};
+use crate::stretching::NextStretch;
 use crate::subject::Subject;
-use crate::trying::{Attempt, DEEPEST, tries_of};
+use crate::trying::{Attempt, tries_of};
 use crate::values::{Variety, varieties};
 use fmp_base::{Effect, Event};
 use fmp_code::Vm;
 use fmp_kernel::Kernel;
-use fmp_replay::kernel_of;
 use fmp_seen::{Entry, Link, Seen};
 use std::alloc::{AllocError, Global};
-
-/// How many states there are when it is told first how far the search has come.
-const TOLD_FIRST: usize = 1 << 14;
-
-/// Who is told how far a search has come.
-pub trait Watcher {
-    /// There are 2^14 states, or twice as many as when this was told last. The last one is this deep.
-    fn grown(&mut self, states: usize, examined: usize, deep: u32);
-}
-
-/// Why a search ended.
-#[derive(Clone, Copy, Debug, PartialEq, Eq)]
-pub enum Ending {
-    /// Every state was examined.
-    Whole,
-    /// Something was found, and no more was asked for.
-    Enough,
-    /// As many states were kept as are allowed.
-    States,
-    /// A state is as deep as the search goes.
-    Depth,
-    /// There was no more memory.
-    Memory,
-}
 
 /// A search under way.
 #[derive(Drop)]
 pub struct Survey {
-    rows: Rows,
-    tries: Vec<Event>,
+    pub rows: Rows,
+    /// The events that are tried in each state.
+    pub tries: Vec<Event>,
     pub seen: Seen,
     pub notes: Notes,
-    /// Whether no processor did anything in the state that is examined.
-    idle: bool,
-    /// Whether an interrupt did something there.
-    interrupted: bool,
     /// Whether a state could not be kept, since as many are as are allowed.
-    full: bool,
-    examined: usize,
-    told: usize,
+    pub full: bool,
+    /// Whether nothing was found, and each event was followed and led to a state that is kept.
+    pub sure: bool,
 }
 
 impl Survey {
@@ -68,7 +55,9 @@ impl Survey {
         alloc: Global,
         subject: &Subject<'_>,
         kernel: &Kernel<Vm<'_>>,
-    ) -> Result<Survey, AllocError> {
+    ) -> Result<Survey, AllocError>
+        ensures { IfOk result (IsFresh subject.now.image.now subject.now.question.now) }
+    {
         let coverage = Coverage::new(alloc, kernel.tables(), subject.image.code())?;
         let rows = Rows::new(alloc, subject)?;
         let tries = tries_of(alloc, subject.image.system())?;
@@ -78,11 +67,8 @@ impl Survey {
             tries,
             seen,
             notes: Notes::new(alloc, coverage),
-            idle: true,
-            interrupted: false,
             full: false,
-            examined: 0,
-            told: TOLD_FIRST / 2,
+            sure: true,
         })
     }
 
@@ -109,20 +95,58 @@ impl Survey {
         }
     }
 
-    /// Keeps the state of a kernel, if it is new.
+    /// Keeps the state of a kernel to which this link leads, if it is new. So many interrupts came. `AllocError` if
+    /// memory runs out.
     fn keep(
         &mut self,
         alloc: Global,
+        subject: &Subject<'_>,
         kernel: &Kernel<Vm<'_>>,
         came: usize,
         link: Link,
-    ) -> Result<(), AllocError> {
+    ) -> Result<(), AllocError>
+        requires survey { IsSurvey subject.now.image.now subject.now.n subject.now.question.now self.old }
+        requires next { IsNext subject.now.image.now subject.now.n subject.now.question.now self.old.seen.links link
+            kernel.now }
+        requires came { came ≡ count_by is_request (path_by self.old.seen.links link) }
+        ensures { OnOk result (HasKept subject.now.image.now subject.now.n subject.now.question.now self.old self.new
+            (path_by self.old.seen.links link)) }
+    {
+        subject.image.keeps_rules();
         self.rows.write(kernel, came)?;
         match self.seen.add(alloc, &self.rows.row, link)? {
-            Entry::New(_) => self.notes.coverage.note_state(kernel.tables()),
-            Entry::Known(_) => {}
-            Entry::Full => self.full = true,
+            Entry::New(_) => {
+                self.notes.coverage.note_state(kernel.tables());
+                Ok(())
+            }
+            Entry::Known(_) => Ok(()),
+            Entry::Full => {
+                self.full = true;
+                self.sure = false;
+                Ok(())
+            }
         }
+    }
+
+    /// Notes the lines of setup.
+    fn note_setup(
+        &mut self,
+        alloc: Global,
+        subject: &Subject<'_>,
+        kernel: &Kernel<Vm<'_>>,
+    ) -> Result<(), AllocError>
+        ensures stays { OnOk result (Stays self.old self.new) }
+        ensures clean { OnOk result (self.new.sure ≡ true →
+            list_any (forbids subject.now.question.now.nevers.items) kernel.now.lines ≡ false) }
+    {
+        let setup = Path {
+            steps: &[],
+            last: None,
+        };
+        let found = self
+            .notes
+            .note_lines(alloc, subject, setup, None, kernel.lines())?;
+        self.sure &= !found;
         Ok(())
     }
 
@@ -132,13 +156,12 @@ impl Survey {
         alloc: Global,
         subject: &Subject<'_>,
         kernel: &Kernel<Vm<'_>>,
-    ) -> Result<(), AllocError> {
-        let setup = Path {
-            steps: &[],
-            last: None,
-        };
-        self.notes
-            .note_lines(alloc, subject, setup, None, kernel.lines())?;
+    ) -> Result<(), AllocError>
+        requires fresh { IsFresh subject.now.image.now subject.now.question.now self.old }
+        requires kernel { kernel.now ≡ kernel_after subject.now.image.now subject.now.n [] }
+        ensures { OnOk result (IsBegun subject.now.image.now subject.now.n subject.now.question.now self.new) }
+    {
+        self.note_setup(alloc, subject, kernel)?;
         self.rows.begin(kernel)?;
         let link = Link {
             parent: 0,
@@ -146,20 +169,59 @@ impl Survey {
             kept: false,
             depth: 0,
         };
-        self.keep(alloc, kernel, 0, link)
+        self.keep(alloc, subject, kernel, 0, link)
     }
 
-    /// An event did something in the state that is examined.
-    fn note_event(&mut self, e: Event) {
-        self.notes.events = self.notes.events.saturating_add(1);
-        match e {
-            Event::Run(_) => self.idle = false,
-            Event::Int(_) => self.interrupted = true,
-            Event::Tick => {}
+    /// Keeps the state of a kernel to which an attempt led, whose event kept a place or was done.
+    fn keep_next(
+        &mut self,
+        alloc: Global,
+        subject: &Subject<'_>,
+        kernel: &Kernel<Vm<'_>>,
+        attempt: Attempt<'_>,
+        kept: bool,
+    ) -> Result<(), AllocError>
+        requires survey { IsSurvey subject.now.image.now subject.now.n subject.now.question.now self.old }
+        requires at { IsAt self.old.seen.links attempt.state attempt.steps.now }
+        requires followed { IsFollowed subject.now.image.now subject.now.n (attempt.steps.now ++ attempt.event ∷ [])
+            kernel.now }
+        requires few { AreFew subject.now.question.now (attempt.steps.now ++ attempt.event ∷ []) }
+        ensures { OnOk result (HasKept subject.now.image.now subject.now.n subject.now.question.now self.old self.new
+            (attempt.entry.steps.now ++ attempt.entry.event ∷ [])) }
+    {
+        self.keep(
+            alloc,
+            subject,
+            kernel,
+            attempt.interrupts(),
+            attempt.link(kept),
+        )
+    }
+
+    /// Notes the lines of an event that is done, by a stretch that made this call, if it made one.
+    fn note_lines(
+        &mut self,
+        alloc: Global,
+        subject: &Subject<'_>,
+        kernel: &Kernel<Vm<'_>>,
+        attempt: Attempt<'_>,
+        made: Option<Site>,
+    ) -> Result<(), AllocError>
+        ensures stays { OnOk result (Stays self.old self.new) }
+        ensures clean { OnOk result (self.new.sure ≡ true →
+            list_any (forbids subject.now.question.now.nevers.items) kernel.now.lines ≡ false) }
+    {
+        if let Some(site) = made {
+            self.notes.coverage.note_call(site);
         }
+        let found = self
+            .notes
+            .note_lines(alloc, subject, attempt.path(), made, kernel.lines())?;
+        self.sure &= !found;
+        Ok(())
     }
 
-    /// An event was done, by a stretch that made this call, if it made one.
+    /// An event is done, by a stretch that made this call, if it made one.
     fn note_done(
         &mut self,
         alloc: Global,
@@ -167,25 +229,16 @@ impl Survey {
         kernel: &Kernel<Vm<'_>>,
         attempt: Attempt<'_>,
         made: Option<Site>,
-    ) -> Result<(), AllocError> {
-        self.note_event(attempt.event);
-        if let Some(site) = made {
-            self.notes.coverage.note_call(site);
-        }
-        self.notes
-            .note_lines(alloc, subject, attempt.path(), made, kernel.lines())?;
-        self.keep(alloc, kernel, attempt.interrupts(), attempt.link(false))
-    }
-
-    /// An event kept the place of an actor.
-    fn note_kept(
-        &mut self,
-        alloc: Global,
-        kernel: &Kernel<Vm<'_>>,
-        attempt: Attempt<'_>,
-    ) -> Result<(), AllocError> {
-        self.note_event(attempt.event);
-        self.keep(alloc, kernel, attempt.interrupts(), attempt.link(true))
+    ) -> Result<(), AllocError>
+        requires survey { IsSurvey subject.now.image.now subject.now.n subject.now.question.now self.old }
+        requires at { IsAt self.old.seen.links attempt.state attempt.steps.now }
+        requires few { AreFew subject.now.question.now (attempt.steps.now ++ attempt.event ∷ []) }
+        requires done { HasDone subject.now.image.now subject.now.n attempt.steps.now attempt.event kernel.now }
+        ensures { OnOk result (HasDealt subject.now.image.now subject.now.n subject.now.question.now self.old self.new
+            attempt.entry.steps.now attempt.entry.event) }
+    {
+        self.note_lines(alloc, subject, kernel, attempt, made)?;
+        self.keep_next(alloc, subject, kernel, attempt, false)
     }
 
     /// Whether the same event led to the state, and kept a place there: then it is known whether its actor goes on for
@@ -207,6 +260,7 @@ impl Survey {
         body: Option<Site>,
     ) -> Result<(), AllocError>
         requires { kernel.now.body ≡ subject.now.image.now.code }
+        ensures { OnOk result (Stays self.old self.new) }
     {
         let Event::Run(p) = attempt.event else {
             return Ok(());
@@ -218,11 +272,32 @@ impl Survey {
             steps: attempt.steps,
             last: None,
         };
+        self.sure = false;
         self.notes.note_sight(alloc, path, Sight::Endless(p), body)
     }
 
+    /// An event kept the place of an actor of this body.
+    fn note_kept(
+        &mut self,
+        alloc: Global,
+        subject: &Subject<'_>,
+        kernel: &Kernel<Vm<'_>>,
+        attempt: Attempt<'_>,
+        body: Option<Site>,
+    ) -> Result<(), AllocError>
+        requires survey { IsSurvey subject.now.image.now subject.now.n subject.now.question.now self.old }
+        requires at { IsAt self.old.seen.links attempt.state attempt.steps.now }
+        requires few { AreFew subject.now.question.now (attempt.steps.now ++ attempt.event ∷ []) }
+        requires kept { HasKeptPlace subject.now.image.now subject.now.n attempt.steps.now attempt.event kernel.now }
+        ensures { OnOk result (HasDealt subject.now.image.now subject.now.n subject.now.question.now self.old self.new
+            attempt.entry.steps.now attempt.entry.event) }
+    {
+        self.note_endless(alloc, subject, kernel, attempt, body)?;
+        self.keep_next(alloc, subject, kernel, attempt, true)
+    }
+
     /// Notes what an event did, which did this. Its stretch is this one.
-    fn note_effect(
+    pub fn note_effect(
         &mut self,
         alloc: Global,
         subject: &Subject<'_>,
@@ -231,227 +306,18 @@ impl Survey {
         effect: Effect,
         stretch: NextStretch,
     ) -> Result<(), AllocError>
-        requires { kernel.now.body ≡ subject.now.image.now.code }
+        requires survey { IsSurvey subject.now.image.now subject.now.n subject.now.question.now self.old }
+        requires at { IsAt self.old.seen.links attempt.state attempt.steps.now }
+        requires few { AreFew subject.now.question.now (attempt.steps.now ++ attempt.event ∷ []) }
+        requires stepped { HasStepped subject.now.image.now subject.now.n attempt.steps.now attempt.event kernel.now
+            effect }
+        ensures { OnOk result (HasDealt subject.now.image.now subject.now.n subject.now.question.now self.old self.new
+            attempt.entry.steps.now attempt.entry.event) }
     {
         match effect {
             Effect::Nothing => Ok(()),
             Effect::Done => self.note_done(alloc, subject, kernel, attempt, stretch.call()),
-            Effect::Kept => {
-                self.note_endless(alloc, subject, kernel, attempt, stretch.body())?;
-                self.note_kept(alloc, kernel, attempt)
-            }
+            Effect::Kept => self.note_kept(alloc, subject, kernel, attempt, stretch.body()),
         }
-    }
-
-    /// Whether an event may be tried now.
-    fn may_come(&self, subject: &Subject<'_>, attempt: Attempt<'_>) -> bool {
-        match attempt.event {
-            Event::Run(_) => true,
-            Event::Tick => subject.question.ticks == Ticks::Any || self.idle,
-            Event::Int(_) => subject.question.may_interrupt(attempt.steps),
-        }
-    }
-
-    /// Tries an event on a kernel in its state: whether it does something.
-    fn attempt<'a>(
-        &mut self,
-        alloc: Global,
-        subject: &Subject<'a>,
-        kernel: &mut Kernel<Vm<'a>>,
-        attempt: Attempt<'_>,
-    ) -> Result<bool, AllocError>
-        requires { kernel.old.body ≡ subject.now.image.now.code }
-        ensures { kernel.new.body ≡ kernel.old.body }
-    {
-        let stretch = next_stretch(kernel, &subject.image.vm(), subject.n, attempt.event);
-        let effect = advance(kernel, attempt.event);
-        self.note_effect(alloc, subject, kernel, attempt, effect, stretch)?;
-        Ok(effect != Effect::Nothing)
-    }
-
-    /// Tries the event at a place of those that are tried, if it may come now: whether it does something.
-    fn try_at<'a>(
-        &mut self,
-        alloc: Global,
-        subject: &Subject<'a>,
-        kernel: &mut Kernel<Vm<'a>>,
-        state: u32,
-        steps: &[Event],
-        at: usize,
-    ) -> Result<bool, AllocError>
-        requires { kernel.old.body ≡ subject.now.image.now.code }
-        ensures { kernel.new.body ≡ kernel.old.body }
-    {
-        let Some(event) = self.tries.get(at).copied() else {
-            return Ok(false);
-        };
-        let attempt = Attempt {
-            state,
-            steps,
-            event,
-        };
-        if !self.may_come(subject, attempt) {
-            return Ok(false);
-        }
-        self.attempt(alloc, subject, kernel, attempt)
-    }
-
-    /// Tries the events from this place on, in the state to which these steps lead, until one does something. Gives the
-    /// place behind it, or behind the last.
-    fn try_on<'a>(
-        &mut self,
-        alloc: Global,
-        subject: &Subject<'a>,
-        kernel: &mut Kernel<Vm<'a>>,
-        state: u32,
-        steps: &[Event],
-        first: usize,
-    ) -> Result<usize, AllocError>
-        requires { kernel.old ≡ kernel_after subject.now.image.now subject.now.n [] }
-    {
-        let end = self.tries.len();
-        if !follow(kernel, subject.image, subject.n, steps) {
-            return Ok(end);
-        }
-        task_sites(kernel, subject.image.system(), &mut self.notes.sites)?;
-        for at in first..end {
-            if self.try_at(alloc, subject, kernel, state, steps, at)? {
-                return Ok(at + 1);
-            }
-        }
-        Ok(end)
-    }
-
-    /// The same on a kernel of its own.
-    fn try_next(
-        &mut self,
-        alloc: Global,
-        subject: &Subject<'_>,
-        state: u32,
-        steps: &[Event],
-        first: usize,
-    ) -> Result<usize, AllocError> {
-        let mut kernel = kernel_of(alloc, subject.image, subject.n)?;
-        self.try_on(alloc, subject, &mut kernel, state, steps, first)
-    }
-
-    /// Looks whether a state in which no processor can do anything is a deadlock, or waits for an interrupt.
-    fn look_on<'a>(
-        &mut self,
-        alloc: Global,
-        subject: &Subject<'a>,
-        kernel: &mut Kernel<Vm<'a>>,
-        steps: &[Event],
-    ) -> Result<(), AllocError>
-        requires { kernel.old ≡ kernel_after subject.now.image.now subject.now.n [] }
-    {
-        if !follow(kernel, subject.image, subject.n, steps) {
-            return Ok(());
-        }
-        if !stands_still(kernel, subject.question) {
-            return Ok(());
-        }
-        if self.interrupted {
-            self.notes.waits = true;
-            return Ok(());
-        }
-        let path = Path { steps, last: None };
-        self.notes.note_sight(alloc, path, Sight::Deadlock, None)
-    }
-
-    /// Looks whether the state to which these steps lead is a deadlock.
-    fn look(
-        &mut self,
-        alloc: Global,
-        subject: &Subject<'_>,
-        steps: &[Event],
-    ) -> Result<(), AllocError> {
-        let mut kernel = kernel_of(alloc, subject.image, subject.n)?;
-        self.look_on(alloc, subject, &mut kernel, steps)
-    }
-
-    /// Tries each event in the state to which these steps lead.
-    fn try_all(
-        &mut self,
-        alloc: Global,
-        subject: &Subject<'_>,
-        state: u32,
-        steps: &[Event],
-    ) -> Result<(), AllocError> {
-        self.idle = true;
-        self.interrupted = false;
-        let mut next = 0;
-        for _try in 0..self.tries.len() {
-            if next < self.tries.len() {
-                next = self.try_next(alloc, subject, state, steps, next)?;
-            }
-        }
-        Ok(())
-    }
-
-    /// Examines a state: tries each event in it, and looks whether it is a deadlock.
-    fn examine(
-        &mut self,
-        alloc: Global,
-        subject: &Subject<'_>,
-        state: u32,
-    ) -> Result<(), AllocError> {
-        let steps = self.seen.path(alloc, state)?;
-        self.try_all(alloc, subject, state, &steps)?;
-        if self.idle {
-            self.look(alloc, subject, &steps)?;
-        }
-        Ok(())
-    }
-
-    /// Why the search ends before the state at a place, if it does.
-    fn ending_before(&self, subject: &Subject<'_>, link: Link) -> Option<Ending> {
-        if !subject.question.all && self.notes.has_within(link.depth) {
-            Some(Ending::Enough)
-        } else if self.full {
-            Some(Ending::States)
-        } else if link.depth >= DEEPEST {
-            Some(Ending::Depth)
-        } else {
-            None
-        }
-    }
-
-    /// Why the search ends where every state that is kept was examined.
-    fn last_ending(&self) -> Ending {
-        if self.full {
-            Ending::States
-        } else {
-            Ending::Whole
-        }
-    }
-
-    /// Tells how far the search has come, if there are twice as many states as when that was told last.
-    fn tell<W: Watcher>(&mut self, watcher: &mut W) {
-        if self.seen.len() >= self.told.saturating_mul(2) {
-            self.told = self.seen.len();
-            watcher.grown(self.seen.len(), self.examined, self.deep());
-        }
-    }
-
-    /// Examines the states in order until none is left, or the search ends. `AllocError` if memory runs out.
-    pub fn run<W: Watcher>(
-        &mut self,
-        alloc: Global,
-        subject: &Subject<'_>,
-        watcher: &mut W,
-    ) -> Result<Ending, AllocError> {
-        for i in 0..u32::MAX {
-            let Some(link) = self.seen.link(i) else {
-                return Ok(self.last_ending());
-            };
-            if let Some(ending) = self.ending_before(subject, link) {
-                return Ok(ending);
-            }
-            self.examine(alloc, subject, i)?;
-            self.examined = self.examined.saturating_add(1);
-            self.tell(watcher);
-        }
-        Ok(Ending::States)
     }
 }

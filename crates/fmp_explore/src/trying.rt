@@ -1,6 +1,8 @@
-//! The events that are tried in each state.
-ghost use Rattle.std.specs.Prelude.{◌≡◌, ◌++◌, IfOk, OnOk, is_some};
+//! The events that are tried in each state, and what they did there.
+ghost use Rattle.std.specs.Prelude.{◌≡◌, ◌+◌, ◌<◌, [], ◌∷◌, ◌++◌, IfOk, OnOk, count_by, is_some, length};
 ghost use Rattle.fmp_base.specs.Systems.{defined_for, tables_of};
+ghost use Rattle.fmp_schedules.specs.Deadlocks.{is_interrupt as is_request};
+ghost use Rattle.fmp_explore.specs.Searching.{marked};
 ghost use Rattle.fmp_explore.specs.Tries.{all_tries, requests as requests_of, runs as runs_of};
 
 use crate::notes::Path;
@@ -25,18 +27,26 @@ pub struct Attempt<'a> {
 
 impl<'a> Attempt<'a> {
     /// How the state is reached to which the event leads.
-    pub fn link(&self, kept: bool) -> Link {
+    pub fn link(&self, kept: bool) -> Link
+        requires { length self.now.steps.now < 1048575 }
+        ensures parent { result.parent ≡ self.now.state }
+        ensures event { result.event ≡ self.now.event }
+        ensures depth { result.depth ≡ length self.now.steps.now + 1 }
+    {
         Link {
             parent: self.state,
             event: self.event,
             kept,
-            depth: (self.steps.len() % DEEPEST as usize) as u32 + 1,
+            depth: self.steps.len() as u32 + 1,
         }
     }
 
     /// How many of the events are interrupts.
-    pub fn interrupts(&self) -> usize {
-        interrupt_count(self.steps).saturating_add(interrupt_count(&[self.event]))
+    pub fn interrupts(&self) -> usize
+        requires { length self.now.steps.now < 1048575 }
+        ensures { result ≡ count_by is_request (self.now.steps.now ++ self.now.event ∷ []) }
+    {
+        interrupt_count(self.steps) + interrupt_count(&[self.event])
     }
 
     /// The events, with this one.
@@ -44,6 +54,28 @@ impl<'a> Attempt<'a> {
         Path {
             steps: self.steps,
             last: Some(self.event),
+        }
+    }
+}
+
+/// What was done in the state that is examined.
+#[derive(Clone, Copy)]
+pub struct Marks {
+    /// Whether no processor did anything.
+    pub idle: bool,
+    /// Whether an interrupt did something.
+    pub interrupted: bool,
+}
+
+impl Marks {
+    /// An event did something.
+    pub fn note(&mut self, e: Event)
+        ensures { self.new ≡ marked self.old e }
+    {
+        match e {
+            Event::Run(_) => self.idle = false,
+            Event::Int(_) => self.interrupted = true,
+            Event::Tick => {}
         }
     }
 }

@@ -11,6 +11,6 @@ returns c = λ yes.
     subst
     (λ (b : Bool). IsDeadlock i.system (code_meaning i.code) c.args.n (replay i c.args.n c.args.steps.now).world
     c.args.question.now.rest.items b)
-    c.may_interrupt-interrupts.ensures
+    c.may_interrupt-interrupts.ensures.may
     (deadlock_there i c.args.n c.args.steps.now c.args.kernel.now c.requires c.args.question.now.rest.items _
     (c.is_deadlock.ensures yes))

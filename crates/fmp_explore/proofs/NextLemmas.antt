@@ -1,0 +1,171 @@
+-- The state to which one more event leads, and the first state.
+use Rattle.std.proofs.Common.{◌≡◌, ◌+◌, ◌<◌, ℕ, List, [], ◌∷◌, ◌++◌, Option, Some, None, Bool, true, false, refl, sym, ap, subst, ◌∙◌, arith, count_by, get_or, is_some, length, slice_get}
+use Rattle.std.proofs.lemmas.Option.{slice_get-get_or}
+use Rattle.std.specs.Prelude.{IsSomeAnd}
+use Rattle.std.specs.List.{list_any}
+use Rattle.fmp_alike.specs.Alike.{Alike}
+use Rattle.fmp_alike.specs.Closed.{IsCovered}
+use Rattle.fmp_base.specs.declared.events.Event.{Event}
+use Rattle.fmp_base.specs.declared.events.Event.TheVariants as event
+use Rattle.fmp_base.specs.declared.events.Line.{Line}
+use Rattle.fmp_base.specs.Meanings.{World}
+use Rattle.fmp_base.specs.Setups.{setup}
+use Rattle.fmp_base.specs.Steps.{Did, Done}
+use Rattle.fmp_explore.specs.declared.question.Question.{Question}
+use Rattle.fmp_explore.specs.declared.survey.Survey.{Survey}
+use Rattle.fmp_explore.specs.Followed.{IsFollowed}
+use Rattle.fmp_explore.specs.Forbidden.{forbids}
+use Rattle.fmp_explore.specs.Rules.{rules_of}
+use Rattle.fmp_explore.specs.Searching.{Grows, HasDealt, HasDone, HasKept, HasKeptPlace, IsAt, IsBegun, IsFresh, IsNext, IsSurvey, Stays}
+use Rattle.fmp_explore.specs.States.{AreFew, IsKnown, IsReached, came_of, path_by, watched_of}
+use Rattle.fmp_fields.specs.declared.field.What.{What}
+use Rattle.fmp_fields.specs.Fields.{AreAllFields}
+use Rattle.fmp_image_bytes.specs.Images.{ImageTables}
+use Rattle.fmp_instructions.specs.Instructions.{BodyTables}
+use Rattle.fmp_instructions.specs.Machine.{code_meaning}
+use Rattle.fmp_instructions.specs.declared.instructions.MachineContext.{MachineContext}
+use Rattle.fmp_kernel.specs.KernelViews.{KernelView}
+use Rattle.fmp_replay.specs.Replays.{kernel_after, replay}
+use Rattle.fmp_schedules.specs.Schedules.{Watched, came_after, is_request, watched_at_setup}
+use Rattle.fmp_seen.specs.declared.link.Link.{Link}
+use Rattle.fmp_seen.specs.Links.{AreLinked, IsLink, path_of}
+use Rattle.fmp_seen.specs.Seen.{SeenStates}
+use Rattle.fmp_seen.proofs.LinkLemmas.{links-none, path-added, path-depth, path-first}
+use Rattle.fmp_schedules.proofs.EventLines.{setup-counts}
+use Rattle.fmp_explore.proofs.Following.{followed_none}
+use Rattle.fmp_explore.proofs.StateLemmas.{kept_none, leads_done, leads_kept}
+use Rattle.fmp_explore.proofs.StepLemmas.{kept_by_no_interrupt}
+use Rattle.fmp_explore.proofs.SurveyLemmas.{grows_on, stays_grows}
+
+abbrev Kernels : Type 0
+Kernels = KernelView (List BodyTables) MachineContext
+
+is_link : (links : List Link) (link parent : Link) → slice_get links link.parent ≡ Some parent → link.depth ≡ parent.depth + 1
+    → IsLink links link
+is_link [] link parent found deeper = absurd (cc)
+is_link (before ∷ more) link parent found deeper =
+    subst (λ (o : Option Link). IsSomeAnd o (λ x. link.depth ≡ x.depth + 1)) (sym found) deeper
+
+module _ (links : List Link) (state : ℕ) (es : List Event) (e : Event) (link : Link) (linked : AreLinked links)
+    (at : IsAt links state es) (parent : link.parent ≡ state) (last : link.event ≡ e) (deeper : link.depth ≡ length es + 1) where
+  abbrev before : Link
+  before = get_or links state link
+
+  found : slice_get links link.parent ≡ Some before
+  found = ap (λ (k : ℕ). slice_get links k) parent ∙ slice_get-get_or links state link at.there
+
+  depth : link.depth ≡ before.depth + 1
+  depth =
+      let same : length es ≡ (get_or links state link).depth =
+      ap (λ (fs : List Event). length fs) at.path
+      ∙ path-depth links state (get_or links state link) linked (slice_get-get_or links state link at.there) in
+      deeper ∙ ap (λ (k : ℕ). k + 1) same
+
+  pub next_linked : IsLink links link
+  next_linked = is_link links link before found depth
+
+  -- the path to the next state
+  pub next_path : path_by links link ≡ es ++ e ∷ []
+  next_path =
+      path-added links link before linked found depth
+      ∙ ap (λ (k : ℕ). path_of links k ++ link.event ∷ []) parent
+      ∙ ap (λ (fs : List Event). fs ++ link.event ∷ []) (sym at.path)
+      ∙ ap (λ (x : Event). es ++ x ∷ []) last
+
+module _ (i : ImageTables) (n : ℕ) (q : Question) where
+  pub next_of : (links : List Link) (link : Link) (es : List Event) (k : Kernels) → IsLink links link → path_by links link ≡ es
+      → IsFollowed i n es k → AreFew q es → IsNext i n q links link k
+  next_of links link es k linked path followed few =
+      record {
+        linked = linked;
+        followed = subst (λ (fs : List Event). IsFollowed i n fs k) (sym path) followed;
+        few = subst (λ (fs : List Event). AreFew q fs) (sym path) few;
+      }
+
+  -- what an event that is done leads to is kept
+  pub dealt_done : (a b c : Survey) (k : Kernels) (es : List Event) (e : Event) → Stays a b
+      → (b.sure ≡ true → list_any (forbids q.nevers.items) k.lines ≡ false) → HasDone i n es e k
+      → HasKept i n q b c (es ++ e ∷ []) → HasDealt i n q a c es e
+  dealt_done a b c k es e stays clean h kept =
+      record {
+        survey = kept.survey;
+        grows = grows_on a b c (stays_grows a b stays) kept.grows;
+        leads = λ sure.
+            leads_done i n q c.seen.links es e h.done h.did
+            (subst (λ (ls : List Line). list_any (forbids q.nevers.items) ls ≡ false) h.lines (clean (kept.grows.sure sure)))
+            (kept.known sure);
+      }
+
+  -- what an event that keeps a place leads to is kept
+  pub dealt_kept : (a b c : Survey) (k : Kernels) (es : List Event) (e : Event) → Stays a b → HasKeptPlace i n es e k
+      → HasKept i n q b c (es ++ e ∷ []) → HasDealt i n q a c es e
+  dealt_kept a b c k es e stays h kept =
+      record {
+        survey = kept.survey;
+        grows = grows_on a b c (stays_grows a b stays) kept.grows;
+        leads = λ sure.
+            leads_kept i n q c.seen.links es e h.place h.world h.keeps (kept_by_no_interrupt i n es e h.place h.world h.keeps)
+            (kept.known sure);
+      }
+
+  -- ---- setup
+
+  came_at_setup : (most : Option ℕ) (ls : List Line) → count_by is_request ls ≡ 0 → came_after most 0 ls ≡ came_of most []
+  came_at_setup None ls h = refl
+  came_at_setup (Some most) ls h =
+      let e : 0 + count_by is_request ls ≡ 0 = omega (arith, h) in
+      e
+
+  -- where no line of setup is forbidden, what is watched then is what is watched after no event
+  watched_first : list_any (forbids q.nevers.items) (setup i.system (code_meaning i.code)).lines ≡ false
+      → watched_of q [] ≡ watched_at_setup (rules_of q) i.system (code_meaning i.code) (forbids q.nevers.items)
+  watched_first clean =
+      let with : ℕ → Bool → Watched = λ (came : ℕ) (told : Bool). record { came = came; told = told } in
+      let ls : List Line = (setup i.system (code_meaning i.code)).lines in
+      sym (ap (λ (told : Bool). with (came_after q.interrupts 0 (setup i.system (code_meaning i.code)).lines) told) clean
+      ∙ ap (λ (came : ℕ). with came false) (came_at_setup q.interrupts (setup i.system (code_meaning i.code)).lines (setup-counts i.system (code_meaning i.code))))
+
+  -- the first state is kept
+  pub begun_of : (a b : Survey) (k : Kernels) → k ≡ kernel_after i n []
+      → (a.sure ≡ true → list_any (forbids q.nevers.items) k.lines ≡ false) → HasKept i n q a b [] → IsBegun i n q b
+  unfolding replay
+  begun_of a b k first clean kept =
+      record {
+        survey = kept.survey;
+        first = λ sure.
+            subst
+            (λ (x : Watched). IsCovered (Alike i.system) (IsReached i n q b.seen.links) (setup i.system (code_meaning i.code)).world x)
+            (watched_first
+            (subst (λ (x : Kernels). list_any (forbids q.nevers.items) x.lines ≡ false) first (clean (kept.grows.sure sure))))
+            (kept.known sure);
+      }
+
+  -- a search that has no state yet, once the first values of its fields are read
+  pub fresh_survey : (a b : Survey) → IsFresh i q a → b.tries.items ≡ a.tries.items
+      → b.rows.fields.items ≡ a.rows.fields.items → b.seen ≡ a.seen
+      → length b.rows.first.items ≡ length b.rows.fields.items → IsSurvey i n q b
+  fresh_survey a b h tries fields seen size =
+      let no_links : b.seen.links ≡ [] = ap (λ (x : SeenStates). x.links) seen ∙ h.no_links in
+      record {
+        survey =
+            record {
+              tries = tries ∙ h.survey.tries;
+              fields = subst (λ (fs : List What). AreAllFields i.system i.code (is_some q.interrupts) fs) (sym fields) h.survey.fields;
+            };
+        first = size;
+        kept =
+            kept_none i n q b.rows.first.items b.rows.fields.items b.seen
+            (ap (λ (x : SeenStates). x.rows) seen ∙ h.no_rows) no_links
+            (subst (λ (ls : List Link). AreLinked ls) (sym no_links) links-none);
+      }
+
+  -- the first state has the path of no event
+  pub first_path : (links : List Link) (link : Link) → links ≡ [] → link.depth ≡ 0 → path_by links link ≡ []
+  first_path links link none first =
+      ap (λ (ls : List Link). path_by ls link) none ∙ path-first link first
+
+  pub first_linked : (links : List Link) (link : Link) → links ≡ [] → link.depth ≡ 0 → IsLink links link
+  first_linked links link none first = subst (λ (ls : List Link). IsLink ls link) (sym none) first
+
+  pub none_few : AreFew q []
+  none_few limited = omega arith

@@ -1,0 +1,156 @@
+-- A search that has examined each of its states shows what holds along all schedules.
+use Rattle.std.proofs.Common.{◌≡◌, ◌+◌, ◌<◌, ◌≤◌, ◌⊎◌, inl, inr, ℕ, List, [], Option, Some, None, Bool, true, false, refl, sym, ap, subst, ◌∙◌, arith, length, slice_get}
+use Rattle.std.proofs.lemmas.Bool.{cases_lt}
+use Rattle.std.proofs.lemmas.Option.{slice_get_cases, slice_get_within}
+use Rattle.fmp_alike.specs.Alike.{Alike}
+use Rattle.fmp_alike.specs.Closed.{IsCovered}
+use Rattle.fmp_base.specs.declared.events.Event.{Event}
+use Rattle.fmp_base.specs.Meanings.{World}
+use Rattle.fmp_base.specs.Setups.{setup}
+use Rattle.fmp_base.specs.Steps.{step}
+use Rattle.fmp_explore.specs.declared.question.Question.{Question}
+use Rattle.fmp_explore.specs.declared.survey.Survey.{Survey}
+use Rattle.fmp_explore.specs.Forbidden.{forbids}
+use Rattle.fmp_explore.specs.Rules.{rules_of}
+use Rattle.fmp_explore.specs.Searching.{HasExamined, IsAt, IsBegun, IsSearching, IsSurvey, NothingIsFound}
+use Rattle.fmp_explore.specs.States.{IsExamined, IsReached, LeadsOn, watched_of}
+use Rattle.fmp_image_bytes.specs.Images.{ImageTables, IsImage}
+use Rattle.fmp_instructions.specs.Machine.{code_meaning}
+use Rattle.fmp_instructions.specs.declared.instructions.MachineContext.{MachineContext}
+use Rattle.fmp_replay.specs.Replays.{reaction, replay}
+use Rattle.fmp_schedules.specs.Deadlocks.{IsDeadlock, may_interrupt}
+use Rattle.fmp_schedules.specs.Schedules.{Watched, may_come, may_still, watch, watched_at_setup}
+use Rattle.fmp_schedules.specs.Tried.{IsSearched, IsTried, NoneIsDeadlock, is_event_of}
+use Rattle.fmp_schedules.proofs.HoldLaws.{searched-holds}
+use Rattle.fmp_seen.specs.declared.link.Link.{Link}
+use Rattle.fmp_seen.specs.Links.{AreLinked, path_of}
+use Rattle.fmp_seen.proofs.LinkLemmas.{path-depth, path-stays}
+use Rattle.fmp_readable.proofs.ReadableLaws.{readable}
+use Rattle.fmp_explore.proofs.ForbiddenLemmas.{forbids-timeless}
+use Rattle.fmp_explore.proofs.MarkLemmas.{still_may}
+use Rattle.fmp_explore.proofs.StateLemmas.{alike_self, covered_more, examined_more}
+
+pub past_none : {X : Type 0} (xs : List X) (k : ℕ) → slice_get xs k ≡ None → length xs ≤ k
+past_none xs k none =
+    elim (slice_get_cases xs k).1 [
+      | inl found ↦ absurd (cc (found.2, none))
+      | inr past ↦ past.0
+    ]
+
+-- a state that is not too deep
+pub at_depth : (links : List Link) (k : ℕ) (link : Link) → AreLinked links → slice_get links k ≡ Some link
+    → link.depth < 1048575 → IsAt links k (path_of links k)
+at_depth links k link linked found low =
+    let same : length (path_of links k) ≡ link.depth = path-depth links k link linked found in
+    record { there = slice_get_within links k link found; path = refl; deep = omega (arith, same, low) }
+
+module _ (i : ImageTables) (n : ℕ) (q : Question) where
+  -- no state is examined yet
+  pub none_examined : (s : Survey) → IsBegun i n q s → IsSearching i n q 0 s
+  none_examined s h = record { begun = h; each = λ sure k lt. absurd (omega (arith, lt)) }
+
+  -- one more state is examined
+  pub one_examined : (k : ℕ) (a b : Survey) → IsSearching i n q k a → k < length a.seen.links
+      → HasExamined i n q a b (path_of a.seen.links k) → IsSearching i n q (k + 1) b
+  one_examined k a b h lt x =
+      record {
+        begun =
+            record {
+              survey = x.survey;
+              first = λ sure.
+                  subst
+                  (λ (links : List Link). IsCovered (Alike i.system) (IsReached i n q links) (setup i.system (code_meaning i.code)).world
+                  (watched_at_setup (rules_of q) i.system (code_meaning i.code) (forbids q.nevers.items))) (sym x.grows.links)
+                  (covered_more i n q a.seen.links x.grows.more (setup i.system (code_meaning i.code)).world
+                  (watched_at_setup (rules_of q) i.system (code_meaning i.code) (forbids q.nevers.items)) linked
+                  (h.begun.first (x.grows.sure sure)));
+            };
+        each = λ sure j within there. by_order sure j within (cases_lt j k);
+      } where
+        linked : AreLinked a.seen.links
+        linked = h.begun.survey.kept.linked
+
+        same_path : (j : ℕ) → j < length a.seen.links → path_of b.seen.links j ≡ path_of a.seen.links j
+        same_path j low =
+            subst (λ (links : List Link). path_of links j ≡ path_of a.seen.links j) (sym x.grows.links)
+            (path-stays a.seen.links x.grows.more j linked low)
+
+        by_order : b.sure ≡ true → (j : ℕ) → j < k + 1 → (j < k) ⊎ (k ≤ j)
+            → IsExamined i n q b.seen.links (path_of b.seen.links j)
+        by_order sure j within (inl low) =
+            let there : j < length a.seen.links = omega (arith, low, lt) in
+            subst (λ (es : List Event). IsExamined i n q b.seen.links es) (sym (same_path j there))
+            (subst (λ (links : List Link). IsExamined i n q links (path_of a.seen.links j)) (sym x.grows.links)
+            (examined_more i n q a.seen.links x.grows.more (path_of a.seen.links j) linked
+            (h.each (x.grows.sure sure) j low there)))
+        by_order sure j within (inr past) =
+            let last : j ≡ k = omega (arith, within, past) in
+            subst (λ (m : ℕ). IsExamined i n q b.seen.links (path_of b.seen.links m)) (sym last)
+            (subst (λ (es : List Event). IsExamined i n q b.seen.links es) (sym (same_path k lt)) (x.examined sure))
+
+  module _ (image : IsImage i) (s : Survey) (h : IsSurvey i n q s) where
+    abbrev K : World MachineContext → Watched → Type 0
+    K w a = IsReached i n q s.seen.links w a
+
+    abbrev Examined : Type 0
+    Examined = (k : ℕ) → k < length s.seen.links → IsExamined i n q s.seen.links (path_of s.seen.links k)
+
+    abbrev Tried : World MachineContext → Watched → Event → Type 0
+    Tried w a e =
+        IsTried (Alike i.system) (watch (rules_of q) (forbids q.nevers.items)) (step i.system (code_meaning i.code) n) K w a e
+
+    whole : (w : World MachineContext) (a : Watched) → K w a → length w.state.processors ≡ i.system.processors
+    whole w a k =
+        ap (λ (x : World MachineContext). length x.state.processors) k.world
+        ∙ (readable i n (path_of s.seen.links k.state) image).sizes.processors
+
+    tried_at : Examined → (k : ℕ) → k < length s.seen.links → (e : Event) → is_event_of i.system e ≡ true
+        → may_come (rules_of q) i.system (code_meaning i.code) n (replay i n (path_of s.seen.links k)).world (watched_of q (path_of s.seen.links k)) e ≡ true
+        → Tried (replay i n (path_of s.seen.links k)).world (watched_of q (path_of s.seen.links k)) e
+    unfolding reaction
+    tried_at x k lt e is may =
+        record {
+          world = (replay i n (path_of s.seen.links k)).world;
+          alike = alike_self i n q image s.rows.fields.items h.survey.fields (path_of s.seen.links k);
+          leads = (x k lt).each e is may;
+        }
+
+    tried : Examined → (w : World MachineContext) (a : Watched) (e : Event) → K w a → is_event_of i.system e ≡ true
+        → may_come (rules_of q) i.system (code_meaning i.code) n w a e ≡ true → Tried w a e
+    tried x w a e k is =
+        subst
+        (λ (v : World MachineContext). may_come (rules_of q) i.system (code_meaning i.code) n v a e ≡ true → Tried v a e)
+        (sym k.world)
+        (subst
+        (λ (b : Watched). may_come (rules_of q) i.system (code_meaning i.code) n (replay i n (path_of s.seen.links k.state)).world b e ≡ true
+        → Tried (replay i n (path_of s.seen.links k.state)).world b e)
+        (sym k.watch) (tried_at x k.state k.there e is))
+
+    clean : (w : World MachineContext) (a : Watched) → K w a → a.told ≡ false
+    clean w a k = ap (λ (b : Watched). b.told) k.watch
+
+    free : Examined → NoneIsDeadlock (rules_of q) i.system (code_meaning i.code) n q.rest.items K
+    free x w a k d =
+        let es : List Event = path_of s.seen.links k.state in
+        (x k.state k.there).free
+        (subst (λ (b : Bool). IsDeadlock i.system (code_meaning i.code) n (replay i n (path_of s.seen.links k.state)).world q.rest.items b)
+        (ap (λ (b : Watched). may_still q.interrupts b.came) k.watch ∙ still_may q.interrupts (path_of s.seen.links k.state))
+        (subst (λ (v : World MachineContext). IsDeadlock i.system (code_meaning i.code) n v q.rest.items (may_still q.interrupts a.came))
+        k.world d))
+
+  -- where each state is examined, nothing is found
+  pub all_examined : (s : Survey) (states : ℕ) → IsImage i → IsSearching i n q states s → length s.seen.links ≤ states
+      → s.sure ≡ true → NothingIsFound i n q
+  all_examined s states image h all sure =
+      let survey : IsSurvey i n q s = h.begun.survey in
+      let examined : (k : ℕ) → k < length s.seen.links → IsExamined i n q s.seen.links (path_of s.seen.links k) =
+      λ (k : ℕ) (lt : k < length s.seen.links). h.each sure k (omega (arith, lt, all)) lt in
+      searched-holds (rules_of q) i.system (code_meaning i.code) n (forbids q.nevers.items) q.rest.items
+      (λ (w : World MachineContext) (a : Watched). IsReached i n q s.seen.links w a) (forbids-timeless q.nevers.items)
+      (record {
+        whole = whole image s survey;
+        first = h.begun.first sure;
+        tried = tried image s survey examined;
+        clean = clean image s survey;
+        free = free image s survey examined;
+      })

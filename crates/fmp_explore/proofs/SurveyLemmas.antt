@@ -1,0 +1,175 @@
+-- Searches that go on.
+use Rattle.std.proofs.Common.{◌≡◌, ◌≢◌, ◌+◌, ◌<◌, ◌≤◌, ℕ, zero, suc, List, [], ◌∷◌, ◌++◌, Option, Some, None, Bool, true, false, refl, sym, ap, subst, ◌∙◌, arith, append_assoc, append-nil, count_by, is_some, length, length-append, map, slice_get}
+use Rattle.fmp_base.specs.declared.events.Event.{Event}
+use Rattle.fmp_explore.specs.declared.question.Question.{Question}
+use Rattle.fmp_explore.specs.declared.rows.Rows.{Rows}
+use Rattle.fmp_explore.specs.declared.survey.Survey.{Survey}
+use Rattle.fmp_explore.specs.Searching.{Grows, HasKept, IsAt, IsNext, IsSurvey, IsSurveyOf, Stays}
+use Rattle.fmp_explore.specs.States.{AreKept, HasRow, IsKnown, IsRowOf, path_by}
+use Rattle.fmp_fields.specs.declared.field.What.{What}
+use Rattle.fmp_fields.specs.FieldNumbers.{number_of}
+use Rattle.fmp_fields.specs.Fields.{AreAllFields}
+use Rattle.fmp_image_bytes.specs.Images.{ImageTables, IsImage}
+use Rattle.fmp_instructions.specs.Instructions.{BodyTables}
+use Rattle.fmp_instructions.specs.declared.instructions.MachineContext.{MachineContext}
+use Rattle.fmp_kernel.specs.KernelViews.{KernelView}
+use Rattle.fmp_schedules.specs.Deadlocks.{is_interrupt}
+use Rattle.fmp_seen.specs.declared.link.Link.{Link}
+use Rattle.fmp_seen.specs.Links.{AreLinked, path_of}
+use Rattle.fmp_seen.specs.declared.link.Entry.{Entry}
+use Rattle.fmp_seen.specs.declared.link.Entry.TheVariants as entry
+use Rattle.fmp_seen.specs.Seen.{Adds, SeenStates, with_state}
+use Rattle.fmp_seen.proofs.LinkLemmas.{path-stays}
+use Rattle.fmp_explore.proofs.StateLemmas.{kept_more, new_known, row_known}
+
+-- what becomes of the states where a row is looked up
+adds_at : (old new : SeenStates) (row : List ℕ) (link : Link) (x y : Entry) → x ≡ y → Adds old new row link x
+    → Adds old new row link y
+adds_at old new row link x y e h = subst (λ (z : Entry). Adds old new row link z) e h
+
+pub adds_new : (old new : SeenStates) (row : List ℕ) (link : Link) (x : Entry) (place : ℕ) → x ≡ entry.New place
+    → Adds old new row link x → new ≡ with_state old row link
+adds_new old new row link x place e h = (adds_at old new row link x (entry.New place) e h).1
+
+pub adds_known : (old new : SeenStates) (row : List ℕ) (link : Link) (x : Entry) (place : ℕ) → x ≡ entry.Known place
+    → Adds old new row link x → (new ≡ old) × (slice_get old.rows place ≡ Some row)
+adds_known old new row link x place e h = adds_at old new row link x (entry.Known place) e h
+
+pub adds_none : (old new : SeenStates) (row : List ℕ) (link : Link) (x : Entry) → x ≡ entry.Full
+    → Adds old new row link x → new ≡ old
+adds_none old new row link x e h = (adds_at old new row link x entry.Full e h).0
+
+abbrev Kernels : Type 0
+Kernels = KernelView (List BodyTables) MachineContext
+
+pub grows_on : (a b c : Survey) → Grows a b → Grows b c → Grows a c
+grows_on a b c g h =
+    record {
+      more = g.more ++ h.more;
+      links = h.links ∙ ap (λ (ls : List Link). ls ++ h.more) g.links ∙ append_assoc a.seen.links g.more h.more;
+      sure = λ e. g.sure (h.sure e);
+    }
+
+pub same_grows : (a : Survey) → Grows a a
+same_grows a = record { more = []; links = sym (append-nil a.seen.links); sure = λ e. e }
+
+pub stays_grows : (a b : Survey) → Stays a b → Grows a b
+stays_grows a b s =
+    record {
+      more = [];
+      links = ap (λ (x : SeenStates). x.links) s.seen ∙ sym (append-nil a.seen.links);
+      sure = s.sure;
+    }
+
+pub stays_at : (a b : Survey) (state : ℕ) (es : List Event) → Stays a b → IsAt a.seen.links state es → IsAt b.seen.links state es
+stays_at a b state es s h = subst (λ (x : SeenStates). IsAt x.links state es) (sym s.seen) h
+
+pub grows_at : (a b : Survey) (state : ℕ) (es : List Event) → AreLinked a.seen.links → Grows a b → IsAt a.seen.links state es
+    → IsAt b.seen.links state es
+grows_at a b state es linked g h =
+    subst (λ (ls : List Link). IsAt ls state es) (sym g.links)
+    (let longer : length (a.seen.links ++ g.more) ≡ length a.seen.links + length g.more = length-append a.seen.links g.more in
+    let lt : state < length a.seen.links = h.there in
+    record {
+      there = omega arith;
+      path = h.path ∙ sym (path-stays a.seen.links g.more state linked h.there);
+      deep = h.deep;
+    })
+
+-- what says which rows a search writes is the same
+pub record SameRows (a b : Survey) : Type 0 where
+  pub tries : b.tries.items ≡ a.tries.items
+  pub fields : b.rows.fields.items ≡ a.rows.fields.items
+  pub first : b.rows.first.items ≡ a.rows.first.items
+
+module _ (i : ImageTables) (n : ℕ) (q : Question) where
+  pub stays_survey : (a b : Survey) → Stays a b → IsSurvey i n q a → IsSurvey i n q b
+  stays_survey a b s h =
+      record {
+        survey =
+            record {
+              tries = s.tries ∙ h.survey.tries;
+              fields = subst (λ (r : Rows). AreAllFields i.system i.code (is_some q.interrupts) r.fields.items) (sym s.rows) h.survey.fields;
+            };
+        first = subst (λ (r : Rows). length r.first.items ≡ length r.fields.items) (sym s.rows) h.first;
+        kept =
+            subst (λ (r : Rows). AreKept i n q r.first.items r.fields.items b.seen) (sym s.rows)
+            (subst (λ (x : SeenStates). AreKept i n q a.rows.first.items a.rows.fields.items x) (sym s.seen) h.kept);
+      }
+
+  -- the row of a kernel is that of its state
+  pub row_of_kernel : (first : List ℕ) (fields : List What) (row : List ℕ) (links : List Link) (link : Link) (k : Kernels)
+      (came : ℕ) → IsNext i n q links link k → came ≡ count_by is_interrupt (path_by links link)
+      → IsRowOf first (map (number_of k.system k.world came) fields) row
+      → HasRow i n q first fields (path_by links link) row
+  row_of_kernel first fields row links link k came next count is =
+      record {
+        legal = next.followed.legal;
+        few = next.few;
+        is =
+            subst (λ (x : Kernels). IsRowOf first (map (number_of x.system x.world (count_by is_interrupt (path_by links link))) fields) row)
+            next.followed.kernel
+            (subst (λ (c : ℕ). IsRowOf first (map (number_of k.system k.world c) fields) row) count is);
+      }
+
+  module _ (a b : Survey) (same : SameRows a b) (h : IsSurvey i n q a) where
+    survey_with : AreKept i n q a.rows.first.items a.rows.fields.items b.seen → IsSurvey i n q b
+    survey_with kept =
+        record {
+          survey =
+              record {
+                tries = same.tries ∙ h.survey.tries;
+                fields = subst (λ (fs : List What). AreAllFields i.system i.code (is_some q.interrupts) fs) (sym same.fields) h.survey.fields;
+              };
+          first =
+              ap (λ (xs : List ℕ). length xs) same.first ∙ h.first
+              ∙ sym (ap (λ (fs : List What). length fs) same.fields);
+          kept =
+              subst (λ (fs : List What). AreKept i n q b.rows.first.items fs b.seen) (sym same.fields)
+              (subst (λ (xs : List ℕ). AreKept i n q xs a.rows.fields.items b.seen) (sym same.first) kept);
+        }
+
+    module _ (image : IsImage i) (link : Link) (k : Kernels) (next : IsNext i n q a.seen.links link k) (row : List ℕ)
+        (has : HasRow i n q a.rows.first.items a.rows.fields.items (path_by a.seen.links link) row) (sure : b.sure ≡ true → a.sure ≡ true) where
+      -- the state is new
+      pub keeps_new : b.seen ≡ with_state a.seen row link → HasKept i n q a b (path_by a.seen.links link)
+      keeps_new e =
+          record {
+            survey =
+                survey_with
+                (subst (λ (x : SeenStates). AreKept i n q a.rows.first.items a.rows.fields.items x) (sym e)
+                (kept_more i n q a.rows.first.items a.rows.fields.items a.seen row link h.kept next.linked has));
+            grows = record { more = link ∷ []; links = ap (λ (x : SeenStates). x.links) e; sure = sure };
+            known = λ _.
+                subst (λ (x : SeenStates). IsKnown i n q x.links (path_by a.seen.links link)) (sym e)
+                (new_known i n q image a.rows.fields.items h.survey.fields a.seen.links link);
+          }
+
+      same_seen : b.seen ≡ a.seen → (b.sure ≡ true → IsKnown i n q a.seen.links (path_by a.seen.links link))
+          → HasKept i n q a b (path_by a.seen.links link)
+      same_seen e known =
+          record {
+            survey =
+                survey_with
+                (subst (λ (x : SeenStates). AreKept i n q a.rows.first.items a.rows.fields.items x) (sym e) h.kept);
+            grows =
+                record {
+                  more = [];
+                  links = ap (λ (x : SeenStates). x.links) e ∙ sym (append-nil a.seen.links);
+                  sure = sure;
+                };
+            known = λ s.
+                subst (λ (x : SeenStates). IsKnown i n q x.links (path_by a.seen.links link)) (sym e) (known s);
+          }
+
+      -- it is known already
+      pub keeps_known : (place : ℕ) → b.seen ≡ a.seen → slice_get a.seen.rows place ≡ Some row
+          → HasKept i n q a b (path_by a.seen.links link)
+      keeps_known place e found =
+          same_seen e
+          (λ _. row_known i n q image a.rows.fields.items h.survey.fields a.rows.first.items a.seen place
+          (path_by a.seen.links link) row h.first h.kept found has)
+
+      -- no more states may be kept
+      pub keeps_none : b.seen ≡ a.seen → b.sure ≡ false → HasKept i n q a b (path_by a.seen.links link)
+      keeps_none e lost = same_seen e (λ s. absurd (cc (s, lost)))

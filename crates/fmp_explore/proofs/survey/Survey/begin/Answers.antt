@@ -1,0 +1,47 @@
+use Rattle.std.proofs.Common.{◌≡◌, ◌∙◌, [], List, ap, count_by, refl, subst, sym}
+use Rattle.std.proofs.lemmas.Result.{IfOk-weaker}
+use Rattle.fmp_base.specs.declared.events.Event.{Event}
+use Rattle.fmp_explore.specs.declared.rows.Rows.{Rows}
+use Rattle.fmp_explore.specs.Searching.{HasKept}
+use Rattle.fmp_schedules.specs.Deadlocks.{is_interrupt}
+use Rattle.fmp_seen.specs.Seen.{SeenStates}
+use Rattle.fmp_explore.proofs.Following.{followed_none}
+use Rattle.fmp_explore.proofs.NextLemmas.{begun_of, first_linked, first_path, fresh_survey, next_of, none_few}
+use Rattle.fmp_explore.proofs.survey.Survey.begin.Goals as goal
+
+pub keep-requires-clause-survey : goal.keep-requires-clause-survey
+keep-requires-clause-survey c =
+    let s = c.args.subject.now in
+    let stays = c.in_ok-note_setup.ensures.stays in
+    fresh_survey s.image.now s.n s.question.now c.args.self.now _ c.requires.fresh stays.tries
+    (c.begin.ensures.fields ∙ ap (λ (r : Rows). r.fields.items) stays.rows) stays.seen c.in_ok-begin.ensures.first
+
+pub keep-requires-clause-next : goal.keep-requires-clause-next
+keep-requires-clause-next c =
+    let s = c.args.subject.now in
+    let stays = c.in_ok-note_setup.ensures.stays in
+    let none = ap (λ (x : SeenStates). x.links) stays.seen ∙ c.requires.fresh.no_links in
+    next_of s.image.now s.n s.question.now c.note_setup.new.self.seen.links _ [] c.args.kernel.now
+    (first_linked s.image.now s.n s.question.now c.note_setup.new.self.seen.links _ none refl)
+    (first_path s.image.now s.n s.question.now c.note_setup.new.self.seen.links _ none refl)
+    (followed_none s.image.now s.n c.args.kernel.now c.requires.kernel) (none_few s.image.now s.n s.question.now)
+
+pub keep-requires-clause-came : goal.keep-requires-clause-came
+keep-requires-clause-came c =
+    let s = c.args.subject.now in
+    let stays = c.in_ok-note_setup.ensures.stays in
+    let none = ap (λ (x : SeenStates). x.links) stays.seen ∙ c.requires.fresh.no_links in
+    sym
+    (ap (λ (es : List Event). count_by is_interrupt es)
+    (first_path s.image.now s.n s.question.now c.note_setup.new.self.seen.links _ none refl))
+
+pub returns : goal.returns
+returns c =
+    let s = c.args.subject.now in
+    let stays = c.in_ok-note_setup.ensures.stays in
+    let none = ap (λ (x : SeenStates). x.links) stays.seen ∙ c.requires.fresh.no_links in
+    IfOk-weaker c.keep.result _ _
+    (λ _ kept. begun_of s.image.now s.n s.question.now (record c.note_setup.new.self { rows = c.begin.new.self }) c.keep.new.self c.args.kernel.now c.requires.kernel
+    c.in_ok-note_setup.ensures.clean
+    (subst (λ (es : List Event). HasKept s.image.now s.n s.question.now (record c.note_setup.new.self { rows = c.begin.new.self }) c.keep.new.self es)
+    (first_path s.image.now s.n s.question.now c.note_setup.new.self.seen.links _ none refl) kept)) c.keep.ensures

@@ -1,0 +1,182 @@
+-- What holds of a search under way.
+use Rattle.std.specs.Prelude.{ℕ, ◌≡◌, ◌+◌, ◌<◌, ◌≤◌, ◌^◌, List, [], ◌∷◌, ◌++◌, Some, Bool, true, false, is_some, length, slice_get}
+use Rattle.fmp_alike.specs.Alike.{Alike}
+use Rattle.fmp_alike.specs.Closed.{IsCovered}
+use Rattle.fmp_base.specs.declared.events.Effect.{Effect}
+use Rattle.fmp_base.specs.declared.events.Event.{Event}
+use Rattle.fmp_base.specs.declared.events.Event.TheVariants as event
+use Rattle.fmp_base.specs.declared.events.Line.{Line}
+use Rattle.fmp_base.specs.Meanings.{World}
+use Rattle.fmp_base.specs.Setups.{setup}
+use Rattle.fmp_base.specs.Steps.{Done, Nothing, Did, Kept, effect_of}
+use Rattle.fmp_explore.specs.declared.question.Question.{Question}
+use Rattle.fmp_explore.specs.declared.survey.Survey.{Survey}
+use Rattle.fmp_explore.specs.declared.trying.Marks.{Marks}
+use Rattle.fmp_explore.specs.Followed.{IsFollowed}
+use Rattle.fmp_explore.specs.Forbidden.{forbids}
+use Rattle.fmp_explore.specs.Rules.{rules_of}
+use Rattle.fmp_explore.specs.States.{AreFew, AreKept, IsExamined, IsKnown, IsReached, IsStuckAfter, LeadsOn, MayCome, path_by}
+use Rattle.fmp_explore.specs.Tries.{all_tries}
+use Rattle.fmp_fields.specs.Fields.{AreAllFields}
+use Rattle.fmp_image_bytes.specs.Images.{ImageTables}
+use Rattle.fmp_instructions.specs.Instructions.{BodyTables}
+use Rattle.fmp_instructions.specs.Machine.{code_meaning}
+use Rattle.fmp_instructions.specs.declared.instructions.MachineContext.{MachineContext}
+use Rattle.fmp_kernel.specs.KernelViews.{KernelView, view_after}
+use Rattle.fmp_replay.specs.Replays.{IsLegal, kernel_after, reaction, replay}
+use Rattle.fmp_schedules.specs.Deadlocks.{may_interrupt}
+use Rattle.fmp_schedules.specs.Schedules.{Holds, none_runs, watched_at_setup}
+use Rattle.fmp_seen.specs.declared.link.Link.{Link}
+use Rattle.fmp_seen.specs.Links.{IsLink, path_of}
+
+-- the fields and the events of a search are those of its image
+pub record IsSurveyOf (i : ImageTables) (q : Question) (s : Survey) : Type 0 where
+  pub tries : s.tries.items ≡ all_tries i.system
+  pub fields : AreAllFields i.system i.code (is_some q.interrupts) s.rows.fields.items
+
+-- a search that has no state yet
+pub record IsFresh (i : ImageTables) (q : Question) (s : Survey) : Type 0 where
+  pub survey : IsSurveyOf i q s
+  pub no_rows : s.seen.rows ≡ []
+  pub no_links : s.seen.links ≡ []
+
+-- a search that keeps states
+pub record IsSurvey (i : ImageTables) (n : ℕ) (q : Question) (s : Survey) : Type 0 where
+  pub survey : IsSurveyOf i q s
+  pub first : length s.rows.first.items ≡ length s.rows.fields.items
+  pub kept : AreKept i n q s.rows.first.items s.rows.fields.items s.seen
+
+-- a search has gone on: it keeps more states, or as many
+pub record Grows (old new : Survey) : Type 0 where
+  pub more : List Link
+  pub links : new.seen.links ≡ old.seen.links ++ more
+  pub sure : new.sure ≡ true → old.sure ≡ true
+
+-- a search keeps the same states
+pub record Stays (old new : Survey) : Type 0 where
+  pub tries : new.tries.items ≡ old.tries.items
+  pub rows : new.rows ≡ old.rows
+  pub seen : new.seen ≡ old.seen
+  pub sure : new.sure ≡ true → old.sure ≡ true
+
+-- a kernel is in the state of one more link
+pub record IsNext (i : ImageTables) (n : ℕ) (q : Question) (links : List Link) (link : Link)
+    (k : KernelView (List BodyTables) MachineContext) : Type 0 where
+  pub linked : IsLink links link
+  pub followed : IsFollowed i n (path_by links link) k
+  pub few : AreFew q (path_by links link)
+
+-- the state after these events is kept, or one that is alike
+pub record HasKept (i : ImageTables) (n : ℕ) (q : Question) (old new : Survey) (es : List Event) : Type 0 where
+  pub survey : IsSurvey i n q new
+  pub grows : Grows old new
+  pub known : new.sure ≡ true → IsKnown i n q new.seen.links es
+
+-- the state after setup is kept, where no line of setup is forbidden
+pub record IsBegun (i : ImageTables) (n : ℕ) (q : Question) (s : Survey) : Type 0 where
+  pub survey : IsSurvey i n q s
+  pub first :
+      s.sure ≡ true →
+      IsCovered (Alike i.system) (IsReached i n q s.seen.links) (setup i.system (code_meaning i.code)).world
+      (watched_at_setup (rules_of q) i.system (code_meaning i.code) (forbids q.nevers.items))
+
+-- a state, and the events that lead to it
+pub record IsAt (links : List Link) (state : ℕ) (es : List Event) : Type 0 where
+  pub there : state < length links
+  pub path : es ≡ path_of links state
+  pub deep : length es < 1048575
+
+-- what an event does after others, and the kernel then
+pub record HasStepped (i : ImageTables) (n : ℕ) (es : List Event) (e : Event)
+    (k : KernelView (List BodyTables) MachineContext) (x : Effect) : Type 0 where
+  pub legal : IsLegal i n es
+  pub effect : x ≡ effect_of (reaction i n es e)
+  pub kernel : k ≡ view_after (kernel_after i n es) (reaction i n es e)
+
+-- an event is done after others
+pub record HasDone (i : ImageTables) (n : ℕ) (es : List Event) (e : Event)
+    (k : KernelView (List BodyTables) MachineContext) : Type 0 where
+  pub done : Done MachineContext
+  pub did : reaction i n es e ≡ Did done
+  pub lines : k.lines ≡ done.lines
+  pub followed : IsFollowed i n (es ++ e ∷ []) k
+
+-- an event keeps a place after others
+pub record HasKeptPlace (i : ImageTables) (n : ℕ) (es : List Event) (e : Event)
+    (k : KernelView (List BodyTables) MachineContext) : Type 0 where
+  pub place : ℕ
+  pub world : World MachineContext
+  pub keeps : reaction i n es e ≡ Kept place world
+  pub followed : IsFollowed i n (es ++ e ∷ []) k
+
+-- what an event leads to is kept
+pub record HasDealt (i : ImageTables) (n : ℕ) (q : Question) (old new : Survey) (es : List Event) (e : Event) :
+    Type 0 where
+  pub survey : IsSurvey i n q new
+  pub grows : Grows old new
+  pub leads : new.sure ≡ true → LeadsOn i n q new.seen.links es e
+
+-- an interrupt that may come after these events does something
+pub record HasRequest (i : ImageTables) (n : ℕ) (q : Question) (es : List Event) : Type 0 where
+  pub number : ℕ
+  pub first : 1 ≤ number
+  pub last : number < 33
+  pub may : may_interrupt q.interrupts es ≡ true
+  pub does : reaction i n es (event.Int number) ≡ Nothing → ⊥
+
+-- what was done in a state is so
+pub record AreMarks (i : ImageTables) (n : ℕ) (q : Question) (es : List Event) (m : Marks) : Type 0 where
+  pub idle :
+      m.idle ≡ false →
+      none_runs i.system (code_meaning i.code) n (replay i n es).world i.system.processors ≡ false
+  pub interrupted : m.interrupted ≡ true → HasRequest i n q es
+
+-- where the event is an interrupt, it may come after these
+abbrev pub MayRequest : Question → List Event → Event → Type 0
+MayRequest q es (event.Int number) = may_interrupt q.interrupts es ≡ true
+MayRequest q es _ = Unit {0}
+
+-- the marks after an event that did something
+abbrev pub marked : Marks → Event → Marks
+marked m (event.Run p) = record m { idle = false }
+marked m event.Tick = m
+marked m (event.Int i) = record m { interrupted = true }
+
+-- the first events of those that are tried in a state were tried, this many
+pub record IsTrying (i : ImageTables) (n : ℕ) (q : Question) (state : ℕ) (es : List Event) (m : Marks) (tried : ℕ)
+    (s : Survey) : Type 0 where
+  pub survey : IsSurvey i n q s
+  pub at : IsAt s.seen.links state es
+  pub marks : AreMarks i n q es m
+  pub each :
+      s.sure ≡ true → (place : ℕ) (e : Event) → place < tried → slice_get (all_tries i.system) place ≡ Some e →
+      MayCome i n q es e → LeadsOn i n q s.seen.links es e
+
+-- so many events were tried in a state
+pub record HasTried (i : ImageTables) (n : ℕ) (q : Question) (state : ℕ) (es : List Event) (m : Marks)
+    (old new : Survey) (tried : ℕ) : Type 0 where
+  pub trying : IsTrying i n q state es m tried new
+  pub grows : Grows old new
+
+-- the state after these events was looked at: it is no deadlock
+pub record HasLooked (i : ImageTables) (n : ℕ) (q : Question) (old new : Survey) (es : List Event) : Type 0 where
+  pub stays : Stays old new
+  pub free : new.sure ≡ true → IsStuckAfter i n q es → ⊥
+
+-- the state after these events was examined
+pub record HasExamined (i : ImageTables) (n : ℕ) (q : Question) (old new : Survey) (es : List Event) : Type 0 where
+  pub survey : IsSurvey i n q new
+  pub grows : Grows old new
+  pub examined : new.sure ≡ true → IsExamined i n q new.seen.links es
+
+-- the first states were examined, this many
+pub record IsSearching (i : ImageTables) (n : ℕ) (q : Question) (states : ℕ) (s : Survey) : Type 0 where
+  pub begun : IsBegun i n q s
+  pub each :
+      s.sure ≡ true → (k : ℕ) → k < states → k < length s.seen.links →
+      IsExamined i n q s.seen.links (path_of s.seen.links k)
+
+-- nothing that is asked about is found along any schedule
+abbrev pub NothingIsFound : ImageTables → (n : ℕ) → Question → Type 0
+NothingIsFound i n q =
+    Holds (rules_of q) i.system (code_meaning i.code) n (forbids q.nevers.items) q.rest.items

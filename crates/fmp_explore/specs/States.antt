@@ -1,0 +1,98 @@
+-- The states that a search keeps. Each is the world to which a list of events leads.
+use Rattle.std.specs.Prelude.{ℕ, ◌≡◌, ◌+◌, ◌<◌, ◌^◌, List, [], ◌∷◌, ◌++◌, Option, Some, None, true, false, count_by, is_some, length, map, slice_get}
+use Rattle.fmp_alike.specs.Alike.{Alike}
+use Rattle.fmp_alike.specs.Closed.{IsCovered, LeadsIn}
+use Rattle.fmp_base.specs.declared.events.Event.{Event}
+use Rattle.fmp_base.specs.Meanings.{World}
+use Rattle.fmp_explore.specs.declared.question.Question.{Question}
+use Rattle.fmp_explore.specs.Forbidden.{forbids}
+use Rattle.fmp_explore.specs.Rules.{rules_of}
+use Rattle.fmp_fields.specs.declared.field.What.{What}
+use Rattle.fmp_fields.specs.FieldNumbers.{number_of}
+use Rattle.fmp_image_bytes.specs.Images.{ImageTables}
+use Rattle.fmp_instructions.specs.Machine.{code_meaning}
+use Rattle.fmp_instructions.specs.declared.instructions.MachineContext.{MachineContext}
+use Rattle.fmp_replay.specs.Replays.{IsLegal, reaction, replay}
+use Rattle.fmp_schedules.specs.Deadlocks.{IsDeadlock, is_interrupt, may_interrupt}
+use Rattle.fmp_schedules.specs.Schedules.{Watched, may_come, watch}
+use Rattle.fmp_schedules.specs.Tried.{is_event_of}
+use Rattle.fmp_seen.specs.declared.link.Link.{Link}
+use Rattle.fmp_seen.specs.Links.{AreLinked, path_of}
+use Rattle.fmp_seen.specs.Rows.{AreValues, row_of}
+use Rattle.fmp_seen.specs.Seen.{SeenStates}
+
+-- how many interrupts came, where their number is limited
+abbrev pub came_of : Option ℕ → List Event → ℕ
+came_of None es = 0
+came_of (Some most) es = count_by is_interrupt es
+
+-- what is watched after events that told no forbidden line
+abbrev pub watched_of : Question → List Event → Watched
+watched_of q es = record { came = came_of q.interrupts es; told = false }
+
+-- where the number of interrupts is limited, it fits a byte
+abbrev pub AreFew : Question → List Event → Type 0
+AreFew q es = is_some q.interrupts ≡ true → count_by is_interrupt es < 256
+
+-- the numbers of the fields after these events
+abbrev pub numbers_after : ImageTables → (n : ℕ) → List What → List Event → List ℕ
+numbers_after i n fields es = map (number_of i.system (replay i n es).world (count_by is_interrupt es)) fields
+
+-- the row of these numbers, each of which is one of 32 bits
+pub record IsRowOf (first numbers row : List ℕ) : Type 0 where
+  pub values : AreValues numbers
+  pub is : row ≡ row_of first numbers
+
+-- legal events lead to a state of this row
+pub record HasRow (i : ImageTables) (n : ℕ) (q : Question) (first : List ℕ) (fields : List What) (es : List Event)
+    (row : List ℕ) : Type 0 where
+  pub legal : IsLegal i n es
+  pub few : AreFew q es
+  pub is : IsRowOf first (numbers_after i n fields es) row
+
+-- the path to each state that is kept leads to a state of its row
+pub record AreKept (i : ImageTables) (n : ℕ) (q : Question) (first : List ℕ) (fields : List What) (seen : SeenStates) :
+    Type 0 where
+  pub linked : AreLinked seen.links
+  pub rows : length seen.rows ≡ length seen.links
+  pub each :
+      (k : ℕ) (row : List ℕ) → slice_get seen.rows k ≡ Some row →
+      HasRow i n q first fields (path_of seen.links k) row
+
+-- the events that lead to the state of one more link
+abbrev pub path_by : List Link → Link → List Event
+path_by links link = path_of (links ++ link ∷ []) (length links)
+
+-- the path to one of the states leads to this world, where this is watched
+pub record IsReached (i : ImageTables) (n : ℕ) (q : Question) (links : List Link) (w : World MachineContext)
+    (a : Watched) : Type 0 where
+  pub state : ℕ
+  pub there : state < length links
+  pub world : w ≡ (replay i n (path_of links state)).world
+  pub watch : a ≡ watched_of q (path_of links state)
+
+-- one of the states is alike to that after these events
+abbrev pub IsKnown : ImageTables → (n : ℕ) → Question → List Link → List Event → Type 0
+IsKnown i n q links es = IsCovered (Alike i.system) (IsReached i n q links) (replay i n es).world (watched_of q es)
+
+-- what this does after these events leads to a state, if it leads to any
+abbrev pub LeadsOn : ImageTables → (n : ℕ) → Question → List Link → List Event → Event → Type 0
+LeadsOn i n q links es e =
+    LeadsIn (Alike i.system) (watch (rules_of q) (forbids q.nevers.items)) (IsReached i n q links) (watched_of q es)
+    (reaction i n es e)
+
+-- the rules let an event come after others
+abbrev pub MayCome : ImageTables → (n : ℕ) → Question → List Event → Event → Type 0
+MayCome i n q es e =
+    may_come (rules_of q) i.system (code_meaning i.code) n (replay i n es).world (watched_of q es) e ≡ true
+
+-- the state after these events is a deadlock
+abbrev pub IsStuckAfter : ImageTables → (n : ℕ) → Question → List Event → Type 0
+IsStuckAfter i n q es =
+    IsDeadlock i.system (code_meaning i.code) n (replay i n es).world q.rest.items (may_interrupt q.interrupts es)
+
+-- each event that may come after these leads to a state, and they lead to no deadlock
+pub record IsExamined (i : ImageTables) (n : ℕ) (q : Question) (links : List Link) (es : List Event) : Type 0 where
+  pub each :
+      (e : Event) → is_event_of i.system e ≡ true → MayCome i n q es e → LeadsOn i n q links es e
+  pub free : IsStuckAfter i n q es → ⊥
