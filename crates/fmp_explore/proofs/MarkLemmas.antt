@@ -1,30 +1,29 @@
 -- What was done in a state, and whether it is a deadlock.
-use Rattle.std.proofs.Common.{◌≡◌, ◌≢◌, ◌+◌, ◌<◌, ◌≤◌, ◌⊎◌, inl, inr, ℕ, zero, suc, List, [], ◌∷◌, ◌++◌, Option, Some, None, Bool, true, false, refl, sym, ap, subst, ◌∙◌, arith, cond, count_by, is_some, length, nat_eq, nat_lt, not, ◌||◌, if◌then◌else◌}
+use Rattle.std.proofs.Common.{◌≡◌, ◌≢◌, ◌+◌, ◌<◌, ◌≤◌, inl, inr, ℕ, zero, suc, List, [], ◌∷◌, ◌++◌, Option, Some, None, Bool, true, false, refl, sym, ap, subst, ◌∙◌, arith, cond, count_by, nat_eq, not, ◌||◌, if◌then◌else◌}
 use Rattle.std.proofs.lemmas.Bool.{cases_lt, eqb-true, le-ltb}
 use Rattle.std.specs.List.{AllByRecursion}
 use Rattle.fmp_base.specs.declared.events.Event.{Event}
 use Rattle.fmp_base.specs.declared.events.Event.TheVariants as event
 use Rattle.fmp_base.specs.declared.systems.InterruptConfig.{InterruptConfig}
-use Rattle.fmp_base.specs.Meanings.{Meaning, World}
+use Rattle.fmp_base.specs.Meanings.{World}
 use Rattle.fmp_base.specs.Ranges.{InterruptInRange, IsInRange}
-use Rattle.fmp_base.specs.Steps.{Reaction, Nothing, Did, Kept, interrupted, step}
-use Rattle.fmp_base.specs.Systems.{SystemTables, defined_for, interrupt_config}
+use Rattle.fmp_base.specs.Steps.{Nothing, interrupted}
+use Rattle.fmp_base.specs.Systems.{defined_for}
 use Rattle.fmp_explore.specs.declared.question.Question.{Question}
 use Rattle.fmp_explore.specs.declared.question.Ticks.{Ticks}
 use Rattle.fmp_explore.specs.declared.question.Ticks.TheVariants as ticks
 use Rattle.fmp_explore.specs.declared.trying.Marks.{Marks}
-use Rattle.fmp_explore.specs.Rules.{is_idle, rules_of}
+use Rattle.fmp_explore.specs.Rules.{is_idle}
 use Rattle.fmp_explore.specs.Searching.{AreMarks, HasRequest, MayRequest, marked}
 use Rattle.fmp_explore.specs.Standing.{StandsStill}
-use Rattle.fmp_explore.specs.States.{AreFew, IsStuckAfter, MayCome, came_of, watched_of}
+use Rattle.fmp_explore.specs.States.{AreFew, IsStuckAfter, MayCome, came_of}
 use Rattle.fmp_image_bytes.specs.Images.{ImageTables, IsImage}
 use Rattle.fmp_image_bytes.proofs.InRange.{image_in_range}
 use Rattle.fmp_instructions.specs.Machine.{code_meaning}
 use Rattle.fmp_instructions.specs.declared.instructions.MachineContext.{MachineContext}
 use Rattle.fmp_replay.specs.Replays.{reaction, replay}
-use Rattle.fmp_schedules.specs.Deadlocks.{IsDeadlock, is_interrupt, may_interrupt}
+use Rattle.fmp_schedules.specs.Deadlocks.{is_interrupt, may_interrupt}
 use Rattle.fmp_schedules.specs.Schedules.{may_still, none_runs}
-use Rattle.fmp_schedules.specs.Tried.{is_event_of}
 use Rattle.fmp_schedules.proofs.IdleLaws.{each-none, none-each}
 use Rattle.fmp_schedules.proofs.TriedLaws.{other-nothing}
 use Rattle.fmp_readable.proofs.ReadableLaws.{readable}

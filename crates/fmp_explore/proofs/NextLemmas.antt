@@ -1,23 +1,20 @@
 -- The state to which one more event leads, and the first state.
-use Rattle.std.proofs.Common.{◌≡◌, ◌+◌, ◌<◌, ℕ, List, [], ◌∷◌, ◌++◌, Option, Some, None, Bool, true, false, refl, sym, ap, subst, ◌∙◌, arith, count_by, get_or, is_some, length, slice_get}
+use Rattle.std.proofs.Common.{◌≡◌, ◌+◌, ℕ, List, [], ◌∷◌, ◌++◌, Option, Some, None, Bool, true, false, refl, sym, ap, subst, ◌∙◌, arith, count_by, get_or, is_some, length, slice_get}
 use Rattle.std.proofs.lemmas.Option.{slice_get-get_or}
 use Rattle.std.specs.Prelude.{IsSomeAnd}
 use Rattle.std.specs.List.{list_any}
 use Rattle.fmp_alike.specs.Alike.{Alike}
 use Rattle.fmp_alike.specs.Closed.{IsCovered}
 use Rattle.fmp_base.specs.declared.events.Event.{Event}
-use Rattle.fmp_base.specs.declared.events.Event.TheVariants as event
 use Rattle.fmp_base.specs.declared.events.Line.{Line}
-use Rattle.fmp_base.specs.Meanings.{World}
 use Rattle.fmp_base.specs.Setups.{setup}
-use Rattle.fmp_base.specs.Steps.{Did, Done}
 use Rattle.fmp_explore.specs.declared.question.Question.{Question}
 use Rattle.fmp_explore.specs.declared.survey.Survey.{Survey}
 use Rattle.fmp_explore.specs.Followed.{IsFollowed}
 use Rattle.fmp_explore.specs.Forbidden.{forbids}
 use Rattle.fmp_explore.specs.Rules.{rules_of}
-use Rattle.fmp_explore.specs.Searching.{Grows, HasDealt, HasDone, HasKept, HasKeptPlace, IsAt, IsBegun, IsFresh, IsNext, IsSurvey, Stays}
-use Rattle.fmp_explore.specs.States.{AreFew, IsKnown, IsReached, came_of, path_by, watched_of}
+use Rattle.fmp_explore.specs.Searching.{HasDealt, HasDone, HasKept, HasKeptPlace, IsAt, IsBegun, IsFresh, IsNext, IsSurvey, Stays}
+use Rattle.fmp_explore.specs.States.{AreFew, IsReached, came_of, path_by, watched_of}
 use Rattle.fmp_fields.specs.declared.field.What.{What}
 use Rattle.fmp_fields.specs.Fields.{AreAllFields}
 use Rattle.fmp_image_bytes.specs.Images.{ImageTables}
@@ -32,7 +29,6 @@ use Rattle.fmp_seen.specs.Links.{AreLinked, IsLink, path_of}
 use Rattle.fmp_seen.specs.Seen.{SeenStates}
 use Rattle.fmp_seen.proofs.LinkLemmas.{links-none, path-added, path-depth, path-first}
 use Rattle.fmp_schedules.proofs.EventLines.{setup-counts}
-use Rattle.fmp_explore.proofs.Following.{followed_none}
 use Rattle.fmp_explore.proofs.StateLemmas.{kept_none, leads_done, leads_kept}
 use Rattle.fmp_explore.proofs.StepLemmas.{kept_by_no_interrupt}
 use Rattle.fmp_explore.proofs.SurveyLemmas.{grows_on, stays_grows}

@@ -1,5 +1,5 @@
 -- A search that has examined each of its states shows what holds along all schedules.
-use Rattle.std.proofs.Common.{◌≡◌, ◌+◌, ◌<◌, ◌≤◌, ◌⊎◌, inl, inr, ℕ, List, [], Option, Some, None, Bool, true, false, refl, sym, ap, subst, ◌∙◌, arith, length, slice_get}
+use Rattle.std.proofs.Common.{◌≡◌, ◌+◌, ◌<◌, ◌≤◌, ◌⊎◌, inl, inr, ℕ, List, Some, None, Bool, true, false, refl, sym, ap, subst, ◌∙◌, arith, length, slice_get}
 use Rattle.std.proofs.lemmas.Bool.{cases_lt}
 use Rattle.std.proofs.lemmas.Option.{slice_get_cases, slice_get_within}
 use Rattle.fmp_alike.specs.Alike.{Alike}
@@ -13,14 +13,14 @@ use Rattle.fmp_explore.specs.declared.survey.Survey.{Survey}
 use Rattle.fmp_explore.specs.Forbidden.{forbids}
 use Rattle.fmp_explore.specs.Rules.{rules_of}
 use Rattle.fmp_explore.specs.Searching.{HasExamined, IsAt, IsBegun, IsSearching, IsSurvey, NothingIsFound}
-use Rattle.fmp_explore.specs.States.{IsExamined, IsReached, LeadsOn, watched_of}
+use Rattle.fmp_explore.specs.States.{IsExamined, IsReached, watched_of}
 use Rattle.fmp_image_bytes.specs.Images.{ImageTables, IsImage}
 use Rattle.fmp_instructions.specs.Machine.{code_meaning}
 use Rattle.fmp_instructions.specs.declared.instructions.MachineContext.{MachineContext}
 use Rattle.fmp_replay.specs.Replays.{reaction, replay}
-use Rattle.fmp_schedules.specs.Deadlocks.{IsDeadlock, may_interrupt}
+use Rattle.fmp_schedules.specs.Deadlocks.{IsDeadlock}
 use Rattle.fmp_schedules.specs.Schedules.{Watched, may_come, may_still, watch, watched_at_setup}
-use Rattle.fmp_schedules.specs.Tried.{IsSearched, IsTried, NoneIsDeadlock, is_event_of}
+use Rattle.fmp_schedules.specs.Tried.{IsTried, NoneIsDeadlock, is_event_of}
 use Rattle.fmp_schedules.proofs.HoldLaws.{searched-holds}
 use Rattle.fmp_seen.specs.declared.link.Link.{Link}
 use Rattle.fmp_seen.specs.Links.{AreLinked, path_of}

@@ -1,10 +1,10 @@
 -- Searches that go on.
-use Rattle.std.proofs.Common.{◌≡◌, ◌≢◌, ◌+◌, ◌<◌, ◌≤◌, ℕ, zero, suc, List, [], ◌∷◌, ◌++◌, Option, Some, None, Bool, true, false, refl, sym, ap, subst, ◌∙◌, arith, append_assoc, append-nil, count_by, is_some, length, length-append, map, slice_get}
+use Rattle.std.proofs.Common.{◌≡◌, ◌+◌, ◌<◌, ℕ, List, [], ◌∷◌, ◌++◌, Some, true, false, sym, ap, subst, ◌∙◌, arith, append_assoc, append-nil, count_by, is_some, length, length-append, map, slice_get}
 use Rattle.fmp_base.specs.declared.events.Event.{Event}
 use Rattle.fmp_explore.specs.declared.question.Question.{Question}
 use Rattle.fmp_explore.specs.declared.rows.Rows.{Rows}
 use Rattle.fmp_explore.specs.declared.survey.Survey.{Survey}
-use Rattle.fmp_explore.specs.Searching.{Grows, HasKept, IsAt, IsNext, IsSurvey, IsSurveyOf, Stays}
+use Rattle.fmp_explore.specs.Searching.{Grows, HasKept, IsAt, IsNext, IsSurvey, Stays}
 use Rattle.fmp_explore.specs.States.{AreKept, HasRow, IsKnown, IsRowOf, path_by}
 use Rattle.fmp_fields.specs.declared.field.What.{What}
 use Rattle.fmp_fields.specs.FieldNumbers.{number_of}
@@ -15,7 +15,7 @@ use Rattle.fmp_instructions.specs.declared.instructions.MachineContext.{MachineC
 use Rattle.fmp_kernel.specs.KernelViews.{KernelView}
 use Rattle.fmp_schedules.specs.Deadlocks.{is_interrupt}
 use Rattle.fmp_seen.specs.declared.link.Link.{Link}
-use Rattle.fmp_seen.specs.Links.{AreLinked, path_of}
+use Rattle.fmp_seen.specs.Links.{AreLinked}
 use Rattle.fmp_seen.specs.declared.link.Entry.{Entry}
 use Rattle.fmp_seen.specs.declared.link.Entry.TheVariants as entry
 use Rattle.fmp_seen.specs.Seen.{Adds, SeenStates, with_state}

@@ -1,20 +1,18 @@
 -- The events that were tried in a state, and one more of them.
-use Rattle.std.proofs.Common.{◌≡◌, ◌+◌, ◌<◌, ◌≤◌, ◌⊎◌, inl, inr, ℕ, zero, suc, List, [], ◌∷◌, ◌++◌, Option, Some, None, Bool, true, false, refl, sym, ap, subst, ◌∙◌, arith, get_or, length, slice_get}
+use Rattle.std.proofs.Common.{◌≡◌, ◌+◌, ◌<◌, ◌≤◌, ◌⊎◌, inl, inr, ℕ, List, [], Some, true, false, sym, ap, subst, ◌∙◌, arith, get_or, length, slice_get}
 use Rattle.std.proofs.lemmas.Bool.{cases_lt}
 use Rattle.std.proofs.lemmas.Option.{slice_get-get_or}
 use Rattle.fmp_base.specs.declared.events.Event.{Event}
 use Rattle.fmp_explore.specs.declared.question.Question.{Question}
 use Rattle.fmp_explore.specs.declared.survey.Survey.{Survey}
 use Rattle.fmp_explore.specs.declared.trying.Marks.{Marks}
-use Rattle.fmp_explore.specs.Searching.{AreMarks, Grows, HasDealt, HasExamined, HasLooked, HasTried, IsAt, IsSurvey, IsTrying, Stays}
-use Rattle.fmp_explore.specs.States.{AreFew, HasRow, IsExamined, LeadsOn, MayCome}
+use Rattle.fmp_explore.specs.Searching.{AreMarks, Grows, HasExamined, HasLooked, HasTried, IsAt, IsSurvey, IsTrying, Stays}
+use Rattle.fmp_explore.specs.States.{AreFew, HasRow, LeadsOn, MayCome}
 use Rattle.fmp_explore.specs.Tries.{all_tries}
 use Rattle.fmp_image_bytes.specs.Images.{ImageTables, IsImage}
 use Rattle.fmp_image_bytes.proofs.InRange.{image_in_range}
-use Rattle.fmp_schedules.specs.Tried.{is_event_of}
 use Rattle.fmp_seen.specs.declared.link.Link.{Link}
 use Rattle.fmp_seen.specs.Links.{AreLinked, path_of}
-use Rattle.fmp_seen.specs.Seen.{SeenStates}
 use Rattle.fmp_explore.proofs.StateLemmas.{leads_on_more}
 use Rattle.fmp_explore.proofs.TryLemmas.{each-tried}
 use Rattle.fmp_explore.proofs.SurveyLemmas.{grows_at, grows_on, stays_at, stays_grows, stays_survey}

@@ -1,11 +1,10 @@
 -- What holds of a search under way.
-use Rattle.std.specs.Prelude.{ℕ, ◌≡◌, ◌+◌, ◌<◌, ◌≤◌, ◌^◌, List, [], ◌∷◌, ◌++◌, Some, Bool, true, false, is_some, length, slice_get}
+use Rattle.std.specs.Prelude.{ℕ, ◌≡◌, ◌<◌, ◌≤◌, List, [], ◌∷◌, ◌++◌, Some, true, false, is_some, length, slice_get}
 use Rattle.fmp_alike.specs.Alike.{Alike}
 use Rattle.fmp_alike.specs.Closed.{IsCovered}
 use Rattle.fmp_base.specs.declared.events.Effect.{Effect}
 use Rattle.fmp_base.specs.declared.events.Event.{Event}
 use Rattle.fmp_base.specs.declared.events.Event.TheVariants as event
-use Rattle.fmp_base.specs.declared.events.Line.{Line}
 use Rattle.fmp_base.specs.Meanings.{World}
 use Rattle.fmp_base.specs.Setups.{setup}
 use Rattle.fmp_base.specs.Steps.{Done, Nothing, Did, Kept, effect_of}

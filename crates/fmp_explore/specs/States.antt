@@ -1,5 +1,5 @@
 -- The states that a search keeps. Each is the world to which a list of events leads.
-use Rattle.std.specs.Prelude.{ℕ, ◌≡◌, ◌+◌, ◌<◌, ◌^◌, List, [], ◌∷◌, ◌++◌, Option, Some, None, true, false, count_by, is_some, length, map, slice_get}
+use Rattle.std.specs.Prelude.{ℕ, ◌≡◌, ◌<◌, List, [], ◌∷◌, ◌++◌, Option, Some, None, true, false, count_by, is_some, length, map, slice_get}
 use Rattle.fmp_alike.specs.Alike.{Alike}
 use Rattle.fmp_alike.specs.Closed.{IsCovered, LeadsIn}
 use Rattle.fmp_base.specs.declared.events.Event.{Event}

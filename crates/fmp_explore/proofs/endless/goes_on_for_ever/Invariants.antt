@@ -1,4 +1,3 @@
-use Rattle.std.proofs.Common.{◌≡◌}
 use Rattle.fmp_code.specs.Vms.{IsContext}
 use Rattle.fmp_explore.specs.Endless.{LeadsTo}
 use Rattle.fmp_instructions.specs.Machine.{code_meaning}

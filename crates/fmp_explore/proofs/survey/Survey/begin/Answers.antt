@@ -1,4 +1,4 @@
-use Rattle.std.proofs.Common.{◌≡◌, ◌∙◌, [], List, ap, count_by, refl, subst, sym}
+use Rattle.std.proofs.Common.{◌∙◌, [], List, ap, count_by, refl, subst, sym}
 use Rattle.std.proofs.lemmas.Result.{IfOk-weaker}
 use Rattle.fmp_base.specs.declared.events.Event.{Event}
 use Rattle.fmp_explore.specs.declared.rows.Rows.{Rows}

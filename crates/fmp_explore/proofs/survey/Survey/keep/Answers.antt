@@ -1,5 +1,4 @@
 use Rattle.std.proofs.Common.{List, refl, subst, ℕ}
-use Rattle.fmp_seen.specs.declared.link.Entry.{Entry}
 use Rattle.fmp_seen.specs.Seen.{Adds}
 use Rattle.fmp_explore.proofs.SurveyLemmas.{adds_known, adds_new, adds_none, keeps_known, keeps_new, keeps_none, row_of_kernel}
 use Rattle.fmp_explore.proofs.survey.Survey.keep.Goals as goal

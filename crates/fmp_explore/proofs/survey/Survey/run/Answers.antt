@@ -1,4 +1,4 @@
-use Rattle.std.proofs.Common.{◌≡◌, ◌∙◌, None, Some, refl, sym}
+use Rattle.std.proofs.Common.{◌∙◌, sym}
 use Rattle.std.proofs.lemmas.Option.{slice_get_within}
 use Rattle.fmp_explore.proofs.SearchLemmas.{all_examined, at_depth, one_examined, past_none}
 use Rattle.fmp_explore.proofs.survey.Survey.run.Goals as goal
