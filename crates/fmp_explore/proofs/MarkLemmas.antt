@@ -64,7 +64,8 @@ module _ (i : ImageTables) (n : ℕ) (q : Question) (es : List Event) where
   run_nothing image zero none = refl
   run_nothing image (suc p) none =
       elim (cases_lt p i.system.processors) [
-        | inl lt ↦ none-each i.system (code_meaning i.code) n world i.system.processors none (suc p) (omega arith) (omega arith)
+        | inl lt ↦ none-each i.system (code_meaning i.code) n world i.system.processors none (suc p) (omega arith)
+            (omega arith)
         | inr past ↦
             other-nothing i.system (code_meaning i.code) n world (event.Run (suc p))
             (readable i n es image).sizes.processors (le-ltb p i.system.processors past)
@@ -84,18 +85,24 @@ module _ (i : ImageTables) (n : ℕ) (q : Question) (es : List Event) where
   number_within ranges (suc p) does =
       let low : p + 1 ≤ 32 =
       number_low i.system.processors (p + 1) i.system.interrupts ranges.interrupts.each
-      (λ none. does (ap (λ (config : Option InterruptConfig). interrupted config i.system (code_meaning i.code) world p) none)) in
+      (λ none. does (ap (λ (config : Option InterruptConfig). interrupted config i.system
+      (code_meaning i.code) world p) none)) in
       (omega arith, omega arith)
 
   -- ---- marks
 
   pub marks_more : (m : Marks) (e : Event) → IsImage i → AreMarks i n q es m → reaction i n es e ≢ Nothing
       → MayRequest q es e → AreMarks i n q es (marked m e)
-  marks_more m (event.Run p) image h does may = record { idle = λ _. not_idle image p does idle refl; interrupted = h.interrupted }
+  marks_more m (event.Run p) image h does may =
+      record { idle = λ _. not_idle image p does idle refl; interrupted = h.interrupted }
   marks_more m event.Tick image h does may = h
   marks_more m (event.Int number) image h does may =
       let within = number_within (image_in_range i image) number does in
-      record { idle = h.idle; interrupted = λ _. record { number = number; first = within.0; last = within.1; may = may; does = does } }
+      record {
+        idle = h.idle;
+        interrupted = λ _. record
+            { number = number; first = within.0; last = within.1; may = may; does = does };
+      }
 
   -- ---- deadlocks
 
@@ -117,7 +124,8 @@ module _ (i : ImageTables) (n : ℕ) (q : Question) (es : List Event) where
   -- ---- the rules
 
   -- where the code lets the clock not advance, the rules do not
-  pub tick_never : (m : Marks) → AreMarks i n q es m → q.ticks ≢ ticks.Any → m.idle ≡ false → MayCome i n q es event.Tick → ⊥
+  pub tick_never : (m : Marks) → AreMarks i n q es m → q.ticks ≢ ticks.Any → m.idle ≡ false
+      → MayCome i n q es event.Tick → ⊥
   tick_never m h some busy may = by_ticks q.ticks some may where
     by_ticks : (t : Ticks) → t ≢ ticks.Any → (not (is_idle t) || idle) ≡ true → ⊥
     by_ticks ticks.Any other e = absurd (other refl)
@@ -136,7 +144,9 @@ module _ (i : ImageTables) (n : ℕ) (q : Question) (es : List Event) where
       omega (arith, zero_more, low, count_one_more es e)
 
   -- an interrupt that may come does
-  pub few_more : (number : ℕ) → count_by is_interrupt es < 255 → count_by is_interrupt (es ++ event.Int number ∷ []) < 256
+  pub few_more : (number : ℕ) → count_by is_interrupt es < 255
+      → count_by is_interrupt (es ++ event.Int number ∷ []) < 256
   few_more number low =
-      let count : count_by is_interrupt (es ++ event.Int number ∷ []) ≡ count_by is_interrupt es + 1 = count_one_more es (event.Int number) in
+      let count : count_by is_interrupt (es ++ event.Int number ∷ []) ≡ count_by is_interrupt es + 1 =
+      count_one_more es (event.Int number) in
       omega arith

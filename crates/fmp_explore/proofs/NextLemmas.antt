@@ -36,14 +36,16 @@ use Rattle.fmp_explore.proofs.SurveyLemmas.{grows_on, stays_grows}
 abbrev Kernels : Type 0
 Kernels = KernelView (List BodyTables) MachineContext
 
-is_link : (links : List Link) (link parent : Link) → slice_get links link.parent ≡ Some parent → link.depth ≡ parent.depth + 1
+is_link : (links : List Link) (link parent : Link) → slice_get links link.parent ≡ Some parent
+    → link.depth ≡ parent.depth + 1
     → IsLink links link
 is_link [] link parent found deeper = absurd (cc)
 is_link (before ∷ more) link parent found deeper =
     subst (λ (o : Option Link). IsSomeAnd o (λ x. link.depth ≡ x.depth + 1)) (sym found) deeper
 
 module _ (links : List Link) (state : ℕ) (es : List Event) (e : Event) (link : Link) (linked : AreLinked links)
-    (at : IsAt links state es) (parent : link.parent ≡ state) (last : link.event ≡ e) (deeper : link.depth ≡ length es + 1) where
+    (at : IsAt links state es) (parent : link.parent ≡ state) (last : link.event ≡ e)
+    (deeper : link.depth ≡ length es + 1) where
   abbrev before : Link
   before = get_or links state link
 
@@ -69,7 +71,8 @@ module _ (links : List Link) (state : ℕ) (es : List Event) (e : Event) (link :
       ∙ ap (λ (x : Event). es ++ x ∷ []) last
 
 module _ (i : ImageTables) (n : ℕ) (q : Question) where
-  pub next_of : (links : List Link) (link : Link) (es : List Event) (k : Kernels) → IsLink links link → path_by links link ≡ es
+  pub next_of : (links : List Link) (link : Link) (es : List Event) (k : Kernels) → IsLink links link
+      → path_by links link ≡ es
       → IsFollowed i n es k → AreFew q es → IsNext i n q links link k
   next_of links link es k linked path followed few =
       record {
@@ -88,7 +91,8 @@ module _ (i : ImageTables) (n : ℕ) (q : Question) where
         grows = grows_on a b c (stays_grows a b stays) kept.grows;
         leads = λ sure.
             leads_done i n q c.seen.links es e h.done h.did
-            (subst (λ (ls : List Line). list_any (forbids q.nevers.items) ls ≡ false) h.lines (clean (kept.grows.sure sure)))
+            (subst (λ (ls : List Line). list_any (forbids q.nevers.items) ls ≡ false) h.lines
+            (clean (kept.grows.sure sure)))
             (kept.known sure);
       }
 
@@ -100,13 +104,15 @@ module _ (i : ImageTables) (n : ℕ) (q : Question) where
         survey = kept.survey;
         grows = grows_on a b c (stays_grows a b stays) kept.grows;
         leads = λ sure.
-            leads_kept i n q c.seen.links es e h.place h.world h.keeps (kept_by_no_interrupt i n es e h.place h.world h.keeps)
+            leads_kept i n q c.seen.links es e h.place h.world h.keeps
+            (kept_by_no_interrupt i n es e h.place h.world h.keeps)
             (kept.known sure);
       }
 
   -- ---- setup
 
-  came_at_setup : (most : Option ℕ) (ls : List Line) → count_by is_request ls ≡ 0 → came_after most 0 ls ≡ came_of most []
+  came_at_setup : (most : Option ℕ) (ls : List Line) → count_by is_request ls ≡ 0
+      → came_after most 0 ls ≡ came_of most []
   came_at_setup None ls h = refl
   came_at_setup (Some most) ls h =
       let e : 0 + count_by is_request ls ≡ 0 = omega (arith, h) in
@@ -118,8 +124,11 @@ module _ (i : ImageTables) (n : ℕ) (q : Question) where
   watched_first clean =
       let with : ℕ → Bool → Watched = λ (came : ℕ) (told : Bool). record { came = came; told = told } in
       let ls : List Line = (setup i.system (code_meaning i.code)).lines in
-      sym (ap (λ (told : Bool). with (came_after q.interrupts 0 (setup i.system (code_meaning i.code)).lines) told) clean
-      ∙ ap (λ (came : ℕ). with came false) (came_at_setup q.interrupts (setup i.system (code_meaning i.code)).lines (setup-counts i.system (code_meaning i.code))))
+      sym (ap (λ (told : Bool). with
+      (came_after q.interrupts 0 (setup i.system (code_meaning i.code)).lines) told) clean
+      ∙ ap (λ (came : ℕ). with came false)
+      (came_at_setup q.interrupts (setup i.system (code_meaning i.code)).lines
+      (setup-counts i.system (code_meaning i.code))))
 
   -- the first state is kept
   pub begun_of : (a b : Survey) (k : Kernels) → k ≡ kernel_after i n []
@@ -130,9 +139,11 @@ module _ (i : ImageTables) (n : ℕ) (q : Question) where
         survey = kept.survey;
         first = λ sure.
             subst
-            (λ (x : Watched). IsCovered (Alike i.system) (IsReached i n q b.seen.links) (setup i.system (code_meaning i.code)).world x)
+            (λ (x : Watched). IsCovered (Alike i.system) (IsReached i n q b.seen.links)
+            (setup i.system (code_meaning i.code)).world x)
             (watched_first
-            (subst (λ (x : Kernels). list_any (forbids q.nevers.items) x.lines ≡ false) first (clean (kept.grows.sure sure))))
+            (subst (λ (x : Kernels). list_any (forbids q.nevers.items) x.lines ≡ false) first
+            (clean (kept.grows.sure sure))))
             (kept.known sure);
       }
 
@@ -146,7 +157,8 @@ module _ (i : ImageTables) (n : ℕ) (q : Question) where
         survey =
             record {
               tries = tries ∙ h.survey.tries;
-              fields = subst (λ (fs : List What). AreAllFields i.system i.code (is_some q.interrupts) fs) (sym fields) h.survey.fields;
+              fields = subst (λ (fs : List What). AreAllFields i.system i.code (is_some q.interrupts) fs)
+                  (sym fields) h.survey.fields;
             };
         first = size;
         kept =

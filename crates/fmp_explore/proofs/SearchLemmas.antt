@@ -59,8 +59,10 @@ module _ (i : ImageTables) (n : ℕ) (q : Question) where
               survey = x.survey;
               first = λ sure.
                   subst
-                  (λ (links : List Link). IsCovered (Alike i.system) (IsReached i n q links) (setup i.system (code_meaning i.code)).world
-                  (watched_at_setup (rules_of q) i.system (code_meaning i.code) (forbids q.nevers.items))) (sym x.grows.links)
+                  (λ (links : List Link). IsCovered (Alike i.system) (IsReached i n q links)
+                  (setup i.system (code_meaning i.code)).world
+                  (watched_at_setup (rules_of q) i.system (code_meaning i.code) (forbids q.nevers.items)))
+                  (sym x.grows.links)
                   (covered_more i n q a.seen.links x.grows.more (setup i.system (code_meaning i.code)).world
                   (watched_at_setup (rules_of q) i.system (code_meaning i.code) (forbids q.nevers.items)) linked
                   (h.begun.first (x.grows.sure sure)));
@@ -97,7 +99,8 @@ module _ (i : ImageTables) (n : ℕ) (q : Question) where
 
     abbrev Tried : World MachineContext → Watched → Event → Type 0
     Tried w a e =
-        IsTried (Alike i.system) (watch (rules_of q) (forbids q.nevers.items)) (step i.system (code_meaning i.code) n) K w a e
+        IsTried (Alike i.system) (watch (rules_of q) (forbids q.nevers.items))
+        (step i.system (code_meaning i.code) n) K w a e
 
     whole : (w : World MachineContext) (a : Watched) → K w a → length w.state.processors ≡ i.system.processors
     whole w a k =
@@ -105,7 +108,8 @@ module _ (i : ImageTables) (n : ℕ) (q : Question) where
         ∙ (readable i n (path_of s.seen.links k.state) image).sizes.processors
 
     tried_at : Examined → (k : ℕ) → k < length s.seen.links → (e : Event) → is_event_of i.system e ≡ true
-        → may_come (rules_of q) i.system (code_meaning i.code) n (replay i n (path_of s.seen.links k)).world (watched_of q (path_of s.seen.links k)) e ≡ true
+        → may_come (rules_of q) i.system (code_meaning i.code) n (replay i n (path_of s.seen.links k)).world
+        (watched_of q (path_of s.seen.links k)) e ≡ true
         → Tried (replay i n (path_of s.seen.links k)).world (watched_of q (path_of s.seen.links k)) e
     unfolding reaction
     tried_at x k lt e is may =
@@ -119,10 +123,12 @@ module _ (i : ImageTables) (n : ℕ) (q : Question) where
         → may_come (rules_of q) i.system (code_meaning i.code) n w a e ≡ true → Tried w a e
     tried x w a e k is =
         subst
-        (λ (v : World MachineContext). may_come (rules_of q) i.system (code_meaning i.code) n v a e ≡ true → Tried v a e)
+        (λ (v : World MachineContext). may_come (rules_of q) i.system (code_meaning i.code) n v a e ≡ true
+        → Tried v a e)
         (sym k.world)
         (subst
-        (λ (b : Watched). may_come (rules_of q) i.system (code_meaning i.code) n (replay i n (path_of s.seen.links k.state)).world b e ≡ true
+        (λ (b : Watched). may_come (rules_of q) i.system (code_meaning i.code) n
+        (replay i n (path_of s.seen.links k.state)).world b e ≡ true
         → Tried (replay i n (path_of s.seen.links k.state)).world b e)
         (sym k.watch) (tried_at x k.state k.there e is))
 
@@ -133,9 +139,12 @@ module _ (i : ImageTables) (n : ℕ) (q : Question) where
     free x w a k d =
         let es : List Event = path_of s.seen.links k.state in
         (x k.state k.there).free
-        (subst (λ (b : Bool). IsDeadlock i.system (code_meaning i.code) n (replay i n (path_of s.seen.links k.state)).world q.rest.items b)
-        (ap (λ (b : Watched). may_still q.interrupts b.came) k.watch ∙ still_may q.interrupts (path_of s.seen.links k.state))
-        (subst (λ (v : World MachineContext). IsDeadlock i.system (code_meaning i.code) n v q.rest.items (may_still q.interrupts a.came))
+        (subst (λ (b : Bool). IsDeadlock i.system (code_meaning i.code) n
+        (replay i n (path_of s.seen.links k.state)).world q.rest.items b)
+        (ap (λ (b : Watched). may_still q.interrupts b.came) k.watch
+        ∙ still_may q.interrupts (path_of s.seen.links k.state))
+        (subst (λ (v : World MachineContext). IsDeadlock i.system (code_meaning i.code) n v q.rest.items
+        (may_still q.interrupts a.came))
         k.world d))
 
   -- where each state is examined, nothing is found

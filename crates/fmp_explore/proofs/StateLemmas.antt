@@ -123,12 +123,14 @@ module _ (i : ImageTables) (n : ℕ) (q : Question) where
                     (sym (path-stays seen.links (link ∷ []) k h.linked (omega arith))) (h.each k r old)
                 | inr last ↦
                     subst (λ (j : ℕ). HasRow i n q first fields (path_of (seen.links ++ link ∷ []) j) r)
-                    (sym (last.0 ∙ h.rows)) (subst (λ (x : List ℕ). HasRow i n q first fields (path_by seen.links link) x) last.1 has)
+                    (sym (last.0 ∙ h.rows)) (subst
+                    (λ (x : List ℕ). HasRow i n q first fields (path_by seen.links link) x) last.1 has)
               ]
 
   -- ---- known states
 
-  same_watch : (es fs : List Event) → came_of q.interrupts es ≡ came_of q.interrupts fs → watched_of q es ≡ watched_of q fs
+  same_watch : (es fs : List Event) → came_of q.interrupts es ≡ came_of q.interrupts fs
+      → watched_of q es ≡ watched_of q fs
   same_watch es fs e =
       let with : ℕ → Watched = λ (came : ℕ). record { came = came; told = false } in
       ap with e
@@ -138,7 +140,8 @@ module _ (i : ImageTables) (n : ℕ) (q : Question) where
   came_same None es fs h = refl
   came_same (Some most) es fs h = h refl
 
-  module _ (image : IsImage i) (fields : List What) (all : AreAllFields i.system i.code (is_some q.interrupts) fields) where
+  module _ (image : IsImage i) (fields : List What)
+      (all : AreAllFields i.system i.code (is_some q.interrupts) fields) where
     pub alike_self : (es : List Event) → Alike i.system (replay i n es).world (replay i n es).world
     alike_self es =
         fields-told i.system i.code (is_some q.interrupts) fields (replay i n es).world (replay i n es).world 0 0 all
@@ -218,7 +221,8 @@ module _ (i : ImageTables) (n : ℕ) (q : Question) where
   replayed es e r h = replay_last i n es e ∙ ap (λ (x : Reaction MachineContext). done_or (replay i n es) x) h
 
   -- an event that is done, where no line is forbidden and the state after it is known
-  pub leads_done : (links : List Link) (es : List Event) (e : Event) (d : Done MachineContext) → reaction i n es e ≡ Did d
+  pub leads_done : (links : List Link) (es : List Event) (e : Event) (d : Done MachineContext)
+      → reaction i n es e ≡ Did d
       → list_any (forbids q.nevers.items) d.lines ≡ false → IsKnown i n q links (es ++ e ∷ [])
       → LeadsOn i n q links es e
   unfolding reaction
@@ -228,11 +232,15 @@ module _ (i : ImageTables) (n : ℕ) (q : Question) where
       let with : ℕ → Bool → Watched = λ (came : ℕ) (told : Bool). record { came = came; told = told } in
       let world : (replay i n (es ++ e ∷ [])).world ≡ d.world =
       ap (λ (x : Done MachineContext). x.world) (replayed es e (Did d) did) in
-      let watch : watched_of q (es ++ e ∷ []) ≡ with (came_after q.interrupts (came_of q.interrupts es) d.lines) (list_any (forbids q.nevers.items) d.lines) =
-      sym (ap (λ (came : ℕ). with came (list_any (forbids q.nevers.items) d.lines)) (came_on q.interrupts es e d.lines count) ∙ ap (λ (told : Bool). with (came_of q.interrupts (es ++ e ∷ [])) told) clean) in
+      let watch : watched_of q (es ++ e ∷ []) ≡ with (came_after q.interrupts (came_of q.interrupts es) d.lines)
+      (list_any (forbids q.nevers.items) d.lines) =
+      sym (ap (λ (came : ℕ). with came (list_any (forbids q.nevers.items) d.lines))
+      (came_on q.interrupts es e d.lines count)
+      ∙ ap (λ (told : Bool). with (came_of q.interrupts (es ++ e ∷ [])) told) clean) in
       subst (λ (r : Reaction MachineContext). Leads links (watched_of q es) r) (sym did)
       (subst (λ (a : Watched). IsCovered (Alike i.system) (IsReached i n q links) d.world a) watch
-      (subst (λ (w : World MachineContext). IsCovered (Alike i.system) (IsReached i n q links) w (watched_of q (es ++ e ∷ []))) world known))
+      (subst (λ (w : World MachineContext). IsCovered (Alike i.system) (IsReached i n q links) w
+      (watched_of q (es ++ e ∷ []))) world known))
 
   -- an event that does nothing
   pub leads_nowhere : (links : List Link) (es : List Event) (e : Event) → reaction i n es e ≡ Nothing
@@ -245,7 +253,8 @@ module _ (i : ImageTables) (n : ℕ) (q : Question) where
   came_kept None es e h = refl
   came_kept (Some most) es e h =
       let none : cond {A = ℕ} (is_interrupt e) 1 0 ≡ 0 = ap (λ (b : Bool). cond {A = ℕ} b 1 0) h in
-      let same : count_by is_interrupt es ≡ count_by is_interrupt (es ++ e ∷ []) = omega (arith, none, count_one_more es e) in
+      let same : count_by is_interrupt es ≡ count_by is_interrupt (es ++ e ∷ []) =
+      omega (arith, none, count_one_more es e) in
       same
 
   -- an event that keeps a place, where the state after it is known
@@ -258,4 +267,5 @@ module _ (i : ImageTables) (n : ℕ) (q : Question) where
       subst (λ (r : Reaction MachineContext). Leads links (watched_of q es) r) (sym keeps)
       (subst (λ (a : Watched). IsCovered (Alike i.system) (IsReached i n q links) w a)
       (sym (same_watch es (es ++ e ∷ []) (came_kept q.interrupts es e runs)))
-      (subst (λ (v : World MachineContext). IsCovered (Alike i.system) (IsReached i n q links) v (watched_of q (es ++ e ∷ []))) world known))
+      (subst (λ (v : World MachineContext). IsCovered (Alike i.system) (IsReached i n q links) v
+      (watched_of q (es ++ e ∷ []))) world known))

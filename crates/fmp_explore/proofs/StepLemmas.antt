@@ -49,7 +49,8 @@ module _ (i : ImageTables) (n : ℕ) (es : List Event) (e : Event) where
       → x ≡ effect_of (step k.system (code_meaning k.body) k.bound k.world e)
       → k' ≡ view_after k (step k.system (code_meaning k.body) k.bound k.world e) → HasStepped i n es e k' x
   stepped k k' x f effect view =
-      let there : step k.system (code_meaning k.body) k.bound k.world e ≡ reaction i n es e = step_of_replay i n es e k f.kernel in
+      let there : step k.system (code_meaning k.body) k.bound k.world e ≡ reaction i n es e =
+      step_of_replay i n es e k f.kernel in
       record {
         legal = f.legal;
         effect = effect ∙ ap (λ (r : Reaction MachineContext). effect_of r) there;
@@ -63,10 +64,12 @@ module _ (i : ImageTables) (n : ℕ) (es : List Event) (e : Event) where
         → k ≡ view_after (kernel_after i n es) r
     seen_at r x h is = h.kernel ∙ ap (λ (y : Reaction MachineContext). view_after (kernel_after i n es) y) is
 
-    effect_at : (r : Reaction MachineContext) (x : Effect) → HasStepped i n es e k x → reaction i n es e ≡ r → x ≡ effect_of r
+    effect_at : (r : Reaction MachineContext) (x : Effect) → HasStepped i n es e k x → reaction i n es e ≡ r
+        → x ≡ effect_of r
     effect_at r x h is = h.effect ∙ ap (λ (y : Reaction MachineContext). effect_of y) is
 
-    done_by : (r : Reaction MachineContext) → reaction i n es e ≡ r → HasStepped i n es e k effect.Done → HasDone i n es e k
+    done_by : (r : Reaction MachineContext) → reaction i n es e ≡ r → HasStepped i n es e k effect.Done
+        → HasDone i n es e k
     done_by Nothing is h = absurd (cc (effect_at Nothing effect.Done h is))
     done_by (Kept p v) is h = absurd (cc (effect_at (Kept p v) effect.Done h is))
     done_by (Did d) is h =
@@ -84,7 +87,8 @@ module _ (i : ImageTables) (n : ℕ) (es : List Event) (e : Event) where
     pub stepped_done : HasStepped i n es e k effect.Done → HasDone i n es e k
     stepped_done h = done_by (reaction i n es e) refl h
 
-    kept_by : (r : Reaction MachineContext) → reaction i n es e ≡ r → HasStepped i n es e k effect.Kept → HasKeptPlace i n es e k
+    kept_by : (r : Reaction MachineContext) → reaction i n es e ≡ r → HasStepped i n es e k effect.Kept
+        → HasKeptPlace i n es e k
     kept_by Nothing is h = absurd (cc (effect_at Nothing effect.Kept h is))
     kept_by (Did d) is h = absurd (cc (effect_at (Did d) effect.Kept h is))
     kept_by (Kept p v) is h =

@@ -61,14 +61,17 @@ stays_grows a b s =
       sure = s.sure;
     }
 
-pub stays_at : (a b : Survey) (state : ℕ) (es : List Event) → Stays a b → IsAt a.seen.links state es → IsAt b.seen.links state es
+pub stays_at : (a b : Survey) (state : ℕ) (es : List Event) → Stays a b → IsAt a.seen.links state es
+    → IsAt b.seen.links state es
 stays_at a b state es s h = subst (λ (x : SeenStates). IsAt x.links state es) (sym s.seen) h
 
-pub grows_at : (a b : Survey) (state : ℕ) (es : List Event) → AreLinked a.seen.links → Grows a b → IsAt a.seen.links state es
+pub grows_at : (a b : Survey) (state : ℕ) (es : List Event) → AreLinked a.seen.links → Grows a b
+    → IsAt a.seen.links state es
     → IsAt b.seen.links state es
 grows_at a b state es linked g h =
     subst (λ (ls : List Link). IsAt ls state es) (sym g.links)
-    (let longer : length (a.seen.links ++ g.more) ≡ length a.seen.links + length g.more = length-append a.seen.links g.more in
+    (let longer : length (a.seen.links ++ g.more) ≡ length a.seen.links + length g.more =
+    length-append a.seen.links g.more in
     let lt : state < length a.seen.links = h.there in
     record {
       there = omega arith;
@@ -89,7 +92,8 @@ module _ (i : ImageTables) (n : ℕ) (q : Question) where
         survey =
             record {
               tries = s.tries ∙ h.survey.tries;
-              fields = subst (λ (r : Rows). AreAllFields i.system i.code (is_some q.interrupts) r.fields.items) (sym s.rows) h.survey.fields;
+              fields = subst (λ (r : Rows). AreAllFields i.system i.code (is_some q.interrupts) r.fields.items)
+                  (sym s.rows) h.survey.fields;
             };
         first = subst (λ (r : Rows). length r.first.items ≡ length r.fields.items) (sym s.rows) h.first;
         kept =
@@ -98,7 +102,8 @@ module _ (i : ImageTables) (n : ℕ) (q : Question) where
       }
 
   -- the row of a kernel is that of its state
-  pub row_of_kernel : (first : List ℕ) (fields : List What) (row : List ℕ) (links : List Link) (link : Link) (k : Kernels)
+  pub row_of_kernel : (first : List ℕ) (fields : List What) (row : List ℕ) (links : List Link) (link : Link)
+      (k : Kernels)
       (came : ℕ) → IsNext i n q links link k → came ≡ count_by is_interrupt (path_by links link)
       → IsRowOf first (map (number_of k.system k.world came) fields) row
       → HasRow i n q first fields (path_by links link) row
@@ -107,7 +112,8 @@ module _ (i : ImageTables) (n : ℕ) (q : Question) where
         legal = next.followed.legal;
         few = next.few;
         is =
-            subst (λ (x : Kernels). IsRowOf first (map (number_of x.system x.world (count_by is_interrupt (path_by links link))) fields) row)
+            subst (λ (x : Kernels). IsRowOf first
+            (map (number_of x.system x.world (count_by is_interrupt (path_by links link))) fields) row)
             next.followed.kernel
             (subst (λ (c : ℕ). IsRowOf first (map (number_of k.system k.world c) fields) row) count is);
       }
@@ -119,7 +125,8 @@ module _ (i : ImageTables) (n : ℕ) (q : Question) where
           survey =
               record {
                 tries = same.tries ∙ h.survey.tries;
-                fields = subst (λ (fs : List What). AreAllFields i.system i.code (is_some q.interrupts) fs) (sym same.fields) h.survey.fields;
+                fields = subst (λ (fs : List What). AreAllFields i.system i.code (is_some q.interrupts) fs)
+                    (sym same.fields) h.survey.fields;
               };
           first =
               ap (λ (xs : List ℕ). length xs) same.first ∙ h.first
@@ -130,7 +137,8 @@ module _ (i : ImageTables) (n : ℕ) (q : Question) where
         }
 
     module _ (image : IsImage i) (link : Link) (k : Kernels) (next : IsNext i n q a.seen.links link k) (row : List ℕ)
-        (has : HasRow i n q a.rows.first.items a.rows.fields.items (path_by a.seen.links link) row) (sure : b.sure ≡ true → a.sure ≡ true) where
+        (has : HasRow i n q a.rows.first.items a.rows.fields.items (path_by a.seen.links link) row)
+        (sure : b.sure ≡ true → a.sure ≡ true) where
       -- the state is new
       pub keeps_new : b.seen ≡ with_state a.seen row link → HasKept i n q a b (path_by a.seen.links link)
       keeps_new e =

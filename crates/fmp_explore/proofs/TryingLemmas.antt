@@ -31,7 +31,8 @@ module _ (i : ImageTables) (n : ℕ) (q : Question) (state : ℕ) (es : List Eve
       let there : state < length s.seen.links = at.there in
       let same : length s.seen.rows ≡ length s.seen.links = h.kept.rows in
       subst (λ (fs : List Event). AreFew q fs) (sym at.path)
-      (let row : HasRow i n q s.rows.first.items s.rows.fields.items (path_of s.seen.links state) (get_or s.seen.rows state []) =
+      (let row : HasRow i n q s.rows.first.items s.rows.fields.items (path_of s.seen.links state)
+      (get_or s.seen.rows state []) =
       h.kept.each state (get_or s.seen.rows state []) (slice_get-get_or s.seen.rows state [] (omega arith)) in
       row.few)
 
@@ -109,7 +110,8 @@ module _ (i : ImageTables) (n : ℕ) (q : Question) (state : ℕ) (es : List Eve
             record {
               each = λ e is may.
                   let tried = each-tried i.system e (image_in_range i image) is in
-                  let there = slice_get-get_or (all_tries i.system) tried.0 e tried.1 ∙ ap (λ (x : Event). Some x) tried.2 in
+                  let there = slice_get-get_or (all_tries i.system) tried.0 e tried.1
+                  ∙ ap (λ (x : Event). Some x) tried.2 in
                   leads_grown b c e t.trying.survey.kept.linked (stays_grows b c look.stays)
                   (t.trying.each (look.stays.sure sure) tried.0 e tried.1 there may);
               free = look.free sure;

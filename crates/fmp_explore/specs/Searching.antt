@@ -151,7 +151,7 @@ pub record IsTrying (i : ImageTables) (n : ℕ) (q : Question) (state : ℕ) (es
       s.sure ≡ true → (place : ℕ) (e : Event) → place < tried → slice_get (all_tries i.system) place ≡ Some e →
       MayCome i n q es e → LeadsOn i n q s.seen.links es e
 
--- so many events were tried in a state
+-- this many events were tried in a state
 pub record HasTried (i : ImageTables) (n : ℕ) (q : Question) (state : ℕ) (es : List Event) (m : Marks)
     (old new : Survey) (tried : ℕ) : Type 0 where
   pub trying : IsTrying i n q state es m tried new

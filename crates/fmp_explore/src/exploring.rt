@@ -28,8 +28,8 @@ pub struct Report {
     pub findings: Vec<Finding>,
     /// Why the search ended.
     pub ending: Ending,
-    /// Whether it is shown of all schedules that no deadlock is reached and nothing happens that must never happen:
-    /// the search is whole, and nothing was found.
+    /// Whether no schedule reaches a deadlock, and along none happens what must never happen: every state was
+    /// examined, and nothing was found.
     pub holds: bool,
     /// How many states were kept.
     pub states: usize,
@@ -168,9 +168,9 @@ fn ended<W: Watcher>(
 }
 
 /// Explores the schedules of an image, in which a stretch of a body takes at most n instructions, 1 to 2^48. Each
-/// finding is so: its events do something, one after the other, and after them it is seen. Where the report says that
-/// it holds, no schedule tells a forbidden line or reaches a deadlock, however long it is. Else nothing is claimed where
-/// there is no finding. `AllocError` if there is no memory to begin with, or for the findings.
+/// finding is so: its events do something, one after the other, and after them it is seen. If the report holds, no
+/// schedule that the question allows tells a forbidden line or reaches a deadlock, however long it is. If it does not
+/// hold and has no finding, nothing is claimed. `AllocError` if there is no memory to begin with, or for the findings.
 pub fn explore<W: Watcher>(
     alloc: Global,
     image: &Image,

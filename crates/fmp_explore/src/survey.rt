@@ -95,7 +95,7 @@ impl Survey {
         }
     }
 
-    /// Keeps the state of a kernel to which this link leads, if it is new. So many interrupts came. `AllocError` if
+    /// Keeps the state of a kernel to which this link leads, if it is new. This many interrupts came. `AllocError` if
     /// memory runs out.
     fn keep(
         &mut self,

@@ -41,7 +41,9 @@ returns c =
     let stays = c.in_ok-note_setup.ensures.stays in
     let none = ap (λ (x : SeenStates). x.links) stays.seen ∙ c.requires.fresh.no_links in
     IfOk-weaker c.keep.result _ _
-    (λ _ kept. begun_of s.image.now s.n s.question.now (record c.note_setup.new.self { rows = c.begin.new.self }) c.keep.new.self c.args.kernel.now c.requires.kernel
+    (λ _ kept. begun_of s.image.now s.n s.question.now
+    (record c.note_setup.new.self { rows = c.begin.new.self }) c.keep.new.self c.args.kernel.now c.requires.kernel
     c.in_ok-note_setup.ensures.clean
-    (subst (λ (es : List Event). HasKept s.image.now s.n s.question.now (record c.note_setup.new.self { rows = c.begin.new.self }) c.keep.new.self es)
+    (subst (λ (es : List Event). HasKept s.image.now s.n s.question.now
+    (record c.note_setup.new.self { rows = c.begin.new.self }) c.keep.new.self es)
     (first_path s.image.now s.n s.question.now c.note_setup.new.self.seen.links _ none refl) kept)) c.keep.ensures

@@ -11,11 +11,13 @@ returns-in-New c =
     let has =
     row_of_kernel s.image.now s.n s.question.now a.rows.first.items a.rows.fields.items c.write.new.self.row.items links
     c.args.link c.args.kernel.now c.args.came c.requires.next c.requires.came c.in_ok-write.ensures.row in
-    let adds = subst (λ (row : List ℕ). Adds a.seen c.add.new.self row c.args.link c.in_ok-add.field-0) c.deref.ensures.value c.in_ok-add.ensures.ok in
+    let adds = subst (λ (row : List ℕ). Adds a.seen c.add.new.self row c.args.link c.in_ok-add.field-0)
+    c.deref.ensures.value c.in_ok-add.ensures.ok in
     keeps_new s.image.now s.n s.question.now a _
     (record { tries = refl; fields = c.write.ensures.fields; first = c.write.ensures.first }) c.requires.survey
     c.keeps_rules.ensures c.args.link c.args.kernel.now c.requires.next c.write.new.self.row.items has (λ e. e)
-    (adds_new a.seen c.add.new.self c.write.new.self.row.items c.args.link c.in_ok-add.field-0 c.in-New.field-0 c.in-New.is adds)
+    (adds_new a.seen c.add.new.self c.write.new.self.row.items c.args.link c.in_ok-add.field-0 c.in-New.field-0
+    c.in-New.is adds)
 
 pub returns-in-Known : goal.returns-in-Known
 returns-in-Known c =
@@ -25,8 +27,10 @@ returns-in-Known c =
     let has =
     row_of_kernel s.image.now s.n s.question.now a.rows.first.items a.rows.fields.items c.write.new.self.row.items links
     c.args.link c.args.kernel.now c.args.came c.requires.next c.requires.came c.in_ok-write.ensures.row in
-    let adds = subst (λ (row : List ℕ). Adds a.seen c.add.new.self row c.args.link c.in_ok-add.field-0) c.deref.ensures.value c.in_ok-add.ensures.ok in
-    let known = adds_known a.seen c.add.new.self c.write.new.self.row.items c.args.link c.in_ok-add.field-0 c.in-Known.field-0 c.in-Known.is adds in
+    let adds = subst (λ (row : List ℕ). Adds a.seen c.add.new.self row c.args.link c.in_ok-add.field-0)
+    c.deref.ensures.value c.in_ok-add.ensures.ok in
+    let known = adds_known a.seen c.add.new.self c.write.new.self.row.items c.args.link c.in_ok-add.field-0
+    c.in-Known.field-0 c.in-Known.is adds in
     keeps_known s.image.now s.n s.question.now a _
     (record { tries = refl; fields = c.write.ensures.fields; first = c.write.ensures.first }) c.requires.survey
     c.keeps_rules.ensures c.args.link c.args.kernel.now c.requires.next c.write.new.self.row.items has (λ e. e)
@@ -40,8 +44,10 @@ returns-in-Full c =
     let has =
     row_of_kernel s.image.now s.n s.question.now a.rows.first.items a.rows.fields.items c.write.new.self.row.items links
     c.args.link c.args.kernel.now c.args.came c.requires.next c.requires.came c.in_ok-write.ensures.row in
-    let adds = subst (λ (row : List ℕ). Adds a.seen c.add.new.self row c.args.link c.in_ok-add.field-0) c.deref.ensures.value c.in_ok-add.ensures.ok in
+    let adds = subst (λ (row : List ℕ). Adds a.seen c.add.new.self row c.args.link c.in_ok-add.field-0)
+    c.deref.ensures.value c.in_ok-add.ensures.ok in
     keeps_none s.image.now s.n s.question.now a _
     (record { tries = refl; fields = c.write.ensures.fields; first = c.write.ensures.first }) c.requires.survey
-    c.keeps_rules.ensures c.args.link c.args.kernel.now c.requires.next c.write.new.self.row.items has (λ e. absurd (cc (e)))
+    c.keeps_rules.ensures c.args.link c.args.kernel.now c.requires.next c.write.new.self.row.items has
+    (λ e. absurd (cc (e)))
     (adds_none a.seen c.add.new.self c.write.new.self.row.items c.args.link c.in_ok-add.field-0 c.in-Full.is adds) refl

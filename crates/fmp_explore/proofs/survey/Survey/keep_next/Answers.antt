@@ -24,7 +24,8 @@ keep-requires-clause-came c =
     let l = c.link.ensures in
     c.interrupts.ensures
     ∙ ap (λ (es : List Event). count_by is_interrupt es)
-    (sym (next_path links a.state a.steps.now a.event c.link.result c.requires.survey.kept.linked c.requires.at l.parent l.event l.depth))
+    (sym (next_path links a.state a.steps.now a.event c.link.result c.requires.survey.kept.linked c.requires.at l.parent
+    l.event l.depth))
 
 pub returns : goal.returns
 returns c =
@@ -33,6 +34,8 @@ returns c =
     let a = c.args.attempt in
     let l = c.link.ensures in
     subst
-    (λ (es : List Event). OnOk c.keep.result (HasKept s.image.now s.n s.question.now c.args.self.now c.keep.new.self es))
-    (next_path links a.state a.steps.now a.event c.link.result c.requires.survey.kept.linked c.requires.at l.parent l.event l.depth)
+    (λ (es : List Event). OnOk c.keep.result
+    (HasKept s.image.now s.n s.question.now c.args.self.now c.keep.new.self es))
+    (next_path links a.state a.steps.now a.event c.link.result c.requires.survey.kept.linked c.requires.at l.parent
+    l.event l.depth)
     c.keep.ensures

@@ -8,5 +8,6 @@ returns-then-marks c =
     record {
       stays = record { tries = refl; rows = refl; seen = refl; sure = λ e. e };
       free = λ _ d.
-          interrupted_free s.image.now s.n s.question.now c.args.steps.now c.args.marks c.requires.marks c.if-marks.true d;
+          interrupted_free s.image.now s.n s.question.now c.args.steps.now c.args.marks c.requires.marks c.if-marks.true
+          d;
     }

@@ -10,7 +10,8 @@ pub returns-in-Nothing : goal.returns-in-Nothing
 returns-in-Nothing c =
     let s = c.args.subject.now in
     let a = c.args.attempt in
-    let at = subst (λ (x : Effect). HasStepped s.image.now s.n a.steps.now a.event c.args.kernel.now x) c.in-Nothing.is c.requires.stepped in
+    let at = subst (λ (x : Effect). HasStepped s.image.now s.n a.steps.now a.event c.args.kernel.now x) c.in-Nothing.is
+    c.requires.stepped in
     record {
       survey = c.requires.survey;
       grows = same_grows c.args.self.now;
@@ -24,11 +25,13 @@ note_done-requires-clause-done c =
     let s = c.args.subject.now in
     let a = c.args.attempt in
     stepped_done s.image.now s.n a.steps.now a.event c.args.kernel.now
-    (subst (λ (x : Effect). HasStepped s.image.now s.n a.steps.now a.event c.args.kernel.now x) c.in-Done.is c.requires.stepped)
+    (subst (λ (x : Effect). HasStepped s.image.now s.n a.steps.now a.event c.args.kernel.now x) c.in-Done.is
+    c.requires.stepped)
 
 pub note_kept-requires-clause-kept : goal.note_kept-requires-clause-kept
 note_kept-requires-clause-kept c =
     let s = c.args.subject.now in
     let a = c.args.attempt in
     stepped_kept s.image.now s.n a.steps.now a.event c.args.kernel.now
-    (subst (λ (x : Effect). HasStepped s.image.now s.n a.steps.now a.event c.args.kernel.now x) c.in-Kept.is c.requires.stepped)
+    (subst (λ (x : Effect). HasStepped s.image.now s.n a.steps.now a.event c.args.kernel.now x) c.in-Kept.is
+    c.requires.stepped)

@@ -6,11 +6,13 @@ use Rattle.fmp_explore.proofs.survey.Survey.note_kept.Goals as goal
 pub keep_next-requires-clause-survey : goal.keep_next-requires-clause-survey
 keep_next-requires-clause-survey c =
     let s = c.args.subject.now in
-    stays_survey s.image.now s.n s.question.now c.args.self.now c.note_endless.new.self c.in_ok-note_endless.ensures c.requires.survey
+    stays_survey s.image.now s.n s.question.now c.args.self.now c.note_endless.new.self c.in_ok-note_endless.ensures
+    c.requires.survey
 
 pub keep_next-requires-clause-at : goal.keep_next-requires-clause-at
 keep_next-requires-clause-at c =
-    stays_at c.args.self.now c.note_endless.new.self c.args.attempt.state c.args.attempt.steps.now c.in_ok-note_endless.ensures c.requires.at
+    stays_at c.args.self.now c.note_endless.new.self c.args.attempt.state c.args.attempt.steps.now
+    c.in_ok-note_endless.ensures c.requires.at
 
 pub keep_next-requires-clause-followed : goal.keep_next-requires-clause-followed
 keep_next-requires-clause-followed c = c.requires.kept.followed

@@ -10,7 +10,8 @@ returns-then-next-end c =
     let same = ap (λ (es : List Event). length es) c.requires.survey.survey.tries in
     let long = c.args.self.now.tries.ok.0 in
     let far : length (all_tries s.image.now.system) ≤ c.loop-try.next = omega (arith, same, long) in
-    enough_tried s.image.now s.n s.question.now c.args.state c.args.steps.now c.args.self.now c.loop-try.self c.loop-try.marks
+    enough_tried s.image.now s.n s.question.now c.args.state c.args.steps.now c.args.self.now c.loop-try.self
+    c.loop-try.marks
     c.loop-try.next far c.loop-try.invariant.tried
 
 pub returns : goal.returns
@@ -19,5 +20,6 @@ returns c =
     let same = ap (λ (es : List Event). length es) c.requires.survey.survey.tries in
     let long = c.args.self.now.tries.ok.0 in
     let far : length (all_tries s.image.now.system) ≤ c.loop-try.next = omega (arith, same, long) in
-    enough_tried s.image.now s.n s.question.now c.args.state c.args.steps.now c.args.self.now c.loop-try.self c.loop-try.marks
+    enough_tried s.image.now s.n s.question.now c.args.state c.args.steps.now c.args.self.now c.loop-try.self
+    c.loop-try.marks
     c.loop-try.next far c.loop-try.invariant.tried

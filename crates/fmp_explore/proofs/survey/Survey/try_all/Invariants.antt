@@ -7,5 +7,6 @@ invariant-loop-try l =
     record {
       far : l._try ≤ l.next;
       tried :
-          HasTried l.subject.image.now l.subject.n l.subject.question.now l.state l.steps l.marks l.fn.self l.self l.next;
+          HasTried l.subject.image.now l.subject.n l.subject.question.now l.state l.steps l.marks l.fn.self l.self
+          l.next;
     }

@@ -20,9 +20,12 @@ returns-then-not-may_come-clause-trying c =
     let t = c.requires.trying in
     let a = c.args.self.now in
     let e = c.index-event.result.now in
-    let found = slice_get_read a.tries.items _ c.args.place c.index-event.result.now refl c.requires.place c.index-event.ensures in
-    let tried = subst (λ (xs : List Event). slice_get xs c.args.place ≡ Some c.index-event.result.now) t.survey.survey.tries found in
-    one_tried s.image.now s.n s.question.now c.args.state c.args.steps.now a a c.args.marks.now c.args.marks.now c.args.place e t
+    let found = slice_get_read a.tries.items _ c.args.place c.index-event.result.now refl c.requires.place
+    c.index-event.ensures in
+    let tried = subst (λ (xs : List Event). slice_get xs c.args.place ≡ Some c.index-event.result.now)
+    t.survey.survey.tries found in
+    one_tried s.image.now s.n s.question.now c.args.state c.args.steps.now a a c.args.marks.now c.args.marks.now
+    c.args.place e t
     tried t.survey (same_grows a) t.marks (λ _ may. absurd (c.may_come.ensures.no c.if-not-may_come.true may))
 
 pub returns-then-not-branch-clause-trying : goal.returns-then-not-branch-clause-trying
@@ -32,9 +35,12 @@ returns-then-not-branch-clause-trying c =
     let a = c.args.self.now in
     let e = c.index-event.result.now in
     let dealt = c.in_ok-attempt.ensures.dealt in
-    let found = slice_get_read a.tries.items _ c.args.place c.index-event.result.now refl c.requires.place c.index-event.ensures in
-    let tried = subst (λ (xs : List Event). slice_get xs c.args.place ≡ Some c.index-event.result.now) t.survey.survey.tries found in
-    one_tried s.image.now s.n s.question.now c.args.state c.args.steps.now a c.attempt.new.self c.args.marks.now c.args.marks.now
+    let found = slice_get_read a.tries.items _ c.args.place c.index-event.result.now refl c.requires.place
+    c.index-event.ensures in
+    let tried = subst (λ (xs : List Event). slice_get xs c.args.place ≡ Some c.index-event.result.now)
+    t.survey.survey.tries found in
+    one_tried s.image.now s.n s.question.now c.args.state c.args.steps.now a c.attempt.new.self c.args.marks.now
+    c.args.marks.now
     c.args.place e t tried dealt.survey dealt.grows t.marks (λ sure _. dealt.leads sure)
 
 pub returns-clause-trying : goal.returns-clause-trying
@@ -44,13 +50,17 @@ returns-clause-trying c =
     let a = c.args.self.now in
     let e = c.index-event.result.now in
     let dealt = c.in_ok-attempt.ensures.dealt in
-    let found = slice_get_read a.tries.items _ c.args.place c.index-event.result.now refl c.requires.place c.index-event.ensures in
-    let tried = subst (λ (xs : List Event). slice_get xs c.args.place ≡ Some c.index-event.result.now) t.survey.survey.tries found in
+    let found = slice_get_read a.tries.items _ c.args.place c.index-event.result.now refl c.requires.place
+    c.index-event.ensures in
+    let tried = subst (λ (xs : List Event). slice_get xs c.args.place ≡ Some c.index-event.result.now)
+    t.survey.survey.tries found in
     let more =
     marks_more s.image.now s.n s.question.now c.args.steps.now c.args.marks.now e c.keeps_rules.ensures t.marks
     (c.in_ok-attempt.ensures.does c.if-not-branch.false) (c.may_come.ensures.request c.if-not-may_come.false) in
-    let marks = subst (λ (m : Marks). AreMarks s.image.now s.n s.question.now c.args.steps.now m) (sym c.note.ensures) more in
+    let marks = subst (λ (m : Marks). AreMarks s.image.now s.n s.question.now c.args.steps.now m)
+    (sym c.note.ensures) more in
     tried_stays s.image.now s.n s.question.now c.args.state c.args.steps.now c.attempt.new.self _ c.note.new.self _
     (record { tries = refl; rows = refl; seen = refl; sure = λ e. e })
-    (one_tried s.image.now s.n s.question.now c.args.state c.args.steps.now a c.attempt.new.self c.args.marks.now c.note.new.self
+    (one_tried s.image.now s.n s.question.now c.args.state c.args.steps.now a c.attempt.new.self c.args.marks.now
+    c.note.new.self
     c.args.place e t tried dealt.survey dealt.grows marks (λ sure _. dealt.leads sure))

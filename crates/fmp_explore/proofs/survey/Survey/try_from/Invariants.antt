@@ -6,6 +6,7 @@ abbrev pub invariant-loop-place : goal.invariant-loop-place
 invariant-loop-place l =
     record {
       tried :
-          HasTried l.subject.image.now l.subject.n l.subject.question.now l.state l.steps l.marks l.fn.self l.self l.place;
+          HasTried l.subject.image.now l.subject.n l.subject.question.now l.state l.steps l.marks l.fn.self l.self
+          l.place;
       followed : IsFollowed l.subject.image.now l.subject.n l.steps l.kernel;
     }
