@@ -674,26 +674,56 @@ echo 'DRIVER runs within 1 ticks of int 3' > late.expect
 printf 'late.expect:1: event 4: DRIVER runs within 1 ticks of int 3\n4 tick 2\n' > wanted
 shows 'expect: too late' 4 expect interrupt.img late.steps late.expect
 
-printf 'never put(42)\nnever E_FOO # no code\n' > word.expect
-echo 'expect:2: no deed: a code as E_QOVR, a value as put(7), or a fault as F_IDX' > said
-shows 'expect: no such word' 1 expect queue.img queue.steps word.expect
+# A flaw of a text of expectations is told with what is expected, what stands there, and the nearest known word.
+flawed() { # flawed NAME LINE MESSAGE: the file 'flawed.expect' has a flaw in this line, and this is said
+    echo "expect:$2: $3" > said
+    shows "expect: $1" 1 expect queue.img queue.steps flawed.expect
+}
+deed='expected a deed: a code as E_QOVR, a value as put(7), or a fault as F_IDX'
+printf 'never put(42)\nnever E_FOO # no code\n' > flawed.expect
+flawed 'no such word' 2 "$deed; found \`E_FOO\`; did you mean \`E_OK\`?"
+echo 'never E_QOVER' > flawed.expect
+flawed 'a code that is misspelt' 1 "$deed; found \`E_QOVER\`; did you mean \`E_QOVR\`?"
 for number in 2147483648 07 -2147483649 4-2; do
-    echo "never put($number)" > value.expect
-    echo 'expect:1: no deed: a code as E_QOVR, a value as put(7), or a fault as F_IDX' > said
-    shows "expect: no such value, $number" 1 expect queue.img queue.steps value.expect
+    echo "never put($number)" > flawed.expect
+    flawed "no such value, $number" 1 "$deed; found \`put($number)\`"
 done
-echo 'CONSUMER runs within 3 ticks of int 33' > number.expect
-echo 'expect:1: no number of ticks up to 2147483647, or no interrupt from 1 to 32' > said
-shows 'expect: no such interrupt' 1 expect queue.img queue.steps number.expect
-echo 'end ASLEEP CONSUMER' > state.expect
-echo 'expect:1: no state: RUNNING, READY, WAITING, SUSPENDED, WAITING-SUSPENDED or DORMANT, and then a task' > said
-shows 'expect: no such state' 1 expect queue.img queue.steps state.expect
-echo 'never put(8) put(9)' > sentence.expect
-echo "expect:1: not a sentence: 'never DEED', 'DEED before DEED', 'TASK runs within N ticks of int I' or 'end STATE TASK'" > said
-shows 'expect: no sentence' 1 expect queue.img queue.steps sentence.expect
-echo 'never put(42) by NOBODY' > name.expect
-echo 'expect:1: no task or cyclic handler of the image has this name' > said
-shows 'expect: no such name' 1 expect queue.img queue.steps name.expect
+echo 'never' > flawed.expect
+flawed 'no deed' 1 "$deed; found the end of the line"
+printf 'put(8) before E_\001OK' > flawed.expect
+flawed 'a control byte' 1 "$deed; found a word with a control byte; did you mean \`E_OK\`?"
+sentence="expected a sentence: 'never DEED', 'DEED before DEED', 'TASK runs within N ticks of int I' or 'end STATE TASK'"
+printf '\nnevr E_OK\n' > flawed.expect
+flawed 'never, misspelt' 2 "$sentence; found \`nevr\`; did you mean \`never\`?"
+echo 'always E_OK' > flawed.expect
+flawed 'no sentence' 1 "$sentence; found \`always\`"
+echo 'PRODUCER run within 3 ticks of int 4' > flawed.expect
+flawed 'runs, misspelt' 1 'expected `runs`; found `run`; did you mean `runs`?'
+echo 'CONSUMR runs within 3 ticks of int 4' > flawed.expect
+flawed 'an actor that is misspelt' 1 'expected the name of a task or a cyclic handler; found `CONSUMR`; did you mean `CONSUMER`?'
+echo 'CONSUMER runs in 3 ticks of int 4' > flawed.expect
+flawed 'no within' 1 'expected `within`; found `in`'
+echo 'CONSUMER runs within 3 tick of int 4' > flawed.expect
+flawed 'ticks, misspelt' 1 'expected `ticks`; found `tick`; did you mean `ticks`?'
+echo 'CONSUMER runs within 2147483648 ticks of int 4' > flawed.expect
+flawed 'no such number of ticks' 1 'expected a number of ticks, 0 to 2147483647; found `2147483648`'
+echo 'CONSUMER runs within 3 ticks of int 33' > flawed.expect
+flawed 'no such interrupt' 1 'expected the number of an interrupt, 1 to 32; found `33`'
+echo 'end DORMNT CONSUMER' > flawed.expect
+flawed 'a state that is misspelt' 1 "expected a state: RUNNING, READY, WAITING, SUSPENDED, WAITING-SUSPENDED or DORMANT; \
+found \`DORMNT\`; did you mean \`DORMANT\`?"
+echo 'end DORMANT QUEUE' > flawed.expect
+flawed 'no task' 1 'expected the name of a task; found `QUEUE`'
+echo 'never put(8) put(9)' > flawed.expect
+flawed 'a word too many' 1 'expected the end of the line or `by`; found `put(9)`'
+echo 'never put(8) by PRODUCER CONSUMER' > flawed.expect
+flawed 'an actor too many' 1 'expected the end of the line; found `CONSUMER`'
+echo 'put(8) befor put(9)' > flawed.expect
+flawed 'before, misspelt' 1 'expected `before` or `by`; found `befor`; did you mean `before`?'
+echo 'put(8) by PRODUCER # and then nothing' > flawed.expect
+flawed 'nothing behind an actor' 1 'expected `before`; found the end of the line'
+echo 'never put(42) by NOBODY' > flawed.expect
+flawed 'no such name' 1 'expected the name of a task or a cyclic handler; found `NOBODY`'
 
 # The trace of the queue: PRODUCER calls twice, is preempted at both calls and ends; CONSUMER waits once, and ends.
 cat > wanted <<'END'

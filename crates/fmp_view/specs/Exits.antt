@@ -1,7 +1,6 @@
 -- The statuses that the program ends with.
 use Rattle.std.specs.Prelude.{ℕ}
 use Rattle.fmp_engine.specs.declared.fault.SimFault.TheVariants as sim
-use Rattle.fmp_expect.specs.declared.fault.ExpectFault.TheVariants as expect
 use Rattle.fmp_view.specs.declared.exit.Exit.{Exit}
 use Rattle.fmp_view.specs.declared.exit.Exit.TheVariants.{Sim, Picture, Expect, Failed}
 
@@ -10,6 +9,5 @@ abbrev pub status_of : Exit → ℕ
 status_of (Sim sim.Memory) = 3
 status_of (Sim fault) = 1
 status_of (Picture _) = 2
-status_of (Expect expect.Memory) = 3
-status_of (Expect fault) = 1
+status_of (Expect text) = 1
 status_of (Failed _) = 3

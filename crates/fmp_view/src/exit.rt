@@ -3,7 +3,6 @@ ghost use Rattle.fmp_view.specs.Exits.{status_of};
 
 use crate::timeline::TimelineFault;
 use fmp_engine::SimFault;
-use fmp_expect::ExpectFault;
 use fmp_files::{Failure, Reason};
 use std::fmt;
 
@@ -14,8 +13,8 @@ pub enum Exit {
     Sim(SimFault),
     /// There is no such picture of the run.
     Picture(TimelineFault),
-    /// The expectations are not read.
-    Expect(ExpectFault),
+    /// The expectations are not read, and this is said of their first fault.
+    Expect(String),
     /// A file could not be read or written, or memory ran out.
     Failed(Failure),
 }
@@ -31,7 +30,7 @@ impl fmt::Display for Exit {
         match self {
             Exit::Sim(fault) => write!(f, "{fault}"),
             Exit::Picture(fault) => write!(f, "{fault}"),
-            Exit::Expect(fault) => write!(f, "{fault}"),
+            Exit::Expect(text) => write!(f, "{text}"),
             Exit::Failed(failure) => write!(f, "{failure}"),
         }
     }
@@ -44,7 +43,7 @@ impl Reason for Exit {
     /// failure or if memory ran out.
     fn status(&self) -> u8 {
         match self {
-            Exit::Sim(SimFault::Memory) | Exit::Expect(ExpectFault::Memory) | Exit::Failed(_) => 3,
+            Exit::Sim(SimFault::Memory) | Exit::Failed(_) => 3,
             Exit::Sim(_) | Exit::Expect(_) => 1,
             Exit::Picture(_) => 2,
         }

@@ -6,10 +6,11 @@ ghost use Rattle.fmp_view.specs.Expects as spec;
 
 use crate::asking::kept_bound;
 use crate::exit::Exit;
+use crate::flaws::flaw_text;
 use crate::opening::{events_of, fresh_kernel, image_of};
 use fmp_base::{Event, TaskState};
 use fmp_engine::SimFault;
-use fmp_expect::{Broken, Checker, ExpectFault, Expected, read_expectations, tell_run};
+use fmp_expect::{Broken, Checker, ExpectFault, Expected, Flaw, read_expectations, tell_run};
 use fmp_image_bytes::Image;
 use fmp_kernel::{Body, Kernel};
 use fmp_named::append_lines;
@@ -156,12 +157,20 @@ fn checked(
     }
 }
 
+/// What is said of a flaw of the line of this number of a text.
+fn flawed(alloc: Global, image: &Image, text: &[u8], number: usize, flaw: Flaw) -> Exit {
+    match flaw_text(alloc, image.system(), number, line_of(text, number), flaw) {
+        Ok(text) => Exit::Expect(text),
+        Err(error) => memory(error),
+    }
+}
+
 /// The expectations of a text for an image.
 fn expected_of(alloc: Global, image: &Image, text: &[u8]) -> Result<Vec<Expected>, Exit> {
     match read_expectations(alloc, image.system(), text) {
         Ok(expected) => Ok(expected),
         Err(ExpectFault::Memory) => Err(Exit::Sim(SimFault::Memory)),
-        Err(fault) => Err(Exit::Expect(fault)),
+        Err(ExpectFault::Line { line, flaw }) => Err(flawed(alloc, image, text, line, flaw)),
     }
 }
 

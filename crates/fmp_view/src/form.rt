@@ -25,7 +25,7 @@ const EXAMPLE_AND_STATUS: &str = "Example, with the image of the example of 'fmp
 Status, and the line on standard error with it:
   0        done; help or the version was asked for
   1        a fault of what was read: 'image: L2', 'steps:4: S1',
-           'expect:3: no deed ..'; with 'fault', 'run' and
+           'expect:3: expected ..'; with 'fault', 'run' and
            'step', which print it on standard output, a fault of the texts or steps, and not for warnings
   2        a mistake in the command line; a word that is no code; OUT is a file that is read;
            a picture that begins behind the last event, or has more than 40,000,000 bytes

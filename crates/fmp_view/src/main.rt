@@ -15,6 +15,7 @@ mod exit;
 mod expecting;
 mod exploring;
 mod faults;
+mod flaws;
 mod form;
 mod opening;
 mod recording;
