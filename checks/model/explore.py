@@ -23,7 +23,7 @@ from model.schedules import Search, goes_on_for_ever, is_deadlock, tells  # noqa
 MOST = 1_000
 BOUND = 12  # the greatest small bound
 NEVERS = ("E_QOVR", "E_ILUSE")
-FAULTS = ("F_OVF", "F_DIV")
+FAULTS = ("F_OVF", "F_DIV", "F_IDX")
 
 
 def explored(trial, bound):

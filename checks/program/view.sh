@@ -594,6 +594,15 @@ greatest counts: S 1
 END
 shows 'explore: no such answer' 0 explore wait.cfg full.src --never E_TMOUT
 
+# A body that stops with a fault is found without a word that asks for it.
+echo 'task a { var a[3]; put(0); a[3] = 1; }' > edge.src
+cat > wanted <<'END'
+2 p1 A F_IDX: after 2 steps, in edge.1
+3 states, 4 events, 2 deep
+greatest counts: S 0
+END
+shows 'explore: an index out of range' 4 explore wait.cfg edge.src --out edge
+
 # A takes the lock and goes on for ever; B spins for it, which is nothing, or takes it first.
 cat > wanted <<'END'
 stuck.src:1: processor 1 goes on for ever without a call: after 1 step, in stuck.found.1

@@ -30,7 +30,7 @@ complete -c fmp_view -n '__fish_seen_subcommand_from drive' -s h -l help -d 'Pri
 complete -c fmp_view -n '__fish_seen_subcommand_from why' -l bound -x -d 'How many instructions a body may take in a step, 1 to 2^48; where its next service call is farther, its next step goes on from there [default: 100000]'
 complete -c fmp_view -n '__fish_seen_subcommand_from why' -l at -x -d 'Event after which tasks are looked at, 0 to 2^20; without it the last of the run'
 complete -c fmp_view -n '__fish_seen_subcommand_from why' -s h -l help -d 'Print help'
-complete -c fmp_view -n '__fish_seen_subcommand_from explore' -l never -x -d 'What must never happen: an answer, as E_QOVR, a printed value, as '\''put(99)'\'', or a fault, as F_IDX; it may be given again. F_OVF and F_DIV must never happen anyway'
+complete -c fmp_view -n '__fish_seen_subcommand_from explore' -l never -x -d 'What must never happen: an answer, as E_QOVR, or a printed value, as '\''put(99)'\''; it may be given again. That a body stops with a fault must never happen anyway'
 complete -c fmp_view -n '__fish_seen_subcommand_from explore' -l rest -x -d 'Name of a task that may wait forever, as servers do; it may be given again'
 complete -c fmp_view -n '__fish_seen_subcommand_from explore' -l ticks -x -d 'When the clock may advance: at any time, or only where all processors are idle [default: any] [possible values: any, idle]'
 complete -c fmp_view -n '__fish_seen_subcommand_from explore' -l ints -x -d 'How many interrupts there may be, 0 to 255; without it any number'

@@ -21,8 +21,7 @@ const NO_CODE: &str = "no code is printed so";
 const OUT_OVER_INPUT: &str = "the file OUT is one of the two that are read";
 
 /// The message for a word that says nothing of what must never happen.
-const NO_NEVER: &str =
-    "--never wants an answer as E_QOVR, a printed value as 'put(99)', or a fault as F_IDX";
+const NO_NEVER: &str = "--never wants an answer as E_QOVR, or a printed value as 'put(99)'";
 
 /// The message for the name of a task that is not there.
 const NO_TASK: &str = "--rest names no task of the configuration";
@@ -178,6 +177,7 @@ fn question_of(alloc: Global, words: &ArgMatches<'_>) -> Result<Question, Error>
     let mut question = Question::new(alloc);
     question.nevers.push(Never::Fault(Fault::Overflow))?;
     question.nevers.push(Never::Fault(Fault::Division))?;
+    question.nevers.push(Never::Fault(Fault::Index))?;
     if let Some(nevers) = words.get_strs("never") {
         add_nevers(&mut question.nevers, alloc, nevers)?;
     }

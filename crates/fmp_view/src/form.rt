@@ -58,8 +58,8 @@ At most 10,000 events are drawn";
 
 /// What must never happen.
 const NEVER: &str =
-    "What must never happen: an answer, as E_QOVR, a printed value, as 'put(99)', or a
-fault, as F_IDX; it may be given again. F_OVF and F_DIV must never happen anyway";
+    "What must never happen: an answer, as E_QOVR, or a printed value, as 'put(99)'; it may
+be given again. That a body stops with a fault must never happen anyway";
 
 /// Which task may wait forever.
 const REST: &str = "Name of a task that may wait forever, as servers do; it may be given again";
