@@ -541,12 +541,30 @@ shows 'diff: a step that does nothing' 0 diff queue.img queue.steps six.steps
 echo 'steps:2: S2' > said
 shows 'diff: a fault of the steps' 1 diff queue.img queue.steps beyond.steps
 # Every schedule. Of the queue there is one: six steps, and a tick that changes the clock alone in each of seven states.
-cat > wanted <<'END'
-nothing found
+cat > seen <<'END'
 7 states, 13 events, 6 deep
 greatest lengths: QUEUE 0
 END
-shows 'explore: queue' 0 explore queue.cfg queue.src
+claimed() { # claimed NAME CLAIM WORD..: nothing is found in the system of the queue with these words, and this is claimed
+    name=$1 claim=$2
+    shift 2
+    (echo "$claim" && cat seen) > wanted
+    shows "explore: $name" 0 explore queue.cfg queue.src "$@"
+}
+claimed queue 'no deadlock, no fault: over all lists of events'
+claimed 'what never happens, in order' \
+    'never put(99), never E_QOVR, no deadlock, no fault: over all lists of events' --never 'put(99)' --never E_QOVR
+claimed 'no interrupts' 'no deadlock, no fault: over all lists of events with at most 0 interrupts' --ints 0
+claimed 'one interrupt' 'no deadlock, no fault: over all lists of events with at most 1 interrupt' --ints 1
+# The clock ticks only in the last of the seven states, where both tasks have ended.
+cat > seen <<'END'
+7 states, 7 events, 6 deep
+greatest lengths: QUEUE 0
+END
+idle='in which the clock ticks only where no processor can do anything'
+claimed 'idle ticks' "no deadlock, no fault: over all lists of events $idle" --ticks idle
+claimed 'idle ticks and two interrupts' \
+    "no deadlock, no fault: over all lists of events with at most 2 interrupts, $idle" --ticks idle --ints 2
 
 # A task waits for what nobody gives, unless it may.
 echo 'NUM_PRC(1); CLASS(TCL_1) { CRE_TSK(A, { TA_ACT, 0, a, 10, 256, NULL }); CRE_SEM(S, { 0, 0, 1 }); }' > wait.cfg
@@ -560,7 +578,7 @@ shows 'explore: deadlock' 4 explore wait.cfg wait.src
 echo 'run 1' > wanted
 gives 'explore: steps of the deadlock' cat wait.found.1
 cat > wanted <<'END'
-nothing found
+no deadlock, no fault: over all lists of events
 2 states, 3 events, 1 deep
 greatest counts: S 0
 END
@@ -588,7 +606,7 @@ greatest counts: S 1
 END
 shows 'explore: all' 4 explore wait.cfg full.src --never E_QOVR --out twice --all
 cat > wanted <<'END'
-nothing found
+never E_TMOUT, no deadlock, no fault: over all lists of events
 4 states, 7 events, 3 deep
 greatest counts: S 1
 END
@@ -627,7 +645,7 @@ shows 'explore: a counter' 5 explore wait.cfg count.src --states 3
 # With two pushes, a sum, its store, a load and the call a stretch takes six instructions, and its end one more.
 echo 'task a { var i; i = 1 + 2; put(i); }' > sum2.src
 cat > wanted <<'END'
-nothing found
+no deadlock, no fault: over all lists of events
 5 states, 9 events, 4 deep
 greatest counts: S 0
 END

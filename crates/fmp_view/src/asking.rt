@@ -51,8 +51,11 @@ pub struct Drawing {
 pub struct Exploring<'a> {
     pub cfg: &'a str,
     pub src: &'a str,
-    /// What must never happen, the tasks that may wait forever by their names, and all else that is asked.
+    /// All that is asked.
     pub question: Question,
+    /// What must never happen, in the words that ask for it.
+    pub nevers: Vec<&'a str>,
+    /// The names of the tasks that may wait forever.
     pub rest: Vec<&'a str>,
     pub bound: u64,
     /// The name of the files of steps, without the dot and the number.
@@ -188,17 +191,27 @@ fn question_of(alloc: Global, words: &ArgMatches<'_>) -> Result<Question, Error>
     Ok(question)
 }
 
+/// The words that an option is given, in order.
+fn given<'a>(
+    alloc: Global,
+    words: &ArgMatches<'a>,
+    option: &str,
+) -> Result<Vec<&'a str>, AllocError> {
+    let mut given = Vec::new(alloc);
+    if let Some(values) = words.get_strs(option) {
+        given.extend_from_slice(values)?;
+    }
+    Ok(given)
+}
+
 /// What is explored.
 fn exploring_of<'a>(alloc: Global, words: &ArgMatches<'a>) -> Result<Exploring<'a>, Error> {
-    let mut rest = Vec::new(alloc);
-    if let Some(names) = words.get_strs("rest") {
-        rest.extend_from_slice(names)?;
-    }
     Ok(Exploring {
         cfg: word_of(words, "CFG"),
         src: word_of(words, "SRC"),
         question: question_of(alloc, words)?,
-        rest,
+        nevers: given(alloc, words, "never")?,
+        rest: given(alloc, words, "rest")?,
         bound: bound_of(words),
         out: words.get_str("out"),
     })

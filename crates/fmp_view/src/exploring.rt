@@ -4,7 +4,8 @@ ghost use Rattle.std.specs.Prelude.{◌≡◌, ◌≤◌, ◌^◌};
 use crate::asking::kept_bound;
 use fmp_base::{Line, Name, System};
 use fmp_explore::{
-    Coverage, Ending, Finding, Question, Report, Sight, Site, Started, Watcher, explore, left_by,
+    Coverage, Ending, Finding, Question, Report, Sight, Site, Started, Ticks, Watcher, explore,
+    left_by,
 };
 use fmp_explore_names::{CallLines, LocalNames, append_name};
 use fmp_image_bytes::Image;
@@ -18,6 +19,8 @@ pub struct Named<'a> {
     pub src: &'a str,
     /// The files of steps are this name, a dot and a number from 1 on.
     pub out: &'a str,
+    /// What must never happen, in the words that ask for it.
+    pub nevers: &'a [&'a str],
 }
 
 /// What an exploration came to: what is printed, the steps text of each finding, and the status.
@@ -163,15 +166,74 @@ fn say_finding(
     )
 }
 
-/// Appends why the search ended, and how much it saw.
-fn say_ending(alloc: Global, out: &mut Vec<u8>, report: &Report) -> Result<(), AllocError> {
-    match report.ending {
-        Ending::Whole if report.findings.is_empty() => say(out, "nothing found\n")?,
-        Ending::Whole | Ending::Enough => {}
-        Ending::States => say(out, "stopped: as many states as are allowed\n")?,
-        Ending::Depth => say(out, "stopped: as deep as the search goes\n")?,
-        Ending::Memory => say(out, "stopped: out of memory\n")?,
+/// Appends over which lists of events something is claimed.
+fn say_lists(alloc: Global, out: &mut Vec<u8>, question: &Question) -> Result<(), AllocError> {
+    say(out, "over all lists of events")?;
+    if let Some(count) = question.interrupts {
+        let word = if count == 1 {
+            "interrupt"
+        } else {
+            "interrupts"
+        };
+        say(
+            out,
+            format!(in alloc; " with at most {count} {word}")?.as_str(),
+        )?;
     }
+    if question.ticks == Ticks::Any {
+        return Ok(());
+    }
+    say(
+        out,
+        if question.interrupts.is_some() {
+            ","
+        } else {
+            ""
+        },
+    )?;
+    say(
+        out,
+        " in which the clock ticks only where no processor can do anything",
+    )
+}
+
+/// Appends what no list of events comes to.
+fn say_claim(
+    alloc: Global,
+    out: &mut Vec<u8>,
+    nevers: &[&str],
+    question: &Question,
+) -> Result<(), AllocError> {
+    for never in nevers {
+        say(out, "never ")?;
+        say(out, never)?;
+        say(out, ", ")?;
+    }
+    say(out, "no deadlock, no fault: ")?;
+    say_lists(alloc, out, question)?;
+    say(out, "\n")
+}
+
+/// Appends why the search ended.
+fn say_ending(
+    alloc: Global,
+    out: &mut Vec<u8>,
+    nevers: &[&str],
+    question: &Question,
+    report: &Report,
+) -> Result<(), AllocError> {
+    match report.ending {
+        Ending::Whole if report.holds => say_claim(alloc, out, nevers, question),
+        Ending::Whole if report.findings.is_empty() => say(out, "nothing found\n"),
+        Ending::Whole | Ending::Enough => Ok(()),
+        Ending::States => say(out, "stopped: as many states as are allowed\n"),
+        Ending::Depth => say(out, "stopped: as deep as the search goes\n"),
+        Ending::Memory => say(out, "stopped: out of memory\n"),
+    }
+}
+
+/// Appends how much a search saw.
+fn say_extent(alloc: Global, out: &mut Vec<u8>, report: &Report) -> Result<(), AllocError> {
     if report.waits {
         say(out, "a task waits for an interrupt\n")?;
     }
@@ -359,6 +421,7 @@ fn status_of(report: &Report) -> u8 {
 fn explored_report(
     alloc: Global,
     sources: &Sources<'_>,
+    question: &Question,
     report: &Report,
 ) -> Result<Explored, AllocError> {
     let mut text = Vec::new(alloc);
@@ -369,7 +432,8 @@ fn explored_report(
         print_steps(&finding.steps, &mut events)?;
         steps.push(events)?;
     }
-    say_ending(alloc, &mut text, report)?;
+    say_ending(alloc, &mut text, sources.named.nevers, question, report)?;
+    say_extent(alloc, &mut text, report)?;
     say_coverage(alloc, &mut text, sources, &report.coverage)?;
     say_varieties(alloc, &mut text, sources, report)?;
     Ok(Explored {
@@ -401,5 +465,5 @@ pub fn explored_image<W: Watcher>(
         names: &names,
         named,
     };
-    explored_report(alloc, &sources, &report)
+    explored_report(alloc, &sources, question, &report)
 }

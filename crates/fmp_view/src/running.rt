@@ -426,6 +426,7 @@ fn explore_image<O: Outside>(
     let named = Named {
         src: asked.src,
         out: name.as_str(),
+        nevers: &asked.nevers,
     };
     let explored = explored_image(
         alloc,
