@@ -1,5 +1,5 @@
 #!/usr/bin/env python3
-"""Searches all schedules of systems whose findings were worked out by hand, and replays what is found.
+"""Searches all schedules of systems whose findings are known, by hand or by another search, and replays what is found.
 
     checks/schedules/schedules.py [VIEW [PROGRAM]]
 
