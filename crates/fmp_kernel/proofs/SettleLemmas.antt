@@ -1,12 +1,15 @@
 -- A processor that already runs its most urgent ready task is not changed by dispatching.
-use Rattle.std.proofs.Common.{◌≡◌, ℕ, zero, suc, List, [], ◌∷◌, ◌++◌, Option, Some, None, true, refl, sym, ap, ◌∙◌, append-nil}
-use Rattle.std.specs.Prelude.{slice_get, slice_set}
+use Rattle.std.proofs.Common.{◌≡◌, ℕ, zero, suc, List, [], ◌∷◌, ◌++◌, Option, Some, None, Bool, true, false, ◌||◌, refl, sym, ap, ◌∙◌, append-nil}
+use Rattle.std.specs.Prelude.{slice_get, slice_set, if◌then◌else◌}
 use Rattle.std.proofs.lemmas.Bool.{eqb-true}
 use Rattle.fmp_base.specs.declared.events.Line.{Line}
 use Rattle.fmp_base.specs.declared.states.Processor.{Processor}
-use Rattle.fmp_base.specs.Settles.{dispatched, dispatch_lines, is_same_task}
+use Rattle.fmp_base.specs.declared.states.Handler.{Handler}
+use Rattle.fmp_base.specs.ProcessorCalls.{is_cpu_locked}
+use Rattle.fmp_base.specs.Queues.{top}
+use Rattle.fmp_base.specs.Settles.{dispatched, dispatch_lines, is_dispatch_held, is_same_task, pending_handler, runs_handler, settled_on, settled_with}
 use Rattle.fmp_base.specs.States.{KernelState, Progress, idle, processor_at, with_processor}
-use Rattle.fmp_base.specs.Systems.{found}
+use Rattle.fmp_base.specs.Systems.{SystemTables, found}
 
 pub same_task : (a b : Option ℕ) → is_same_task a b ≡ true → a ≡ b
 same_task None None e = refl
@@ -30,3 +33,30 @@ dispatched-same g p cpu t h e =
     sym (ap (λ (s : KernelState). after s (g.lines ++ dispatch_lines (is_same_task cpu.run t) p t)) state ∙ ap (λ (ls : List Line). after g.state ls) lines) where
       after : KernelState → List Line → Progress
       after s ls = record { state = s; lines = ls }
+
+held_by : (held : Bool) (g : Progress) (p : ℕ) (cpu : Processor) (t : Option ℕ) → cpu ≡ processor_at g.state p
+    → is_same_task cpu.run t ≡ true → g ≡ (if held then g else dispatched g p cpu t)
+held_by true g p cpu t h e = refl
+held_by false g p cpu t h e = dispatched-same g p cpu t h e
+
+-- where no handler begins, whether dispatch is held or not
+pub held_same : (g : Progress) (p : ℕ) → is_same_task (processor_at g.state p).run (top g.state p) ≡ true
+    → g ≡ settled_with None g p (processor_at g.state p)
+held_same g p e = held_by (is_dispatch_held (processor_at g.state p)) g p (processor_at g.state p) (top g.state p) refl e
+
+no_handler : (b : Bool) (g : Progress) (p : ℕ) (cpu : Processor) → settled_with (if b then None else None) g p cpu ≡ settled_with None g p cpu
+no_handler true g p cpu = refl
+no_handler false g p cpu = refl
+
+-- a processor with no pending handler
+pub settled_none : (sys : SystemTables) (g : Progress) (p : ℕ) (cpu : Processor) → None ≡ pending_handler sys g.state p
+    → settled_on sys g p cpu ≡ settled_with None g p cpu
+settled_none sys g p cpu e =
+    ap (λ (o : Option Handler). settled_with (if runs_handler cpu.handler || is_cpu_locked cpu then None else o) g p cpu) (sym e)
+    ∙ no_handler (runs_handler cpu.handler || is_cpu_locked cpu) g p cpu
+
+-- a processor with a pending handler
+pub settled_some : (sys : SystemTables) (g : Progress) (p : ℕ) (cpu : Processor) (h : Handler) → Some h ≡ pending_handler sys g.state p
+    → settled_on sys g p cpu ≡ settled_with (if runs_handler cpu.handler || is_cpu_locked cpu then None else Some h) g p cpu
+settled_some sys g p cpu h e =
+    ap (λ (o : Option Handler). settled_with (if runs_handler cpu.handler || is_cpu_locked cpu then None else o) g p cpu) (sym e)

@@ -1,7 +1,8 @@
 //! What ends every event: on each processor a pending handler begins, or the dispatcher gives it its most urgent ready
 //! task (uITRON 4.0, sections 3.2 and 3.5; FMP kernel, dispatching).
-ghost use Rattle.std.specs.Prelude.{◌≡◌, ◌+◌, ◌≤◌, ◌<◌, vec_len, vec_capacity, IfSome};
-ghost use Rattle.fmp_base.specs.Settles.{dispatched, settled, settled_on, handler_to_begin as handler_that_begins, is_dispatch_held as holds_dispatch, is_same_task as is_same};
+ghost use Rattle.std.specs.Prelude.{◌≡◌, ◌+◌, ◌≤◌, ◌<◌, ◌||◌, Some, None, false, if◌then◌else◌, vec_len, vec_capacity};
+ghost use Rattle.fmp_base.specs.ProcessorCalls.{is_cpu_locked as is_locked};
+ghost use Rattle.fmp_base.specs.Settles.{runs_handler, settled, settled_on, settled_with, is_dispatch_held as holds_dispatch, is_same_task as is_same};
 ghost use Rattle.fmp_base.specs.Queues.{top};
 ghost use Rattle.fmp_base.specs.States.{processor_at};
 ghost use Rattle.fmp_tasks.specs.Tables.{HasHandler, progress, SameShape};
@@ -28,31 +29,22 @@ fn is_dispatch_held(cpu: &Processor) -> bool
     cpu.handler.is_some() || is_cpu_locked(cpu) || cpu.dispatch_disabled
 }
 
-/// The handler that begins on a processor: the first pending one, where none runs and the CPU is not locked.
-fn handler_to_begin(tables: &Tables, p: u8, cpu: &Processor) -> Option<Handler>
-    requires { p < tables.now.system.processors }
-    ensures value { result ≡ handler_that_begins tables.now.system tables.now.state p cpu.now }
-    ensures there { IfSome result (λ h. HasHandler tables.now.system h) }
-{
-    if cpu.handler.is_some() || is_cpu_locked(cpu) {
-        return None;
-    }
-    tables.first_pending(p)
-}
-
-/// A processor runs its most urgent ready task, or none.
-fn dispatch(tables: &mut Tables, lines: &mut Vec<Line>, p: u8, cpu: Processor)
+/// A processor on which no handler begins, and that runs another task than its most urgent ready one, runs that one now,
+/// or none, unless dispatch is held.
+#[inline(never)]
+fn dispatch(tables: &mut Tables, lines: &mut Vec<Line>, p: u8, run: Option<u8>)
     requires there { p < tables.old.system.processors }
-    requires is { cpu ≡ processor_at tables.old.state p }
+    requires top { run ≡ top tables.old.state p }
+    requires other { is_same (processor_at tables.old.state p).run run ≡ false }
     requires room { vec_len lines.old < vec_capacity lines.old }
     ensures progress { progress tables.new lines.new.items
-        ≡ dispatched (progress tables.old lines.old.items) p cpu (top tables.old.state p) }
+        ≡ settled_with None (progress tables.old lines.old.items) p (processor_at tables.old.state p) }
     ensures shape { SameShape tables.old tables.new }
     ensures few { vec_len lines.new ≤ vec_len lines.old + 1 }
     ensures capacity { vec_capacity lines.new ≡ vec_capacity lines.old }
 {
-    let run = tables.top(p);
-    if !is_same_task(cpu.run, run) {
+    let cpu = tables.processor(p);
+    if !is_dispatch_held(&cpu) {
         tables.set_processor(p, Processor { run, ..cpu });
         lines.push_reserved(Line::Runs {
             processor: p,
@@ -61,7 +53,42 @@ fn dispatch(tables: &mut Tables, lines: &mut Vec<Line>, p: u8, cpu: Processor)
     }
 }
 
-/// A processor settles.
+/// A processor on which this is the first pending handler: it begins, where none runs and the CPU is not locked. Else
+/// dispatch is held too.
+#[inline(never)]
+fn begin_pending(tables: &mut Tables, lines: &mut Vec<Line>, p: u8, handler: Handler)
+    requires there { p < tables.old.system.processors }
+    requires handler { HasHandler tables.old.system handler }
+    requires room { vec_len lines.old < vec_capacity lines.old }
+    ensures progress { let cpu = processor_at tables.old.state p in progress tables.new lines.new.items
+        ≡ settled_with (if runs_handler cpu.handler || is_locked cpu then None else Some handler)
+        (progress tables.old lines.old.items) p cpu }
+    ensures shape { SameShape tables.old tables.new }
+    ensures few { vec_len lines.new ≤ vec_len lines.old + 1 }
+    ensures capacity { vec_capacity lines.new ≡ vec_capacity lines.old }
+{
+    let cpu = tables.processor(p);
+    if cpu.handler.is_some() || is_cpu_locked(&cpu) {
+        return;
+    }
+    tables.clear_pending(handler);
+    tables.set_processor(
+        p,
+        Processor {
+            handler: Some(handler),
+            ..cpu
+        },
+    );
+    lines.push_reserved(Line::Begins {
+        processor: p,
+        handler,
+    });
+}
+
+/// A processor settles. Mostly no handler is pending on it, and it runs its most urgent ready task already: then no more
+/// is looked at.
+#[tactic(auto, using(crate::proofs::SettleLemmas::settled_none, crate::proofs::SettleLemmas::settled_some))]
+#[inline(always)]
 fn settle_on(tables: &mut Tables, lines: &mut Vec<Line>, p: u8)
     requires there { p < tables.old.system.processors }
     requires room { vec_len lines.old < vec_capacity lines.old }
@@ -71,27 +98,14 @@ fn settle_on(tables: &mut Tables, lines: &mut Vec<Line>, p: u8)
     ensures few { vec_len lines.new ≤ vec_len lines.old + 1 }
     ensures capacity { vec_capacity lines.new ≡ vec_capacity lines.old }
 {
-    let cpu = tables.processor(p);
-    match handler_to_begin(tables, p, &cpu) {
-        Some(handler) => {
-            tables.clear_pending(handler);
-            tables.set_processor(
-                p,
-                Processor {
-                    handler: Some(handler),
-                    ..cpu
-                },
-            );
-            lines.push_reserved(Line::Begins {
-                processor: p,
-                handler,
-            });
-        }
+    match tables.first_pending(p) {
         None => {
-            if !is_dispatch_held(&cpu) {
-                dispatch(tables, lines, p, cpu);
+            let run = tables.top(p);
+            if !is_same_task(tables.processor(p).run, run) {
+                dispatch(tables, lines, p, run);
             }
         }
+        Some(handler) => begin_pending(tables, lines, p, handler),
     }
 }
 

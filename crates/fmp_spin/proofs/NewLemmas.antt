@@ -10,7 +10,7 @@ use Rattle.fmp_base.specs.Ranges.{IsInRange, CyclicInRange, InterruptInRange}
 use Rattle.fmp_base.specs.States.{places_from}
 use Rattle.fmp_base.specs.Systems.{SystemTables, defined_for, found, interrupt_config}
 use Rattle.fmp_base.specs.Ticks.{is_pending}
-use Rattle.fmp_spin.specs.Pending.{AreBitmaps, handler_processors, mark_at_slot, processor_at_slot, processor_of}
+use Rattle.fmp_spin.specs.Pending.{AreBitmaps, AreQuiet, handler_processors, mark_at_slot, processor_at_slot, processor_of}
 
 zeros : (n k : ℕ) → ◌≡◌ {A = ℕ} (slice_index_or (replicate n 0) k 0) 0
 zeros zero k = refl
@@ -32,6 +32,9 @@ pub AreBitmaps-none : (count : ℕ) (words : List ℕ) (on : ℕ → Option ℕ)
     → is ≡ replicate n false → cs ≡ replicate m false → AreBitmaps count words on (mark_at_slot is cs)
 AreBitmaps-none count words on is cs k n m clear none unmarked = λ p i l b.
     rw (clear, none, unmarked, zeros k ((p * 320 + i) / 64), no_mark-at n m i) (bit_at-zero ((p * 320 + i) % 64))
+
+pub AreQuiet-none : (words : List ℕ) (busy : List Bool) (k : ℕ) → words ≡ replicate k 0 → AreQuiet words busy
+AreQuiet-none words busy k clear = λ p i b e. rw (clear, zeros k ((p * 320 + i) / 64)) (bit_at-zero ((p * 320 + i) % 64))
 
 length-places : (k n : ℕ) → length (places_from k n) ≡ n
 length-places k zero = refl

@@ -10,7 +10,7 @@ use Rattle.fmp_base.specs.Settles.{first_pending, cyclic_handler, interrupt_or}
 use Rattle.fmp_base.specs.Systems.{found}
 use Rattle.fmp_base.specs.Ticks.{is_pending}
 use Rattle.fmp_spin.specs.Bits.{bit_in, as_bit, IsFirst}
-use Rattle.fmp_spin.specs.Pending.{HandlerProcessors, PendingMarks, AreBitmaps, IsSetAt, is_on, interrupts_there, cycles_there, first_handler, processor_at_slot, mark_at_slot}
+use Rattle.fmp_spin.specs.Pending.{HandlerProcessors, PendingMarks, AreBitmaps, AreQuiet, IsSetAt, is_on, interrupts_there, cycles_there, first_handler, processor_at_slot, mark_at_slot}
 
 nat_same : (a b : ℕ) → nat_eq a b ≡ true → a ≡ b
 nat_same a b h = grind (arith, nat_tests)
@@ -238,8 +238,24 @@ bitmap-there count long None e h = tt
 bitmap-there count long (Some q) e h = let l : q < count = h q refl in omega arith
 
 -- what is written over all items of a vector is what it then holds
-pub written_whole : (items new : List ℕ) (n : ℕ) → length new ≡ length items → n ≡ length items → take n (new ++ drop (length new) items) ≡ new
+pub written_whole : {A : Type 0} (items new : List A) (n : ℕ) → length new ≡ length items → n ≡ length items → take n (new ++ drop (length new) items) ≡ new
 written_whole items new n same all =
     let past : drop (length new) items ≡ [] = drop_of_length-le items (omega (arith, same)) in
     let is : n ≡ length new = omega (arith, same, all) in
     rw (past, is) (ap (take (length new)) (append-nil new) ∙ take-length new)
+
+-- the mark of a processor that is there
+pub marked-there : (count long : ℕ) (x : Option ℕ) → long ≡ count → ((q : ℕ) → x ≡ Some q → q < count) → IfSome x (λ q. q < long)
+marked-there count long None e h = tt
+marked-there count long (Some q) e h = let l : q < count = h q refl in omega arith
+
+marked-at : (busy : List Bool) (p : ℕ) (x : Bool) → x ≡ get_or busy p x → x ≡ false → p < length busy → get_or busy p true ≡ false
+marked-at [] p x e h l = absurd (omega (arith, l))
+marked-at (b ∷ bs) zero x e h l = sym e ∙ h
+marked-at (b ∷ bs) (suc p) x e h l = marked-at bs p x e h (omega (arith, l))
+
+-- no bit is set of a processor that is not marked as busy
+pub quiet-clear : (words : List ℕ) (busy : List Bool) (p : ℕ) (x : Bool) → AreQuiet words busy → x ≡ get_or busy p x → x ≡ false → p < length busy
+    → (i : ℕ) → i < 320 → bit_in words (p * 5 * 64 + i) ≡ 0
+quiet-clear words busy p x quiet e h l i m =
+    let s : p * 5 * 64 + i ≡ p * 320 + i = omega arith in rw s (quiet p i m (marked-at busy p x e h l))

@@ -1,5 +1,5 @@
 -- Which handlers are pending, on which processor each handler runs, and the bitmaps in which they are found.
-use Rattle.std.specs.Prelude.{◌≡◌, ℕ, ◌+◌, ◌-◌, ◌*◌, ◌<◌, ◌≤◌, List, Option, Some, None, Bool, false, ◌&&◌, nat_eq, nat_lt, length, map, replicate, slice_get, slice_set, if◌then◌else◌}
+use Rattle.std.specs.Prelude.{◌≡◌, ℕ, ◌+◌, ◌-◌, ◌*◌, ◌<◌, ◌≤◌, List, Option, Some, None, Bool, true, false, ◌&&◌, get_or, nat_eq, nat_lt, length, map, replicate, slice_get, slice_set, if◌then◌else◌}
 use Rattle.fmp_base.specs.declared.states.Handler.{Handler}
 use Rattle.fmp_base.specs.declared.states.Handler.TheVariants as handler
 use Rattle.fmp_base.specs.declared.systems.InterruptConfig.{InterruptConfig}
@@ -93,6 +93,10 @@ abbrev pub AreBitmaps : ℕ → List ℕ → (ℕ → Option ℕ) → (ℕ → B
 AreBitmaps count words on mark =
     (p n : ℕ) → p < count → n < 320 → bit_in words (p * 320 + n) ≡ as_bit (mark n && is_on (on n) p)
 
+-- a processor that is not marked as busy has no bit in its bitmap
+abbrev pub AreQuiet : List ℕ → List Bool → Type 0
+AreQuiet words busy = (p n : ℕ) → n < 320 → get_or busy p true ≡ false → bit_in words (p * 320 + n) ≡ 0
+
 pub record IsExact (a : Inside) : Type 0 where
   pub interrupt_processors : length a.interrupt_processors.items ≡ 32
   pub interrupts : length a.interrupts.items ≡ 32
@@ -102,6 +106,8 @@ pub record IsExact (a : Inside) : Type 0 where
   pub words : length a.words.items ≡ a.processors * 5
   pub bitmaps : AreBitmaps a.processors a.words.items (processor_at_slot (marks_view a).processors)
       (mark_at_slot a.interrupts.items a.cyclics.items)
+  pub busy : length a.busy.items ≡ a.processors
+  pub quiet : AreQuiet a.words.items a.busy.items
 
 -- the bit of a slot is set or cleared in the bitmap of the processor, if any; all others stay
 abbrev pub IsSetAt : List ℕ → List ℕ → Option ℕ → ℕ → Bool → Type 0

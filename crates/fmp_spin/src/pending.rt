@@ -5,7 +5,7 @@ ghost use Rattle.fmp_base.specs.States.{places_from};
 ghost use Rattle.fmp_base.specs.Systems.{tables_of, defined_for};
 ghost use Rattle.fmp_base.specs.Ticks.{is_pending};
 ghost use Rattle.fmp_spin.specs.Bits.{IsFirst, bit_in};
-ghost use Rattle.fmp_spin.specs.Pending.{handler_processors, none_pending, first_handler, processor_of, HasMark, without_mark, IsSetAt};
+ghost use Rattle.fmp_spin.specs.Pending.{handler_processors, none_pending, first_handler, processor_of, AreQuiet, HasMark, without_mark, IsSetAt};
 
 use crate::bits::{first_bit, is_clear, set_bit};
 use fmp_base::{CyclicConfig, Handler, InterruptConfig, System};
@@ -19,8 +19,9 @@ const BITMAP_WORDS: usize = 5;
 const CYCLICS: usize = 64;
 
 /// For each handler whether it is pending (uITRON 4.0, sections 4.7.2 and 4.9). Interrupts go by their places, their
-/// numbers less 1, and cyclic handlers by theirs. Each processor has a bitmap, in which its first pending handler
-/// is found at once. It is seen as the marks, with the processor of each handler, which never changes.
+/// numbers less 1, and cyclic handlers by theirs. Each processor has a bitmap, in which its first pending handler is
+/// found, and is busy where a bit of it is set: mostly none is. It is seen as the marks, with the processor of each
+/// handler, which never changes.
 #[derive(Drop)]
 pub struct PendingHandlers {
     processors: u8,
@@ -29,6 +30,7 @@ pub struct PendingHandlers {
     interrupts: Vec<bool>,
     cyclics: Vec<bool>,
     words: Vec<u64>,
+    busy: Vec<bool>,
 }
 
 impl Model for PendingHandlers {
@@ -41,15 +43,21 @@ impl Model for PendingHandlers {
     ghost invariant = { IsExact };
 }
 
-/// Sets or clears the bit of a slot in the bitmap of a processor, if any.
-fn set_slot(words: &mut [u64], processor: Option<u8>, slot: usize, pending: bool)
+/// Sets or clears the bit of a slot in the bitmap of a processor, if any, and tells whether a bit of it is set then.
+fn set_slot(words: &mut [u64], busy: &mut [bool], processor: Option<u8>, slot: usize, pending: bool)
     requires slot { slot < 320 }
     requires there { IfSome processor (λ q. q * 5 + 5 ≤ length words.old) }
+    requires marked { IfSome processor (λ q. q < length busy.old) }
+    requires quiet { AreQuiet words.old busy.old }
     ensures bits { IsSetAt words.old words.new processor slot pending }
     ensures words { length words.new ≡ length words.old }
+    ensures busy { length busy.new ≡ length busy.old }
+    ensures quiet { AreQuiet words.new busy.new }
 {
     if let Some(q) = processor {
-        set_bit(words, q as usize * BITMAP_WORDS * 64 + slot, pending);
+        let from = q as usize * BITMAP_WORDS;
+        set_bit(words, from * 64 + slot, pending);
+        busy[q as usize] = !is_clear(words, from);
     }
 }
 
@@ -105,16 +113,13 @@ fn clear_words(alloc: Global, count: usize) -> Result<Vec<u64>, AllocError>
     vec![in alloc; 0; count]
 }
 
-/// The first slot of a bitmap whose bit is set, if any. Usually there is none, which is seen at once.
+/// The first slot of a bitmap whose bit is set, if any.
+#[inline(never)]
 fn first_slot(words: &[u64], from: usize) -> Option<usize>
     requires inside { from + 5 ≤ length words.now }
     ensures { IsFirst (λ i. bit_in words.now (from * 64 + i)) 320 result }
 {
-    if is_clear(words, from) {
-        None
-    } else {
-        first_bit(words, from, BITMAP_WORDS)
-    }
+    first_bit(words, from, BITMAP_WORDS)
 }
 
 impl PendingHandlers {
@@ -128,6 +133,7 @@ impl PendingHandlers {
         let interrupts = clear_marks(alloc, 32)?;
         let cyclics = clear_marks(alloc, sys.cyclics.len())?;
         let words = clear_words(alloc, sys.processors as usize * BITMAP_WORDS)?;
+        let busy = clear_marks(alloc, sys.processors as usize)?;
         Ok(PendingHandlers {
             processors: sys.processors,
             interrupt_processors,
@@ -135,6 +141,7 @@ impl PendingHandlers {
             interrupts,
             cyclics,
             words,
+            busy,
         })
     }
 
@@ -169,7 +176,13 @@ impl PendingHandlers {
     {
         let processor = self.interrupt_processors[i as usize];
         self.interrupts[i as usize] = pending;
-        set_slot(self.words.as_mut_slice(), processor, i as usize, pending);
+        set_slot(
+            self.words.as_mut_slice(),
+            self.busy.as_mut_slice(),
+            processor,
+            i as usize,
+            pending,
+        );
     }
 
     /// A cyclic handler is pending, or no longer.
@@ -181,6 +194,7 @@ impl PendingHandlers {
         self.cyclics[c as usize] = pending;
         set_slot(
             self.words.as_mut_slice(),
+            self.busy.as_mut_slice(),
             processor,
             CYCLICS + c as usize,
             pending,
@@ -220,6 +234,9 @@ impl PendingHandlers {
         ensures value { result ≡ first_handler self.now p }
         ensures there { IfSome result (λ h. HasMark self.now h) }
     {
+        if !self.busy[p as usize] {
+            return None;
+        }
         match first_slot(self.words.as_slice(), p as usize * BITMAP_WORDS) {
             Some(slot) if slot < CYCLICS => Some(Handler::Interrupt(slot as u8)),
             Some(slot) => Some(Handler::Cyclic((slot - CYCLICS) as u8)),

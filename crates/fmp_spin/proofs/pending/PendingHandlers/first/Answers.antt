@@ -1,6 +1,6 @@
 use Rattle.std.proofs.Common.{◌<◌, ◌-◌, arith}
 use Rattle.fmp_spin.specs.Pending.{marks_view}
-use Rattle.fmp_spin.proofs.PendingLemmas.{first-is_interrupt, first-is_cyclic, first-is_none}
+use Rattle.fmp_spin.proofs.PendingLemmas.{first-is_interrupt, first-is_cyclic, first-is_none, quiet-clear}
 use Rattle.fmp_spin.proofs.pending.PendingHandlers.first.Goals as goal
 
 pub returns-in-Some-clause-value : goal.returns-in-Some-clause-value
@@ -35,3 +35,16 @@ returns-in-None-clause-value c =
     rw (← c.self.view_is) (first-is_none _ _ (marks_view c.self.inside) c.args.p c.self.invariant.bitmaps there
     (omega (arith, c.self.invariant.interrupts)) c.self.invariant.few
     (rw c.as_slice.ensures.value at c.in-None.ensures))
+
+pub index-requires : goal.index-requires
+index-requires c =
+    let there : c.args.p < c.self.inside.processors = rw (← c.self.view_is) at c.requires in
+    omega (arith, there, c.self.invariant.busy)
+
+pub returns-then-not-index-clause-value : goal.returns-then-not-index-clause-value
+returns-then-not-index-clause-value c =
+    let there : c.args.p < c.self.inside.processors = rw (← c.self.view_is) at c.requires in
+    rw (← c.self.view_is) (first-is_none _ _ (marks_view c.self.inside) c.args.p c.self.invariant.bitmaps there
+    (omega (arith, c.self.invariant.interrupts)) c.self.invariant.few
+    (quiet-clear c.self.inside.words.items c.self.inside.busy.items c.args.p c.index.result.now c.self.invariant.quiet c.index.ensures c.if-not-index.true
+    (omega (arith, there, c.self.invariant.busy))))

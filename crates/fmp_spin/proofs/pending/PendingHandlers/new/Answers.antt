@@ -2,7 +2,7 @@ use Rattle.std.proofs.Common.{◌≡◌, ◌*◌, length, ap, ◌∙◌, sym, ar
 use Rattle.std.proofs.lemmas.List.{length-map, length-replicate}
 use Rattle.fmp_base.specs.Systems.{tables_of}
 use Rattle.fmp_spin.specs.Pending.{handler_processors, processor_at_slot}
-use Rattle.fmp_spin.proofs.NewLemmas.{AreBitmaps-none, length-interrupts, processor-below}
+use Rattle.fmp_spin.proofs.NewLemmas.{AreBitmaps-none, AreQuiet-none, length-interrupts, processor-below}
 use Rattle.fmp_spin.proofs.pending.PendingHandlers.new.Goals as goal
 
 pub invariant_of-result : goal.invariant_of-result
@@ -29,4 +29,6 @@ invariant_of-result c =
             cyclics = c.in_ok-cyclic_processors.cyclic_processors.items;
           }))
           c.in_ok-interrupts.interrupts.items c.in_ok-cyclics.cyclics.items (c.args.sys.now.processors * 5) 32 c.len.result c.in_ok-words.ensures c.in_ok-interrupts.ensures c.in_ok-cyclics.ensures;
+      busy = ap length c.in_ok-busy.ensures ∙ length-replicate _ _;
+      quiet = AreQuiet-none c.in_ok-words.words.items c.in_ok-busy.busy.items (c.args.sys.now.processors * 5) c.in_ok-words.ensures;
     }
