@@ -1,9 +1,9 @@
 //! The deadlines of tasks.
-ghost use Rattle.std.specs.Prelude.{◌≡◌, ◌+◌, ◌<◌, ◌≤◌, length, slice_set, IfOk, IfSome, replicate, Some, None};
+ghost use Rattle.std.specs.Prelude.{◌≡◌, ◌+◌, ◌<◌, ◌≤◌, length, slice_index_or, slice_set, IfOk, IfSome, is_some, replicate, Some, None, true};
 ghost use Rattle.fmp_base.specs.Links.{AddsAtMost};
 ghost use Rattle.fmp_ticks.specs.Times.{first_due as first_due_of, NoneBefore};
 
-use crate::heap::{is_before, mend, rank};
+use crate::heap::{is_before, rank};
 use crate::places::Places;
 use crate::times::unset;
 use fmp_base::Steps;
@@ -41,6 +41,7 @@ impl TickQueue {
     }
 
     /// A task's wait ends when the clock is `when`.
+    #[inline(never)]
     pub fn set(&mut self, t: u8, when: u32, steps: &mut Steps)
         requires { t < length self.old }
         ensures value { self.new ≡ slice_set self.old t (Some when) }
@@ -51,24 +52,35 @@ impl TickQueue {
         self.deadlines[t as usize] = Some(when);
         self.places.set_rank(slot, rank(Some(when), t));
         let slot = if stood { slot } else { self.places.enter(slot) };
-        mend(&mut self.places, slot, steps);
+        self.places.mend(slot, steps);
     }
 
-    /// A task has no deadline any more.
-    pub fn cancel(&mut self, t: u8, steps: &mut Steps)
-        requires { t < length self.old }
+    /// A task that has a deadline has none any more.
+    #[inline(never)]
+    fn take_out(&mut self, t: u8, steps: &mut Steps)
+        requires there { t < length self.old }
+        requires stood { is_some (slice_index_or self.old t None) ≡ true }
         ensures value { self.new ≡ slice_set self.old t None }
         ensures steps { AddsAtMost 22 steps.old steps.new }
     {
-        if self.deadlines[t as usize].is_none() {
-            return;
-        }
         let slot = self.places.slot_of(t);
         self.deadlines[t as usize] = None;
         self.places.set_rank(slot, rank(None, t));
         self.places.leave(slot);
         if slot < self.places.count() {
-            mend(&mut self.places, slot, steps);
+            self.places.mend(slot, steps);
+        }
+    }
+
+    /// A task has no deadline any more.
+    #[inline(always)]
+    pub fn cancel(&mut self, t: u8, steps: &mut Steps)
+        requires { t < length self.old }
+        ensures value { self.new ≡ slice_set self.old t None }
+        ensures steps { AddsAtMost 22 steps.old steps.new }
+    {
+        if self.deadlines[t as usize].is_some() {
+            self.take_out(t, steps);
         }
     }
 
