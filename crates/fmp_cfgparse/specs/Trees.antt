@@ -1,10 +1,12 @@
 -- The syntax tree of a configuration as plain data.
-use Rattle.std.specs.Prelude.{ℕ, ℤ, List, map, Option, Some, None}
+use Rattle.std.specs.Prelude.{ℕ, ℤ, List, [], ◌∷◌, map, Option, Some, None}
 use Rattle.std.specs.declared.vec.Vec.{Vec}
 use Rattle.std.specs.declared.alloc.Global.{Global}
 use Rattle.fmp_base.specs.declared.names.Name.{Name}
 use Rattle.fmp_base.specs.declared.words.Api.{Api}
 use Rattle.fmp_cfgparse.specs.declared.tree.Item.{Item}
+use Rattle.fmp_cfgparse.specs.declared.tree.Value.{Value}
+use Rattle.fmp_cfgparse.specs.declared.tree.Value.TheVariants as held
 use Rattle.fmp_cfgparse.specs.declared.tree.Field.{Field}
 use Rattle.fmp_cfgparse.specs.declared.tree.Field.TheVariants as field
 use Rattle.fmp_cfgparse.specs.declared.tree.StaticApi.{StaticApi}
@@ -35,11 +37,12 @@ pub record ConfigurationTree : Type 0 where
   pub classes : List ClassTree
 
 -- the trees that the code holds
-abbrev pub items_view : Vec Item Global → List Item
-items_view v = v.items
+abbrev pub items_view : Value → List Item
+items_view (held.One i) = i ∷ []
+items_view (held.Joined v) = v.items
 
 abbrev pub field_view : Field → FieldTree
-field_view (field.Value v) = value v.items
+field_view (field.Value v) = value (items_view v)
 field_view (field.Name n) = name n
 
 abbrev pub part_view : Option Field → Option FieldTree

@@ -7,7 +7,7 @@ ghost use Rattle.fmp_cfgparse.specs.Reading.{itself, RightItem, RightNumber, Rig
 ghost use Rattle.fmp_cfgparse.specs.Trees.{items_view, part_view, fields_view, api_view, apis_view, class_view, classes_view, configuration_view};
 
 use crate::forms::{Part, parts_of};
-use crate::tree::{Class, Configuration, Field, Item, StaticApi};
+use crate::tree::{Class, Configuration, Field, Item, StaticApi, Value};
 use fmp_base::Name;
 use fmp_lex::reading::{expect_keyword, expect_symbol, is_keyword_at, is_symbol_at, kind_at};
 use fmp_lex::{
@@ -128,11 +128,14 @@ fn item(tokens: &Tokens<'_>, at: usize) -> Result<(Item, usize), FirstFault>
     }
 }
 
-fn value(alloc: Global, tokens: &Tokens<'_>, at: usize) -> Result<(Vec<Item>, usize), ReadError>
+fn value(alloc: Global, tokens: &Tokens<'_>, at: usize) -> Result<(Value, usize), ReadError>
     requires { at ≤ length tokens.now }
     ensures { Answers items_view result (RightValue (kinds_of tokens.now) at) }
 {
     let (first, next) = item(tokens, at)?;
+    if !is_symbol_at(tokens, next, Symbol::Or) {
+        return Ok((Value::One(first), next));
+    }
     let mut items = Vec::new(alloc);
     items.push(first)?;
     let mut i = next;
@@ -141,7 +144,7 @@ fn value(alloc: Global, tokens: &Tokens<'_>, at: usize) -> Result<(Vec<Item>, us
         items.push(one)?;
         i = next;
     }
-    Ok((items, i))
+    Ok((Value::Joined(items), i))
 }
 
 fn part(
@@ -180,6 +183,11 @@ fn put(fields: &mut Vec<Field>, field: Option<Field>) -> Result<(), ReadError>
     Ok(())
 }
 
+/// About how many fields a form has: a mark stands behind each, and four more around them.
+fn fields_in(parts: &[Part]) -> usize {
+    parts.len().saturating_sub(4) / 2
+}
+
 fn parts(
     alloc: Global,
     tokens: &Tokens<'_>,
@@ -189,7 +197,7 @@ fn parts(
     requires { at ≤ length tokens.now }
     ensures { Answers fields_view result (RightParts parts.now (kinds_of tokens.now) at) }
 {
-    let mut fields = Vec::new(alloc);
+    let mut fields = Vec::with_capacity(alloc, fields_in(parts))?;
     let mut i = at;
     for one in parts {
         let (field, next) = part(alloc, tokens, *one, i)?;

@@ -15,11 +15,19 @@ pub enum Item {
     Name(Name),
 }
 
+/// Items that are joined by or; there is at least one.
+#[derive(Drop)]
+pub enum Value {
+    /// The only item.
+    One(Item),
+    /// The items, where there are several.
+    Joined(Vec<Item>),
+}
+
 /// What a static API is given at one place.
 #[derive(Drop)]
 pub enum Field {
-    /// Items that are joined by or; there is at least one.
-    Value(Vec<Item>),
+    Value(Value),
     /// The name of an object or of an entry.
     Name(Name),
 }

@@ -1,9 +1,9 @@
 //! The values of fields, and which of their constants are unknown.
 ghost use Rattle.std.specs.Prelude.{◌≡◌, map, Some, slice_get};
-ghost use Rattle.fmp_cfgparse.specs.Trees.{field_view};
+ghost use Rattle.fmp_cfgparse.specs.Trees.{field_view, items_view};
 ghost use Rattle.fmp_cfgparse.specs.Values as spec;
 
-use crate::tree::{Field, Item};
+use crate::tree::{Field, Item, Value};
 use fmp_base::Name;
 
 /// The number of an item on 32 bits; a name has none.
@@ -27,8 +27,8 @@ fn joined(x: Option<i32>, y: Option<i32>) -> Option<i32>
     }
 }
 
-/// The number of a value, where it has no unknown constant.
-fn value_number(items: &[Item]) -> Option<i32>
+/// The number of joined items, where none is an unknown constant.
+fn joined_number(items: &[Item]) -> Option<i32>
     ensures { result ≡ spec.value_number items.now }
 {
     let mut number = Some(0);
@@ -38,11 +38,21 @@ fn value_number(items: &[Item]) -> Option<i32>
     number
 }
 
+/// The number of a value, where it has no unknown constant.
+fn value_number(value: &Value) -> Option<i32>
+    ensures { result ≡ spec.value_number (items_view value.now) }
+{
+    match value {
+        Value::One(item) => joined(Some(0), item_number(*item)),
+        Value::Joined(items) => joined_number(items),
+    }
+}
+
 fn is_known(field: &Field) -> bool
     ensures { result ≡ spec.is_known (field_view field.now) }
 {
     match field {
-        Field::Value(items) => value_number(items).is_some(),
+        Field::Value(value) => value_number(value).is_some(),
         Field::Name(_) => true,
     }
 }
@@ -63,7 +73,7 @@ fn field_number(field: &Field) -> i32
     ensures { result ≡ spec.field_number (Some (field_view field.now)) }
 {
     match field {
-        Field::Value(items) => value_number(items).unwrap_or(0),
+        Field::Value(value) => value_number(value).unwrap_or(0),
         Field::Name(_) => 0,
     }
 }

@@ -20,7 +20,7 @@ returns-in_err-field c =
     let i = c.loop-one.i in
     let p = get_or ps n (part.Mark mark.LeftParen) in
     let split : drop n ps ≡ p ∷ drop (n + 1) ps = rw add-one (drop-cons ps n (part.Mark mark.LeftParen) c.loop-one-test.true) in
-    let e = err_from_is_err_and c.from_residual.result c.from_residual.ensures.1 in
+    let e = err_from_is_err_and c.from_residual-in_err-field.result c.from_residual-in_err-field.ensures.1 in
     rw (e.1, e.2) (err_as part_view fields_view c.in_err-field.field-0.0 (RightPart p ts i) (RightParts ps ts at)
     (λ j why x. c.loop-one.invariant.goes (stopped j why) (subst (λ rows. RightParts rows ts i (stopped j why)) (sym split) (parts_stop p (drop (n + 1) ps) ts i j why x))) c.in_err-field.ensures)
 

@@ -23,6 +23,13 @@ returns-in_err-first c =
     rw (p.1, p.2) (find_as itself items_view c.in_err-first.field-0.0 (RightItem ts i) (RightValue ts i)
     (λ j why x. value_stop ts i j why x) c.in_err-first.ensures)
 
+pub returns-then-not-is_symbol_at : goal.returns-then-not-is_symbol_at
+returns-then-not-is_symbol_at c =
+    let ts = kinds_of c.args.tokens.now in
+    let k = c.in_ok-first.next in
+    let x : RightItem ts c.args.at (found c.in_ok-first.first k) = c.in_ok-first.ensures in
+    value_then ts c.args.at k c.in_ok-first.first x (found [] k) (no_more_items ts k (c.is_symbol_at.ensures.no (search rules)) x.within)
+
 pub items-init : goal.items-init
 items-init c =
     let ts = kinds_of c.args.tokens.now in
