@@ -53,7 +53,8 @@ pub fn steps_are_ghost() -> bool
     true
 }
 
-/// An array of links, each from its own place to some place. Only `get` and `set` read and write them.
+/// An array of links, each from its own place to some place. Only `get` and `set` read and write them, and `put_back`,
+/// which is no step, since no call of the kernel makes it.
 #[derive(Drop)]
 pub struct Counted {
     links: Vec<u32>,
@@ -94,5 +95,13 @@ impl Counted {
     {
         steps.add_one();
         self.links[place as usize] = link;
+    }
+
+    /// Puts the links of another array of this length in the place of these.
+    pub fn put_back(&mut self, from: &Counted)
+        requires { length self.old ≡ length from.now }
+        ensures { self.new ≡ from.now }
+    {
+        self.links.copy_from_slice(from.links.as_slice());
     }
 }

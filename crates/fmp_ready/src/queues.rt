@@ -13,6 +13,8 @@ use fmp_ring::{Rings, as_byte};
 use std::alloc::{AllocError, Global};
 use std::marker::Model;
 
+mod copying;
+
 /// For each processor (uITRON 4.0, section 3.2, and the FMP kernel) sixteen queues, one for each priority, 1 being the
 /// most urgent. They are the first lists of the rings that each call is lent, sixteen for each processor; what stands
 /// here is a bitmap for each processor, of the queues that are not empty. Processors and tasks go by their places, from

@@ -10,6 +10,8 @@ use fmp_base::{Counted, Steps};
 use std::alloc::{AllocError, Global};
 use std::marker::Model;
 
+mod copying;
+
 /// A list of nodes for each head, heads and nodes being numbered from 0. A node stands in at most one list.
 ///
 /// In the arrays of links, the place of a node is its number, and the places of the heads come after all nodes. Each

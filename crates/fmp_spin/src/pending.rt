@@ -12,6 +12,8 @@ use fmp_base::{CyclicConfig, Handler, InterruptConfig, System};
 use std::alloc::{AllocError, Global};
 use std::marker::Model;
 
+mod copying;
+
 /// How many words of bits a processor has: one for interrupts, four for cyclic handlers.
 const BITMAP_WORDS: usize = 5;
 

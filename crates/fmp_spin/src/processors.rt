@@ -9,6 +9,8 @@ use fmp_base::{Answer, Er, Lock, Processor, Reply};
 use std::alloc::{AllocError, Global};
 use std::marker::Model;
 
+mod copying;
+
 /// The processors of a system, by their places.
 #[derive(Drop)]
 pub struct Processors {

@@ -6,6 +6,8 @@ use crate::trail::Trail;
 use std::marker::Model;
 use std::snapshot::Snapshot;
 
+mod copying;
+
 /// The order of which every queue is a part. What binds it is the invariant of `Tables` alone.
 #[derive(Drop)]
 pub struct Order {

@@ -22,6 +22,7 @@ use std::marker::Model;
 
 mod clock;
 mod configs;
+mod copying;
 mod processors;
 mod queued;
 mod tasks;

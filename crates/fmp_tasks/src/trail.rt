@@ -9,4 +9,6 @@ pub enum Trail {
     Last(u8, Snapshot<Trail>),
     /// A task left the order before.
     Left(u8, Snapshot<Trail>),
+    /// The order is another one.
+    Same(Snapshot<Snapshot<Trail>>),
 }

@@ -6,6 +6,8 @@ use std::alloc::{AllocError, Global};
 use std::collections::VecDeque;
 use std::marker::Model;
 
+mod copying;
+
 /// The words of one data queue, the oldest first, in a ring buffer with room for 255. It is seen as the list of these.
 #[derive(Drop)]
 pub struct Words {

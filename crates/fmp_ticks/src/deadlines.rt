@@ -10,6 +10,8 @@ use fmp_base::Steps;
 use std::alloc::{AllocError, Global};
 use std::marker::Model;
 
+mod copying;
+
 /// For each task the clock at which its wait or delay ends, if it is limited (uITRON 4.0, sections 2.1.7 and 4.2).
 /// Tasks go by their places, from 0. It is seen as the list of these times. The tasks that have one stand in a heap,
 /// the first of them at its top; the last argument of each call counts the comparisons of tasks.
