@@ -225,6 +225,14 @@ shows 'why: a deadlock of two semaphores' 0 why cross.img cross.steps
 echo 'A waits for semaphore Y, since event 3; last taken by B at event 2' > wanted
 shows 'why: before the deadlock' 0 why cross.img cross.steps --at 3
 
+# Where a third task goes on, it may still signal.
+sed 's/^    CRE_SEM(X/    CRE_TSK(C, { TA_ACT, 0, c, 11, 256, NULL });\n&/' cross.cfg > third.cfg
+(cat cross.src
+    echo 'task c { while (1) { rot_rdq(0); } }') > third.src
+built third
+sed 's/: deadlock$/: deadlock, unless another task or a handler signals/' deadlock > wanted
+shows 'why: a deadlock that another task may end' 0 why third.img cross.steps
+
 # Where one of them waits with a limit, it is none.
 cp cross.cfg limit.cfg
 echo 'task a { wai_sem(X); twai_sem(Y, 5); } task b { wai_sem(Y); wai_sem(X); }' > limit.src

@@ -192,10 +192,18 @@ abbrev pub left_text : (interrupts : ℕ) → List ℕ
 left_text zero = codes "nothing is left that ends these waits\n"
 left_text (suc n) = codes "nothing but an interrupt is left that may end these waits\n"
 
+-- what tasks that wait for one another are in: where anything may still be done, somebody else may signal
+abbrev pub deadlock_text : (quiet : Bool) → (interrupts : ℕ) → List ℕ
+deadlock_text quiet interrupts =
+    if quiet && nat_eq interrupts 0
+    then codes ": deadlock\n"
+    else codes ": deadlock, unless another task or a handler signals\n"
+
 -- how tasks stand, of which each waits for the one that `blockers` has
 abbrev pub verdict_text : Sight → (blockers : List (Option ℕ)) → Verdict → List ℕ
 verdict_text x bs verdict.Ended = codes "every task has ended\n"
-verdict_text x bs (verdict.Deadlock t) = links x (cycle_tasks bs t (length bs) (Some t)) ++ codes ": deadlock\n"
+verdict_text x bs (verdict.Deadlock t) =
+    links x (cycle_tasks bs t (length bs) (Some t)) ++ deadlock_text (is_quiet x) (length x.sys.interrupts)
 verdict_text x bs verdict.HeldUp = if is_quiet x then left_text (length x.sys.interrupts) else []
 verdict_text x bs verdict.Free = codes "no task waits or spins\n"
 

@@ -4,6 +4,7 @@
 mod cycles;
 mod history;
 mod obstacles;
+mod quiet;
 mod report;
 mod verdicts;
 mod waits;

@@ -1,6 +1,5 @@
 //! What is said of the tasks that wait and spin.
-ghost use Rattle.std.specs.Prelude.{◌≡◌, ◌++◌, IfOk, OnOk, decimal, length, zip};
-ghost use Rattle.std.specs.List.{list_all};
+ghost use Rattle.std.specs.Prelude.{◌≡◌, ◌++◌, IfOk, OnOk, decimal};
 ghost use Rattle.fmp_base.specs.Systems.{tables_of};
 ghost use Rattle.fmp_why.specs.declared.verdicts.Verdict.TheVariants.{Deadlock};
 ghost use Rattle.fmp_why.specs.Reports as spec;
@@ -10,7 +9,8 @@ ghost use Rattle.fmp_why.specs.Waits.{object_of as for_object};
 use crate::cycles::cycle_tasks;
 use crate::history::{Deed, History};
 use crate::obstacles::{Spin, blocker_of, spin_of};
-use crate::verdicts::{Verdict, is_spin, verdict_of};
+use crate::quiet::{deadlock_text, is_quiet, left_text};
+use crate::verdicts::{Verdict, verdict_of};
 use crate::waits::{deed_for, deed_words, object_of};
 use fmp_base::{Lock, ObjectKind, Phase, Processor, System, TaskBlock, WaitCause};
 use fmp_named::{append_caller, append_object, append_task, append_wait};
@@ -421,58 +421,7 @@ fn append_deadlock(
 {
     let tasks = cycle_tasks(alloc, blockers, first)?;
     append_links(scene, &tasks, out)?;
-    append(b": deadlock\n", out)
-}
-
-/// Whether a processor does nothing: it runs nothing, or its actor spins.
-fn stands(cpu: &Processor, spin: Option<Spin>) -> bool
-    ensures { result ≡ spec.stands (cpu.now, spin) }
-{
-    is_spin(spin) || (cpu.run.is_none() && cpu.handler.is_none())
-}
-
-/// Whether every processor does nothing.
-fn all_stand(processors: &[Processor], spins: &[Option<Spin>]) -> bool
-    ensures { result ≡ list_all spec.stands (zip processors.now spins.now) }
-{
-    let mut rest = spins;
-    for cpu in processors {
-        let [spin, more @ ..] = rest else {
-            return true;
-        };
-        if !stands(cpu, *spin) {
-            return false;
-        }
-        rest = more;
-    }
-    true
-}
-
-/// Whether no wait has a limit.
-fn has_no_limit(blocks: &[TaskBlock]) -> bool
-    ensures { result ≡ list_all spec.has_no_limit blocks.now }
-{
-    blocks.iter().all(|block| block.deadline.is_none())
-}
-
-/// Whether no processor goes on, no wait has a limit, and no cyclic handler is there.
-fn is_quiet(scene: &Scene<'_>) -> bool
-    ensures { result ≡ spec.is_quiet (sight_of scene.now) }
-{
-    all_stand(scene.processors, scene.spins)
-        && has_no_limit(scene.blocks)
-        && scene.sys.cyclics.is_empty()
-}
-
-/// What is left that may end the waits of tasks, where all is quiet.
-fn left_text(sys: &System) -> &'static str
-    ensures { result.now ≡ spec.left_text (length (tables_of sys.now).interrupts) }
-{
-    if sys.interrupts.is_empty() {
-        "nothing is left that ends these waits\n"
-    } else {
-        "nothing but an interrupt is left that may end these waits\n"
-    }
+    append(deadlock_text(scene).as_bytes(), out)
 }
 
 /// Appends how the tasks stand, in a line.

@@ -2,7 +2,7 @@ use Rattle.std.proofs.Common.{◌≡◌, drop}
 use Rattle.std.specs.List.{list_all}
 use Rattle.std.specs.Prelude.{zip}
 use Rattle.fmp_why.specs.Reports.{stands}
-use Rattle.fmp_why.proofs.report.all_stand.Given as goal
+use Rattle.fmp_why.proofs.quiet.all_stand.Given as goal
 
 abbrev pub invariant-loop-cpu : goal.invariant-loop-cpu
 invariant-loop-cpu l =
