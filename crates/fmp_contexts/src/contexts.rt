@@ -14,6 +14,8 @@ use fmp_tasks::Tables;
 use std::alloc::{AllocError, Global};
 use std::marker::Model;
 
+mod copying;
+
 /// What is kept of a handler that runs: the number of its body, and what is kept of that.
 #[derive(Drop)]
 struct KeptHandler<C: Copy> {

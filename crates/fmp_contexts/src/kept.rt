@@ -10,6 +10,8 @@ ghost use Rattle.fmp_contexts.specs.Contexts.{OfHeld, context_held, going_contex
 use fmp_base::{Body, Held, Reply, Stop};
 use std::marker::Model;
 
+mod copying;
+
 /// A context, and whether it awaits the reply to the call of its body.
 #[derive(Drop)]
 pub struct Kept<C: Copy> {

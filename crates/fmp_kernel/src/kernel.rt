@@ -21,6 +21,8 @@ use std::alloc::{AllocError, Global};
 use std::marker::Model;
 use thiserror::Error;
 
+mod copying;
+
 /// Why there is no kernel.
 #[derive(Debug, Drop, Error)]
 pub enum KernelFault {

@@ -13,6 +13,8 @@ use fmp_tasks::Tables;
 use std::alloc::{AllocError, Global};
 use std::marker::Model;
 
+mod copying;
+
 /// For each processor the actor that it had after the last event, and its stamp.
 #[derive(Drop)]
 pub struct Stamps {
