@@ -45,6 +45,7 @@ pub fn queue_of(phase: Phase) -> Option<WaitQueue>
 }
 
 /// Takes task t, which is x, out of its queue, if it stands in one.
+#[inline(always)]
 pub fn leave(ready: &mut ReadyQueues, waits: WaitQueues, rings: &mut Rings, x: &TaskBlock, t: u8)
     requires urgent { 1 ≤ x.now.priority }
     requires least { x.now.priority ≤ 16 }
@@ -113,6 +114,7 @@ fn remembered(latest: &Latest, blocks: &[TaskBlock], queue: WaitQueue, t: u8) ->
 }
 
 /// Puts task t into a wait queue of priority order.
+#[inline(never)]
 fn join_by_priority(
     waits: WaitQueues,
     rings: &mut Rings,
@@ -139,6 +141,7 @@ fn join_by_priority(
 }
 
 /// Puts task t into a wait queue.
+#[inline(always)]
 fn join_queue(
     waits: WaitQueues,
     rings: &mut Rings,
@@ -168,6 +171,7 @@ fn join_queue(
 }
 
 /// Puts task t, which is x, into its queue, if it is to stand in one.
+#[inline(always)]
 pub fn join(
     ready: &mut ReadyQueues,
     waits: WaitQueues,
@@ -207,6 +211,7 @@ pub fn join(
 }
 
 /// The deadline of task t becomes this.
+#[inline(always)]
 pub fn set_deadline(deadlines: &mut TickQueue, t: u8, deadline: Option<u32>)
     requires { t < length deadlines.old }
     ensures { deadlines.new ≡ slice_set deadlines.old t deadline }

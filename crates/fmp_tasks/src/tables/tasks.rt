@@ -114,6 +114,7 @@ impl Tables {
     }
 
     /// Task t becomes x, and goes to the end of the order.
+    #[inline(always)]
     pub fn set_last(&mut self, t: u8, x: &TaskBlock)
         requires there { t < length self.old.system.tasks }
         requires fits { Fits self.old.system x.now }
@@ -136,7 +137,7 @@ impl Tables {
             &mut self.latest,
             &self.system,
             self.blocks.as_slice(),
-            &self.blocks[t as usize],
+            x,
             t,
         );
         set_deadline(&mut self.deadlines, t, x.deadline);

@@ -11,7 +11,7 @@ use Rattle.fmp_waitq.specs.declared.queues.ObjectCounts.{ObjectCounts}
 use Rattle.fmp_tasks.specs.Homes.{Fits, IsAmong, IsSomeThere, home, left_from}
 use Rattle.fmp_tasks.specs.Joining.{AreOrdered}
 use Rattle.fmp_tasks.proofs.OrderedLemmas.{ordered-left}
-use Rattle.fmp_tasks.proofs.SoundLemmas.{Sound-last, home-among, home-free, lent, own_counts, own_processors, read-at, read-set}
+use Rattle.fmp_tasks.proofs.SoundLemmas.{Sound-last, home-among, home-free, lent, own_counts, own_processors, read-at}
 use Rattle.fmp_tasks.proofs.TopLemmas.{Fits-at}
 use Rattle.fmp_tasks.proofs.tables.Tables.set_last.Goals as goal
 
@@ -42,11 +42,10 @@ join-requires c =
     let is : task_at c.self.inside.blocks.items c.args.t ≡ c.index.result.now = read-at _ _ _ l c.index.ensures in
     let free : is_linked c.args.t (left_from c.self.inside.rings.lists (home c.self.inside.waits c.index.result.now) c.args.t) ≡ false =
     subst (λ (x : TaskBlock). is_linked c.args.t (left_from c.self.inside.rings.lists (home c.self.inside.waits x) c.args.t) ≡ false) is (home-free tasks c.args.t) in
-    let same : c.index-2.result.now ≡ c.args.x.now = read-set _ _ _ _ l c.index-2.ensures in
     let ordered = subst (λ (y : TaskBlock). AreOrdered c.self.inside.waits (tables_of c.self.inside.system) (slice_set c.self.inside.blocks.items c.args.t c.args.x.now)
     (record c.self.inside.rings { lists = left_from c.self.inside.rings.lists (home c.self.inside.waits y) c.args.t }) c.args.t) is
     (ordered-left _ _ _ _ _ _ _ tasks c.args.t c.args.x.now l f) in
-    rw same (record {
+    record {
       urgent = f.urgent;
       least = f.least;
       processor = subst (λ (n : ℕ). c.args.x.now.processor < n) (sym (c.leave.ensures.processors ∙ tasks.processors)) f.processor;
@@ -59,7 +58,7 @@ join-requires c =
       there = rw (c.as_slice.ensures.value, length-set) l;
       ordered = rw (c.leave.ensures.rings, c.as_slice.ensures.value) ordered;
       free = rw c.leave.ensures.rings free;
-    })
+    }
 
 pub invariant_of-self : goal.invariant_of-self
 invariant_of-self c =
@@ -69,8 +68,7 @@ invariant_of-self c =
     let f : Fits (tables_of c.self.inside.system) c.args.x.now = rw (← c.self.view_is) at c.requires.fits in
     let is : task_at c.self.inside.blocks.items c.args.t ≡ c.index.result.now = read-at _ _ _ l c.index.ensures in
     let after : IfSome c.args.x.now.deadline (λ w. c.self.inside.clock + 1 ≤ w) = rw (← c.self.view_is) at c.requires.later in
-    let same : c.index-2.result.now ≡ c.args.x.now = read-set _ _ _ _ l c.index-2.ensures in
-    let moved = rw (c.leave.ensures.rings, c.as_slice.ensures.value, same) at c.join.ensures.rings in
+    let moved = rw (c.leave.ensures.rings, c.as_slice.ensures.value) at c.join.ensures.rings in
     record {
       system = c.self.invariant.system;
       later = rw c.set_deadline.ensures (NoneBefore-set _ _ _ _ after c.self.invariant.later);
