@@ -10,6 +10,7 @@ mod holding;
 pub mod laws;
 mod machine;
 mod operands;
+mod prepared;
 mod stretches;
 mod vm;
 
