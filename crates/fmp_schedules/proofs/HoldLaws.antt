@@ -56,12 +56,11 @@ still-watched idle (Some most) forbidden a events = ap (λ (came : ℕ). nat_lt 
 module _ {C : Type 0} (rules : Rules) (sys : SystemTables) (M : Meaning C) (n : ℕ) (forbidden : Line → Bool) (rest : List Bool)
     (K : World C → Watched → Type 0) (even : IsTimeless forbidden)
     (closed : IsClosed (Alike sys) (watch rules forbidden) (may_come rules sys M n) (step sys M n) K)
-    (first : IsCovered (Alike sys) K (setup sys M).world (watched_at_setup rules sys M forbidden))
-    (clean : NoneIsBad (watch rules forbidden) K) (free : NoneIsDeadlock rules sys M n rest K) where
-  abbrev watched_after : List Event → Watched
+    (first : IsCovered (Alike sys) K (setup sys M).world (watched_at_setup rules sys M forbidden)) where
+  abbrev pub watched_after : List Event → Watched
   watched_after es = watched (watch rules forbidden) at_first (lines_after sys M n es)
 
-  covered : (es : List Event) → IsSchedule rules sys M n forbidden es
+  pub covered : (es : List Event) → IsSchedule rules sys M n forbidden es
       → IsCovered (Alike sys) K (reached sys M n es) (watched_after es)
   covered es schedule =
       run-covers (Alike sys) (watch rules forbidden) (worlds-chained sys) (watch-blind forbidden even rules) K (may_come rules sys M n)
@@ -75,8 +74,9 @@ module _ {C : Type 0} (rules : Rules) (sys : SystemTables) (M : Meaning C) (n : 
       ap (λ (came : ℕ). may_still rules.most came) e
       ∙ sym (still-watched rules.idle_ticks rules.most forbidden at_first (lines_after sys M n es))
 
-  pub closed-holds : Holds rules sys M n forbidden rest
-  closed-holds =
+  pub closed-holds : NoneIsBad (watch rules forbidden) K → NoneIsDeadlock rules sys M n rest K
+      → Holds rules sys M n forbidden rest
+  closed-holds clean free =
       record {
         never = λ es schedule. let k = covered es schedule in
             sym (told-watched rules forbidden at_first (lines_after sys M n es)) ∙ clean k.world (watched_after es) k.kept;
@@ -86,11 +86,17 @@ module _ {C : Type 0} (rules : Rules) (sys : SystemTables) (M : Meaning C) (n : 
             (subst (λ (b : Bool). IsDeadlock sys M n (reached sys M n es) rest b) (still-after es) d) k.alike);
       }
 
--- a search that tried each event and found nothing shows that all schedules hold
-pub searched-holds : {C : Type 0} (rules : Rules) (sys : SystemTables) (M : Meaning C) (n : ℕ) (forbidden : Line → Bool)
-    (rest : List Bool) (K : World C → Watched → Type 0) → IsTimeless forbidden → IsSearched rules sys M n forbidden rest K
-    → Holds rules sys M n forbidden rest
-searched-holds rules sys M n forbidden rest K even h =
-    closed-holds rules sys M n forbidden rest K even
-    (tried-closed sys M n (watch rules forbidden) (may_come rules sys M n) K (watch-blind forbidden even rules) h.whole h.tried)
-    h.first h.clean h.free
+module _ {C : Type 0} (rules : Rules) (sys : SystemTables) (M : Meaning C) (n : ℕ) (forbidden : Line → Bool) (rest : List Bool)
+    (K : World C → Watched → Type 0) (even : IsTimeless forbidden) (h : IsSearched rules sys M n forbidden rest K) where
+  searched-closed : IsClosed (Alike sys) (watch rules forbidden) (may_come rules sys M n) (step sys M n) K
+  searched-closed =
+      tried-closed sys M n (watch rules forbidden) (may_come rules sys M n) K (watch-blind forbidden even rules) h.whole h.tried
+
+  -- a search that tried each event has a world like the one that any schedule reaches
+  pub searched-covered : (es : List Event) → IsSchedule rules sys M n forbidden es
+      → IsCovered (Alike sys) K (reached sys M n es) (watched (watch rules forbidden) at_first (lines_after sys M n es))
+  searched-covered es schedule = covered rules sys M n forbidden rest K even searched-closed h.first es schedule
+
+  -- a search that tried each event and found nothing shows that all schedules hold
+  pub searched-holds : Holds rules sys M n forbidden rest
+  searched-holds = closed-holds rules sys M n forbidden rest K even searched-closed h.first h.clean h.free

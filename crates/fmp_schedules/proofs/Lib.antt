@@ -4,4 +4,5 @@ pub mod EventLines
 pub mod HoldLaws
 pub mod IdleLaws
 pub mod RuleLaws
+pub mod SilentLaws
 pub mod TriedLaws

@@ -1,5 +1,5 @@
 -- Which lists of events are looked at, and what holds along all of them.
-use Rattle.std.specs.Prelude.{ℕ, zero, suc, ◌+◌, ◌≡◌, List, ◌∷◌, Option, Some, None, Bool, true, false, count_by, sum_by, nat_lt, not, ◌&&◌, ◌||◌}
+use Rattle.std.specs.Prelude.{ℕ, zero, suc, ◌+◌, ◌≡◌, List, [], ◌∷◌, ◌++◌, Option, Some, None, Bool, true, false, count_by, sum_by, nat_lt, not, ◌&&◌, ◌||◌}
 use Rattle.std.specs.List.{list_any}
 use Rattle.fmp_base.specs.declared.events.Event.{Event}
 use Rattle.fmp_base.specs.declared.events.Event.TheVariants as event
@@ -104,3 +104,17 @@ pub record Holds {C : Type 0} (rules : Rules) (sys : SystemTables) (M : Meaning 
   pub free :
       (es : List Event) → IsSchedule rules sys M n forbidden es →
       IsDeadlock sys M n (reached sys M n es) rest (may_still rules.most (requests (lines_after sys M n es))) → ⊥
+
+-- an event tells no line that is forbidden in the world that it leaves
+abbrev pub IsSilent : {C : Type 0} → (forbidden : World C → Line → Bool) → Reaction C → Type 0
+IsSilent forbidden Nothing = Unit {0}
+IsSilent forbidden (Did d) = list_any (forbidden d.world) d.lines ≡ false
+IsSilent forbidden (Kept p w) = Unit {0}
+
+-- Whatever events come, in whatever order, as the rules let them come: none of them ever tells a line that is forbidden
+-- in the world that the event leaves.
+pub record HoldsThere {C : Type 0} (rules : Rules) (sys : SystemTables) (M : Meaning C) (n : ℕ)
+    (forbidden : Line → Bool) (forbidden_there : World C → Line → Bool) : Type 0 where
+  pub silent :
+      (es : List Event) (e : Event) → IsSchedule rules sys M n forbidden (es ++ e ∷ []) →
+      IsSilent forbidden_there (step sys M n (reached sys M n es) e)

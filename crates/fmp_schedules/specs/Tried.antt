@@ -9,9 +9,9 @@ use Rattle.fmp_base.specs.Setups.{setup}
 use Rattle.fmp_base.specs.Steps.{Reaction, step}
 use Rattle.fmp_base.specs.Systems.{SystemTables, interrupt_config}
 use Rattle.fmp_alike.specs.Alike.{Alike}
-use Rattle.fmp_alike.specs.Closed.{IsCovered, LeadsIn, NoneIsBad, Watch}
+use Rattle.fmp_alike.specs.Closed.{IsCovered, LeadsIn, NoneIsBad, Watch, timeless}
 use Rattle.fmp_schedules.specs.Deadlocks.{IsDeadlock}
-use Rattle.fmp_schedules.specs.Schedules.{Rules, Watched, watched_at_setup, may_come, may_still, watch}
+use Rattle.fmp_schedules.specs.Schedules.{IsSilent, Rules, Watched, watched_at_setup, may_come, may_still, watch}
 
 -- all lines of the clock are forbidden, or none is
 abbrev pub IsTimeless : (Line → Bool) → Type 0
@@ -51,3 +51,22 @@ pub record IsSearched {C : Type 0} (rules : Rules) (sys : SystemTables) (M : Mea
       IsTried (Alike sys) (watch rules forbidden) (step sys M n) K w a e
   pub clean : NoneIsBad (watch rules forbidden) K
   pub free : NoneIsDeadlock rules sys M n rest K
+
+-- the same is forbidden in alike worlds, whatever the number of the clock
+abbrev pub IsEven : {C : Type 0} → SystemTables → (World C → Line → Bool) → Type 0
+IsEven {C} sys forbidden =
+    (v w : World C) (l m : Line) → Alike sys v w → timeless l ≡ timeless m → forbidden v l ≡ forbidden w m
+
+-- an event was tried on some world that is like w, and told no line that is forbidden in the world that it left
+pub record IsTriedSilent {C : Type 0} (sys : SystemTables) (M : Meaning C) (n : ℕ) (forbidden : World C → Line → Bool)
+    (w : World C) (e : Event) : Type 0 where
+  pub world : World C
+  pub alike : Alike sys w world
+  pub silent : IsSilent forbidden (step sys M n world e)
+
+-- each of the system's events that may come to one of a set of worlds was tried so
+abbrev pub AreSilent : {C : Type 0} → Rules → SystemTables → Meaning C → (n : ℕ)
+    → (forbidden : World C → Line → Bool) → (World C → Watched → Type 0) → Type 0
+AreSilent {C} rules sys M n forbidden K =
+    (w : World C) (a : Watched) (e : Event) → K w a → is_event_of sys e ≡ true →
+    may_come rules sys M n w a e ≡ true → IsTriedSilent sys M n forbidden w e

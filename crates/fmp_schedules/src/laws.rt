@@ -1,6 +1,7 @@
 //! The laws, each the contract of a function that does nothing. `C` is the type of the contexts of bodies, `S` that of
 //! what is watched. Those of lists of worlds are proved for any set of worlds: by `tried-closed` of `proofs/TriedLaws`,
-//! and by `closed-holds` and `searched-holds` of `proofs/HoldLaws`. No contract can speak of all sets.
+//! by `closed-holds` and `searched-holds` of `proofs/HoldLaws`, and by `searched-silent` of `proofs/SilentLaws`. No
+//! contract can speak of all sets.
 ghost use Rattle.std.specs.Prelude.{◌≡◌, ◌+◌, ◌<◌, ◌≤◌, ℕ, Bool, List, None, false, true, count_by, length, if◌then◌else◌};
 ghost use Rattle.fmp_base.specs.declared.events.Event.{Event};
 ghost use Rattle.fmp_base.specs.declared.events.Event.TheVariants.{Run};
@@ -12,8 +13,27 @@ ghost use Rattle.fmp_base.specs.Systems.{SystemTables};
 ghost use Rattle.fmp_alike.specs.Alike.{Alike};
 ghost use Rattle.fmp_alike.specs.Closed.{IsBlind, IsClosed, IsCovered, IsListed, IsRule, NoneIsBad, Seen, Watch};
 ghost use Rattle.fmp_schedules.specs.Deadlocks.{IsDeadlock, is_interrupt};
-ghost use Rattle.fmp_schedules.specs.Schedules.{Holds, IsSchedule, Rules, Watched, watched_at_setup, is_request, may_come, none_runs, watch};
-ghost use Rattle.fmp_schedules.specs.Tried.{IsSearched, IsTimeless, IsTried, NoneIsDeadlock, is_event_of};
+ghost use Rattle.fmp_schedules.specs.Schedules.{
+  Holds,
+  HoldsThere,
+  IsSchedule,
+  Rules,
+  Watched,
+  watched_at_setup,
+  is_request,
+  may_come,
+  none_runs,
+  watch,
+};
+ghost use Rattle.fmp_schedules.specs.Tried.{
+  AreSilent,
+  IsEven,
+  IsSearched,
+  IsTimeless,
+  IsTried,
+  NoneIsDeadlock,
+  is_event_of,
+};
 
 /// Where the clock may advance at any time and any number of interrupts may come, every list of events is a schedule.
 pub fn all_lists_are_schedules<C>()
@@ -87,4 +107,14 @@ pub fn complete_searches_hold<C>()
     ensures { (rules : Rules) (sys : SystemTables) (M : Meaning C) (n : ℕ) (forbidden : Line → Bool)
         (rest : List Bool) (seen : List (Seen C Watched)) → IsTimeless forbidden →
         IsSearched rules sys M n forbidden rest (IsListed seen) → Holds rules sys M n forbidden rest }
+{}
+
+/// A search that tried each event, and in which none told a line that is forbidden in the world that it left, shows
+/// that no event of a schedule, however long, tells one.
+pub fn silent_searches_hold<C>()
+    ensures { (rules : Rules) (sys : SystemTables) (M : Meaning C) (n : ℕ) (forbidden : Line → Bool)
+        (rest : List Bool) (seen : List (Seen C Watched)) → IsTimeless forbidden →
+        IsSearched rules sys M n forbidden rest (IsListed seen) → (there : World C → Line → Bool) →
+        IsEven sys there → AreSilent rules sys M n there (IsListed seen) →
+        HoldsThere rules sys M n forbidden there }
 {}
