@@ -92,5 +92,6 @@ module _ (i : ImageTables) (n : ℕ) (es : List Event) (k : Kernels) (f : IsFoll
   endless_there p h =
       subst (λ (x : Kernels). IsEndlessOn x.system (code_meaning x.body) x.world p) f.kernel h
 
-  pub line_there : (q : Question) (place : ℕ) → HasForbidden q k.lines place → HasForbidden q (replay i n es).lines place
-  line_there q place h = subst (λ (x : Kernels). HasForbidden q x.lines place) f.kernel h
+  pub line_there : (q : Question) (place : ℕ) → HasForbidden i.system q k.world k.lines place
+      → HasForbidden i.system q (replay i n es).world (replay i n es).lines place
+  line_there q place h = subst (λ (x : Kernels). HasForbidden i.system q x.world x.lines place) f.kernel h

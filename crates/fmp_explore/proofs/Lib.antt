@@ -3,6 +3,7 @@ pub mod Following
 pub mod ForbiddenLemmas
 pub mod MarkLemmas
 pub mod NextLemmas
+pub mod PlaceLemmas
 pub mod SearchLemmas
 pub mod StandLemmas
 pub mod StateLemmas

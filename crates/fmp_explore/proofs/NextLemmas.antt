@@ -7,11 +7,13 @@ use Rattle.fmp_alike.specs.Alike.{Alike}
 use Rattle.fmp_alike.specs.Closed.{IsCovered}
 use Rattle.fmp_base.specs.declared.events.Event.{Event}
 use Rattle.fmp_base.specs.declared.events.Line.{Line}
+use Rattle.fmp_base.specs.Meanings.{World}
 use Rattle.fmp_base.specs.Setups.{setup}
 use Rattle.fmp_explore.specs.declared.question.Question.{Question}
 use Rattle.fmp_explore.specs.declared.survey.Survey.{Survey}
 use Rattle.fmp_explore.specs.Followed.{IsFollowed}
 use Rattle.fmp_explore.specs.Forbidden.{forbids}
+use Rattle.fmp_explore.specs.Places.{forbids_there, is_bad}
 use Rattle.fmp_explore.specs.Rules.{rules_of}
 use Rattle.fmp_explore.specs.Searching.{HasDealt, HasDone, HasKept, HasKeptPlace, IsAt, IsBegun, IsFresh, IsNext, IsSurvey, Stays}
 use Rattle.fmp_explore.specs.States.{AreFew, IsReached, came_of, path_by, watched_of}
@@ -29,6 +31,7 @@ use Rattle.fmp_seen.specs.Links.{AreLinked, IsLink, path_of}
 use Rattle.fmp_seen.specs.Seen.{SeenStates}
 use Rattle.fmp_seen.proofs.LinkLemmas.{links-none, path-added, path-depth, path-first}
 use Rattle.fmp_schedules.proofs.EventLines.{setup-counts}
+use Rattle.fmp_explore.proofs.PlaceLemmas.{none-anywhere, none-there}
 use Rattle.fmp_explore.proofs.StateLemmas.{kept_none, leads_done, leads_kept}
 use Rattle.fmp_explore.proofs.StepLemmas.{kept_by_no_interrupt}
 use Rattle.fmp_explore.proofs.SurveyLemmas.{grows_on, stays_grows}
@@ -83,7 +86,7 @@ module _ (i : ImageTables) (n : ℕ) (q : Question) where
 
   -- what an event that is done leads to is kept
   pub dealt_done : (a b c : Survey) (k : Kernels) (es : List Event) (e : Event) → Stays a b
-      → (b.sure ≡ true → list_any (forbids q.nevers.items) k.lines ≡ false) → HasDone i n es e k
+      → (b.sure ≡ true → list_any (is_bad i.system q k.world) k.lines ≡ false) → HasDone i n es e k
       → HasKept i n q b c (es ++ e ∷ []) → HasDealt i n q a c es e
   dealt_done a b c k es e stays clean h kept =
       record {
@@ -92,7 +95,12 @@ module _ (i : ImageTables) (n : ℕ) (q : Question) where
         leads = λ sure.
             leads_done i n q c.seen.links es e h.done h.did
             (subst (λ (ls : List Line). list_any (forbids q.nevers.items) ls ≡ false) h.lines
-            (clean (kept.grows.sure sure)))
+            (none-anywhere i.system q k.world k.lines (clean (kept.grows.sure sure))))
+            (subst
+            (λ (w : World MachineContext). list_any (forbids_there i.system q.nevers_at.items w) h.done.lines ≡ false)
+            h.world
+            (subst (λ (ls : List Line). list_any (forbids_there i.system q.nevers_at.items k.world) ls ≡ false) h.lines
+            (none-there i.system q k.world k.lines (clean (kept.grows.sure sure)))))
             (kept.known sure);
       }
 
@@ -132,7 +140,8 @@ module _ (i : ImageTables) (n : ℕ) (q : Question) where
 
   -- the first state is kept
   pub begun_of : (a b : Survey) (k : Kernels) → k ≡ kernel_after i n []
-      → (a.sure ≡ true → list_any (forbids q.nevers.items) k.lines ≡ false) → HasKept i n q a b [] → IsBegun i n q b
+      → (a.sure ≡ true → list_any (is_bad i.system q k.world) k.lines ≡ false) → HasKept i n q a b []
+      → IsBegun i n q b
   unfolding replay
   begun_of a b k first clean kept =
       record {
@@ -143,7 +152,7 @@ module _ (i : ImageTables) (n : ℕ) (q : Question) where
             (setup i.system (code_meaning i.code)).world x)
             (watched_first
             (subst (λ (x : Kernels). list_any (forbids q.nevers.items) x.lines ≡ false) first
-            (clean (kept.grows.sure sure))))
+            (none-anywhere i.system q k.world k.lines (clean (kept.grows.sure sure)))))
             (kept.known sure);
       }
 

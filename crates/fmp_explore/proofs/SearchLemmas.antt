@@ -11,6 +11,7 @@ use Rattle.fmp_base.specs.Steps.{step}
 use Rattle.fmp_explore.specs.declared.question.Question.{Question}
 use Rattle.fmp_explore.specs.declared.survey.Survey.{Survey}
 use Rattle.fmp_explore.specs.Forbidden.{forbids}
+use Rattle.fmp_explore.specs.Places.{forbids_there}
 use Rattle.fmp_explore.specs.Rules.{rules_of}
 use Rattle.fmp_explore.specs.Searching.{HasExamined, IsAt, IsBegun, IsSearching, IsSurvey, NothingIsFound}
 use Rattle.fmp_explore.specs.States.{IsExamined, IsReached, watched_of}
@@ -20,14 +21,16 @@ use Rattle.fmp_instructions.specs.declared.instructions.MachineContext.{MachineC
 use Rattle.fmp_replay.specs.Replays.{reaction, replay}
 use Rattle.fmp_schedules.specs.Deadlocks.{IsDeadlock}
 use Rattle.fmp_schedules.specs.Schedules.{Watched, may_come, may_still, watch, watched_at_setup}
-use Rattle.fmp_schedules.specs.Tried.{IsTried, NoneIsDeadlock, is_event_of}
+use Rattle.fmp_schedules.specs.Tried.{IsSearched, IsTried, IsTriedSilent, NoneIsDeadlock, is_event_of}
 use Rattle.fmp_schedules.proofs.HoldLaws.{searched-holds}
+use Rattle.fmp_schedules.proofs.SilentLaws.{searched-silent}
 use Rattle.fmp_seen.specs.declared.link.Link.{Link}
 use Rattle.fmp_seen.specs.Links.{AreLinked, path_of}
 use Rattle.fmp_seen.proofs.LinkLemmas.{path-depth, path-stays}
 use Rattle.fmp_readable.proofs.ReadableLaws.{readable}
 use Rattle.fmp_explore.proofs.ForbiddenLemmas.{forbids-timeless}
 use Rattle.fmp_explore.proofs.MarkLemmas.{still_may}
+use Rattle.fmp_explore.proofs.PlaceLemmas.{there-even}
 use Rattle.fmp_explore.proofs.StateLemmas.{alike_self, covered_more, examined_more}
 
 pub past_none : {X : Type 0} (xs : List X) (k : ℕ) → slice_get xs k ≡ None → length xs ≤ k
@@ -116,7 +119,7 @@ module _ (i : ImageTables) (n : ℕ) (q : Question) where
         record {
           world = (replay i n (path_of s.seen.links k)).world;
           alike = alike_self i n q image s.rows.fields.items h.survey.fields (path_of s.seen.links k);
-          leads = (x k lt).each e is may;
+          leads = (let l = (x k lt).each e is may in l.leads);
         }
 
     tried : Examined → (w : World MachineContext) (a : Watched) (e : Event) → K w a → is_event_of i.system e ≡ true
@@ -131,6 +134,34 @@ module _ (i : ImageTables) (n : ℕ) (q : Question) where
         (replay i n (path_of s.seen.links k.state)).world b e ≡ true
         → Tried (replay i n (path_of s.seen.links k.state)).world b e)
         (sym k.watch) (tried_at x k.state k.there e is))
+
+    abbrev Silent : World MachineContext → Event → Type 0
+    Silent w e = IsTriedSilent i.system (code_meaning i.code) n (forbids_there i.system q.nevers_at.items) w e
+
+    silent_at : Examined → (k : ℕ) → k < length s.seen.links → (e : Event) → is_event_of i.system e ≡ true
+        → may_come (rules_of q) i.system (code_meaning i.code) n (replay i n (path_of s.seen.links k)).world
+        (watched_of q (path_of s.seen.links k)) e ≡ true
+        → Silent (replay i n (path_of s.seen.links k)).world e
+    unfolding reaction
+    silent_at x k lt e is may =
+        record {
+          world = (replay i n (path_of s.seen.links k)).world;
+          alike = alike_self i n q image s.rows.fields.items h.survey.fields (path_of s.seen.links k);
+          silent = (let l = (x k lt).each e is may in l.silent);
+        }
+
+    silent : Examined → (w : World MachineContext) (a : Watched) (e : Event) → K w a → is_event_of i.system e ≡ true
+        → may_come (rules_of q) i.system (code_meaning i.code) n w a e ≡ true → Silent w e
+    silent x w a e k is =
+        subst
+        (λ (v : World MachineContext). may_come (rules_of q) i.system (code_meaning i.code) n v a e ≡ true
+        → Silent v e)
+        (sym k.world)
+        (subst
+        (λ (b : Watched). may_come (rules_of q) i.system (code_meaning i.code) n
+        (replay i n (path_of s.seen.links k.state)).world b e ≡ true
+        → Silent (replay i n (path_of s.seen.links k.state)).world e)
+        (sym k.watch) (silent_at x k.state k.there e is))
 
     clean : (w : World MachineContext) (a : Watched) → K w a → a.told ≡ false
     clean w a k = ap (λ (b : Watched). b.told) k.watch
@@ -154,12 +185,22 @@ module _ (i : ImageTables) (n : ℕ) (q : Question) where
       let survey : IsSurvey i n q s = h.begun.survey in
       let examined : (k : ℕ) → k < length s.seen.links → IsExamined i n q s.seen.links (path_of s.seen.links k) =
       λ (k : ℕ) (lt : k < length s.seen.links). h.each sure k (omega (arith, lt, all)) lt in
-      searched-holds (rules_of q) i.system (code_meaning i.code) n (forbids q.nevers.items) q.rest.items
-      (λ (w : World MachineContext) (a : Watched). IsReached i n q s.seen.links w a) (forbids-timeless q.nevers.items)
-      (record {
+      let K : World MachineContext → Watched → Type 0 =
+      λ (w : World MachineContext) (a : Watched). IsReached i n q s.seen.links w a in
+      let searched : IsSearched (rules_of q) i.system (code_meaning i.code) n (forbids q.nevers.items) q.rest.items K =
+      record {
         whole = whole image s survey;
         first = h.begun.first sure;
         tried = tried image s survey examined;
         clean = clean image s survey;
         free = free image s survey examined;
-      })
+      } in
+      record {
+        holds =
+            searched-holds (rules_of q) i.system (code_meaning i.code) n (forbids q.nevers.items) q.rest.items K
+            (forbids-timeless q.nevers.items) searched;
+        there =
+            searched-silent (rules_of q) i.system (code_meaning i.code) n (forbids q.nevers.items) q.rest.items K
+            (forbids-timeless q.nevers.items) searched (forbids_there i.system q.nevers_at.items)
+            (there-even i.system q.nevers_at.items) (silent image s survey examined);
+      }

@@ -12,6 +12,7 @@ use Rattle.fmp_base.specs.Meanings.{World}
 use Rattle.fmp_base.specs.Steps.{Done, Reaction, Nothing, Did, Kept}
 use Rattle.fmp_explore.specs.declared.question.Question.{Question}
 use Rattle.fmp_explore.specs.Forbidden.{forbids}
+use Rattle.fmp_explore.specs.Places.{forbids_there}
 use Rattle.fmp_explore.specs.Rules.{rules_of}
 use Rattle.fmp_explore.specs.States.{AreKept, HasRow, IsExamined, IsKnown, IsReached, LeadsOn, came_of, numbers_after, path_by, watched_of}
 use Rattle.fmp_fields.specs.declared.field.What.{What}
@@ -24,7 +25,7 @@ use Rattle.fmp_kernel.specs.KernelViews.{done_or}
 use Rattle.fmp_replay.specs.Replays.{reaction, replay}
 use Rattle.fmp_replay.proofs.Replaying.{replay_last}
 use Rattle.fmp_schedules.specs.Deadlocks.{is_interrupt}
-use Rattle.fmp_schedules.specs.Schedules.{Watched, came_after, is_request, watch}
+use Rattle.fmp_schedules.specs.Schedules.{IsSilent, Watched, came_after, is_request, watch}
 use Rattle.fmp_seen.specs.declared.link.Link.{Link}
 use Rattle.fmp_seen.specs.Links.{AreLinked, IsLink, path_of}
 use Rattle.fmp_seen.specs.Seen.{SeenStates, with_state}
@@ -76,6 +77,9 @@ module _ (i : ImageTables) (n : ℕ) (q : Question) where
   Leads links a r =
       LeadsIn (Alike i.system) (watch (rules_of q) (forbids q.nevers.items)) (IsReached i n q links) a r
 
+  abbrev Silent : Reaction MachineContext → Type 0
+  Silent r = IsSilent (forbids_there i.system q.nevers_at.items) r
+
   leads_more : (links more : List Link) (a : Watched) (r : Reaction MachineContext) → AreLinked links → Leads links a r
       → Leads (links ++ more) a r
   leads_more links more a Nothing h l = tt
@@ -84,7 +88,8 @@ module _ (i : ImageTables) (n : ℕ) (q : Question) where
 
   pub leads_on_more : (links more : List Link) (es : List Event) (e : Event) → AreLinked links
       → LeadsOn i n q links es e → LeadsOn i n q (links ++ more) es e
-  leads_on_more links more es e h l = leads_more links more (watched_of q es) (reaction i n es e) h l
+  leads_on_more links more es e h l =
+      record { leads = leads_more links more (watched_of q es) (reaction i n es e) h l.leads; silent = l.silent }
 
   pub examined_more : (links more : List Link) (es : List Event) → AreLinked links → IsExamined i n q links es
       → IsExamined i n q (links ++ more) es
@@ -223,10 +228,11 @@ module _ (i : ImageTables) (n : ℕ) (q : Question) where
   -- an event that is done, where no line is forbidden and the state after it is known
   pub leads_done : (links : List Link) (es : List Event) (e : Event) (d : Done MachineContext)
       → reaction i n es e ≡ Did d
-      → list_any (forbids q.nevers.items) d.lines ≡ false → IsKnown i n q links (es ++ e ∷ [])
+      → list_any (forbids q.nevers.items) d.lines ≡ false
+      → list_any (forbids_there i.system q.nevers_at.items d.world) d.lines ≡ false → IsKnown i n q links (es ++ e ∷ [])
       → LeadsOn i n q links es e
   unfolding reaction
-  leads_done links es e d did clean known =
+  leads_done links es e d did clean clean_there known =
       let count : count_by is_request d.lines ≡ cond (is_interrupt e) 1 0 =
       done-counts i.system (code_meaning i.code) n (replay i n es).world e d did in
       let with : ℕ → Bool → Watched = λ (came : ℕ) (told : Bool). record { came = came; told = told } in
@@ -237,16 +243,23 @@ module _ (i : ImageTables) (n : ℕ) (q : Question) where
       sym (ap (λ (came : ℕ). with came (list_any (forbids q.nevers.items) d.lines))
       (came_on q.interrupts es e d.lines count)
       ∙ ap (λ (told : Bool). with (came_of q.interrupts (es ++ e ∷ [])) told) clean) in
-      subst (λ (r : Reaction MachineContext). Leads links (watched_of q es) r) (sym did)
-      (subst (λ (a : Watched). IsCovered (Alike i.system) (IsReached i n q links) d.world a) watch
-      (subst (λ (w : World MachineContext). IsCovered (Alike i.system) (IsReached i n q links) w
-      (watched_of q (es ++ e ∷ []))) world known))
+      record {
+        leads =
+            subst (λ (r : Reaction MachineContext). Leads links (watched_of q es) r) (sym did)
+            (subst (λ (a : Watched). IsCovered (Alike i.system) (IsReached i n q links) d.world a) watch
+            (subst (λ (w : World MachineContext). IsCovered (Alike i.system) (IsReached i n q links) w
+            (watched_of q (es ++ e ∷ []))) world known));
+        silent = subst (λ (r : Reaction MachineContext). Silent r) (sym did) clean_there;
+      }
 
   -- an event that does nothing
   pub leads_nowhere : (links : List Link) (es : List Event) (e : Event) → reaction i n es e ≡ Nothing
       → LeadsOn i n q links es e
   leads_nowhere links es e none =
-      subst (λ (r : Reaction MachineContext). Leads links (watched_of q es) r) (sym none) tt
+      record {
+        leads = subst (λ (r : Reaction MachineContext). Leads links (watched_of q es) r) (sym none) tt;
+        silent = subst (λ (r : Reaction MachineContext). Silent r) (sym none) tt;
+      }
 
   came_kept : (most : Option ℕ) (es : List Event) (e : Event) → is_interrupt e ≡ false
       → came_of most es ≡ came_of most (es ++ e ∷ [])
@@ -264,8 +277,12 @@ module _ (i : ImageTables) (n : ℕ) (q : Question) where
   leads_kept links es e p w keeps runs known =
       let world : (replay i n (es ++ e ∷ [])).world ≡ w =
       ap (λ (x : Done MachineContext). x.world) (replayed es e (Kept p w) keeps) in
-      subst (λ (r : Reaction MachineContext). Leads links (watched_of q es) r) (sym keeps)
-      (subst (λ (a : Watched). IsCovered (Alike i.system) (IsReached i n q links) w a)
-      (sym (same_watch es (es ++ e ∷ []) (came_kept q.interrupts es e runs)))
-      (subst (λ (v : World MachineContext). IsCovered (Alike i.system) (IsReached i n q links) v
-      (watched_of q (es ++ e ∷ []))) world known))
+      record {
+        leads =
+            subst (λ (r : Reaction MachineContext). Leads links (watched_of q es) r) (sym keeps)
+            (subst (λ (a : Watched). IsCovered (Alike i.system) (IsReached i n q links) w a)
+            (sym (same_watch es (es ++ e ∷ []) (came_kept q.interrupts es e runs)))
+            (subst (λ (v : World MachineContext). IsCovered (Alike i.system) (IsReached i n q links) v
+            (watched_of q (es ++ e ∷ []))) world known));
+        silent = subst (λ (r : Reaction MachineContext). Silent r) (sym keeps) tt;
+      }

@@ -77,6 +77,7 @@ module _ (i : ImageTables) (n : ℕ) (es : List Event) (e : Event) where
           done = d;
           did = is;
           lines = ap (λ (x : Kernels). x.lines) (seen_at (Did d) effect.Done h is);
+          world = ap (λ (x : Kernels). x.world) (seen_at (Did d) effect.Done h is);
           followed =
               record {
                 legal = legal_last i n es e (Did d) h.legal is tt;

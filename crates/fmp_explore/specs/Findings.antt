@@ -2,11 +2,12 @@
 use Rattle.std.specs.Prelude.{ℕ, ◌≡◌, List, Some, true, slice_get}
 use Rattle.fmp_base.specs.declared.events.Event.{Event}
 use Rattle.fmp_base.specs.declared.events.Line.{Line}
-use Rattle.fmp_base.specs.Meanings.{Meaning}
+use Rattle.fmp_base.specs.Meanings.{Meaning, World}
 use Rattle.fmp_base.specs.Steps.{Done}
 use Rattle.fmp_base.specs.Systems.{SystemTables}
 use Rattle.fmp_image_bytes.specs.Images.{ImageTables}
 use Rattle.fmp_instructions.specs.Machine.{code_meaning}
+use Rattle.fmp_instructions.specs.declared.instructions.MachineContext.{MachineContext}
 use Rattle.fmp_replay.specs.Replays.{IsLegal, done_count, replay}
 use Rattle.fmp_explore.specs.declared.finding.Finding.{Finding}
 use Rattle.fmp_explore.specs.declared.finding.Left.{Left}
@@ -15,17 +16,19 @@ use Rattle.fmp_explore.specs.declared.finding.Sight.TheVariants as sight
 use Rattle.fmp_explore.specs.declared.question.Question.{Question}
 use Rattle.fmp_schedules.specs.Deadlocks.{IsDeadlock, may_interrupt}
 use Rattle.fmp_explore.specs.Endless.{IsEndlessOn}
-use Rattle.fmp_explore.specs.Forbidden.{forbids}
+use Rattle.fmp_explore.specs.Places.{is_bad}
 
--- the line at a place tells something that must never happen
-pub record HasForbidden (q : Question) (lines : List Line) (place : ℕ) : Type 0 where
+-- the line at a place tells something that must never happen, where the event left this world
+pub record HasForbidden (sys : SystemTables) (q : Question) (w : World MachineContext) (lines : List Line) (place : ℕ) :
+    Type 0 where
   pub line : Line
   pub there : slice_get lines place ≡ Some line
-  pub forbidden : forbids q.nevers.items line ≡ true
+  pub forbidden : is_bad sys q w line ≡ true
 
 -- this is seen in what events have left
-abbrev pub IsSeen : {C : Type 0} → SystemTables → Meaning C → ℕ → Question → List Event → Done C → Sight → Type 0
-IsSeen sys M n q es d (sight.Line place) = HasForbidden q d.lines place
+abbrev pub IsSeen : SystemTables → Meaning MachineContext → ℕ → Question → List Event → Done MachineContext → Sight
+    → Type 0
+IsSeen sys M n q es d (sight.Line place) = HasForbidden sys q d.world d.lines place
 IsSeen sys M n q es d sight.Deadlock = IsDeadlock sys M n d.world q.rest.items (may_interrupt q.interrupts es)
 IsSeen sys M n q es d (sight.Endless p) = IsEndlessOn sys M d.world p
 

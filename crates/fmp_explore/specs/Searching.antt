@@ -13,6 +13,7 @@ use Rattle.fmp_explore.specs.declared.survey.Survey.{Survey}
 use Rattle.fmp_explore.specs.declared.trying.Marks.{Marks}
 use Rattle.fmp_explore.specs.Followed.{IsFollowed}
 use Rattle.fmp_explore.specs.Forbidden.{forbids}
+use Rattle.fmp_explore.specs.Places.{forbids_there}
 use Rattle.fmp_explore.specs.Rules.{rules_of}
 use Rattle.fmp_explore.specs.States.{AreFew, AreKept, IsExamined, IsKnown, IsReached, IsStuckAfter, LeadsOn, MayCome, path_by}
 use Rattle.fmp_explore.specs.Tries.{all_tries}
@@ -24,7 +25,7 @@ use Rattle.fmp_instructions.specs.declared.instructions.MachineContext.{MachineC
 use Rattle.fmp_kernel.specs.KernelViews.{KernelView, view_after}
 use Rattle.fmp_replay.specs.Replays.{IsLegal, kernel_after, reaction, replay}
 use Rattle.fmp_schedules.specs.Deadlocks.{may_interrupt}
-use Rattle.fmp_schedules.specs.Schedules.{Holds, none_runs, watched_at_setup}
+use Rattle.fmp_schedules.specs.Schedules.{Holds, HoldsThere, none_runs, watched_at_setup}
 use Rattle.fmp_seen.specs.declared.link.Link.{Link}
 use Rattle.fmp_seen.specs.Links.{IsLink, path_of}
 
@@ -98,6 +99,7 @@ pub record HasDone (i : ImageTables) (n : ℕ) (es : List Event) (e : Event)
   pub done : Done MachineContext
   pub did : reaction i n es e ≡ Did done
   pub lines : k.lines ≡ done.lines
+  pub world : k.world ≡ done.world
   pub followed : IsFollowed i n (es ++ e ∷ []) k
 
 -- an event keeps a place after others
@@ -176,6 +178,8 @@ pub record IsSearching (i : ImageTables) (n : ℕ) (q : Question) (states : ℕ)
       IsExamined i n q s.seen.links (path_of s.seen.links k)
 
 -- nothing that is asked about is found along any schedule
-abbrev pub NothingIsFound : ImageTables → (n : ℕ) → Question → Type 0
-NothingIsFound i n q =
-    Holds (rules_of q) i.system (code_meaning i.code) n (forbids q.nevers.items) q.rest.items
+pub record NothingIsFound (i : ImageTables) (n : ℕ) (q : Question) : Type 0 where
+  pub holds : Holds (rules_of q) i.system (code_meaning i.code) n (forbids q.nevers.items) q.rest.items
+  pub there :
+      HoldsThere (rules_of q) i.system (code_meaning i.code) n (forbids q.nevers.items)
+      (forbids_there i.system q.nevers_at.items)

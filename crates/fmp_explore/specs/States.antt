@@ -6,6 +6,7 @@ use Rattle.fmp_base.specs.declared.events.Event.{Event}
 use Rattle.fmp_base.specs.Meanings.{World}
 use Rattle.fmp_explore.specs.declared.question.Question.{Question}
 use Rattle.fmp_explore.specs.Forbidden.{forbids}
+use Rattle.fmp_explore.specs.Places.{forbids_there}
 use Rattle.fmp_explore.specs.Rules.{rules_of}
 use Rattle.fmp_fields.specs.declared.field.What.{What}
 use Rattle.fmp_fields.specs.FieldNumbers.{number_of}
@@ -14,7 +15,7 @@ use Rattle.fmp_instructions.specs.Machine.{code_meaning}
 use Rattle.fmp_instructions.specs.declared.instructions.MachineContext.{MachineContext}
 use Rattle.fmp_replay.specs.Replays.{IsLegal, reaction, replay}
 use Rattle.fmp_schedules.specs.Deadlocks.{IsDeadlock, is_interrupt, may_interrupt}
-use Rattle.fmp_schedules.specs.Schedules.{Watched, may_come, watch}
+use Rattle.fmp_schedules.specs.Schedules.{IsSilent, Watched, may_come, watch}
 use Rattle.fmp_schedules.specs.Tried.{is_event_of}
 use Rattle.fmp_seen.specs.declared.link.Link.{Link}
 use Rattle.fmp_seen.specs.Links.{AreLinked, path_of}
@@ -75,11 +76,14 @@ pub record IsReached (i : ImageTables) (n : ℕ) (q : Question) (links : List Li
 abbrev pub IsKnown : ImageTables → (n : ℕ) → Question → List Link → List Event → Type 0
 IsKnown i n q links es = IsCovered (Alike i.system) (IsReached i n q links) (replay i n es).world (watched_of q es)
 
--- what this does after these events leads to a state, if it leads to any
-abbrev pub LeadsOn : ImageTables → (n : ℕ) → Question → List Link → List Event → Event → Type 0
-LeadsOn i n q links es e =
-    LeadsIn (Alike i.system) (watch (rules_of q) (forbids q.nevers.items)) (IsReached i n q links) (watched_of q es)
-    (reaction i n es e)
+-- what this does after these events leads to a state, if it leads to any, and tells no answer that must never be given
+-- to its call
+pub record LeadsOn (i : ImageTables) (n : ℕ) (q : Question) (links : List Link) (es : List Event) (e : Event) :
+    Type 0 where
+  pub leads :
+      LeadsIn (Alike i.system) (watch (rules_of q) (forbids q.nevers.items)) (IsReached i n q links) (watched_of q es)
+      (reaction i n es e)
+  pub silent : IsSilent (forbids_there i.system q.nevers_at.items) (reaction i n es e)
 
 -- the rules let an event come after others
 abbrev pub MayCome : ImageTables → (n : ℕ) → Question → List Event → Event → Type 0

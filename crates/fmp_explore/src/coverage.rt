@@ -282,8 +282,8 @@ impl Coverage {
         }
     }
 
-    /// The calls of the code that were never made, in order of body and place. `AllocError` if memory runs out.
-    pub fn never_made(&self, alloc: Global, code: &Code) -> Result<Vec<Site>, AllocError> {
+    /// The calls of the code that were made, or those that were not, in order of body and place.
+    fn calls(&self, alloc: Global, code: &Code, made: bool) -> Result<Vec<Site>, AllocError> {
         let mut sites = Vec::new(alloc);
         for (body, text) in code.bodies.iter().enumerate() {
             for (pc, instruction) in text.instructions.iter().enumerate() {
@@ -291,11 +291,22 @@ impl Coverage {
                     body: low_byte(body),
                     pc: (pc % 65536) as u16,
                 };
-                if matches!(instruction, Instruction::Call { .. }) && !self.was_made(site) {
+                let is_call = matches!(instruction, Instruction::Call { .. });
+                if is_call && self.was_made(site) == made {
                     sites.push(site)?;
                 }
             }
         }
         Ok(sites)
+    }
+
+    /// The calls of the code that were made, in order of body and place. `AllocError` if memory runs out.
+    pub fn made(&self, alloc: Global, code: &Code) -> Result<Vec<Site>, AllocError> {
+        self.calls(alloc, code, true)
+    }
+
+    /// The calls of the code that were never made, in order of body and place. `AllocError` if memory runs out.
+    pub fn never_made(&self, alloc: Global, code: &Code) -> Result<Vec<Site>, AllocError> {
+        self.calls(alloc, code, false)
     }
 }

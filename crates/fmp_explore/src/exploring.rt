@@ -2,9 +2,10 @@
 ghost use Rattle.std.specs.Prelude.{◌≡◌, ◌≤◌, ◌^◌, [], All, IfOk, IsTrue, true};
 ghost use Rattle.fmp_instructions.specs.Machine.{code_meaning};
 ghost use Rattle.fmp_replay.specs.Replays.{kernel_after};
-ghost use Rattle.fmp_schedules.specs.Schedules.{Holds};
+ghost use Rattle.fmp_schedules.specs.Schedules.{Holds, HoldsThere};
 ghost use Rattle.fmp_explore.specs.Findings.{IsFound};
 ghost use Rattle.fmp_explore.specs.Forbidden.{forbids};
+ghost use Rattle.fmp_explore.specs.Places.{forbids_there};
 ghost use Rattle.fmp_explore.specs.Rules.{rules_of};
 ghost use Rattle.fmp_explore.specs.Searching.{IsBegun, NothingIsFound};
 
@@ -169,8 +170,9 @@ fn ended<W: Watcher>(
 
 /// Explores the schedules of an image, in which a stretch of a body takes at most n instructions, 1 to 2^48. Each
 /// finding is so: its events do something, one after the other, and after them it is seen. If the report holds, no
-/// schedule that the question allows tells a forbidden line or reaches a deadlock, however long it is. If it does not
-/// hold and has no finding, nothing is claimed. `AllocError` if there is no memory to begin with, or for the findings.
+/// schedule that the question allows tells a forbidden line, gives a call an answer that it must never get, or reaches
+/// a deadlock, however long it is. If it does not hold and has no finding, nothing is claimed. `AllocError` if there is
+/// no memory to begin with, or for the findings.
 pub fn explore<W: Watcher>(
     alloc: Global,
     image: &Image,
@@ -183,6 +185,9 @@ pub fn explore<W: Watcher>(
     ensures findings { IfOk result (λ r. All (IsFound image.now n question.now) r.findings.items) }
     ensures holds { IfOk result (λ r. r.holds ≡ true → Holds (rules_of question.now) image.now.system
         (code_meaning image.now.code) n (forbids question.now.nevers.items) question.now.rest.items) }
+    ensures there { IfOk result (λ r. r.holds ≡ true → HoldsThere (rules_of question.now) image.now.system
+        (code_meaning image.now.code) n (forbids question.now.nevers.items)
+        (forbids_there image.now.system question.now.nevers_at.items)) }
 {
     let subject = Subject { image, n, question };
     let mut survey = begun(alloc, &subject)?;

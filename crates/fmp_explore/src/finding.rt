@@ -1,5 +1,6 @@
 //! What is found, and whether it is so.
 ghost use Rattle.std.specs.Prelude.{◌≡◌, ◌≤◌, ◌^◌, [], All, IfOk, IfSome, IsTrue, OnOk, true};
+ghost use Rattle.fmp_base.specs.Systems.{tables_of};
 ghost use Rattle.fmp_instructions.specs.Machine.{code_meaning};
 ghost use Rattle.fmp_replay.specs.Replays.{kernel_after, replay};
 ghost use Rattle.fmp_schedules.specs.Deadlocks.{IsDeadlock, may_interrupt as may};
@@ -9,11 +10,12 @@ ghost use Rattle.fmp_explore.specs.Followed.{IsFollowed};
 
 use crate::coverage::Site;
 use crate::endless::is_endless;
-use crate::question::{Question, is_forbidden};
+use crate::placing::is_bad;
+use crate::question::Question;
 use crate::replaying::{TAKEN_MOST, follow};
 use crate::standing::is_deadlock;
 use crate::stretching::{Started, started_tasks};
-use fmp_base::{Event, Line};
+use fmp_base::{Event, Line, System};
 use fmp_code::Vm;
 use fmp_image_bytes::Image;
 use fmp_kernel::Kernel;
@@ -42,12 +44,12 @@ pub struct Finding {
     pub site: Option<Site>,
 }
 
-/// Whether the line at a place is forbidden.
-fn has_forbidden(lines: &[Line], question: &Question, place: usize) -> bool
-    ensures { IsTrue result → HasForbidden question.now lines.now place }
+/// Whether the line at a place is forbidden, of those that a kernel has just told.
+fn has_forbidden(kernel: &Kernel<Vm<'_>>, sys: &System, question: &Question, place: usize) -> bool
+    ensures { IsTrue result → HasForbidden (tables_of sys.now) question.now kernel.now.world kernel.now.lines place }
 {
-    match lines.get(place) {
-        Some(line) => is_forbidden(question, line),
+    match kernel.lines().get(place) {
+        Some(line) => is_bad(kernel, sys, question, line),
         None => false,
     }
 }
@@ -62,9 +64,10 @@ fn tells_forbidden<'a>(
     place: usize,
 ) -> bool
     requires { IsFollowed image.now n steps.now kernel.now }
-    ensures { IsTrue result → HasForbidden question.now (replay image.now n steps.now).lines place }
+    ensures { IsTrue result → HasForbidden image.now.system question.now (replay image.now n steps.now).world
+        (replay image.now n steps.now).lines place }
 {
-    has_forbidden(kernel.lines(), question, place)
+    has_forbidden(kernel, image.system(), question, place)
 }
 
 /// Whether the kernel of an image, which has taken these events, is a deadlock.

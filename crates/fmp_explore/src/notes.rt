@@ -1,13 +1,15 @@
 //! What a search notes on its way: candidates for findings, and what was ever done.
 ghost use Rattle.std.specs.Prelude.{◌≡◌, IfOk};
 ghost use Rattle.std.specs.List.{list_any};
-ghost use Rattle.fmp_explore.specs.Forbidden.{forbids};
+ghost use Rattle.fmp_explore.specs.Places.{is_bad as is_bad_line};
 
 use crate::coverage::{Coverage, Site};
 use crate::finding::{Finding, Sight};
-use crate::question::is_forbidden;
+use crate::placing::is_bad;
 use crate::subject::Subject;
 use fmp_base::{Event, Line};
+use fmp_code::Vm;
+use fmp_kernel::Kernel;
 use std::alloc::{AllocError, Global};
 use std::mem;
 
@@ -112,42 +114,46 @@ impl Notes {
         }
     }
 
-    /// Notes a line of an event that made this call, if it made one: whether it must never be told.
+    /// Notes a line of an event that made this call, if it made one: what it tells, and that it must never be told, if
+    /// it must not.
     fn note_line(
         &mut self,
         alloc: Global,
-        subject: &Subject<'_>,
         path: Path<'_>,
         made: Option<Site>,
         place: usize,
         line: &Line,
-    ) -> Result<bool, AllocError>
-        ensures { IfOk result (λ found. found ≡ forbids subject.now.question.now.nevers.items line.now) }
-    {
+        is_bad: bool,
+    ) -> Result<(), AllocError> {
         let site = self.site_of(line, made);
         self.coverage.note_line(line, site);
-        let found = is_forbidden(subject.question, line);
-        if found {
+        if is_bad {
             self.note_sight(alloc, path, Sight::Line(place), site)?;
         }
-        Ok(found)
+        Ok(())
     }
 
-    /// Notes the lines of an event that made this call, if it made one, or of setup: whether one of them must never be
-    /// told. `AllocError` if memory runs out.
+    /// Notes the lines that a kernel has just told, by an event that made this call, if it made one, or by setup:
+    /// whether one of them must never be told. `AllocError` if memory runs out.
     pub fn note_lines(
         &mut self,
         alloc: Global,
         subject: &Subject<'_>,
+        kernel: &Kernel<Vm<'_>>,
         path: Path<'_>,
         made: Option<Site>,
-        lines: &[Line],
     ) -> Result<bool, AllocError>
-        ensures { IfOk result (λ found. found ≡ list_any (forbids subject.now.question.now.nevers.items) lines.now) }
+        ensures { IfOk result (λ found. found ≡ list_any (is_bad_line subject.now.image.now.system
+            subject.now.question.now kernel.now.world) kernel.now.lines) }
     {
+        let sys = subject.image.system();
+        let lines = kernel.lines();
         let mut found = false;
         for place in 0..lines.len() {
-            if self.note_line(alloc, subject, path, made, place, &lines[place])? {
+            let line = &lines[place];
+            let bad = is_bad(kernel, sys, subject.question, line);
+            self.note_line(alloc, path, made, place, line, bad)?;
+            if bad {
                 found = true;
             }
         }

@@ -6,6 +6,7 @@ ghost use Rattle.fmp_explore.specs.Forbidden.{forbids, is_answered as answers, i
 ghost use Rattle.fmp_explore.specs.Forbidden.{is_put as prints, is_same_code as same_code, is_same_fault as same_fault};
 ghost use Rattle.fmp_explore.specs.Forbidden.{tells as names};
 
+use crate::coverage::Site;
 use fmp_base::{Call, Er, Event, Fault, Line};
 use std::alloc::Global;
 
@@ -33,6 +34,14 @@ pub enum Never {
     Fault(Fault),
 }
 
+/// An answer that must never be given to one call.
+#[derive(Clone, Copy)]
+pub struct NeverAt {
+    pub code: Er,
+    /// The call that answers the code, or in which a wait ends with it.
+    pub site: Site,
+}
+
 /// When the clock may advance.
 #[derive(Clone, Copy, Debug, PartialEq, Eq)]
 pub enum Ticks {
@@ -47,6 +56,8 @@ pub enum Ticks {
 pub struct Question {
     /// What must never happen.
     pub nevers: Vec<Never>,
+    /// The answers that must never be given, each to one call.
+    pub nevers_at: Vec<NeverAt>,
     /// For each task, by its place, whether it may wait forever, as servers do. Tasks behind the last one may not.
     pub rest: Vec<bool>,
     /// When the clock may advance.
@@ -65,6 +76,7 @@ impl Question {
     pub fn new(alloc: Global) -> Question {
         Question {
             nevers: Vec::new(alloc),
+            nevers_at: Vec::new(alloc),
             rest: Vec::new(alloc),
             ticks: Ticks::Any,
             interrupts: None,
@@ -103,7 +115,7 @@ pub fn interrupt_count(steps: &[Event]) -> usize
 }
 
 /// Whether two codes are one.
-fn is_same_code(a: Er, b: Er) -> bool
+pub fn is_same_code(a: Er, b: Er) -> bool
     ensures { result ≡ same_code a b }
 {
     a == b
@@ -181,7 +193,7 @@ fn tells_any(nevers: &[Never], line: &Line) -> bool
     false
 }
 
-/// Whether a line tells something that must never happen.
+/// Whether a line tells something that must never happen anywhere.
 pub fn is_forbidden(question: &Question, line: &Line) -> bool
     ensures { result ≡ forbids question.now.nevers.items line.now }
 {

@@ -5,7 +5,7 @@ ghost use Rattle.fmp_schedules.specs.Deadlocks.{is_interrupt as is_request};
 ghost use Rattle.fmp_replay.specs.Replays.{kernel_after};
 ghost use Rattle.fmp_explore.specs.States.{AreFew, path_by};
 ghost use Rattle.fmp_explore.specs.Followed.{IsFollowed};
-ghost use Rattle.fmp_explore.specs.Forbidden.{forbids};
+ghost use Rattle.fmp_explore.specs.Places.{is_bad};
 ghost use Rattle.fmp_explore.specs.Searching.{
   HasDealt,
   HasDone,
@@ -137,15 +137,14 @@ impl Survey {
     ) -> Result<(), AllocError>
         ensures stays { OnOk result (Stays self.old self.new) }
         ensures clean { OnOk result (self.new.sure ≡ true →
-            list_any (forbids subject.now.question.now.nevers.items) kernel.now.lines ≡ false) }
+            list_any (is_bad subject.now.image.now.system subject.now.question.now kernel.now.world) kernel.now.lines
+            ≡ false) }
     {
         let setup = Path {
             steps: &[],
             last: None,
         };
-        let found = self
-            .notes
-            .note_lines(alloc, subject, setup, None, kernel.lines())?;
+        let found = self.notes.note_lines(alloc, subject, kernel, setup, None)?;
         self.sure &= !found;
         Ok(())
     }
@@ -209,14 +208,15 @@ impl Survey {
     ) -> Result<(), AllocError>
         ensures stays { OnOk result (Stays self.old self.new) }
         ensures clean { OnOk result (self.new.sure ≡ true →
-            list_any (forbids subject.now.question.now.nevers.items) kernel.now.lines ≡ false) }
+            list_any (is_bad subject.now.image.now.system subject.now.question.now kernel.now.world) kernel.now.lines
+            ≡ false) }
     {
         if let Some(site) = made {
             self.notes.coverage.note_call(site);
         }
         let found = self
             .notes
-            .note_lines(alloc, subject, attempt.path(), made, kernel.lines())?;
+            .note_lines(alloc, subject, kernel, attempt.path(), made)?;
         self.sure &= !found;
         Ok(())
     }

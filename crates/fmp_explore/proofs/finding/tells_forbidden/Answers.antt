@@ -1,5 +1,5 @@
-use Rattle.std.proofs.Common.{List, subst}
-use Rattle.fmp_base.specs.declared.events.Line.{Line}
+use Rattle.std.proofs.Common.{subst}
+use Rattle.fmp_base.specs.Systems.{SystemTables}
 use Rattle.fmp_explore.specs.Findings.{HasForbidden}
 use Rattle.fmp_explore.proofs.Following.{line_there}
 use Rattle.fmp_explore.proofs.finding.tells_forbidden.Goals as goal
@@ -7,5 +7,7 @@ use Rattle.fmp_explore.proofs.finding.tells_forbidden.Goals as goal
 pub returns : goal.returns
 returns c = λ yes.
     line_there c.args.image.now c.args.n c.args.steps.now c.args.kernel.now c.requires c.args.question.now c.args.place
-    (subst (λ (ls : List Line). HasForbidden c.args.question.now ls c.args.place) c.lines.ensures
-    (c.has_forbidden.ensures yes))
+    (subst
+    (λ (sys : SystemTables). HasForbidden sys c.args.question.now c.args.kernel.now.world c.args.kernel.now.lines
+    c.args.place)
+    c.system.ensures.tables (c.has_forbidden.ensures yes))

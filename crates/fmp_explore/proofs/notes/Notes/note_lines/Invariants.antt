@@ -1,7 +1,9 @@
 use Rattle.std.proofs.Common.{◌≡◌, take}
 use Rattle.std.specs.List.{list_any}
-use Rattle.fmp_explore.specs.Forbidden.{forbids}
+use Rattle.fmp_explore.specs.Places.{is_bad}
 use Rattle.fmp_explore.proofs.notes.Notes.note_lines.Given as goal
 
 abbrev pub invariant-loop-place : goal.invariant-loop-place
-invariant-loop-place l = l.found ≡ list_any (forbids l.subject.question.now.nevers.items) (take l.place l.lines)
+invariant-loop-place l =
+    l.found
+    ≡ list_any (is_bad l.subject.image.now.system l.subject.question.now l.kernel.world) (take l.place l.lines)
