@@ -20,10 +20,12 @@ pub struct Actor<C> {
 pub fn acting_on(cpu: &Processor) -> Option<Caller>
     ensures { result ≡ actor_of cpu.now }
 {
-    match (cpu.handler, cpu.run) {
-        (Some(h), _) => Some(Caller::Handler(h)),
-        (None, Some(t)) => Some(Caller::Task(t)),
-        (None, None) => None,
+    match cpu.handler {
+        Some(h) => Some(Caller::Handler(h)),
+        None => match cpu.run {
+            Some(t) => Some(Caller::Task(t)),
+            None => None,
+        },
     }
 }
 

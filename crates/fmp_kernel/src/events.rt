@@ -18,7 +18,9 @@ use crate::actors::actor_on;
 use crate::runner::Runner;
 use crate::spins::may_spin;
 use crate::ticks::advance;
-use fmp_base::{Answer, Body, Call, Caller, Effect, Event, Line, Processor, Stop, Stretch};
+use fmp_base::{
+    Answer, Body, Call, Caller, Effect, Event, Fault, Handler, Line, Processor, Stop, Stretch,
+};
 use fmp_calls::call;
 use fmp_contexts::{end_context, entry_of, stretch};
 use fmp_migrate::end_itself;
@@ -56,6 +58,41 @@ impl<B: Body> Runner<B> {
             Caller::Handler(_) => end_handler(&mut self.tables, p),
         }
         self.finish(own);
+    }
+
+    /// The actor of processor p has come to the end of its body.
+    #[inline(never)]
+    fn end_well(&mut self, p: u8, who: Caller)
+        requires there { p < self.old.system.processors }
+        requires caller { IsTaskOf self.old.system who }
+        ensures after { done_of self.new
+            ≡ ended_with self.old.system (B.meaning self.old.body) self.old.world p who (Line.End p who) }
+        ensures bodies { SameBodies self.old self.new }
+        ensures clock { self.new.world.state.clock ≡ self.old.world.state.clock }
+    {
+        let own = Line::End {
+            processor: p,
+            caller: who,
+        };
+        self.end_actor(p, who, own);
+    }
+
+    /// The actor of processor p ends by a fault.
+    #[inline(never)]
+    fn end_by_fault(&mut self, p: u8, who: Caller, fault: Fault)
+        requires there { p < self.old.system.processors }
+        requires caller { IsTaskOf self.old.system who }
+        ensures after { done_of self.new
+            ≡ ended_with self.old.system (B.meaning self.old.body) self.old.world p who (Line.Fault p who fault) }
+        ensures bodies { SameBodies self.old self.new }
+        ensures clock { self.new.world.state.clock ≡ self.old.world.state.clock }
+    {
+        let own = Line::Fault {
+            processor: p,
+            caller: who,
+            fault,
+        };
+        self.end_actor(p, who, own);
     }
 
     /// The actor of processor p makes a call; its context awaits the reply. Where it spins for a held spin lock,
@@ -163,20 +200,11 @@ impl<B: Body> Runner<B> {
             Stop::Over => Effect::Kept,
             Stop::Call(made) => self.make_call(p, who, made),
             Stop::End => {
-                let own = Line::End {
-                    processor: p,
-                    caller: who,
-                };
-                self.end_actor(p, who, own);
+                self.end_well(p, who);
                 Effect::Done
             }
             Stop::Fault(fault) => {
-                let own = Line::Fault {
-                    processor: p,
-                    caller: who,
-                    fault: *fault,
-                };
-                self.end_actor(p, who, own);
+                self.end_by_fault(p, who, *fault);
                 Effect::Done
             }
         }
@@ -225,6 +253,7 @@ impl<B: Body> Runner<B> {
 
     /// The actor of processor p makes a stretch from the context from which it goes on: the call, end or fault is
     /// carried out, or its place is kept. It finds no spin lock held.
+    #[inline(always)]
     fn make_stretch(&mut self, p: u8, who: Caller) -> Effect
         requires there { p < self.old.system.processors }
         requires goes { is_going (context_of self.old.world.contexts p who) ≡ true }
@@ -324,8 +353,47 @@ impl<B: Body> Runner<B> {
         self.carry_out_or_spin(p, who, &stop, &first)
     }
 
-    /// Processor p runs its actor for a stretch.
+    /// The actor of processor p runs for a stretch. Nothing happens if it awaits a reply, or nothing is kept of it.
     #[tactic(auto, using(crate::proofs::StopLemmas::still_runs))]
+    #[inline(always)]
+    fn run_actor(&mut self, p: u8, who: Caller) -> Effect
+        requires { p < self.old.system.processors }
+        ensures effect { result
+            ≡ effect_of (run_by self.old.system (B.meaning self.old.body) self.old.bound self.old.world p
+            (Some who)) }
+        ensures after { done_of self.new
+            ≡ done_or (done_of self.old) (run_by self.old.system (B.meaning self.old.body) self.old.bound
+            self.old.world p (Some who)) }
+        ensures bodies { SameBodies self.old self.new }
+        ensures clock { self.new.world.state.clock ≡ self.old.world.state.clock }
+    {
+        if !self.contexts.goes(p, who) {
+            return Effect::Nothing;
+        }
+        if may_spin(&self.tables, p, who) {
+            self.make_stretch_or_spin(p, who)
+        } else {
+            self.make_stretch(p, who)
+        }
+    }
+
+    /// The handler of processor p runs for a stretch.
+    #[inline(never)]
+    fn run_handler(&mut self, p: u8, handler: Handler) -> Effect
+        requires { p < self.old.system.processors }
+        ensures effect { result
+            ≡ effect_of (run_by self.old.system (B.meaning self.old.body) self.old.bound self.old.world p
+            (Some (Caller.Handler handler))) }
+        ensures after { done_of self.new
+            ≡ done_or (done_of self.old) (run_by self.old.system (B.meaning self.old.body) self.old.bound
+            self.old.world p (Some (Caller.Handler handler))) }
+        ensures bodies { SameBodies self.old self.new }
+        ensures clock { self.new.world.state.clock ≡ self.old.world.state.clock }
+    {
+        self.run_actor(p, Caller::Handler(handler))
+    }
+
+    /// Processor p runs its actor for a stretch.
     fn run(&mut self, p: u8) -> Effect
         ensures effect { result
             ≡ effect_of (run_by self.old.system (B.meaning self.old.body) self.old.bound self.old.world p
@@ -336,16 +404,10 @@ impl<B: Body> Runner<B> {
         ensures bodies { SameBodies self.old self.new }
         ensures clock { self.new.world.state.clock ≡ self.old.world.state.clock }
     {
-        let Some(who) = actor_on(&self.tables, p) else {
-            return Effect::Nothing;
-        };
-        if !self.contexts.goes(p, who) {
-            return Effect::Nothing;
-        }
-        if may_spin(&self.tables, p, who) {
-            self.make_stretch_or_spin(p, who)
-        } else {
-            self.make_stretch(p, who)
+        match actor_on(&self.tables, p) {
+            None => Effect::Nothing,
+            Some(Caller::Task(t)) => self.run_actor(p, Caller::Task(t)),
+            Some(Caller::Handler(handler)) => self.run_handler(p, handler),
         }
     }
 
