@@ -12,5 +12,6 @@ impl PendingHandlers {
         self.interrupts.copy_from_slice(from.interrupts.as_slice());
         self.cyclics.copy_from_slice(from.cyclics.as_slice());
         self.words.copy_from_slice(from.words.as_slice());
+        self.busy.copy_from_slice(from.busy.as_slice());
     }
 }
