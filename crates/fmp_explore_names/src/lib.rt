@@ -2,11 +2,13 @@
 //! a state, and the words for what must never happen.
 #![tactic(auto)]
 
+mod answers;
 pub mod laws;
 mod naming;
 mod sites;
 mod words;
 
+pub use answers::{Answered, answered_calls, append_answers};
 pub use naming::{LocalNames, append_name};
 pub use sites::CallLines;
-pub use words::never_named;
+pub use words::{CodeAt, never_at_named, never_named};

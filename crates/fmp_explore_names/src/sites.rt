@@ -1,6 +1,7 @@
 //! Where the calls of bodies stand in their text.
 use fmp_code::{Code, Instruction};
 use fmp_explore::Site;
+use fmp_fields::low_byte;
 use fmp_lex::{Keyword, TextFault, TokenKind, TokenList, tokens};
 use std::alloc::{AllocError, Global};
 
@@ -40,6 +41,29 @@ fn call_count(instructions: &[Instruction]) -> usize {
         .iter()
         .filter(|instruction| matches!(**instruction, Instruction::Call { .. }))
         .count()
+}
+
+/// Adds the calls of a body that stand in a line, where its calls stand in these.
+fn add_calls(
+    sites: &mut Vec<Site>,
+    body: u8,
+    instructions: &[Instruction],
+    lines: &[u32],
+    line: u32,
+) -> Result<(), AllocError> {
+    let mut number: usize = 0;
+    for (pc, instruction) in instructions.iter().enumerate() {
+        if matches!(*instruction, Instruction::Call { .. }) {
+            if lines.get(number) == Some(&line) {
+                sites.push(Site {
+                    body,
+                    pc: (pc % 65536) as u16,
+                })?;
+            }
+            number = number.saturating_add(1);
+        }
+    }
+    Ok(())
 }
 
 impl CallLines {
@@ -93,6 +117,23 @@ impl CallLines {
             .calls
             .get(number)
             .copied()
+    }
+
+    /// The calls of this code that stand in a line of the text, in order. `AllocError` if memory runs out.
+    pub fn calls(&self, alloc: Global, code: &Code, line: u32) -> Result<Vec<Site>, AllocError> {
+        let mut sites = Vec::new(alloc);
+        for (place, body) in self.bodies.iter().enumerate() {
+            if let Some(text) = code.bodies.get(place) {
+                add_calls(
+                    &mut sites,
+                    low_byte(place),
+                    &text.instructions,
+                    &body.calls,
+                    line,
+                )?;
+            }
+        }
+        Ok(sites)
     }
 
     /// The line at which the body at a place begins, if there is one.

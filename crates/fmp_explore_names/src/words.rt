@@ -2,6 +2,13 @@
 use fmp_base::{Er, Fault};
 use fmp_explore::{ANSWERS, Never};
 
+/// A code that must never be answered to the calls of a line of the text.
+#[derive(Clone, Copy)]
+pub struct CodeAt {
+    pub code: Er,
+    pub line: u32,
+}
+
 /// The fault of this name.
 fn fault_named(word: &str) -> Option<Fault> {
     match word {
@@ -36,4 +43,13 @@ pub fn never_named(word: &str) -> Option<Never> {
         Some(code) => Some(Never::Answer(code)),
         None => None,
     }
+}
+
+/// What a word as `E_TMOUT:12` says must never happen: an answer to the calls of a line. None if it says nothing of the
+/// kind.
+pub fn never_at_named(word: &str) -> Option<CodeAt> {
+    let (name, number) = word.split_once(":")?;
+    let code = code_named(name)?;
+    let line = number.parse::<u32>().ok()?;
+    Some(CodeAt { code, line })
 }
