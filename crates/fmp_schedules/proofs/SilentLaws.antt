@@ -1,5 +1,5 @@
 -- A closed set in whose worlds each event was tried shows what no event of a schedule tells.
-use Rattle.std.proofs.Common.{◌≡◌, ℕ, List, [], ◌∷◌, ◌++◌, Bool, true, false, ◌||◌, refl, sym, ◌∙◌, ap, ap₂, subst, length}
+use Rattle.std.proofs.Common.{◌≡◌, ℕ, List, [], ◌∷◌, ◌++◌, Bool, true, false, ◌||◌, refl, sym, ◌∙◌, ap₂, subst}
 use Rattle.std.specs.List.{list_any}
 use Rattle.fmp_base.specs.declared.events.Event.{Event}
 use Rattle.fmp_base.specs.declared.events.Line.{Line}
@@ -9,10 +9,9 @@ use Rattle.fmp_base.specs.Setups.{setup}
 use Rattle.fmp_base.specs.Steps.{Reaction, Nothing, Did, Kept, step}
 use Rattle.fmp_base.specs.Systems.{SystemTables}
 use Rattle.fmp_alike.specs.Alike.{Alike}
-use Rattle.fmp_alike.specs.Closed.{AreAllowed, BothAlike, IsCovered, Watch, all_timeless, allowed_after, timeless, watched}
+use Rattle.fmp_alike.specs.Closed.{AreAllowed, BothAlike, Watch, all_timeless, allowed_after, timeless, watched}
 use Rattle.fmp_alike.proofs.StepLaws.{step-same}
-use Rattle.fmp_alike.proofs.WorldLaws.{worlds-chained}
-use Rattle.fmp_schedules.specs.Schedules.{HoldsThere, IsSchedule, IsSilent, Rules, Watched, at_first, lines_after, may_come, reached, watch, watched_at_setup}
+use Rattle.fmp_schedules.specs.Schedules.{HoldsThere, IsSilent, Rules, Watched, at_first, lines_after, may_come, reached, watch, watched_at_setup}
 use Rattle.fmp_schedules.specs.Tried.{AreSilent, IsEven, IsSearched, IsTimeless, IsTriedSilent, is_event_of}
 use Rattle.fmp_schedules.proofs.HoldLaws.{searched-covered}
 use Rattle.fmp_schedules.proofs.RuleLaws.{may_come-same}
