@@ -591,6 +591,13 @@ no deadlock, no fault: over all lists of events
 greatest counts: S 0
 END
 shows 'explore: at rest' 0 explore wait.cfg wait.src --rest A
+cat > wanted <<'END'
+no deadlock, no fault: over all lists of events
+2 states, 3 events, 1 deep
+answers at wait.src:1: none
+greatest counts: S 0
+END
+shows 'explore: a call without an answer' 0 explore wait.cfg wait.src --rest A --answers
 
 # A semaphore of one is signalled twice: what the second call answers is told in its line.
 cat > full.src <<'END'
@@ -619,6 +626,20 @@ never E_TMOUT, no deadlock, no fault: over all lists of events
 greatest counts: S 1
 END
 shows 'explore: no such answer' 0 explore wait.cfg full.src --never E_TMOUT
+cat > wanted <<'END'
+never E_QOVR:2, no deadlock, no fault: over all lists of events
+4 states, 7 events, 3 deep
+answers at full.src:2: E_OK
+answers at full.src:3: E_QOVR
+greatest counts: S 1
+END
+shows 'explore: no such answer at a line' 0 explore wait.cfg full.src --never E_QOVR:2 --answers
+cat > wanted <<'END'
+full.src:3: 2 p1 A sig_sem(1) E_QOVR: after 2 steps, in twice.1
+3 states, 4 events, 2 deep
+greatest counts: S 1
+END
+shows 'explore: an answer at a line' 4 explore wait.cfg full.src --never E_QOVR:3 --out twice
 
 # A body that stops with a fault is found without a word that asks for it.
 echo 'task a { var a[3]; put(0); a[3] = 1; }' > edge.src
@@ -660,6 +681,8 @@ END
 shows 'explore: bound 2' 0 explore wait.cfg sum2.src --bound 2
 
 refused 'explore: no such word' 'an answer as E_QOVR' explore queue.cfg queue.src --never E_FOO
+refused 'explore: no call at a line' 'no call' explore queue.cfg queue.src --never E_OK:1000
+refused 'explore: no such code at a line' 'an answer as E_QOVR' explore queue.cfg queue.src --never E_FOO:1
 refused 'explore: no such task' 'no task' explore queue.cfg queue.src --rest NOBODY
 
 # Expectations of the run of the queue: CONSUMER puts 42 in event 4, and PRODUCER ends in event 6, the last one.

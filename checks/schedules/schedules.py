@@ -55,11 +55,12 @@ class Endless:
 
 @dataclass(frozen=True)
 class Nothing:
-    """Nothing is found, and the first line says so of all lists of events that may come. The states, events and depth are
-    these, where they are given, and calls of these lines are never made."""
+    """Nothing is found, and the first line says so of all lists of events that may come. The states, events and depth
+    are these, where they are given, calls of these lines are never made, and calls get these answers, by line."""
 
     numbers: tuple = ()
     unmade: tuple = ()
+    answers: tuple = ()
 
 
 @dataclass(frozen=True)
@@ -89,6 +90,15 @@ ROWS = [
     ("slow", never("E_QOVR"), Line(6, (3,), "isig_sem(1) E_QOVR")),
     ("wakeup", (), Deadlock(4, "SLEEPER (wakeup.src:4)")),
     ("untested", never("E_QOVR"), Line(6, (4, 8), "sig_sem(1) E_QOVR")),
+    # An answer at one line, and the answers at all.
+    ("untested", never("E_QOVR:4"), Line(6, (4,), "OWNER sig_sem(1) E_QOVR")),
+    ("untested", never("E_QOVR:8"), Line(6, (8,), "GUEST sig_sem(1) E_QOVR")),
+    ("untested", never("E_TMOUT:7"), Line(4, (7,), "GUEST gets E_TMOUT")),
+    ("untested", never("E_TMOUT:3", "--never", "E_QOVR:7"), Nothing()),
+    ("untested", ("--answers",),
+     Nothing(answers=((3, "E_OK"), (4, "E_OK E_QOVR"), (7, "E_OK E_TMOUT"), (8, "E_OK E_QOVR")))),
+    ("burst", never("E_QOVR:3"), Line(8, (3,), "isig_sem(1) E_QOVR")),
+    ("burst", ("--ints", "2", "--rest", "SINK", "--answers"), Nothing(answers=((3, "E_OK"), (7, "E_OK"), (8, "E_OK")))),
     # Systems of several tasks.
     ("lostwake", (), Deadlock(6, "EATER (lostwake.src:8), COOK (lostwake.src:22)")),
     ("phil3", (), Deadlock(9)),
@@ -224,8 +234,10 @@ def shows_nothing(search, text, row):
     numbers = re.search(r"^(\d+) states, (\d+) events, (\d+) deep$", text, re.MULTILINE)
     unmade = re.search(r"^calls never made: (.*)$", text, re.MULTILINE)
     places = " ".join(f"{search.name}.src:{line}" for line in row.unmade)
+    answers = re.findall(rf"^answers at {search.name}\.src:(\d+): (.*)$", text, re.MULTILINE)
     return (bool(numbers) and (not row.numbers or tuple(map(int, numbers.groups())) == row.numbers)
-            and (not row.unmade or (bool(unmade) and unmade[1] == places)))
+            and (not row.unmade or (bool(unmade) and unmade[1] == places))
+            and tuple((int(line), codes) for line, codes in answers) == row.answers)
 
 
 def shows_most(text, row):

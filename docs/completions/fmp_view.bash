@@ -14,7 +14,7 @@ _fmp_view() {
         step) words="--bound -h --help" ;;
         drive) words="--events --seed --bound -h --help" ;;
         why) words="--bound --at -h --help" ;;
-        explore) words="--never --rest --ticks --ints --bound --states --all --out -h --help" ;;
+        explore) words="--never --rest --ticks --ints --bound --states --all --answers --out -h --help" ;;
         diff) words="--bound -h --help" ;;
         expect) words="--bound -h --help" ;;
         stats) words="--bound -h --help" ;;

@@ -9,7 +9,7 @@ use crate::form::{
 use clap::{ArgMatches, Error};
 use fmp_base::Fault;
 use fmp_explore::{Never, Question, Ticks};
-use fmp_explore_names::never_named;
+use fmp_explore_names::{CodeAt, never_at_named, never_named};
 use fmp_files::{mistake, mistake_of};
 use fmp_timeline::Choice;
 use std::alloc::{AllocError, Global};
@@ -21,7 +21,11 @@ const NO_CODE: &str = "no code is printed so";
 const OUT_OVER_INPUT: &str = "the file OUT is one of the two that are read";
 
 /// The message for a word that says nothing of what must never happen.
-const NO_NEVER: &str = "--never wants an answer as E_QOVR, or a printed value as 'put(99)'";
+const NO_NEVER: &str =
+    "--never wants an answer as E_QOVR or E_TMOUT:12, or a printed value as 'put(99)'";
+
+/// The message for a line of an answer in which no call stands.
+const NO_CALL: &str = "--never names a line of SRC in which no call stands";
 
 /// The message for the name of a task that is not there.
 const NO_TASK: &str = "--rest names no task of the configuration";
@@ -55,9 +59,13 @@ pub struct Exploring<'a> {
     pub question: Question,
     /// What must never happen, in the words that ask for it.
     pub nevers: Vec<&'a str>,
+    /// The codes that must never be answered to the calls of a line.
+    pub nevers_at: Vec<CodeAt>,
     /// The names of the tasks that may wait forever.
     pub rest: Vec<&'a str>,
     pub bound: u64,
+    /// Whether the answers of each call are printed.
+    pub answers: bool,
     /// The name of the files of steps, without the dot and the number.
     pub out: Option<&'a str>,
 }
@@ -164,25 +172,37 @@ fn ticks_of(words: &ArgMatches<'_>) -> Ticks {
     }
 }
 
-/// Adds what each of these words says must never happen.
-fn add_nevers(nevers: &mut Vec<Never>, alloc: Global, words: &[&str]) -> Result<(), Error> {
+/// Adds what each of these words says must never happen anywhere.
+fn add_nevers(nevers: &mut Vec<Never>, words: &[&str]) -> Result<(), AllocError> {
     for word in words {
-        match never_named(word) {
-            Some(never) => nevers.push(never)?,
-            None => return Err(no_never(alloc)?),
+        if let Some(never) = never_named(word) {
+            nevers.push(never)?;
         }
     }
     Ok(())
 }
 
+/// Those of these words that speak of the calls of a line. An error if one says nothing of what must never happen.
+fn nevers_at(alloc: Global, words: &[&str]) -> Result<Vec<CodeAt>, Error> {
+    let mut codes = Vec::new(alloc);
+    for word in words {
+        match never_at_named(word) {
+            Some(code) => codes.push(code)?,
+            None if never_named(word).is_none() => return Err(no_never(alloc)?),
+            None => {}
+        }
+    }
+    Ok(codes)
+}
+
 /// What is asked of all schedules.
-fn question_of(alloc: Global, words: &ArgMatches<'_>) -> Result<Question, Error> {
+fn question_of(alloc: Global, words: &ArgMatches<'_>) -> Result<Question, AllocError> {
     let mut question = Question::new(alloc);
     question.nevers.push(Never::Fault(Fault::Overflow))?;
     question.nevers.push(Never::Fault(Fault::Division))?;
     question.nevers.push(Never::Fault(Fault::Index))?;
     if let Some(nevers) = words.get_strs("never") {
-        add_nevers(&mut question.nevers, alloc, nevers)?;
+        add_nevers(&mut question.nevers, nevers)?;
     }
     question.ticks = ticks_of(words);
     question.interrupts = words.get_one::<u8>("ints");
@@ -206,13 +226,16 @@ fn given<'a>(
 
 /// What is explored.
 fn exploring_of<'a>(alloc: Global, words: &ArgMatches<'a>) -> Result<Exploring<'a>, Error> {
+    let nevers = given(alloc, words, "never")?;
     Ok(Exploring {
         cfg: word_of(words, "CFG"),
         src: word_of(words, "SRC"),
         question: question_of(alloc, words)?,
-        nevers: given(alloc, words, "never")?,
+        nevers_at: nevers_at(alloc, &nevers)?,
+        nevers,
         rest: given(alloc, words, "rest")?,
         bound: bound_of(words),
+        answers: words.get_flag("answers"),
         out: words.get_str("out"),
     })
 }
@@ -257,6 +280,11 @@ pub fn dump_over_input(alloc: Global) -> Result<Error, AllocError> {
 /// The error for a word that says nothing of what must never happen, which has the status 2.
 fn no_never(alloc: Global) -> Result<Error, AllocError> {
     mistake_of(explore_command(alloc), "fmp_view explore", NO_NEVER)
+}
+
+/// The error for a line of an answer in which no call stands, which has the status 2.
+pub fn no_such_call(alloc: Global) -> Result<Error, AllocError> {
+    mistake_of(explore_command(alloc), "fmp_view explore", NO_CALL)
 }
 
 /// The error for the name of a task that is not there, which has the status 2.

@@ -4,15 +4,17 @@ ghost use Rattle.std.specs.Prelude.{◌≡◌, ◌≤◌, ◌^◌};
 use crate::asking::kept_bound;
 use fmp_base::{Line, Name, System};
 use fmp_explore::{
-    Coverage, Ending, Finding, Question, Report, Sight, Site, Started, Ticks, Watcher, explore,
-    left_by,
+    Coverage, Ending, Finding, NeverAt, Question, Report, Sight, Site, Started, Ticks, Watcher,
+    explore, left_by,
 };
-use fmp_explore_names::{CallLines, LocalNames, append_name};
+use fmp_explore_names::{
+    CallLines, CodeAt, LocalNames, answered_calls, append_answers, append_name,
+};
 use fmp_image_bytes::Image;
 use fmp_trace::{print, print_steps};
 use std::alloc::{AllocError, Global};
 
-/// The names of the files that an exploration speaks of.
+/// The names of the files that an exploration speaks of, and what it prints beside its findings.
 #[derive(Clone, Copy)]
 pub struct Named<'a> {
     /// The file of the bodies.
@@ -21,6 +23,8 @@ pub struct Named<'a> {
     pub out: &'a str,
     /// What must never happen, in the words that ask for it.
     pub nevers: &'a [&'a str],
+    /// Whether the answers of each call are printed.
+    pub answers: bool,
 }
 
 /// What an exploration came to: what is printed, the steps text of each finding, and the status.
@@ -268,6 +272,20 @@ fn say_unmade(
     say(out, "\n")
 }
 
+/// Appends the answers that each call got, if they are asked for.
+fn say_answers(
+    alloc: Global,
+    out: &mut Vec<u8>,
+    sources: &Sources<'_>,
+    coverage: &Coverage,
+) -> Result<(), AllocError> {
+    if !sources.named.answers {
+        return Ok(());
+    }
+    let calls = answered_calls(alloc, sources.image.code(), sources.lines, coverage)?;
+    append_answers(sources.named.src.as_bytes(), &calls, out)
+}
+
 /// A line of what there is of one kind, which begins with a title where there is any.
 #[derive(Drop)]
 struct Row<'a> {
@@ -375,6 +393,7 @@ fn say_coverage(
 ) -> Result<(), AllocError> {
     let sys = sources.image.system();
     say_unmade(alloc, out, sources, coverage)?;
+    say_answers(alloc, out, sources, coverage)?;
     say_unrun(out, sys, coverage)?;
     say_counts(alloc, out, sys, &coverage.peaks.counts)?;
     say_lengths(alloc, out, sys, coverage)
@@ -441,6 +460,31 @@ fn explored_report(
         steps,
         status: status_of(report),
     })
+}
+
+/// Adds that these codes must never be answered to the calls of their lines, in bodies that have this text. False if no
+/// call stands in one of the lines.
+pub fn add_nevers_at(
+    alloc: Global,
+    image: &Image,
+    src: &[u8],
+    codes: &[CodeAt],
+    nevers: &mut Vec<NeverAt>,
+) -> Result<bool, AllocError> {
+    let lines = CallLines::new(alloc, src)?;
+    for at in codes {
+        let calls = lines.calls(alloc, image.code(), at.line)?;
+        if calls.is_empty() {
+            return Ok(false);
+        }
+        for site in &calls {
+            nevers.push(NeverAt {
+                code: at.code,
+                site: *site,
+            })?;
+        }
+    }
+    Ok(true)
 }
 
 /// Explores the schedules of an image whose bodies have this text. `AllocError` if there is no memory to begin with, or

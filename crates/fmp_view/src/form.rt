@@ -58,8 +58,9 @@ At most 10,000 events are drawn";
 
 /// What must never happen.
 const NEVER: &str =
-    "What must never happen: an answer, as E_QOVR, or a printed value, as 'put(99)'; it may
-be given again. That a body stops with a fault must never happen anyway";
+    "What must never happen: an answer, as E_QOVR, or E_TMOUT:12 for the calls in line 12 of SRC;
+or a printed value, as 'put(99)'; it may be given again. That a body stops with a fault must
+never happen anyway";
 
 /// Which task may wait forever.
 const REST: &str = "Name of a task that may wait forever, as servers do; it may be given again";
@@ -335,6 +336,14 @@ fn all<'a>(alloc: Global) -> Arg<'a> {
         .help("Go on after the first finding, for the first of each kind at each call")
 }
 
+/// The option for whether the answers of calls are printed.
+fn answers<'a>(alloc: Global) -> Arg<'a> {
+    Arg::new(alloc, "answers")
+        .long("answers")
+        .action(ArgAction::SetTrue)
+        .help("Print the answers that each call ever gets, by its line of SRC")
+}
+
 /// The command `explore`.
 pub fn explore_command<'a>(alloc: Global) -> Made<'a> {
     let about = "Looks at every schedule for deadlocks, faults and what must never happen";
@@ -355,6 +364,7 @@ pub fn explore_command<'a>(alloc: Global) -> Made<'a> {
     let command = with_argument(command, bound(alloc));
     let command = with_argument(command, states);
     let command = with_argument(command, all(alloc));
+    let command = with_argument(command, answers(alloc));
     with_argument(command, out)
 }
 

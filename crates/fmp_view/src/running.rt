@@ -1,6 +1,6 @@
 //! A run of the program, from the words of its command line to its status.
 use crate::asking::{
-    Cmd, Drawing, Exploring, Run, command, dump_over_input, no_code, no_such_task,
+    Cmd, Drawing, Exploring, Run, command, dump_over_input, no_code, no_such_call, no_such_task,
     picture_of_nothing, picture_over_input,
 };
 use crate::built::{NoTrace, Running, Traced, traced_texts};
@@ -8,7 +8,7 @@ use crate::commands::{DrivenText, Ending, Output, code, run_output, steps};
 use crate::comparing::diff;
 use crate::exit::Exit;
 use crate::expecting::expect;
-use crate::exploring::{Explored, Named, explored_image};
+use crate::exploring::{Explored, Named, add_nevers_at, explored_image};
 use crate::faults::{FileNames, Form, Shown, shown_fault};
 use crate::stepping::step_image;
 use crate::timeline::{Cut, Picture, TimelineFault, timeline};
@@ -422,11 +422,16 @@ fn explore_image<O: Outside>(
     if !mark_rest(image.system(), &asked.rest, &mut asked.question.rest)? {
         return Ok(refuse_mistake(outside, no_such_task(alloc)));
     }
+    let nevers = &mut asked.question.nevers_at;
+    if !add_nevers_at(alloc, image, src, &asked.nevers_at, nevers)? {
+        return Ok(refuse_mistake(outside, no_such_call(alloc)));
+    }
     let name = out_name(alloc, asked)?;
     let named = Named {
         src: asked.src,
         out: name.as_str(),
         nevers: &asked.nevers,
+        answers: asked.answers,
     };
     let explored = explored_image(
         alloc,

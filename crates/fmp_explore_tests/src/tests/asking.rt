@@ -2,8 +2,8 @@
 //! the most values. And the words of what must never happen.
 use crate::tests::searching::{question, searched};
 use fmp_base::Er;
-use fmp_explore::{Ending, Never, Report, Site};
-use fmp_explore_names::{CallLines, LocalNames, append_name, never_named};
+use fmp_explore::{Ending, Never, NeverAt, Report, Site};
+use fmp_explore_names::{CallLines, CodeAt, LocalNames, append_name, never_at_named, never_named};
 use fmp_fields::What;
 use fmp_image::build;
 use std::alloc::Global;
@@ -91,6 +91,41 @@ fn answers(rt: HostRuntime) -> Result<(), Fail> {
     Ok(())
 }
 
+/// How many findings there are where E_TMOUT must never be answered to this call.
+fn timeouts_found(alloc: Global, site: Site) -> Result<usize, Fail> {
+    let mut asked = question(alloc)?;
+    asked.nevers_at.push(NeverAt {
+        code: Er::Tmout,
+        site,
+    })?;
+    let report = searched(alloc, POLLED.0, POLLED.1, &asked)?;
+    Ok(report.findings.len())
+}
+
+#[test]
+fn an_answer_at_a_call(rt: HostRuntime) -> Result<(), Fail> {
+    let alloc = rt.alloc();
+    let found = timeouts_found(alloc, Site { body: 0, pc: 1 })?;
+    assert_eq!(rt; found, 1);
+    let found = timeouts_found(alloc, Site { body: 1, pc: 1 })?;
+    assert_eq!(rt; found, 0);
+    let found = timeouts_found(alloc, Site { body: 0, pc: 0 })?;
+    assert_eq!(rt; found, 0);
+    Ok(())
+}
+
+#[test]
+fn the_calls_of_a_line(rt: HostRuntime) -> Result<(), Fail> {
+    let alloc = rt.alloc();
+    let image = build(alloc, POLLED.0.as_bytes(), POLLED.1.as_bytes())?;
+    let lines = CallLines::new(alloc, POLLED.1.as_bytes())?;
+    let calls = lines.calls(alloc, image.code(), 2)?;
+    assert_eq!(rt; calls.as_slice(), [Site { body: 1, pc: 1 }].as_slice());
+    let calls = lines.calls(alloc, image.code(), 3)?;
+    assert_eq!(rt; calls.len(), 0);
+    Ok(())
+}
+
 /// The lines of the calls of a report that were never made.
 fn lines_never_made(
     alloc: Global,
@@ -129,4 +164,17 @@ fn words_of_what_must_never_happen(rt: HostRuntime) {
     assert!(rt; matches!(never_named("F_IDX"), Some(Never::Fault(_))));
     assert!(rt; never_named("put()").is_none());
     assert!(rt; never_named("E_SYS").is_none());
+    assert!(rt; never_named("E_QOVR:3").is_none());
+    let at = never_at_named("E_QOVR:3");
+    assert!(rt;
+        matches!(
+            at,
+            Some(CodeAt {
+                code: Er::Qovr,
+                line: 3
+            })
+        )
+    );
+    assert!(rt; never_at_named("E_QOVR").is_none());
+    assert!(rt; never_at_named("E_QOVR:").is_none());
 }
