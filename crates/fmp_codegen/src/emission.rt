@@ -279,13 +279,14 @@ fn emit_call(out: &mut Output, names: &Names<'_>, call: &ServiceCall) -> Result<
     ensures depths { OnOk result (out.new.depths.items ≡ out.old.depths.items ++
         (arguments_depths (call_view call.now).arguments 0 ++ length (call_view call.now).arguments ∷ [])) }
 {
-    emit_arguments(out, names, &call.arguments)?;
+    let arguments = call.arguments.as_slice();
+    emit_arguments(out, names, arguments)?;
     let instruction = Instruction::Call {
         service: call.service,
-        out: place_of_word(names, call.out),
-        result: place_of_word(names, call.result),
+        out: place_of_word(names, call.out.word()),
+        result: place_of_word(names, call.result.word()),
     };
-    put(out, instruction, count_of(&call.arguments))?;
+    put(out, instruction, count_of(arguments))?;
     Ok(())
 }
 

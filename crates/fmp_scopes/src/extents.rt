@@ -140,7 +140,7 @@ fn statement_extent(s: &Statement) -> Extent
             )
         }
         Statement::Call(call) => {
-            let all = arguments_extent(&call.arguments);
+            let all = arguments_extent(call.arguments.as_slice());
             cut_extent(all.size + 1, all.depth)
         }
         Statement::If { condition, then } => {

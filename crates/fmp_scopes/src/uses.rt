@@ -104,11 +104,15 @@ fn call_offence(names: &Names<'_>, call: &ServiceCall) -> Option<Offence>
     requires { IsHeld names.now }
     ensures { result ≡ uses_offence (scope_view names.now) (call_uses (call_view call.now)) }
 {
-    let before = least(before_out(call.service), call.arguments.len());
-    let last = arguments_offence(names, &call.arguments[before..]);
-    let from_out = earlier(word_offence(names, call.out), last);
-    let first = arguments_offence(names, &call.arguments[..before]);
-    earlier(word_offence(names, call.result), earlier(first, from_out))
+    let arguments = call.arguments.as_slice();
+    let before = least(before_out(call.service), arguments.len());
+    let last = arguments_offence(names, &arguments[before..]);
+    let from_out = earlier(word_offence(names, call.out.word()), last);
+    let first = arguments_offence(names, &arguments[..before]);
+    earlier(
+        word_offence(names, call.result.word()),
+        earlier(first, from_out),
+    )
 }
 
 /// The array that is written at an index, then the index and the value.

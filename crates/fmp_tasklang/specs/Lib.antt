@@ -1,3 +1,4 @@
+pub mod ArgumentLists
 pub mod Blocks
 pub mod CallForms
 pub mod Calls
@@ -5,6 +6,7 @@ pub mod Contexts
 pub mod Examples
 pub mod Expressions
 pub mod Grammar
+pub mod HeldArguments
 pub mod Layout
 pub mod Laws
 pub mod Reading

@@ -6,8 +6,10 @@ ghost use Rattle.fmp_tasklang.specs.Calls.{service_of, values_of, out_from};
 ghost use Rattle.fmp_tasklang.specs.Reading.{argument_view, called_view, RightPart, RightArguments, RightCall};
 ghost use Rattle.fmp_tasklang.specs.Views.{expression_view};
 
+use crate::argument_list::ArgumentList;
 use crate::expressions::expression;
 use crate::forms::{Part, parts_of};
+use crate::receivers::Receiver;
 use crate::trees::{Expression, ServiceCall, Word};
 use crate::words::{LOOSEST, expect_word};
 use fmp_base::Service;
@@ -53,7 +55,7 @@ fn part(
     }
 }
 
-fn put(call: &mut ServiceCall, argument: Option<Argument>) -> Result<(), ReadError>
+fn put(alloc: Global, call: &mut ServiceCall, argument: Option<Argument>) -> Result<(), ReadError>
     ensures arguments { IfOk result (λ _. map expression_view call.new.arguments.items
         ≡ map expression_view call.old.arguments.items ++ values_of (forms.put (argument_view argument) [])) }
     ensures out { IfOk result (λ _. call.new.out ≡ out_from call.old.out (forms.put (argument_view argument) [])) }
@@ -61,8 +63,8 @@ fn put(call: &mut ServiceCall, argument: Option<Argument>) -> Result<(), ReadErr
     ensures memory { IfErr result (λ e. e ≡ ReadError.Memory) }
 {
     match argument {
-        Some(Argument::Value(value)) => call.arguments.push(value)?,
-        Some(Argument::Out(word)) => call.out = Some(word),
+        Some(Argument::Value(value)) => call.arguments.push(alloc, value)?,
+        Some(Argument::Out(word)) => call.out = Receiver::of(alloc, word)?,
         None => (),
     }
     Ok(())
@@ -83,14 +85,14 @@ fn arguments(
 {
     let mut call = ServiceCall {
         service,
-        arguments: Vec::with_capacity(alloc, usize::from(service.arity()))?,
-        out: None,
-        result: None,
+        arguments: ArgumentList::with_capacity(alloc, usize::from(service.arity()))?,
+        out: Receiver::none(),
+        result: Receiver::none(),
     };
     let mut i = at;
     for one in parts {
         let (argument, next) = part(alloc, tokens, depth, *one, i)?;
-        put(&mut call, argument)?;
+        put(alloc, &mut call, argument)?;
         i = next;
     }
     Ok((call, i))

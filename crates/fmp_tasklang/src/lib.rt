@@ -2,18 +2,22 @@
 //! what a body means (names, values, contexts, stretches) are defined in `specs/`.
 #![tactic(auto)]
 
+mod argument_list;
 mod bodies;
 mod calls;
 mod expressions;
 mod forms;
 pub mod laws;
 mod reading;
+mod receivers;
 mod statements;
 pub mod trees;
 mod words;
 
+pub use argument_list::ArgumentList;
 pub use bodies::body;
 pub use reading::read_tasks;
+pub use receivers::Receiver;
 pub use trees::{
     Body, BodyKind, Declaration, Expression, Length, Link, Operator, Program, ServiceCall,
     Statement, Word,

@@ -1,5 +1,5 @@
 //! Statements of the task language.
-ghost use Rattle.std.specs.Prelude.{◌≡◌, ◌^◌, ◌≤◌, ◌<◌, ◌+◌, Some, true, length, slice_get, option_and_then};
+ghost use Rattle.std.specs.Prelude.{◌≡◌, ◌^◌, ◌≤◌, ◌<◌, ◌+◌, Some, true, length, slice_get, option_and_then, IfOk, IfErr};
 ghost use Rattle.fmp_lex.specs.Reading.{kinds_of, max_depth, Answers};
 ghost use Rattle.fmp_base.specs.declared.words.Keyword.TheVariants as keyword;
 ghost use Rattle.fmp_lex.specs.declared.token.Symbol.TheVariants as symbol;
@@ -12,6 +12,7 @@ ghost use Rattle.fmp_tasklang.specs.Views.{expression_view, statement_view};
 
 use crate::calls::call;
 use crate::expressions::{bracketed, expression};
+use crate::receivers::Receiver;
 use crate::trees::{Expression, ServiceCall, Statement, Word};
 use crate::words::{LOOSEST, MAX_DEPTH, expect_word, jump_at, service_at};
 use fmp_base::Service;
@@ -76,7 +77,7 @@ fn source(
     Ok((Given::Value(value), next))
 }
 
-fn calling(call: ServiceCall, receiver: Option<Word>) -> Statement
+fn calling(call: ServiceCall, receiver: Receiver) -> Statement
     ensures { statement_view result ≡ service_call (call_tree receiver (called_view call)) }
 {
     Statement::Call(ServiceCall {
@@ -87,25 +88,30 @@ fn calling(call: ServiceCall, receiver: Option<Word>) -> Statement
     })
 }
 
-fn assign(target: Word, source: Given) -> Statement
-    ensures { statement_view result ≡ assigned target (source_view source) }
+fn assign(alloc: Global, target: Word, source: Given) -> Result<Statement, ReadError>
+    ensures tree { IfOk result (λ s. statement_view s ≡ assigned target (source_view source)) }
+    ensures memory { IfErr result (λ e. e ≡ ReadError.Memory) }
 {
     match source {
-        Given::Value(value) => Statement::Assign { target, value },
-        Given::Call(call) => calling(call, Some(target)),
+        Given::Value(value) => Ok(Statement::Assign { target, value }),
+        Given::Call(call) => {
+            let receiver = Receiver::of(alloc, target)?;
+            Ok(calling(call, receiver))
+        }
     }
 }
 
-fn make(target: Word, change: Change) -> Statement
-    ensures { statement_view result ≡ changed target (change_view change) }
+fn make(alloc: Global, target: Word, change: Change) -> Result<Statement, ReadError>
+    ensures tree { IfOk result (λ s. statement_view s ≡ changed target (change_view change)) }
+    ensures memory { IfErr result (λ e. e ≡ ReadError.Memory) }
 {
     match change {
-        Change::Variable(source) => assign(target, source),
-        Change::Element(element) => Statement::AssignElement {
+        Change::Variable(source) => assign(alloc, target, source),
+        Change::Element(element) => Ok(Statement::AssignElement {
             array: target,
             index: element.index,
             value: element.value,
-        },
+        }),
     }
 }
 
@@ -175,7 +181,8 @@ fn assignment(
 {
     let (target, next) = expect_word(tokens, at)?;
     let (change, next) = one_change(alloc, tokens, depth, next)?;
-    Ok((make(target, change), next))
+    let statement = make(alloc, target, change)?;
+    Ok((statement, next))
 }
 
 fn plain_call(
@@ -193,7 +200,7 @@ fn plain_call(
 {
     let (call, next) = call(alloc, tokens, depth, service, at)?;
     let next = expect_symbol(tokens, next, Symbol::Semicolon)?;
-    Ok((calling(call, None), next))
+    Ok((calling(call, Receiver::none()), next))
 }
 
 fn jump(

@@ -1,4 +1,6 @@
 //! The syntax tree of a task text.
+use crate::argument_list::ArgumentList;
+use crate::receivers::Receiver;
 use fmp_base::{BinaryOperator, Name, Service, UnaryOperator};
 
 /// A name in a text.
@@ -59,11 +61,11 @@ pub struct Link {
 pub struct ServiceCall {
     pub service: Service,
     /// The arguments, without the out place.
-    pub arguments: Vec<Expression>,
+    pub arguments: ArgumentList,
     /// The variable at the out place.
-    pub out: Option<Word>,
+    pub out: Receiver,
     /// The variable before `=`.
-    pub result: Option<Word>,
+    pub result: Receiver,
 }
 
 /// A statement.

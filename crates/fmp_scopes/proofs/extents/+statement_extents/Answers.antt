@@ -9,7 +9,7 @@ pub statement_extent-returns-in-If-clause-size : goal.statement_extent-returns-i
 statement_extent-returns-in-If-clause-size t c =
     let view = ap statement_view c.in-If.is ∙ statement_view-If c.in-If.condition c.in-If.then in
     let whole = ap statement_size view in
-    let block = ap (λ xs. block_size (block_view xs)) c.deref-in-If.ensures.value in
+    let block = ap (λ xs. block_size (block_view xs)) c.deref.ensures.value in
     let test = c.expression_extent-test.ensures.size in
     let inner = c.block_extent-inner.ensures.size in
     omega (arith, whole, block, test, inner, c.cut_extent-in-If.ensures.size)
@@ -18,7 +18,7 @@ pub statement_extent-returns-in-If-clause-depth : goal.statement_extent-returns-
 statement_extent-returns-in-If-clause-depth t c =
     let view = ap statement_view c.in-If.is ∙ statement_view-If c.in-If.condition c.in-If.then in
     let whole = ap statement_depth view in
-    let block = ap (λ xs. block_depth (block_view xs)) c.deref-in-If.ensures.value in
+    let block = ap (λ xs. block_depth (block_view xs)) c.deref.ensures.value in
     let test = c.expression_extent-test.ensures.depth in
     let inner = c.block_extent-inner.ensures.depth in
     omega (arith, whole, block, test, inner, c.greater-in-If.ensures, c.cut_extent-in-If.ensures.depth)

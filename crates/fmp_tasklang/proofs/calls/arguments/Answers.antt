@@ -25,7 +25,7 @@ loop-one-init c =
       service = refl;
       seen = [];
       values = search rules;
-      out = refl;
+      out = search rules;
       goes = λ o x. no_before o (RightParts ts d ps i) x;
     }
 

@@ -29,5 +29,5 @@ returns c =
     let ts = kinds_of c.args.tokens.now in
     let d = c.args.depth in
     let i = c.args.at in
-    rw c.make.ensures (assignment_then ts d i c.in_ok-target.target c.in_ok-target.next c.in_ok-target.ensures
+    rw c.in_ok-statement.ensures.tree (assignment_then ts d i c.in_ok-target.target c.in_ok-target.next c.in_ok-target.ensures
     (found (change_view c.in_ok-change.change) c.in_ok-change.next) c.in_ok-change.ensures)

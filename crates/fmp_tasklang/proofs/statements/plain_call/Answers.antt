@@ -30,4 +30,4 @@ returns c =
     let ts = kinds_of c.args.tokens.now in
     let d = c.args.depth in
     let i = c.args.at in
-    rw c.calling.ensures (plain_found ts d i (called_view c.in_ok-call.call) c.in_ok-call.next c.in_ok-call.ensures c.in_ok-next.next c.in_ok-next.ensures)
+    rw (c.calling.ensures, c.none.ensures) (plain_found ts d i (called_view c.in_ok-call.call) c.in_ok-call.next c.in_ok-call.ensures c.in_ok-next.next c.in_ok-next.ensures)
