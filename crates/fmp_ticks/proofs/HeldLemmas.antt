@@ -30,6 +30,14 @@ exchanged_held xs i j x l n =
     let over : set (set xs i x) i (get_or xs j 0) ≡ set xs i (get_or xs j 0) = set-set xs i x (get_or xs j 0) in
     rw (here, there, over) refl
 
+-- and their ranks change places
+pub held_moved : (ranks : List ℕ) (i j rank : ℕ) → i < length ranks → j < length ranks → j ≢ i
+    → Exchanged (λ k. get_or (set ranks i rank) k 0) (λ k. get_or (set (set ranks i (get_or ranks j 0)) j rank) k 0) i j
+held_moved ranks i j rank l m n =
+    let wide : (k : ℕ) → k < length ranks → k < length (set ranks i rank) = λ k a. subst (λ (c : ℕ). k < c) (sym (length-set ranks i rank)) a in
+    subst (λ (t : List ℕ). Exchanged (λ k. get_or (set ranks i rank) k 0) (λ k. get_or t k 0) i j) (exchanged_held ranks i j rank l n)
+    (list-exchanged (set ranks i rank) i j (wide i l) (wide j m))
+
 module _ (before : Slots) (tasks ranks positions : List ℕ) (i j task rank : ℕ) (h : AreRowsFor before tasks ranks positions i task rank) (l : i < length tasks) (m : j < length tasks) (n : j ≢ i) where
   in_tasks : (k : ℕ) → k < length tasks → k < length (set tasks i task)
   in_tasks k a = subst (λ (c : ℕ). k < c) (sym (length-set tasks i task)) a
@@ -76,10 +84,7 @@ module _ (before : Slots) (tasks ranks positions : List ℕ) (i j task rank : �
   }
 
   pub ranks_moved : Exchanged (rank_in (held_at tasks ranks i task rank)) (rank_in (held_at (set tasks i (get_or tasks j 0)) (set ranks i (get_or ranks j 0)) j task rank)) i j
-  ranks_moved =
-      let wide : (k : ℕ) → k < length tasks → k < length (set ranks i rank) = λ k a. subst (λ (c : ℕ). k < c) (sym (length-set ranks i rank)) (in_ranks k a) in
-      subst (λ (t : List ℕ). Exchanged (λ k. get_or (set ranks i rank) k 0) (λ k. get_or t k 0) i j) (exchanged_held ranks i j rank (in_ranks i l) n)
-      (list-exchanged (set ranks i rank) i j (wide i l) (wide j m))
+  ranks_moved = held_moved ranks i j rank (in_ranks i l) (in_ranks j m) n
 
 pub Exchanged-sym : (f g : ℕ → ℕ) (i j : ℕ) → Exchanged f g i j → Exchanged f g j i
 Exchanged-sym f g i j x = record { first = x.second; second = x.first; other = λ k n m. x.other k m n }
@@ -94,6 +99,29 @@ first_whatever ranks n j c rank h = record {
       let e : get_or (set ranks j rank) k 0 ≡ get_or ranks k 0 = get_or-set_other ranks j k rank 0 (λ (z : k ≡ j). absurd (omega (arith, a, z))) in
       let f : get_or (set ranks j rank) c 0 ≡ get_or ranks c 0 = get_or-set_other ranks j c rank 0 (λ (z : c ≡ j). absurd (omega (arith, h.low, z))) in
       omega (arith, h.first k a b d, e, f);
+}
+
+-- of two children the one that comes after neither
+pub first_of_two : (f : ℕ → ℕ) (n j c : ℕ) → j * 2 + 1 ≤ c → c ≤ j * 2 + 2 → j * 2 + 2 < n → f c ≤ f (j * 2 + 1) → f c ≤ f (j * 2 + 2) → IsFirstChild f n j c
+first_of_two f n j c low high within left right = record {
+  low = low;
+  high = high;
+  there = omega (arith, high, within);
+  first = λ k a b d. cases (same_or_not k (j * 2 + 1))
+      (λ (z : k ≡ j * 2 + 1). subst (λ (i : ℕ). f c ≤ f i) (sym z) left)
+      (λ u. let z : k ≡ j * 2 + 2 = omega (arith, a, b, u) in subst (λ (i : ℕ). f c ≤ f i) (sym z) right);
+}
+
+-- a child that has no other beside it
+pub only_child : (f : ℕ → ℕ) (n j : ℕ) → j * 2 + 1 < n → n ≤ j * 2 + 2 → IsFirstChild f n j (j * 2 + 1)
+only_child f n j there few = record {
+  low = omega arith;
+  high = omega arith;
+  there = there;
+  first = λ k a b d.
+      let z : j * 2 + 1 ≡ k = omega (arith, a, d, few) in
+      let e : f (j * 2 + 1) ≡ f k = ap f z in
+      omega (arith, e);
 }
 
 -- how many are in the heap does not matter to the ranks

@@ -1,8 +1,8 @@
 //! A heap of the tasks that have deadlines, in rows: the task and the rank at each slot, and the slot of each task.
-ghost use Rattle.std.specs.Prelude.{◌≡◌, ℕ, ◌+◌, ◌<◌, ◌≤◌, ◌*◌, length, nat_lt, slice_index, slice_set};
+ghost use Rattle.std.specs.Prelude.{◌≡◌, ◌≢◌, ℕ, ◌+◌, ◌<◌, ◌≤◌, ◌*◌, length, nat_lt, slice_index, slice_set};
 ghost use Rattle.fmp_base.specs.Links.{AddsAtMost};
-ghost use Rattle.fmp_ticks.specs.Ranks.{rank as rank_of, rank_in, AreRowsFor, KeepRanks, IsHeap, IsOpenAt, IsHeapBelow, IsFirstChild};
-ghost use Rattle.fmp_ticks.specs.Slots.{AreInverse, rows_of, held_at};
+ghost use Rattle.fmp_ticks.specs.Ranks.{rank as rank_of, rank_in, AreRowsFor, KeepRanks, IsHeap, IsOpenAt, IsHeapBelow};
+ghost use Rattle.fmp_ticks.specs.Slots.{Slots, AreInverse, exchanged, rows_of, held_at};
 
 use fmp_base::Steps;
 
@@ -32,23 +32,22 @@ pub fn is_before(a: u64, b: u64, steps: &mut Steps) -> bool
     a < b
 }
 
-/// Of the children of a slot that has one, the one whose task is first.
-fn first_child(ranks: &[u64], count: usize, slot: usize, steps: &mut Steps) -> usize
-    requires parent { slot * 2 + 1 < count }
-    requires within { count ≤ length ranks.now }
+/// Of the two children of a slot, the one whose task is first.
+fn first_child(ranks: &[u64], slot: usize, steps: &mut Steps) -> usize
+    requires within { slot * 2 + 2 < length ranks.now }
     requires few { length ranks.now ≤ 255 }
-    ensures first { IsFirstChild (slice_index ranks.now) count slot result }
-    ensures steps { AddsAtMost 1 steps.old steps.new }
+    ensures low { slot * 2 + 1 ≤ result }
+    ensures high { result ≤ slot * 2 + 2 }
+    ensures left { slice_index ranks.now result ≤ slice_index ranks.now (slot * 2 + 1) }
+    ensures right { slice_index ranks.now result ≤ slice_index ranks.now (slot * 2 + 2) }
+    ensures steps { steps.new ≡ steps.old + 1 }
 {
-    let left = slot * 2 + 1;
-    let right = left + 1;
-    if right == count {
-        return left;
-    }
-    left + is_before(ranks[right], ranks[left], steps) as usize
+    let right = slot * 2 + 2;
+    right - is_before(ranks[right - 1], ranks[right], steps) as usize
 }
 
 /// A task stands at a slot, with its rank.
+#[inline(always)]
 fn put(slots: &mut [u8], ranks: &mut [u64], positions: &mut [u8], slot: usize, held: Held)
     requires slot { slot < length slots.old }
     requires long { length ranks.old ≡ length slots.old }
@@ -63,8 +62,32 @@ fn put(slots: &mut [u8], ranks: &mut [u64], positions: &mut [u8], slot: usize, h
     positions[held.task as usize] = slot as u8;
 }
 
-/// The task at a slot is to go down to a slot that has no children, whatever its own deadline is: at each level the
-/// first of the children takes the slot above it. The slot that is free in the end, where the task is not put yet.
+/// The tasks at two slots change places, with their ranks.
+#[inline(always)]
+pub fn exchange(slots: &mut [u8], ranks: &mut [u64], positions: &mut [u8], i: usize, j: usize)
+    requires inverse { AreInverse slots.old positions.old }
+    requires long { length ranks.old ≡ length slots.old }
+    requires first { i < length slots.old }
+    requires second { j < length slots.old }
+    ensures inverse { AreInverse slots.new positions.new }
+    ensures slots { slots.new ≡ exchanged slots.old i j }
+    ensures ranks { ranks.new ≡ exchanged ranks.old i j }
+{
+    let first = ranks[i];
+    ranks[i] = ranks[j];
+    ranks[j] = first;
+    let a = slots[i];
+    let b = slots[j];
+    slots[i] = b;
+    slots[j] = a;
+    positions[a as usize] = j as u8;
+    positions[b as usize] = i as u8;
+}
+
+/// The task at a slot is to go down to a slot that has one child at most, whatever its own deadline is: at each level
+/// the first of the two children takes the slot above it. The slot that is free in the end, where the task is not put
+/// yet.
+#[inline(always)]
 fn descend(
     slots: &mut [u8],
     ranks: &mut [u64],
@@ -81,12 +104,12 @@ fn descend(
     ensures open { IsOpenAt
         (rank_in (held_at slots.new ranks.new result (slice_index slots.old from) (slice_index ranks.old from))) count
         (length slots.new) result }
-    ensures childless { count ≤ result * 2 + 1 }
+    ensures few { count ≤ result * 2 + 2 }
     ensures steps { AddsAtMost 7 steps.old steps.new }
 {
     let mut slot = from;
-    while slot * 2 + 1 < count {
-        let child = first_child(ranks, count, slot, steps);
+    while slot * 2 + 2 < count {
+        let child = first_child(ranks, slot, steps);
         let moved = Held {
             task: slots[child],
             rank: ranks[child],
@@ -97,8 +120,44 @@ fn descend(
     slot
 }
 
+/// A slot that is free gets the task of its only child, if it has one. The slot that is free then.
+#[inline(always)]
+fn descend_last(
+    slots: &mut [u8],
+    ranks: &mut [u64],
+    positions: &mut [u8],
+    count: usize,
+    from: usize,
+) -> usize
+    requires long { length ranks.old ≡ length slots.old }
+    requires short { length slots.old ≤ 255 }
+    requires here { from < count }
+    requires within { count ≤ length slots.old }
+    requires few { count ≤ from * 2 + 2 }
+    requires tasks { (k : ℕ) → k < length slots.old → k ≢ from → slice_index slots.old k < length positions.old }
+    ensures rows { (before : Slots) → (task rank : ℕ)
+        → AreRowsFor before slots.old ranks.old positions.old from task rank
+        → AreRowsFor before slots.new ranks.new positions.new result task rank }
+    ensures open { (task rank : ℕ)
+        → IsOpenAt (rank_in (held_at slots.old ranks.old from task rank)) count (length slots.old) from
+        → IsOpenAt (rank_in (held_at slots.new ranks.new result task rank)) count (length slots.new) result }
+    ensures childless { count ≤ result * 2 + 1 }
+{
+    let child = from * 2 + 1;
+    if child >= count {
+        return from;
+    }
+    let moved = Held {
+        task: slots[child],
+        rank: ranks[child],
+    };
+    put(slots, ranks, positions, from, moved);
+    child
+}
+
 /// A task that is to stand at a slot rises past those that it is before: each goes down to the slot below it. The slot
 /// that is free in the end, where the task is not put yet.
+#[inline(always)]
 fn rise(
     slots: &mut [u8],
     ranks: &mut [u64],
@@ -137,6 +196,7 @@ fn rise(
 /// The task at a slot, whose deadline has changed, goes to where it belongs. The heap's end, which takes the slot of a
 /// task that leaves, nearly always belongs near the bottom: so the task goes there first, at one comparison a level,
 /// and rises then.
+#[inline(always)]
 pub fn mend(
     slots: &mut [u8],
     ranks: &mut [u64],
@@ -161,6 +221,7 @@ pub fn mend(
         rank: ranks[slot],
     };
     let low = descend(slots, ranks, positions, count, slot, steps);
-    let end = rise(slots, ranks, positions, low, held, steps);
+    let leaf = descend_last(slots, ranks, positions, count, low);
+    let end = rise(slots, ranks, positions, leaf, held, steps);
     put(slots, ranks, positions, end, held);
 }

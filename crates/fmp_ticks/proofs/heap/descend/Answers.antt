@@ -1,15 +1,16 @@
-use Rattle.std.proofs.Common.{suc, ◌+◌, ◌*◌, ◌<◌, ◌≤◌, ◌≢◌, length, get_or, arith, length-set}
+use Rattle.std.proofs.Common.{ℕ, suc, ◌+◌, ◌*◌, ◌<◌, ◌≤◌, ◌≢◌, length, get_or, arith, length-set}
 use Rattle.fmp_ticks.specs.Slots.{rows_of}
 use Rattle.fmp_ticks.proofs.DepthLemmas.{shallow}
 use Rattle.fmp_ticks.proofs.HeapLemmas.{descends}
-use Rattle.fmp_ticks.proofs.HeldLemmas.{rows_moved, ranks_moved, first_whatever}
+use Rattle.fmp_ticks.proofs.HeldLemmas.{rows_moved, ranks_moved, first_of_two, first_whatever}
 use Rattle.fmp_ticks.proofs.heap.descend.Goals as goal
 
 pub loop-slot-preserved : goal.loop-slot-preserved
 loop-slot-preserved c =
     let l = c.loop-slot in
     let child = c.first_child-child.result in
-    let first = c.first_child-child.ensures.first in
+    let e = c.first_child-child.ensures in
+    let first = first_of_two (λ (k : ℕ). get_or l.ranks k 0) c.args.count l.slot child e.low e.high (omega (arith, c.loop-slot-test.true)) e.left e.right in
     let task = get_or c.args.slots.now c.args.from 0 in
     let rank = get_or c.args.ranks.now c.args.from 0 in
     let low : l.slot * 2 + 1 ≤ child = first.low in
@@ -23,11 +24,11 @@ loop-slot-preserved c =
       rows = rows_moved before l.slots l.ranks l.positions l.slot child task rank l.invariant.rows here there apart;
       open' = rw (length-set l.slots l.slot (get_or l.slots child 0))
           (descends _ _ _ _ l.slot child (first_whatever l.ranks c.args.count l.slot child rank first) x l.invariant.open');
-      more = omega (arith, l.invariant.more, c.first_child-child.ensures.steps.0);
+      more = omega (arith, l.invariant.more, e.steps);
       counted = (
         suc l.invariant.counted.0,
         omega (arith, l.invariant.counted.1, low),
-        omega (arith, l.invariant.counted.2, c.first_child-child.ensures.steps.1),
+        omega (arith, l.invariant.counted.2, e.steps),
       );
     }
     )
