@@ -33,3 +33,8 @@ take-put_halves at count line whole front back bytes within few first last is =
     ∙ ap (take (at + count)) (is ∙ append_assoc (take at line) (take 15 front) back ∙ ap (λ xs. take at line ++ xs) halves)
     ∙ take-add at count (take at line ++ bytes)
     ∙ (λ i. take_at (take at line) bytes at long i ++ take count (drop_at (take at line) bytes at long i))
+
+-- a front, and the four bytes behind it
+pub front_and_four : (count : ℕ) (bytes front more : List ℕ) → take count bytes ≡ front → take 4 (drop count bytes) ≡ more
+    → take (count + 4) bytes ≡ front ++ more
+front_and_four count bytes front more h k = take-add count 4 bytes ∙ (λ i. h i ++ k i)

@@ -11,7 +11,7 @@ use crate::names::{
     append_caller, append_cyclic_name, append_handler, append_run, append_task_name,
 };
 use crate::numeral::Numeral;
-use crate::texts::{LineBytes, ROOM, append_array, append_line, append_number, append_processor};
+use crate::texts::{LineBytes, ROOM, append_array, append_line, append_number};
 use fmp_base::{Call, Caller, Fault, Handler, Line, Reply, System};
 use std::alloc::AllocError;
 
@@ -24,25 +24,42 @@ const REACH: usize = 179;
 
 /// The name of the task or handler that acts, behind its processor.
 #[inline(always)]
-fn append_actor(sys: &System, processor: u8, caller: &Caller, line: &mut [u8], end: usize) -> usize
-    requires { end + 50 ≤ length line.old }
+fn append_actor(
+    sys: &System,
+    number: &mut Numeral,
+    processor: u8,
+    caller: &Caller,
+    line: &mut [u8],
+    end: usize,
+) -> usize
+    requires { end + 60 ≤ length line.old }
     ensures text { take result line.new ≡
-        take end line.old ++ (processor_text processor ++ caller_name (tables_of sys.now) caller.now) }
-    ensures short { result ≤ end + 37 }
+        take end line.old ++ (decimal number.old ++ (processor_text processor
+        ++ caller_name (tables_of sys.now) caller.now)) }
+    ensures short { result ≤ end + 47 }
+    ensures kept { number.new ≡ number.old }
 {
-    let end = append_processor(processor, line, end);
+    let end = number.append_with(processor, line, end);
     append_caller(sys, caller, line, end)
 }
 
 /// The name of a task, behind its processor.
 #[inline(always)]
-fn append_task(sys: &System, processor: u8, task: u8, line: &mut [u8], end: usize) -> usize
-    requires { end + 50 ≤ length line.old }
+fn append_task(
+    sys: &System,
+    number: &mut Numeral,
+    processor: u8,
+    task: u8,
+    line: &mut [u8],
+    end: usize,
+) -> usize
+    requires { end + 60 ≤ length line.old }
     ensures text { take result line.new ≡
-        take end line.old ++ (processor_text processor ++ task_name (tables_of sys.now) task) }
-    ensures short { result ≤ end + 50 }
+        take end line.old ++ (decimal number.old ++ (processor_text processor ++ task_name (tables_of sys.now) task)) }
+    ensures short { result ≤ end + 60 }
+    ensures kept { number.new ≡ number.old }
 {
-    let end = append_processor(processor, line, end);
+    let end = number.append_with(processor, line, end);
     append_task_name(sys, task, line, end)
 }
 
@@ -69,19 +86,21 @@ fn append_interrupt(place: u8, line: &mut [u8], end: usize) -> usize
 #[inline(always)]
 fn append_request(
     sys: &System,
+    number: &mut Numeral,
     processor: u8,
     caller: &Caller,
     call: &Call,
     line: &mut [u8],
     end: usize,
 ) -> usize
-    requires { end + 135 ≤ length line.old }
+    requires { end + 145 ≤ length line.old }
     ensures text { take result line.new ≡
-        take end line.old ++ (processor_text processor
-        ++ (caller_name (tables_of sys.now) caller.now ++ (codes " " ++ call_text call.now))) }
-    ensures short { result ≤ end + 96 }
+        take end line.old ++ (decimal number.old ++ (processor_text processor
+        ++ (caller_name (tables_of sys.now) caller.now ++ (codes " " ++ call_text call.now)))) }
+    ensures short { result ≤ end + 106 }
+    ensures kept { number.new ≡ number.old }
 {
-    let end = append_actor(sys, processor, caller, line, end);
+    let end = append_actor(sys, number, processor, caller, line, end);
     append_call(call, line, end)
 }
 
@@ -89,6 +108,7 @@ fn append_request(
 #[inline(always)]
 fn append_called(
     sys: &System,
+    number: &mut Numeral,
     processor: u8,
     caller: &Caller,
     call: &Call,
@@ -96,26 +116,35 @@ fn append_called(
     line: &mut [u8],
     end: usize,
 ) -> usize
-    requires { end + 162 ≤ length line.old }
+    requires { end + 172 ≤ length line.old }
     ensures text { take result line.new ≡
-        take end line.old ++ (processor_text processor
+        take end line.old ++ (decimal number.old ++ (processor_text processor
         ++ (caller_name (tables_of sys.now) caller.now
-        ++ (codes " " ++ (call_text call.now ++ (codes " " ++ answer_text reply.now))))) }
-    ensures short { result ≤ end + 116 }
+        ++ (codes " " ++ (call_text call.now ++ (codes " " ++ answer_text reply.now)))))) }
+    ensures short { result ≤ end + 126 }
+    ensures kept { number.new ≡ number.old }
 {
-    let end = append_request(sys, processor, caller, call, line, end);
+    let end = append_request(sys, number, processor, caller, call, line, end);
     let end = append_array(*b" ", line, end);
     append_answer(reply, line, end)
 }
 
-fn append_end(sys: &System, processor: u8, caller: &Caller, line: &mut [u8], end: usize) -> usize
-    requires { end + 54 ≤ length line.old }
+fn append_end(
+    sys: &System,
+    number: &mut Numeral,
+    processor: u8,
+    caller: &Caller,
+    line: &mut [u8],
+    end: usize,
+) -> usize
+    requires { end + 64 ≤ length line.old }
     ensures text { take result line.new ≡
-        take end line.old ++ (processor_text processor
-        ++ (caller_name (tables_of sys.now) caller.now ++ codes " end")) }
-    ensures short { result ≤ end + 54 }
+        take end line.old ++ (decimal number.old ++ (processor_text processor
+        ++ (caller_name (tables_of sys.now) caller.now ++ codes " end"))) }
+    ensures short { result ≤ end + 64 }
+    ensures kept { number.new ≡ number.old }
 {
-    let end = append_actor(sys, processor, caller, line, end);
+    let end = append_actor(sys, number, processor, caller, line, end);
     append_array(*b" end", line, end)
 }
 
@@ -132,19 +161,21 @@ fn fault_name(fault: Fault) -> [u8; 5]
 
 fn append_fault(
     sys: &System,
+    number: &mut Numeral,
     processor: u8,
     caller: &Caller,
     fault: Fault,
     line: &mut [u8],
     end: usize,
 ) -> usize
-    requires { end + 56 ≤ length line.old }
+    requires { end + 66 ≤ length line.old }
     ensures text { take result line.new ≡
-        take end line.old ++ (processor_text processor
-        ++ (caller_name (tables_of sys.now) caller.now ++ (codes " " ++ fault_text fault))) }
-    ensures short { result ≤ end + 56 }
+        take end line.old ++ (decimal number.old ++ (processor_text processor
+        ++ (caller_name (tables_of sys.now) caller.now ++ (codes " " ++ fault_text fault)))) }
+    ensures short { result ≤ end + 66 }
+    ensures kept { number.new ≡ number.old }
 {
-    let end = append_actor(sys, processor, caller, line, end);
+    let end = append_actor(sys, number, processor, caller, line, end);
     let end = append_array(*b" ", line, end);
     append_array(fault_name(fault), line, end)
 }
@@ -152,54 +183,81 @@ fn append_fault(
 #[inline(always)]
 fn append_release(
     sys: &System,
+    number: &mut Numeral,
     processor: u8,
     task: u8,
     reply: &Reply,
     line: &mut [u8],
     end: usize,
 ) -> usize
-    requires { end + 82 ≤ length line.old }
+    requires { end + 92 ≤ length line.old }
     ensures text { take result line.new ≡
-        take end line.old ++ (processor_text processor
-        ++ (task_name (tables_of sys.now) task ++ (codes " gets " ++ reply_text reply.now))) }
-    ensures short { result ≤ end + 82 }
+        take end line.old ++ (decimal number.old ++ (processor_text processor
+        ++ (task_name (tables_of sys.now) task ++ (codes " gets " ++ reply_text reply.now)))) }
+    ensures short { result ≤ end + 92 }
+    ensures kept { number.new ≡ number.old }
 {
-    let end = append_task(sys, processor, task, line, end);
+    let end = append_task(sys, number, processor, task, line, end);
     let end = append_array(*b" gets ", line, end);
     append_reply(reply, line, end)
 }
 
 #[inline(always)]
-fn append_start(sys: &System, processor: u8, task: u8, line: &mut [u8], end: usize) -> usize
-    requires { end + 57 ≤ length line.old }
+fn append_start(
+    sys: &System,
+    number: &mut Numeral,
+    processor: u8,
+    task: u8,
+    line: &mut [u8],
+    end: usize,
+) -> usize
+    requires { end + 67 ≤ length line.old }
     ensures text { take result line.new ≡
-        take end line.old ++ (processor_text processor ++ (task_name (tables_of sys.now) task ++ codes " starts")) }
-    ensures short { result ≤ end + 57 }
+        take end line.old ++ (decimal number.old ++ (processor_text processor
+        ++ (task_name (tables_of sys.now) task ++ codes " starts"))) }
+    ensures short { result ≤ end + 67 }
+    ensures kept { number.new ≡ number.old }
 {
-    let end = append_task(sys, processor, task, line, end);
+    let end = append_task(sys, number, processor, task, line, end);
     append_array(*b" starts", line, end)
 }
 
-fn append_pending(sys: &System, processor: u8, cyclic: u8, line: &mut [u8], end: usize) -> usize
-    requires { end + 54 ≤ length line.old }
+fn append_pending(
+    sys: &System,
+    number: &mut Numeral,
+    processor: u8,
+    cyclic: u8,
+    line: &mut [u8],
+    end: usize,
+) -> usize
+    requires { end + 64 ≤ length line.old }
     ensures text { take result line.new ≡
-        take end line.old ++ (processor_text processor
-        ++ (codes "cyc " ++ name_text (cyclic_config (tables_of sys.now) cyclic).name)) }
-    ensures short { result ≤ end + 54 }
+        take end line.old ++ (decimal number.old ++ (processor_text processor
+        ++ (codes "cyc " ++ name_text (cyclic_config (tables_of sys.now) cyclic).name))) }
+    ensures short { result ≤ end + 64 }
+    ensures kept { number.new ≡ number.old }
 {
-    let end = append_processor(processor, line, end);
+    let end = number.append_with(processor, line, end);
     let end = append_array(*b"cyc ", line, end);
     append_cyclic_name(sys, cyclic, line, end)
 }
 
-fn append_begin(sys: &System, processor: u8, handler: Handler, line: &mut [u8], end: usize) -> usize
-    requires { end + 56 ≤ length line.old }
+fn append_begin(
+    sys: &System,
+    number: &mut Numeral,
+    processor: u8,
+    handler: Handler,
+    line: &mut [u8],
+    end: usize,
+) -> usize
+    requires { end + 66 ≤ length line.old }
     ensures text { take result line.new ≡
-        take end line.old ++ (processor_text processor
-        ++ (codes "begin " ++ handler_name (tables_of sys.now) handler)) }
-    ensures short { result ≤ end + 56 }
+        take end line.old ++ (decimal number.old ++ (processor_text processor
+        ++ (codes "begin " ++ handler_name (tables_of sys.now) handler))) }
+    ensures short { result ≤ end + 66 }
+    ensures kept { number.new ≡ number.old }
 {
-    let end = append_processor(processor, line, end);
+    let end = number.append_with(processor, line, end);
     let end = append_array(*b"begin ", line, end);
     append_handler(sys, handler, line, end)
 }
@@ -207,64 +265,93 @@ fn append_begin(sys: &System, processor: u8, handler: Handler, line: &mut [u8], 
 #[inline(always)]
 fn append_dispatch(
     sys: &System,
+    number: &mut Numeral,
     processor: u8,
     task: Option<u8>,
     line: &mut [u8],
     end: usize,
 ) -> usize
-    requires { end + 52 ≤ length line.old }
+    requires { end + 62 ≤ length line.old }
     ensures text { take result line.new ≡
-        take end line.old ++ (processor_text processor ++ (codes "> " ++ run_text (tables_of sys.now) task)) }
-    ensures short { result ≤ end + 52 }
+        take end line.old ++ (decimal number.old ++ (processor_text processor
+        ++ (codes "> " ++ run_text (tables_of sys.now) task))) }
+    ensures short { result ≤ end + 62 }
+    ensures kept { number.new ≡ number.old }
 {
-    let end = append_processor(processor, line, end);
+    let end = number.append_with(processor, line, end);
     let end = append_array(*b"> ", line, end);
     append_run(sys, task, line, end)
 }
 
-/// A line without its number and its end.
+/// A line without its end.
 #[inline(always)]
-fn append_body(sys: &System, printed: &Line, line: &mut [u8], end: usize) -> usize
-    requires { end + 162 ≤ length line.old }
-    ensures text { take result line.new ≡ take end line.old ++ line_body (tables_of sys.now) printed.now }
-    ensures short { result ≤ end + 116 }
+fn append_body(
+    sys: &System,
+    number: &mut Numeral,
+    printed: &Line,
+    line: &mut [u8],
+    end: usize,
+) -> usize
+    requires { end + 172 ≤ length line.old }
+    ensures text { take result line.new
+        ≡ take end line.old ++ (decimal number.old ++ line_body (tables_of sys.now) printed.now) }
+    ensures short { result ≤ end + 126 }
+    ensures kept { number.new ≡ number.old }
 {
     match printed {
-        Line::Tick(clock) => append_tick(*clock, line, end),
-        Line::Int(place) => append_interrupt(*place, line, end),
+        Line::Tick(clock) => {
+            let end = number.append(line, end);
+            append_tick(*clock, line, end)
+        }
+        Line::Int(place) => {
+            let end = number.append(line, end);
+            append_interrupt(*place, line, end)
+        }
         Line::Call {
             processor,
             caller,
             call,
             reply,
-        } => append_called(sys, *processor, caller, call, reply, line, end),
-        Line::End { processor, caller } => append_end(sys, *processor, caller, line, end),
+        } => append_called(sys, number, *processor, caller, call, reply, line, end),
+        Line::End { processor, caller } => append_end(sys, number, *processor, caller, line, end),
         Line::Fault {
             processor,
             caller,
             fault,
-        } => append_fault(sys, *processor, caller, *fault, line, end),
+        } => append_fault(sys, number, *processor, caller, *fault, line, end),
         Line::Gets {
             processor,
             task,
             reply,
-        } => append_release(sys, *processor, *task, reply, line, end),
-        Line::Starts { processor, task } => append_start(sys, *processor, *task, line, end),
-        Line::Pends { processor, cyclic } => append_pending(sys, *processor, *cyclic, line, end),
-        Line::Begins { processor, handler } => append_begin(sys, *processor, *handler, line, end),
-        Line::Runs { processor, task } => append_dispatch(sys, *processor, *task, line, end),
+        } => append_release(sys, number, *processor, *task, reply, line, end),
+        Line::Starts { processor, task } => append_start(sys, number, *processor, *task, line, end),
+        Line::Pends { processor, cyclic } => append_pending(
+            sys, number, *processor, *cyclic, line, end,
+        ),
+        Line::Begins { processor, handler } => append_begin(
+            sys, number, *processor, *handler, line, end,
+        ),
+        Line::Runs { processor, task } => append_dispatch(
+            sys, number, *processor, *task, line, end,
+        ),
     }
 }
 
 /// A line, with its number in front and a line feed behind.
 #[inline(always)]
-fn put_line(sys: &System, number: &Numeral, printed: &Line, line: &mut [u8], end: usize) -> usize
+fn put_line(
+    sys: &System,
+    number: &mut Numeral,
+    printed: &Line,
+    line: &mut [u8],
+    end: usize,
+) -> usize
     requires { end + REACH ≤ length line.old }
-    ensures text { take result line.new ≡ take end line.old ++ line_text (tables_of sys.now) number.now printed.now }
+    ensures text { take result line.new ≡ take end line.old ++ line_text (tables_of sys.now) number.old printed.now }
     ensures short { result ≤ end + LONGEST }
+    ensures kept { number.new ≡ number.old }
 {
-    let end = number.append(line, end);
-    let end = append_body(sys, printed, line, end);
+    let end = append_body(sys, number, printed, line, end);
     append_array(*b"\n", line, end)
 }
 
@@ -272,14 +359,14 @@ fn put_line(sys: &System, number: &Numeral, printed: &Line, line: &mut [u8], end
 #[inline(always)]
 pub fn put_event(
     sys: &System,
-    number: &Numeral,
+    number: &mut Numeral,
     lines: &[Line],
     bytes: &mut [u8],
     end: usize,
 ) -> usize
     requires { end + 127 * length lines.now + REACH ≤ length bytes.old }
     ensures text { take result bytes.new
-        ≡ take end bytes.old ++ lines_text (tables_of sys.now) number.now lines.now }
+        ≡ take end bytes.old ++ lines_text (tables_of sys.now) number.old lines.now }
     ensures short { result ≤ end + 127 * length lines.now }
 {
     let mut end = end;
@@ -326,7 +413,7 @@ fn make_room(line: &LineBytes, end: usize, out: &mut Vec<u8>) -> Result<usize, A
 #[inline(always)]
 fn put_lines(
     sys: &System,
-    number: &Numeral,
+    number: &mut Numeral,
     lines: &[Line],
     bytes: &mut LineBytes,
     end: usize,
@@ -334,7 +421,7 @@ fn put_lines(
 ) -> Result<usize, AllocError>
     requires { end + REACH ≤ ROOM }
     ensures text { IfOk result (λ left. out.new.items ++ take left bytes.new
-        ≡ out.old.items ++ (take end bytes.old ++ lines_text (tables_of sys.now) number.now lines.now)) }
+        ≡ out.old.items ++ (take end bytes.old ++ lines_text (tables_of sys.now) number.old lines.now)) }
     ensures room { IfOk result (λ left. left + REACH ≤ ROOM) }
     ensures kept { Begins out.old.items out.new.items }
     ensures full { OnErr result (vec_capacity out.old < vec_len out.old + end + lines_room (length lines.now)) }
@@ -361,7 +448,7 @@ fn append_lines(
     ensures capacity { vec_capacity out.old ≤ vec_capacity out.new }
 {
     let mut bytes = [0; ROOM];
-    let end = put_lines(sys, &Numeral::new(number), lines, &mut bytes, 0, out)?;
+    let end = put_lines(sys, &mut Numeral::new(number), lines, &mut bytes, 0, out)?;
     append_line(&bytes, end, out)
 }
 

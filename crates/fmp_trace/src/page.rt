@@ -54,7 +54,7 @@ impl Page {
         ensures { self.new ≡ self.old ++ lines_text (tables_of sys.now) number lines.now }
     {
         self.number.set(number);
-        self.end = put_event(sys, &self.number, lines, &mut self.bytes, self.end);
+        self.end = put_event(sys, &mut self.number, lines, &mut self.bytes, self.end);
     }
 
     /// How many bytes there are.

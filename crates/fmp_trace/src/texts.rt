@@ -123,6 +123,37 @@ fn append_hundreds(number: u32, line: &mut [u8], end: usize) -> usize
     )
 }
 
+/// A number of four digits.
+#[tactic(auto, using(crate::proofs::Hundreds::decimal_thousands))]
+fn append_thousands(number: u32, line: &mut [u8], end: usize) -> usize
+    requires least { 1000 ≤ number }
+    requires most { number < 10000 }
+    requires room { end + 16 ≤ length line.old }
+    ensures text { take result line.new ≡ take end line.old ++ decimal number }
+    ensures place { result ≡ end + length (decimal number) }
+{
+    append_array(
+        [
+            b'0' + (number / 1000) as u8,
+            b'0' + (number / 100 % 10) as u8,
+            b'0' + (number / 10 % 10) as u8,
+            b'0' + (number % 10) as u8,
+        ],
+        line,
+        end,
+    )
+}
+
+/// A number in decimal digits, of any number of digits.
+#[inline(never)]
+fn append_long_number(number: u32, line: &mut [u8], end: usize) -> usize
+    requires { end + 16 ≤ length line.old }
+    ensures text { take result line.new ≡ take end line.old ++ decimal number }
+    ensures place { result ≡ end + length (decimal number) }
+{
+    Numeral::new(number).append(line, end)
+}
+
 /// A number in decimal digits, of which there are several.
 #[tactic(auto, using(std::proofs::lemmas::Fmt::decimal_digit, std::proofs::lemmas::Fmt::decimal_step))]
 #[inline(never)]
@@ -142,7 +173,10 @@ fn append_digits(number: u32, line: &mut [u8], end: usize) -> usize
     if number < 1000 {
         return append_hundreds(number, line, end);
     }
-    Numeral::new(number).append(line, end)
+    if number < 10_000 {
+        return append_thousands(number, line, end);
+    }
+    append_long_number(number, line, end)
 }
 
 /// A number in decimal digits, at most ten.

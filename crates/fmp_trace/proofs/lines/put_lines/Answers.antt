@@ -26,12 +26,15 @@ loop-line-preserved c =
     let next : lines_text sys number (drop k lines) ≡ line_text sys number printed ++ rest =
     ap (λ (ls : List Line). lines_text sys number ls) (drop-cons lines k (line.Tick 0) (omega (arith, c.loop-line-test.true)))
     ∙ ap (λ (j : ℕ). line_text sys number printed ++ lines_text sys number (drop j lines)) one in
+    let put : take c.put_line-end.result c.put_line-end.new.line ≡ piece ++ line_text sys number printed =
+    c.put_line-end.ensures.text ∙ ap (λ (n : ℕ). piece ++ line_text sys n printed) i.same in
     let joined : before ++ (piece ++ (line_text sys number printed ++ rest)) ≡ whole =
     ap (λ (xs : List ℕ). before ++ (piece ++ xs)) (sym next) ∙ i.text in
     record {
+      same = c.put_line-end.ensures.kept ∙ i.same;
       text =
           left_behind before _ _ _ rest c.in_ok-end.ensures.text
-          ∙ one_more before piece (take c.put_line-end.result c.put_line-end.new.line) _ rest whole c.put_line-end.ensures.text joined;
+          ∙ one_more before piece (take c.put_line-end.result c.put_line-end.new.line) _ rest whole put joined;
       kept = begins_through i.kept c.make_room.ensures.kept;
       room = c.in_ok-end.ensures.room;
       size = omega (arith, i.size, c.put_line-end.ensures.short, c.in_ok-end.ensures.len);

@@ -14,9 +14,18 @@ invariant_of-result c =
     let count : length (decimal c.from.result) ≡ 16 - start = omega (arith, c.write_digits-start.ensures.start) in (
       omega (arith, some, count),
       omega (arith, few, count),
-      ap (take (16 - start)) c.copy_from_slice.ensures.after
+      search rules,
+      c.put_processor.ensures.digits
+          ∙ ap (take (16 - start)) c.copy_from_slice.ensures.after
           ∙ take-take (16 - start) (start + 16 - start) (drop start c.write_digits-start.new.buf) (omega arith)
           ∙ ap (take (16 - start)) c.write_digits-start.ensures.written
           ∙ take_at (decimal c.from.result) _ (16 - start) count
           ∙ ap decimal c.from.ensures,
+      c.put_processor.ensures.text,
     )
+
+pub put_processor-requires-clause-room : goal.put_processor-requires-clause-room
+put_processor-requires-clause-room c =
+    let few : length (decimal c.from.result) ≤ 10 = short_number c.from.result (search rules) in
+    let count : length (decimal c.from.result) ≡ 16 - c.write_digits-start.result = omega (arith, c.write_digits-start.ensures.start) in
+    omega (arith, few, count)
