@@ -30,6 +30,12 @@ exchanged_held xs i j x l n =
     let over : set (set xs i x) i (get_or xs j 0) ≡ set xs i (get_or xs j 0) = set-set xs i x (get_or xs j 0) in
     rw (here, there, over) refl
 
+-- it does not matter which of two slots is named first
+pub exchanged_twice : (xs : List ℕ) (i j : ℕ) → exchanged xs i j ≡ exchanged xs j i
+exchanged_twice xs i j = cases (same_or_not i j)
+    (λ (e : i ≡ j). (λ k. exchanged xs (e k) (sym e k)))
+    (λ n. set_comm xs i j (get_or xs j 0) (get_or xs i 0) n)
+
 -- and their ranks change places
 pub held_moved : (ranks : List ℕ) (i j rank : ℕ) → i < length ranks → j < length ranks → j ≢ i
     → Exchanged (λ k. get_or (set ranks i rank) k 0) (λ k. get_or (set (set ranks i (get_or ranks j 0)) j rank) k 0) i j

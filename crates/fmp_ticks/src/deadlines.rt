@@ -53,8 +53,11 @@ impl TickQueue {
         let stood = self.deadlines[t as usize].is_some();
         self.deadlines[t as usize] = Some(when);
         self.places.set_rank(slot, rank(Some(when), t));
-        let slot = if stood { slot } else { self.places.enter(slot) };
-        self.places.mend(slot, steps);
+        if stood {
+            self.places.mend(slot, steps);
+        } else {
+            self.places.enter(slot, steps);
+        }
     }
 
     /// A task that has a deadline has none any more.
@@ -68,9 +71,10 @@ impl TickQueue {
         let slot = self.places.slot_of(t);
         self.deadlines[t as usize] = None;
         self.places.set_rank(slot, rank(None, t));
-        self.places.leave(slot);
-        if slot < self.places.count() {
-            self.places.mend(slot, steps);
+        if slot + 1 < self.places.count() {
+            self.places.leave(slot, steps);
+        } else {
+            self.places.leave_end(slot);
         }
     }
 

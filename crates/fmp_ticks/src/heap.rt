@@ -1,5 +1,5 @@
 //! A heap of the tasks that have deadlines, in rows: the task and the rank at each slot, and the slot of each task.
-ghost use Rattle.std.specs.Prelude.{◌≡◌, ◌≢◌, ℕ, ◌+◌, ◌<◌, ◌≤◌, ◌*◌, length, nat_lt, slice_index, slice_set};
+ghost use Rattle.std.specs.Prelude.{◌≡◌, ◌≢◌, ℕ, ◌+◌, ◌-◌, ◌<◌, ◌≤◌, ◌*◌, length, nat_lt, slice_index, slice_set};
 ghost use Rattle.fmp_base.specs.Links.{AddsAtMost};
 ghost use Rattle.fmp_ticks.specs.Ranks.{rank as rank_of, rank_in, AreRowsFor, KeepRanks, IsHeap, IsOpenAt, IsHeapBelow};
 ghost use Rattle.fmp_ticks.specs.Slots.{Slots, AreInverse, exchanged, rows_of, held_at};
@@ -224,4 +224,71 @@ pub fn mend(
     let leaf = descend_last(slots, ranks, positions, count, low);
     let end = rise(slots, ranks, positions, leaf, held, steps);
     put(slots, ranks, positions, end, held);
+}
+
+/// The task at a slot outside the heap, which has this many slots, enters it and goes to where it belongs.
+#[inline(always)]
+pub fn enter(
+    slots: &mut [u8],
+    ranks: &mut [u64],
+    positions: &mut [u8],
+    count: usize,
+    slot: usize,
+    steps: &mut Steps,
+)
+    requires inverse { AreInverse slots.old positions.old }
+    requires long { length ranks.old ≡ length slots.old }
+    requires outside { count ≤ slot }
+    requires there { slot < length slots.old }
+    requires open { IsOpenAt (slice_index (exchanged ranks.old slot count)) (count + 1) (length slots.old) count }
+    requires inside { 1 ≤ slice_index (exchanged ranks.old slot count) count }
+    ensures inverse { AreInverse slots.new positions.new }
+    ensures slots { length slots.new ≡ length slots.old }
+    ensures long { length ranks.new ≡ length slots.new }
+    ensures ranks { KeepRanks (rows_of (exchanged slots.old slot count) (exchanged ranks.old slot count))
+        (rows_of slots.new ranks.new) }
+    ensures heap { IsHeap (slice_index ranks.new) (count + 1) (length slots.new) }
+    ensures steps { AddsAtMost 14 steps.old steps.new }
+{
+    let held = Held {
+        task: slots[slot],
+        rank: ranks[slot],
+    };
+    let moved = Held {
+        task: slots[count],
+        rank: ranks[count],
+    };
+    put(slots, ranks, positions, slot, moved);
+    let end = rise(slots, ranks, positions, count, held, steps);
+    put(slots, ranks, positions, end, held);
+}
+
+/// The task at a slot before the end of the heap, which has this many slots, leaves it, and the task at the end goes
+/// from there to where it belongs.
+#[inline(always)]
+pub fn leave(
+    slots: &mut [u8],
+    ranks: &mut [u64],
+    positions: &mut [u8],
+    count: usize,
+    slot: usize,
+    steps: &mut Steps,
+)
+    requires inverse { AreInverse slots.old positions.old }
+    requires long { length ranks.old ≡ length slots.old }
+    requires before { slot + 1 < count }
+    requires within { count ≤ length slots.old }
+    requires open { IsOpenAt (slice_index (exchanged ranks.old slot (count - 1))) (count - 1) (length slots.old) slot }
+    requires inside { 1 ≤ slice_index (exchanged ranks.old slot (count - 1)) slot }
+    ensures inverse { AreInverse slots.new positions.new }
+    ensures slots { length slots.new ≡ length slots.old }
+    ensures long { length ranks.new ≡ length slots.new }
+    ensures ranks { KeepRanks (rows_of (exchanged slots.old slot (count - 1)) (exchanged ranks.old slot (count - 1)))
+        (rows_of slots.new ranks.new) }
+    ensures heap { IsHeap (slice_index ranks.new) (count - 1) (length slots.new) }
+    ensures steps { AddsAtMost 14 steps.old steps.new }
+{
+    let end = count - 1;
+    exchange(slots, ranks, positions, slot, end);
+    mend(slots, ranks, positions, end, slot, steps);
 }
