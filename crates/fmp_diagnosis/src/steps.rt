@@ -10,7 +10,7 @@ use crate::words::{BYTE_ORDER_MARK, Word, say};
 use std::alloc::{AllocError, Global};
 
 /// What is wrong with a line of a steps text.
-#[derive(Clone, Copy, PartialEq, Eq)]
+#[derive(Clone, Copy)]
 pub enum StepFlaw {
     /// The line is no event.
     Form,

@@ -3,7 +3,7 @@ ghost use Rattle.std.specs.Prelude.{◌≡◌};
 ghost use Rattle.fmp_timeline.specs.Lanes as spec;
 
 /// How a task is there on a processor, over the events of a panel.
-#[derive(Clone, Copy, PartialEq, Eq)]
+#[derive(Clone, Copy)]
 pub struct Presence {
     /// It is assigned to the processor after some event of the panel.
     pub is_here: bool,
@@ -16,7 +16,7 @@ pub struct Presence {
 }
 
 /// What a panel shows of a task on a processor.
-#[derive(Clone, Copy, PartialEq, Eq)]
+#[derive(Clone, Copy)]
 pub enum Showing {
     /// A lane.
     Lane,

@@ -6,7 +6,7 @@ use fmp_base::{System, TaskConfig};
 use std::alloc::{AllocError, Global};
 
 /// The look of a task's bars.
-#[derive(Clone, Copy, PartialEq, Eq)]
+#[derive(Clone, Copy)]
 pub struct Look {
     /// The number of its colour, 0 to 7; the even ones are dark.
     pub colour: u8,

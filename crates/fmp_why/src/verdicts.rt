@@ -7,7 +7,7 @@ use crate::obstacles::Spin;
 use fmp_base::{Phase, TaskBlock};
 
 /// How the tasks of a system stand.
-#[derive(Clone, Copy, PartialEq, Eq)]
+#[derive(Clone, Copy)]
 pub enum Verdict {
     /// Every task is dormant.
     Ended,
