@@ -30,7 +30,8 @@ impl Model for Numeral {
 
     ghost view = { λ n. n.number };
 
-    ghost invariant = { λ n. (0 < n.count) × (n.count ≤ 10) × (n.processor < 9) × (take n.count n.bytes ≡ decimal n.number)
+    ghost invariant = { λ n. (0 < n.count) × (n.count ≤ 10) × (n.processor < 9)
+        × (take n.count n.bytes ≡ decimal n.number)
         × (take 4 (drop n.count n.bytes) ≡ processor_text n.processor) };
 }
 
