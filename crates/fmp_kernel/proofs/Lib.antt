@@ -1,6 +1,7 @@
 mod ActorLemmas
 mod ActorNone
 pub mod Crossing
+mod CountLemmas
 mod CyclicLemmas
 pub mod FrontLemmas
 mod PlaceLemmas

@@ -110,26 +110,25 @@ impl<B: Body> Runner<B> {
         ensures clock { self.new.world.state.clock ≡ self.old.world.state.clock }
     {
         self.caused.clear();
-        let own = match call(&mut self.tables, &mut self.caused, p, who, made) {
-            Answer::Replies(reply) => Line::Call {
+        match call(&mut self.tables, &mut self.caused, p, who, made) {
+            Answer::Replies(reply) => self.finish(Line::Call {
                 processor: p,
                 caller: who,
                 call: *made,
                 reply: Some(reply),
-            },
-            Answer::Waits => Line::Call {
+            }),
+            Answer::Waits => self.finish(Line::Call {
                 processor: p,
                 caller: who,
                 call: *made,
                 reply: None,
-            },
-            Answer::Ends => Line::End {
+            }),
+            Answer::Ends => self.finish(Line::End {
                 processor: p,
                 caller: who,
-            },
+            }),
             Answer::Spins => return Effect::Nothing,
-        };
-        self.finish(own);
+        }
         Effect::Done
     }
 

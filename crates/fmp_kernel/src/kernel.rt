@@ -54,11 +54,11 @@ impl<B: Body> Model for Kernel<B> {
 
     ghost Value = { KernelView B B.Ctx };
 
-    ghost view = { λ k. kernel_of k.runner k.stamps.counts k.done k.taken };
+    ghost view = { λ k. kernel_of k.runner k.stamps k.done k.taken };
 
     ghost invariant = { λ k. IsEarly k.runner.world.state.clock k.done k.taken
         × IsSettledWorld k.runner.system k.runner.world
-        × AreStamps k.stamps k.runner.system.processors k.runner.world.state k.taken };
+        × AreStamps k.stamps k.runner.system.processors k.taken };
 }
 
 impl<B: Body + Drop> Kernel<B> {
@@ -73,11 +73,10 @@ impl<B: Body + Drop> Kernel<B> {
         ensures { IfOk result
             (λ k. k ≡ view_of_setup body n (tables_of sys.now) (setup (tables_of sys.now) (B.meaning body))) }
     {
-        let mut stamps = Stamps::new(alloc, sys.processors)?;
+        let stamps = Stamps::new(alloc, sys.processors)?;
         let mut runner = Runner::new(alloc, body, sys, n)?;
         runner.set_up();
         runner.world_is_whole();
-        runner.see(&mut stamps);
         Ok(Kernel {
             runner,
             done: 0,
@@ -200,13 +199,13 @@ impl<B: Body> Kernel<B> {
             Effect::Nothing => Effect::Nothing,
             Effect::Kept => {
                 self.taken += 1;
-                self.runner.count_kept(&mut self.stamps, run_place(e));
+                self.stamps.count_kept(run_place(e));
                 Effect::Kept
             }
             Effect::Done => {
                 self.done += 1;
                 self.taken += 1;
-                self.runner.count(&mut self.stamps);
+                self.stamps.count(self.runner.lines(), run_place(e));
                 Effect::Done
             }
         }
@@ -232,13 +231,13 @@ impl<B: Body> Kernel<B> {
             Effect::Nothing => Effect::Nothing,
             Effect::Kept => {
                 self.taken += 1;
-                self.runner.count_kept(&mut self.stamps, Some(p - 1));
+                self.stamps.count_kept(Some(p - 1));
                 Effect::Kept
             }
             Effect::Done => {
                 self.done += 1;
                 self.taken += 1;
-                self.runner.count(&mut self.stamps);
+                self.stamps.count(self.runner.lines(), Some(p - 1));
                 Effect::Done
             }
         }

@@ -3,19 +3,15 @@ ghost use Rattle.std.specs.Prelude.{◌≡◌, ◌+◌, ◌≤◌, ◌<◌, ◌^
 ghost use Rattle.fmp_base.specs.Runs.{task_state, state_word as word_of_state};
 ghost use Rattle.fmp_base.specs.Ranges.{IsInRange};
 ghost use Rattle.fmp_base.specs.Setups.{created_state, first_contexts, setup};
-ghost use Rattle.fmp_base.specs.States.{processor_at};
-ghost use Rattle.fmp_base.specs.Settles.{is_same_task as is_same_place};
-ghost use Rattle.fmp_base.specs.Steps.{actor_of, finished};
+ghost use Rattle.fmp_base.specs.Steps.{finished};
 ghost use Rattle.fmp_base.specs.Systems.{tables_of};
 ghost use Rattle.fmp_contexts.specs.Contexts.{Entered};
 ghost use Rattle.fmp_kernel.specs.KernelViews.{SameBodies, done_of, progress_of, stamp_of, with_stamp};
-ghost use Rattle.fmp_kernel.specs.Stamps.{AreActors, AreCounted, is_given};
 ghost use Rattle.fmp_worlds.specs.Settled.{IsWorldOf};
-ghost use Rattle.fmp_worlds.specs.Stamps.{actor_at, place_run as place_of_lines};
+ghost use Rattle.fmp_worlds.specs.Stamps.{actor_at};
 
 use crate::actors::{Actor, actor_on};
 use crate::settling::{is_same_task, settle};
-use crate::stamps::{Stamps, place_run};
 use crate::starting::start_active;
 use fmp_base::{Body, Line, Phase, StateWord, System, TaskState};
 use fmp_contexts::{BodyContexts, carry_out, entry_of};
@@ -195,45 +191,6 @@ impl<B: Body> Runner<B> {
         } else {
             None
         }
-    }
-
-    /// The stamps see the actors that the processors have.
-    pub fn see(&self, stamps: &mut Stamps)
-        requires { length stamps.old.actors ≡ self.now.system.processors }
-        ensures counts { stamps.new.counts ≡ stamps.old.counts }
-        ensures actors { AreActors stamps.new.actors self.now.system.processors self.now.world.state }
-    {
-        stamps.see(&self.tables);
-    }
-
-    /// Counts the event that has just been done.
-    #[inline(always)]
-    pub fn count(&self, stamps: &mut Stamps)
-        requires many { length stamps.old.counts ≡ self.now.system.processors }
-        requires rows { length stamps.old.actors ≡ self.now.system.processors }
-        requires few { (p : ℕ) → get_or stamps.old.counts p 0 < 2 ^ 20 }
-        requires left { (p : ℕ) → p < length stamps.old.counts
-            → is_same_place (place_of_lines self.now.lines) (Some p) ≡ false → is_given p self.now.lines ≡ false
-            → get_or stamps.old.actors p None ≡ actor_of (processor_at self.now.world.state p) }
-        ensures counts { AreCounted stamps.old stamps.new self.now.world.state (place_of_lines self.now.lines) }
-        ensures actors { AreActors stamps.new.actors self.now.system.processors self.now.world.state }
-    {
-        let lines = self.lines.as_slice();
-        stamps.count(&self.tables, lines, place_run(lines));
-    }
-
-    /// Counts the event that has just kept a place, and ran this processor.
-    #[inline(always)]
-    pub fn count_kept(&self, stamps: &mut Stamps, ran: Option<u8>)
-        requires many { length stamps.old.counts ≡ self.now.system.processors }
-        requires rows { length stamps.old.actors ≡ self.now.system.processors }
-        requires few { (p : ℕ) → get_or stamps.old.counts p 0 < 2 ^ 20 }
-        requires left { (p : ℕ) → p < length stamps.old.counts
-            → get_or stamps.old.actors p None ≡ actor_of (processor_at self.now.world.state p) }
-        ensures counts { AreCounted stamps.old stamps.new self.now.world.state ran }
-        ensures actors { AreActors stamps.new.actors self.now.system.processors self.now.world.state }
-    {
-        stamps.count_kept(&self.tables, ran);
     }
 
     /// Ends an event or setup, of which the first lines are there: those of what it caused follow, all processors

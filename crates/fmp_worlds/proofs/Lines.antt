@@ -6,10 +6,12 @@ use Rattle.fmp_base.specs.declared.events.Line.TheVariants as line
 use Rattle.fmp_base.specs.States.{KernelState}
 use Rattle.fmp_worlds.proofs.Assigned.{Runs}
 
--- a line of a call from processor own: a task that starts was run by no other processor, and no handler begins
+-- a line of a call from processor own: a task that starts was run by no other processor, no handler begins, and no
+-- processor runs another task
 abbrev pub IsOwn : KernelState → ℕ → Line → Type 0
 IsOwn s own (line.Starts q t) = (r : ℕ) → Runs s.processors r t → own ≡ r
 IsOwn s own (line.Begins q h) = ⊥
+IsOwn s own (line.Runs q t) = ⊥
 IsOwn s own _ = Unit {0}
 
 pub all-snoc : {A : Type 0} (P : A → Type 0) (xs : List A) (x : A) → AllByRecursion P xs → P x → AllByRecursion P (xs ++ x ∷ [])

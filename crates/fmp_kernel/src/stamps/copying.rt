@@ -6,10 +6,9 @@ use crate::stamps::Stamps;
 impl Stamps {
     /// Puts the stamps of as many other processors in the place of these.
     pub fn put_back(&mut self, from: &Stamps)
-        requires { length self.old.counts ≡ length from.now.counts }
+        requires { length self.old ≡ length from.now }
         ensures { self.new ≡ from.now }
     {
-        self.actors.copy_from_slice(from.actors.as_slice());
         self.counts.copy_from_slice(from.counts.as_slice());
     }
 }

@@ -5,11 +5,10 @@ use Rattle.fmp_base.specs.Stretches.{ending}
 use Rattle.fmp_base.specs.Systems.{SystemTables}
 use Rattle.fmp_kernel.specs.KernelViews.{done_of, done_or}
 use Rattle.fmp_worlds.specs.Settled.{IsSettledWorld}
-use Rattle.fmp_worlds.specs.Stamps.{applied}
-use Rattle.fmp_kernel.specs.Stamps.{AreStamps}
-use Rattle.fmp_kernel.proofs.ActorLemmas.{left_applied, left_kept, ran-applied_by}
+use Rattle.fmp_worlds.specs.Stamps.{applied, place_run}
+use Rattle.fmp_kernel.proofs.ActorLemmas.{applied-stamps, ran-applied_by}
 use Rattle.fmp_kernel.proofs.FrontLemmas.{RanOn}
-use Rattle.fmp_kernel.proofs.StampLemmas.{below, stamped_is, stamps_after, view_done, view_kept, view_nothing}
+use Rattle.fmp_kernel.proofs.StampLemmas.{below, kept_is, stamps_after, view_done, view_kept, view_nothing}
 use Rattle.fmp_kernel.proofs.StepLemmas.{kept_after_stretch, settled_applied, same_after, by_number}
 use Rattle.fmp_kernel.proofs.kernel.Kernel.apply.Goals as goal
 
@@ -20,7 +19,7 @@ returns-in-Nothing-clause-state g c =
     let x = applied r.system (g.B.Body.meaning r.body) r.world c.args.p (ending c.args.s) in
     let e = c.apply-effect.ensures in
     let n = by_number r.system (g.B.Body.meaning r.body) r.world c.args.p (ending c.args.s) (omega arith) in
-    rw (← c.self.view_is) (view_nothing x r c.apply-effect.new.self k.stamps.counts k.done k.taken (sym c.in-Nothing.is ∙ e.effect ∙ ap effect_of n) (e.after ∙ ap (done_or (done_of r)) n) e.bodies)
+    rw (← c.self.view_is) (view_nothing x r c.apply-effect.new.self k.stamps k.done k.taken (sym c.in-Nothing.is ∙ e.effect ∙ ap effect_of n) (e.after ∙ ap (done_or (done_of r)) n) e.bodies)
 
 pub returns-in-Done-clause-state : goal.returns-in-Done-clause-state
 returns-in-Done-clause-state g c =
@@ -29,30 +28,14 @@ returns-in-Done-clause-state g c =
     let x = applied r.system (g.B.Body.meaning r.body) r.world c.args.p (ending c.args.s) in
     let e = c.apply-effect.ensures in
     let n = by_number r.system (g.B.Body.meaning r.body) r.world c.args.p (ending c.args.s) (omega arith) in
-    rw (← c.self.view_is) (view_done x r c.apply-effect.new.self k.stamps.counts c.count.new.stamps.counts k.done k.taken
+    rw (← c.self.view_is) (view_done x r c.apply-effect.new.self k.stamps c.count.new.self k.done k.taken
     (sym c.in-Done.is ∙ e.effect ∙ ap effect_of n) (e.after ∙ ap (done_or (done_of r)) n) e.bodies
-    (stamped_is k.stamps c.count.new.stamps _ k.taken _ _ _ c.self.invariant.2 c.count.ensures.counts))
-
-pub count-requires-clause-many : goal.count-requires-clause-many
-count-requires-clause-many g c =
-    let a = c.self.invariant.2 in
-    a.many ∙ ap (λ (s : SystemTables). s.processors) (sym c.apply-effect.ensures.bodies.system)
+    (applied-stamps r.system (g.B.Body.meaning r.body) (done_of r) (done_of c.apply-effect.new.self) _ (ending c.args.s) k.stamps c.count.new.self c.self.invariant.1
+    (sym c.in-Done.is ∙ e.effect) e.after (rw (← c.lines.ensures.lines) c.count.ensures)))
 
 pub count-requires-clause-few : goal.count-requires-clause-few
 count-requires-clause-few g c =
-    below _ _ _ _ c.self.invariant.2 (rw (← c.self.view_is) at c.requires.early)
-
-pub count-requires-clause-rows : goal.count-requires-clause-rows
-count-requires-clause-rows g c =
-    let a = c.self.invariant.2 in
-    a.actors.long ∙ ap (λ (s : SystemTables). s.processors) (sym c.apply-effect.ensures.bodies.system)
-
-pub count-requires-clause-left : goal.count-requires-clause-left
-count-requires-clause-left g c =
-    let r = c.self.inside.runner in
-    let e = c.apply-effect.ensures in
-    left_applied r.system (g.B.Body.meaning r.body) (done_of r) (done_of c.apply-effect.new.self) _ (ending c.args.s) c.self.inside.stamps r.system.processors c.self.inside.taken c.self.invariant.2
-    (sym c.in-Done.is ∙ e.effect) e.after
+    below _ _ _ c.self.invariant.2 (rw (← c.self.view_is) at c.requires.early)
 
 pub invariant_of-self-in-Done : goal.invariant_of-self-in-Done
 invariant_of-self-in-Done g c =
@@ -66,8 +49,9 @@ invariant_of-self-in-Done g c =
       record { time = omega (arith, early.time, e.clock); few = omega (arith, early.few); early = omega (arith, few) },
       rw e.bodies.system (settled_applied sys (g.B.Body.meaning r.body) (done_of r) (done_of c.apply-effect.new.self) _ (ending c.args.s) settled
           (rw (← e.bodies.system) c.world_is_whole.ensures) e.after),
-      rw e.bodies.system (stamps_after k.stamps c.count.new.stamps sys.processors k.taken r.world.state c.apply-effect.new.self.world.state _ stamps c.count.ensures.counts
-          (rw (← e.bodies.system) c.count.ensures.actors)),
+      rw e.bodies.system (stamps_after k.stamps c.count.new.self sys.processors k.taken (place_run c.apply-effect.new.self.lines) r.world.state c.apply-effect.new.self.world.state stamps
+          (applied-stamps r.system (g.B.Body.meaning r.body) (done_of r) (done_of c.apply-effect.new.self) _ (ending c.args.s) k.stamps c.count.new.self c.self.invariant.1
+          (sym c.in-Done.is ∙ e.effect) e.after (rw (← c.lines.ensures.lines) c.count.ensures))),
     )
 
 pub invariant_of-self : goal.invariant_of-self
@@ -80,7 +64,7 @@ invariant_of-self g c =
     let same = e.after ∙ same_after _ (done_of r) (sym c.in-Nothing.is ∙ e.effect) in (
       record { time = omega (arith, early.time, e.clock); few = early.few; early = early.early },
       rw e.bodies.system (subst (λ (d : Done _). IsSettledWorld sys d.world) (sym same) settled),
-      rw e.bodies.system (subst (λ (d : Done _). AreStamps k.stamps sys.processors d.world.state k.taken) (sym same) stamps),
+      rw e.bodies.system stamps,
     )
 
 pub returns-in-Kept-clause-state : goal.returns-in-Kept-clause-state
@@ -92,35 +76,18 @@ returns-in-Kept-clause-state g c =
     let e = c.apply-effect.ensures in
     let n = by_number r.system M r.world c.args.p (ending c.args.s) (omega arith) in
     let ran = Some (c.args.p - 1) in
-    rw (← c.self.view_is) (view_kept x r c.apply-effect.new.self k.stamps.counts c.count_kept.new.stamps.counts k.done k.taken ran
+    rw (← c.self.view_is) (view_kept x r c.apply-effect.new.self k.stamps c.count_kept.new.self k.done k.taken ran
     (sym c.in-Kept.is ∙ e.effect ∙ ap effect_of n)
     (subst (λ (y : Reaction _). RanOn ran y) n
     (ran-applied_by r.system M r.world (c.args.p - 1) (actor_of (processor_at r.world.state (c.args.p - 1))) (ending c.args.s)))
     (e.after ∙ ap (done_or (done_of r)) n) e.bodies
-    (stamped_is k.stamps c.count_kept.new.stamps _ k.taken _ _ ran c.self.invariant.2 c.count_kept.ensures.counts))
-
-pub count_kept-requires-clause-many : goal.count_kept-requires-clause-many
-count_kept-requires-clause-many g c =
-    let a = c.self.invariant.2 in
-    a.many ∙ ap (λ (s : SystemTables). s.processors) (sym c.apply-effect.ensures.bodies.system)
-
-pub count_kept-requires-clause-few : goal.count_kept-requires-clause-few
-count_kept-requires-clause-few g c =
-    below _ _ _ _ c.self.invariant.2 (rw (← c.self.view_is) at c.requires.early)
-
-pub count_kept-requires-clause-rows : goal.count_kept-requires-clause-rows
-count_kept-requires-clause-rows g c =
-    let a = c.self.invariant.2 in
-    a.actors.long ∙ ap (λ (s : SystemTables). s.processors) (sym c.apply-effect.ensures.bodies.system)
-
-pub count_kept-requires-clause-left : goal.count_kept-requires-clause-left
-count_kept-requires-clause-left g c =
-    let k = c.self.inside in
-    let r = k.runner in
-    let e = c.apply-effect.ensures in
-    left_kept k.stamps r.system.processors k.taken r.world.state c.apply-effect.new.self.world.state c.self.invariant.2
+    (kept_is k.stamps c.count_kept.new.self ran r.world.state c.apply-effect.new.self.world.state
     (kept_after_stretch r.system (g.B.Body.meaning r.body) (done_of r) (done_of c.apply-effect.new.self) _ (ending c.args.s)
-    (sym c.in-Kept.is ∙ e.effect) e.after)
+    (sym c.in-Kept.is ∙ e.effect) e.after) c.count_kept.ensures))
+
+pub count_kept-requires : goal.count_kept-requires
+count_kept-requires g c =
+    below _ _ _ c.self.invariant.2 (rw (← c.self.view_is) at c.requires.early)
 
 pub invariant_of-self-in-Kept : goal.invariant_of-self-in-Kept
 invariant_of-self-in-Kept g c =
@@ -133,6 +100,8 @@ invariant_of-self-in-Kept g c =
       record { time = omega (arith, early.time, e.clock); few = omega (arith, early.few); early = omega (arith, few) },
       rw e.bodies.system (settled_applied sys (g.B.Body.meaning r.body) (done_of r) (done_of c.apply-effect.new.self) _ (ending c.args.s) settled
           (rw (← e.bodies.system) c.world_is_whole.ensures) e.after),
-      rw e.bodies.system (stamps_after k.stamps c.count_kept.new.stamps sys.processors k.taken r.world.state c.apply-effect.new.self.world.state _ stamps c.count_kept.ensures.counts
-          (rw (← e.bodies.system) c.count_kept.ensures.actors)),
+      rw e.bodies.system (stamps_after k.stamps c.count_kept.new.self sys.processors k.taken (Some (c.args.p - 1)) r.world.state c.apply-effect.new.self.world.state stamps
+          (kept_is k.stamps c.count_kept.new.self (Some (c.args.p - 1)) r.world.state c.apply-effect.new.self.world.state
+          (kept_after_stretch r.system (g.B.Body.meaning r.body) (done_of r) (done_of c.apply-effect.new.self) _ (ending c.args.s)
+          (sym c.in-Kept.is ∙ e.effect) e.after) c.count_kept.ensures)),
     )

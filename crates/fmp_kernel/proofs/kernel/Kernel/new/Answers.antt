@@ -19,10 +19,10 @@ invariant_of-result g c =
     let same : now.system.processors ≡ c.args.sys.now.processors =
     ap (λ (s : SystemTables). s.processors) c.set_up.ensures.bodies.system
     ∙ ap (λ (v : RunnerView _ _). v.system.processors) c.in_ok-runner.ensures in
-    let counts = c.see.ensures.counts ∙ c.in_ok-stamps.ensures.counts ∙ ap (λ (n : ℕ). replicate n 0) (sym same) in (
+    let counts = c.in_ok-stamps.ensures ∙ ap (λ (n : ℕ). replicate n 0) (sym same) in (
       record { time = omega (arith, c.set_up.ensures.clock); few = omega arith; early = omega arith },
       rw c.set_up.ensures.bodies.system settled,
-      stamps_begin c.see.new.stamps _ _ counts c.see.ensures.actors,
+      stamps_begin c.in_ok-stamps.stamps _ counts,
     )
 
 pub new-requires-2-clause-entries : goal.new-requires-2-clause-entries
