@@ -5,8 +5,8 @@
 
 Both find something or nothing. Where they find something, their shortest lists of events are as long, each event of the
 program's list does something in the model, and the last one shows there what was found; where they find nothing, they
-have seen as many states and as many events that did something. Every other system runs at a small bound. Systems with
-more than MOST states are counted and left out.
+have seen as many states and as many events that did something. Every other system runs at a small bound. COUNT is the
+number of systems that were compared: systems with more than MOST states are left out.
 """
 
 import re
@@ -19,6 +19,7 @@ sys.path[0] = str(Path(__file__).resolve().parents[1])  # the folder `checks`, w
 
 from model.harness import SECONDS, expect, main, replayed  # noqa: E402
 from model.schedules import Search, goes_on_for_ever, is_deadlock, tells  # noqa: E402
+from model.systems import Generator  # noqa: E402
 
 MOST = 1_000
 BOUND = 12  # the greatest small bound
@@ -74,14 +75,17 @@ def compare(trial, case, bound):
 
 
 def check(trial):
-    """Compares the searches on each system of the newest version of images."""
-    compared = 0
-    for seed, generator in trial.systems():
-        case = generator.case()
+    """Takes systems of the newest version of images until as many as are asked for were compared."""
+    compared, seed = 0, trial.seed
+    while compared < trial.count:
+        trial.at = f"seed {seed}: "
+        case = Generator(seed, trial.version).case()
         trial.build(case.configuration, case.source)
         case.system.queue_limit = 255
         compared += compare(trial, case, trial.bound(seed, BOUND))
-    print(f"checks/model/explore.py: {compared} of {trial.count} systems were compared: both searches agree")
+        seed += 1
+    trial.at = ""
+    print(f"checks/model/explore.py: {compared} of {seed - trial.seed} systems were compared: both searches agree")
 
 
 if __name__ == "__main__":
