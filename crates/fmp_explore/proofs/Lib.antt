@@ -1,6 +1,7 @@
 pub mod EndlessLemmas
 pub mod Following
 pub mod ForbiddenLemmas
+pub mod LadderLemmas
 pub mod MarkLemmas
 pub mod NextLemmas
 pub mod PlaceLemmas

@@ -2,6 +2,7 @@ pub mod Endless
 pub mod Findings
 pub mod Followed
 pub mod Forbidden
+pub mod Ladders
 pub mod Places
 pub mod Rules
 pub mod Searching

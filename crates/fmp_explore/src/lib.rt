@@ -6,6 +6,7 @@ mod coverage;
 mod endless;
 mod exploring;
 mod finding;
+mod ladder;
 mod notes;
 mod placing;
 mod question;

@@ -1,6 +1,8 @@
 //! The kernel of an image after a list of events.
 ghost use Rattle.std.specs.Prelude.{◌≡◌, ◌<◌, ◌^◌, [], IsTrue};
+ghost use Rattle.fmp_base.specs.Steps.{step};
 ghost use Rattle.fmp_drive.specs.Driving.{HasTaken};
+ghost use Rattle.fmp_kernel.specs.KernelViews.{view_after};
 ghost use Rattle.fmp_replay.specs.Replays.{kernel_after};
 ghost use Rattle.fmp_explore.specs.Followed.{IsFollowed};
 
@@ -13,9 +15,11 @@ use fmp_kernel::{Body, Kernel};
 pub const TAKEN_MOST: u32 = 1 << 20;
 
 /// Takes an event: whether it does something.
-fn does<B: Body>(kernel: &mut Kernel<B>, e: Event) -> bool
+pub fn does<B: Body>(kernel: &mut Kernel<B>, e: Event) -> bool
     requires { kernel.old.taken < 2 ^ 20 }
-    ensures { IsTrue result → HasTaken B.meaning kernel.old kernel.new e }
+    ensures taken { IsTrue result → HasTaken B.meaning kernel.old kernel.new e }
+    ensures view { kernel.new ≡ view_after kernel.old
+        (step kernel.old.system (B.meaning kernel.old.body) kernel.old.bound kernel.old.world e) }
 {
     match kernel.step(e) {
         Effect::Nothing => false,

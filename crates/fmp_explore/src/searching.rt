@@ -1,9 +1,10 @@
-//! The search: breadth first over the states of a system, each reached again from setup by the events that lead to it.
+//! The search: breadth first over the states of a system, each reached again from the kernels kept along the last path.
 ghost use Rattle.std.specs.Prelude.{◌≡◌, ◌≢◌, ◌+◌, ◌<◌, ◌≤◌, [], ◌∷◌, ◌++◌, IfNone, IfOk, IfSome, IsTrue, OnOk, false, length, true};
 ghost use Rattle.fmp_base.specs.Steps.{Nothing};
 ghost use Rattle.fmp_replay.specs.Replays.{kernel_after, reaction};
 ghost use Rattle.fmp_seen.specs.Links.{path_of};
 ghost use Rattle.fmp_explore.specs.Followed.{IsFollowed};
+ghost use Rattle.fmp_explore.specs.Ladders.{IsBare, IsLadder, IsOver};
 ghost use Rattle.fmp_explore.specs.Searching.{
   AreMarks,
   Grows,
@@ -22,9 +23,9 @@ ghost use Rattle.fmp_explore.specs.States.{AreFew, MayCome};
 ghost use Rattle.fmp_explore.specs.Tries.{all_tries};
 
 use crate::finding::Sight;
+use crate::ladder::Ladder;
 use crate::notes::Path;
 use crate::question::Ticks;
-use crate::replaying::follow;
 use crate::standing::stands_still;
 use crate::stretching::{next_stretch, task_sites};
 use crate::subject::Subject;
@@ -33,7 +34,6 @@ use crate::trying::{Attempt, DEEPEST, Marks};
 use fmp_base::{Effect, Event};
 use fmp_code::Vm;
 use fmp_kernel::Kernel;
-use fmp_replay::kernel_of;
 use fmp_seen::Link;
 use std::alloc::{AllocError, Global};
 
@@ -93,6 +93,7 @@ fn has_done(effect: Effect) -> bool
 
 impl Survey {
     /// Tries an event on a kernel in its state: whether it does something.
+    #[tactic(auto, using(crate::proofs::LadderLemmas::over_step))]
     fn attempt<'a>(
         &mut self,
         alloc: Global,
@@ -109,6 +110,7 @@ impl Survey {
         ensures still { IfOk result (λ did. did ≡ false → kernel.new ≡ kernel.old) }
         ensures does { IfOk result (λ did. did ≡ true →
             reaction subject.now.image.now subject.now.n attempt.entry.steps.now attempt.entry.event ≢ Nothing) }
+        ensures over { IsOver subject.now.image.now subject.now.n kernel.new }
     {
         let stretch = next_stretch(kernel, &subject.image.vm(), subject.n, attempt.event);
         let effect = kernel.step(attempt.event);
@@ -117,6 +119,7 @@ impl Survey {
     }
 
     /// Tries the event at a place of those that are tried, if it may come now: whether it does something.
+    #[tactic(auto, using(crate::proofs::LadderLemmas::over_after))]
     fn try_at<'a>(
         &mut self,
         alloc: Global,
@@ -135,6 +138,7 @@ impl Survey {
             steps.now marks.new (place + 1) self.new) }
         ensures grows { OnOk result (Grows self.old self.new) }
         ensures still { IfOk result (λ did. did ≡ false → kernel.new ≡ kernel.old) }
+        ensures over { IsOver subject.now.image.now subject.now.n kernel.new }
     {
         let event = self.tries[place];
         if !may_come(subject, steps, *marks, event) {
@@ -156,6 +160,7 @@ impl Survey {
 
     /// Tries the events from this place on, in the state of a kernel to which these steps led, until one does
     /// something. Gives the place behind it, or behind the last.
+    #[tactic(auto, using(crate::proofs::LadderLemmas::over_after))]
     fn try_from<'a>(
         &mut self,
         alloc: Global,
@@ -173,6 +178,7 @@ impl Survey {
         ensures tried { IfOk result (HasTried subject.now.image.now subject.now.n subject.now.question.now state
             steps.now marks.new self.old self.new) }
         ensures above { IfOk result (λ next. first < next) }
+        ensures over { IsOver subject.now.image.now subject.now.n kernel.new }
     {
         let end = self.tries.len();
         for place in first..end {
@@ -183,11 +189,12 @@ impl Survey {
         Ok(end)
     }
 
-    /// The same on a kernel that was just set up, from which these steps lead to the state.
+    /// The same, on a kernel that is first put back into the state that `from` is in.
     fn try_on<'a>(
         &mut self,
         alloc: Global,
         subject: &Subject<'a>,
+        from: &Kernel<Vm<'a>>,
         kernel: &mut Kernel<Vm<'a>>,
         state: u32,
         steps: &[Event],
@@ -197,87 +204,66 @@ impl Survey {
         requires first { first < length self.old.tries.items }
         requires trying { IsTrying subject.now.image.now subject.now.n subject.now.question.now state steps.now
             marks.old first self.old }
-        requires kernel { kernel.old ≡ kernel_after subject.now.image.now subject.now.n [] }
+        requires followed { IsFollowed subject.now.image.now subject.now.n steps.now from.now }
+        requires over { IsOver subject.now.image.now subject.now.n kernel.old }
         ensures tried { IfOk result (HasTried subject.now.image.now subject.now.n subject.now.question.now state
             steps.now marks.new self.old self.new) }
         ensures above { IfOk result (λ next. first < next) }
+        ensures over { IsOver subject.now.image.now subject.now.n kernel.new }
     {
-        if !follow(kernel, subject.image, subject.n, steps) {
-            self.sure = false;
-            return Ok(self.tries.len());
-        }
-        task_sites(kernel, subject.image.system(), &mut self.notes.sites)?;
+        kernel.put_back(from);
         self.try_from(alloc, subject, kernel, state, steps, marks, first)
     }
 
-    /// The same on a kernel of its own.
-    fn try_next(
+    /// Tries each event in the state to which these steps lead, in which `from` is: what was done there.
+    fn try_all<'a>(
         &mut self,
         alloc: Global,
-        subject: &Subject<'_>,
-        state: u32,
-        steps: &[Event],
-        marks: &mut Marks,
-        first: usize,
-    ) -> Result<usize, AllocError>
-        requires first { first < length self.old.tries.items }
-        requires trying { IsTrying subject.now.image.now subject.now.n subject.now.question.now state steps.now
-            marks.old first self.old }
-        ensures tried { IfOk result (HasTried subject.now.image.now subject.now.n subject.now.question.now state
-            steps.now marks.new self.old self.new) }
-        ensures above { IfOk result (λ next. first < next) }
-    {
-        let mut kernel = kernel_of(alloc, subject.image, subject.n)?;
-        self.try_on(alloc, subject, &mut kernel, state, steps, marks, first)
-    }
-
-    /// Tries each event in the state to which these steps lead: what was done there.
-    fn try_all(
-        &mut self,
-        alloc: Global,
-        subject: &Subject<'_>,
+        subject: &Subject<'a>,
+        from: &Kernel<Vm<'a>>,
+        kernel: &mut Kernel<Vm<'a>>,
         state: u32,
         steps: &[Event],
     ) -> Result<Marks, AllocError>
         requires survey { IsSurvey subject.now.image.now subject.now.n subject.now.question.now self.old }
         requires at { IsAt self.old.seen.links state steps.now }
-        ensures { IfOk result (λ marks. HasTried subject.now.image.now subject.now.n subject.now.question.now state
-            steps.now marks self.old self.new (length (all_tries subject.now.image.now.system))) }
+        requires followed { IsFollowed subject.now.image.now subject.now.n steps.now from.now }
+        requires over { IsOver subject.now.image.now subject.now.n kernel.old }
+        ensures tried { IfOk result (λ marks. HasTried subject.now.image.now subject.now.n subject.now.question.now
+            state steps.now marks self.old self.new (length (all_tries subject.now.image.now.system))) }
+        ensures over { IsOver subject.now.image.now subject.now.n kernel.new }
     {
         let mut marks = Marks {
             idle: true,
             interrupted: false,
         };
+        task_sites(from, subject.image.system(), &mut self.notes.sites)?;
         let end = self.tries.len();
         let mut next = 0;
         for _try in 0..end {
             if next >= end {
                 return Ok(marks);
             }
-            next = self.try_next(alloc, subject, state, steps, &mut marks, next)?;
+            next = self.try_on(alloc, subject, from, kernel, state, steps, &mut marks, next)?;
         }
         Ok(marks)
     }
 
     /// Looks whether the state of a kernel, in which no processor can do anything, is a deadlock, or waits for an
     /// interrupt.
-    fn look_on<'a>(
+    fn look(
         &mut self,
         alloc: Global,
-        subject: &Subject<'a>,
-        kernel: &mut Kernel<Vm<'a>>,
+        subject: &Subject<'_>,
+        kernel: &Kernel<Vm<'_>>,
         steps: &[Event],
         marks: Marks,
     ) -> Result<(), AllocError>
-        requires kernel { kernel.old ≡ kernel_after subject.now.image.now subject.now.n [] }
+        requires followed { IsFollowed subject.now.image.now subject.now.n steps.now kernel.now }
         requires marks { AreMarks subject.now.image.now subject.now.n subject.now.question.now steps.now marks }
         ensures { OnOk result (HasLooked subject.now.image.now subject.now.n subject.now.question.now self.old
             self.new steps.now) }
     {
-        if !follow(kernel, subject.image, subject.n, steps) {
-            self.sure = false;
-            return Ok(());
-        }
         if !stands_still(kernel, subject.question) {
             return Ok(());
         }
@@ -290,73 +276,71 @@ impl Survey {
         self.notes.note_sight(alloc, path, Sight::Deadlock, None)
     }
 
-    /// Looks whether the state to which these steps lead is a deadlock.
-    fn look(
-        &mut self,
-        alloc: Global,
-        subject: &Subject<'_>,
-        steps: &[Event],
-        marks: Marks,
-    ) -> Result<(), AllocError>
-        requires { AreMarks subject.now.image.now subject.now.n subject.now.question.now steps.now marks }
-        ensures { OnOk result (HasLooked subject.now.image.now subject.now.n subject.now.question.now self.old
-            self.new steps.now) }
-    {
-        let mut kernel = kernel_of(alloc, subject.image, subject.n)?;
-        self.look_on(alloc, subject, &mut kernel, steps, marks)
-    }
-
     /// Looks whether the state to which these steps lead, in which this was done, is a deadlock.
     fn look_if_idle(
         &mut self,
         alloc: Global,
         subject: &Subject<'_>,
+        kernel: &Kernel<Vm<'_>>,
         steps: &[Event],
         marks: Marks,
     ) -> Result<(), AllocError>
-        requires { AreMarks subject.now.image.now subject.now.n subject.now.question.now steps.now marks }
+        requires followed { IsFollowed subject.now.image.now subject.now.n steps.now kernel.now }
+        requires marks { AreMarks subject.now.image.now subject.now.n subject.now.question.now steps.now marks }
         ensures { OnOk result (HasLooked subject.now.image.now subject.now.n subject.now.question.now self.old
             self.new steps.now) }
     {
         if marks.idle {
-            self.look(alloc, subject, steps, marks)
+            self.look(alloc, subject, kernel, steps, marks)
         } else {
             Ok(())
         }
     }
 
     /// Examines the state to which these steps lead: tries each event in it, and looks whether it is a deadlock.
-    fn examine_after(
+    fn examine_on<'a>(
         &mut self,
         alloc: Global,
-        subject: &Subject<'_>,
+        subject: &Subject<'a>,
+        from: &Kernel<Vm<'a>>,
+        kernel: &mut Kernel<Vm<'a>>,
         state: u32,
         steps: &[Event],
     ) -> Result<(), AllocError>
         requires survey { IsSurvey subject.now.image.now subject.now.n subject.now.question.now self.old }
         requires at { IsAt self.old.seen.links state steps.now }
-        ensures { OnOk result (HasExamined subject.now.image.now subject.now.n subject.now.question.now self.old
-            self.new steps.now) }
+        requires followed { IsFollowed subject.now.image.now subject.now.n steps.now from.now }
+        requires over { IsOver subject.now.image.now subject.now.n kernel.old }
+        ensures examined { OnOk result (HasExamined subject.now.image.now subject.now.n subject.now.question.now
+            self.old self.new steps.now) }
+        ensures over { IsOver subject.now.image.now subject.now.n kernel.new }
     {
         subject.image.keeps_rules();
-        let marks = self.try_all(alloc, subject, state, steps)?;
-        self.look_if_idle(alloc, subject, steps, marks)
+        let marks = self.try_all(alloc, subject, from, kernel, state, steps)?;
+        self.look_if_idle(alloc, subject, from, steps, marks)
     }
 
     /// Examines a state.
-    fn examine(
+    fn examine<'a>(
         &mut self,
         alloc: Global,
-        subject: &Subject<'_>,
+        subject: &Subject<'a>,
+        ladder: &mut Ladder<'a>,
         state: u32,
     ) -> Result<(), AllocError>
         requires survey { IsSurvey subject.now.image.now subject.now.n subject.now.question.now self.old }
         requires at { IsAt self.old.seen.links state (path_of self.old.seen.links state) }
-        ensures { OnOk result (HasExamined subject.now.image.now subject.now.n subject.now.question.now self.old
-            self.new (path_of self.old.seen.links state)) }
+        requires ladder { IsLadder subject.now.image.now subject.now.n ladder.old }
+        ensures examined { OnOk result (HasExamined subject.now.image.now subject.now.n subject.now.question.now
+            self.old self.new (path_of self.old.seen.links state)) }
+        ensures ladder { OnOk result (IsLadder subject.now.image.now subject.now.n ladder.new) }
     {
         let steps = self.seen.path(alloc, state)?;
-        self.examine_after(alloc, subject, state, &steps)
+        if !ladder.reach(alloc, subject.image, subject.n, &steps)? {
+            self.sure = false;
+            return Ok(());
+        }
+        self.examine_on(alloc, subject, &ladder.top, &mut ladder.work, state, &steps)
     }
 
     /// Why the search ends before the state at a place, if it does.
@@ -395,13 +379,15 @@ impl Survey {
     }
 
     /// Examines the states in order until none is left, or the search ends. `AllocError` if memory runs out.
-    pub fn run<W: Watcher>(
+    fn examine_all<'a, W: Watcher>(
         &mut self,
         alloc: Global,
-        subject: &Subject<'_>,
+        subject: &Subject<'a>,
+        ladder: &mut Ladder<'a>,
         watcher: &mut W,
     ) -> Result<Ending, AllocError>
-        requires { IsBegun subject.now.image.now subject.now.n subject.now.question.now self.old }
+        requires begun { IsBegun subject.now.image.now subject.now.n subject.now.question.now self.old }
+        requires ladder { IsLadder subject.now.image.now subject.now.n ladder.old }
         ensures { IfOk result (λ ending. ending ≡ Ending.Whole → self.new.sure ≡ true →
             NothingIsFound subject.now.image.now subject.now.n subject.now.question.now) }
     {
@@ -414,9 +400,43 @@ impl Survey {
             if let Some(ending) = self.ending_before(subject, link) {
                 return Ok(ending);
             }
-            self.examine(alloc, subject, i)?;
+            self.examine(alloc, subject, ladder, i)?;
             told = self.tell(watcher, told, i as usize + 1);
         }
         Ok(Ending::States)
+    }
+
+    /// The same, with a ladder that keeps no kernel yet.
+    #[tactic(none)]
+    fn run_on<'a, W: Watcher>(
+        &mut self,
+        alloc: Global,
+        subject: &Subject<'a>,
+        ladder: &mut Ladder<'a>,
+        watcher: &mut W,
+    ) -> Result<Ending, AllocError>
+        requires begun { IsBegun subject.now.image.now subject.now.n subject.now.question.now self.old }
+        requires bare { IsBare subject.now.image.now subject.now.n ladder.old }
+        ensures { IfOk result (λ ending. ending ≡ Ending.Whole → self.new.sure ≡ true →
+            NothingIsFound subject.now.image.now subject.now.n subject.now.question.now) }
+    {
+        ladder.begin(alloc, subject.image, subject.n)?;
+        self.examine_all(alloc, subject, ladder, watcher)
+    }
+
+    /// Examines the states in order until none is left, or the search ends. `AllocError` if memory runs out.
+    #[tactic(none)]
+    pub fn run<W: Watcher>(
+        &mut self,
+        alloc: Global,
+        subject: &Subject<'_>,
+        watcher: &mut W,
+    ) -> Result<Ending, AllocError>
+        requires { IsBegun subject.now.image.now subject.now.n subject.now.question.now self.old }
+        ensures { IfOk result (λ ending. ending ≡ Ending.Whole → self.new.sure ≡ true →
+            NothingIsFound subject.now.image.now subject.now.n subject.now.question.now) }
+    {
+        let mut ladder = Ladder::new(alloc, subject.image, subject.n)?;
+        self.run_on(alloc, subject, &mut ladder, watcher)
     }
 }

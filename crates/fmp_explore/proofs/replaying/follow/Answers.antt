@@ -9,7 +9,7 @@ pub loop-e-preserved : goal.loop-e-preserved
 loop-e-preserved c =
     let yes : IsTrue c.does.result = search rules in
     followed_step c.args.image.now c.args.n c.args.steps.now c.loop-e.e-index _ c.loop-e.kernel c.does.new.kernel
-    c.loop-e.invariant c.loop-e-test.true (c.does.ensures yes)
+    c.loop-e.invariant c.loop-e-test.true (c.does.ensures.taken yes)
 
 pub returns : goal.returns
 returns c = λ _.

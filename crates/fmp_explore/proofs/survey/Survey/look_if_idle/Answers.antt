@@ -8,5 +8,5 @@ returns-else-marks c =
     record {
       stays = record { tries = refl; rows = refl; seen = refl; sure = λ e. e };
       free = λ _ d.
-          running_free s.image.now s.n s.question.now c.args.steps.now c.args.marks c.requires c.if-marks.false d;
+          running_free s.image.now s.n s.question.now c.args.steps.now c.args.marks c.requires.marks c.if-marks.false d;
     }

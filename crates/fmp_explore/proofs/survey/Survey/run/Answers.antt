@@ -1,22 +1,20 @@
-use Rattle.std.proofs.Common.{◌∙◌, sym}
-use Rattle.std.proofs.lemmas.Option.{slice_get_within}
-use Rattle.fmp_explore.proofs.SearchLemmas.{all_examined, at_depth, one_examined, past_none}
+use Rattle.std.proofs.lemmas.Result.{err_from_is_err_and}
 use Rattle.fmp_explore.proofs.survey.Survey.run.Goals as goal
 
-pub returns-in_default : goal.returns-in_default
-returns-in_default g c = λ _ sure.
-    let s = c.args.subject.now in
-    all_examined s.image.now s.n s.question.now c.loop-i.self c.loop-i.i c.keeps_rules.ensures c.loop-i.invariant
-    (past_none c.loop-i.self.seen.links c.loop-i.i (sym c.link.ensures ∙ c.in_default.is)) sure
+pub new-requires-clause-low : goal.new-requires-clause-low
+new-requires-clause-low g c = c.args.subject.now.low
 
-pub examine-requires-clause-at : goal.examine-requires-clause-at
-examine-requires-clause-at g c =
-    at_depth c.loop-i.self.seen.links c.loop-i.i c.in-Some.link c.loop-i.invariant.begun.survey.kept.linked
-    (sym c.link.ensures ∙ c.in-Some.is) c.in_default-ending_before.ensures.goes_on
+pub new-requires-clause-high : goal.new-requires-clause-high
+new-requires-clause-high g c = c.args.subject.now.high
 
-pub loop-i-preserved : goal.loop-i-preserved
-loop-i-preserved g c =
-    let s = c.args.subject.now in
-    one_examined s.image.now s.n s.question.now c.loop-i.i c.loop-i.self c.examine.new.self c.loop-i.invariant
-    (slice_get_within c.loop-i.self.seen.links c.loop-i.i c.in-Some.link (sym c.link.ensures ∙ c.in-Some.is))
-    c.in_ok-examine.ensures
+pub returns-in_err-ladder : goal.returns-in_err-ladder
+returns-in_err-ladder g c = rw ((err_from_is_err_and c.from_residual.result c.from_residual.ensures.1).1) tt
+
+pub run_on-requires-clause-begun : goal.run_on-requires-clause-begun
+run_on-requires-clause-begun g c = c.requires
+
+pub run_on-requires-clause-bare : goal.run_on-requires-clause-bare
+run_on-requires-clause-bare g c = c.in_ok-ladder.ensures
+
+pub returns : goal.returns
+returns g c = c.run_on.ensures

@@ -4,8 +4,8 @@ use Rattle.fmp_explore.specs.Tries.{all_tries}
 use Rattle.fmp_explore.proofs.TryingLemmas.{enough_tried}
 use Rattle.fmp_explore.proofs.survey.Survey.try_all.Goals as goal
 
-pub returns-then-next-end : goal.returns-then-next-end
-returns-then-next-end c =
+pub returns-then-next-end-clause-tried : goal.returns-then-next-end-clause-tried
+returns-then-next-end-clause-tried c =
     let s = c.args.subject.now in
     let same = ap (λ (es : List Event). length es) c.requires.survey.survey.tries in
     let long = c.args.self.now.tries.ok.0 in
@@ -14,8 +14,8 @@ returns-then-next-end c =
     c.loop-try.marks
     c.loop-try.next far c.loop-try.invariant.tried
 
-pub returns : goal.returns
-returns c =
+pub returns-clause-tried : goal.returns-clause-tried
+returns-clause-tried c =
     let s = c.args.subject.now in
     let same = ap (λ (es : List Event). length es) c.requires.survey.survey.tries in
     let long = c.args.self.now.tries.ok.0 in

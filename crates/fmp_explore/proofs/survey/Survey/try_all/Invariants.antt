@@ -1,4 +1,5 @@
 use Rattle.std.proofs.Common.{◌≤◌}
+use Rattle.fmp_explore.specs.Ladders.{IsOver}
 use Rattle.fmp_explore.specs.Searching.{HasTried}
 use Rattle.fmp_explore.proofs.survey.Survey.try_all.Given as goal
 
@@ -9,4 +10,5 @@ invariant-loop-try l =
       tried :
           HasTried l.subject.image.now l.subject.n l.subject.question.now l.state l.steps l.marks l.fn.self l.self
           l.next;
+      over : IsOver l.subject.image.now l.subject.n l.kernel;
     }

@@ -1,6 +1,6 @@
 use Rattle.std.proofs.Common.{refl}
 use Rattle.fmp_explore.proofs.MarkLemmas.{interrupted_free}
-use Rattle.fmp_explore.proofs.survey.Survey.look_on.Goals as goal
+use Rattle.fmp_explore.proofs.survey.Survey.look.Goals as goal
 
 pub returns-then-marks : goal.returns-then-marks
 returns-then-marks c =

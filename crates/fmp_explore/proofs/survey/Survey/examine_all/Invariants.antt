@@ -1,0 +1,10 @@
+use Rattle.fmp_explore.specs.Ladders.{IsLadder}
+use Rattle.fmp_explore.specs.Searching.{IsSearching}
+use Rattle.fmp_explore.proofs.survey.Survey.examine_all.Given as goal
+
+abbrev pub invariant-loop-i : goal.invariant-loop-i
+invariant-loop-i g l =
+    record {
+      searching : IsSearching l.subject.image.now l.subject.n l.subject.question.now l.i l.self;
+      ladder : IsLadder l.subject.image.now l.subject.n l.ladder;
+    }
