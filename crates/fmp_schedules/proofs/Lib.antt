@@ -4,5 +4,6 @@ pub mod EventLines
 pub mod HoldLaws
 pub mod IdleLaws
 pub mod RuleLaws
+pub mod SectionSteps
 pub mod SilentLaws
 pub mod TriedLaws

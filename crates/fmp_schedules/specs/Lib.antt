@@ -1,3 +1,4 @@
 pub mod Deadlocks
 pub mod Schedules
+pub mod Sections
 pub mod Tried

@@ -2,3 +2,6 @@
 #![tactic(auto)]
 
 pub mod laws;
+mod section;
+
+pub use section::{Meeting, Section};
