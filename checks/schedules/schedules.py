@@ -37,6 +37,16 @@ class Line:
 
 
 @dataclass(frozen=True)
+class Together:
+    """A task that enters while another is inside: where its call stands, how its line ends, and who is inside where."""
+
+    steps: int
+    place: int
+    told: str
+    inside: str
+
+
+@dataclass(frozen=True)
 class Deadlock:
     """A deadlock: what is said of the tasks, if that is given."""
 
@@ -74,7 +84,18 @@ def never(word, *more):
     return ("--never", word, *more)
 
 
+def alone(*words):
+    return tuple(it for word in words for it in ("--alone", word))
+
+
 ROWS = [
+    # Two tasks at once where one may be.
+    ("bridge", alone("1,2"), Together(2, 3, "p2 WEST put(1) E_OK", "EAST is between put(1) and put(2)")),
+    ("bridge", alone("2,1"), Together(4, 4, "p2 WEST put(2) E_OK", "EAST is between put(2) and put(1)")),
+    ("oneway", alone("1,2"), Nothing()),
+    ("ended", alone("1,2"), Nothing((7, 13, 6))),
+    ("twice", alone("1,2"), Nothing()),
+    ("twice", alone("1,2", "3,4"), Together(4, 9, "p2 B put(3) E_OK", "A is between put(3) and put(4)")),
     # A builder's mistakes.
     ("branch", (), Deadlock(5, "WRITER (branch.src:12)")),
     ("order", (), Deadlock(4, "COPY (order.src:4), SYNC (order.src:10)")),
@@ -197,6 +218,15 @@ def shows_line(search, text, row):
     return found[2] in search.replayed(steps) and found[2] not in search.replayed(steps[:-1])
 
 
+def shows_together(search, text, row):
+    """Whether this line is found while that task is inside, and the last event of the steps tells it."""
+    found = search.matched(rf"{search.name}\.src:{row.place}: (\d+ .*): while (.*)", text, row)
+    if not found or not found[1].endswith(row.told) or found[2] != row.inside:
+        return False
+    steps = search.steps()
+    return found[1] in search.replayed(steps) and found[1] not in search.replayed(steps[:-1])
+
+
 def shows_deadlock(search, text, row):
     """Whether this deadlock is found, and no processor does anything after its steps."""
     found = search.matched(r"deadlock of (.*)", text, row)
@@ -221,6 +251,7 @@ def claim_of(options):
     """The first line where something holds, by what was asked."""
     words = list(zip(options, (*options[1:], "")))
     nevers = [f"never {word}, " for option, word in words if option == "--never"]
+    nevers += [f"alone {word}, " for option, word in words if option == "--alone"]
     ints = [word for option, word in words if option == "--ints"]
     few = f" with at most {ints[0]} interrupt{'' if ints[0] == '1' else 's'}" if ints else ""
     idle = " in which the clock ticks only where no processor can do anything" if ("--ticks", "idle") in words else ""
@@ -252,6 +283,8 @@ def is_shown(search, answer, row):
     match row:
         case Line():
             return status == 4 and shows_line(search, text, row)
+        case Together():
+            return status == 4 and shows_together(search, text, row)
         case Deadlock():
             return status == 4 and shows_deadlock(search, text, row)
         case Endless():

@@ -1,11 +1,14 @@
 pub mod EndlessLemmas
 pub mod Following
 pub mod ForbiddenLemmas
+pub mod HeldLemmas
 pub mod LadderLemmas
 pub mod MarkLemmas
+pub mod MeetLemmas
 pub mod NextLemmas
 pub mod PlaceLemmas
 pub mod SearchLemmas
+pub mod SectionLemmas
 pub mod StandLemmas
 pub mod StateLemmas
 pub mod StepLemmas

@@ -15,8 +15,10 @@ use Rattle.fmp_explore.specs.Followed.{IsFollowed}
 use Rattle.fmp_explore.specs.Forbidden.{forbids}
 use Rattle.fmp_explore.specs.Places.{forbids_there, is_bad}
 use Rattle.fmp_explore.specs.Rules.{rules_of}
-use Rattle.fmp_explore.specs.Searching.{HasDealt, HasDone, HasKept, HasKeptPlace, IsAt, IsBegun, IsFresh, IsNext, IsSurvey, Stays}
-use Rattle.fmp_explore.specs.States.{AreFew, IsReached, came_of, path_by, watched_of}
+use Rattle.std.specs.declared.alloc.Global.{Global}
+use Rattle.std.specs.declared.vec.Vec.{Vec}
+use Rattle.fmp_explore.specs.Searching.{AreHeld, HasDealt, HasDone, HasKept, HasKeptPlace, IsAt, IsBegun, IsFresh, IsNext, IsSurvey, Stays}
+use Rattle.fmp_explore.specs.States.{AreFew, IsReached, came_of, path_by, sections_of, watched_of}
 use Rattle.fmp_fields.specs.declared.field.What.{What}
 use Rattle.fmp_fields.specs.Fields.{AreAllFields}
 use Rattle.fmp_image_bytes.specs.Images.{ImageTables}
@@ -25,7 +27,9 @@ use Rattle.fmp_instructions.specs.Machine.{code_meaning}
 use Rattle.fmp_instructions.specs.declared.instructions.MachineContext.{MachineContext}
 use Rattle.fmp_kernel.specs.KernelViews.{KernelView}
 use Rattle.fmp_replay.specs.Replays.{kernel_after, replay}
-use Rattle.fmp_schedules.specs.Schedules.{Watched, came_after, is_request, watched_at_setup}
+use Rattle.fmp_schedules.specs.declared.section.Section.{Section}
+use Rattle.fmp_schedules.specs.Schedules.{Watched, came_after, is_any_met, is_request, sections_after, watched_at_setup}
+use Rattle.fmp_explore.proofs.SectionLemmas.{sections_first}
 use Rattle.fmp_seen.specs.declared.link.Link.{Link}
 use Rattle.fmp_seen.specs.Links.{AreLinked, IsLink, path_of}
 use Rattle.fmp_seen.specs.Seen.{SeenStates}
@@ -86,9 +90,10 @@ module _ (i : ImageTables) (n : ℕ) (q : Question) where
 
   -- what an event that is done leads to is kept
   pub dealt_done : (a b c : Survey) (k : Kernels) (es : List Event) (e : Event) → Stays a b
-      → (b.sure ≡ true → list_any (is_bad i.system q k.world) k.lines ≡ false) → HasDone i n es e k
+      → (b.sure ≡ true → list_any (is_bad i.system q k.world) k.lines ≡ false)
+      → (b.sure ≡ true → is_any_met (sections_of i n q es) k.lines ≡ false) → HasDone i n es e k
       → HasKept i n q b c (es ++ e ∷ []) → HasDealt i n q a c es e
-  dealt_done a b c k es e stays clean h kept =
+  dealt_done a b c k es e stays clean alone h kept =
       record {
         survey = kept.survey;
         grows = grows_on a b c (stays_grows a b stays) kept.grows;
@@ -101,6 +106,8 @@ module _ (i : ImageTables) (n : ℕ) (q : Question) where
             h.world
             (subst (λ (ls : List Line). list_any (forbids_there i.system q.nevers_at.items k.world) ls ≡ false) h.lines
             (none-there i.system q k.world k.lines (clean (kept.grows.sure sure)))))
+            (subst (λ (ls : List Line). is_any_met (sections_of i n q es) ls ≡ false) h.lines
+            (alone (kept.grows.sure sure)))
             (kept.known sure);
       }
 
@@ -128,22 +135,29 @@ module _ (i : ImageTables) (n : ℕ) (q : Question) where
 
   -- where no line of setup is forbidden, what is watched then is what is watched after no event
   watched_first : list_any (forbids q.nevers.items) (setup i.system (code_meaning i.code)).lines ≡ false
-      → watched_of q [] ≡ watched_at_setup (rules_of q) i.system (code_meaning i.code) (forbids q.nevers.items)
-  watched_first clean =
-      let with : ℕ → Bool → Watched = λ (came : ℕ) (told : Bool). record { came = came; told = told } in
+      → is_any_met q.sections.items (setup i.system (code_meaning i.code)).lines ≡ false
+      → watched_of i n q [] ≡ watched_at_setup (rules_of q) i.system (code_meaning i.code) (forbids q.nevers.items)
+  watched_first clean alone =
+      let with : ℕ → Bool → List Section → Bool → Watched =
+      λ (came : ℕ) (told : Bool) (sections : List Section) (met : Bool).
+      record { came = came; told = told; sections = sections; met = met } in
       let ls : List Line = (setup i.system (code_meaning i.code)).lines in
-      sym (ap (λ (told : Bool). with
-      (came_after q.interrupts 0 (setup i.system (code_meaning i.code)).lines) told) clean
-      ∙ ap (λ (came : ℕ). with came false)
+      let came : ℕ = came_after q.interrupts 0 (setup i.system (code_meaning i.code)).lines in
+      let told : Bool = list_any (forbids q.nevers.items) (setup i.system (code_meaning i.code)).lines in
+      let after : List Section = sections_after q.sections.items (setup i.system (code_meaning i.code)).lines in
+      sym (ap (λ (met : Bool). with came told after met) alone
+      ∙ ap (λ (b : Bool). with came b after false) clean
+      ∙ ap (λ (k : ℕ). with k false after false)
       (came_at_setup q.interrupts (setup i.system (code_meaning i.code)).lines
-      (setup-counts i.system (code_meaning i.code))))
+      (setup-counts i.system (code_meaning i.code)))
+      ∙ ap (λ (ss : List Section). with (came_of q.interrupts []) false ss false) (sym (sections_first i n q)))
 
   -- the first state is kept
   pub begun_of : (a b : Survey) (k : Kernels) → k ≡ kernel_after i n []
-      → (a.sure ≡ true → list_any (is_bad i.system q k.world) k.lines ≡ false) → HasKept i n q a b []
-      → IsBegun i n q b
+      → (a.sure ≡ true → list_any (is_bad i.system q k.world) k.lines ≡ false)
+      → (a.sure ≡ true → is_any_met q.sections.items k.lines ≡ false) → HasKept i n q a b [] → IsBegun i n q b
   unfolding replay
-  begun_of a b k first clean kept =
+  begun_of a b k first clean alone kept =
       record {
         survey = kept.survey;
         first = λ sure.
@@ -152,15 +166,17 @@ module _ (i : ImageTables) (n : ℕ) (q : Question) where
             (setup i.system (code_meaning i.code)).world x)
             (watched_first
             (subst (λ (x : Kernels). list_any (forbids q.nevers.items) x.lines ≡ false) first
-            (none-anywhere i.system q k.world k.lines (clean (kept.grows.sure sure)))))
+            (none-anywhere i.system q k.world k.lines (clean (kept.grows.sure sure))))
+            (subst (λ (x : Kernels). is_any_met q.sections.items x.lines ≡ false) first
+            (alone (kept.grows.sure sure))))
             (kept.known sure);
       }
 
   -- a search that has no state yet, once the first values of its fields are read
   pub fresh_survey : (a b : Survey) → IsFresh i q a → b.tries.items ≡ a.tries.items
-      → b.rows.fields.items ≡ a.rows.fields.items → b.seen ≡ a.seen
-      → length b.rows.first.items ≡ length b.rows.fields.items → IsSurvey i n q b
-  fresh_survey a b h tries fields seen size =
+      → b.rows.fields.items ≡ a.rows.fields.items → b.rows.held.items ≡ a.rows.held.items → b.seen ≡ a.seen
+      → length b.rows.first.items ≡ length b.rows.fields.items + length q.sections.items → IsSurvey i n q b
+  fresh_survey a b h tries fields held seen size =
       let no_links : b.seen.links ≡ [] = ap (λ (x : SeenStates). x.links) seen ∙ h.no_links in
       record {
         survey =
@@ -174,6 +190,10 @@ module _ (i : ImageTables) (n : ℕ) (q : Question) where
             kept_none i n q b.rows.first.items b.rows.fields.items b.seen
             (ap (λ (x : SeenStates). x.rows) seen ∙ h.no_rows) no_links
             (subst (λ (ls : List Link). AreLinked ls) (sym no_links) links-none);
+        held =
+            subst (λ (ls : List Link). AreHeld i n q b.rows.held.items ls) (sym no_links)
+            (subst (λ (vs : List (Vec Section Global)). AreHeld i n q vs []) (sym (held ∙ h.no_sections))
+            (record { size = refl; each = λ k x e. absurd (cc (e)) }));
       }
 
   -- the first state has the path of no event

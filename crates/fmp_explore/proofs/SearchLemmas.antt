@@ -1,5 +1,5 @@
 -- A search that has examined each of its states shows what holds along all schedules.
-use Rattle.std.proofs.Common.{◌≡◌, ◌+◌, ◌<◌, ◌≤◌, ◌⊎◌, inl, inr, ℕ, List, Some, None, Bool, true, false, refl, sym, ap, subst, ◌∙◌, arith, length, slice_get}
+use Rattle.std.proofs.Common.{◌≡◌, ◌+◌, ◌<◌, ◌≤◌, ◌⊎◌, ◌||◌, inl, inr, ℕ, List, Some, None, Bool, true, false, refl, sym, ap, subst, ◌∙◌, arith, length, slice_get}
 use Rattle.std.proofs.lemmas.Bool.{cases_lt}
 use Rattle.std.proofs.lemmas.Option.{slice_get_cases, slice_get_within}
 use Rattle.fmp_alike.specs.Alike.{Alike}
@@ -112,8 +112,8 @@ module _ (i : ImageTables) (n : ℕ) (q : Question) where
 
     tried_at : Examined → (k : ℕ) → k < length s.seen.links → (e : Event) → is_event_of i.system e ≡ true
         → may_come (rules_of q) i.system (code_meaning i.code) n (replay i n (path_of s.seen.links k)).world
-        (watched_of q (path_of s.seen.links k)) e ≡ true
-        → Tried (replay i n (path_of s.seen.links k)).world (watched_of q (path_of s.seen.links k)) e
+        (watched_of i n q (path_of s.seen.links k)) e ≡ true
+        → Tried (replay i n (path_of s.seen.links k)).world (watched_of i n q (path_of s.seen.links k)) e
     unfolding reaction
     tried_at x k lt e is may =
         record {
@@ -140,7 +140,7 @@ module _ (i : ImageTables) (n : ℕ) (q : Question) where
 
     silent_at : Examined → (k : ℕ) → k < length s.seen.links → (e : Event) → is_event_of i.system e ≡ true
         → may_come (rules_of q) i.system (code_meaning i.code) n (replay i n (path_of s.seen.links k)).world
-        (watched_of q (path_of s.seen.links k)) e ≡ true
+        (watched_of i n q (path_of s.seen.links k)) e ≡ true
         → Silent (replay i n (path_of s.seen.links k)).world e
     unfolding reaction
     silent_at x k lt e is may =
@@ -163,8 +163,8 @@ module _ (i : ImageTables) (n : ℕ) (q : Question) where
         → Silent (replay i n (path_of s.seen.links k.state)).world e)
         (sym k.watch) (silent_at x k.state k.there e is))
 
-    clean : (w : World MachineContext) (a : Watched) → K w a → a.told ≡ false
-    clean w a k = ap (λ (b : Watched). b.told) k.watch
+    clean : (w : World MachineContext) (a : Watched) → K w a → (a.told || a.met) ≡ false
+    clean w a k = ap (λ (b : Watched). b.told || b.met) k.watch
 
     free : Examined → NoneIsDeadlock (rules_of q) i.system (code_meaning i.code) n q.rest.items K
     free x w a k d =

@@ -1,5 +1,5 @@
 -- The states that a search keeps, and one more of them.
-use Rattle.std.proofs.Common.{◌≡◌, ◌+◌, ◌<◌, ◌⊎◌, inl, inr, ℕ, zero, suc, List, [], ◌∷◌, ◌++◌, Option, Some, None, Bool, true, false, refl, sym, ap, subst, ◌∙◌, arith, cond, count_by, is_some, length, length-append, slice_get}
+use Rattle.std.proofs.Common.{◌≡◌, ◌+◌, ◌<◌, ◌⊎◌, inl, inr, ℕ, zero, suc, List, [], ◌∷◌, ◌++◌, Option, Some, None, Bool, true, false, refl, sym, ap, subst, ◌∙◌, arith, cond, count_by, is_some, length, length-append, map, slice_get}
 use Rattle.std.proofs.lemmas.List.{length-map, length_push}
 use Rattle.std.proofs.lemmas.List.Sums.{sum_by_push}
 use Rattle.std.proofs.lemmas.Option.{slice_get_within}
@@ -14,8 +14,9 @@ use Rattle.fmp_explore.specs.declared.question.Question.{Question}
 use Rattle.fmp_explore.specs.Forbidden.{forbids}
 use Rattle.fmp_explore.specs.Places.{forbids_there}
 use Rattle.fmp_explore.specs.Rules.{rules_of}
-use Rattle.fmp_explore.specs.States.{AreKept, HasRow, IsExamined, IsKnown, IsReached, LeadsOn, came_of, numbers_after, path_by, watched_of}
+use Rattle.fmp_explore.specs.States.{AreKept, HasRow, IsExamined, IsKnown, IsReached, LeadsOn, came_of, holder_number, numbers_after, path_by, sections_of, watched_of}
 use Rattle.fmp_fields.specs.declared.field.What.{What}
+use Rattle.fmp_fields.specs.FieldNumbers.{number_of}
 use Rattle.fmp_fields.specs.Fields.{AreAllFields}
 use Rattle.fmp_fields.proofs.FieldLaws.{fields-told, interrupts-told}
 use Rattle.fmp_image_bytes.specs.Images.{ImageTables, IsImage}
@@ -25,7 +26,8 @@ use Rattle.fmp_kernel.specs.KernelViews.{done_or}
 use Rattle.fmp_replay.specs.Replays.{reaction, replay}
 use Rattle.fmp_replay.proofs.Replaying.{replay_last}
 use Rattle.fmp_schedules.specs.Deadlocks.{is_interrupt}
-use Rattle.fmp_schedules.specs.Schedules.{IsSilent, Watched, came_after, is_request, watch}
+use Rattle.fmp_schedules.specs.declared.section.Section.{Section}
+use Rattle.fmp_schedules.specs.Schedules.{IsSilent, Watched, came_after, is_any_met, is_request, sections_after, watch}
 use Rattle.fmp_seen.specs.declared.link.Link.{Link}
 use Rattle.fmp_seen.specs.Links.{AreLinked, IsLink, path_of}
 use Rattle.fmp_seen.specs.Seen.{SeenStates, with_state}
@@ -33,9 +35,10 @@ use Rattle.fmp_seen.proofs.LinkLemmas.{links-added, path-stays}
 use Rattle.fmp_seen.proofs.RowLemmas.{rows-told}
 use Rattle.fmp_readable.proofs.ReadableLaws.{readable}
 use Rattle.fmp_schedules.proofs.EventLines.{done-counts}
+use Rattle.fmp_explore.proofs.SectionLemmas.{append-parts, lines_to, sections-told, sections_done, sections_kept, sections_length}
 
 -- an element of a list with one more is one that it had, or that one
-element_of_push : {X : Type 0} (xs : List X) (y : X) (i : ℕ) (x : X) → slice_get (xs ++ y ∷ []) i ≡ Some x
+pub element_of_push : {X : Type 0} (xs : List X) (y : X) (i : ℕ) (x : X) → slice_get (xs ++ y ∷ []) i ≡ Some x
     → (slice_get xs i ≡ Some x) ⊎ ((i ≡ length xs) × (y ≡ x))
 element_of_push [] y zero x e = inr (refl, cc)
 element_of_push [] y (suc i) x e = absurd cc
@@ -64,7 +67,7 @@ module _ (i : ImageTables) (n : ℕ) (q : Question) where
         state = r.state;
         there = omega arith;
         world = r.world ∙ ap (λ (es : List Event). (replay i n es).world) (sym same);
-        watch = r.watch ∙ ap (λ (es : List Event). watched_of q es) (sym same);
+        watch = r.watch ∙ ap (λ (es : List Event). watched_of i n q es) (sym same);
       }
 
   pub covered_more : (links more : List Link) (w : World MachineContext) (a : Watched) → AreLinked links
@@ -89,7 +92,7 @@ module _ (i : ImageTables) (n : ℕ) (q : Question) where
   pub leads_on_more : (links more : List Link) (es : List Event) (e : Event) → AreLinked links
       → LeadsOn i n q links es e → LeadsOn i n q (links ++ more) es e
   leads_on_more links more es e h l =
-      record { leads = leads_more links more (watched_of q es) (reaction i n es e) h l.leads; silent = l.silent }
+      record { leads = leads_more links more (watched_of i n q es) (reaction i n es e) h l.leads; silent = l.silent }
 
   pub examined_more : (links more : List Link) (es : List Event) → AreLinked links → IsExamined i n q links es
       → IsExamined i n q (links ++ more) es
@@ -135,10 +138,12 @@ module _ (i : ImageTables) (n : ℕ) (q : Question) where
   -- ---- known states
 
   same_watch : (es fs : List Event) → came_of q.interrupts es ≡ came_of q.interrupts fs
-      → watched_of q es ≡ watched_of q fs
-  same_watch es fs e =
-      let with : ℕ → Watched = λ (came : ℕ). record { came = came; told = false } in
-      ap with e
+      → sections_of i n q es ≡ sections_of i n q fs → watched_of i n q es ≡ watched_of i n q fs
+  same_watch es fs came sections =
+      let with : ℕ → List Section → Watched = λ (came : ℕ) (sections : List Section).
+      record { came = came; told = false; sections = sections; met = false } in
+      ap (λ (came : ℕ). with came (sections_of i n q es)) came
+      ∙ ap (λ (ss : List Section). with (came_of q.interrupts fs) ss) sections
 
   came_same : (most : Option ℕ) (es fs : List Event)
       → (is_some most ≡ true → count_by is_interrupt es ≡ count_by is_interrupt fs) → came_of most es ≡ came_of most fs
@@ -166,15 +171,34 @@ module _ (i : ImageTables) (n : ℕ) (q : Question) where
         let longer : length (links ++ link ∷ []) ≡ length links + 1 = length_push links link in
         state_known (links ++ link ∷ []) (length links) (omega arith)
 
-    module _ (first : List ℕ) (size : length first ≡ length fields) (es fs : List Event) (row : List ℕ)
-        (a : HasRow i n q first fields es row) (b : HasRow i n q first fields fs row) where
-      as_many : (gs : List Event) → length (numbers_after i n fields gs) ≡ length first
-      as_many gs = length-map fields _ ∙ sym size
+    module _ (first : List ℕ) (size : length first ≡ length fields + length q.sections.items) (es fs : List Event)
+        (row : List ℕ) (a : HasRow i n q first fields es row) (b : HasRow i n q first fields fs row) where
+      abbrev field_numbers : List Event → List ℕ
+      field_numbers gs = map (number_of i.system (replay i n gs).world (count_by is_interrupt gs)) fields
 
-      same_numbers : numbers_after i n fields es ≡ numbers_after i n fields fs
-      same_numbers =
-          rows-told first (numbers_after i n fields es) (numbers_after i n fields fs) (as_many es) (as_many fs)
-          a.is.values b.is.values (sym a.is.is ∙ b.is.is)
+      abbrev holders : List Event → List ℕ
+      holders gs = map holder_number (sections_of i n q gs)
+
+      as_many : (gs : List Event) → length (numbers_after i n q fields gs) ≡ length first
+      as_many gs =
+          length-append (field_numbers gs) (holders gs)
+          ∙ ap (λ (k : ℕ). k + length (holders gs)) (length-map fields _)
+          ∙ ap (λ (k : ℕ). length fields + k) (length-map (sections_of i n q gs) _ ∙ sections_length i n q gs)
+          ∙ sym size
+
+      parts : (field_numbers es ≡ field_numbers fs) × (holders es ≡ holders fs)
+      parts =
+          append-parts (field_numbers es) (field_numbers fs) (holders es) (holders fs)
+          (length-map fields _ ∙ sym (length-map fields _))
+          (rows-told first (numbers_after i n q fields es) (numbers_after i n q fields fs) (as_many es) (as_many fs)
+          a.is.values b.is.values (sym a.is.is ∙ b.is.is))
+
+      same_numbers : field_numbers es ≡ field_numbers fs
+      same_numbers = parts.0
+
+      same_sections : sections_of i n q es ≡ sections_of i n q fs
+      unfolding sections_of
+      same_sections = sections-told q.sections.items (lines_to i n es) (lines_to i n fs) parts.1
 
       same_came : came_of q.interrupts es ≡ came_of q.interrupts fs
       same_came =
@@ -190,12 +214,13 @@ module _ (i : ImageTables) (n : ℕ) (q : Question) where
           (count_by is_interrupt es) (count_by is_interrupt fs) all (readable i n es image) (readable i n fs image)
           same_numbers
 
-      pub rows_watch : watched_of q es ≡ watched_of q fs
-      rows_watch = same_watch es fs same_came
+      pub rows_watch : watched_of i n q es ≡ watched_of i n q fs
+      rows_watch = same_watch es fs same_came same_sections
 
     -- where the row of a state is there already, the state is known
     pub row_known : (first : List ℕ) (seen : SeenStates) (k : ℕ) (es : List Event) (row : List ℕ)
-        → length first ≡ length fields → AreKept i n q first fields seen → slice_get seen.rows k ≡ Some row
+        → length first ≡ length fields + length q.sections.items → AreKept i n q first fields seen
+        → slice_get seen.rows k ≡ Some row
         → HasRow i n q first fields es row → IsKnown i n q seen.links es
     row_known first seen k es row size h found has =
         let within : k < length seen.rows = slice_get_within seen.rows k row found in
@@ -229,26 +254,32 @@ module _ (i : ImageTables) (n : ℕ) (q : Question) where
   pub leads_done : (links : List Link) (es : List Event) (e : Event) (d : Done MachineContext)
       → reaction i n es e ≡ Did d
       → list_any (forbids q.nevers.items) d.lines ≡ false
-      → list_any (forbids_there i.system q.nevers_at.items d.world) d.lines ≡ false → IsKnown i n q links (es ++ e ∷ [])
-      → LeadsOn i n q links es e
+      → list_any (forbids_there i.system q.nevers_at.items d.world) d.lines ≡ false
+      → is_any_met (sections_of i n q es) d.lines ≡ false → IsKnown i n q links (es ++ e ∷ []) → LeadsOn i n q links es e
   unfolding reaction
-  leads_done links es e d did clean clean_there known =
+  leads_done links es e d did clean clean_there alone known =
       let count : count_by is_request d.lines ≡ cond (is_interrupt e) 1 0 =
       done-counts i.system (code_meaning i.code) n (replay i n es).world e d did in
-      let with : ℕ → Bool → Watched = λ (came : ℕ) (told : Bool). record { came = came; told = told } in
+      let with : ℕ → Bool → List Section → Bool → Watched =
+      λ (came : ℕ) (told : Bool) (sections : List Section) (met : Bool).
+      record { came = came; told = told; sections = sections; met = met } in
+      let came : ℕ = came_after q.interrupts (came_of q.interrupts es) d.lines in
+      let told : Bool = list_any (forbids q.nevers.items) d.lines in
+      let after : List Section = sections_after (sections_of i n q es) d.lines in
       let world : (replay i n (es ++ e ∷ [])).world ≡ d.world =
       ap (λ (x : Done MachineContext). x.world) (replayed es e (Did d) did) in
-      let watch : watched_of q (es ++ e ∷ []) ≡ with (came_after q.interrupts (came_of q.interrupts es) d.lines)
-      (list_any (forbids q.nevers.items) d.lines) =
-      sym (ap (λ (came : ℕ). with came (list_any (forbids q.nevers.items) d.lines))
-      (came_on q.interrupts es e d.lines count)
-      ∙ ap (λ (told : Bool). with (came_of q.interrupts (es ++ e ∷ [])) told) clean) in
+      let watch : watched_of i n q (es ++ e ∷ []) ≡ with came told after (is_any_met (sections_of i n q es) d.lines) =
+      sym (ap (λ (b : Bool). with came told after b) alone
+      ∙ ap (λ (b : Bool). with came b after false) clean
+      ∙ ap (λ (k : ℕ). with k false after false) (came_on q.interrupts es e d.lines count)
+      ∙ ap (λ (ss : List Section). with (came_of q.interrupts (es ++ e ∷ [])) false ss false)
+      (sym (sections_done i n q es e d did))) in
       record {
         leads =
-            subst (λ (r : Reaction MachineContext). Leads links (watched_of q es) r) (sym did)
+            subst (λ (r : Reaction MachineContext). Leads links (watched_of i n q es) r) (sym did)
             (subst (λ (a : Watched). IsCovered (Alike i.system) (IsReached i n q links) d.world a) watch
             (subst (λ (w : World MachineContext). IsCovered (Alike i.system) (IsReached i n q links) w
-            (watched_of q (es ++ e ∷ []))) world known));
+            (watched_of i n q (es ++ e ∷ []))) world known));
         silent = subst (λ (r : Reaction MachineContext). Silent r) (sym did) clean_there;
       }
 
@@ -257,7 +288,7 @@ module _ (i : ImageTables) (n : ℕ) (q : Question) where
       → LeadsOn i n q links es e
   leads_nowhere links es e none =
       record {
-        leads = subst (λ (r : Reaction MachineContext). Leads links (watched_of q es) r) (sym none) tt;
+        leads = subst (λ (r : Reaction MachineContext). Leads links (watched_of i n q es) r) (sym none) tt;
         silent = subst (λ (r : Reaction MachineContext). Silent r) (sym none) tt;
       }
 
@@ -279,10 +310,10 @@ module _ (i : ImageTables) (n : ℕ) (q : Question) where
       ap (λ (x : Done MachineContext). x.world) (replayed es e (Kept p w) keeps) in
       record {
         leads =
-            subst (λ (r : Reaction MachineContext). Leads links (watched_of q es) r) (sym keeps)
+            subst (λ (r : Reaction MachineContext). Leads links (watched_of i n q es) r) (sym keeps)
             (subst (λ (a : Watched). IsCovered (Alike i.system) (IsReached i n q links) w a)
-            (sym (same_watch es (es ++ e ∷ []) (came_kept q.interrupts es e runs)))
+            (sym (same_watch es (es ++ e ∷ []) (came_kept q.interrupts es e runs) (sym (sections_kept i n q es e p w keeps))))
             (subst (λ (v : World MachineContext). IsCovered (Alike i.system) (IsReached i n q links) v
-            (watched_of q (es ++ e ∷ []))) world known));
+            (watched_of i n q (es ++ e ∷ []))) world known));
         silent = subst (λ (r : Reaction MachineContext). Silent r) (sym keeps) tt;
       }

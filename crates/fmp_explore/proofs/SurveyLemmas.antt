@@ -1,11 +1,15 @@
 -- Searches that go on.
-use Rattle.std.proofs.Common.{◌≡◌, ◌+◌, ◌<◌, ℕ, List, [], ◌∷◌, ◌++◌, Some, true, false, sym, ap, subst, ◌∙◌, arith, append_assoc, append-nil, count_by, is_some, length, length-append, map, slice_get}
+use Rattle.std.proofs.Common.{◌≡◌, ◌+◌, ◌<◌, inl, inr, ℕ, List, [], ◌∷◌, ◌++◌, Some, true, false, sym, ap, subst, ◌∙◌, arith, append_assoc, append-nil, count_by, is_some, length, length-append, map, slice_get}
+use Rattle.std.proofs.lemmas.List.{length_push}
+use Rattle.std.proofs.lemmas.Option.{slice_get_within}
 use Rattle.fmp_base.specs.declared.events.Event.{Event}
 use Rattle.fmp_explore.specs.declared.question.Question.{Question}
 use Rattle.fmp_explore.specs.declared.rows.Rows.{Rows}
 use Rattle.fmp_explore.specs.declared.survey.Survey.{Survey}
-use Rattle.fmp_explore.specs.Searching.{Grows, HasKept, IsAt, IsNext, IsSurvey, Stays}
-use Rattle.fmp_explore.specs.States.{AreKept, HasRow, IsKnown, IsRowOf, path_by}
+use Rattle.std.specs.declared.alloc.Global.{Global}
+use Rattle.std.specs.declared.vec.Vec.{Vec}
+use Rattle.fmp_explore.specs.Searching.{AreHeld, Grows, HasKept, IsAt, IsNext, IsSurvey, Stays}
+use Rattle.fmp_explore.specs.States.{AreKept, HasRow, IsKnown, IsRowOf, holder_number, path_by, sections_of}
 use Rattle.fmp_fields.specs.declared.field.What.{What}
 use Rattle.fmp_fields.specs.FieldNumbers.{number_of}
 use Rattle.fmp_fields.specs.Fields.{AreAllFields}
@@ -13,14 +17,16 @@ use Rattle.fmp_image_bytes.specs.Images.{ImageTables, IsImage}
 use Rattle.fmp_instructions.specs.Instructions.{BodyTables}
 use Rattle.fmp_instructions.specs.declared.instructions.MachineContext.{MachineContext}
 use Rattle.fmp_kernel.specs.KernelViews.{KernelView}
+use Rattle.fmp_schedules.specs.declared.section.Section.{Section}
 use Rattle.fmp_schedules.specs.Deadlocks.{is_interrupt}
 use Rattle.fmp_seen.specs.declared.link.Link.{Link}
-use Rattle.fmp_seen.specs.Links.{AreLinked}
+use Rattle.fmp_replay.specs.Replays.{replay}
+use Rattle.fmp_seen.specs.Links.{AreLinked, path_of}
 use Rattle.fmp_seen.specs.declared.link.Entry.{Entry}
 use Rattle.fmp_seen.specs.declared.link.Entry.TheVariants as entry
 use Rattle.fmp_seen.specs.Seen.{Adds, SeenStates, with_state}
 use Rattle.fmp_seen.proofs.LinkLemmas.{path-stays}
-use Rattle.fmp_explore.proofs.StateLemmas.{kept_more, new_known, row_known}
+use Rattle.fmp_explore.proofs.StateLemmas.{element_of_push, kept_more, new_known, row_known}
 
 -- what becomes of the states where a row is looked up
 adds_at : (old new : SeenStates) (row : List ℕ) (link : Link) (x y : Entry) → x ≡ y → Adds old new row link x
@@ -95,32 +101,67 @@ module _ (i : ImageTables) (n : ℕ) (q : Question) where
               fields = subst (λ (r : Rows). AreAllFields i.system i.code (is_some q.interrupts) r.fields.items)
                   (sym s.rows) h.survey.fields;
             };
-        first = subst (λ (r : Rows). length r.first.items ≡ length r.fields.items) (sym s.rows) h.first;
+        first =
+            subst (λ (r : Rows). length r.first.items ≡ length r.fields.items + length q.sections.items) (sym s.rows)
+            h.first;
         kept =
             subst (λ (r : Rows). AreKept i n q r.first.items r.fields.items b.seen) (sym s.rows)
             (subst (λ (x : SeenStates). AreKept i n q a.rows.first.items a.rows.fields.items x) (sym s.seen) h.kept);
+        held =
+            subst (λ (r : Rows). AreHeld i n q r.held.items b.seen.links) (sym s.rows)
+            (subst (λ (x : SeenStates). AreHeld i n q a.rows.held.items x.links) (sym s.seen) h.held);
       }
+
+  -- the sections of one more state
+  held_more : (held : List (Vec Section Global)) (links : List Link) (sections : Vec Section Global) (link : Link)
+      → AreLinked links → AreHeld i n q held links → sections.items ≡ sections_of i n q (path_by links link)
+      → AreHeld i n q (held ++ sections ∷ []) (links ++ link ∷ [])
+  held_more held links sections link linked h is =
+      record {
+        size =
+            length_push held sections ∙ ap (λ (k : ℕ). k + 1) h.size ∙ sym (length_push links link);
+        each = each;
+      } where
+        each : (k : ℕ) (x : Vec Section Global) → slice_get (held ++ sections ∷ []) k ≡ Some x
+            → x.items ≡ sections_of i n q (path_of (links ++ link ∷ []) k)
+        each k x e =
+            elim (element_of_push held sections k x e) [
+              | inl old ↦
+                  let within : k < length held = slice_get_within held k x old in
+                  let there : k < length links = omega (arith, within, h.size) in
+                  h.each k x old ∙ ap (λ (es : List Event). sections_of i n q es) (sym (path-stays links (link ∷ []) k linked there))
+              | inr last ↦
+                  ap (λ (v : Vec Section Global). v.items) (sym last.1) ∙ is
+                  ∙ ap (λ (j : ℕ). sections_of i n q (path_of (links ++ link ∷ []) j)) (sym (last.0 ∙ h.size))
+            ]
 
   -- the row of a kernel is that of its state
   pub row_of_kernel : (first : List ℕ) (fields : List What) (row : List ℕ) (links : List Link) (link : Link)
       (k : Kernels)
-      (came : ℕ) → IsNext i n q links link k → came ≡ count_by is_interrupt (path_by links link)
-      → IsRowOf first (map (number_of k.system k.world came) fields) row
+      (came : ℕ) (sections : List Section) → IsNext i n q links link k
+      → came ≡ count_by is_interrupt (path_by links link) → sections ≡ sections_of i n q (path_by links link)
+      → IsRowOf first (map (number_of k.system k.world came) fields ++ map holder_number sections) row
       → HasRow i n q first fields (path_by links link) row
-  row_of_kernel first fields row links link k came next count is =
+  row_of_kernel first fields row links link k came sections next count held is =
       record {
         legal = next.followed.legal;
         few = next.few;
         is =
-            subst (λ (x : Kernels). IsRowOf first
-            (map (number_of x.system x.world (count_by is_interrupt (path_by links link))) fields) row)
+            subst (λ (ss : List Section). IsRowOf first
+            (map (number_of i.system (replay i n (path_by links link)).world (count_by is_interrupt (path_by links link)))
+            fields ++ map holder_number ss) row) held
+            (subst (λ (x : Kernels). IsRowOf first
+            (map (number_of x.system x.world (count_by is_interrupt (path_by links link))) fields
+            ++ map holder_number sections) row)
             next.followed.kernel
-            (subst (λ (c : ℕ). IsRowOf first (map (number_of k.system k.world c) fields) row) count is);
+            (subst (λ (c : ℕ). IsRowOf first
+            (map (number_of k.system k.world c) fields ++ map holder_number sections) row) count is));
       }
 
   module _ (a b : Survey) (same : SameRows a b) (h : IsSurvey i n q a) where
-    survey_with : AreKept i n q a.rows.first.items a.rows.fields.items b.seen → IsSurvey i n q b
-    survey_with kept =
+    survey_with : AreKept i n q a.rows.first.items a.rows.fields.items b.seen
+        → AreHeld i n q b.rows.held.items b.seen.links → IsSurvey i n q b
+    survey_with kept held =
         record {
           survey =
               record {
@@ -130,36 +171,45 @@ module _ (i : ImageTables) (n : ℕ) (q : Question) where
               };
           first =
               ap (λ (xs : List ℕ). length xs) same.first ∙ h.first
-              ∙ sym (ap (λ (fs : List What). length fs) same.fields);
+              ∙ sym (ap (λ (fs : List What). length fs + length q.sections.items) same.fields);
           kept =
               subst (λ (fs : List What). AreKept i n q b.rows.first.items fs b.seen) (sym same.fields)
               (subst (λ (xs : List ℕ). AreKept i n q xs a.rows.fields.items b.seen) (sym same.first) kept);
+          held = held;
         }
 
     module _ (image : IsImage i) (link : Link) (k : Kernels) (next : IsNext i n q a.seen.links link k) (row : List ℕ)
         (has : HasRow i n q a.rows.first.items a.rows.fields.items (path_by a.seen.links link) row)
         (sure : b.sure ≡ true → a.sure ≡ true) where
       -- the state is new
-      pub keeps_new : b.seen ≡ with_state a.seen row link → HasKept i n q a b (path_by a.seen.links link)
-      keeps_new e =
+      pub keeps_new : (sections : Vec Section Global)
+          → sections.items ≡ sections_of i n q (path_by a.seen.links link)
+          → b.rows.held.items ≡ a.rows.held.items ++ sections ∷ [] → b.seen ≡ with_state a.seen row link
+          → HasKept i n q a b (path_by a.seen.links link)
+      keeps_new sections is held e =
           record {
             survey =
                 survey_with
                 (subst (λ (x : SeenStates). AreKept i n q a.rows.first.items a.rows.fields.items x) (sym e)
-                (kept_more i n q a.rows.first.items a.rows.fields.items a.seen row link h.kept next.linked has));
+                (kept_more i n q a.rows.first.items a.rows.fields.items a.seen row link h.kept next.linked has))
+                (subst (λ (x : SeenStates). AreHeld i n q b.rows.held.items x.links) (sym e)
+                (subst (λ (vs : List (Vec Section Global)). AreHeld i n q vs (a.seen.links ++ link ∷ [])) (sym held)
+                (held_more a.rows.held.items a.seen.links sections link h.kept.linked h.held is)));
             grows = record { more = link ∷ []; links = ap (λ (x : SeenStates). x.links) e; sure = sure };
             known = λ _.
                 subst (λ (x : SeenStates). IsKnown i n q x.links (path_by a.seen.links link)) (sym e)
                 (new_known i n q image a.rows.fields.items h.survey.fields a.seen.links link);
           }
 
-      same_seen : b.seen ≡ a.seen → (b.sure ≡ true → IsKnown i n q a.seen.links (path_by a.seen.links link))
+      same_seen : b.rows.held.items ≡ a.rows.held.items → b.seen ≡ a.seen → (b.sure ≡ true → IsKnown i n q a.seen.links (path_by a.seen.links link))
           → HasKept i n q a b (path_by a.seen.links link)
-      same_seen e known =
+      same_seen held e known =
           record {
             survey =
                 survey_with
-                (subst (λ (x : SeenStates). AreKept i n q a.rows.first.items a.rows.fields.items x) (sym e) h.kept);
+                (subst (λ (x : SeenStates). AreKept i n q a.rows.first.items a.rows.fields.items x) (sym e) h.kept)
+                (subst (λ (x : SeenStates). AreHeld i n q b.rows.held.items x.links) (sym e)
+                (subst (λ (vs : List (Vec Section Global)). AreHeld i n q vs a.seen.links) (sym held) h.held));
             grows =
                 record {
                   more = [];
@@ -171,13 +221,14 @@ module _ (i : ImageTables) (n : ℕ) (q : Question) where
           }
 
       -- it is known already
-      pub keeps_known : (place : ℕ) → b.seen ≡ a.seen → slice_get a.seen.rows place ≡ Some row
+      pub keeps_known : (place : ℕ) → b.rows.held.items ≡ a.rows.held.items → b.seen ≡ a.seen → slice_get a.seen.rows place ≡ Some row
           → HasKept i n q a b (path_by a.seen.links link)
-      keeps_known place e found =
-          same_seen e
+      keeps_known place held e found =
+          same_seen held e
           (λ _. row_known i n q image a.rows.fields.items h.survey.fields a.rows.first.items a.seen place
           (path_by a.seen.links link) row h.first h.kept found has)
 
       -- no more states may be kept
-      pub keeps_none : b.seen ≡ a.seen → b.sure ≡ false → HasKept i n q a b (path_by a.seen.links link)
-      keeps_none e lost = same_seen e (λ s. absurd (cc (s, lost)))
+      pub keeps_none : b.rows.held.items ≡ a.rows.held.items → b.seen ≡ a.seen → b.sure ≡ false
+          → HasKept i n q a b (path_by a.seen.links link)
+      keeps_none held e lost = same_seen held e (λ s. absurd (cc (s, lost)))

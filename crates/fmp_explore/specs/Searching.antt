@@ -1,5 +1,7 @@
 -- What holds of a search under way.
-use Rattle.std.specs.Prelude.{ℕ, ◌≡◌, ◌<◌, ◌≤◌, List, [], ◌∷◌, ◌++◌, Some, true, false, is_some, length, slice_get}
+use Rattle.std.specs.Prelude.{ℕ, ◌≡◌, ◌+◌, ◌<◌, ◌≤◌, List, [], ◌∷◌, ◌++◌, Some, true, false, is_some, length, slice_get}
+use Rattle.std.specs.declared.alloc.Global.{Global}
+use Rattle.std.specs.declared.vec.Vec.{Vec}
 use Rattle.fmp_alike.specs.Alike.{Alike}
 use Rattle.fmp_alike.specs.Closed.{IsCovered}
 use Rattle.fmp_base.specs.declared.events.Effect.{Effect}
@@ -15,7 +17,7 @@ use Rattle.fmp_explore.specs.Followed.{IsFollowed}
 use Rattle.fmp_explore.specs.Forbidden.{forbids}
 use Rattle.fmp_explore.specs.Places.{forbids_there}
 use Rattle.fmp_explore.specs.Rules.{rules_of}
-use Rattle.fmp_explore.specs.States.{AreFew, AreKept, IsExamined, IsKnown, IsReached, IsStuckAfter, LeadsOn, MayCome, path_by}
+use Rattle.fmp_explore.specs.States.{AreFew, AreKept, IsExamined, IsKnown, IsReached, IsStuckAfter, LeadsOn, MayCome, path_by, sections_of}
 use Rattle.fmp_explore.specs.Tries.{all_tries}
 use Rattle.fmp_fields.specs.Fields.{AreAllFields}
 use Rattle.fmp_image_bytes.specs.Images.{ImageTables}
@@ -25,9 +27,18 @@ use Rattle.fmp_instructions.specs.declared.instructions.MachineContext.{MachineC
 use Rattle.fmp_kernel.specs.KernelViews.{KernelView, view_after}
 use Rattle.fmp_replay.specs.Replays.{IsLegal, kernel_after, reaction, replay}
 use Rattle.fmp_schedules.specs.Deadlocks.{may_interrupt}
+use Rattle.fmp_schedules.specs.declared.section.Section.{Section}
 use Rattle.fmp_schedules.specs.Schedules.{Holds, HoldsThere, none_runs, watched_at_setup}
 use Rattle.fmp_seen.specs.declared.link.Link.{Link}
 use Rattle.fmp_seen.specs.Links.{IsLink, path_of}
+
+-- the sections in each of the states are kept, too
+pub record AreHeld (i : ImageTables) (n : ℕ) (q : Question) (held : List (Vec Section Global)) (links : List Link) :
+    Type 0 where
+  pub size : length held ≡ length links
+  pub each :
+      (k : ℕ) (sections : Vec Section Global) → slice_get held k ≡ Some sections →
+      sections.items ≡ sections_of i n q (path_of links k)
 
 -- the fields and the events of a search are those of its image
 pub record IsSurveyOf (i : ImageTables) (q : Question) (s : Survey) : Type 0 where
@@ -39,12 +50,14 @@ pub record IsFresh (i : ImageTables) (q : Question) (s : Survey) : Type 0 where
   pub survey : IsSurveyOf i q s
   pub no_rows : s.seen.rows ≡ []
   pub no_links : s.seen.links ≡ []
+  pub no_sections : s.rows.held.items ≡ []
 
 -- a search that keeps states
 pub record IsSurvey (i : ImageTables) (n : ℕ) (q : Question) (s : Survey) : Type 0 where
   pub survey : IsSurveyOf i q s
-  pub first : length s.rows.first.items ≡ length s.rows.fields.items
+  pub first : length s.rows.first.items ≡ length s.rows.fields.items + length q.sections.items
   pub kept : AreKept i n q s.rows.first.items s.rows.fields.items s.seen
+  pub held : AreHeld i n q s.rows.held.items s.seen.links
 
 -- a search has gone on: it keeps more states, or as many
 pub record Grows (old new : Survey) : Type 0 where

@@ -1,5 +1,5 @@
 -- The states that a search keeps. Each is the world to which a list of events leads.
-use Rattle.std.specs.Prelude.{ℕ, ◌≡◌, ◌<◌, List, [], ◌∷◌, ◌++◌, Option, Some, None, true, false, count_by, is_some, length, map, slice_get}
+use Rattle.std.specs.Prelude.{ℕ, zero, suc, ◌≡◌, ◌<◌, List, [], ◌∷◌, ◌++◌, Option, Some, None, true, false, count_by, is_some, length, map, slice_get}
 use Rattle.fmp_alike.specs.Alike.{Alike}
 use Rattle.fmp_alike.specs.Closed.{IsCovered, LeadsIn}
 use Rattle.fmp_base.specs.declared.events.Event.{Event}
@@ -15,7 +15,9 @@ use Rattle.fmp_instructions.specs.Machine.{code_meaning}
 use Rattle.fmp_instructions.specs.declared.instructions.MachineContext.{MachineContext}
 use Rattle.fmp_replay.specs.Replays.{IsLegal, reaction, replay}
 use Rattle.fmp_schedules.specs.Deadlocks.{IsDeadlock, is_interrupt, may_interrupt}
-use Rattle.fmp_schedules.specs.Schedules.{IsSilent, Watched, may_come, watch}
+use Rattle.fmp_schedules.specs.declared.section.Section.{Section}
+use Rattle.fmp_schedules.specs.Schedules.{IsSilent, Watched, lines_after, may_come, watch}
+use Rattle.fmp_schedules.specs.Sections.{section_along}
 use Rattle.fmp_schedules.specs.Tried.{is_event_of}
 use Rattle.fmp_seen.specs.declared.link.Link.{Link}
 use Rattle.fmp_seen.specs.Links.{AreLinked, path_of}
@@ -27,17 +29,33 @@ abbrev pub came_of : Option ℕ → List Event → ℕ
 came_of None es = 0
 came_of (Some most) es = count_by is_interrupt es
 
--- what is watched after events that told no forbidden line
-abbrev pub watched_of : Question → List Event → Watched
-watched_of q es = record { came = came_of q.interrupts es; told = false }
+-- the sections after these events
+unfoldable pub sections_of : ImageTables → (n : ℕ) → Question → List Event → List Section
+sections_of i n q es =
+    map (λ s. section_along s (lines_after i.system (code_meaning i.code) n es)) q.sections.items
+
+-- what is watched after events that told no forbidden line, and by which no task entered a section that another held
+abbrev pub watched_of : ImageTables → (n : ℕ) → Question → List Event → Watched
+watched_of i n q es =
+    record { came = came_of q.interrupts es; told = false; sections = sections_of i n q es; met = false }
 
 -- where the number of interrupts is limited, it fits a byte
 abbrev pub AreFew : Question → List Event → Type 0
 AreFew q es = is_some q.interrupts ≡ true → count_by is_interrupt es < 256
 
--- the numbers of the fields after these events
-abbrev pub numbers_after : ImageTables → (n : ℕ) → List What → List Event → List ℕ
-numbers_after i n fields es = map (number_of i.system (replay i n es).world (count_by is_interrupt es)) fields
+abbrev pub holder_place : Option ℕ → ℕ
+holder_place None = 0
+holder_place (Some t) = suc t
+
+-- the number of the task that holds a section, from 1 on, or 0
+abbrev pub holder_number : Section → ℕ
+holder_number s = holder_place s.holder
+
+-- the numbers of the fields after these events, and of the tasks that hold the sections
+abbrev pub numbers_after : ImageTables → (n : ℕ) → Question → List What → List Event → List ℕ
+numbers_after i n q fields es =
+    map (number_of i.system (replay i n es).world (count_by is_interrupt es)) fields
+    ++ map holder_number (sections_of i n q es)
 
 -- the row of these numbers, each of which is one of 32 bits
 pub record IsRowOf (first numbers row : List ℕ) : Type 0 where
@@ -49,7 +67,7 @@ pub record HasRow (i : ImageTables) (n : ℕ) (q : Question) (first : List ℕ) 
     (row : List ℕ) : Type 0 where
   pub legal : IsLegal i n es
   pub few : AreFew q es
-  pub is : IsRowOf first (numbers_after i n fields es) row
+  pub is : IsRowOf first (numbers_after i n q fields es) row
 
 -- the path to each state that is kept leads to a state of its row
 pub record AreKept (i : ImageTables) (n : ℕ) (q : Question) (first : List ℕ) (fields : List What) (seen : SeenStates) :
@@ -70,25 +88,25 @@ pub record IsReached (i : ImageTables) (n : ℕ) (q : Question) (links : List Li
   pub state : ℕ
   pub there : state < length links
   pub world : w ≡ (replay i n (path_of links state)).world
-  pub watch : a ≡ watched_of q (path_of links state)
+  pub watch : a ≡ watched_of i n q (path_of links state)
 
 -- one of the states is alike to that after these events
 abbrev pub IsKnown : ImageTables → (n : ℕ) → Question → List Link → List Event → Type 0
-IsKnown i n q links es = IsCovered (Alike i.system) (IsReached i n q links) (replay i n es).world (watched_of q es)
+IsKnown i n q links es = IsCovered (Alike i.system) (IsReached i n q links) (replay i n es).world (watched_of i n q es)
 
 -- what this does after these events leads to a state, if it leads to any, and tells no answer that must never be given
 -- to its call
 pub record LeadsOn (i : ImageTables) (n : ℕ) (q : Question) (links : List Link) (es : List Event) (e : Event) :
     Type 0 where
   pub leads :
-      LeadsIn (Alike i.system) (watch (rules_of q) (forbids q.nevers.items)) (IsReached i n q links) (watched_of q es)
+      LeadsIn (Alike i.system) (watch (rules_of q) (forbids q.nevers.items)) (IsReached i n q links) (watched_of i n q es)
       (reaction i n es e)
   pub silent : IsSilent (forbids_there i.system q.nevers_at.items) (reaction i n es e)
 
 -- the rules let an event come after others
 abbrev pub MayCome : ImageTables → (n : ℕ) → Question → List Event → Event → Type 0
 MayCome i n q es e =
-    may_come (rules_of q) i.system (code_meaning i.code) n (replay i n es).world (watched_of q es) e ≡ true
+    may_come (rules_of q) i.system (code_meaning i.code) n (replay i n es).world (watched_of i n q es) e ≡ true
 
 -- the state after these events is a deadlock
 abbrev pub IsStuckAfter : ImageTables → (n : ℕ) → Question → List Event → Type 0

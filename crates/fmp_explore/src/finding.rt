@@ -3,13 +3,15 @@ ghost use Rattle.std.specs.Prelude.{◌≡◌, ◌≤◌, ◌^◌, [], All, IfOk
 ghost use Rattle.fmp_base.specs.Systems.{tables_of};
 ghost use Rattle.fmp_instructions.specs.Machine.{code_meaning};
 ghost use Rattle.fmp_replay.specs.Replays.{kernel_after, replay};
+ghost use Rattle.fmp_schedules.specs.Sections.{IsMeeting};
 ghost use Rattle.fmp_schedules.specs.Deadlocks.{IsDeadlock, may_interrupt as may};
 ghost use Rattle.fmp_explore.specs.Endless.{IsEndlessOn};
-ghost use Rattle.fmp_explore.specs.Findings.{HasForbidden, IsFound, IsLeft, IsSeen, IsSo};
+ghost use Rattle.fmp_explore.specs.Findings.{HasForbidden, IsFound, IsLeft, IsMetAfter, IsSeen, IsSo};
 ghost use Rattle.fmp_explore.specs.Followed.{IsFollowed};
 
 use crate::coverage::Site;
 use crate::endless::is_endless;
+use crate::meeting::{follow_section, is_done};
 use crate::placing::is_bad;
 use crate::question::Question;
 use crate::replaying::{TAKEN_MOST, follow};
@@ -20,6 +22,7 @@ use fmp_code::Vm;
 use fmp_image_bytes::Image;
 use fmp_kernel::Kernel;
 use fmp_replay::kernel_of;
+use fmp_schedules::{Meeting, Section};
 use std::alloc::{AllocError, Global};
 
 /// What is seen after a list of events.
@@ -33,6 +36,17 @@ pub enum Sight {
     Deadlock,
     /// The actor of the processor of this number goes on for ever without a call.
     Endless(u8),
+    /// A task enters a section while another holds it, by a line of the last event.
+    Together(Together),
+}
+
+/// Two tasks in one section.
+#[derive(Clone, Copy, Debug, PartialEq, Eq)]
+pub struct Together {
+    /// The place of the section among those of the question.
+    pub section: usize,
+    /// The line by which a task enters, and the task that holds the section.
+    pub meeting: Meeting,
 }
 
 /// A list of events, each of which does something, and what is seen after them.
@@ -117,7 +131,75 @@ fn is_seen<'a>(
         Sight::Line(place) => tells_forbidden(kernel, image, n, question, steps, place),
         Sight::Deadlock => stands(kernel, image, n, question, steps),
         Sight::Endless(p) => goes_on(kernel, image, n, steps, p),
+        Sight::Together(_) => false,
     }
+}
+
+/// Whether this is the first of these lines by which a task enters a section while another holds it.
+fn is_meeting(section: &Section, lines: &[Line], meeting: Meeting) -> bool
+    ensures { IsTrue result → IsMeeting section.now lines.now meeting }
+{
+    match section.first_meeting(lines) {
+        Some(first) => first.place == meeting.place && first.holder == meeting.holder,
+        None => false,
+    }
+}
+
+/// Whether the lines of the event after these steps tell this of a section, on the kernel of an image that was just set
+/// up.
+fn is_met<'a>(
+    kernel: &mut Kernel<Vm<'a>>,
+    image: &'a Image,
+    n: u64,
+    section: Section,
+    before: &[Event],
+    last: Event,
+    meeting: Meeting,
+) -> bool
+    requires { kernel.old ≡ kernel_after image.now n [] }
+    ensures { IsTrue result → IsMetAfter image.now n section before.now last meeting }
+{
+    let Some(section) = follow_section(kernel, image, n, section, before) else {
+        return false;
+    };
+    if kernel.taken() >= TAKEN_MOST {
+        return false;
+    }
+    if !is_done(kernel, image, n, before, last) {
+        return false;
+    }
+    is_meeting(&section, kernel.lines(), meeting)
+}
+
+/// Whether each of these events does something on the kernel of an image that was just set up, and by a line of the
+/// last one a task enters a section of the question while another holds it, as this tells.
+fn are_together<'a>(
+    kernel: &mut Kernel<Vm<'a>>,
+    image: &'a Image,
+    n: u64,
+    question: &Question,
+    steps: &[Event],
+    together: Together,
+) -> bool
+    requires { kernel.old ≡ kernel_after image.now n [] }
+    ensures { IsTrue result → IsSo image.now n question.now steps.now (Sight.Together together) }
+{
+    let Some(section) = question.sections.get(together.section) else {
+        return false;
+    };
+    if steps.is_empty() {
+        return false;
+    }
+    let end = steps.len() - 1;
+    is_met(
+        kernel,
+        image,
+        n,
+        *section,
+        &steps[..end],
+        steps[end],
+        together.meeting,
+    )
 }
 
 /// Whether each of these events does something on the kernel of an image that was just set up, and this is seen then.
@@ -133,6 +215,9 @@ fn is_so<'a>(
     requires begun { kernel.old ≡ kernel_after image.now n [] }
     ensures { IsTrue result → IsSo image.now n question.now steps.now sight }
 {
+    if let Sight::Together(together) = sight {
+        return are_together(kernel, image, n, question, steps, together);
+    }
     if !follow(kernel, image, n, steps) {
         return false;
     }

@@ -1,15 +1,18 @@
 //! What a search notes on its way: candidates for findings, and what was ever done.
 ghost use Rattle.std.specs.Prelude.{◌≡◌, IfOk};
 ghost use Rattle.std.specs.List.{list_any};
+ghost use Rattle.fmp_schedules.specs.Schedules.{is_any_met};
+ghost use Rattle.fmp_schedules.specs.Sections.{is_met};
 ghost use Rattle.fmp_explore.specs.Places.{is_bad as is_bad_line};
 
 use crate::coverage::{Coverage, Site};
-use crate::finding::{Finding, Sight};
+use crate::finding::{Finding, Sight, Together};
 use crate::placing::is_bad;
 use crate::subject::Subject;
 use fmp_base::{Event, Line};
 use fmp_code::Vm;
 use fmp_kernel::Kernel;
+use fmp_schedules::Section;
 use std::alloc::{AllocError, Global};
 use std::mem;
 
@@ -48,6 +51,7 @@ fn is_of_kind(found: &Finding, sight: Sight, site: Option<Site>) -> bool {
         (Sight::Line(_), Sight::Line(_)) => true,
         (Sight::Deadlock, Sight::Deadlock) => true,
         (Sight::Endless(_), Sight::Endless(_)) => true,
+        (Sight::Together(a), Sight::Together(b)) => a.section == b.section,
         _ => false,
     };
     is_same && found.site == site
@@ -154,6 +158,51 @@ impl Notes {
             let bad = is_bad(kernel, sys, subject.question, line);
             self.note_line(alloc, path, made, place, line, bad)?;
             if bad {
+                found = true;
+            }
+        }
+        Ok(found)
+    }
+
+    /// Notes that a task enters the section of this number by one of the lines of a path's last event while another
+    /// holds it, if one does: whether one does.
+    fn note_meeting(
+        &mut self,
+        alloc: Global,
+        lines: &[Line],
+        path: Path<'_>,
+        number: usize,
+        section: &Section,
+        made: Option<Site>,
+    ) -> Result<bool, AllocError>
+        ensures { IfOk result (λ found. found ≡ is_met section.now lines.now) }
+    {
+        let Some(meeting) = section.first_meeting(lines) else {
+            return Ok(false);
+        };
+        let together = Together {
+            section: number,
+            meeting,
+        };
+        self.note_sight(alloc, path, Sight::Together(together), made)?;
+        Ok(true)
+    }
+
+    /// Notes each of these sections, as they were before the lines of a path's last event, that a task enters by one of
+    /// them while another holds it: whether there is such a section. `AllocError` if memory runs out.
+    pub fn note_meetings(
+        &mut self,
+        alloc: Global,
+        lines: &[Line],
+        path: Path<'_>,
+        sections: &[Section],
+        made: Option<Site>,
+    ) -> Result<bool, AllocError>
+        ensures { IfOk result (λ found. found ≡ is_any_met sections.now lines.now) }
+    {
+        let mut found = false;
+        for number in 0..sections.len() {
+            if self.note_meeting(alloc, lines, path, number, &sections[number], made)? {
                 found = true;
             }
         }

@@ -8,6 +8,7 @@ ghost use Rattle.fmp_explore.specs.Forbidden.{tells as names};
 
 use crate::coverage::Site;
 use fmp_base::{Call, Er, Event, Fault, Line};
+use fmp_schedules::Section;
 use std::alloc::Global;
 
 /// The codes that calls and the ends of waits answer.
@@ -58,6 +59,8 @@ pub struct Question {
     pub nevers: Vec<Never>,
     /// The answers that must never be given, each to one call.
     pub nevers_at: Vec<NeverAt>,
+    /// The sections in which one task at a time may be, each held by none.
+    pub sections: Vec<Section>,
     /// For each task, by its place, whether it may wait forever, as servers do. Tasks behind the last one may not.
     pub rest: Vec<bool>,
     /// When the clock may advance.
@@ -77,6 +80,7 @@ impl Question {
         Question {
             nevers: Vec::new(alloc),
             nevers_at: Vec::new(alloc),
+            sections: Vec::new(alloc),
             rest: Vec::new(alloc),
             ticks: Ticks::Any,
             interrupts: None,

@@ -3,7 +3,8 @@ ghost use Rattle.std.specs.Prelude.{◌≡◌, [], ◌∷◌, ◌++◌, IfOk, On
 ghost use Rattle.std.specs.List.{list_any};
 ghost use Rattle.fmp_schedules.specs.Deadlocks.{is_interrupt as is_request};
 ghost use Rattle.fmp_replay.specs.Replays.{kernel_after};
-ghost use Rattle.fmp_explore.specs.States.{AreFew, path_by};
+ghost use Rattle.fmp_schedules.specs.Schedules.{is_any_met};
+ghost use Rattle.fmp_explore.specs.States.{AreFew, path_by, sections_of};
 ghost use Rattle.fmp_explore.specs.Followed.{IsFollowed};
 ghost use Rattle.fmp_explore.specs.Places.{is_bad};
 ghost use Rattle.fmp_explore.specs.Searching.{
@@ -23,15 +24,17 @@ ghost use Rattle.fmp_explore.specs.Searching.{
 use crate::coverage::{Coverage, Site};
 use crate::endless::is_endless;
 use crate::finding::{Finding, Sight};
+use crate::holding::sections_after;
 use crate::notes::{Notes, Path};
 use crate::rows::Rows;
 use crate::stretching::NextStretch;
 use crate::subject::Subject;
 use crate::trying::{Attempt, tries_of};
 use crate::values::{Variety, varieties};
-use fmp_base::{Effect, Event};
+use fmp_base::{Effect, Event, Line};
 use fmp_code::Vm;
 use fmp_kernel::Kernel;
+use fmp_schedules::Section;
 use fmp_seen::{Entry, Link, Seen};
 use std::alloc::{AllocError, Global};
 
@@ -95,27 +98,31 @@ impl Survey {
         }
     }
 
-    /// Keeps the state of a kernel to which this link leads, if it is new. This many interrupts came. `AllocError` if
-    /// memory runs out.
+    /// Keeps the state of a kernel to which this link leads, with its sections, if it is new. This many interrupts
+    /// came. `AllocError` if memory runs out.
     fn keep(
         &mut self,
         alloc: Global,
         subject: &Subject<'_>,
         kernel: &Kernel<Vm<'_>>,
         came: usize,
+        sections: Vec<Section>,
         link: Link,
     ) -> Result<(), AllocError>
         requires survey { IsSurvey subject.now.image.now subject.now.n subject.now.question.now self.old }
         requires next { IsNext subject.now.image.now subject.now.n subject.now.question.now self.old.seen.links link
             kernel.now }
         requires came { came ≡ count_by is_request (path_by self.old.seen.links link) }
+        requires sections { sections.items ≡ sections_of subject.now.image.now subject.now.n subject.now.question.now
+            (path_by self.old.seen.links link) }
         ensures { OnOk result (HasKept subject.now.image.now subject.now.n subject.now.question.now self.old self.new
             (path_by self.old.seen.links link)) }
     {
         subject.image.keeps_rules();
-        self.rows.write(kernel, came)?;
+        self.rows.write(kernel, came, &sections)?;
         match self.seen.add(alloc, &self.rows.row, link)? {
             Entry::New(_) => {
+                self.rows.held.push(sections)?;
                 self.notes.coverage.note_state(kernel.tables());
                 Ok(())
             }
@@ -126,6 +133,26 @@ impl Survey {
                 Ok(())
             }
         }
+    }
+
+    /// Notes what a list of events leads to, whose last one left these lines by a stretch that made this call, if it made
+    /// one, and found these sections: whether a task enters one while another holds it.
+    fn note_meetings(
+        &mut self,
+        alloc: Global,
+        lines: &[Line],
+        path: Path<'_>,
+        sections: &[Section],
+        made: Option<Site>,
+    ) -> Result<(), AllocError>
+        ensures stays { OnOk result (Stays self.old self.new) }
+        ensures clean { OnOk result (self.new.sure ≡ true → is_any_met sections.now lines.now ≡ false) }
+    {
+        let found = self
+            .notes
+            .note_meetings(alloc, lines, path, sections, made)?;
+        self.sure &= !found;
+        Ok(())
     }
 
     /// Notes the lines of setup.
@@ -139,6 +166,8 @@ impl Survey {
         ensures clean { OnOk result (self.new.sure ≡ true →
             list_any (is_bad subject.now.image.now.system subject.now.question.now kernel.now.world) kernel.now.lines
             ≡ false) }
+        ensures alone { OnOk result (self.new.sure ≡ true →
+            is_any_met subject.now.question.now.sections.items kernel.now.lines ≡ false) }
     {
         let setup = Path {
             steps: &[],
@@ -146,7 +175,13 @@ impl Survey {
         };
         let found = self.notes.note_lines(alloc, subject, kernel, setup, None)?;
         self.sure &= !found;
-        Ok(())
+        self.note_meetings(
+            alloc,
+            kernel.lines(),
+            setup,
+            &subject.question.sections,
+            None,
+        )
     }
 
     /// Keeps the state after setup. `AllocError` if memory runs out.
@@ -161,17 +196,18 @@ impl Survey {
         ensures { OnOk result (IsBegun subject.now.image.now subject.now.n subject.now.question.now self.new) }
     {
         self.note_setup(alloc, subject, kernel)?;
-        self.rows.begin(kernel)?;
+        let sections = sections_after(alloc, &subject.question.sections, kernel.lines())?;
+        self.rows.begin(kernel, &sections)?;
         let link = Link {
             parent: 0,
             event: Event::Tick,
             kept: false,
             depth: 0,
         };
-        self.keep(alloc, subject, kernel, 0, link)
+        self.keep(alloc, subject, kernel, 0, sections, link)
     }
 
-    /// Keeps the state of a kernel to which an attempt led, whose event kept a place or was done.
+    /// Keeps the state of a kernel to which an attempt led, whose event kept a place or was done, with its sections.
     fn keep_next(
         &mut self,
         alloc: Global,
@@ -179,12 +215,15 @@ impl Survey {
         kernel: &Kernel<Vm<'_>>,
         attempt: Attempt<'_>,
         kept: bool,
+        sections: Vec<Section>,
     ) -> Result<(), AllocError>
         requires survey { IsSurvey subject.now.image.now subject.now.n subject.now.question.now self.old }
         requires at { IsAt self.old.seen.links attempt.state attempt.steps.now }
         requires followed { IsFollowed subject.now.image.now subject.now.n (attempt.steps.now ++ attempt.event ∷ [])
             kernel.now }
         requires few { AreFew subject.now.question.now (attempt.steps.now ++ attempt.event ∷ []) }
+        requires sections { sections.items ≡ sections_of subject.now.image.now subject.now.n subject.now.question.now
+            (attempt.steps.now ++ attempt.event ∷ []) }
         ensures { OnOk result (HasKept subject.now.image.now subject.now.n subject.now.question.now self.old self.new
             (attempt.entry.steps.now ++ attempt.entry.event ∷ [])) }
     {
@@ -193,11 +232,13 @@ impl Survey {
             subject,
             kernel,
             attempt.interrupts(),
+            sections,
             attempt.link(kept),
         )
     }
 
-    /// Notes the lines of an event that is done, by a stretch that made this call, if it made one.
+    /// Notes the lines of an event that is done, by a stretch that made this call, if it made one, and that found these
+    /// sections.
     fn note_lines(
         &mut self,
         alloc: Global,
@@ -205,11 +246,13 @@ impl Survey {
         kernel: &Kernel<Vm<'_>>,
         attempt: Attempt<'_>,
         made: Option<Site>,
+        sections: &[Section],
     ) -> Result<(), AllocError>
         ensures stays { OnOk result (Stays self.old self.new) }
         ensures clean { OnOk result (self.new.sure ≡ true →
             list_any (is_bad subject.now.image.now.system subject.now.question.now kernel.now.world) kernel.now.lines
             ≡ false) }
+        ensures alone { OnOk result (self.new.sure ≡ true → is_any_met sections.now kernel.now.lines ≡ false) }
     {
         if let Some(site) = made {
             self.notes.coverage.note_call(site);
@@ -218,7 +261,7 @@ impl Survey {
             .notes
             .note_lines(alloc, subject, kernel, attempt.path(), made)?;
         self.sure &= !found;
-        Ok(())
+        self.note_meetings(alloc, kernel.lines(), attempt.path(), sections, made)
     }
 
     /// An event is done, by a stretch that made this call, if it made one.
@@ -237,8 +280,10 @@ impl Survey {
         ensures { OnOk result (HasDealt subject.now.image.now subject.now.n subject.now.question.now self.old self.new
             attempt.entry.steps.now attempt.entry.event) }
     {
-        self.note_lines(alloc, subject, kernel, attempt, made)?;
-        self.keep_next(alloc, subject, kernel, attempt, false)
+        let before = self.rows.sections_at(alloc, attempt.state)?;
+        self.note_lines(alloc, subject, kernel, attempt, made, &before)?;
+        let sections = sections_after(alloc, &before, kernel.lines())?;
+        self.keep_next(alloc, subject, kernel, attempt, false, sections)
     }
 
     /// Whether the same event led to the state, and kept a place there: then it is known whether its actor goes on for
@@ -293,7 +338,8 @@ impl Survey {
             attempt.entry.steps.now attempt.entry.event) }
     {
         self.note_endless(alloc, subject, kernel, attempt, body)?;
-        self.keep_next(alloc, subject, kernel, attempt, true)
+        let sections = self.rows.sections_at(alloc, attempt.state)?;
+        self.keep_next(alloc, subject, kernel, attempt, true, sections)
     }
 
     /// Notes what an event did, which did this. Its stretch is this one.

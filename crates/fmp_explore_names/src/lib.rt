@@ -11,4 +11,4 @@ mod words;
 pub use answers::{Answered, answered_calls, append_answers};
 pub use naming::{LocalNames, append_name};
 pub use sites::CallLines;
-pub use words::{CodeAt, never_at_named, never_named};
+pub use words::{CodeAt, never_at_named, never_named, section_named};

@@ -1,6 +1,6 @@
 //! The words in which what must never happen is written.
 use fmp_base::{Er, Fault};
-use fmp_explore::{ANSWERS, Never};
+use fmp_explore::{ANSWERS, Never, Section};
 
 /// A code that must never be answered to the calls of a line of the text.
 #[derive(Clone, Copy)]
@@ -52,4 +52,15 @@ pub fn never_at_named(word: &str) -> Option<CodeAt> {
     let code = code_named(name)?;
     let line = number.parse::<u32>().ok()?;
     Some(CodeAt { code, line })
+}
+
+/// The section of a word as `1,2`, which tasks enter by `put(1)` and leave by `put(2)`, with nobody in it. None if the
+/// word is not of this form.
+pub fn section_named(word: &str) -> Option<Section> {
+    let (enters, leaves) = word.split_once(",")?;
+    Some(Section {
+        enters: enters.parse::<i32>().ok()?,
+        leaves: leaves.parse::<i32>().ok()?,
+        holder: None,
+    })
 }

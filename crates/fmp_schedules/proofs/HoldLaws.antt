@@ -14,10 +14,12 @@ use Rattle.fmp_alike.proofs.ClosedLaws.{run-covers}
 use Rattle.fmp_alike.proofs.StepLaws.{step-same}
 use Rattle.fmp_alike.proofs.WorldLaws.{worlds-chained}
 use Rattle.fmp_schedules.specs.Deadlocks.{IsDeadlock}
-use Rattle.fmp_schedules.specs.Schedules.{Holds, IsSchedule, Rules, Watched, at_first, watched_at_setup, is_request, is_told, lines_after, may_come, may_still, requests, watch, watched_on, reached}
+use Rattle.fmp_schedules.specs.Schedules.{Holds, IsSchedule, Rules, Watched, at_first, watched_at_setup, is_any_met, is_request, is_told, lines_after, may_come, may_still, requests, sections_after, watch, watched_on, reached}
+use Rattle.fmp_schedules.specs.declared.section.Section.{Section}
 use Rattle.fmp_schedules.specs.Tried.{IsSearched, IsTimeless, NoneIsDeadlock}
 use Rattle.fmp_schedules.proofs.DeadlockLaws.{deadlock-alike}
 use Rattle.fmp_schedules.proofs.RuleLaws.{may_come-same, watch-blind}
+use Rattle.fmp_schedules.proofs.SectionLaws.{any-along, any_met_along, none-along}
 use Rattle.fmp_schedules.proofs.TriedLaws.{tried-closed}
 
 or-none : (a : Bool) → a ≡ (a || false)
@@ -35,30 +37,44 @@ told-watched rules forbidden a (ls ∷ rest) =
     told-watched rules forbidden (watched_on rules forbidden a ls) rest
     ∙ or-assoc a.told (list_any forbidden ls) (is_told forbidden rest)
 
-abbrev limited : Bool → ℕ → Rules
-limited idle most = record { idle_ticks = idle; most = Some most }
+-- whether a task entered a section while another held it
+met-watched : (rules : Rules) (forbidden : Line → Bool) (a : Watched) (events : List (List Line))
+    → (watched (watch rules forbidden) a events).met ≡ (a.met || any_met_along a.sections events)
+met-watched rules forbidden a [] =
+    or-none a.met ∙ ap (λ (b : Bool). a.met || b) (sym (none-along a.sections))
+met-watched rules forbidden a (ls ∷ rest) =
+    met-watched rules forbidden (watched_on rules forbidden a ls) rest
+    ∙ or-assoc a.met (is_any_met a.sections ls) (any_met_along (sections_after a.sections ls) rest)
+    ∙ ap (λ (b : Bool). a.met || b) (any-along a.sections ls rest)
 
-came-watched : (idle : Bool) (most : ℕ) (forbidden : Line → Bool) (a : Watched) (events : List (List Line))
-    → (watched (watch (limited idle most) forbidden) a events).came ≡ a.came + requests events
-came-watched idle most forbidden a [] = omega arith
-came-watched idle most forbidden a (ls ∷ rest) =
+neither : (a b : Bool) → (a || b) ≡ false → (a ≡ false) × (b ≡ false)
+neither true b h = cc
+neither false b h = (refl, h)
+
+abbrev limited : Bool → ℕ → List Section → Rules
+limited idle most sections = record { idle_ticks = idle; most = Some most; sections = sections }
+
+came-watched : (idle : Bool) (most : ℕ) (sections : List Section) (forbidden : Line → Bool) (a : Watched) (events : List (List Line))
+    → (watched (watch (limited idle most sections) forbidden) a events).came ≡ a.came + requests events
+came-watched idle most sections forbidden a [] = omega arith
+came-watched idle most sections forbidden a (ls ∷ rest) =
     let e : (a.came + count_by is_request ls) + requests rest ≡ a.came + (count_by is_request ls + requests rest) = omega arith in
-    came-watched idle most forbidden (watched_on (limited idle most) forbidden a ls) rest
+    came-watched idle most sections forbidden (watched_on (limited idle most sections) forbidden a ls) rest
     ∙ e
     ∙ ap (λ (k : ℕ). a.came + k) (sym (sum_by-cons (λ (events : List Line). count_by is_request events) ls rest))
 
-still-watched : (idle : Bool) (most : Option ℕ) (forbidden : Line → Bool) (a : Watched) (events : List (List Line))
-    → may_still most (watched (watch (record { idle_ticks = idle; most = most }) forbidden) a events).came
+still-watched : (idle : Bool) (most : Option ℕ) (sections : List Section) (forbidden : Line → Bool) (a : Watched) (events : List (List Line))
+    → may_still most (watched (watch (record { idle_ticks = idle; most = most; sections = sections }) forbidden) a events).came
     ≡ may_still most (a.came + requests events)
-still-watched idle None forbidden a events = refl
-still-watched idle (Some most) forbidden a events = ap (λ (came : ℕ). nat_lt came most) (came-watched idle most forbidden a events)
+still-watched idle None sections forbidden a events = refl
+still-watched idle (Some most) sections forbidden a events = ap (λ (came : ℕ). nat_lt came most) (came-watched idle most sections forbidden a events)
 
 module _ {C : Type 0} (rules : Rules) (sys : SystemTables) (M : Meaning C) (n : ℕ) (forbidden : Line → Bool) (rest : List Bool)
     (K : World C → Watched → Type 0) (even : IsTimeless forbidden)
     (closed : IsClosed (Alike sys) (watch rules forbidden) (may_come rules sys M n) (step sys M n) K)
     (first : IsCovered (Alike sys) K (setup sys M).world (watched_at_setup rules sys M forbidden)) where
   abbrev pub watched_after : List Event → Watched
-  watched_after es = watched (watch rules forbidden) at_first (lines_after sys M n es)
+  watched_after es = watched (watch rules forbidden) (at_first rules.sections) (lines_after sys M n es)
 
   pub covered : (es : List Event) → IsSchedule rules sys M n forbidden es
       → IsCovered (Alike sys) K (reached sys M n es) (watched_after es)
@@ -72,14 +88,18 @@ module _ {C : Type 0} (rules : Rules) (sys : SystemTables) (M : Meaning C) (n : 
   still-after es =
       let e : requests (lines_after sys M n es) ≡ 0 + requests (lines_after sys M n es) = omega arith in
       ap (λ (came : ℕ). may_still rules.most came) e
-      ∙ sym (still-watched rules.idle_ticks rules.most forbidden at_first (lines_after sys M n es))
+      ∙ sym (still-watched rules.idle_ticks rules.most rules.sections forbidden (at_first rules.sections) (lines_after sys M n es))
 
   pub closed-holds : NoneIsBad (watch rules forbidden) K → NoneIsDeadlock rules sys M n rest K
       → Holds rules sys M n forbidden rest
   closed-holds clean free =
       record {
         never = λ es schedule. let k = covered es schedule in
-            sym (told-watched rules forbidden at_first (lines_after sys M n es)) ∙ clean k.world (watched_after es) k.kept;
+            sym (told-watched rules forbidden (at_first rules.sections) (lines_after sys M n es))
+            ∙ (neither (watched_after es).told (watched_after es).met (clean k.world (watched_after es) k.kept)).0;
+        alone = λ es schedule. let k = covered es schedule in
+            sym (met-watched rules forbidden (at_first rules.sections) (lines_after sys M n es))
+            ∙ (neither (watched_after es).told (watched_after es).met (clean k.world (watched_after es) k.kept)).1;
         free = λ es schedule d. let k = covered es schedule in
             free k.world (watched_after es) k.kept
             (deadlock-alike sys M n (reached sys M n es) k.world rest (may_still rules.most (watched_after es).came)
@@ -94,7 +114,7 @@ module _ {C : Type 0} (rules : Rules) (sys : SystemTables) (M : Meaning C) (n : 
 
   -- a search that tried each event has a world like the one that any schedule reaches
   pub searched-covered : (es : List Event) → IsSchedule rules sys M n forbidden es
-      → IsCovered (Alike sys) K (reached sys M n es) (watched (watch rules forbidden) at_first (lines_after sys M n es))
+      → IsCovered (Alike sys) K (reached sys M n es) (watched (watch rules forbidden) (at_first rules.sections) (lines_after sys M n es))
   searched-covered es schedule = covered rules sys M n forbidden rest K even searched-closed h.first es schedule
 
   -- a search that tried each event and found nothing shows that all schedules hold

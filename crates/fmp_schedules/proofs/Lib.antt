@@ -4,6 +4,7 @@ pub mod EventLines
 pub mod HoldLaws
 pub mod IdleLaws
 pub mod RuleLaws
+pub mod SectionLaws
 pub mod SectionSteps
 pub mod SilentLaws
 pub mod TriedLaws

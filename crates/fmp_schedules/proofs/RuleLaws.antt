@@ -13,8 +13,10 @@ use Rattle.fmp_base.specs.Systems.{SystemTables}
 use Rattle.fmp_alike.specs.Alike.{Alike}
 use Rattle.fmp_alike.specs.Closed.{AreAllowed, BothAlike, IsBlind, IsRule, Watch, all_timeless, allowed_after, timeless}
 use Rattle.fmp_alike.proofs.StepLaws.{step-same}
-use Rattle.fmp_schedules.specs.Schedules.{IsSchedule, Rules, Watched, watched_at_setup, came_after, is_nothing, is_request, may_come, may_still, none_runs, watch, watched_on}
+use Rattle.fmp_schedules.specs.Schedules.{IsSchedule, Rules, Watched, watched_at_setup, came_after, is_any_met, is_nothing, is_request, may_come, may_still, none_runs, sections_after, watch, watched_on}
+use Rattle.fmp_schedules.specs.declared.section.Section.{Section}
 use Rattle.fmp_schedules.specs.Tried.{IsTimeless}
+use Rattle.fmp_schedules.proofs.SectionLaws.{any_met-timeless, sections-timeless}
 
 nothing-same : {C : Type 0} (R : World C → World C → Type 0) (x y : Reaction C) → BothAlike R x y → is_nothing x ≡ is_nothing y
 nothing-same R Nothing Nothing h = refl
@@ -72,8 +74,18 @@ module _ (forbidden : Line → Bool) (even : IsTimeless forbidden) where
   watched-timeless : (rules : Rules) (a : Watched) (ls : List Line)
       → watched_on rules forbidden a ls ≡ watched_on rules forbidden a (all_timeless ls)
   watched-timeless rules a ls =
-      ap (λ (k : ℕ). record { came = k; told = a.told || list_any forbidden ls }) (came-timeless rules.most a.came ls)
-      ∙ ap (λ (b : Bool). record { came = came_after rules.most a.came (all_timeless ls); told = a.told || b }) (told-timeless ls)
+      let with : ℕ → Bool → List Section → Bool → Watched =
+      λ (came : ℕ) (told : Bool) (sections : List Section) (met : Bool).
+      record { came = came; told = a.told || told; sections = sections; met = a.met || met } in
+      let ms : List Line = all_timeless ls in
+      ap (λ (k : ℕ). with k (list_any forbidden ls) (sections_after a.sections ls) (is_any_met a.sections ls))
+      (came-timeless rules.most a.came ls)
+      ∙ ap (λ (b : Bool). with (came_after rules.most a.came ms) b (sections_after a.sections ls) (is_any_met a.sections ls))
+      (told-timeless ls)
+      ∙ ap (λ (ss : List Section). with (came_after rules.most a.came ms) (list_any forbidden ms) ss (is_any_met a.sections ls))
+      (sections-timeless a.sections ls)
+      ∙ ap (λ (b : Bool). with (came_after rules.most a.came ms) (list_any forbidden ms) (sections_after a.sections ms) b)
+      (any_met-timeless a.sections ls)
 
   pub watch-blind : (rules : Rules) → IsBlind (watch rules forbidden)
   watch-blind rules a ls ms e =

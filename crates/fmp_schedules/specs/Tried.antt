@@ -40,7 +40,8 @@ NoneIsDeadlock {C} rules sys M n rest K =
 
 -- What a search has to show of the set of worlds that it has seen, each with what is watched there. Each has the
 -- processors of the system. The world after setup is like one of them. Each of the system's events that may come to one
--- of them was tried, and led to nothing new. In none was a forbidden line told, and none is a deadlock.
+-- of them was tried, and led to nothing new. In none was a forbidden line told, or did a task enter a section that
+-- another held, and none is a deadlock.
 pub record IsSearched {C : Type 0} (rules : Rules) (sys : SystemTables) (M : Meaning C) (n : ℕ)
     (forbidden : Line → Bool) (rest : List Bool) (K : World C → Watched → Type 0) : Type 0 where
   pub whole : (w : World C) (a : Watched) → K w a → length w.state.processors ≡ sys.processors

@@ -91,8 +91,9 @@ pub fn tried_lists_are_closed<C, S>()
         IsClosed (Alike sys) W may (step sys M n) (IsListed seen) }
 {}
 
-/// If a closed list has a world like that after setup, and in none of its worlds was a forbidden line told, and none is
-/// a deadlock, then no schedule, however long, tells a forbidden line or reaches a deadlock.
+/// If a closed list has a world like that after setup, and in none of its worlds was a forbidden line told or did a task
+/// enter a section that another held, and none is a deadlock, then no schedule, however long, tells a forbidden line,
+/// lets a task enter a section that another holds, or reaches a deadlock.
 pub fn closed_lists_hold<C>()
     ensures { (rules : Rules) (sys : SystemTables) (M : Meaning C) (n : ℕ) (forbidden : Line → Bool)
         (rest : List Bool) (seen : List (Seen C Watched)) → IsTimeless forbidden →

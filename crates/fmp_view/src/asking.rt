@@ -8,8 +8,8 @@ use crate::form::{
 };
 use clap::{ArgMatches, Error};
 use fmp_base::Fault;
-use fmp_explore::{Never, Question, Ticks};
-use fmp_explore_names::{CodeAt, never_at_named, never_named};
+use fmp_explore::{Never, Question, Section, Ticks};
+use fmp_explore_names::{CodeAt, never_at_named, never_named, section_named};
 use fmp_files::{mistake, mistake_of};
 use fmp_timeline::Choice;
 use std::alloc::{AllocError, Global};
@@ -23,6 +23,12 @@ const OUT_OVER_INPUT: &str = "the file OUT is one of the two that are read";
 /// The message for a word that says nothing of what must never happen.
 const NO_NEVER: &str =
     "--never wants an answer as E_QOVR or E_TMOUT:12, or a printed value as 'put(99)'";
+
+/// The message for a word that names no section, or for more sections than are watched.
+const NO_SECTION: &str = "--alone wants two values as 1,2, and is given at most 4 times";
+
+/// How many sections are watched at most.
+const SECTIONS_MAX: usize = 4;
 
 /// The message for a line of an answer in which no call stands.
 const NO_CALL: &str = "--never names a line of SRC in which no call stands";
@@ -195,7 +201,19 @@ fn nevers_at(alloc: Global, words: &[&str]) -> Result<Vec<CodeAt>, Error> {
     Ok(codes)
 }
 
-/// What is asked of all schedules.
+/// The sections that these words name. An error if one names none, or if there are too many.
+fn sections(alloc: Global, words: &[&str]) -> Result<Vec<Section>, Error> {
+    let mut sections = Vec::new(alloc);
+    for word in words {
+        match section_named(word) {
+            Some(section) if sections.len() < SECTIONS_MAX => sections.push(section)?,
+            _ => return Err(no_section(alloc)?),
+        }
+    }
+    Ok(sections)
+}
+
+/// What is asked of all schedules, but for the sections.
 fn question_of(alloc: Global, words: &ArgMatches<'_>) -> Result<Question, AllocError> {
     let mut question = Question::new(alloc);
     question.nevers.push(Never::Fault(Fault::Overflow))?;
@@ -227,10 +245,12 @@ fn given<'a>(
 /// What is explored.
 fn exploring_of<'a>(alloc: Global, words: &ArgMatches<'a>) -> Result<Exploring<'a>, Error> {
     let nevers = given(alloc, words, "never")?;
+    let mut question = question_of(alloc, words)?;
+    question.sections = sections(alloc, &given(alloc, words, "alone")?)?;
     Ok(Exploring {
         cfg: word_of(words, "CFG"),
         src: word_of(words, "SRC"),
-        question: question_of(alloc, words)?,
+        question,
         nevers_at: nevers_at(alloc, &nevers)?,
         nevers,
         rest: given(alloc, words, "rest")?,
@@ -280,6 +300,11 @@ pub fn dump_over_input(alloc: Global) -> Result<Error, AllocError> {
 /// The error for a word that says nothing of what must never happen, which has the status 2.
 fn no_never(alloc: Global) -> Result<Error, AllocError> {
     mistake_of(explore_command(alloc), "fmp_view explore", NO_NEVER)
+}
+
+/// The error for a word that names no section, or for too many sections, which has the status 2.
+fn no_section(alloc: Global) -> Result<Error, AllocError> {
+    mistake_of(explore_command(alloc), "fmp_view explore", NO_SECTION)
 }
 
 /// The error for a line of an answer in which no call stands, which has the status 2.

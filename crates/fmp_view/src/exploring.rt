@@ -4,8 +4,8 @@ ghost use Rattle.std.specs.Prelude.{◌≡◌, ◌≤◌, ◌^◌};
 use crate::asking::kept_bound;
 use fmp_base::{Line, Name, System};
 use fmp_explore::{
-    Coverage, Ending, Finding, NeverAt, Question, Report, Sight, Site, Started, Ticks, Watcher,
-    explore, left_by,
+    Coverage, Ending, Finding, NeverAt, Question, Report, Section, Sight, Site, Started, Ticks,
+    Together, Watcher, explore, left_by,
 };
 use fmp_explore_names::{
     CallLines, CodeAt, LocalNames, answered_calls, append_answers, append_name,
@@ -42,6 +42,7 @@ struct Sources<'a> {
     bound: u64,
     lines: &'a CallLines,
     names: &'a LocalNames,
+    sections: &'a [Section],
     named: Named<'a>,
     ghost low: { 1 ≤ bound },
     ghost high: { bound ≤ 2 ^ 48 },
@@ -70,7 +71,9 @@ fn say_place(
 fn line_of(sources: &Sources<'_>, finding: &Finding, site: Site) -> Option<u32> {
     match finding.sight {
         Sight::Endless(_) => sources.lines.head(site.body),
-        Sight::Line(_) | Sight::Deadlock => sources.lines.line(sources.image.code(), site),
+        Sight::Line(_) | Sight::Deadlock | Sight::Together(_) => sources
+            .lines
+            .line(sources.image.code(), site),
     }
 }
 
@@ -126,6 +129,28 @@ fn say_deadlock(
     Ok(())
 }
 
+/// Appends who holds the section that a task entered.
+fn say_holder(
+    alloc: Global,
+    out: &mut Vec<u8>,
+    sources: &Sources<'_>,
+    together: Together,
+) -> Result<(), AllocError> {
+    say(out, ": while ")?;
+    let holder = usize::from(together.meeting.holder);
+    if let Some(config) = sources.image.system().tasks.get(holder) {
+        out.extend_from_slice(config.name.as_bytes())?;
+    }
+    let Some(section) = sources.sections.get(together.section) else {
+        return Ok(());
+    };
+    let (enters, leaves) = (section.enters, section.leaves);
+    say(
+        out,
+        format!(in alloc; " is between put({enters}) and put({leaves})")?.as_str(),
+    )
+}
+
 /// Appends what is seen after the steps of a finding.
 fn say_sight(
     alloc: Global,
@@ -145,6 +170,11 @@ fn say_sight(
             out,
             format!(in alloc; "processor {p} goes on for ever without a call")?.as_str(),
         ),
+        Sight::Together(together) => {
+            let sys = sources.image.system();
+            say_line(out, sys, left.number, &left.lines, together.meeting.place)?;
+            say_holder(alloc, out, sources, together)
+        }
     }
 }
 
@@ -212,6 +242,13 @@ fn say_claim(
         say(out, "never ")?;
         say(out, never)?;
         say(out, ", ")?;
+    }
+    for section in &question.sections {
+        let (enters, leaves) = (section.enters, section.leaves);
+        say(
+            out,
+            format!(in alloc; "alone {enters},{leaves}, ")?.as_str(),
+        )?;
     }
     say(out, "no deadlock, no fault: ")?;
     say_lists(alloc, out, question)?;
@@ -507,6 +544,7 @@ pub fn explored_image<W: Watcher>(
         bound,
         lines: &lines,
         names: &names,
+        sections: &question.sections,
         named,
     };
     explored_report(alloc, &sources, question, &report)

@@ -62,6 +62,11 @@ const NEVER: &str =
 or a printed value, as 'put(99)'; it may be given again. That a body stops with a fault must
 never happen anyway";
 
+/// Where one task at a time may be.
+const ALONE: &str =
+    "One task at a time may be between 'put(A)' and 'put(B)': A,B are two values, as 1,2. A task is
+there from its 'put(A)' to its 'put(B)' or its end. It may be given again, at most 4 times";
+
 /// Which task may wait forever.
 const REST: &str = "Name of a task that may wait forever, as servers do; it may be given again";
 
@@ -358,6 +363,7 @@ pub fn explore_command<'a>(alloc: Global) -> Made<'a> {
     let command = with_argument(Ok(named(alloc, "explore", about, example)), cfg);
     let command = with_argument(command, src);
     let command = with_argument(command, again(alloc, "never", "WHAT", NEVER));
+    let command = with_argument(command, again(alloc, "alone", "A,B", ALONE));
     let command = with_argument(command, again(alloc, "rest", "TASK", REST));
     let command = with_argument(command, ticks(alloc));
     let command = with_argument(command, number(alloc, "ints", "K", 0, 255, INTS));

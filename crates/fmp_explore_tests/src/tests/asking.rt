@@ -2,8 +2,10 @@
 //! the most values. And the words of what must never happen.
 use crate::tests::searching::{question, searched};
 use fmp_base::Er;
-use fmp_explore::{Ending, Never, NeverAt, Report, Site};
-use fmp_explore_names::{CallLines, CodeAt, LocalNames, append_name, never_at_named, never_named};
+use fmp_explore::{Ending, Never, NeverAt, Report, Section, Sight, Site};
+use fmp_explore_names::{
+    CallLines, CodeAt, LocalNames, append_name, never_at_named, never_named, section_named,
+};
 use fmp_fields::What;
 use fmp_image::build;
 use std::alloc::Global;
@@ -177,4 +179,45 @@ fn words_of_what_must_never_happen(rt: HostRuntime) {
     );
     assert!(rt; never_at_named("E_QOVR").is_none());
     assert!(rt; never_at_named("E_QOVR:").is_none());
+}
+
+/// What a section is that nobody is in.
+fn section(enters: i32, leaves: i32) -> Section {
+    Section {
+        enters,
+        leaves,
+        holder: None,
+    }
+}
+
+#[test]
+fn words_of_sections(rt: HostRuntime) {
+    assert_eq!(rt; section_named("1,-2"), Some(section(1, -2)));
+    assert_eq!(rt; section_named("1"), None);
+    assert_eq!(rt; section_named("1,"), None);
+    assert_eq!(rt; section_named("1,2,3"), None);
+}
+
+/// Each enters and leaves on a processor of its own.
+const CROSSED: (&str, &str) = (
+    "NUM_PRC(2);
+CLASS(TCL_1) { CRE_TSK(A, { TA_ACT, 0, cross, 8, 256, NULL }); }
+CLASS(TCL_2) { CRE_TSK(B, { TA_ACT, 0, cross, 8, 256, NULL }); }",
+    "task cross { put(1); put(2); }",
+);
+
+#[test]
+fn two_in_a_section(rt: HostRuntime) -> Result<(), Fail> {
+    let alloc = rt.alloc();
+    let mut asked = question(alloc)?;
+    asked.sections.push(section(1, 2))?;
+    let report = searched(alloc, CROSSED.0, CROSSED.1, &asked)?;
+    assert_eq!(rt; report.findings.len(), 1);
+    let found = &report.findings[0];
+    assert_eq!(rt; found.steps.len(), 2);
+    assert!(rt; matches!(found.sight, Sight::Together(_)));
+    asked.sections[0].enters = 3;
+    let report = searched(alloc, CROSSED.0, CROSSED.1, &asked)?;
+    assert!(rt; report.holds);
+    Ok(())
 }

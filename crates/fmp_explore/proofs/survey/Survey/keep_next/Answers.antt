@@ -2,6 +2,7 @@ use Rattle.std.proofs.Common.{◌∷◌, ◌++◌, [], List, OnOk, ap, count_by,
 use Rattle.fmp_base.specs.declared.events.Event.{Event}
 use Rattle.fmp_schedules.specs.Deadlocks.{is_interrupt}
 use Rattle.fmp_explore.specs.Searching.{HasKept}
+use Rattle.fmp_explore.specs.States.{sections_of}
 use Rattle.fmp_explore.proofs.NextLemmas.{next_linked, next_of, next_path}
 use Rattle.fmp_explore.proofs.survey.Survey.keep_next.Goals as goal
 
@@ -24,6 +25,17 @@ keep-requires-clause-came c =
     let l = c.link.ensures in
     c.interrupts.ensures
     ∙ ap (λ (es : List Event). count_by is_interrupt es)
+    (sym (next_path links a.state a.steps.now a.event c.link.result c.requires.survey.kept.linked c.requires.at l.parent
+    l.event l.depth))
+
+pub keep-requires-clause-sections : goal.keep-requires-clause-sections
+keep-requires-clause-sections c =
+    let s = c.args.subject.now in
+    let links = c.args.self.now.seen.links in
+    let a = c.args.attempt in
+    let l = c.link.ensures in
+    c.requires.sections
+    ∙ ap (λ (es : List Event). sections_of s.image.now s.n s.question.now es)
     (sym (next_path links a.state a.steps.now a.event c.link.result c.requires.survey.kept.linked c.requires.at l.parent
     l.event l.depth))
 

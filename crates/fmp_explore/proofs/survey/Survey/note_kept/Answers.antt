@@ -1,4 +1,6 @@
 use Rattle.std.proofs.lemmas.Result.{IfOk-weaker}
+use Rattle.std.proofs.Common.{◌∙◌}
+use Rattle.fmp_explore.proofs.HeldLemmas.{held_at, sections_stay}
 use Rattle.fmp_explore.proofs.NextLemmas.{dealt_kept}
 use Rattle.fmp_explore.proofs.SurveyLemmas.{stays_at, stays_survey}
 use Rattle.fmp_explore.proofs.survey.Survey.note_kept.Goals as goal
@@ -16,6 +18,18 @@ keep_next-requires-clause-at c =
 
 pub keep_next-requires-clause-followed : goal.keep_next-requires-clause-followed
 keep_next-requires-clause-followed c = c.requires.kept.followed
+
+pub keep_next-requires-clause-sections : goal.keep_next-requires-clause-sections
+keep_next-requires-clause-sections c =
+    let s = c.args.subject.now in
+    let a = c.args.attempt in
+    let stays = c.in_ok-note_endless.ensures in
+    let survey =
+    stays_survey s.image.now s.n s.question.now c.args.self.now c.note_endless.new.self stays c.requires.survey in
+    held_at s.image.now s.n s.question.now c.note_endless.new.self.rows.held.items c.note_endless.new.self.seen.links
+    a.state a.steps.now c.in_ok-sections.sections.items survey.held
+    (stays_at c.args.self.now c.note_endless.new.self a.state a.steps.now stays c.requires.at) c.in_ok-sections.ensures
+    ∙ sections_stay s.image.now s.n s.question.now a.steps.now a.event c.args.kernel.now c.requires.kept
 
 pub returns : goal.returns
 returns c =
