@@ -70,7 +70,7 @@ class Item:
 
     def takes(self):
         """What an option takes, as `N`, or nothing."""
-        value = re.search(r"<(\w+)>", self.form)
+        value = re.search(r"<([\w,]+)>", self.form)
         return value[1] if value else ""
 
 

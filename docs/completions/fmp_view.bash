@@ -6,7 +6,7 @@ _fmp_view() {
         COMPREPLY=($(compgen -W "code fault run step drive why explore diff expect stats waves timeline help -h --help -V --version" -- "$word"))
         return
     fi
-    case $before in --events|--seed|--bound|--bound|--events|--seed|--bound|--bound|--at|--never|--rest|--ticks|--ints|--bound|--states|--out|--bound|--bound|--bound|--bound|--bound|--from|--to) return ;; esac
+    case $before in --events|--seed|--bound|--bound|--events|--seed|--bound|--bound|--at|--never|--alone|--rest|--ticks|--ints|--bound|--states|--out|--bound|--bound|--bound|--bound|--bound|--from|--to) return ;; esac
     case ${COMP_WORDS[1]} in
         code) words="-h --help"; [[ $word == -* ]] || { COMPREPLY=($(compgen -W "E_OK E_SYS E_NOSPT E_RSATR E_PAR E_ID E_CTX E_ILUSE E_OBJ E_QOVR E_RLWAI E_TMOUT F_OVF F_DIV F_IDX B1 B2 B3 B4 B5 B6 B7 B9 L1 L2 L3 L4 L5 L6 S1 S2 S3 H4 H5" -- "$word")); return; } ;;
         fault) words="--json -h --help" ;;
