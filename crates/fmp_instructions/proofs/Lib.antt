@@ -1,6 +1,7 @@
 pub mod Bodies
 pub mod Conjunctions
 pub mod Fetching
+pub mod Fitting
 pub mod Filling
 pub mod Frames
 pub mod Operations

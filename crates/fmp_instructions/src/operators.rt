@@ -1,5 +1,5 @@
 //! What the operators give, and their faults.
-ghost use Rattle.std.specs.Prelude.{◌≡◌, false, OnOk, int_rem};
+ghost use Rattle.std.specs.Prelude.{◌≡◌, ◌+ℤ◌, false, pos, OnOk, int_rem};
 ghost use Rattle.fmp_base.specs.Operators.{fit, place_in, unary_value, binary_value, quotient, is_zero};
 
 use fmp_base::{BinaryOperator, Fault, UnaryOperator};
@@ -12,6 +12,28 @@ fn fitted(exact: i64) -> Result<i32, Fault>
     } else {
         Ok(exact as i32)
     }
+}
+
+// As `fitted`, by one comparison of what is exact and 2 ^ 31 more: after a sum it is the processor's own test for an
+// overflow.
+#[inline(always)]
+#[tactic(auto, using(crate::proofs::Fitting::over, crate::proofs::Fitting::within))]
+fn fitted_sum(exact: i64, shifted: i64) -> Result<i32, Fault>
+    requires { shifted ≡ exact +ℤ pos 2147483648 }
+    ensures { result ≡ fit exact }
+{
+    if shifted.cast_unsigned() > 4294967295 {
+        Err(Fault::Overflow)
+    } else {
+        Ok(exact as i32)
+    }
+}
+
+fn sum(x: i32, y: i32) -> Result<i32, Fault>
+    ensures { result ≡ fit (x +ℤ y) }
+{
+    let exact = x as i64 + y as i64;
+    fitted_sum(exact, exact + 2147483648)
 }
 
 /// What a unary operator gives.
@@ -65,7 +87,7 @@ pub fn apply_binary(operator: BinaryOperator, x: i32, y: i32) -> Result<i32, Fau
     ensures { result ≡ binary_value operator x y }
 {
     match operator {
-        BinaryOperator::Add => fitted(x as i64 + y as i64),
+        BinaryOperator::Add => sum(x, y),
         BinaryOperator::Subtract => fitted(x as i64 - y as i64),
         BinaryOperator::Multiply => fitted(x as i64 * y as i64),
         BinaryOperator::Divide => divided(x, y),
