@@ -82,12 +82,14 @@ view-If s e v xs is items =
     ap statement_view is ∙ statement_view-If e v ∙ ap (λ ys. if_then (expression_view e) (block_view ys)) (sym items)
 
 pub view-IfElse :
-    (s : Statement) (e : Expression) (v w : Vec Statement Global) (xs ys : List Statement) → s ≡ IfElse e v w →
-    xs ≡ v.items → ys ≡ w.items → statement_view s ≡ if_else (expression_view e) (block_view xs) (block_view ys)
-view-IfElse s e v w xs ys is first second =
+    (s : Statement) (e : Box Expression Global) (v w : Vec Statement Global) (x : Expression) (xs ys : List Statement) →
+    s ≡ IfElse e v w → x ≡ e.value → xs ≡ v.items → ys ≡ w.items →
+    statement_view s ≡ if_else (expression_view x) (block_view xs) (block_view ys)
+view-IfElse s e v w x xs ys is test first second =
     ap statement_view is ∙ statement_view-IfElse e v w
-    ∙ ap (λ zs. if_else (expression_view e) (block_view zs) (block_view w.items)) (sym first)
-    ∙ ap (λ zs. if_else (expression_view e) (block_view xs) (block_view zs)) (sym second)
+    ∙ ap (λ y. if_else (expression_view y) (block_view v.items) (block_view w.items)) (sym test)
+    ∙ ap (λ zs. if_else (expression_view x) (block_view zs) (block_view w.items)) (sym first)
+    ∙ ap (λ zs. if_else (expression_view x) (block_view xs) (block_view zs)) (sym second)
 
 pub view-While :
     (s : Statement) (e : Expression) (v : Vec Statement Global) (xs : List Statement) → s ≡ While e v → xs ≡ v.items →

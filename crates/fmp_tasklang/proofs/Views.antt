@@ -58,8 +58,8 @@ pub statement_view-If :
 statement_view-If e s = search (rules, the_lemmas, row_view-items)
 
 pub statement_view-IfElse :
-    (e : Expression) (s r : Vec Statement Global) →
-    statement_view (IfElse e s r) ≡ if_else (expression_view e) (block_view s.items) (block_view r.items)
+    (e : Box Expression Global) (s r : Vec Statement Global) →
+    statement_view (IfElse e s r) ≡ if_else (expression_view e.value) (block_view s.items) (block_view r.items)
 statement_view-IfElse e s r = search (rules, the_lemmas, row_view-items)
 
 pub statement_view-While :
@@ -74,8 +74,10 @@ while_view e s = statement_view-While e s ∙ ap (while (expression_view e)) (bl
 pub if_view : (e : Expression) (s : Vec Statement Global) → statement_view (If e s) ≡ if_then (expression_view e) (reading.block_view s)
 if_view e s = statement_view-If e s ∙ ap (if_then (expression_view e)) (block_view-is s.items)
 
-pub if_else_view : (e : Expression) (s r : Vec Statement Global) → statement_view (IfElse e s r) ≡ if_else (expression_view e) (reading.block_view s) (reading.block_view r)
-if_else_view e s r = statement_view-IfElse e s r ∙ ap₂ (if_else (expression_view e)) (block_view-is s.items) (block_view-is r.items)
+pub if_else_view :
+    (e : Box Expression Global) (s r : Vec Statement Global) →
+    statement_view (IfElse e s r) ≡ if_else (expression_view e.value) (reading.block_view s) (reading.block_view r)
+if_else_view e s r = statement_view-IfElse e s r ∙ ap₂ (if_else (expression_view e.value)) (block_view-is s.items) (block_view-is r.items)
 
 pub views_of_parts : ViewsOfParts
 views_of_parts =

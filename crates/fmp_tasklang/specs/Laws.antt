@@ -37,8 +37,8 @@ pub record ViewsOfParts : Type 0 where
       (e : Expression) (s : Vec Statement Global) →
       statement_view (If e s) ≡ if_then (expression_view e) (block_view s.items)
   pub if_else_statement :
-      (e : Expression) (s r : Vec Statement Global) →
-      statement_view (IfElse e s r) ≡ if_else (expression_view e) (block_view s.items) (block_view r.items)
+      (e : Box Expression) (s r : Vec Statement Global) →
+      statement_view (IfElse e s r) ≡ if_else (expression_view (box_value e)) (block_view s.items) (block_view r.items)
   pub while_statement :
       (e : Expression) (s : Vec Statement Global) →
       statement_view (While e s) ≡ while (expression_view e) (block_view s.items)

@@ -56,10 +56,10 @@ call_view c =
 abbrev mutual
   pub statement_view : Statement → StatementTree
   statement_view (Assign w e) = assign w (expression_view e)
-  statement_view (AssignElement w i e) = assign_element w (expression_view i) (expression_view e)
+  statement_view (AssignElement w i e) = assign_element w (expression_view i.value) (expression_view e.value)
   statement_view (Call c) = service_call (call_view c)
   statement_view (If' e m s) = if_then (expression_view e) (row_view s)
-  statement_view (IfElse' e m s n r) = if_else (expression_view e) (row_view s) (row_view r)
+  statement_view (IfElse' e m s n r) = if_else (expression_view e.value) (row_view s) (row_view r)
   statement_view (While' e m s) = while (expression_view e) (row_view s)
   statement_view Break = break
   statement_view Continue = continue

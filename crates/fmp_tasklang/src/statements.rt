@@ -107,11 +107,15 @@ fn make(alloc: Global, target: Word, change: Change) -> Result<Statement, ReadEr
 {
     match change {
         Change::Variable(source) => assign(alloc, target, source),
-        Change::Element(element) => Ok(Statement::AssignElement {
-            array: target,
-            index: element.index,
-            value: element.value,
-        }),
+        Change::Element(element) => {
+            let index = Box::new(alloc, element.index)?;
+            let value = Box::new(alloc, element.value)?;
+            Ok(Statement::AssignElement {
+                array: target,
+                index,
+                value,
+            })
+        }
     }
 }
 
@@ -284,23 +288,30 @@ fn if_statement(
     let (condition, next) = condition(alloc, tokens, depth, at + 1)?;
     let (then, next) = block(alloc, tokens, depth, looped, next)?;
     let (otherwise, next) = else_part(alloc, tokens, depth, looped, next)?;
-    Ok((choose(condition, then, otherwise), next))
+    let chosen = choose(alloc, condition, then, otherwise)?;
+    Ok((chosen, next))
 }
 
 fn choose(
+    alloc: Global,
     condition: Expression,
     then: Vec<Statement>,
     otherwise: Option<Vec<Statement>>,
-) -> Statement
-    ensures { statement_view result ≡ choice (expression_view condition) (block_view then) (else_view otherwise) }
+) -> Result<Statement, ReadError>
+    ensures tree { IfOk result (λ s. statement_view s
+        ≡ choice (expression_view condition) (block_view then) (else_view otherwise)) }
+    ensures memory { IfErr result (λ e. e ≡ ReadError.Memory) }
 {
     match otherwise {
-        Some(otherwise) => Statement::IfElse {
-            condition,
-            then,
-            otherwise,
-        },
-        None => Statement::If { condition, then },
+        Some(otherwise) => {
+            let condition = Box::new(alloc, condition)?;
+            Ok(Statement::IfElse {
+                condition,
+                then,
+                otherwise,
+            })
+        }
+        None => Ok(Statement::If { condition, then }),
     }
 }
 

@@ -76,11 +76,11 @@ pub enum Statement {
         target: Word,
         value: Expression,
     },
-    /// `array[index] = value;`
+    /// `array[index] = value;` Both expressions lie in boxes, so that the other statements need no room for them.
     AssignElement {
         array: Word,
-        index: Expression,
-        value: Expression,
+        index: Box<Expression>,
+        value: Box<Expression>,
     },
     /// A service call, with or without a variable before `=`.
     Call(ServiceCall),
@@ -89,9 +89,10 @@ pub enum Statement {
         condition: Expression,
         then: Vec<Statement>,
     },
-    /// An `if` with an `else`; an `else if` is one statement in `otherwise`.
+    /// An `if` with an `else`; an `else if` is one statement in `otherwise`. The condition lies in a box, like the
+    /// expressions of `AssignElement`.
     IfElse {
-        condition: Expression,
+        condition: Box<Expression>,
         then: Vec<Statement>,
         otherwise: Vec<Statement>,
     },

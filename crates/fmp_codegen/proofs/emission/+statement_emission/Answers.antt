@@ -19,7 +19,8 @@ emit_statement-emit_test-requires-clause-room t c =
 
 pub emit_statement-emit_block-requires : goal.emit_statement-emit_block-requires
 emit_statement-emit_block-requires t c =
-    let view = view-If c.args.s.now c.in-If.condition c.in-If.then c.deref.result.now c.in-If.is c.deref.ensures.value in
+    let view = view-If c.args.s.now c.in-If.condition c.in-If.then c.deref-in-If.result.now c.in-If.is
+    c.deref-in-If.ensures.value in
     let size = ap statement_size view in
     let depth = ap statement_depth view in
     (search (rules, the_lemmas), (c.requires.held, (omega (arith, size, c.in_ok-emit_test-in-If.ensures.len, c.requires.room), omega (arith, depth, c.requires.low))))
@@ -28,16 +29,17 @@ pub emit_statement-emit_test-requires-in-IfElse-clause-room :
     goal.emit_statement-emit_test-requires-in-IfElse-clause-room
 emit_statement-emit_test-requires-in-IfElse-clause-room t c =
     let view =
-    view-IfElse c.args.s.now c.in-IfElse.condition c.in-IfElse.then c.in-IfElse.otherwise
-    c.in-IfElse.then.items c.in-IfElse.otherwise.items c.in-IfElse.is refl refl in
+    view-IfElse c.args.s.now c.in-IfElse.condition c.in-IfElse.then c.in-IfElse.otherwise c.deref-in-IfElse.result.now
+    c.in-IfElse.then.items c.in-IfElse.otherwise.items c.in-IfElse.is c.deref-in-IfElse.ensures refl refl in
     let size = ap statement_size view in
     omega (arith, size, c.requires.room)
 
 pub emit_statement-emit_block-requires-in-IfElse : goal.emit_statement-emit_block-requires-in-IfElse
 emit_statement-emit_block-requires-in-IfElse t c =
     let view =
-    view-IfElse c.args.s.now c.in-IfElse.condition c.in-IfElse.then c.in-IfElse.otherwise
-    c.deref-in-IfElse.result.now c.in-IfElse.otherwise.items c.in-IfElse.is c.deref-in-IfElse.ensures.value
+    view-IfElse c.args.s.now c.in-IfElse.condition c.in-IfElse.then c.in-IfElse.otherwise c.deref-in-IfElse.result.now
+    c.deref-in-IfElse-2.result.now c.in-IfElse.otherwise.items c.in-IfElse.is c.deref-in-IfElse.ensures
+    c.deref-in-IfElse-2.ensures.value
     refl in
     let size = ap statement_size view in
     let depth = ap statement_depth view in
@@ -46,9 +48,9 @@ emit_statement-emit_block-requires-in-IfElse t c =
 pub emit_statement-emit_block-requires-in-IfElse-2 : goal.emit_statement-emit_block-requires-in-IfElse-2
 emit_statement-emit_block-requires-in-IfElse-2 t c =
     let view =
-    view-IfElse c.args.s.now c.in-IfElse.condition c.in-IfElse.then c.in-IfElse.otherwise
-    c.deref-in-IfElse.result.now c.deref-in-IfElse-2.result.now c.in-IfElse.is
-    c.deref-in-IfElse.ensures.value c.deref-in-IfElse-2.ensures.value in
+    view-IfElse c.args.s.now c.in-IfElse.condition c.in-IfElse.then c.in-IfElse.otherwise c.deref-in-IfElse.result.now
+    c.deref-in-IfElse-2.result.now c.deref-in-IfElse-3.result.now c.in-IfElse.is c.deref-in-IfElse.ensures
+    c.deref-in-IfElse-2.ensures.value c.deref-in-IfElse-3.ensures.value in
     let size = ap statement_size view in
     let depth = ap statement_depth view in (
       search (rules, the_lemmas),
@@ -86,10 +88,12 @@ emit_statement-emit_block-requires-in-While t c =
 pub emit_statement-returns-in_ok-emit_block-in-If-clause-code :
     goal.emit_statement-returns-in_ok-emit_block-in-If-clause-code
 emit_statement-returns-in_ok-emit_block-in-If-clause-code t c =
-    let view = view-If c.args.s.now c.in-If.condition c.in-If.then c.deref.result.now c.in-If.is c.deref.ensures.value in
+    let view = view-If c.args.s.now c.in-If.condition c.in-If.then c.deref-in-If.result.now c.in-If.is
+    c.deref-in-If.ensures.value in
     let scope = scope_view c.args.names.now in
     let begun = c.args.out.now.instructions.items in
-    if-emitted scope (expression_view c.in-If.condition) (block_view c.deref.result.now) begun c.emit_test.new.out.instructions.items
+    if-emitted scope (expression_view c.in-If.condition) (block_view c.deref-in-If.result.now) begun
+    c.emit_test.new.out.instructions.items
     c.emit_block.new.out.instructions.items 0 c.args.again 0 c.in_ok-emit_test-in-If.ensures.code
     c.in_ok-emit_test-in-If.ensures.len c.in_ok-emit_block-in-If.ensures.code
     c.end_test.new.out.instructions.items c.last_place-test.result c.last_place-test.ensures
@@ -99,17 +103,20 @@ emit_statement-returns-in_ok-emit_block-in-If-clause-code t c =
 pub emit_statement-returns-in_ok-emit_block-in-If-clause-len :
     goal.emit_statement-returns-in_ok-emit_block-in-If-clause-len
 emit_statement-returns-in_ok-emit_block-in-If-clause-len t c =
-    let view = view-If c.args.s.now c.in-If.condition c.in-If.then c.deref.result.now c.in-If.is c.deref.ensures.value in
+    let view = view-If c.args.s.now c.in-If.condition c.in-If.then c.deref-in-If.result.now c.in-If.is
+    c.deref-in-If.ensures.value in
     let size = ap statement_size view in
     omega (arith, size, c.in_ok-emit_test-in-If.ensures.len, c.in_ok-emit_block-in-If.ensures.len, c.end_test.ensures.len)
 
 pub emit_statement-returns-in_ok-emit_block-in-If-clause-depths :
     goal.emit_statement-returns-in_ok-emit_block-in-If-clause-depths
 emit_statement-returns-in_ok-emit_block-in-If-clause-depths t c =
-    let view = view-If c.args.s.now c.in-If.condition c.in-If.then c.deref.result.now c.in-If.is c.deref.ensures.value in
+    let view = view-If c.args.s.now c.in-If.condition c.in-If.then c.deref-in-If.result.now c.in-If.is
+    c.deref-in-If.ensures.value in
     let begun = c.args.out.now.depths.items in
     c.end_test.ensures.depths
-    ∙ if-deep (expression_view c.in-If.condition) (block_view c.deref.result.now) begun c.emit_test.new.out.depths.items
+    ∙ if-deep (expression_view c.in-If.condition) (block_view c.deref-in-If.result.now) begun
+    c.emit_test.new.out.depths.items
     c.emit_block.new.out.depths.items c.in_ok-emit_test-in-If.ensures.depths c.in_ok-emit_block-in-If.ensures.depths
     ∙ ap (λ st. begun ++ statement_depths st) (sym view)
 
@@ -117,16 +124,16 @@ pub emit_statement-returns-in_ok-emit_block-in-IfElse-2-clause-code :
     goal.emit_statement-returns-in_ok-emit_block-in-IfElse-2-clause-code
 emit_statement-returns-in_ok-emit_block-in-IfElse-2-clause-code t c =
     let view =
-    view-IfElse c.args.s.now c.in-IfElse.condition c.in-IfElse.then c.in-IfElse.otherwise
-    c.deref-in-IfElse.result.now c.deref-in-IfElse-2.result.now c.in-IfElse.is
-    c.deref-in-IfElse.ensures.value c.deref-in-IfElse-2.ensures.value in
+    view-IfElse c.args.s.now c.in-IfElse.condition c.in-IfElse.then c.in-IfElse.otherwise c.deref-in-IfElse.result.now
+    c.deref-in-IfElse-2.result.now c.deref-in-IfElse-3.result.now c.in-IfElse.is c.deref-in-IfElse.ensures
+    c.deref-in-IfElse-2.ensures.value c.deref-in-IfElse-3.ensures.value in
     let scope = scope_view c.args.names.now in
     let begun = c.args.out.now.instructions.items in
-    else-emitted scope (expression_view c.in-IfElse.condition) (block_view c.deref-in-IfElse.result.now) begun
+    else-emitted scope (expression_view c.deref-in-IfElse.result.now) (block_view c.deref-in-IfElse-2.result.now) begun
     c.emit_test-in-IfElse.new.out.instructions.items c.emit_block-in-IfElse.new.out.instructions.items
     0 c.args.again 0 c.in_ok-emit_test-in-IfElse.ensures.code
     c.in_ok-emit_test-in-IfElse.ensures.len c.in_ok-emit_block-in-IfElse.ensures.code
-    (block_view c.deref-in-IfElse-2.result.now) c.put-in-IfElse.new.out.instructions.items
+    (block_view c.deref-in-IfElse-3.result.now) c.put-in-IfElse.new.out.instructions.items
     c.end_test-in-IfElse.new.out.instructions.items c.emit_block-in-IfElse-2.new.out.instructions.items
     c.end_jump.new.out.instructions.items c.last_place-choice.result c.last_place-jump.result
     c.last_place-choice.ensures c.in_ok-emit_block-in-IfElse.ensures.len c.in_ok-put-in-IfElse.ensures.code
@@ -139,9 +146,9 @@ pub emit_statement-returns-in_ok-emit_block-in-IfElse-2-clause-len :
     goal.emit_statement-returns-in_ok-emit_block-in-IfElse-2-clause-len
 emit_statement-returns-in_ok-emit_block-in-IfElse-2-clause-len t c =
     let view =
-    view-IfElse c.args.s.now c.in-IfElse.condition c.in-IfElse.then c.in-IfElse.otherwise
-    c.deref-in-IfElse.result.now c.deref-in-IfElse-2.result.now c.in-IfElse.is
-    c.deref-in-IfElse.ensures.value c.deref-in-IfElse-2.ensures.value in
+    view-IfElse c.args.s.now c.in-IfElse.condition c.in-IfElse.then c.in-IfElse.otherwise c.deref-in-IfElse.result.now
+    c.deref-in-IfElse-2.result.now c.deref-in-IfElse-3.result.now c.in-IfElse.is c.deref-in-IfElse.ensures
+    c.deref-in-IfElse-2.ensures.value c.deref-in-IfElse-3.ensures.value in
     let size = ap statement_size view in
     omega (arith, size, c.in_ok-emit_test-in-IfElse.ensures.len, c.in_ok-emit_block-in-IfElse.ensures.len, c.in_ok-put-in-IfElse.ensures.len, c.in_ok-emit_block-in-IfElse-2.ensures.len, c.end_test-in-IfElse.ensures.len, c.end_jump.ensures.len)
 
@@ -149,18 +156,19 @@ pub emit_statement-returns-in_ok-emit_block-in-IfElse-2-clause-depths :
     goal.emit_statement-returns-in_ok-emit_block-in-IfElse-2-clause-depths
 emit_statement-returns-in_ok-emit_block-in-IfElse-2-clause-depths t c =
     let view =
-    view-IfElse c.args.s.now c.in-IfElse.condition c.in-IfElse.then c.in-IfElse.otherwise
-    c.deref-in-IfElse.result.now c.deref-in-IfElse-2.result.now c.in-IfElse.is
-    c.deref-in-IfElse.ensures.value c.deref-in-IfElse-2.ensures.value in
+    view-IfElse c.args.s.now c.in-IfElse.condition c.in-IfElse.then c.in-IfElse.otherwise c.deref-in-IfElse.result.now
+    c.deref-in-IfElse-2.result.now c.deref-in-IfElse-3.result.now c.in-IfElse.is c.deref-in-IfElse.ensures
+    c.deref-in-IfElse-2.ensures.value c.deref-in-IfElse-3.ensures.value in
     let begun = c.args.out.now.depths.items in
     c.end_jump.ensures.depths
-    ∙ else-deep (expression_view c.in-IfElse.condition) (block_view c.deref-in-IfElse.result.now) begun
+    ∙ else-deep (expression_view c.deref-in-IfElse.result.now) (block_view c.deref-in-IfElse-2.result.now) begun
     c.emit_test-in-IfElse.new.out.depths.items c.emit_block-in-IfElse.new.out.depths.items
     c.in_ok-emit_test-in-IfElse.ensures.depths c.in_ok-emit_block-in-IfElse.ensures.depths
-    (block_view c.deref-in-IfElse-2.result.now) c.put-in-IfElse.new.out.depths.items c.emit_block-in-IfElse-2.new.out.depths.items
+    (block_view c.deref-in-IfElse-3.result.now) c.put-in-IfElse.new.out.depths.items
+    c.emit_block-in-IfElse-2.new.out.depths.items
     c.in_ok-put-in-IfElse.ensures.depths
     (c.in_ok-emit_block-in-IfElse-2.ensures.depths
-    ∙ ap (λ ds. ds ++ block_depths (block_view c.deref-in-IfElse-2.result.now)) c.end_test-in-IfElse.ensures.depths)
+    ∙ ap (λ ds. ds ++ block_depths (block_view c.deref-in-IfElse-3.result.now)) c.end_test-in-IfElse.ensures.depths)
     ∙ ap (λ st. begun ++ statement_depths st) (sym view)
 
 pub emit_statement-returns-in_ok-put-in-While-clause-code :
@@ -204,15 +212,17 @@ emit_statement-returns-in_ok-put-in-While-clause-depths t c =
 
 pub emit_statement-end_test-requires-clause-room : goal.emit_statement-end_test-requires-clause-room
 emit_statement-end_test-requires-clause-room t c =
-    let view = view-If c.args.s.now c.in-If.condition c.in-If.then c.deref.result.now c.in-If.is c.deref.ensures.value in
+    let view = view-If c.args.s.now c.in-If.condition c.in-If.then c.deref-in-If.result.now c.in-If.is
+    c.deref-in-If.ensures.value in
     let size = ap statement_size view in
     omega (arith, size, c.in_ok-emit_test-in-If.ensures.len, c.in_ok-emit_block-in-If.ensures.len, c.requires.room)
 
 pub emit_statement-end_test-requires-in-IfElse-clause-room : goal.emit_statement-end_test-requires-in-IfElse-clause-room
 emit_statement-end_test-requires-in-IfElse-clause-room t c =
     let view =
-    view-IfElse c.args.s.now c.in-IfElse.condition c.in-IfElse.then c.in-IfElse.otherwise
-    c.deref-in-IfElse.result.now c.in-IfElse.otherwise.items c.in-IfElse.is c.deref-in-IfElse.ensures.value
+    view-IfElse c.args.s.now c.in-IfElse.condition c.in-IfElse.then c.in-IfElse.otherwise c.deref-in-IfElse.result.now
+    c.deref-in-IfElse-2.result.now c.in-IfElse.otherwise.items c.in-IfElse.is c.deref-in-IfElse.ensures
+    c.deref-in-IfElse-2.ensures.value
     refl in
     let size = ap statement_size view in
     omega (
@@ -227,9 +237,9 @@ emit_statement-end_test-requires-in-IfElse-clause-room t c =
 pub emit_statement-end_jump-requires-clause-room : goal.emit_statement-end_jump-requires-clause-room
 emit_statement-end_jump-requires-clause-room t c =
     let view =
-    view-IfElse c.args.s.now c.in-IfElse.condition c.in-IfElse.then c.in-IfElse.otherwise
-    c.deref-in-IfElse.result.now c.deref-in-IfElse-2.result.now c.in-IfElse.is
-    c.deref-in-IfElse.ensures.value c.deref-in-IfElse-2.ensures.value in
+    view-IfElse c.args.s.now c.in-IfElse.condition c.in-IfElse.then c.in-IfElse.otherwise c.deref-in-IfElse.result.now
+    c.deref-in-IfElse-2.result.now c.deref-in-IfElse-3.result.now c.in-IfElse.is c.deref-in-IfElse.ensures
+    c.deref-in-IfElse-2.ensures.value c.deref-in-IfElse-3.ensures.value in
     let size = ap statement_size view in
     omega (
       arith,
@@ -257,28 +267,29 @@ emit_statement-end_breaks-requires t c =
 pub emit_statement-returns-in_ok-emit_block-in-If-clause-breaks :
     goal.emit_statement-returns-in_ok-emit_block-in-If-clause-breaks
 emit_statement-returns-in_ok-emit_block-in-If-clause-breaks t c =
-    let view = view-If c.args.s.now c.in-If.condition c.in-If.then c.deref.result.now c.in-If.is c.deref.ensures.value in
+    let view = view-If c.args.s.now c.in-If.condition c.in-If.then c.deref-in-If.result.now c.in-If.is
+    c.deref-in-If.ensures.value in
     let begun = c.args.out.now.instructions.items in
     let noted = c.args.breaks.now.items in
     c.in_ok-emit_block-in-If.ensures.breaks
-    ∙ ap (λ n. noted ++ block_breaks (block_view c.deref.result.now) n) c.in_ok-emit_test-in-If.ensures.len
+    ∙ ap (λ n. noted ++ block_breaks (block_view c.deref-in-If.result.now) n) c.in_ok-emit_test-in-If.ensures.len
     ∙ ap (λ st. noted ++ statement_breaks st (length begun)) (sym view)
 
 pub emit_statement-returns-in_ok-emit_block-in-IfElse-2-clause-breaks :
     goal.emit_statement-returns-in_ok-emit_block-in-IfElse-2-clause-breaks
 emit_statement-returns-in_ok-emit_block-in-IfElse-2-clause-breaks t c =
     let view =
-    view-IfElse c.args.s.now c.in-IfElse.condition c.in-IfElse.then c.in-IfElse.otherwise
-    c.deref-in-IfElse.result.now c.deref-in-IfElse-2.result.now c.in-IfElse.is
-    c.deref-in-IfElse.ensures.value c.deref-in-IfElse-2.ensures.value in
+    view-IfElse c.args.s.now c.in-IfElse.condition c.in-IfElse.then c.in-IfElse.otherwise c.deref-in-IfElse.result.now
+    c.deref-in-IfElse-2.result.now c.deref-in-IfElse-3.result.now c.in-IfElse.is c.deref-in-IfElse.ensures
+    c.deref-in-IfElse-2.ensures.value c.deref-in-IfElse-3.ensures.value in
     let begun = c.args.out.now.instructions.items in
     let noted = c.args.breaks.now.items in
-    let first = block_view c.deref-in-IfElse.result.now in
-    let second = block_view c.deref-in-IfElse-2.result.now in
+    let first = block_view c.deref-in-IfElse-2.result.now in
+    let second = block_view c.deref-in-IfElse-3.result.now in
     let behind : length c.end_test-in-IfElse.new.out.instructions.items ≡
-    length begun + expression_size (expression_view c.in-IfElse.condition) + 1 + block_size first + 1 =
+    length begun + expression_size (expression_view c.deref-in-IfElse.result.now) + 1 + block_size first + 1 =
     omega (arith, c.in_ok-emit_test-in-IfElse.ensures.len, c.in_ok-emit_block-in-IfElse.ensures.len, c.in_ok-put-in-IfElse.ensures.len, c.end_test-in-IfElse.ensures.len) in
-    both-noted noted first second (length begun + expression_size (expression_view c.in-IfElse.condition) + 1)
+    both-noted noted first second (length begun + expression_size (expression_view c.deref-in-IfElse.result.now) + 1)
     c.emit_block-in-IfElse.new.breaks.items c.emit_block-in-IfElse-2.new.breaks.items
     (length c.emit_test-in-IfElse.new.out.instructions.items) (length c.end_test-in-IfElse.new.out.instructions.items)
     c.in_ok-emit_test-in-IfElse.ensures.len behind c.in_ok-emit_block-in-IfElse.ensures.breaks

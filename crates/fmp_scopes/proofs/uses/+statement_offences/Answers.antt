@@ -34,26 +34,27 @@ pub statement_offence-returns-in-If : goal.statement_offence-returns-in-If
 statement_offence-returns-in-If t c =
     let scope = scope_view c.args.names.now in
     let test = expression_uses (expression_view c.in-If.condition) in
-    let block = block_uses (block_view c.deref.result.now) in
+    let block = block_uses (block_view c.deref-in-If.result.now) in
     two-parts scope test block c.expression_offence-in-If.result c.block_offence.result c.earlier.result
     c.expression_offence-in-If.ensures c.block_offence.ensures c.earlier.ensures
     ∙ ap (λ st. uses_offence scope (statement_uses st))
-    (sym (view-If c.args.s.now c.in-If.condition c.in-If.then c.deref.result.now c.in-If.is c.deref.ensures.value))
+    (sym (view-If c.args.s.now c.in-If.condition c.in-If.then c.deref-in-If.result.now c.in-If.is
+    c.deref-in-If.ensures.value))
 
 pub statement_offence-returns-in-IfElse : goal.statement_offence-returns-in-IfElse
 statement_offence-returns-in-IfElse t c =
     let scope = scope_view c.args.names.now in
-    let test = expression_uses (expression_view c.in-IfElse.condition) in
-    let first = block_uses (block_view c.deref-in-IfElse.result.now) in
-    let second = block_uses (block_view c.deref-in-IfElse-2.result.now) in
+    let test = expression_uses (expression_view c.deref-in-IfElse.result.now) in
+    let first = block_uses (block_view c.deref-in-IfElse-2.result.now) in
+    let second = block_uses (block_view c.deref-in-IfElse-3.result.now) in
     let both = two-parts scope first second c.block_offence-in-IfElse.result c.block_offence-in-IfElse-2.result
     c.earlier-in-IfElse.result c.block_offence-in-IfElse.ensures c.block_offence-in-IfElse-2.ensures
     c.earlier-in-IfElse.ensures in
     two-parts scope test (first ++ second) c.expression_offence-in-IfElse.result c.earlier-in-IfElse.result
     c.earlier-in-IfElse-2.result c.expression_offence-in-IfElse.ensures both c.earlier-in-IfElse-2.ensures
     ∙ ap (λ st. uses_offence scope (statement_uses st))
-    (sym (view-IfElse c.args.s.now c.in-IfElse.condition c.in-IfElse.then c.in-IfElse.otherwise c.deref-in-IfElse.result.now
-    c.deref-in-IfElse-2.result.now c.in-IfElse.is c.deref-in-IfElse.ensures.value c.deref-in-IfElse-2.ensures.value))
+    (sym (view-IfElse c.args.s.now c.in-IfElse.condition c.in-IfElse.then c.in-IfElse.otherwise c.deref-in-IfElse.result.now c.deref-in-IfElse-2.result.now
+    c.deref-in-IfElse-3.result.now c.in-IfElse.is c.deref-in-IfElse.ensures c.deref-in-IfElse-2.ensures.value c.deref-in-IfElse-3.ensures.value))
 
 pub statement_offence-returns-in-While : goal.statement_offence-returns-in-While
 statement_offence-returns-in-While t c =

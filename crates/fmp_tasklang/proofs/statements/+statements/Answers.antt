@@ -120,7 +120,7 @@ if_statement-returns m0 c =
     let d = c.args.depth in
     let i = c.args.at in
     let loop = c.args.looped in
-    rw c.choose.ensures (if_otherwise d loop ts i c.requires.first (expression_view c.in_ok-condition.condition)
+    rw c.in_ok-chosen.ensures.tree (if_otherwise d loop ts i c.requires.first (expression_view c.in_ok-condition.condition)
     c.in_ok-condition.next c.in_ok-condition.ensures (block_view c.in_ok-then.then) c.in_ok-then.next
     c.in_ok-then.ensures (found (else_view c.in_ok-otherwise.otherwise) c.in_ok-otherwise.next)
     c.in_ok-otherwise.ensures)
