@@ -137,6 +137,7 @@ fn hex_number(text: &[u8], start: usize, end: usize) -> Segment
 }
 
 /// The word that these bytes are.
+#[inline(always)]
 fn find_word(bytes: &[u8]) -> Option<Shape>
     ensures word { (text : List ℕ) → option_map (kind_in text) result ≡ word_kind bytes.now }
     ensures plain { IfSome result IsPlain }
