@@ -11,7 +11,10 @@ use Rattle.fmp_base.specs.States.{idle}
 use Rattle.fmp_base.specs.Systems.{found}
 use Rattle.fmp_base.specs.declared.states.Processor.{Processor}
 use Rattle.fmp_base.specs.Steps.{actor_of, step}
-use Rattle.fmp_base.specs.Stretches.{Ending}
+use Rattle.fmp_base.specs.Stretches.{Ending, Over}
+use Rattle.fmp_base.specs.Contexts.{stopped}
+use Rattle.fmp_base.specs.declared.stop.Stop.{Stop}
+use Rattle.fmp_base.specs.declared.stop.Stop.TheVariants as stop
 use Rattle.fmp_instructions.specs.declared.instructions.MachineContext.{MachineContext}
 use Rattle.fmp_instructions.specs.Instructions.{BodyTables}
 use Rattle.fmp_instructions.specs.Machine.{code_meaning}
@@ -165,3 +168,10 @@ pub none_test : (i : ImageTables) (n k m : ℕ) (kernel : Kernels) (journal : Li
 none_test i n k m kernel journal t r d h = λ same.
     let there : Some t.actor ≡ None = sym (drawn_now i n journal t d same) ∙ sym (actor_there i n k m kernel journal t.processor r) ∙ h in
     absurd (cc)
+
+-- the context of a stretch that is not made yet
+pub waits_at : {C : Type 0} (s : Stop) (c d : C) → stopped s c ≡ Over (Some d) → c ≡ d
+waits_at (stop.Call made) c d h = absurd (cc h)
+waits_at stop.End c d h = absurd (cc h)
+waits_at (stop.Fault fault) c d h = absurd (cc h)
+waits_at stop.Over c d h = cc h

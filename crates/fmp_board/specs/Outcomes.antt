@@ -2,7 +2,7 @@
 use Rattle.std.specs.Prelude.{◌≡◌, ◌≢◌, ℕ, zero, suc, ◌<◌, ◌≤◌, List, Some, Option, Result, get_or, length, MatchOption, MatchResult}
 use mathlib.Core.List.{IsPrefix}
 use Rattle.fmp_base.specs.declared.events.Event.TheVariants.{Run}
-use Rattle.fmp_base.specs.Stretches.{Ending}
+use Rattle.fmp_base.specs.Stretches.{Ending, Over}
 use Rattle.fmp_base.specs.Contexts.{OfCall}
 use Rattle.fmp_instructions.specs.declared.instructions.MachineContext.{MachineContext}
 use Rattle.fmp_instructions.specs.Machine.{code_meaning}
@@ -46,6 +46,10 @@ pub record IsTicket (t : TicketState) : Type 0 where
 pub record IsOutcome (o : OutcomeState) : Type 0 where
   pub ending_is : o.ending ≡ ending_of o.ticket
   pub context : OfCall (IsContext o.ticket.image.code o.ticket.actor.entry) o.ending
+
+-- a ticket whose stretch is not made yet, as an outcome: it is over before its first instruction
+abbrev pub waiting : TicketState → OutcomeState
+waiting t = record { ticket = t; ending = Over (Some t.actor.context) }
 
 -- a ticket of an image whose stretches take at most n instructions, for one of its processors
 pub record IsTicketOf (i : ImageTables) (n : ℕ) (t : TicketState) : Type 0 where

@@ -5,7 +5,7 @@ use crate::book::Book;
 use crate::closed::Closed;
 use crate::desk::Desk;
 use crate::fault::BoardFault;
-use crate::outcome::{Outcome, Ticket};
+use crate::outcome::{Outcome, Ticket, Workspace};
 use crate::receipt::Receipt;
 use crate::site::Site;
 use fmp_base::Event;
@@ -30,13 +30,13 @@ pub struct Board<'a, S: Site> {
 }
 
 impl<'a, S: Site> Board<'a, S> {
-    ghost use Rattle.std.specs.Prelude.{◌≡◌, ◌+◌, ◌^◌, ◌<◌, ◌≤◌, ◌⊎◌, ◌++◌, [], ◌∷◌, All, length, None, IfNone, IfSome, vec_capacity};
+    ghost use Rattle.std.specs.Prelude.{◌≡◌, ◌+◌, ◌^◌, ◌<◌, ◌≤◌, ◌⊎◌, ◌++◌, [], ◌∷◌, All, length, None, Some, MatchBool, IfNone, IfSome, vec_capacity};
     ghost use mathlib.Core.List.{IsPrefix};
     ghost use Rattle.fmp_journal.specs.Seats.{AreNew, events, given};
     ghost use Rattle.fmp_journal.specs.Views.{looked_at};
     ghost use Rattle.fmp_journal.specs.Words.{event_in};
     ghost use Rattle.fmp_board.specs.Boards.{IsAt, IsClosed, IsCountedBy};
-    ghost use Rattle.fmp_board.specs.Outcomes.{Drew, IsDrawn, Submitted};
+    ghost use Rattle.fmp_board.specs.Outcomes.{Drew, IsDrawn, IsOutcome, Submitted};
     ghost use Rattle.fmp_board.specs.Visits.{Fed, Visited, journaled};
 
     /// A board over a book in which nothing is journaled.
@@ -127,7 +127,50 @@ impl<'a, S: Site> Board<'a, S> {
         ensures mine { seat.new.mine ≡ seat.old.mine + journaled result }
         ensures submitted { Submitted S.image S.bound S.row_id outcome.ticket seat.old seat.new result }
     {
-        self.desk.lock(rt).submit(seat, outcome)
+        self.submit_from(rt, seat, outcome.workspace())
+    }
+
+    /// Draws a ticket and makes its stretch in a workspace, outside the lock: whether there was a ticket. Else the
+    /// workspace is as it was. The seat has then seen the whole journal.
+    pub fn stretch<R: Wait>(
+        &self,
+        rt: &R,
+        seat: &mut Seat,
+        p: u8,
+        workspace: &mut Workspace,
+    ) -> bool
+        requires at { IsAt S.row_id seat.old }
+        ensures at { IsAt S.row_id seat.new }
+        ensures visited { Visited S.image S.bound S.row_id seat.old seat.new }
+        ensures mine { seat.new.mine ≡ seat.old.mine }
+        ensures made { MatchBool result
+            (IsOutcome workspace.new × Drew S.image S.bound seat.new.seen p (Some workspace.new.ticket)
+            × IsDrawn S.image S.bound seat.new.seen workspace.new.ticket)
+            (Drew S.image S.bound seat.new.seen p None × (workspace.new ≡ workspace.old)) }
+    {
+        if !self.desk.lock(rt).draw(seat, p, workspace) {
+            return false;
+        }
+        workspace.stretch(self.image);
+        true
+    }
+
+    /// Submits the outcome that a workspace has, as `submit` does.
+    pub fn submit_from<R: Wait>(
+        &self,
+        rt: &R,
+        seat: &mut Seat,
+        workspace: &Workspace,
+    ) -> Result<Receipt, BoardFault>
+        requires at { IsAt S.row_id seat.old }
+        requires drawn { IsDrawn S.image S.bound seat.old.seen workspace.now.ticket }
+        requires outcome { IsOutcome workspace.now }
+        ensures at { IsAt S.row_id seat.new }
+        ensures visited { Visited S.image S.bound S.row_id seat.old seat.new }
+        ensures mine { seat.new.mine ≡ seat.old.mine + journaled result }
+        ensures submitted { Submitted S.image S.bound S.row_id workspace.now.ticket seat.old seat.new result }
+    {
+        self.desk.lock(rt).submit(seat, workspace)
     }
 
     /// Takes an event on the kernel, and journals it under the number of the seat if it does something. A `Run` works

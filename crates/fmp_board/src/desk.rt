@@ -4,7 +4,7 @@ ghost use Rattle.std.specs.Prelude.{◌≡◌, ◌+◌, ◌≤◌, [], IfSome, v
 use crate::book::Book;
 use crate::closed::Closed;
 use crate::fault::BoardFault;
-use crate::outcome::{Outcome, Ticket};
+use crate::outcome::{Ticket, Workspace};
 use crate::receipt::Receipt;
 use crate::site::Site;
 use fmp_base::Event;
@@ -19,10 +19,10 @@ pub(crate) struct Desk<'a, S: Site> {
 }
 
 impl<'a, S: Site> Desk<'a, S> {
-    ghost use Rattle.std.specs.Prelude.{◌≡◌, ◌+◌, ◌≤◌, [], All, IfSome, vec_capacity};
+    ghost use Rattle.std.specs.Prelude.{◌≡◌, ◌+◌, ◌≤◌, [], All, IfSome, MatchBool, None, Some, true, vec_capacity};
     ghost use Rattle.fmp_journal.specs.Seats.{events};
     ghost use Rattle.fmp_board.specs.Boards.{HasCounted, IsAt, IsClosed, IsCountedBy};
-    ghost use Rattle.fmp_board.specs.Outcomes.{Drew, IsDrawn, Submitted};
+    ghost use Rattle.fmp_board.specs.Outcomes.{Drew, IsDrawn, IsOutcome, IsTicket, Submitted, waiting};
     ghost use Rattle.fmp_board.specs.Visits.{Fed, Visited, journaled};
 
     pub fn new(book: Book<'a, S>) -> Desk<'a, S>
@@ -58,14 +58,32 @@ impl<'a, S: Site> Desk<'a, S> {
         self.book.ticket(p)
     }
 
+    /// The same ticket in a workspace, if there is one.
+    #[tactic(auto, using(crate::proofs::Visiting::drawn_here))]
+    pub fn draw(&mut self, seat: &mut Seat, p: u8, workspace: &mut Workspace) -> bool
+        requires { IsAt S.row_id seat.old }
+        ensures at { IsAt S.row_id seat.new }
+        ensures visited { Visited S.image S.bound S.row_id seat.old seat.new }
+        ensures mine { seat.new.mine ≡ seat.old.mine }
+        ensures drew { MatchBool result
+            (Drew S.image S.bound seat.new.seen p (Some workspace.new.ticket)
+            × (workspace.new ≡ waiting workspace.new.ticket) × IsTicket workspace.new.ticket)
+            (Drew S.image S.bound seat.new.seen p None × (workspace.new ≡ workspace.old)) }
+        ensures drawn { result ≡ true → IsDrawn S.image S.bound seat.new.seen workspace.new.ticket }
+    {
+        self.show(seat);
+        self.book.draw(p, workspace)
+    }
+
     /// Takes the run of an outcome's processor, by the stretch that was made outside the lock.
-    pub fn submit(&mut self, seat: &mut Seat, outcome: Outcome) -> Result<Receipt, BoardFault>
+    pub fn submit(&mut self, seat: &mut Seat, outcome: &Workspace) -> Result<Receipt, BoardFault>
         requires at { IsAt S.row_id seat.old }
-        requires drawn { IsDrawn S.image S.bound seat.old.seen outcome.ticket }
+        requires drawn { IsDrawn S.image S.bound seat.old.seen outcome.now.ticket }
+        requires outcome { IsOutcome outcome.now }
         ensures at { IsAt S.row_id seat.new }
         ensures visited { Visited S.image S.bound S.row_id seat.old seat.new }
         ensures mine { seat.new.mine ≡ seat.old.mine + journaled result }
-        ensures submitted { Submitted S.image S.bound S.row_id outcome.ticket seat.old seat.new result }
+        ensures submitted { Submitted S.image S.bound S.row_id outcome.now.ticket seat.old seat.new result }
     {
         self.show(seat);
         let answer = self.book.enter_outcome(seat.number(), outcome);

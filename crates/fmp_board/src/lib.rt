@@ -18,6 +18,6 @@ pub use book::Book;
 pub use closed::Closed;
 pub use fault::BoardFault;
 pub use fmp_journal::Seat;
-pub use outcome::{Outcome, Ticket};
+pub use outcome::{Outcome, Ticket, Workspace};
 pub use receipt::Receipt;
 pub use site::Site;

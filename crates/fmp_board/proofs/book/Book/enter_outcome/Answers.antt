@@ -22,16 +22,16 @@ returns-in-Nothing-clause-answer g c =
     let site = g.S.Site in
     let kernel = c.self.inside.kernel in
     let journal = c.self.inside.scribe.journal in
-    let o = c.args.outcome in
+    let o = c.args.outcome.now in
     let p = o.ticket.processor in
     let was : c.args.self.now.journal ≡ journal = search rules in
     let here : actor_after site.image site.bound c.args.self.now.journal p ≡ Some o.ticket.actor = search rules in
     let there = rw was at here in
     let lt : length journal < site.row_id.capacity = search rules in
-    let runs : applied kernel.system (code_meaning kernel.body) kernel.world c.processor-2.result (ending c.stretch.result) ≡ reaction site.image site.bound (events journal) (Run p) =
-    ap (λ q. applied kernel.system (code_meaning kernel.body) kernel.world q (ending c.stretch.result)) c.processor-2.ensures
-    ∙ ap (λ x. applied kernel.system (code_meaning kernel.body) kernel.world p x) c.stretch.ensures.ending
-    ∙ outcome_runs site.image site.bound site.row_id.capacity site.row_id.seats kernel journal o b.3 c.stretch.ensures.outcome c.requires.drawn.is_of there in
+    let runs : applied kernel.system (code_meaning kernel.body) kernel.world c.processor-2.result (ending c.ended.result) ≡ reaction site.image site.bound (events journal) (Run p) =
+    ap (λ q. applied kernel.system (code_meaning kernel.body) kernel.world q (ending c.ended.result)) c.processor-2.ensures
+    ∙ ap (λ x. applied kernel.system (code_meaning kernel.body) kernel.world p x) c.ended.ensures
+    ∙ outcome_runs site.image site.bound site.row_id.capacity site.row_id.seats kernel journal o b.3 c.requires.outcome c.requires.drawn.is_of there in
     rw was (
       stamp_of_actor site.image site.bound journal p o.ticket.actor there,
       lt,
@@ -44,14 +44,14 @@ returns-in-Nothing-clause-journal g c =
     let site = g.S.Site in
     let kernel = c.self.inside.kernel in
     let journal = c.self.inside.scribe.journal in
-    let o = c.args.outcome in
+    let o = c.args.outcome.now in
     let p = o.ticket.processor in
     let was : c.args.self.now.journal ≡ journal = search rules in
     let here : actor_after site.image site.bound c.args.self.now.journal p ≡ Some o.ticket.actor = search rules in
-    let runs : applied kernel.system (code_meaning kernel.body) kernel.world c.processor-2.result (ending c.stretch.result) ≡ reaction site.image site.bound (events journal) (Run p) =
-    ap (λ q. applied kernel.system (code_meaning kernel.body) kernel.world q (ending c.stretch.result)) c.processor-2.ensures
-    ∙ ap (λ x. applied kernel.system (code_meaning kernel.body) kernel.world p x) c.stretch.ensures.ending
-    ∙ outcome_runs site.image site.bound site.row_id.capacity site.row_id.seats kernel journal o b.3 c.stretch.ensures.outcome c.requires.drawn.is_of (rw was at here) in
+    let runs : applied kernel.system (code_meaning kernel.body) kernel.world c.processor-2.result (ending c.ended.result) ≡ reaction site.image site.bound (events journal) (Run p) =
+    ap (λ q. applied kernel.system (code_meaning kernel.body) kernel.world q (ending c.ended.result)) c.processor-2.ensures
+    ∙ ap (λ x. applied kernel.system (code_meaning kernel.body) kernel.world p x) c.ended.ensures
+    ∙ outcome_runs site.image site.bound site.row_id.capacity site.row_id.seats kernel journal o b.3 c.requires.outcome c.requires.drawn.is_of (rw was at here) in
     rw was (sym (ap (journal_after journal (entry c.args.seat (Run p))) (sym runs ∙ nothing_by _ (sym c.in-Nothing.is ∙ c.apply.ensures.effect))))
 
 pub returns-in-Nothing-clause-marks : goal.returns-in-Nothing-clause-marks
@@ -60,14 +60,14 @@ returns-in-Nothing-clause-marks g c =
     let site = g.S.Site in
     let kernel = c.self.inside.kernel in
     let journal = c.self.inside.scribe.journal in
-    let o = c.args.outcome in
+    let o = c.args.outcome.now in
     let p = o.ticket.processor in
     let was : c.args.self.now.journal ≡ journal = search rules in
     let here : actor_after site.image site.bound c.args.self.now.journal p ≡ Some o.ticket.actor = search rules in
-    let runs : applied kernel.system (code_meaning kernel.body) kernel.world c.processor-2.result (ending c.stretch.result) ≡ reaction site.image site.bound (events journal) (Run p) =
-    ap (λ q. applied kernel.system (code_meaning kernel.body) kernel.world q (ending c.stretch.result)) c.processor-2.ensures
-    ∙ ap (λ x. applied kernel.system (code_meaning kernel.body) kernel.world p x) c.stretch.ensures.ending
-    ∙ outcome_runs site.image site.bound site.row_id.capacity site.row_id.seats kernel journal o b.3 c.stretch.ensures.outcome c.requires.drawn.is_of (rw was at here) in
+    let runs : applied kernel.system (code_meaning kernel.body) kernel.world c.processor-2.result (ending c.ended.result) ≡ reaction site.image site.bound (events journal) (Run p) =
+    ap (λ q. applied kernel.system (code_meaning kernel.body) kernel.world q (ending c.ended.result)) c.processor-2.ensures
+    ∙ ap (λ x. applied kernel.system (code_meaning kernel.body) kernel.world p x) c.ended.ensures
+    ∙ outcome_runs site.image site.bound site.row_id.capacity site.row_id.seats kernel journal o b.3 c.requires.outcome c.requires.drawn.is_of (rw was at here) in
     let marks : c.args.self.now.marks ≡ c.self.inside.scribe.marks = search rules in
     rw marks (rw was (sym (ap (marks_after c.self.inside.scribe.marks c.args.seat) (sym runs ∙ nothing_by _ (sym c.in-Nothing.is ∙ c.apply.ensures.effect)))))
 
@@ -77,16 +77,16 @@ invariant_of-self-in-Done g c =
     let site = g.S.Site in
     let kernel = c.self.inside.kernel in
     let journal = c.self.inside.scribe.journal in
-    let o = c.args.outcome in
+    let o = c.args.outcome.now in
     let p = o.ticket.processor in
     let was : c.args.self.now.journal ≡ journal = search rules in
     let here : actor_after site.image site.bound c.args.self.now.journal p ≡ Some o.ticket.actor = search rules in
     let lt : length journal < site.row_id.capacity = search rules in
-    let runs : applied kernel.system (code_meaning kernel.body) kernel.world c.processor-2.result (ending c.stretch.result) ≡ reaction site.image site.bound (events journal) (Run p) =
-    ap (λ q. applied kernel.system (code_meaning kernel.body) kernel.world q (ending c.stretch.result)) c.processor-2.ensures
-    ∙ ap (λ x. applied kernel.system (code_meaning kernel.body) kernel.world p x) c.stretch.ensures.ending
-    ∙ outcome_runs site.image site.bound site.row_id.capacity site.row_id.seats kernel journal o b.3 c.stretch.ensures.outcome c.requires.drawn.is_of (rw was at here) in
-    let done = done_by (applied kernel.system (code_meaning kernel.body) kernel.world c.processor-2.result (ending c.stretch.result)) (sym c.in-Done.is ∙ c.apply.ensures.effect) in
+    let runs : applied kernel.system (code_meaning kernel.body) kernel.world c.processor-2.result (ending c.ended.result) ≡ reaction site.image site.bound (events journal) (Run p) =
+    ap (λ q. applied kernel.system (code_meaning kernel.body) kernel.world q (ending c.ended.result)) c.processor-2.ensures
+    ∙ ap (λ x. applied kernel.system (code_meaning kernel.body) kernel.world p x) c.ended.ensures
+    ∙ outcome_runs site.image site.bound site.row_id.capacity site.row_id.seats kernel journal o b.3 c.requires.outcome c.requires.drawn.is_of (rw was at here) in
+    let done = done_by (applied kernel.system (code_meaning kernel.body) kernel.world c.processor-2.result (ending c.ended.result)) (sym c.in-Done.is ∙ c.apply.ensures.effect) in
     let items : c.write.new.self.journal ≡ journal ++ entry c.args.seat (Run p) ∷ [] =
     ap (λ v. v.journal) c.write.ensures ∙ ap (λ (q : ℕ). journal ++ entry c.args.seat (Run q) ∷ []) c.processor.ensures in (
       b.0,
@@ -104,17 +104,17 @@ returns-in-Done-clause-answer g c =
     let site = g.S.Site in
     let kernel = c.self.inside.kernel in
     let journal = c.self.inside.scribe.journal in
-    let o = c.args.outcome in
+    let o = c.args.outcome.now in
     let p = o.ticket.processor in
     let was : c.args.self.now.journal ≡ journal = search rules in
     let here : actor_after site.image site.bound c.args.self.now.journal p ≡ Some o.ticket.actor = search rules in
     let there = rw was at here in
     let lt : length journal < site.row_id.capacity = search rules in
-    let runs : applied kernel.system (code_meaning kernel.body) kernel.world c.processor-2.result (ending c.stretch.result) ≡ reaction site.image site.bound (events journal) (Run p) =
-    ap (λ q. applied kernel.system (code_meaning kernel.body) kernel.world q (ending c.stretch.result)) c.processor-2.ensures
-    ∙ ap (λ x. applied kernel.system (code_meaning kernel.body) kernel.world p x) c.stretch.ensures.ending
-    ∙ outcome_runs site.image site.bound site.row_id.capacity site.row_id.seats kernel journal o b.3 c.stretch.ensures.outcome c.requires.drawn.is_of there in
-    let done = done_by (applied kernel.system (code_meaning kernel.body) kernel.world c.processor-2.result (ending c.stretch.result)) (sym c.in-Done.is ∙ c.apply.ensures.effect) in
+    let runs : applied kernel.system (code_meaning kernel.body) kernel.world c.processor-2.result (ending c.ended.result) ≡ reaction site.image site.bound (events journal) (Run p) =
+    ap (λ q. applied kernel.system (code_meaning kernel.body) kernel.world q (ending c.ended.result)) c.processor-2.ensures
+    ∙ ap (λ x. applied kernel.system (code_meaning kernel.body) kernel.world p x) c.ended.ensures
+    ∙ outcome_runs site.image site.bound site.row_id.capacity site.row_id.seats kernel journal o b.3 c.requires.outcome c.requires.drawn.is_of there in
+    let done = done_by (applied kernel.system (code_meaning kernel.body) kernel.world c.processor-2.result (ending c.ended.result)) (sym c.in-Done.is ∙ c.apply.ensures.effect) in
     let lines : c.apply.new.self.lines ≡ done.0.lines = ap (λ v. v.lines) (c.apply.ensures.state ∙ ap (view_after kernel) done.1) in
     let count : c.len.result ≡ length journal + 1 = search (rules, length-append) in
     rw was (
@@ -129,15 +129,15 @@ returns-in-Done-clause-journal g c =
     let site = g.S.Site in
     let kernel = c.self.inside.kernel in
     let journal = c.self.inside.scribe.journal in
-    let o = c.args.outcome in
+    let o = c.args.outcome.now in
     let p = o.ticket.processor in
     let was : c.args.self.now.journal ≡ journal = search rules in
     let here : actor_after site.image site.bound c.args.self.now.journal p ≡ Some o.ticket.actor = search rules in
-    let runs : applied kernel.system (code_meaning kernel.body) kernel.world c.processor-2.result (ending c.stretch.result) ≡ reaction site.image site.bound (events journal) (Run p) =
-    ap (λ q. applied kernel.system (code_meaning kernel.body) kernel.world q (ending c.stretch.result)) c.processor-2.ensures
-    ∙ ap (λ x. applied kernel.system (code_meaning kernel.body) kernel.world p x) c.stretch.ensures.ending
-    ∙ outcome_runs site.image site.bound site.row_id.capacity site.row_id.seats kernel journal o b.3 c.stretch.ensures.outcome c.requires.drawn.is_of (rw was at here) in
-    let done = done_by (applied kernel.system (code_meaning kernel.body) kernel.world c.processor-2.result (ending c.stretch.result)) (sym c.in-Done.is ∙ c.apply.ensures.effect) in
+    let runs : applied kernel.system (code_meaning kernel.body) kernel.world c.processor-2.result (ending c.ended.result) ≡ reaction site.image site.bound (events journal) (Run p) =
+    ap (λ q. applied kernel.system (code_meaning kernel.body) kernel.world q (ending c.ended.result)) c.processor-2.ensures
+    ∙ ap (λ x. applied kernel.system (code_meaning kernel.body) kernel.world p x) c.ended.ensures
+    ∙ outcome_runs site.image site.bound site.row_id.capacity site.row_id.seats kernel journal o b.3 c.requires.outcome c.requires.drawn.is_of (rw was at here) in
+    let done = done_by (applied kernel.system (code_meaning kernel.body) kernel.world c.processor-2.result (ending c.ended.result)) (sym c.in-Done.is ∙ c.apply.ensures.effect) in
     let items : c.write.new.self.journal ≡ journal ++ entry c.args.seat (Run p) ∷ [] =
     ap (λ v. v.journal) c.write.ensures ∙ ap (λ (q : ℕ). journal ++ entry c.args.seat (Run q) ∷ []) c.processor.ensures in
     rw was (items ∙ sym (ap (journal_after journal (entry c.args.seat (Run p))) (sym runs ∙ done.1)))
@@ -148,15 +148,15 @@ returns-in-Done-clause-marks g c =
     let site = g.S.Site in
     let kernel = c.self.inside.kernel in
     let journal = c.self.inside.scribe.journal in
-    let o = c.args.outcome in
+    let o = c.args.outcome.now in
     let p = o.ticket.processor in
     let was : c.args.self.now.journal ≡ journal = search rules in
     let here : actor_after site.image site.bound c.args.self.now.journal p ≡ Some o.ticket.actor = search rules in
-    let runs : applied kernel.system (code_meaning kernel.body) kernel.world c.processor-2.result (ending c.stretch.result) ≡ reaction site.image site.bound (events journal) (Run p) =
-    ap (λ q. applied kernel.system (code_meaning kernel.body) kernel.world q (ending c.stretch.result)) c.processor-2.ensures
-    ∙ ap (λ x. applied kernel.system (code_meaning kernel.body) kernel.world p x) c.stretch.ensures.ending
-    ∙ outcome_runs site.image site.bound site.row_id.capacity site.row_id.seats kernel journal o b.3 c.stretch.ensures.outcome c.requires.drawn.is_of (rw was at here) in
-    let done = done_by (applied kernel.system (code_meaning kernel.body) kernel.world c.processor-2.result (ending c.stretch.result)) (sym c.in-Done.is ∙ c.apply.ensures.effect) in
+    let runs : applied kernel.system (code_meaning kernel.body) kernel.world c.processor-2.result (ending c.ended.result) ≡ reaction site.image site.bound (events journal) (Run p) =
+    ap (λ q. applied kernel.system (code_meaning kernel.body) kernel.world q (ending c.ended.result)) c.processor-2.ensures
+    ∙ ap (λ x. applied kernel.system (code_meaning kernel.body) kernel.world p x) c.ended.ensures
+    ∙ outcome_runs site.image site.bound site.row_id.capacity site.row_id.seats kernel journal o b.3 c.requires.outcome c.requires.drawn.is_of (rw was at here) in
+    let done = done_by (applied kernel.system (code_meaning kernel.body) kernel.world c.processor-2.result (ending c.ended.result)) (sym c.in-Done.is ∙ c.apply.ensures.effect) in
     let marks : c.args.self.now.marks ≡ c.self.inside.scribe.marks = search rules in
     rw marks (rw was (ap (λ v. v.marks) c.write.ensures ∙ sym (ap (marks_after c.self.inside.scribe.marks c.args.seat) (sym runs ∙ done.1))))
 
@@ -166,16 +166,16 @@ invariant_of-self-in-Kept g c =
     let site = g.S.Site in
     let kernel = c.self.inside.kernel in
     let journal = c.self.inside.scribe.journal in
-    let o = c.args.outcome in
+    let o = c.args.outcome.now in
     let p = o.ticket.processor in
     let was : c.args.self.now.journal ≡ journal = search rules in
     let here : actor_after site.image site.bound c.args.self.now.journal p ≡ Some o.ticket.actor = search rules in
     let lt : length journal < site.row_id.capacity = search rules in
-    let runs : applied kernel.system (code_meaning kernel.body) kernel.world c.processor-2.result (ending c.stretch.result) ≡ reaction site.image site.bound (events journal) (Run p) =
-    ap (λ q. applied kernel.system (code_meaning kernel.body) kernel.world q (ending c.stretch.result)) c.processor-2.ensures
-    ∙ ap (λ x. applied kernel.system (code_meaning kernel.body) kernel.world p x) c.stretch.ensures.ending
-    ∙ outcome_runs site.image site.bound site.row_id.capacity site.row_id.seats kernel journal o b.3 c.stretch.ensures.outcome c.requires.drawn.is_of (rw was at here) in
-    let kept = kept_by (applied kernel.system (code_meaning kernel.body) kernel.world c.processor-2.result (ending c.stretch.result)) (sym c.in-Kept.is ∙ c.apply.ensures.effect) in
+    let runs : applied kernel.system (code_meaning kernel.body) kernel.world c.processor-2.result (ending c.ended.result) ≡ reaction site.image site.bound (events journal) (Run p) =
+    ap (λ q. applied kernel.system (code_meaning kernel.body) kernel.world q (ending c.ended.result)) c.processor-2.ensures
+    ∙ ap (λ x. applied kernel.system (code_meaning kernel.body) kernel.world p x) c.ended.ensures
+    ∙ outcome_runs site.image site.bound site.row_id.capacity site.row_id.seats kernel journal o b.3 c.requires.outcome c.requires.drawn.is_of (rw was at here) in
+    let kept = kept_by (applied kernel.system (code_meaning kernel.body) kernel.world c.processor-2.result (ending c.ended.result)) (sym c.in-Kept.is ∙ c.apply.ensures.effect) in
     let items : c.write-in-Kept.new.self.journal ≡ journal ++ entry c.args.seat (Run p) ∷ [] =
     ap (λ v. v.journal) c.write-in-Kept.ensures ∙ ap (λ (q : ℕ). journal ++ entry c.args.seat (Run q) ∷ []) c.processor.ensures in (
       b.0,
@@ -187,23 +187,23 @@ invariant_of-self-in-Kept g c =
       b.4,
     )
 
-pub returns-clause-answer : goal.returns-clause-answer
-returns-clause-answer g c =
+pub returns-in-Kept-clause-answer : goal.returns-in-Kept-clause-answer
+returns-in-Kept-clause-answer g c =
     let b = c.self.invariant in
     let site = g.S.Site in
     let kernel = c.self.inside.kernel in
     let journal = c.self.inside.scribe.journal in
-    let o = c.args.outcome in
+    let o = c.args.outcome.now in
     let p = o.ticket.processor in
     let was : c.args.self.now.journal ≡ journal = search rules in
     let here : actor_after site.image site.bound c.args.self.now.journal p ≡ Some o.ticket.actor = search rules in
     let there = rw was at here in
     let lt : length journal < site.row_id.capacity = search rules in
-    let runs : applied kernel.system (code_meaning kernel.body) kernel.world c.processor-2.result (ending c.stretch.result) ≡ reaction site.image site.bound (events journal) (Run p) =
-    ap (λ q. applied kernel.system (code_meaning kernel.body) kernel.world q (ending c.stretch.result)) c.processor-2.ensures
-    ∙ ap (λ x. applied kernel.system (code_meaning kernel.body) kernel.world p x) c.stretch.ensures.ending
-    ∙ outcome_runs site.image site.bound site.row_id.capacity site.row_id.seats kernel journal o b.3 c.stretch.ensures.outcome c.requires.drawn.is_of there in
-    let kept = kept_by (applied kernel.system (code_meaning kernel.body) kernel.world c.processor-2.result (ending c.stretch.result)) (sym c.in-Kept.is ∙ c.apply.ensures.effect) in
+    let runs : applied kernel.system (code_meaning kernel.body) kernel.world c.processor-2.result (ending c.ended.result) ≡ reaction site.image site.bound (events journal) (Run p) =
+    ap (λ q. applied kernel.system (code_meaning kernel.body) kernel.world q (ending c.ended.result)) c.processor-2.ensures
+    ∙ ap (λ x. applied kernel.system (code_meaning kernel.body) kernel.world p x) c.ended.ensures
+    ∙ outcome_runs site.image site.bound site.row_id.capacity site.row_id.seats kernel journal o b.3 c.requires.outcome c.requires.drawn.is_of there in
+    let kept = kept_by (applied kernel.system (code_meaning kernel.body) kernel.world c.processor-2.result (ending c.ended.result)) (sym c.in-Kept.is ∙ c.apply.ensures.effect) in
     let count : c.len-in-Kept.result ≡ length journal + 1 = search (rules, length-append) in
     rw was (
       stamp_of_actor site.image site.bound journal p o.ticket.actor there,
@@ -211,39 +211,39 @@ returns-clause-answer g c =
       receipt_kept _ kept.0 kept.1 _ _ (sym runs ∙ kept.2) count,
     )
 
-pub returns-clause-journal : goal.returns-clause-journal
-returns-clause-journal g c =
+pub returns-in-Kept-clause-journal : goal.returns-in-Kept-clause-journal
+returns-in-Kept-clause-journal g c =
     let b = c.self.invariant in
     let site = g.S.Site in
     let kernel = c.self.inside.kernel in
     let journal = c.self.inside.scribe.journal in
-    let o = c.args.outcome in
+    let o = c.args.outcome.now in
     let p = o.ticket.processor in
     let was : c.args.self.now.journal ≡ journal = search rules in
     let here : actor_after site.image site.bound c.args.self.now.journal p ≡ Some o.ticket.actor = search rules in
-    let runs : applied kernel.system (code_meaning kernel.body) kernel.world c.processor-2.result (ending c.stretch.result) ≡ reaction site.image site.bound (events journal) (Run p) =
-    ap (λ q. applied kernel.system (code_meaning kernel.body) kernel.world q (ending c.stretch.result)) c.processor-2.ensures
-    ∙ ap (λ x. applied kernel.system (code_meaning kernel.body) kernel.world p x) c.stretch.ensures.ending
-    ∙ outcome_runs site.image site.bound site.row_id.capacity site.row_id.seats kernel journal o b.3 c.stretch.ensures.outcome c.requires.drawn.is_of (rw was at here) in
-    let kept = kept_by (applied kernel.system (code_meaning kernel.body) kernel.world c.processor-2.result (ending c.stretch.result)) (sym c.in-Kept.is ∙ c.apply.ensures.effect) in
+    let runs : applied kernel.system (code_meaning kernel.body) kernel.world c.processor-2.result (ending c.ended.result) ≡ reaction site.image site.bound (events journal) (Run p) =
+    ap (λ q. applied kernel.system (code_meaning kernel.body) kernel.world q (ending c.ended.result)) c.processor-2.ensures
+    ∙ ap (λ x. applied kernel.system (code_meaning kernel.body) kernel.world p x) c.ended.ensures
+    ∙ outcome_runs site.image site.bound site.row_id.capacity site.row_id.seats kernel journal o b.3 c.requires.outcome c.requires.drawn.is_of (rw was at here) in
+    let kept = kept_by (applied kernel.system (code_meaning kernel.body) kernel.world c.processor-2.result (ending c.ended.result)) (sym c.in-Kept.is ∙ c.apply.ensures.effect) in
     let items : c.write-in-Kept.new.self.journal ≡ journal ++ entry c.args.seat (Run p) ∷ [] =
     ap (λ v. v.journal) c.write-in-Kept.ensures ∙ ap (λ (q : ℕ). journal ++ entry c.args.seat (Run q) ∷ []) c.processor.ensures in
     rw was (items ∙ sym (ap (journal_after journal (entry c.args.seat (Run p))) (sym runs ∙ kept.2)))
 
-pub returns-clause-marks : goal.returns-clause-marks
-returns-clause-marks g c =
+pub returns-in-Kept-clause-marks : goal.returns-in-Kept-clause-marks
+returns-in-Kept-clause-marks g c =
     let b = c.self.invariant in
     let site = g.S.Site in
     let kernel = c.self.inside.kernel in
     let journal = c.self.inside.scribe.journal in
-    let o = c.args.outcome in
+    let o = c.args.outcome.now in
     let p = o.ticket.processor in
     let was : c.args.self.now.journal ≡ journal = search rules in
     let here : actor_after site.image site.bound c.args.self.now.journal p ≡ Some o.ticket.actor = search rules in
-    let runs : applied kernel.system (code_meaning kernel.body) kernel.world c.processor-2.result (ending c.stretch.result) ≡ reaction site.image site.bound (events journal) (Run p) =
-    ap (λ q. applied kernel.system (code_meaning kernel.body) kernel.world q (ending c.stretch.result)) c.processor-2.ensures
-    ∙ ap (λ x. applied kernel.system (code_meaning kernel.body) kernel.world p x) c.stretch.ensures.ending
-    ∙ outcome_runs site.image site.bound site.row_id.capacity site.row_id.seats kernel journal o b.3 c.stretch.ensures.outcome c.requires.drawn.is_of (rw was at here) in
-    let kept = kept_by (applied kernel.system (code_meaning kernel.body) kernel.world c.processor-2.result (ending c.stretch.result)) (sym c.in-Kept.is ∙ c.apply.ensures.effect) in
+    let runs : applied kernel.system (code_meaning kernel.body) kernel.world c.processor-2.result (ending c.ended.result) ≡ reaction site.image site.bound (events journal) (Run p) =
+    ap (λ q. applied kernel.system (code_meaning kernel.body) kernel.world q (ending c.ended.result)) c.processor-2.ensures
+    ∙ ap (λ x. applied kernel.system (code_meaning kernel.body) kernel.world p x) c.ended.ensures
+    ∙ outcome_runs site.image site.bound site.row_id.capacity site.row_id.seats kernel journal o b.3 c.requires.outcome c.requires.drawn.is_of (rw was at here) in
+    let kept = kept_by (applied kernel.system (code_meaning kernel.body) kernel.world c.processor-2.result (ending c.ended.result)) (sym c.in-Kept.is ∙ c.apply.ensures.effect) in
     let marks : c.args.self.now.marks ≡ c.self.inside.scribe.marks = search rules in
     rw marks (rw was (ap (λ v. v.marks) c.write-in-Kept.ensures ∙ sym (ap (marks_after c.self.inside.scribe.marks c.args.seat) (sym runs ∙ kept.2))))
