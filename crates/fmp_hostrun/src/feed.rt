@@ -1,13 +1,13 @@
 //! A taker of events from many threads.
-ghost use Rattle.std.specs.Prelude.{◌≡◌, ◌+◌, ℕ, IfNone, IfSome};
+ghost use Rattle.std.specs.Prelude.{◌≡◌, ◌+◌, ℕ, MatchBool};
 ghost use Rattle.fmp_board.specs.Boards.{IsAt};
-ghost use Rattle.fmp_board.specs.Outcomes.{HasNoActorAfter, IsDrawn, Submitted};
+ghost use Rattle.fmp_board.specs.Outcomes.{HasNoActorAfter, IsDrawn, IsOutcome, Submitted};
 ghost use Rattle.fmp_board.specs.Visits.{Fed, Visited, journaled};
 ghost use Rattle.fmp_image_bytes.specs.Images.{ImageTables};
 ghost use Rattle.fmp_journal.specs.Seats.{RowId};
 
 use fmp_base::Event;
-use fmp_board::{Board, BoardFault, Outcome, Receipt, Site};
+use fmp_board::{Board, BoardFault, Receipt, Site, Workspace};
 use fmp_journal::Seat;
 use std::sync::Wait;
 
@@ -22,29 +22,34 @@ pub(crate) trait Feed {
     /// Its row.
     ghost row_id: { RowId };
 
-    /// The next stretch of the actor of processor p, if it has one. It is made outside the lock.
-    fn outcome<R: Wait>(&self, rt: &R, seat: &mut Seat, p: u8) -> Option<Outcome>
+    /// A workspace for its stretches, in which none is made yet.
+    fn workspace(&self) -> Workspace;
+
+    /// The next stretch of the actor of processor p, if it has one, in a workspace. It is made outside the lock.
+    fn stretch<R: Wait>(&self, rt: &R, seat: &mut Seat, p: u8, workspace: &mut Workspace) -> bool
         requires at { IsAt row_id seat.old }
         ensures at { IsAt row_id seat.new }
         ensures visited { Visited image bound row_id seat.old seat.new }
         ensures mine { seat.new.mine ≡ seat.old.mine }
-        ensures none { IfNone result (HasNoActorAfter image bound seat.new.seen p) }
-        ensures drawn { IfSome result (λ o. IsDrawn image bound seat.new.seen o.ticket) }
-        ensures processor { IfSome result (λ o. o.ticket.processor ≡ p) };
+        ensures made { MatchBool result
+            (IsOutcome workspace.new × IsDrawn image bound seat.new.seen workspace.new.ticket
+            × (workspace.new.ticket.processor ≡ p))
+            (HasNoActorAfter image bound seat.new.seen p) };
 
-    /// Takes an outcome, under the number of the seat.
+    /// Takes the outcome that a workspace has, under the number of the seat.
     fn submit<R: Wait>(
         &self,
         rt: &R,
         seat: &mut Seat,
-        outcome: Outcome,
+        workspace: &Workspace,
     ) -> Result<Receipt, BoardFault>
         requires at { IsAt row_id seat.old }
-        requires drawn { IsDrawn image bound seat.old.seen outcome.ticket }
+        requires drawn { IsDrawn image bound seat.old.seen workspace.now.ticket }
+        requires outcome { IsOutcome workspace.now }
         ensures at { IsAt row_id seat.new }
         ensures visited { Visited image bound row_id seat.old seat.new }
         ensures mine { seat.new.mine ≡ seat.old.mine + journaled result }
-        ensures submitted { Submitted image bound row_id outcome.ticket seat.old seat.new result };
+        ensures submitted { Submitted image bound row_id workspace.now.ticket seat.old seat.new result };
 
     /// Takes an event, under the number of the seat.
     fn feed<R: Wait>(&self, rt: &R, seat: &mut Seat, event: Event) -> Result<Receipt, BoardFault>
@@ -62,17 +67,21 @@ impl<'a, S: Site> Feed for Board<'a, S> {
 
     ghost row_id = { S.row_id };
 
-    fn outcome<R: Wait>(&self, rt: &R, seat: &mut Seat, p: u8) -> Option<Outcome> {
-        Some(self.ticket(rt, seat, p)?.stretch())
+    fn workspace(&self) -> Workspace {
+        Workspace::new(self.image())
+    }
+
+    fn stretch<R: Wait>(&self, rt: &R, seat: &mut Seat, p: u8, workspace: &mut Workspace) -> bool {
+        Board::stretch(self, rt, seat, p, workspace)
     }
 
     fn submit<R: Wait>(
         &self,
         rt: &R,
         seat: &mut Seat,
-        outcome: Outcome,
+        workspace: &Workspace,
     ) -> Result<Receipt, BoardFault> {
-        Board::submit(self, rt, seat, outcome)
+        self.submit_from(rt, seat, workspace)
     }
 
     fn feed<R: Wait>(&self, rt: &R, seat: &mut Seat, event: Event) -> Result<Receipt, BoardFault> {

@@ -6,7 +6,9 @@ mod feed;
 mod running;
 mod turns;
 
-pub use fmp_board::{Blank, Board, BoardFault, Book, Closed, Outcome, Receipt, Seat, Site, Ticket};
+pub use fmp_board::{
+    Blank, Board, BoardFault, Book, Closed, Outcome, Receipt, Seat, Site, Ticket, Workspace,
+};
 pub use fmp_follower::{Follower, Start, followed_text_is_front};
 pub use running::run_all;
 pub use turns::Gate;

@@ -7,7 +7,7 @@ ghost use Rattle.fmp_hostrun.specs.Works.{Added, DidOnce, DidTimes, GaveBack, Is
 
 use crate::feed::Feed;
 use fmp_base::Event;
-use fmp_board::BoardFault;
+use fmp_board::{BoardFault, Workspace};
 use fmp_journal::Seat;
 use std::sync::Wait;
 use std::thread;
@@ -91,6 +91,7 @@ fn take_turn<B: Feed, G: Gate, R: Wait>(
     board: &B,
     gate: &G,
     seat: &mut Seat,
+    workspace: &mut Workspace,
     p: u8,
     turn: u32,
 ) -> Result<bool, BoardFault>
@@ -102,13 +103,13 @@ fn take_turn<B: Feed, G: Gate, R: Wait>(
     ensures stopped { IfErr result (λ f. (seat.new.mine ≡ seat.old.mine)
         × IsWhyStopped B.row_id G.is_open (Run p) seat.new f) }
 {
-    let Some(outcome) = board.outcome(rt, seat, p) else {
+    if !board.stretch(rt, seat, p, workspace) {
         return Ok(false);
-    };
+    }
     if !is_let(gate, p, turn) {
         return Err(BoardFault::Held);
     }
-    let answer = board.submit(rt, seat, outcome);
+    let answer = board.submit(rt, seat, workspace);
     gate.answered(p, turn);
     match answer {
         Ok(receipt) => Ok(receipt.number > 0),
@@ -135,9 +136,10 @@ fn run_turns<B: Feed, G: Gate, R: Wait>(
     ensures stopped { IfErr result (λ f. (seat.new.mine < seat.old.mine + turns)
         × IsWhyStopped B.row_id G.is_open (Run p) seat.new f) }
 {
+    let mut workspace = board.workspace();
     let mut journaled = 0;
     for turn in 0..turns {
-        if take_turn(rt, board, gate, seat, p, turn + 1)? {
+        if take_turn(rt, board, gate, seat, &mut workspace, p, turn + 1)? {
             journaled += 1;
         }
     }

@@ -1,43 +1,51 @@
-use Rattle.std.proofs.Common.{rules}
+use Rattle.std.proofs.Common.{◌≡◌, rules}
 use Rattle.fmp_base.specs.declared.events.Event.TheVariants.{Run}
+use Rattle.fmp_board.specs.Outcomes.{IsDrawn}
 use Rattle.fmp_hostrun.proofs.Working.{added_none, added_submitted, added_turn, did_submitted, turn_refused}
 use Rattle.fmp_hostrun.proofs.turns.take_turn.Goals as goal
 
 pub returns-in-Ok-clause-added : goal.returns-in-Ok-clause-added
 returns-in-Ok-clause-added g c =
-    added_turn _ _ _ _ _ _ _ _ c.outcome.ensures.visited c.outcome.ensures.mine c.in-Some.ensures.processor
+    let processor : c.stretch.new.workspace.ticket.processor ≡ c.args.p = search rules in
+    added_turn _ _ _ _ _ _ _ _ c.stretch.ensures.visited c.stretch.ensures.mine processor
     (added_submitted _ _ _ _ _ _ _ c.submit-answer.ensures.visited c.submit-answer.ensures.mine c.submit-answer.ensures.submitted)
 
 pub returns-in-Err-Stale-clause-added : goal.returns-in-Err-Stale-clause-added
 returns-in-Err-Stale-clause-added g c =
-    added_turn _ _ _ _ _ _ _ _ c.outcome.ensures.visited c.outcome.ensures.mine c.in-Some.ensures.processor
+    let processor : c.stretch.new.workspace.ticket.processor ≡ c.args.p = search rules in
+    added_turn _ _ _ _ _ _ _ _ c.stretch.ensures.visited c.stretch.ensures.mine processor
     (added_submitted _ _ _ _ _ _ _ c.submit-answer.ensures.visited c.submit-answer.ensures.mine c.submit-answer.ensures.submitted)
 
 pub returns-in-Ok-clause-did : goal.returns-in-Ok-clause-did
 returns-in-Ok-clause-did g c =
-    did_submitted _ _ _ _ _ _ _ _ _ c.outcome.ensures.visited c.outcome.ensures.mine c.in-Some.ensures.processor c.in-Some.ensures.drawn
+    let processor : c.stretch.new.workspace.ticket.processor ≡ c.args.p = search rules in
+    let drawn : IsDrawn g.B.Feed.image g.B.Feed.bound c.stretch.new.seat.seen c.stretch.new.workspace.ticket = search rules in
+    did_submitted _ _ _ _ _ _ _ _ _ c.stretch.ensures.visited c.stretch.ensures.mine processor drawn
     c.submit-answer.ensures.visited c.submit-answer.ensures.mine c.submit-answer.ensures.submitted
 
 pub returns-in-Err-Stale-clause-did : goal.returns-in-Err-Stale-clause-did
 returns-in-Err-Stale-clause-did g c =
-    did_submitted _ _ _ _ _ _ _ _ _ c.outcome.ensures.visited c.outcome.ensures.mine c.in-Some.ensures.processor c.in-Some.ensures.drawn
+    let processor : c.stretch.new.workspace.ticket.processor ≡ c.args.p = search rules in
+    let drawn : IsDrawn g.B.Feed.image g.B.Feed.bound c.stretch.new.seat.seen c.stretch.new.workspace.ticket = search rules in
+    did_submitted _ _ _ _ _ _ _ _ _ c.stretch.ensures.visited c.stretch.ensures.mine processor drawn
     c.submit-answer.ensures.visited c.submit-answer.ensures.mine c.submit-answer.ensures.submitted
 
 pub returns-in-Err : goal.returns-in-Err
 returns-in-Err g c =
+    let processor : c.stretch.new.workspace.ticket.processor ≡ c.args.p = search rules in
     record {
       at = c.submit-answer.ensures.at;
       added =
-          added_turn _ _ _ _ _ _ _ _ c.outcome.ensures.visited c.outcome.ensures.mine c.in-Some.ensures.processor
+          added_turn _ _ _ _ _ _ _ _ c.stretch.ensures.visited c.stretch.ensures.mine processor
           (added_submitted _ _ _ _ _ _ _ c.submit-answer.ensures.visited c.submit-answer.ensures.mine c.submit-answer.ensures.submitted);
       did = tt;
       mine = tt;
       stopped =
-          turn_refused g.B.Feed.image g.B.Feed.bound g.B.Feed.row_id g.G.Gate.is_open c.args.p c.in-Some.outcome.ticket c.args.seat.now c.outcome.new.seat c.submit-answer.new.seat c.in-Err.fault
-          c.in-Err.ensures.submitted (search rules) c.outcome.ensures.mine c.in-Err.ensures.mine;
+          turn_refused g.B.Feed.image g.B.Feed.bound g.B.Feed.row_id g.G.Gate.is_open c.args.p c.stretch.new.workspace.ticket c.args.seat.now c.stretch.new.seat c.submit-answer.new.seat c.in-Err.fault
+          c.in-Err.ensures.submitted (search rules) c.stretch.ensures.mine c.in-Err.ensures.mine;
     }
 
 pub returns-then-not-is_let-clause-added : goal.returns-then-not-is_let-clause-added
 returns-then-not-is_let-clause-added g c =
     let feed = g.B.Feed in
-    added_none feed.image feed.bound feed.row_id (Run c.args.p) 1 c.args.seat.now c.outcome.new.seat c.outcome.ensures.visited c.outcome.ensures.mine
+    added_none feed.image feed.bound feed.row_id (Run c.args.p) 1 c.args.seat.now c.stretch.new.seat c.stretch.ensures.visited c.stretch.ensures.mine
