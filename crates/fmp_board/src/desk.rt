@@ -86,7 +86,7 @@ impl<'a, S: Site> Desk<'a, S> {
         ensures submitted { Submitted S.image S.bound S.row_id outcome.now.ticket seat.old seat.new result }
     {
         self.show(seat);
-        let answer = self.book.enter_outcome(seat.number(), outcome);
+        let answer = self.book.enter_stretch(seat.number(), outcome);
         self.book.show(seat);
         answer
     }

@@ -10,7 +10,7 @@ ghost use Rattle.fmp_replay.specs.Replays.{reaction};
 
 use crate::book::Book;
 use crate::fault::BoardFault;
-use crate::outcome::{Ticket, Workspace};
+use crate::outcome::{Outcome, Ticket, Workspace};
 use crate::receipt::{Receipt, call_reply};
 use crate::site::Site;
 use fmp_base::{Effect, Event};
@@ -71,7 +71,28 @@ impl<'a, S: Site> Book<'a, S> {
     ///
     /// `BoardFault::Stale`, exactly if the stamp of the processor is no longer that of the ticket; else
     /// `BoardFault::Full`, exactly if the journal has no room for one more event. Then nothing has changed.
-    pub fn enter_outcome(&mut self, seat: u8, outcome: &Workspace) -> Result<Receipt, BoardFault>
+    pub fn enter_outcome(&mut self, seat: u8, outcome: Outcome) -> Result<Receipt, BoardFault>
+        requires seat { seat < S.row_id.seats }
+        requires drawn { IsDrawn S.image S.bound self.old.journal outcome.ticket }
+        ensures answer { AnsweredAfter S.image S.bound S.row_id.capacity self.old.journal outcome.ticket result }
+        ensures journal { OnOk result (self.new.journal
+            ≡ journal_after self.old.journal (entry seat (Run outcome.ticket.processor))
+            (reaction S.image S.bound (events self.old.journal) (Run outcome.ticket.processor))) }
+        ensures marks { OnOk result (self.new.marks
+            ≡ marks_after self.old.marks seat
+            (reaction S.image S.bound (events self.old.journal) (Run outcome.ticket.processor))) }
+        ensures same { OnErr result (self.new ≡ self.old) }
+        ensures legal { IsJournal S.image S.bound S.row_id.capacity S.row_id.seats self.old.journal }
+    {
+        self.enter_stretch(seat, outcome.workspace())
+    }
+
+    /// As `enter_outcome`, by the stretch that a workspace has.
+    pub(crate) fn enter_stretch(
+        &mut self,
+        seat: u8,
+        outcome: &Workspace,
+    ) -> Result<Receipt, BoardFault>
         requires seat { seat < S.row_id.seats }
         requires drawn { IsDrawn S.image S.bound self.old.journal outcome.now.ticket }
         requires outcome { IsOutcome outcome.now }

@@ -14,7 +14,7 @@ use Rattle.fmp_board.specs.Receipts.{call_reply, journal_after, marks_after}
 use Rattle.fmp_replay.specs.Replays.{reaction}
 use Rattle.fmp_board.proofs.Drawing.{outcome_runs, stamp_of_actor}
 use Rattle.fmp_board.proofs.Entering.{done_by, kept_by, nothing_by, replay_more, receipt_done, receipt_kept, receipt_nothing}
-use Rattle.fmp_board.proofs.book.Book.enter_outcome.Goals as goal
+use Rattle.fmp_board.proofs.book.Book.enter_stretch.Goals as goal
 
 pub returns-in-Nothing-clause-answer : goal.returns-in-Nothing-clause-answer
 returns-in-Nothing-clause-answer g c =
