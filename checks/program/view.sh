@@ -684,6 +684,7 @@ refused 'explore: no such word' 'an answer as E_QOVR' explore queue.cfg queue.sr
 refused 'explore: no call at a line' 'no call' explore queue.cfg queue.src --never E_OK:1000
 refused 'explore: no such code at a line' 'an answer as E_QOVR' explore queue.cfg queue.src --never E_FOO:1
 refused 'explore: no such task' 'no task' explore queue.cfg queue.src --rest NOBODY
+refused 'explore: one value twice' 'two different values' explore queue.cfg queue.src --alone 1,1
 
 # Expectations of the run of the queue: CONSUMER puts 42 in event 4, and PRODUCER ends in event 6, the last one.
 cat > queue.expect <<'END'

@@ -55,12 +55,17 @@ pub fn never_at_named(word: &str) -> Option<CodeAt> {
 }
 
 /// The section of a word as `1,2`, which tasks enter by `put(1)` and leave by `put(2)`, with nobody in it. None if the
-/// word is not of this form.
+/// word is not of this form, or has one value twice.
 pub fn section_named(word: &str) -> Option<Section> {
-    let (enters, leaves) = word.split_once(",")?;
+    let (first, second) = word.split_once(",")?;
+    let enters = first.parse::<i32>().ok()?;
+    let leaves = second.parse::<i32>().ok()?;
+    if enters == leaves {
+        return None;
+    }
     Some(Section {
-        enters: enters.parse::<i32>().ok()?,
-        leaves: leaves.parse::<i32>().ok()?,
+        enters,
+        leaves,
         holder: None,
     })
 }

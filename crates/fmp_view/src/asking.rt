@@ -25,7 +25,7 @@ const NO_NEVER: &str =
     "--never wants an answer as E_QOVR or E_TMOUT:12, or a printed value as 'put(99)'";
 
 /// The message for a word that names no section, or for more sections than are watched.
-const NO_SECTION: &str = "--alone wants two values as 1,2, and is given at most 4 times";
+const NO_SECTION: &str = "--alone wants two different values as 1,2, and is given at most 4 times";
 
 /// How many sections are watched at most.
 const SECTIONS_MAX: usize = 4;

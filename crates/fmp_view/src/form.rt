@@ -64,8 +64,8 @@ never happen anyway";
 
 /// Where one task at a time may be.
 const ALONE: &str =
-    "One task at a time may be between 'put(A)' and 'put(B)': A,B are two values, as 1,2. A task is
-there from its 'put(A)' to its 'put(B)' or its end. It may be given again, at most 4 times";
+    "One task at a time may be between 'put(A)' and 'put(B)': A,B are two different values, as 1,2.
+A task is there from its 'put(A)' to its 'put(B)' or its end. It may be given again, at most 4 times";
 
 /// Which task may wait forever.
 const REST: &str = "Name of a task that may wait forever, as servers do; it may be given again";

@@ -196,6 +196,7 @@ fn words_of_sections(rt: HostRuntime) {
     assert_eq!(rt; section_named("1"), None);
     assert_eq!(rt; section_named("1,"), None);
     assert_eq!(rt; section_named("1,2,3"), None);
+    assert_eq!(rt; section_named("1,1"), None);
 }
 
 /// Each enters and leaves on a processor of its own.

@@ -1,6 +1,8 @@
 use Rattle.std.proofs.Common.{ap₂, sym, ◌∙◌, ◌∷◌, List}
+use Rattle.std.specs.List.{list_any}
 use Rattle.fmp_base.specs.declared.events.Line.{Line}
 use Rattle.fmp_schedules.specs.Schedules.{is_told}
+use Rattle.fmp_schedules.specs.Sections.{is_met_along}
 use Rattle.fmp_explore_names.proofs.laws.texts_never_tell.Goals as goal
 
 pub returns : goal.returns
@@ -8,6 +10,17 @@ returns c = λ cfg src i b rules n forbidden rest low holds es schedule.
     let like = c.built_image_prints_text.ensures cfg src i b n es low in
     record {
       prints = like;
-      never = ap₂ (λ (first : List Line) (more : List (List Line)). is_told forbidden (first ∷ more)) (sym like.first_lines) (sym like.lines)
+      never =
+          ap₂
+          (λ (first : List Line) (more : List (List Line)). is_told forbidden (first ∷ more))
+          (sym like.first_lines)
+          (sym like.lines)
           ∙ holds.never es schedule;
+      alone =
+          ap₂
+          (λ (first : List Line) (more : List (List Line)).
+          list_any (λ s. is_met_along s (first ∷ more)) rules.sections)
+          (sym like.first_lines)
+          (sym like.lines)
+          ∙ holds.alone es schedule;
     }
