@@ -4,35 +4,82 @@
     checks/model/explore.py [COUNT [SEED]] [--view PATH] [--program PATH]
 
 Both find something or nothing. Where they find something, their shortest lists of events are as long, each event of the
-program's list does something in the model, and the last one shows there what was found; where they find nothing, they
-have seen as many states and as many events that did something. Every other system runs at a small bound. COUNT is the
-number of systems that were compared: systems with more than MOST states are left out.
+program's list does something in the model, and after the last one the model shows what was found; where they find
+nothing, they have seen as many states and as many events that did something. Of three systems one has sections: tasks
+put the values by which they enter and leave them. In one some tasks may wait forever, so that fewer deadlocks are found
+first; of these some ask for few interrupts or for ticks where nobody can do anything. Every other system runs at a
+small bound. COUNT is the number of systems that were compared: systems with more than MOST states are left out.
 """
 
+import random
 import re
 import subprocess
 import sys
+from collections import Counter
+from dataclasses import replace
 from pathlib import Path
 
 sys.dont_write_bytecode = True  # the folders of the checks stay as they are
 sys.path[0] = str(Path(__file__).resolve().parents[1])  # the folder `checks`, whose folders are packages
 
+from model.bodies import Call, Statement  # noqa: E402
 from model.harness import SECONDS, expect, main, replayed  # noqa: E402
-from model.schedules import Search, goes_on_for_ever, is_deadlock, tells  # noqa: E402
+from model.schedules import (  # noqa: E402
+    Question, Search, goes_on_for_ever, inside_after, is_deadlock, tells,
+)
 from model.systems import Generator  # noqa: E402
 
 MOST = 1_000
 BOUND = 12  # the greatest small bound
 NEVERS = ("E_QOVR", "E_ILUSE")
 FAULTS = ("F_OVF", "F_DIV", "F_IDX")
+SECTIONS = ((101, 102), (103, 104), (101, 104))  # the values by which tasks enter and leave
+KINDS = ("plain", "sections", "rest")
 
 
-def explored(trial, bound):
+def with_puts(body, section, chosen):
+    """The body with a part between the values of a section, or only one of the two."""
+    statements = list(body.statements)
+    for place, value in zip(sorted(chosen.choices(range(len(statements)), k=2), reverse=True), section[::-1]):
+        if chosen.random() < 0.9:
+            statements.insert(place, Statement(Call("put", [value])))
+    return replace(body, statements=statements)
+
+
+def with_sections(case, sections, chosen):
+    """The system, some of whose bodies enter and leave sections."""
+    bodies = case.system.bodies
+    for section in sections:
+        for place, body in enumerate(bodies):
+            if chosen.random() < (0.2 if body.is_handler else 0.7):
+                bodies[place] = with_puts(body, section, chosen)
+    return replace(case, source="".join(map(str, bodies)))
+
+
+def asked(case, kind, chosen):
+    """The system, and what is asked of it."""
+    question = Question((*NEVERS, *FAULTS))
+    if kind == "sections":
+        question = replace(question, sections=tuple(chosen.sample(SECTIONS, chosen.randint(1, 2))))
+        case = with_sections(case, question.sections, chosen)
+    if kind == "rest":
+        numbers = [task.number for task in case.system.tasks]
+        rest = frozenset(chosen.sample(numbers, chosen.randint(1, len(numbers))))
+        interrupts = chosen.choice((None, None, 0, 1, 2))
+        question = replace(question, rest=rest, idle_ticks=chosen.random() < 0.3, interrupts=interrupts)
+    return case, question
+
+
+def explored(trial, bound, question):
     """What `fmp_view explore` ends with and prints."""
-    nevers = [word for never in NEVERS for word in ("--never", never)]
-    words = ["explore", "system.cfg", "system.src", *nevers, "--bound", str(bound), "--states", str(MOST)]
-    done = subprocess.run([trial.programs["fmp_view"], *words], cwd=trial.folder, capture_output=True, text=True,
-                          check=False, timeout=SECONDS)
+    words = [word for never in NEVERS for word in ("--never", never)]
+    words += [word for enters, leaves in question.sections for word in ("--alone", f"{enters},{leaves}")]
+    words += [word for number in sorted(question.rest) for word in ("--rest", f"T{number}")]
+    words += ["--ticks", "idle"] if question.idle_ticks else []
+    words += ["--ints", str(question.interrupts)] if question.interrupts is not None else []
+    words += ["--bound", str(bound), "--states", str(MOST)]
+    done = subprocess.run([trial.programs["fmp_view"], "explore", "system.cfg", "system.src", *words], cwd=trial.folder,
+                          capture_output=True, text=True, check=False, timeout=SECONDS)
     return done.returncode, done.stdout
 
 
@@ -43,49 +90,71 @@ def numbers_of(text):
     return tuple(map(int, found.groups()))
 
 
-def shows(trial, case, bound, what):
-    """Each event of the steps text that was found does something in the model, and after them this is seen."""
-    kernel = replayed(case, bound, trial.read("system.found.1").splitlines())
-    endless = re.search(r"processor (\d) goes on for ever", what)
-    if endless:
+def shows_together(kernel, what):
+    """By a line of the last event a task enters a section while the one that is named is there."""
+    line, holder, *section = re.fullmatch(r".*: (\d+ .*): while T(\d+) is between put\((\d+)\) and put\((\d+)\)",
+                                          what).groups()
+    section, lines = tuple(map(int, section)), kernel.world.lines
+    expect(line in lines, f"there is no line '{line}' in the model")
+    inside, _ = inside_after(lines[: lines.index(line)], (section,), (None,))
+    expect(inside == (holder,), f"T{holder} is not in {section} before '{line}'")
+    expect(inside_after([line], (section,), inside)[1], f"'{line}' enters no section")
+
+
+def shows(trial, case, bound, second, what):
+    """Each event of the steps text that was found does something in the model, and after them this is seen: its
+    kind."""
+    steps = trial.read("system.found.1").splitlines()
+    kernel, came = replayed(case, bound, steps), sum(step.startswith("int") for step in steps)
+    last = [line for line in kernel.world.lines if line.startswith(f"{kernel.world.event} ")]
+    if endless := re.search(r"processor (\d) goes on for ever", what):
         expect(goes_on_for_ever(kernel, f"run {endless[1]}"), f"no actor goes on for ever, as in '{what}'")
-    elif "deadlock" in what:
-        expect(is_deadlock(kernel), "there is no deadlock in the model")
-    else:
-        last = [line for line in kernel.world.lines if line.startswith(f"{kernel.world.event} ")]
-        expect(any(tells(line, never) for line in last for never in (*NEVERS, *FAULTS)), f"no line shows '{what}'")
+        return "a body that goes on for ever"
+    if "deadlock" in what:
+        expect(is_deadlock(kernel, second.question, came), "there is no deadlock in the model")
+        return "a deadlock"
+    if " is between " in what:
+        expect(any(line in what for line in last), f"the last event does not tell '{what}'")
+        shows_together(kernel, what)
+        return "two tasks in a section"
+    expect(any(tells(line, never) for line in last for never in (*NEVERS, *FAULTS)), f"no line shows '{what}'")
+    return "a line"
 
 
-def compare(trial, case, bound):
-    """Compares both searches: whether the system was examined whole or shows something."""
-    status, text = explored(trial, bound)
-    second = Search(case.system, bound, (*NEVERS, *FAULTS), MOST).run()
-    if status == 5 or (not second.found and not second.is_whole):
-        return False
-    expect(status == (4 if second.found else 0), f"it ends with status {status}; the second search: {second.found}")
-    if second.found:
-        what, steps = re.search(r"^(.*): after (\d+) steps?, in ", text).groups()
-        length = len(second.found[0][1])
-        expect(int(steps) == length, f"{steps} steps were found, and {length} by the second search")
-        shows(trial, case, bound, what)
-    else:
-        numbers = second.states, second.events, second.deep
+def compare(trial, case, bound, question):
+    """Compares both searches: what was found, or nothing where the system was not examined whole."""
+    status, text = explored(trial, bound, question)
+    second = Search(case.system, bound, question, MOST)
+    result = second.run()
+    if status == 5 or (not result.found and not result.is_whole):
+        return None
+    expect(status == (4 if result.found else 0), f"it ends with status {status}; the second search: {result.found}")
+    if not result.found:
+        numbers = result.states, result.events, result.deep
         expect(numbers_of(text) == numbers, f"it printed {text!r}, and the second search has {numbers}")
-    return True
+        return "nothing"
+    what, steps = re.search(r"^(.*): after (\d+) steps?, in ", text).groups()
+    length = len(result.found[0][1])
+    expect(int(steps) == length, f"'{what}' was found after {steps} steps, and the second search: {result.found}")
+    return shows(trial, case, bound, second, what)
 
 
 def check(trial):
     """Takes systems of the newest version of images until as many as are asked for were compared."""
-    compared, seed = 0, trial.seed
-    while compared < trial.count:
+    kinds, seed = Counter(), trial.seed
+    while kinds.total() < trial.count:
         trial.at = f"seed {seed}: "
-        case = Generator(seed, trial.version).case()
+        chosen = random.Random(f"explore {seed}")
+        case, question = asked(Generator(seed, trial.version).case(), KINDS[seed % len(KINDS)], chosen)
         trial.build(case.configuration, case.source)
         case.system.queue_limit = 255
-        compared += compare(trial, case, trial.bound(seed, BOUND))
+        if kind := compare(trial, case, trial.bound(seed, BOUND), question):
+            kinds[kind] += 1
         seed += 1
     trial.at = ""
-    print(f"checks/model/explore.py: {compared} of {seed - trial.seed} systems were compared: both searches agree")
+    found = "; ".join(f"{count} times {kind}" for kind, count in kinds.most_common())
+    print(f"checks/model/explore.py: {trial.count} of {seed - trial.seed} systems were compared: both searches agree")
+    print(f"found: {found}")
 
 
 if __name__ == "__main__":

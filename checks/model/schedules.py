@@ -1,6 +1,7 @@
 """A second search of all schedules, over the model of the kernel: breadth first, with a copy of it for each state."""
 
 import copy
+import re
 from collections import deque
 from dataclasses import dataclass, field, replace
 from math import inf
@@ -10,6 +11,7 @@ from model.kernel import Kernel
 from model.world import State
 
 ENDLESS_LOOP = 3  # the instructions of `while (1) { }`
+OF_TASK = re.compile(r"\d+ p\d T(\d+) (.*)")  # a line of a task: its number, and what it tells
 
 
 @dataclass
@@ -20,9 +22,28 @@ class Searched:
     states: int = 1
     events: int = 0
     deep: int = 0
-    found: list = field(default_factory=list)  # of what, the events, and the line
+    found: list = field(default_factory=list)  # of what, and the events
     waits: bool = False
     is_whole: bool = True
+
+
+@dataclass(frozen=True)
+class Question:
+    """What is asked: what must never be told, the sections in which one task at a time may be, each the values by
+    which a task enters and leaves, the numbers of the tasks that may wait forever, whether the clock ticks only where
+    no processor can do anything, and how many interrupts may come, if that is limited."""
+
+    nevers: tuple = ()
+    sections: tuple = ()
+    rest: frozenset = frozenset()
+    idle_ticks: bool = False
+    interrupts: int | None = None
+
+    def lets(self, event, came, done):
+        """Whether an event may come where this many interrupts came, and events of these kinds did something."""
+        if event == "tick":
+            return not self.idle_ticks or "run" not in done
+        return not event.startswith("int") or self.interrupts is None or came < self.interrupts
 
 
 def place_of_queues(system):
@@ -139,12 +160,32 @@ def tries_of(system):
     return [*runs, "tick", *(f"int {number}" for number in sorted(h.number for h in system.interrupt_handlers))]
 
 
-def is_stuck(world):
-    """Whether no time runs, and a task is started."""
+def holder_after(line, section, holder):
+    """The task that is in a section after a line, by its number, and whether it entered while another was there."""
+    enters, leaves = section
+    number, told = OF_TASK.match(line).groups() if OF_TASK.match(line) else (None, "")
+    if told.startswith(f"put({enters}) "):
+        return number, holder not in (None, number)
+    is_own = number == holder and (told.startswith(f"put({leaves}) ") or told.startswith(("end", "F_")))
+    return None if is_own or told == f"ter_tsk({holder}) E_OK" else holder, False
+
+
+def inside_after(lines, sections, inside):
+    """Who is in each section after these lines, and the sections that a task entered while another was there."""
+    met = set()
+    for line in lines:
+        after_line = [holder_after(line, section, holder) for section, holder in zip(sections, inside)]
+        inside = tuple(holder for holder, _ in after_line)
+        met |= {section for section, (_, is_met) in zip(sections, after_line) if is_met}
+    return inside, met
+
+
+def is_stuck(world, rest):
+    """Whether no time runs, and a task that may not wait forever is started."""
     return (
         all(task.deadline is None for task in world.tasks)
         and all(handler.due is None for handler in world.system.cyclic_handlers)
-        and any(task.state is not State.DORMANT for task in world.tasks))
+        and any(task.state is not State.DORMANT for task in world.tasks if task.number not in rest))
 
 
 def goes_on_for_ever(kernel, event):
@@ -163,21 +204,24 @@ def after(kernel, event):
     return other if other.taken else None
 
 
-def is_deadlock(kernel):
-    """Whether no event but a tick does anything, no time runs, and a task is started."""
-    return is_stuck(kernel.world) and not any(after(kernel, event) for event in tries_of(kernel.system) if event != "tick")
+def is_deadlock(kernel, question, came):
+    """Whether no event but a tick does anything that may still come after this many interrupts, no time runs, and a
+    task that may not wait forever is started."""
+    events = [event for event in tries_of(kernel.system) if event != "tick" and question.lets(event, came, ())]
+    return is_stuck(kernel.world, question.rest) and not any(after(kernel, event) for event in events)
 
 
 class Search:
-    """A search under way. The keys of the states that were seen have the key before them, the event between, and the
-    depth."""
+    """A search under way. The keys of the states that were seen, in the order in which they were, have the key before
+    them, the event between, and the depth. The key of a state has who is in each section, and how many interrupts came
+    where that is limited."""
 
-    def __init__(self, system, bound, nevers, most):
-        self.start, self.nevers, self.most = Kernel(system, bound), nevers, most
+    def __init__(self, system, bound, question, most):
+        self.start, self.question, self.most = Kernel(system, bound), question, most
         self.tries = tries_of(system)
-        first = state_key(self.start)
-        self.seen = {first: (None, None, 0)}
-        self.queue = deque([(self.start, first)])
+        self.first = state_key(self.start), len(question.sections) * (None,), 0
+        self.seen = {self.first: (None, None, 0)}
+        self.queue = deque([(self.start, self.first)])
         self.result = Searched()
 
     def path(self, key):
@@ -190,12 +234,15 @@ class Search:
 
     def note(self, kernel, key, event):
         """An event that did something, after which the kernel is this one."""
-        result = self.result
+        result, lines = self.result, kernel.world.lines
         result.events += 1
-        for line in kernel.world.lines:
-            if any(tells(line, never) for never in self.nevers):
+        for line in lines:
+            if any(tells(line, never) for never in self.question.nevers):
                 result.found.append((line.split(" ", 1)[1], [*self.path(key), event]))
-        reached = state_key(kernel)
+        inside, met = inside_after(lines, self.question.sections, key[1])
+        result.found += [(f"two in {section}", [*self.path(key), event]) for section in met]
+        is_counted = event.startswith("int") and self.question.interrupts is not None
+        reached = state_key(kernel), inside, key[2] + is_counted
         if reached not in self.seen:
             self.seen[reached] = key, event, self.seen[key][2] + 1
             self.queue.append((kernel, reached))
@@ -203,29 +250,26 @@ class Search:
     def examine(self, kernel, key):
         done = set()
         for event in self.tries:
-            reached = after(kernel, event)
+            reached = after(kernel, event) if self.question.lets(event, key[2], done) else None
             if reached is None:
                 continue
             done.add(event.split()[0])
             if goes_on_for_ever(kernel, event):
                 self.result.found.append(("endless", self.path(key)))
             self.note(reached, key, event)
-        if "run" not in done and is_stuck(kernel.world):
+        if "run" not in done and is_stuck(kernel.world, self.question.rest):
             if "int" in done:
                 self.result.waits = True
             else:
                 self.result.found.append(("deadlock", self.path(key)))
 
-    def run(self, goes_on=False):
-        """Examines the states in order, up to the first finding unless it goes on."""
+    def run(self):
+        """Examines the states in order, up to the first finding."""
         result = self.result
         while self.queue:
             kernel, key = self.queue.popleft()
             depth = self.seen[key][2]
-            if not goes_on and any(len(events) <= depth for _, events in result.found):
-                result.is_whole = False
-                break
-            if len(self.seen) > self.most:
+            if any(len(events) <= depth for _, events in result.found) or len(self.seen) > self.most:
                 result.is_whole = False
                 break
             self.examine(kernel, key)
