@@ -9,6 +9,7 @@ tells-timeless : (never : Never) (a b : ℕ) → tells never (line.Tick a) ≡ t
 tells-timeless (kind.Answer code) a b = refl
 tells-timeless (kind.Put value) a b = refl
 tells-timeless (kind.Fault fault) a b = refl
+tells-timeless (kind.Acts t) a b = refl
 
 -- no line of the clock tells what is asked about
 pub forbids-timeless : (nevers : List Never) (a b : ℕ) → forbids nevers (line.Tick a) ≡ forbids nevers (line.Tick b)

@@ -22,7 +22,7 @@ use Rattle.fmp_explore.proofs.SectionLemmas.{sections_done, sections_first, sect
 module _ (i : ImageTables) (n : ℕ) (q : Question) where
   -- what is read of a state's sections is what they are after the events that lead to it
   pub held_at : (held : List (Vec Section Global)) (links : List Link) (state : ℕ) (es : List Event)
-      (read : List Section) → AreHeld i n q held links → IsAt links state es
+      (read : List Section) → AreHeld i n q held links → IsAt q links state es
       → IfSome (slice_get held state) (λ h. read ≡ h.items) → read ≡ sections_of i n q es
   held_at held links state es read h at is = by_cases (slice_get held state) refl is where
     by_cases : (o : Option (Vec Section Global)) → slice_get held state ≡ o → IfSome o (λ h. read ≡ h.items)

@@ -6,12 +6,14 @@ pub mod LadderLemmas
 pub mod MarkLemmas
 pub mod MeetLemmas
 pub mod NextLemmas
+pub mod PathLemmas
 pub mod PlaceLemmas
 pub mod SearchLemmas
 pub mod SectionLemmas
 pub mod StandLemmas
 pub mod StateLemmas
 pub mod StepLemmas
+pub mod StuckLemmas
 pub mod SurveyLemmas
 pub mod TryLemmas
 pub mod TryingLemmas

@@ -1,24 +1,23 @@
 -- The state to which one more event leads, and the first state.
-use Rattle.std.proofs.Common.{◌≡◌, ◌+◌, ℕ, List, [], ◌∷◌, ◌++◌, Option, Some, None, Bool, true, false, refl, sym, ap, subst, ◌∙◌, arith, count_by, get_or, is_some, length, slice_get}
+use Rattle.std.proofs.Common.{◌≡◌, ◌+◌, ◌-◌, ℕ, List, [], ◌∷◌, ◌++◌, Option, Some, None, Bool, true, false, refl, sym, ap, subst, ◌∙◌, append_assoc, arith, count_by, get_or, inl, inr, is_some, length, map, slice_get}
 use Rattle.std.proofs.lemmas.Option.{slice_get-get_or}
 use Rattle.std.specs.Prelude.{IsSomeAnd}
 use Rattle.std.specs.List.{list_any}
-use Rattle.fmp_alike.specs.Alike.{Alike}
-use Rattle.fmp_alike.specs.Closed.{IsCovered}
 use Rattle.fmp_base.specs.declared.events.Event.{Event}
 use Rattle.fmp_base.specs.declared.events.Line.{Line}
 use Rattle.fmp_base.specs.Meanings.{World}
 use Rattle.fmp_base.specs.Setups.{setup}
 use Rattle.fmp_explore.specs.declared.question.Question.{Question}
 use Rattle.fmp_explore.specs.declared.survey.Survey.{Survey}
+use Rattle.fmp_explore.specs.Behind.{CanBegin}
 use Rattle.fmp_explore.specs.Followed.{IsFollowed}
 use Rattle.fmp_explore.specs.Forbidden.{forbids}
 use Rattle.fmp_explore.specs.Places.{forbids_there, is_bad}
 use Rattle.fmp_explore.specs.Rules.{rules_of}
 use Rattle.std.specs.declared.alloc.Global.{Global}
 use Rattle.std.specs.declared.vec.Vec.{Vec}
-use Rattle.fmp_explore.specs.Searching.{AreHeld, HasDealt, HasDone, HasKept, HasKeptPlace, IsAt, IsBegun, IsFresh, IsNext, IsSurvey, Stays}
-use Rattle.fmp_explore.specs.States.{AreFew, IsReached, came_of, path_by, sections_of, watched_of}
+use Rattle.fmp_explore.specs.Searching.{AreHeld, HasDealt, HasDone, HasKept, HasKeptPlace, IsAt, IsBegun, IsClean, IsFresh, IsNext, IsSurvey, Stays}
+use Rattle.fmp_explore.specs.States.{AreFew, came_of, path_by, path_to, sections_of, watched_of}
 use Rattle.fmp_fields.specs.declared.field.What.{What}
 use Rattle.fmp_fields.specs.Fields.{AreAllFields}
 use Rattle.fmp_image_bytes.specs.Images.{ImageTables}
@@ -28,17 +27,19 @@ use Rattle.fmp_instructions.specs.declared.instructions.MachineContext.{MachineC
 use Rattle.fmp_kernel.specs.KernelViews.{KernelView}
 use Rattle.fmp_replay.specs.Replays.{kernel_after, replay}
 use Rattle.fmp_schedules.specs.declared.section.Section.{Section}
-use Rattle.fmp_schedules.specs.Schedules.{Watched, came_after, is_any_met, is_request, sections_after, watched_at_setup}
+use Rattle.fmp_schedules.specs.Schedules.{Watched, came_after, is_any_met, is_request, lines_after, sections_after, watched_at_setup}
+use Rattle.fmp_schedules.specs.Sections.{section_along}
 use Rattle.fmp_explore.proofs.SectionLemmas.{sections_first}
 use Rattle.fmp_seen.specs.declared.link.Link.{Link}
 use Rattle.fmp_seen.specs.Links.{AreLinked, IsLink, path_of}
 use Rattle.fmp_seen.specs.Seen.{SeenStates}
-use Rattle.fmp_seen.proofs.LinkLemmas.{links-none, path-added, path-depth, path-first}
+use Rattle.fmp_seen.proofs.LinkLemmas.{links-none, path-added}
 use Rattle.fmp_schedules.proofs.EventLines.{setup-counts}
+use Rattle.fmp_explore.proofs.PathLemmas.{path_to-depth}
 use Rattle.fmp_explore.proofs.PlaceLemmas.{none-anywhere, none-there}
 use Rattle.fmp_explore.proofs.StateLemmas.{kept_none, leads_done, leads_kept}
 use Rattle.fmp_explore.proofs.StepLemmas.{kept_by_no_interrupt}
-use Rattle.fmp_explore.proofs.SurveyLemmas.{grows_on, stays_grows}
+use Rattle.fmp_explore.proofs.SurveyLemmas.{grows_on, stays_grows, stays_survey}
 
 abbrev Kernels : Type 0
 Kernels = KernelView (List BodyTables) MachineContext
@@ -50,9 +51,9 @@ is_link [] link parent found deeper = absurd (cc)
 is_link (before ∷ more) link parent found deeper =
     subst (λ (o : Option Link). IsSomeAnd o (λ x. link.depth ≡ x.depth + 1)) (sym found) deeper
 
-module _ (links : List Link) (state : ℕ) (es : List Event) (e : Event) (link : Link) (linked : AreLinked links)
-    (at : IsAt links state es) (parent : link.parent ≡ state) (last : link.event ≡ e)
-    (deeper : link.depth ≡ length es + 1) where
+module _ (q : Question) (links : List Link) (state : ℕ) (es : List Event) (e : Event) (link : Link)
+    (linked : AreLinked links) (at : IsAt q links state es) (parent : link.parent ≡ state) (last : link.event ≡ e)
+    (deeper : link.depth ≡ (length es - length q.after.items) + 1) where
   abbrev before : Link
   before = get_or links state link
 
@@ -61,25 +62,26 @@ module _ (links : List Link) (state : ℕ) (es : List Event) (e : Event) (link :
 
   depth : link.depth ≡ before.depth + 1
   depth =
-      let same : length es ≡ (get_or links state link).depth =
+      let same : length es ≡ length q.after.items + (get_or links state link).depth =
       ap (λ (fs : List Event). length fs) at.path
-      ∙ path-depth links state (get_or links state link) linked (slice_get-get_or links state link at.there) in
-      deeper ∙ ap (λ (k : ℕ). k + 1) same
+      ∙ path_to-depth q links state (get_or links state link) linked (slice_get-get_or links state link at.there) in
+      omega (arith, same, deeper)
 
   pub next_linked : IsLink links link
   next_linked = is_link links link before found depth
 
   -- the path to the next state
-  pub next_path : path_by links link ≡ es ++ e ∷ []
+  pub next_path : path_by q links link ≡ es ++ e ∷ []
   next_path =
-      path-added links link before linked found depth
-      ∙ ap (λ (k : ℕ). path_of links k ++ link.event ∷ []) parent
+      ap (λ (fs : List Event). q.after.items ++ fs) (path-added links link before linked found depth)
+      ∙ sym (append_assoc q.after.items (path_of links link.parent) (link.event ∷ []))
+      ∙ ap (λ (k : ℕ). path_to q links k ++ link.event ∷ []) parent
       ∙ ap (λ (fs : List Event). fs ++ link.event ∷ []) (sym at.path)
       ∙ ap (λ (x : Event). es ++ x ∷ []) last
 
 module _ (i : ImageTables) (n : ℕ) (q : Question) where
   pub next_of : (links : List Link) (link : Link) (es : List Event) (k : Kernels) → IsLink links link
-      → path_by links link ≡ es
+      → path_by q links link ≡ es
       → IsFollowed i n es k → AreFew q es → IsNext i n q links link k
   next_of links link es k linked path followed few =
       record {
@@ -152,25 +154,42 @@ module _ (i : ImageTables) (n : ℕ) (q : Question) where
       (setup-counts i.system (code_meaning i.code)))
       ∙ ap (λ (ss : List Section). with (came_of q.interrupts []) false ss false) (sym (sections_first i n q)))
 
-  -- the first state is kept
-  pub begun_of : (a b : Survey) (k : Kernels) → k ≡ kernel_after i n []
-      → (a.sure ≡ true → list_any (is_bad i.system q k.world) k.lines ≡ false)
-      → (a.sure ≡ true → is_any_met q.sections.items k.lines ≡ false) → HasKept i n q a b [] → IsBegun i n q b
+  -- where no line that a kernel told at setup is forbidden, setup is clean
+  pub clean_setup : (k : Kernels) → k ≡ kernel_after i n [] → list_any (is_bad i.system q k.world) k.lines ≡ false
+      → is_any_met q.sections.items k.lines ≡ false → IsClean i n q
   unfolding replay
-  begun_of a b k first clean alone kept =
+  clean_setup k first clean alone =
+      watched_first
+      (subst (λ (x : Kernels). list_any (forbids q.nevers.items) x.lines ≡ false) first
+      (none-anywhere i.system q k.world k.lines clean))
+      (subst (λ (x : Kernels). is_any_met q.sections.items x.lines ≡ false) first alone)
+
+  -- the first state is kept
+  pub begun_of : (a b : Survey) → (a.sure ≡ true → IsClean i n q) → HasKept i n q a b q.after.items → IsBegun i n q b
+  begun_of a b clean kept =
+      record { survey = kept.survey; clean = λ sure. clean (kept.grows.sure sure); first = kept.known }
+
+  -- the first state cannot be reached
+  pub begun_nowhere : (a b : Survey) → Stays a b → IsSurvey i n q a → b.sure ≡ false → IsBegun i n q b
+  begun_nowhere a b stays h lost =
       record {
-        survey = kept.survey;
-        first = λ sure.
-            subst
-            (λ (x : Watched). IsCovered (Alike i.system) (IsReached i n q b.seen.links)
-            (setup i.system (code_meaning i.code)).world x)
-            (watched_first
-            (subst (λ (x : Kernels). list_any (forbids q.nevers.items) x.lines ≡ false) first
-            (none-anywhere i.system q k.world k.lines (clean (kept.grows.sure sure))))
-            (subst (λ (x : Kernels). is_any_met q.sections.items x.lines ≡ false) first
-            (alone (kept.grows.sure sure))))
-            (kept.known sure);
+        survey = stays_survey i n q a b stays h;
+        clean = λ sure. absurd (cc (sure, lost));
+        first = λ sure. absurd (cc (sure, lost));
       }
+
+  -- where a search can begin, the sections behind its events are those at setup
+  pub sections_behind : CanBegin q → sections_of i n q [] ≡ sections_of i n q q.after.items
+  unfolding sections_of
+  sections_behind can =
+      elim can.alone [
+        | inl none ↦ ap (λ (es : List Event). sections_of i n q es) (sym none)
+        | inr none ↦ none_along none [] ∙ sym (none_along none q.after.items)
+      ] where
+        none_along : q.sections.items ≡ [] → (es : List Event) → sections_of i n q es ≡ []
+        none_along none es =
+            ap (λ (ss : List Section). map (λ (s : Section). section_along s
+            (lines_after i.system (code_meaning i.code) n es)) ss) none
 
   -- a search that has no state yet, once the first values of its fields are read
   pub fresh_survey : (a b : Survey) → IsFresh i q a → b.tries.items ≡ a.tries.items
@@ -196,13 +215,5 @@ module _ (i : ImageTables) (n : ℕ) (q : Question) where
             (record { size = refl; each = λ k x e. absurd (cc (e)) }));
       }
 
-  -- the first state has the path of no event
-  pub first_path : (links : List Link) (link : Link) → links ≡ [] → link.depth ≡ 0 → path_by links link ≡ []
-  first_path links link none first =
-      ap (λ (ls : List Link). path_by ls link) none ∙ path-first link first
-
   pub first_linked : (links : List Link) (link : Link) → links ≡ [] → link.depth ≡ 0 → IsLink links link
   first_linked links link none first = subst (λ (ls : List Link). IsLink ls link) (sym none) first
-
-  pub none_few : AreFew q []
-  none_few limited = omega arith

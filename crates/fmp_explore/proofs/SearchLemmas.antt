@@ -1,5 +1,5 @@
 -- A search that has examined each of its states shows what holds along all schedules.
-use Rattle.std.proofs.Common.{◌≡◌, ◌+◌, ◌<◌, ◌≤◌, ◌⊎◌, ◌||◌, inl, inr, ℕ, List, Some, None, Bool, true, false, refl, sym, ap, subst, ◌∙◌, arith, length, slice_get}
+use Rattle.std.proofs.Common.{◌≡◌, ◌+◌, ◌<◌, ◌≤◌, ◌⊎◌, ◌||◌, inl, inr, ℕ, List, [], Some, None, Bool, true, false, refl, sym, ap, subst, ◌∙◌, arith, length, slice_get}
 use Rattle.std.proofs.lemmas.Bool.{cases_lt}
 use Rattle.std.proofs.lemmas.Option.{slice_get_cases, slice_get_within}
 use Rattle.fmp_alike.specs.Alike.{Alike}
@@ -13,8 +13,8 @@ use Rattle.fmp_explore.specs.declared.survey.Survey.{Survey}
 use Rattle.fmp_explore.specs.Forbidden.{forbids}
 use Rattle.fmp_explore.specs.Places.{forbids_there}
 use Rattle.fmp_explore.specs.Rules.{rules_of}
-use Rattle.fmp_explore.specs.Searching.{HasExamined, IsAt, IsBegun, IsSearching, IsSurvey, NothingIsFound}
-use Rattle.fmp_explore.specs.States.{IsExamined, IsReached, watched_of}
+use Rattle.fmp_explore.specs.Searching.{HasExamined, IsAt, IsBegun, IsSearching, IsSurvey, IsWhole, NothingIsFound}
+use Rattle.fmp_explore.specs.States.{IsExamined, IsKnown, IsReached, path_to, watched_of}
 use Rattle.fmp_image_bytes.specs.Images.{ImageTables, IsImage}
 use Rattle.fmp_instructions.specs.Machine.{code_meaning}
 use Rattle.fmp_instructions.specs.declared.instructions.MachineContext.{MachineContext}
@@ -25,11 +25,11 @@ use Rattle.fmp_schedules.specs.Tried.{IsSearched, IsTried, IsTriedSilent, NoneIs
 use Rattle.fmp_schedules.proofs.HoldLaws.{searched-holds}
 use Rattle.fmp_schedules.proofs.SilentLaws.{searched-silent}
 use Rattle.fmp_seen.specs.declared.link.Link.{Link}
-use Rattle.fmp_seen.specs.Links.{AreLinked, path_of}
-use Rattle.fmp_seen.proofs.LinkLemmas.{path-depth, path-stays}
+use Rattle.fmp_seen.specs.Links.{AreLinked}
 use Rattle.fmp_readable.proofs.ReadableLaws.{readable}
 use Rattle.fmp_explore.proofs.ForbiddenLemmas.{forbids-timeless}
 use Rattle.fmp_explore.proofs.MarkLemmas.{still_may}
+use Rattle.fmp_explore.proofs.PathLemmas.{path_to-depth, path_to-stays}
 use Rattle.fmp_explore.proofs.PlaceLemmas.{there-even}
 use Rattle.fmp_explore.proofs.StateLemmas.{alike_self, covered_more, examined_more}
 
@@ -41,10 +41,11 @@ past_none xs k none =
     ]
 
 -- a state that is not too deep
-pub at_depth : (links : List Link) (k : ℕ) (link : Link) → AreLinked links → slice_get links k ≡ Some link
-    → link.depth < 1048575 → IsAt links k (path_of links k)
-at_depth links k link linked found low =
-    let same : length (path_of links k) ≡ link.depth = path-depth links k link linked found in
+pub at_depth : (q : Question) (links : List Link) (k : ℕ) (link : Link) → AreLinked links → slice_get links k ≡ Some link
+    → length q.after.items + link.depth < 1048575 → IsAt q links k (path_to q links k)
+at_depth q links k link linked found low =
+    let same : length (path_to q links k) ≡ length q.after.items + link.depth =
+    path_to-depth q links k link linked found in
     record { there = slice_get_within links k link found; path = refl; deep = omega (arith, same, low) }
 
 module _ (i : ImageTables) (n : ℕ) (q : Question) where
@@ -54,75 +55,71 @@ module _ (i : ImageTables) (n : ℕ) (q : Question) where
 
   -- one more state is examined
   pub one_examined : (k : ℕ) (a b : Survey) → IsSearching i n q k a → k < length a.seen.links
-      → HasExamined i n q a b (path_of a.seen.links k) → IsSearching i n q (k + 1) b
+      → HasExamined i n q a b (path_to q a.seen.links k) → IsSearching i n q (k + 1) b
   one_examined k a b h lt x =
       record {
         begun =
             record {
               survey = x.survey;
+              clean = λ sure. h.begun.clean (x.grows.sure sure);
               first = λ sure.
-                  subst
-                  (λ (links : List Link). IsCovered (Alike i.system) (IsReached i n q links)
-                  (setup i.system (code_meaning i.code)).world
-                  (watched_at_setup (rules_of q) i.system (code_meaning i.code) (forbids q.nevers.items)))
-                  (sym x.grows.links)
-                  (covered_more i n q a.seen.links x.grows.more (setup i.system (code_meaning i.code)).world
-                  (watched_at_setup (rules_of q) i.system (code_meaning i.code) (forbids q.nevers.items)) linked
-                  (h.begun.first (x.grows.sure sure)));
+                  subst (λ (links : List Link). IsKnown i n q links q.after.items) (sym x.grows.links)
+                  (covered_more i n q a.seen.links x.grows.more (replay i n q.after.items).world
+                  (watched_of i n q q.after.items) linked (h.begun.first (x.grows.sure sure)));
             };
         each = λ sure j within there. by_order sure j within (cases_lt j k);
       } where
         linked : AreLinked a.seen.links
         linked = h.begun.survey.kept.linked
 
-        same_path : (j : ℕ) → j < length a.seen.links → path_of b.seen.links j ≡ path_of a.seen.links j
+        same_path : (j : ℕ) → j < length a.seen.links → path_to q b.seen.links j ≡ path_to q a.seen.links j
         same_path j low =
-            subst (λ (links : List Link). path_of links j ≡ path_of a.seen.links j) (sym x.grows.links)
-            (path-stays a.seen.links x.grows.more j linked low)
+            subst (λ (links : List Link). path_to q links j ≡ path_to q a.seen.links j) (sym x.grows.links)
+            (path_to-stays q a.seen.links x.grows.more j linked low)
 
         by_order : b.sure ≡ true → (j : ℕ) → j < k + 1 → (j < k) ⊎ (k ≤ j)
-            → IsExamined i n q b.seen.links (path_of b.seen.links j)
+            → IsExamined i n q b.seen.links (path_to q b.seen.links j)
         by_order sure j within (inl low) =
             let there : j < length a.seen.links = omega (arith, low, lt) in
             subst (λ (es : List Event). IsExamined i n q b.seen.links es) (sym (same_path j there))
-            (subst (λ (links : List Link). IsExamined i n q links (path_of a.seen.links j)) (sym x.grows.links)
-            (examined_more i n q a.seen.links x.grows.more (path_of a.seen.links j) linked
+            (subst (λ (links : List Link). IsExamined i n q links (path_to q a.seen.links j)) (sym x.grows.links)
+            (examined_more i n q a.seen.links x.grows.more (path_to q a.seen.links j) linked
             (h.each (x.grows.sure sure) j low there)))
         by_order sure j within (inr past) =
             let last : j ≡ k = omega (arith, within, past) in
-            subst (λ (m : ℕ). IsExamined i n q b.seen.links (path_of b.seen.links m)) (sym last)
+            subst (λ (m : ℕ). IsExamined i n q b.seen.links (path_to q b.seen.links m)) (sym last)
             (subst (λ (es : List Event). IsExamined i n q b.seen.links es) (sym (same_path k lt)) (x.examined sure))
 
   module _ (image : IsImage i) (s : Survey) (h : IsSurvey i n q s) where
-    abbrev K : World MachineContext → Watched → Type 0
+    abbrev pub K : World MachineContext → Watched → Type 0
     K w a = IsReached i n q s.seen.links w a
 
-    abbrev Examined : Type 0
-    Examined = (k : ℕ) → k < length s.seen.links → IsExamined i n q s.seen.links (path_of s.seen.links k)
+    abbrev pub Examined : Type 0
+    Examined = (k : ℕ) → k < length s.seen.links → IsExamined i n q s.seen.links (path_to q s.seen.links k)
 
-    abbrev Tried : World MachineContext → Watched → Event → Type 0
+    abbrev pub Tried : World MachineContext → Watched → Event → Type 0
     Tried w a e =
         IsTried (Alike i.system) (watch (rules_of q) (forbids q.nevers.items))
         (step i.system (code_meaning i.code) n) K w a e
 
-    whole : (w : World MachineContext) (a : Watched) → K w a → length w.state.processors ≡ i.system.processors
+    pub whole : (w : World MachineContext) (a : Watched) → K w a → length w.state.processors ≡ i.system.processors
     whole w a k =
         ap (λ (x : World MachineContext). length x.state.processors) k.world
-        ∙ (readable i n (path_of s.seen.links k.state) image).sizes.processors
+        ∙ (readable i n (path_to q s.seen.links k.state) image).sizes.processors
 
     tried_at : Examined → (k : ℕ) → k < length s.seen.links → (e : Event) → is_event_of i.system e ≡ true
-        → may_come (rules_of q) i.system (code_meaning i.code) n (replay i n (path_of s.seen.links k)).world
-        (watched_of i n q (path_of s.seen.links k)) e ≡ true
-        → Tried (replay i n (path_of s.seen.links k)).world (watched_of i n q (path_of s.seen.links k)) e
+        → may_come (rules_of q) i.system (code_meaning i.code) n (replay i n (path_to q s.seen.links k)).world
+        (watched_of i n q (path_to q s.seen.links k)) e ≡ true
+        → Tried (replay i n (path_to q s.seen.links k)).world (watched_of i n q (path_to q s.seen.links k)) e
     unfolding reaction
     tried_at x k lt e is may =
         record {
-          world = (replay i n (path_of s.seen.links k)).world;
-          alike = alike_self i n q image s.rows.fields.items h.survey.fields (path_of s.seen.links k);
+          world = (replay i n (path_to q s.seen.links k)).world;
+          alike = alike_self i n q image s.rows.fields.items h.survey.fields (path_to q s.seen.links k);
           leads = (let l = (x k lt).each e is may in l.leads);
         }
 
-    tried : Examined → (w : World MachineContext) (a : Watched) (e : Event) → K w a → is_event_of i.system e ≡ true
+    pub tried : Examined → (w : World MachineContext) (a : Watched) (e : Event) → K w a → is_event_of i.system e ≡ true
         → may_come (rules_of q) i.system (code_meaning i.code) n w a e ≡ true → Tried w a e
     tried x w a e k is =
         subst
@@ -131,22 +128,22 @@ module _ (i : ImageTables) (n : ℕ) (q : Question) where
         (sym k.world)
         (subst
         (λ (b : Watched). may_come (rules_of q) i.system (code_meaning i.code) n
-        (replay i n (path_of s.seen.links k.state)).world b e ≡ true
-        → Tried (replay i n (path_of s.seen.links k.state)).world b e)
+        (replay i n (path_to q s.seen.links k.state)).world b e ≡ true
+        → Tried (replay i n (path_to q s.seen.links k.state)).world b e)
         (sym k.watch) (tried_at x k.state k.there e is))
 
     abbrev Silent : World MachineContext → Event → Type 0
     Silent w e = IsTriedSilent i.system (code_meaning i.code) n (forbids_there i.system q.nevers_at.items) w e
 
     silent_at : Examined → (k : ℕ) → k < length s.seen.links → (e : Event) → is_event_of i.system e ≡ true
-        → may_come (rules_of q) i.system (code_meaning i.code) n (replay i n (path_of s.seen.links k)).world
-        (watched_of i n q (path_of s.seen.links k)) e ≡ true
-        → Silent (replay i n (path_of s.seen.links k)).world e
+        → may_come (rules_of q) i.system (code_meaning i.code) n (replay i n (path_to q s.seen.links k)).world
+        (watched_of i n q (path_to q s.seen.links k)) e ≡ true
+        → Silent (replay i n (path_to q s.seen.links k)).world e
     unfolding reaction
     silent_at x k lt e is may =
         record {
-          world = (replay i n (path_of s.seen.links k)).world;
-          alike = alike_self i n q image s.rows.fields.items h.survey.fields (path_of s.seen.links k);
+          world = (replay i n (path_to q s.seen.links k)).world;
+          alike = alike_self i n q image s.rows.fields.items h.survey.fields (path_to q s.seen.links k);
           silent = (let l = (x k lt).each e is may in l.silent);
         }
 
@@ -159,38 +156,55 @@ module _ (i : ImageTables) (n : ℕ) (q : Question) where
         (sym k.world)
         (subst
         (λ (b : Watched). may_come (rules_of q) i.system (code_meaning i.code) n
-        (replay i n (path_of s.seen.links k.state)).world b e ≡ true
-        → Silent (replay i n (path_of s.seen.links k.state)).world e)
+        (replay i n (path_to q s.seen.links k.state)).world b e ≡ true
+        → Silent (replay i n (path_to q s.seen.links k.state)).world e)
         (sym k.watch) (silent_at x k.state k.there e is))
 
-    clean : (w : World MachineContext) (a : Watched) → K w a → (a.told || a.met) ≡ false
+    pub clean : (w : World MachineContext) (a : Watched) → K w a → (a.told || a.met) ≡ false
     clean w a k = ap (λ (b : Watched). b.told || b.met) k.watch
 
     free : Examined → NoneIsDeadlock (rules_of q) i.system (code_meaning i.code) n q.rest.items K
     free x w a k d =
-        let es : List Event = path_of s.seen.links k.state in
+        let es : List Event = path_to q s.seen.links k.state in
         (x k.state k.there).free
         (subst (λ (b : Bool). IsDeadlock i.system (code_meaning i.code) n
-        (replay i n (path_of s.seen.links k.state)).world q.rest.items b)
+        (replay i n (path_to q s.seen.links k.state)).world q.rest.items b)
         (ap (λ (b : Watched). may_still q.interrupts b.came) k.watch
-        ∙ still_may q.interrupts (path_of s.seen.links k.state))
+        ∙ still_may q.interrupts (path_to q s.seen.links k.state))
         (subst (λ (v : World MachineContext). IsDeadlock i.system (code_meaning i.code) n v q.rest.items
         (may_still q.interrupts a.came))
         k.world d))
 
+  -- where no state is left, each was examined
+  pub all_examined : (s : Survey) (states : ℕ) → IsSearching i n q states s → length s.seen.links ≤ states
+      → IsWhole i n q s
+  all_examined s states h all =
+      record { begun = h.begun; each = λ sure k lt. h.each sure k (omega (arith, lt, all)) lt }
+
+  -- the search began at setup
+  first_covered : (s : Survey) → IsBegun i n q s → q.after.items ≡ [] → s.sure ≡ true
+      → IsCovered (Alike i.system) (IsReached i n q s.seen.links) (setup i.system (code_meaning i.code)).world
+      (watched_at_setup (rules_of q) i.system (code_meaning i.code) (forbids q.nevers.items))
+  unfolding replay
+  first_covered s h none sure =
+      subst
+      (λ (a : Watched). IsCovered (Alike i.system) (IsReached i n q s.seen.links)
+      (setup i.system (code_meaning i.code)).world a)
+      (h.clean sure) (subst (λ (es : List Event). IsKnown i n q s.seen.links es) none (h.first sure))
+
   -- where each state is examined, nothing is found
-  pub all_examined : (s : Survey) (states : ℕ) → IsImage i → IsSearching i n q states s → length s.seen.links ≤ states
-      → s.sure ≡ true → NothingIsFound i n q
-  all_examined s states image h all sure =
+  pub nothing_found : (s : Survey) → IsImage i → IsWhole i n q s → q.after.items ≡ [] → s.sure ≡ true
+      → NothingIsFound i n q
+  nothing_found s image h none sure =
       let survey : IsSurvey i n q s = h.begun.survey in
-      let examined : (k : ℕ) → k < length s.seen.links → IsExamined i n q s.seen.links (path_of s.seen.links k) =
-      λ (k : ℕ) (lt : k < length s.seen.links). h.each sure k (omega (arith, lt, all)) lt in
+      let examined : (k : ℕ) → k < length s.seen.links → IsExamined i n q s.seen.links (path_to q s.seen.links k) =
+      h.each sure in
       let K : World MachineContext → Watched → Type 0 =
       λ (w : World MachineContext) (a : Watched). IsReached i n q s.seen.links w a in
       let searched : IsSearched (rules_of q) i.system (code_meaning i.code) n (forbids q.nevers.items) q.rest.items K =
       record {
         whole = whole image s survey;
-        first = h.begun.first sure;
+        first = first_covered s h.begun none sure;
         tried = tried image s survey examined;
         clean = clean image s survey;
         free = free image s survey examined;

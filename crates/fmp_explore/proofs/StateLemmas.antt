@@ -14,7 +14,7 @@ use Rattle.fmp_explore.specs.declared.question.Question.{Question}
 use Rattle.fmp_explore.specs.Forbidden.{forbids}
 use Rattle.fmp_explore.specs.Places.{forbids_there}
 use Rattle.fmp_explore.specs.Rules.{rules_of}
-use Rattle.fmp_explore.specs.States.{AreKept, HasRow, IsExamined, IsKnown, IsReached, LeadsOn, came_of, holder_number, numbers_after, path_by, sections_of, watched_of}
+use Rattle.fmp_explore.specs.States.{AreKept, HasRow, IsExamined, IsKnown, IsReached, LeadsOn, came_of, holder_number, numbers_after, path_by, path_to, sections_of, watched_of}
 use Rattle.fmp_fields.specs.declared.field.What.{What}
 use Rattle.fmp_fields.specs.FieldNumbers.{number_of}
 use Rattle.fmp_fields.specs.Fields.{AreAllFields}
@@ -29,12 +29,13 @@ use Rattle.fmp_schedules.specs.Deadlocks.{is_interrupt}
 use Rattle.fmp_schedules.specs.declared.section.Section.{Section}
 use Rattle.fmp_schedules.specs.Schedules.{IsSilent, Watched, came_after, is_any_met, is_request, sections_after, watch}
 use Rattle.fmp_seen.specs.declared.link.Link.{Link}
-use Rattle.fmp_seen.specs.Links.{AreLinked, IsLink, path_of}
+use Rattle.fmp_seen.specs.Links.{AreLinked, IsLink}
 use Rattle.fmp_seen.specs.Seen.{SeenStates, with_state}
-use Rattle.fmp_seen.proofs.LinkLemmas.{links-added, path-stays}
+use Rattle.fmp_seen.proofs.LinkLemmas.{links-added}
 use Rattle.fmp_seen.proofs.RowLemmas.{rows-told}
 use Rattle.fmp_readable.proofs.ReadableLaws.{readable}
 use Rattle.fmp_schedules.proofs.EventLines.{done-counts}
+use Rattle.fmp_explore.proofs.PathLemmas.{path_to-stays}
 use Rattle.fmp_explore.proofs.SectionLemmas.{append-parts, lines_to, sections-told, sections_done, sections_kept, sections_length}
 
 -- an element of a list with one more is one that it had, or that one
@@ -60,7 +61,7 @@ module _ (i : ImageTables) (n : ℕ) (q : Question) where
   pub reached_more : (links more : List Link) (w : World MachineContext) (a : Watched) → AreLinked links
       → IsReached i n q links w a → IsReached i n q (links ++ more) w a
   reached_more links more w a h r =
-      let same : path_of (links ++ more) r.state ≡ path_of links r.state = path-stays links more r.state h r.there in
+      let same : path_to q (links ++ more) r.state ≡ path_to q links r.state = path_to-stays q links more r.state h r.there in
       let longer : length (links ++ more) ≡ length links + length more = length-append links more in
       let lt : r.state < length links = r.there in
       record {
@@ -113,7 +114,7 @@ module _ (i : ImageTables) (n : ℕ) (q : Question) where
         }
 
     pub kept_more : (seen : SeenStates) (row : List ℕ) (link : Link) → AreKept i n q first fields seen
-        → IsLink seen.links link → HasRow i n q first fields (path_by seen.links link) row
+        → IsLink seen.links link → HasRow i n q first fields (path_by q seen.links link) row
         → AreKept i n q first fields (with_state seen row link)
     kept_more seen row link h new has =
         let rows : length (seen.rows ++ row ∷ []) ≡ length seen.rows + 1 = length_push seen.rows row in
@@ -121,18 +122,18 @@ module _ (i : ImageTables) (n : ℕ) (q : Question) where
         let same : length seen.rows ≡ length seen.links = h.rows in
         record { linked = links-added seen.links link h.linked new; rows = omega arith; each = each } where
           each : (k : ℕ) (r : List ℕ) → slice_get (seen.rows ++ row ∷ []) k ≡ Some r
-              → HasRow i n q first fields (path_of (seen.links ++ link ∷ []) k) r
+              → HasRow i n q first fields (path_to q (seen.links ++ link ∷ []) k) r
           each k r e =
               elim (element_of_push seen.rows row k r e) [
                 | inl old ↦
                     let within : k < length seen.rows = slice_get_within seen.rows k r old in
                     let same : length seen.rows ≡ length seen.links = h.rows in
                     subst (λ (es : List Event). HasRow i n q first fields es r)
-                    (sym (path-stays seen.links (link ∷ []) k h.linked (omega arith))) (h.each k r old)
+                    (sym (path_to-stays q seen.links (link ∷ []) k h.linked (omega arith))) (h.each k r old)
                 | inr last ↦
-                    subst (λ (j : ℕ). HasRow i n q first fields (path_of (seen.links ++ link ∷ []) j) r)
+                    subst (λ (j : ℕ). HasRow i n q first fields (path_to q (seen.links ++ link ∷ []) j) r)
                     (sym (last.0 ∙ h.rows)) (subst
-                    (λ (x : List ℕ). HasRow i n q first fields (path_by seen.links link) x) last.1 has)
+                    (λ (x : List ℕ). HasRow i n q first fields (path_by q seen.links link) x) last.1 has)
               ]
 
   -- ---- known states
@@ -158,15 +159,15 @@ module _ (i : ImageTables) (n : ℕ) (q : Question) where
         (readable i n es image) (readable i n es image) refl
 
     -- the world to which the path of a state leads is known
-    pub state_known : (links : List Link) (k : ℕ) → k < length links → IsKnown i n q links (path_of links k)
+    pub state_known : (links : List Link) (k : ℕ) → k < length links → IsKnown i n q links (path_to q links k)
     state_known links k lt =
         record {
-          world = (replay i n (path_of links k)).world;
-          alike = alike_self (path_of links k);
+          world = (replay i n (path_to q links k)).world;
+          alike = alike_self (path_to q links k);
           kept = record { state = k; there = lt; world = refl; watch = refl };
         }
 
-    pub new_known : (links : List Link) (link : Link) → IsKnown i n q (links ++ link ∷ []) (path_by links link)
+    pub new_known : (links : List Link) (link : Link) → IsKnown i n q (links ++ link ∷ []) (path_by q links link)
     new_known links link =
         let longer : length (links ++ link ∷ []) ≡ length links + 1 = length_push links link in
         state_known (links ++ link ∷ []) (length links) (omega arith)
@@ -225,16 +226,16 @@ module _ (i : ImageTables) (n : ℕ) (q : Question) where
     row_known first seen k es row size h found has =
         let within : k < length seen.rows = slice_get_within seen.rows k row found in
         let same : length seen.rows ≡ length seen.links = h.rows in
-        let there : HasRow i n q first fields (path_of seen.links k) row = h.each k row found in
+        let there : HasRow i n q first fields (path_to q seen.links k) row = h.each k row found in
         record {
-          world = (replay i n (path_of seen.links k)).world;
-          alike = rows_alike first size es (path_of seen.links k) row has there;
+          world = (replay i n (path_to q seen.links k)).world;
+          alike = rows_alike first size es (path_to q seen.links k) row has there;
           kept =
               record {
                 state = k;
                 there = omega arith;
                 world = refl;
-                watch = rows_watch first size es (path_of seen.links k) row has there;
+                watch = rows_watch first size es (path_to q seen.links k) row has there;
               };
         }
 

@@ -9,7 +9,7 @@ use Rattle.fmp_explore.specs.declared.survey.Survey.{Survey}
 use Rattle.std.specs.declared.alloc.Global.{Global}
 use Rattle.std.specs.declared.vec.Vec.{Vec}
 use Rattle.fmp_explore.specs.Searching.{AreHeld, Grows, HasKept, IsAt, IsNext, IsSurvey, Stays}
-use Rattle.fmp_explore.specs.States.{AreKept, HasRow, IsKnown, IsRowOf, holder_number, path_by, sections_of}
+use Rattle.fmp_explore.specs.States.{AreKept, HasRow, IsKnown, IsRowOf, holder_number, path_by, path_to, sections_of}
 use Rattle.fmp_fields.specs.declared.field.What.{What}
 use Rattle.fmp_fields.specs.FieldNumbers.{number_of}
 use Rattle.fmp_fields.specs.Fields.{AreAllFields}
@@ -21,11 +21,11 @@ use Rattle.fmp_schedules.specs.declared.section.Section.{Section}
 use Rattle.fmp_schedules.specs.Deadlocks.{is_interrupt}
 use Rattle.fmp_seen.specs.declared.link.Link.{Link}
 use Rattle.fmp_replay.specs.Replays.{replay}
-use Rattle.fmp_seen.specs.Links.{AreLinked, path_of}
+use Rattle.fmp_seen.specs.Links.{AreLinked}
 use Rattle.fmp_seen.specs.declared.link.Entry.{Entry}
 use Rattle.fmp_seen.specs.declared.link.Entry.TheVariants as entry
 use Rattle.fmp_seen.specs.Seen.{Adds, SeenStates, with_state}
-use Rattle.fmp_seen.proofs.LinkLemmas.{path-stays}
+use Rattle.fmp_explore.proofs.PathLemmas.{path_to-stays}
 use Rattle.fmp_explore.proofs.StateLemmas.{element_of_push, kept_more, new_known, row_known}
 
 -- what becomes of the states where a row is looked up
@@ -67,21 +67,21 @@ stays_grows a b s =
       sure = s.sure;
     }
 
-pub stays_at : (a b : Survey) (state : ℕ) (es : List Event) → Stays a b → IsAt a.seen.links state es
-    → IsAt b.seen.links state es
-stays_at a b state es s h = subst (λ (x : SeenStates). IsAt x.links state es) (sym s.seen) h
+pub stays_at : (q : Question) (a b : Survey) (state : ℕ) (es : List Event) → Stays a b → IsAt q a.seen.links state es
+    → IsAt q b.seen.links state es
+stays_at q a b state es s h = subst (λ (x : SeenStates). IsAt q x.links state es) (sym s.seen) h
 
-pub grows_at : (a b : Survey) (state : ℕ) (es : List Event) → AreLinked a.seen.links → Grows a b
-    → IsAt a.seen.links state es
-    → IsAt b.seen.links state es
-grows_at a b state es linked g h =
-    subst (λ (ls : List Link). IsAt ls state es) (sym g.links)
+pub grows_at : (q : Question) (a b : Survey) (state : ℕ) (es : List Event) → AreLinked a.seen.links → Grows a b
+    → IsAt q a.seen.links state es
+    → IsAt q b.seen.links state es
+grows_at q a b state es linked g h =
+    subst (λ (ls : List Link). IsAt q ls state es) (sym g.links)
     (let longer : length (a.seen.links ++ g.more) ≡ length a.seen.links + length g.more =
     length-append a.seen.links g.more in
     let lt : state < length a.seen.links = h.there in
     record {
       there = omega arith;
-      path = h.path ∙ sym (path-stays a.seen.links g.more state linked h.there);
+      path = h.path ∙ sym (path_to-stays q a.seen.links g.more state linked h.there);
       deep = h.deep;
     })
 
@@ -114,7 +114,7 @@ module _ (i : ImageTables) (n : ℕ) (q : Question) where
 
   -- the sections of one more state
   held_more : (held : List (Vec Section Global)) (links : List Link) (sections : Vec Section Global) (link : Link)
-      → AreLinked links → AreHeld i n q held links → sections.items ≡ sections_of i n q (path_by links link)
+      → AreLinked links → AreHeld i n q held links → sections.items ≡ sections_of i n q (path_by q links link)
       → AreHeld i n q (held ++ sections ∷ []) (links ++ link ∷ [])
   held_more held links sections link linked h is =
       record {
@@ -123,35 +123,35 @@ module _ (i : ImageTables) (n : ℕ) (q : Question) where
         each = each;
       } where
         each : (k : ℕ) (x : Vec Section Global) → slice_get (held ++ sections ∷ []) k ≡ Some x
-            → x.items ≡ sections_of i n q (path_of (links ++ link ∷ []) k)
+            → x.items ≡ sections_of i n q (path_to q (links ++ link ∷ []) k)
         each k x e =
             elim (element_of_push held sections k x e) [
               | inl old ↦
                   let within : k < length held = slice_get_within held k x old in
                   let there : k < length links = omega (arith, within, h.size) in
-                  h.each k x old ∙ ap (λ (es : List Event). sections_of i n q es) (sym (path-stays links (link ∷ []) k linked there))
+                  h.each k x old ∙ ap (λ (es : List Event). sections_of i n q es) (sym (path_to-stays q links (link ∷ []) k linked there))
               | inr last ↦
                   ap (λ (v : Vec Section Global). v.items) (sym last.1) ∙ is
-                  ∙ ap (λ (j : ℕ). sections_of i n q (path_of (links ++ link ∷ []) j)) (sym (last.0 ∙ h.size))
+                  ∙ ap (λ (j : ℕ). sections_of i n q (path_to q (links ++ link ∷ []) j)) (sym (last.0 ∙ h.size))
             ]
 
   -- the row of a kernel is that of its state
   pub row_of_kernel : (first : List ℕ) (fields : List What) (row : List ℕ) (links : List Link) (link : Link)
       (k : Kernels)
       (came : ℕ) (sections : List Section) → IsNext i n q links link k
-      → came ≡ count_by is_interrupt (path_by links link) → sections ≡ sections_of i n q (path_by links link)
+      → came ≡ count_by is_interrupt (path_by q links link) → sections ≡ sections_of i n q (path_by q links link)
       → IsRowOf first (map (number_of k.system k.world came) fields ++ map holder_number sections) row
-      → HasRow i n q first fields (path_by links link) row
+      → HasRow i n q first fields (path_by q links link) row
   row_of_kernel first fields row links link k came sections next count held is =
       record {
         legal = next.followed.legal;
         few = next.few;
         is =
             subst (λ (ss : List Section). IsRowOf first
-            (map (number_of i.system (replay i n (path_by links link)).world (count_by is_interrupt (path_by links link)))
+            (map (number_of i.system (replay i n (path_by q links link)).world (count_by is_interrupt (path_by q links link)))
             fields ++ map holder_number ss) row) held
             (subst (λ (x : Kernels). IsRowOf first
-            (map (number_of x.system x.world (count_by is_interrupt (path_by links link))) fields
+            (map (number_of x.system x.world (count_by is_interrupt (path_by q links link))) fields
             ++ map holder_number sections) row)
             next.followed.kernel
             (subst (λ (c : ℕ). IsRowOf first
@@ -179,13 +179,13 @@ module _ (i : ImageTables) (n : ℕ) (q : Question) where
         }
 
     module _ (image : IsImage i) (link : Link) (k : Kernels) (next : IsNext i n q a.seen.links link k) (row : List ℕ)
-        (has : HasRow i n q a.rows.first.items a.rows.fields.items (path_by a.seen.links link) row)
+        (has : HasRow i n q a.rows.first.items a.rows.fields.items (path_by q a.seen.links link) row)
         (sure : b.sure ≡ true → a.sure ≡ true) where
       -- the state is new
       pub keeps_new : (sections : Vec Section Global)
-          → sections.items ≡ sections_of i n q (path_by a.seen.links link)
+          → sections.items ≡ sections_of i n q (path_by q a.seen.links link)
           → b.rows.held.items ≡ a.rows.held.items ++ sections ∷ [] → b.seen ≡ with_state a.seen row link
-          → HasKept i n q a b (path_by a.seen.links link)
+          → HasKept i n q a b (path_by q a.seen.links link)
       keeps_new sections is held e =
           record {
             survey =
@@ -197,12 +197,12 @@ module _ (i : ImageTables) (n : ℕ) (q : Question) where
                 (held_more a.rows.held.items a.seen.links sections link h.kept.linked h.held is)));
             grows = record { more = link ∷ []; links = ap (λ (x : SeenStates). x.links) e; sure = sure };
             known = λ _.
-                subst (λ (x : SeenStates). IsKnown i n q x.links (path_by a.seen.links link)) (sym e)
+                subst (λ (x : SeenStates). IsKnown i n q x.links (path_by q a.seen.links link)) (sym e)
                 (new_known i n q image a.rows.fields.items h.survey.fields a.seen.links link);
           }
 
-      same_seen : b.rows.held.items ≡ a.rows.held.items → b.seen ≡ a.seen → (b.sure ≡ true → IsKnown i n q a.seen.links (path_by a.seen.links link))
-          → HasKept i n q a b (path_by a.seen.links link)
+      same_seen : b.rows.held.items ≡ a.rows.held.items → b.seen ≡ a.seen → (b.sure ≡ true → IsKnown i n q a.seen.links (path_by q a.seen.links link))
+          → HasKept i n q a b (path_by q a.seen.links link)
       same_seen held e known =
           record {
             survey =
@@ -217,18 +217,18 @@ module _ (i : ImageTables) (n : ℕ) (q : Question) where
                   sure = sure;
                 };
             known = λ s.
-                subst (λ (x : SeenStates). IsKnown i n q x.links (path_by a.seen.links link)) (sym e) (known s);
+                subst (λ (x : SeenStates). IsKnown i n q x.links (path_by q a.seen.links link)) (sym e) (known s);
           }
 
       -- it is known already
       pub keeps_known : (place : ℕ) → b.rows.held.items ≡ a.rows.held.items → b.seen ≡ a.seen → slice_get a.seen.rows place ≡ Some row
-          → HasKept i n q a b (path_by a.seen.links link)
+          → HasKept i n q a b (path_by q a.seen.links link)
       keeps_known place held e found =
           same_seen held e
           (λ _. row_known i n q image a.rows.fields.items h.survey.fields a.rows.first.items a.seen place
-          (path_by a.seen.links link) row h.first h.kept found has)
+          (path_by q a.seen.links link) row h.first h.kept found has)
 
       -- no more states may be kept
       pub keeps_none : b.rows.held.items ≡ a.rows.held.items → b.seen ≡ a.seen → b.sure ≡ false
-          → HasKept i n q a b (path_by a.seen.links link)
+          → HasKept i n q a b (path_by q a.seen.links link)
       keeps_none held e lost = same_seen held e (λ s. absurd (cc (s, lost)))

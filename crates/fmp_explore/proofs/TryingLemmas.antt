@@ -7,12 +7,12 @@ use Rattle.fmp_explore.specs.declared.question.Question.{Question}
 use Rattle.fmp_explore.specs.declared.survey.Survey.{Survey}
 use Rattle.fmp_explore.specs.declared.trying.Marks.{Marks}
 use Rattle.fmp_explore.specs.Searching.{AreMarks, Grows, HasExamined, HasLooked, HasTried, IsAt, IsSurvey, IsTrying, Stays}
-use Rattle.fmp_explore.specs.States.{AreFew, HasRow, LeadsOn, MayCome}
+use Rattle.fmp_explore.specs.States.{AreFew, HasRow, LeadsOn, MayCome, path_to}
 use Rattle.fmp_explore.specs.Tries.{all_tries}
 use Rattle.fmp_image_bytes.specs.Images.{ImageTables, IsImage}
 use Rattle.fmp_image_bytes.proofs.InRange.{image_in_range}
 use Rattle.fmp_seen.specs.declared.link.Link.{Link}
-use Rattle.fmp_seen.specs.Links.{AreLinked, path_of}
+use Rattle.fmp_seen.specs.Links.{AreLinked}
 use Rattle.fmp_explore.proofs.StateLemmas.{leads_on_more}
 use Rattle.fmp_explore.proofs.TryLemmas.{each-tried}
 use Rattle.fmp_explore.proofs.SurveyLemmas.{grows_at, grows_on, stays_at, stays_grows, stays_survey}
@@ -26,18 +26,18 @@ module _ (i : ImageTables) (n : ℕ) (q : Question) (state : ℕ) (es : List Eve
       (leads_on_more i n q a.seen.links g.more es e linked l)
 
   -- the events that lead to a state are few
-  pub few_at : (s : Survey) → IsSurvey i n q s → IsAt s.seen.links state es → AreFew q es
+  pub few_at : (s : Survey) → IsSurvey i n q s → IsAt q s.seen.links state es → AreFew q es
   few_at s h at =
       let there : state < length s.seen.links = at.there in
       let same : length s.seen.rows ≡ length s.seen.links = h.kept.rows in
       subst (λ (fs : List Event). AreFew q fs) (sym at.path)
-      (let row : HasRow i n q s.rows.first.items s.rows.fields.items (path_of s.seen.links state)
+      (let row : HasRow i n q s.rows.first.items s.rows.fields.items (path_to q s.seen.links state)
       (get_or s.seen.rows state []) =
       h.kept.each state (get_or s.seen.rows state []) (slice_get-get_or s.seen.rows state [] (omega arith)) in
       row.few)
 
   -- nothing was tried yet
-  pub none_tried : (s : Survey) (m : Marks) → IsSurvey i n q s → IsAt s.seen.links state es → AreMarks i n q es m
+  pub none_tried : (s : Survey) (m : Marks) → IsSurvey i n q s → IsAt q s.seen.links state es → AreMarks i n q es m
       → IsTrying i n q state es m 0 s
   none_tried s m h at marks =
       record { survey = h; at = at; marks = marks; each = λ sure place e lt. absurd (omega (arith, lt)) }
@@ -50,7 +50,7 @@ module _ (i : ImageTables) (n : ℕ) (q : Question) (state : ℕ) (es : List Eve
   one_tried a b l m place e t found survey grows marks leads =
       record {
         survey = survey;
-        at = grows_at a b state es t.survey.kept.linked grows t.at;
+        at = grows_at q a b state es t.survey.kept.linked grows t.at;
         marks = marks;
         each = λ sure p f lt there may. by_order sure p f lt there may (cases_lt p place);
       } where
@@ -70,7 +70,7 @@ module _ (i : ImageTables) (n : ℕ) (q : Question) (state : ℕ) (es : List Eve
   tried_stays a b m tried s t =
       record {
         survey = stays_survey i n q a b s t.survey;
-        at = stays_at a b state es s t.at;
+        at = stays_at q a b state es s t.at;
         marks = t.marks;
         each = λ sure p e lt found may.
             leads_grown a b e t.survey.kept.linked (stays_grows a b s) (t.each (s.sure sure) p e lt found may);

@@ -26,6 +26,8 @@ use Rattle.fmp_schedules.specs.Schedules.{lines_after, reached}
 use Rattle.fmp_schedules.specs.Sections.{IsMeeting, section_after, section_along}
 use Rattle.fmp_explore.specs.Endless.{IsEndlessOn}
 use Rattle.fmp_explore.specs.Places.{is_bad}
+use Rattle.fmp_explore.specs.Rules.{rules_of}
+use Rattle.fmp_schedules.specs.Stuck.{NeverGoesOn}
 
 -- the line at a place tells something that must never happen, where the event left this world
 pub record HasForbidden (sys : SystemTables) (q : Question) (w : World MachineContext) (lines : List Line) (place : ℕ) :
@@ -53,6 +55,7 @@ IsSeen sys M n q es d (sight.Line place) = HasForbidden sys q d.world d.lines pl
 IsSeen sys M n q es d sight.Deadlock = IsDeadlock sys M n d.world q.rest.items (may_interrupt q.interrupts es)
 IsSeen sys M n q es d (sight.Endless p) = IsEndlessOn sys M d.world p
 IsSeen sys M n q es d (sight.Together t) = AreTogether sys M n q es t
+IsSeen sys M n q es d (sight.Stuck t) = NeverGoesOn (rules_of q) sys M n es t
 
 -- each of these events does something at its place, and this is seen after them
 pub record IsSo (i : ImageTables) (n : ℕ) (q : Question) (es : List Event) (seen : Sight) : Type 0 where

@@ -13,6 +13,7 @@ use Rattle.fmp_base.specs.declared.events.Line.{Line}
 use Rattle.fmp_base.specs.declared.events.Line.TheVariants as line
 use Rattle.fmp_explore.specs.declared.question.Never.{Never}
 use Rattle.fmp_explore.specs.declared.question.Never.TheVariants as kind
+use Rattle.fmp_schedules.specs.Stuck.{acts}
 
 -- two codes are one if their numbers are
 abbrev pub is_same_code : Er → Er → Bool
@@ -54,6 +55,7 @@ abbrev pub tells : Never → Line → Bool
 tells (kind.Answer code) l = is_answered code l
 tells (kind.Put value) l = is_put value l
 tells (kind.Fault fault) l = is_fault fault l
+tells (kind.Acts t) l = acts t l
 
 -- a line tells something of these
 abbrev pub forbids : List Never → Line → Bool

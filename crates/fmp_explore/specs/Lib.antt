@@ -1,3 +1,4 @@
+pub mod Behind
 pub mod Endless
 pub mod Findings
 pub mod Followed

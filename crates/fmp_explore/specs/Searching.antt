@@ -2,13 +2,10 @@
 use Rattle.std.specs.Prelude.{ℕ, ◌≡◌, ◌+◌, ◌<◌, ◌≤◌, List, [], ◌∷◌, ◌++◌, Some, true, false, is_some, length, slice_get}
 use Rattle.std.specs.declared.alloc.Global.{Global}
 use Rattle.std.specs.declared.vec.Vec.{Vec}
-use Rattle.fmp_alike.specs.Alike.{Alike}
-use Rattle.fmp_alike.specs.Closed.{IsCovered}
 use Rattle.fmp_base.specs.declared.events.Effect.{Effect}
 use Rattle.fmp_base.specs.declared.events.Event.{Event}
 use Rattle.fmp_base.specs.declared.events.Event.TheVariants as event
 use Rattle.fmp_base.specs.Meanings.{World}
-use Rattle.fmp_base.specs.Setups.{setup}
 use Rattle.fmp_base.specs.Steps.{Done, Nothing, Did, Kept, effect_of}
 use Rattle.fmp_explore.specs.declared.question.Question.{Question}
 use Rattle.fmp_explore.specs.declared.survey.Survey.{Survey}
@@ -17,7 +14,7 @@ use Rattle.fmp_explore.specs.Followed.{IsFollowed}
 use Rattle.fmp_explore.specs.Forbidden.{forbids}
 use Rattle.fmp_explore.specs.Places.{forbids_there}
 use Rattle.fmp_explore.specs.Rules.{rules_of}
-use Rattle.fmp_explore.specs.States.{AreFew, AreKept, IsExamined, IsKnown, IsReached, IsStuckAfter, LeadsOn, MayCome, path_by, sections_of}
+use Rattle.fmp_explore.specs.States.{AreFew, AreKept, IsExamined, IsKnown, IsStuckAfter, LeadsOn, MayCome, path_by, path_to, sections_of, watched_of}
 use Rattle.fmp_explore.specs.Tries.{all_tries}
 use Rattle.fmp_fields.specs.Fields.{AreAllFields}
 use Rattle.fmp_image_bytes.specs.Images.{ImageTables}
@@ -30,7 +27,7 @@ use Rattle.fmp_schedules.specs.Deadlocks.{may_interrupt}
 use Rattle.fmp_schedules.specs.declared.section.Section.{Section}
 use Rattle.fmp_schedules.specs.Schedules.{Holds, HoldsThere, none_runs, watched_at_setup}
 use Rattle.fmp_seen.specs.declared.link.Link.{Link}
-use Rattle.fmp_seen.specs.Links.{IsLink, path_of}
+use Rattle.fmp_seen.specs.Links.{IsLink}
 
 -- the sections in each of the states are kept, too
 pub record AreHeld (i : ImageTables) (n : ℕ) (q : Question) (held : List (Vec Section Global)) (links : List Link) :
@@ -38,7 +35,7 @@ pub record AreHeld (i : ImageTables) (n : ℕ) (q : Question) (held : List (Vec 
   pub size : length held ≡ length links
   pub each :
       (k : ℕ) (sections : Vec Section Global) → slice_get held k ≡ Some sections →
-      sections.items ≡ sections_of i n q (path_of links k)
+      sections.items ≡ sections_of i n q (path_to q links k)
 
 -- the fields and the events of a search are those of its image
 pub record IsSurveyOf (i : ImageTables) (q : Question) (s : Survey) : Type 0 where
@@ -76,8 +73,8 @@ pub record Stays (old new : Survey) : Type 0 where
 pub record IsNext (i : ImageTables) (n : ℕ) (q : Question) (links : List Link) (link : Link)
     (k : KernelView (List BodyTables) MachineContext) : Type 0 where
   pub linked : IsLink links link
-  pub followed : IsFollowed i n (path_by links link) k
-  pub few : AreFew q (path_by links link)
+  pub followed : IsFollowed i n (path_by q links link) k
+  pub few : AreFew q (path_by q links link)
 
 -- the state after these events is kept, or one that is alike
 pub record HasKept (i : ImageTables) (n : ℕ) (q : Question) (old new : Survey) (es : List Event) : Type 0 where
@@ -85,18 +82,22 @@ pub record HasKept (i : ImageTables) (n : ℕ) (q : Question) (old new : Survey)
   pub grows : Grows old new
   pub known : new.sure ≡ true → IsKnown i n q new.seen.links es
 
--- the state after setup is kept, where no line of setup is forbidden
+-- no line of setup is forbidden, and by none a task enters a section that another holds
+abbrev pub IsClean : ImageTables → (n : ℕ) → Question → Type 0
+IsClean i n q =
+    watched_of i n q []
+    ≡ watched_at_setup (rules_of q) i.system (code_meaning i.code) (forbids q.nevers.items)
+
+-- the state in which the search begins is kept
 pub record IsBegun (i : ImageTables) (n : ℕ) (q : Question) (s : Survey) : Type 0 where
   pub survey : IsSurvey i n q s
-  pub first :
-      s.sure ≡ true →
-      IsCovered (Alike i.system) (IsReached i n q s.seen.links) (setup i.system (code_meaning i.code)).world
-      (watched_at_setup (rules_of q) i.system (code_meaning i.code) (forbids q.nevers.items))
+  pub clean : s.sure ≡ true → IsClean i n q
+  pub first : s.sure ≡ true → IsKnown i n q s.seen.links q.after.items
 
 -- a state, and the events that lead to it
-pub record IsAt (links : List Link) (state : ℕ) (es : List Event) : Type 0 where
+pub record IsAt (q : Question) (links : List Link) (state : ℕ) (es : List Event) : Type 0 where
   pub there : state < length links
-  pub path : es ≡ path_of links state
+  pub path : es ≡ path_to q links state
   pub deep : length es < 1048575
 
 -- what an event does after others, and the kernel then
@@ -160,7 +161,7 @@ marked m (event.Int i) = record m { interrupted = true }
 pub record IsTrying (i : ImageTables) (n : ℕ) (q : Question) (state : ℕ) (es : List Event) (m : Marks) (tried : ℕ)
     (s : Survey) : Type 0 where
   pub survey : IsSurvey i n q s
-  pub at : IsAt s.seen.links state es
+  pub at : IsAt q s.seen.links state es
   pub marks : AreMarks i n q es m
   pub each :
       s.sure ≡ true → (place : ℕ) (e : Event) → place < tried → slice_get (all_tries i.system) place ≡ Some e →
@@ -188,7 +189,14 @@ pub record IsSearching (i : ImageTables) (n : ℕ) (q : Question) (states : ℕ)
   pub begun : IsBegun i n q s
   pub each :
       s.sure ≡ true → (k : ℕ) → k < states → k < length s.seen.links →
-      IsExamined i n q s.seen.links (path_of s.seen.links k)
+      IsExamined i n q s.seen.links (path_to q s.seen.links k)
+
+-- every state was examined
+pub record IsWhole (i : ImageTables) (n : ℕ) (q : Question) (s : Survey) : Type 0 where
+  pub begun : IsBegun i n q s
+  pub each :
+      s.sure ≡ true → (k : ℕ) → k < length s.seen.links →
+      IsExamined i n q s.seen.links (path_to q s.seen.links k)
 
 -- nothing that is asked about is found along any schedule
 pub record NothingIsFound (i : ImageTables) (n : ℕ) (q : Question) : Type 0 where

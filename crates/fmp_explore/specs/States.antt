@@ -69,6 +69,10 @@ pub record HasRow (i : ImageTables) (n : ℕ) (q : Question) (first : List ℕ) 
   pub few : AreFew q es
   pub is : IsRowOf first (numbers_after i n q fields es) row
 
+-- the events that lead to the state at a place, with those behind which the search begins
+abbrev pub path_to : Question → List Link → (state : ℕ) → List Event
+path_to q links state = q.after.items ++ path_of links state
+
 -- the path to each state that is kept leads to a state of its row
 pub record AreKept (i : ImageTables) (n : ℕ) (q : Question) (first : List ℕ) (fields : List What) (seen : SeenStates) :
     Type 0 where
@@ -76,19 +80,19 @@ pub record AreKept (i : ImageTables) (n : ℕ) (q : Question) (first : List ℕ)
   pub rows : length seen.rows ≡ length seen.links
   pub each :
       (k : ℕ) (row : List ℕ) → slice_get seen.rows k ≡ Some row →
-      HasRow i n q first fields (path_of seen.links k) row
+      HasRow i n q first fields (path_to q seen.links k) row
 
 -- the events that lead to the state of one more link
-abbrev pub path_by : List Link → Link → List Event
-path_by links link = path_of (links ++ link ∷ []) (length links)
+abbrev pub path_by : Question → List Link → Link → List Event
+path_by q links link = path_to q (links ++ link ∷ []) (length links)
 
 -- the path to one of the states leads to this world, where this is watched
 pub record IsReached (i : ImageTables) (n : ℕ) (q : Question) (links : List Link) (w : World MachineContext)
     (a : Watched) : Type 0 where
   pub state : ℕ
   pub there : state < length links
-  pub world : w ≡ (replay i n (path_of links state)).world
-  pub watch : a ≡ watched_of i n q (path_of links state)
+  pub world : w ≡ (replay i n (path_to q links state)).world
+  pub watch : a ≡ watched_of i n q (path_to q links state)
 
 -- one of the states is alike to that after these events
 abbrev pub IsKnown : ImageTables → (n : ℕ) → Question → List Link → List Event → Type 0

@@ -7,12 +7,13 @@ ghost use Rattle.fmp_explore.specs.Findings.{IsFound};
 ghost use Rattle.fmp_explore.specs.Forbidden.{forbids};
 ghost use Rattle.fmp_explore.specs.Places.{forbids_there};
 ghost use Rattle.fmp_explore.specs.Rules.{rules_of};
-ghost use Rattle.fmp_explore.specs.Searching.{IsBegun, NothingIsFound};
+ghost use Rattle.fmp_explore.specs.Searching.{IsBegun, IsWhole, NothingIsFound};
 
 use crate::coverage::Coverage;
 use crate::finding::{Finding, confirmed, shortest_alone};
 use crate::question::Question;
 use crate::searching::{Ending, Watcher};
+use crate::stuck::suspected;
 use crate::subject::Subject;
 use crate::survey::Survey;
 use crate::values::Variety;
@@ -72,6 +73,22 @@ fn asked_for(
     }
 }
 
+/// Whether a search that ended so has examined every state.
+fn is_whole(ending: Ending) -> bool {
+    match ending {
+        Ending::Whole => true,
+        Ending::Enough | Ending::States | Ending::Depth | Ending::Memory => false,
+    }
+}
+
+/// Adds findings to others. `AllocError` if memory runs out.
+fn add_all(findings: &mut Vec<Finding>, more: Vec<Finding>) -> Result<(), AllocError> {
+    for finding in more {
+        findings.push(finding)?;
+    }
+    Ok(())
+}
+
 /// The findings of a search that has ended, which forgets them.
 fn findings_of(
     alloc: Global,
@@ -79,22 +96,30 @@ fn findings_of(
     n: u64,
     question: &Question,
     survey: &mut Survey,
+    ending: Ending,
 ) -> Result<Vec<Finding>, AllocError>
     requires low { 1 ≤ n }
     requires high { n ≤ 2 ^ 48 }
     ensures { IfOk result (λ findings. All (IsFound image.now n question.now) findings.items) }
 {
-    let candidates = asked_for(alloc, question, survey.take_candidates(alloc))?;
+    let mut candidates = asked_for(alloc, question, survey.take_candidates(alloc))?;
+    if is_whole(ending) && (question.all || candidates.is_empty()) {
+        add_all(
+            &mut candidates,
+            suspected(alloc, survey, image.system(), question),
+        )?;
+    }
     confirmed(alloc, image, n, question, candidates)
 }
 
 /// Whether a search that ended so shows that nothing is found along any schedule.
-fn shows_all(survey: &Survey, ending: Ending) -> bool
+fn shows_all(survey: &Survey, question: &Question, ending: Ending) -> bool
     ensures ending { IsTrue result → ending ≡ Ending.Whole }
     ensures sure { IsTrue result → survey.now.sure ≡ true }
+    ensures after { IsTrue result → question.now.after.items ≡ [] }
 {
     match ending {
-        Ending::Whole => survey.sure,
+        Ending::Whole => survey.sure && question.after.is_empty(),
         Ending::Enough | Ending::States | Ending::Depth | Ending::Memory => false,
     }
 }
@@ -110,12 +135,13 @@ fn make_report(
 ) -> Result<Report, AllocError>
     requires low { 1 ≤ n }
     requires high { n ≤ 2 ^ 48 }
-    requires holds { ending ≡ Ending.Whole → survey.old.sure ≡ true → NothingIsFound image.now n question.now }
+    requires holds { ending ≡ Ending.Whole → survey.old.sure ≡ true → question.now.after.items ≡ [] →
+        NothingIsFound image.now n question.now }
     ensures findings { IfOk result (λ r. All (IsFound image.now n question.now) r.findings.items) }
     ensures holds { IfOk result (λ r. r.holds ≡ true → NothingIsFound image.now n question.now) }
 {
-    let holds = shows_all(survey, ending);
-    let findings = findings_of(alloc, image, n, question, survey)?;
+    let holds = shows_all(survey, question, ending);
+    let findings = findings_of(alloc, image, n, question, survey, ending)?;
     Ok(Report {
         findings,
         ending,
@@ -132,10 +158,10 @@ fn make_report(
 /// A search over a kernel of an image that was just set up.
 fn begun_on(
     alloc: Global,
-    kernel: &Kernel<Vm<'_>>,
+    kernel: &mut Kernel<Vm<'_>>,
     subject: &Subject<'_>,
 ) -> Result<Survey, AllocError>
-    requires { kernel.now ≡ kernel_after subject.now.image.now subject.now.n [] }
+    requires { kernel.old ≡ kernel_after subject.now.image.now subject.now.n [] }
     ensures { IfOk result (IsBegun subject.now.image.now subject.now.n subject.now.question.now) }
 {
     let mut survey = Survey::new(alloc, subject, kernel)?;
@@ -143,24 +169,24 @@ fn begun_on(
     Ok(survey)
 }
 
-/// A search that has seen the state after setup.
-fn begun(alloc: Global, subject: &Subject<'_>) -> Result<Survey, AllocError>
+/// A search that has seen the state in which it begins.
+pub fn begun(alloc: Global, subject: &Subject<'_>) -> Result<Survey, AllocError>
     ensures { IfOk result (IsBegun subject.now.image.now subject.now.n subject.now.question.now) }
 {
-    let kernel = kernel_of(alloc, subject.image, subject.n)?;
-    begun_on(alloc, &kernel, subject)
+    let mut kernel = kernel_of(alloc, subject.image, subject.n)?;
+    begun_on(alloc, &mut kernel, subject)
 }
 
 /// Why a search ended that has now been made.
-fn ended<W: Watcher>(
+pub fn ended<W: Watcher>(
     alloc: Global,
     survey: &mut Survey,
     subject: &Subject<'_>,
     watcher: &mut W,
 ) -> Ending
     requires { IsBegun subject.now.image.now subject.now.n subject.now.question.now survey.old }
-    ensures { result ≡ Ending.Whole → survey.new.sure ≡ true →
-        NothingIsFound subject.now.image.now subject.now.n subject.now.question.now }
+    ensures { result ≡ Ending.Whole →
+        IsWhole subject.now.image.now subject.now.n subject.now.question.now survey.new }
 {
     match survey.run(alloc, subject, watcher) {
         Ok(ending) => ending,
@@ -189,6 +215,7 @@ pub fn explore<W: Watcher>(
         (code_meaning image.now.code) n (forbids question.now.nevers.items)
         (forbids_there image.now.system question.now.nevers_at.items)) }
 {
+    image.keeps_rules();
     let subject = Subject { image, n, question };
     let mut survey = begun(alloc, &subject)?;
     let ending = ended(alloc, &mut survey, &subject, watcher);

@@ -17,6 +17,7 @@ use crate::question::Question;
 use crate::replaying::{TAKEN_MOST, follow};
 use crate::standing::is_deadlock;
 use crate::stretching::{Started, started_tasks};
+use crate::stuck::is_stuck;
 use fmp_base::{Event, Line, System};
 use fmp_code::Vm;
 use fmp_image_bytes::Image;
@@ -38,6 +39,8 @@ pub enum Sight {
     Endless(u8),
     /// A task enters a section while another holds it, by a line of the last event.
     Together(Together),
+    /// The task at this place is started, and whatever events follow, as the question lets them come, it never goes on.
+    Stuck(u8),
 }
 
 /// Two tasks in one section.
@@ -131,7 +134,7 @@ fn is_seen<'a>(
         Sight::Line(place) => tells_forbidden(kernel, image, n, question, steps, place),
         Sight::Deadlock => stands(kernel, image, n, question, steps),
         Sight::Endless(p) => goes_on(kernel, image, n, steps, p),
-        Sight::Together(_) => false,
+        Sight::Together(_) | Sight::Stuck(_) => false,
     }
 }
 
@@ -238,6 +241,9 @@ fn is_shown(
     ensures { IfOk result (λ found. IsTrue found → IsSo image.now n question.now steps.now sight) }
 {
     let mut kernel = kernel_of(alloc, image, n)?;
+    if let Sight::Stuck(t) = sight {
+        return Ok(is_stuck(alloc, &mut kernel, image, n, question, steps, t));
+    }
     Ok(is_so(&mut kernel, image, n, question, steps, sight))
 }
 

@@ -3,6 +3,7 @@
 #![tactic(auto)]
 
 mod coverage;
+mod edges;
 mod endless;
 mod exploring;
 mod finding;
@@ -17,6 +18,7 @@ mod rows;
 mod searching;
 mod standing;
 mod stretching;
+mod stuck;
 mod subject;
 mod survey;
 mod trying;

@@ -51,6 +51,7 @@ fn is_of_kind(found: &Finding, sight: Sight, site: Option<Site>) -> bool {
         (Sight::Line(_), Sight::Line(_)) => true,
         (Sight::Deadlock, Sight::Deadlock) => true,
         (Sight::Endless(_), Sight::Endless(_)) => true,
+        (Sight::Stuck(a), Sight::Stuck(b)) => a == b,
         (Sight::Together(a), Sight::Together(b)) => a.section == b.section,
         _ => false,
     };
@@ -80,10 +81,10 @@ impl Notes {
     }
 
     /// Whether a candidate has at most this many steps.
-    pub fn has_within(&self, depth: u32) -> bool {
+    pub fn has_within(&self, depth: usize) -> bool {
         self.candidates
             .iter()
-            .any(|found| found.steps.len() <= depth as usize)
+            .any(|found| found.steps.len() <= depth)
     }
 
     /// Whether a candidate is of this kind, and at this call.

@@ -70,7 +70,7 @@ fn is_dormant(phase: Phase) -> bool
 }
 
 /// Whether there is a task of this place, and it is started.
-fn is_started(tables: &Tables, t: u8) -> bool
+pub fn is_started(tables: &Tables, t: u8) -> bool
     ensures { result ≡ not (sleeps (task_at tables.now.state.tasks t).phase) }
 {
     if usize::from(t) >= tables.task_count() {

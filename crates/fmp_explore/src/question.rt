@@ -5,10 +5,11 @@ ghost use Rattle.fmp_schedules.specs.Deadlocks.{is_interrupt as is_request, may_
 ghost use Rattle.fmp_explore.specs.Forbidden.{forbids, is_answered as answers, is_fault as stops_with};
 ghost use Rattle.fmp_explore.specs.Forbidden.{is_put as prints, is_same_code as same_code, is_same_fault as same_fault};
 ghost use Rattle.fmp_explore.specs.Forbidden.{tells as names};
+ghost use Rattle.fmp_explore.specs.Behind.{CanBegin};
 
 use crate::coverage::Site;
 use fmp_base::{Call, Er, Event, Fault, Line};
-use fmp_schedules::Section;
+use fmp_schedules::{Section, is_act};
 use std::alloc::Global;
 
 /// The codes that calls and the ends of waits answer.
@@ -33,6 +34,8 @@ pub enum Never {
     Put(i32),
     /// A body stops with this fault.
     Fault(Fault),
+    /// The task at this place makes a call, ends a wait, ends, stops with a fault, or is terminated.
+    Acts(u8),
 }
 
 /// An answer that must never be given to one call.
@@ -71,6 +74,9 @@ pub struct Question {
     pub all: bool,
     /// How many states may be kept.
     pub states: u32,
+    /// The events behind which the search begins, each of which does something: none, if it begins at setup. Behind
+    /// others nothing is claimed of all schedules.
+    pub after: Vec<Event>,
 }
 
 impl Question {
@@ -86,6 +92,7 @@ impl Question {
             interrupts: None,
             all: false,
             states: 1 << 24,
+            after: Vec::new(alloc),
         }
     }
 
@@ -98,6 +105,19 @@ impl Question {
             Some(most) => interrupt_count(steps) < usize::from(most),
             None => true,
         }
+    }
+}
+
+impl Question {
+    /// Whether a search can begin behind the events: no sections are asked about where there are such events, and there
+    /// are no more interrupts among them than a row tells.
+    pub fn can_begin(&self) -> bool
+        ensures { IsTrue result → CanBegin self.now }
+    {
+        if interrupt_count(&self.after) >= 256 {
+            return false;
+        }
+        self.after.is_empty() || self.sections.is_empty()
     }
 }
 
@@ -182,6 +202,7 @@ fn tells(never: Never, line: &Line) -> bool
         Never::Answer(code) => is_answered(code, line),
         Never::Put(value) => is_put(value, line),
         Never::Fault(fault) => is_fault(fault, line),
+        Never::Acts(t) => is_act(t, line),
     }
 }
 

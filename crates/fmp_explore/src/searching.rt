@@ -2,7 +2,6 @@
 ghost use Rattle.std.specs.Prelude.{◌≡◌, ◌≢◌, ◌+◌, ◌<◌, ◌≤◌, [], ◌∷◌, ◌++◌, IfNone, IfOk, IfSome, IsTrue, OnOk, false, length, true};
 ghost use Rattle.fmp_base.specs.Steps.{Nothing};
 ghost use Rattle.fmp_replay.specs.Replays.{kernel_after, reaction};
-ghost use Rattle.fmp_seen.specs.Links.{path_of};
 ghost use Rattle.fmp_explore.specs.Followed.{IsFollowed};
 ghost use Rattle.fmp_explore.specs.Ladders.{IsBare, IsLadder, IsOver};
 ghost use Rattle.fmp_explore.specs.Searching.{
@@ -16,16 +15,16 @@ ghost use Rattle.fmp_explore.specs.Searching.{
   IsBegun,
   IsSurvey,
   IsTrying,
+  IsWhole,
   MayRequest,
-  NothingIsFound,
 };
-ghost use Rattle.fmp_explore.specs.States.{AreFew, MayCome};
+ghost use Rattle.fmp_explore.specs.States.{AreFew, MayCome, path_to};
 ghost use Rattle.fmp_explore.specs.Tries.{all_tries};
 
 use crate::finding::Sight;
 use crate::ladder::Ladder;
 use crate::notes::Path;
-use crate::question::Ticks;
+use crate::question::{Question, Ticks};
 use crate::standing::stands_still;
 use crate::stretching::{next_stretch, task_sites};
 use crate::subject::Subject;
@@ -91,6 +90,13 @@ fn has_done(effect: Effect) -> bool
     }
 }
 
+/// How many events lead to the state of a link, with those behind which the search began.
+fn depth_of(question: &Question, link: Link) -> usize
+    ensures { result < 1048575 → length question.now.after.items + link.depth < 1048575 }
+{
+    question.after.len().saturating_add(link.depth as usize)
+}
+
 impl Survey {
     /// Tries an event on a kernel in its state: whether it does something.
     #[tactic(auto, using(crate::proofs::LadderLemmas::over_step))]
@@ -102,7 +108,7 @@ impl Survey {
         attempt: Attempt<'_>,
     ) -> Result<bool, AllocError>
         requires survey { IsSurvey subject.now.image.now subject.now.n subject.now.question.now self.old }
-        requires at { IsAt self.old.seen.links attempt.state attempt.steps.now }
+        requires at { IsAt subject.now.question.now self.old.seen.links attempt.state attempt.steps.now }
         requires few { AreFew subject.now.question.now (attempt.steps.now ++ attempt.event ∷ []) }
         requires followed { IsFollowed subject.now.image.now subject.now.n attempt.steps.now kernel.old }
         ensures dealt { OnOk result (HasDealt subject.now.image.now subject.now.n subject.now.question.now self.old
@@ -226,7 +232,7 @@ impl Survey {
         steps: &[Event],
     ) -> Result<Marks, AllocError>
         requires survey { IsSurvey subject.now.image.now subject.now.n subject.now.question.now self.old }
-        requires at { IsAt self.old.seen.links state steps.now }
+        requires at { IsAt subject.now.question.now self.old.seen.links state steps.now }
         requires followed { IsFollowed subject.now.image.now subject.now.n steps.now from.now }
         requires over { IsOver subject.now.image.now subject.now.n kernel.old }
         ensures tried { IfOk result (λ marks. HasTried subject.now.image.now subject.now.n subject.now.question.now
@@ -238,6 +244,7 @@ impl Survey {
             interrupted: false,
         };
         task_sites(from, subject.image.system(), &mut self.notes.sites)?;
+        self.edges.begin_state(alloc);
         let end = self.tries.len();
         let mut next = 0;
         for _try in 0..end {
@@ -272,6 +279,7 @@ impl Survey {
             return Ok(());
         }
         self.sure = false;
+        self.edges.note_deadlock();
         let path = Path { steps, last: None };
         self.notes.note_sight(alloc, path, Sight::Deadlock, None)
     }
@@ -308,7 +316,7 @@ impl Survey {
         steps: &[Event],
     ) -> Result<(), AllocError>
         requires survey { IsSurvey subject.now.image.now subject.now.n subject.now.question.now self.old }
-        requires at { IsAt self.old.seen.links state steps.now }
+        requires at { IsAt subject.now.question.now self.old.seen.links state steps.now }
         requires followed { IsFollowed subject.now.image.now subject.now.n steps.now from.now }
         requires over { IsOver subject.now.image.now subject.now.n kernel.old }
         ensures examined { OnOk result (HasExamined subject.now.image.now subject.now.n subject.now.question.now
@@ -329,15 +337,16 @@ impl Survey {
         state: u32,
     ) -> Result<(), AllocError>
         requires survey { IsSurvey subject.now.image.now subject.now.n subject.now.question.now self.old }
-        requires at { IsAt self.old.seen.links state (path_of self.old.seen.links state) }
+        requires at { IsAt subject.now.question.now self.old.seen.links state (path_to subject.now.question.now self.old.seen.links state) }
         requires ladder { IsLadder subject.now.image.now subject.now.n ladder.old }
         ensures examined { OnOk result (HasExamined subject.now.image.now subject.now.n subject.now.question.now
-            self.old self.new (path_of self.old.seen.links state)) }
+            self.old self.new (path_to subject.now.question.now self.old.seen.links state)) }
         ensures ladder { OnOk result (IsLadder subject.now.image.now subject.now.n ladder.new) }
     {
-        let steps = self.seen.path(alloc, state)?;
+        let steps = self.steps_to(alloc, subject.question, state)?;
         if !ladder.reach(alloc, subject.image, subject.n, &steps)? {
             self.sure = false;
+            self.edges.lose(alloc);
             return Ok(());
         }
         self.examine_on(alloc, subject, &ladder.top, &mut ladder.work, state, &steps)
@@ -346,13 +355,14 @@ impl Survey {
     /// Why the search ends before the state at a place, if it does.
     fn ending_before(&self, subject: &Subject<'_>, link: Link) -> Option<Ending>
         ensures ends { IfSome result (λ ending. ending ≢ Ending.Whole) }
-        ensures goes_on { IfNone result (link.depth < 1048575) }
+        ensures goes_on { IfNone result (length subject.now.question.now.after.items + link.depth < 1048575) }
     {
-        if !subject.question.all && self.notes.has_within(link.depth) {
+        let depth = depth_of(subject.question, link);
+        if !subject.question.all && self.notes.has_within(depth) {
             Some(Ending::Enough)
         } else if self.full {
             Some(Ending::States)
-        } else if link.depth >= DEEPEST {
+        } else if depth >= DEEPEST as usize {
             Some(Ending::Depth)
         } else {
             None
@@ -388,10 +398,9 @@ impl Survey {
     ) -> Result<Ending, AllocError>
         requires begun { IsBegun subject.now.image.now subject.now.n subject.now.question.now self.old }
         requires ladder { IsLadder subject.now.image.now subject.now.n ladder.old }
-        ensures { IfOk result (λ ending. ending ≡ Ending.Whole → self.new.sure ≡ true →
-            NothingIsFound subject.now.image.now subject.now.n subject.now.question.now) }
+        ensures { IfOk result (λ ending. ending ≡ Ending.Whole →
+            IsWhole subject.now.image.now subject.now.n subject.now.question.now self.new) }
     {
-        subject.image.keeps_rules();
         let mut told = TOLD_FIRST / 2;
         for i in 0..u32::MAX {
             let Some(link) = self.seen.link(i) else {
@@ -417,8 +426,8 @@ impl Survey {
     ) -> Result<Ending, AllocError>
         requires begun { IsBegun subject.now.image.now subject.now.n subject.now.question.now self.old }
         requires bare { IsBare subject.now.image.now subject.now.n ladder.old }
-        ensures { IfOk result (λ ending. ending ≡ Ending.Whole → self.new.sure ≡ true →
-            NothingIsFound subject.now.image.now subject.now.n subject.now.question.now) }
+        ensures { IfOk result (λ ending. ending ≡ Ending.Whole →
+            IsWhole subject.now.image.now subject.now.n subject.now.question.now self.new) }
     {
         ladder.begin(alloc, subject.image, subject.n)?;
         self.examine_all(alloc, subject, ladder, watcher)
@@ -433,8 +442,8 @@ impl Survey {
         watcher: &mut W,
     ) -> Result<Ending, AllocError>
         requires { IsBegun subject.now.image.now subject.now.n subject.now.question.now self.old }
-        ensures { IfOk result (λ ending. ending ≡ Ending.Whole → self.new.sure ≡ true →
-            NothingIsFound subject.now.image.now subject.now.n subject.now.question.now) }
+        ensures { IfOk result (λ ending. ending ≡ Ending.Whole →
+            IsWhole subject.now.image.now subject.now.n subject.now.question.now self.new) }
     {
         let mut ladder = Ladder::new(alloc, subject.image, subject.n)?;
         self.run_on(alloc, subject, &mut ladder, watcher)

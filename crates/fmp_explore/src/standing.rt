@@ -40,7 +40,7 @@ fn no_handler_comes(tables: &Tables) -> bool
 }
 
 /// Whether the task at a place may wait forever.
-fn may_rest(question: &Question, t: u8) -> bool
+pub fn may_rest(question: &Question, t: u8) -> bool
     ensures { result ≡ slice_index_or question.now.rest.items t false }
 {
     match question.rest.get(usize::from(t)) {

@@ -102,7 +102,7 @@ pub struct Started {
 }
 
 /// The body of a task.
-fn body_of(config: &TaskConfig) -> u8 {
+pub fn body_of(config: &TaskConfig) -> u8 {
     match config.entry {
         Entry::Body(body) => body,
         Entry::Named(_) => 0,

@@ -4,7 +4,7 @@ ghost use Rattle.std.specs.List.{list_any};
 ghost use Rattle.fmp_schedules.specs.Deadlocks.{is_interrupt as is_request};
 ghost use Rattle.fmp_replay.specs.Replays.{kernel_after};
 ghost use Rattle.fmp_schedules.specs.Schedules.{is_any_met};
-ghost use Rattle.fmp_explore.specs.States.{AreFew, path_by, sections_of};
+ghost use Rattle.fmp_explore.specs.States.{AreFew, path_by, path_to, sections_of};
 ghost use Rattle.fmp_explore.specs.Followed.{IsFollowed};
 ghost use Rattle.fmp_explore.specs.Places.{is_bad};
 ghost use Rattle.fmp_explore.specs.Searching.{
@@ -15,6 +15,7 @@ ghost use Rattle.fmp_explore.specs.Searching.{
   HasStepped,
   IsAt,
   IsBegun,
+  IsClean,
   IsFresh,
   IsNext,
   IsSurvey,
@@ -22,10 +23,13 @@ ghost use Rattle.fmp_explore.specs.Searching.{
 };
 
 use crate::coverage::{Coverage, Site};
+use crate::edges::Edges;
 use crate::endless::is_endless;
 use crate::finding::{Finding, Sight};
 use crate::holding::sections_after;
 use crate::notes::{Notes, Path};
+use crate::question::{Question, interrupt_count};
+use crate::replaying::follow;
 use crate::rows::Rows;
 use crate::stretching::NextStretch;
 use crate::subject::Subject;
@@ -46,6 +50,7 @@ pub struct Survey {
     pub tries: Vec<Event>,
     pub seen: Seen,
     pub notes: Notes,
+    pub edges: Edges,
     /// Whether a state could not be kept, since as many are as are allowed.
     pub full: bool,
     /// Whether nothing was found, and each event was followed and led to a state that is kept.
@@ -65,11 +70,13 @@ impl Survey {
         let rows = Rows::new(alloc, subject)?;
         let tries = tries_of(alloc, subject.image.system())?;
         let seen = Seen::new(alloc, subject.question.states)?;
+        let edges = Edges::new(alloc, kernel.tables().task_count());
         Ok(Survey {
             rows,
             tries,
             seen,
             notes: Notes::new(alloc, coverage),
+            edges,
             full: false,
             sure: true,
         })
@@ -88,6 +95,24 @@ impl Survey {
     /// How many values each field has in the states that were seen. `AllocError` if memory runs out.
     pub fn varieties(&self, alloc: Global) -> Result<Vec<Variety>, AllocError> {
         varieties(alloc, &self.seen, &self.rows.first, &self.rows.fields)
+    }
+
+    /// The events that lead to a state, with those behind which the search began. `AllocError` if memory runs out.
+    pub fn steps_to(
+        &self,
+        alloc: Global,
+        question: &Question,
+        state: u32,
+    ) -> Result<Vec<Event>, AllocError>
+        ensures { IfOk result (λ steps. steps.items ≡ path_to question.now self.now.seen.links state) }
+    {
+        let path = self.seen.path(alloc, state)?;
+        if question.after.is_empty() {
+            return Ok(path);
+        }
+        let mut steps = Vec::from_slice(alloc, &question.after)?;
+        steps.extend_from_slice(&path)?;
+        Ok(steps)
     }
 
     /// How many events lead to the state that was reached last.
@@ -112,15 +137,17 @@ impl Survey {
         requires survey { IsSurvey subject.now.image.now subject.now.n subject.now.question.now self.old }
         requires next { IsNext subject.now.image.now subject.now.n subject.now.question.now self.old.seen.links link
             kernel.now }
-        requires came { came ≡ count_by is_request (path_by self.old.seen.links link) }
+        requires came { came ≡ count_by is_request (path_by subject.now.question.now self.old.seen.links link) }
         requires sections { sections.items ≡ sections_of subject.now.image.now subject.now.n subject.now.question.now
-            (path_by self.old.seen.links link) }
+            (path_by subject.now.question.now self.old.seen.links link) }
         ensures { OnOk result (HasKept subject.now.image.now subject.now.n subject.now.question.now self.old self.new
-            (path_by self.old.seen.links link)) }
+            (path_by subject.now.question.now self.old.seen.links link)) }
     {
         subject.image.keeps_rules();
         self.rows.write(kernel, came, &sections)?;
-        match self.seen.add(alloc, &self.rows.row, link)? {
+        let entry = self.seen.add(alloc, &self.rows.row, link)?;
+        self.edges.note_entry(alloc, entry);
+        match entry {
             Entry::New(_) => {
                 self.rows.held.push(sections)?;
                 self.notes.coverage.note_state(kernel.tables());
@@ -184,27 +211,78 @@ impl Survey {
         )
     }
 
-    /// Keeps the state after setup. `AllocError` if memory runs out.
-    pub fn begin(
+    /// Keeps the first state, that of a kernel which has taken the events behind which the search begins, with its
+    /// sections. `AllocError` if memory runs out.
+    fn keep_first(
         &mut self,
         alloc: Global,
         subject: &Subject<'_>,
         kernel: &Kernel<Vm<'_>>,
+        sections: Vec<Section>,
     ) -> Result<(), AllocError>
-        requires fresh { IsFresh subject.now.image.now subject.now.question.now self.old }
-        requires kernel { kernel.now ≡ kernel_after subject.now.image.now subject.now.n [] }
-        ensures { OnOk result (IsBegun subject.now.image.now subject.now.n subject.now.question.now self.new) }
+        requires survey { IsSurvey subject.now.image.now subject.now.n subject.now.question.now self.old }
+        requires none { self.old.seen.links ≡ [] }
+        requires followed { IsFollowed subject.now.image.now subject.now.n subject.now.question.now.after.items
+            kernel.now }
+        requires few { AreFew subject.now.question.now subject.now.question.now.after.items }
+        requires sections { sections.items ≡ sections_of subject.now.image.now subject.now.n subject.now.question.now
+            subject.now.question.now.after.items }
+        ensures { OnOk result (HasKept subject.now.image.now subject.now.n subject.now.question.now self.old self.new
+            subject.now.question.now.after.items) }
     {
-        self.note_setup(alloc, subject, kernel)?;
-        let sections = sections_after(alloc, &subject.question.sections, kernel.lines())?;
-        self.rows.begin(kernel, &sections)?;
         let link = Link {
             parent: 0,
             event: Event::Tick,
             kept: false,
             depth: 0,
         };
-        self.keep(alloc, subject, kernel, 0, sections, link)
+        let came = interrupt_count(&subject.question.after);
+        self.keep(alloc, subject, kernel, came, sections, link)
+    }
+
+    /// Takes the events behind which the search begins on a kernel that was just set up, and keeps the state after
+    /// them, where the sections are these at setup. `AllocError` if memory runs out.
+    fn begin_behind(
+        &mut self,
+        alloc: Global,
+        subject: &Subject<'_>,
+        kernel: &mut Kernel<Vm<'_>>,
+        sections: Vec<Section>,
+    ) -> Result<(), AllocError>
+        requires survey { IsSurvey subject.now.image.now subject.now.n subject.now.question.now self.old }
+        requires none { self.old.seen.links ≡ [] }
+        requires kernel { kernel.old ≡ kernel_after subject.now.image.now subject.now.n [] }
+        requires sections { sections.items ≡ sections_of subject.now.image.now subject.now.n subject.now.question.now [] }
+        requires clean { self.old.sure ≡ true → IsClean subject.now.image.now subject.now.n subject.now.question.now }
+        ensures { OnOk result (IsBegun subject.now.image.now subject.now.n subject.now.question.now self.new) }
+    {
+        let question = subject.question;
+        if !question.can_begin() {
+            self.sure = false;
+            return Ok(());
+        }
+        if !follow(kernel, subject.image, subject.n, &question.after) {
+            self.sure = false;
+            return Ok(());
+        }
+        self.keep_first(alloc, subject, kernel, sections)
+    }
+
+    /// Keeps the state after the events behind which the search begins. `AllocError` if memory runs out.
+    pub fn begin(
+        &mut self,
+        alloc: Global,
+        subject: &Subject<'_>,
+        kernel: &mut Kernel<Vm<'_>>,
+    ) -> Result<(), AllocError>
+        requires fresh { IsFresh subject.now.image.now subject.now.question.now self.old }
+        requires kernel { kernel.old ≡ kernel_after subject.now.image.now subject.now.n [] }
+        ensures { OnOk result (IsBegun subject.now.image.now subject.now.n subject.now.question.now self.new) }
+    {
+        self.note_setup(alloc, subject, kernel)?;
+        let sections = sections_after(alloc, &subject.question.sections, kernel.lines())?;
+        self.rows.begin(kernel, &sections)?;
+        self.begin_behind(alloc, subject, kernel, sections)
     }
 
     /// Keeps the state of a kernel to which an attempt led, whose event kept a place or was done, with its sections.
@@ -218,7 +296,7 @@ impl Survey {
         sections: Vec<Section>,
     ) -> Result<(), AllocError>
         requires survey { IsSurvey subject.now.image.now subject.now.n subject.now.question.now self.old }
-        requires at { IsAt self.old.seen.links attempt.state attempt.steps.now }
+        requires at { IsAt subject.now.question.now self.old.seen.links attempt.state attempt.steps.now }
         requires followed { IsFollowed subject.now.image.now subject.now.n (attempt.steps.now ++ attempt.event ∷ [])
             kernel.now }
         requires few { AreFew subject.now.question.now (attempt.steps.now ++ attempt.event ∷ []) }
@@ -233,7 +311,7 @@ impl Survey {
             kernel,
             attempt.interrupts(),
             sections,
-            attempt.link(kept),
+            attempt.link(kept, subject.question.after.len()),
         )
     }
 
@@ -257,6 +335,7 @@ impl Survey {
         if let Some(site) = made {
             self.notes.coverage.note_call(site);
         }
+        self.edges.note_lines(kernel.lines());
         let found = self
             .notes
             .note_lines(alloc, subject, kernel, attempt.path(), made)?;
@@ -274,7 +353,7 @@ impl Survey {
         made: Option<Site>,
     ) -> Result<(), AllocError>
         requires survey { IsSurvey subject.now.image.now subject.now.n subject.now.question.now self.old }
-        requires at { IsAt self.old.seen.links attempt.state attempt.steps.now }
+        requires at { IsAt subject.now.question.now self.old.seen.links attempt.state attempt.steps.now }
         requires few { AreFew subject.now.question.now (attempt.steps.now ++ attempt.event ∷ []) }
         requires done { HasDone subject.now.image.now subject.now.n attempt.steps.now attempt.event kernel.now }
         ensures { OnOk result (HasDealt subject.now.image.now subject.now.n subject.now.question.now self.old self.new
@@ -331,7 +410,7 @@ impl Survey {
         body: Option<Site>,
     ) -> Result<(), AllocError>
         requires survey { IsSurvey subject.now.image.now subject.now.n subject.now.question.now self.old }
-        requires at { IsAt self.old.seen.links attempt.state attempt.steps.now }
+        requires at { IsAt subject.now.question.now self.old.seen.links attempt.state attempt.steps.now }
         requires few { AreFew subject.now.question.now (attempt.steps.now ++ attempt.event ∷ []) }
         requires kept { HasKeptPlace subject.now.image.now subject.now.n attempt.steps.now attempt.event kernel.now }
         ensures { OnOk result (HasDealt subject.now.image.now subject.now.n subject.now.question.now self.old self.new
@@ -353,7 +432,7 @@ impl Survey {
         stretch: NextStretch,
     ) -> Result<(), AllocError>
         requires survey { IsSurvey subject.now.image.now subject.now.n subject.now.question.now self.old }
-        requires at { IsAt self.old.seen.links attempt.state attempt.steps.now }
+        requires at { IsAt subject.now.question.now self.old.seen.links attempt.state attempt.steps.now }
         requires few { AreFew subject.now.question.now (attempt.steps.now ++ attempt.event ∷ []) }
         requires stepped { HasStepped subject.now.image.now subject.now.n attempt.steps.now attempt.event kernel.now
             effect }

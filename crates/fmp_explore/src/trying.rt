@@ -1,5 +1,5 @@
 //! The events that are tried in each state, and what they did there.
-ghost use Rattle.std.specs.Prelude.{◌≡◌, ◌+◌, ◌<◌, [], ◌∷◌, ◌++◌, IfOk, OnOk, count_by, is_some, length};
+ghost use Rattle.std.specs.Prelude.{◌≡◌, ◌+◌, ◌-◌, ◌<◌, [], ◌∷◌, ◌++◌, IfOk, OnOk, count_by, is_some, length};
 ghost use Rattle.fmp_base.specs.Systems.{defined_for, tables_of};
 ghost use Rattle.fmp_schedules.specs.Deadlocks.{is_interrupt as is_request};
 ghost use Rattle.fmp_explore.specs.Searching.{marked};
@@ -26,18 +26,18 @@ pub struct Attempt<'a> {
 }
 
 impl<'a> Attempt<'a> {
-    /// How the state is reached to which the event leads.
-    pub fn link(&self, kept: bool) -> Link
+    /// How the state is reached to which the event leads, where the search begins behind this many events.
+    pub fn link(&self, kept: bool, before: usize) -> Link
         requires { length self.now.steps.now < 1048575 }
         ensures parent { result.parent ≡ self.now.state }
         ensures event { result.event ≡ self.now.event }
-        ensures depth { result.depth ≡ length self.now.steps.now + 1 }
+        ensures depth { result.depth ≡ (length self.now.steps.now - before) + 1 }
     {
         Link {
             parent: self.state,
             event: self.event,
             kept,
-            depth: self.steps.len() as u32 + 1,
+            depth: self.steps.len().saturating_sub(before) as u32 + 1,
         }
     }
 

@@ -22,7 +22,7 @@ use Rattle.fmp_schedules.proofs.RuleLaws.{may_come-same, watch-blind}
 use Rattle.fmp_schedules.proofs.SectionLaws.{any-along, any_met_along, none-along}
 use Rattle.fmp_schedules.proofs.TriedLaws.{tried-closed}
 
-or-none : (a : Bool) → a ≡ (a || false)
+pub or-none : (a : Bool) → a ≡ (a || false)
 or-none true = refl
 or-none false = refl
 
@@ -30,7 +30,7 @@ or-assoc : (a b c : Bool) → ((a || b) || c) ≡ (a || (b || c))
 or-assoc true b c = refl
 or-assoc false b c = refl
 
-told-watched : (rules : Rules) (forbidden : Line → Bool) (a : Watched) (events : List (List Line))
+pub told-watched : (rules : Rules) (forbidden : Line → Bool) (a : Watched) (events : List (List Line))
     → (watched (watch rules forbidden) a events).told ≡ (a.told || is_told forbidden events)
 told-watched rules forbidden a [] = or-none a.told
 told-watched rules forbidden a (ls ∷ rest) =
@@ -47,7 +47,7 @@ met-watched rules forbidden a (ls ∷ rest) =
     ∙ or-assoc a.met (is_any_met a.sections ls) (any_met_along (sections_after a.sections ls) rest)
     ∙ ap (λ (b : Bool). a.met || b) (any-along a.sections ls rest)
 
-neither : (a b : Bool) → (a || b) ≡ false → (a ≡ false) × (b ≡ false)
+pub neither : (a b : Bool) → (a || b) ≡ false → (a ≡ false) × (b ≡ false)
 neither true b h = cc
 neither false b h = (refl, h)
 

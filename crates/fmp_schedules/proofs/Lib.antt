@@ -7,4 +7,5 @@ pub mod RuleLaws
 pub mod SectionLaws
 pub mod SectionSteps
 pub mod SilentLaws
+pub mod StuckLaws
 pub mod TriedLaws

@@ -1,7 +1,9 @@
 //! Which lists of events a search looks at, what holds along all of them, and what a search has to show for it.
 #![tactic(auto)]
 
+mod acting;
 pub mod laws;
 mod section;
 
+pub use acting::is_act;
 pub use section::{Meeting, Section};

@@ -35,7 +35,7 @@ fn puts(value: i32, call: Call) -> bool
 }
 
 /// Whether a caller is this task.
-fn is_task(t: u8, caller: Caller) -> bool
+pub fn is_task(t: u8, caller: Caller) -> bool
     ensures { result ≡ spec.is_task t caller }
 {
     match caller {
@@ -45,7 +45,7 @@ fn is_task(t: u8, caller: Caller) -> bool
 }
 
 /// Whether a call terminates this task if it is answered `E_OK`.
-fn terminates(t: u8, call: Call) -> bool
+pub fn terminates(t: u8, call: Call) -> bool
     ensures { result ≡ spec.terminates t call }
 {
     match call {
@@ -55,7 +55,7 @@ fn terminates(t: u8, call: Call) -> bool
 }
 
 /// Whether an answer is `E_OK`.
-fn is_ok(reply: Option<Reply>) -> bool
+pub fn is_ok(reply: Option<Reply>) -> bool
     ensures { result ≡ spec.is_ok reply }
 {
     match reply {

@@ -16,15 +16,15 @@ returns-in_ok-push-in-New c =
     c.args.link c.args.kernel.now c.args.came c.deref.result.now c.requires.next c.requires.came
     (c.deref.ensures.value ∙ c.requires.sections)
     c.in_ok-write.ensures.row in
-    let adds = subst (λ (row : List ℕ). Adds a.seen c.add.new.self row c.args.link c.in_ok-add.field-0)
-    c.deref-2.ensures.value c.in_ok-add.ensures.ok in
+    let adds = subst (λ (row : List ℕ). Adds a.seen c.add.new.self row c.args.link c.in_ok-entry.entry)
+    c.deref-2.ensures.value c.in_ok-entry.ensures.ok in
     keeps_new s.image.now s.n s.question.now a _
     (record { tries = refl; fields = c.write.ensures.fields; first = c.write.ensures.first }) c.requires.survey
     c.keeps_rules.ensures c.args.link c.args.kernel.now c.requires.next c.write.new.self.row.items has (λ e. e)
     c.args.sections c.requires.sections
     (c.in_ok-push-in-New.ensures.items ∙ ap (λ (vs : List (Vec Section Global)). vs ++ c.args.sections ∷ [])
     (ap (λ (v : Vec (Vec Section Global) Global). v.items) c.write.ensures.held))
-    (adds_new a.seen c.add.new.self c.write.new.self.row.items c.args.link c.in_ok-add.field-0 c.in-New.field-0
+    (adds_new a.seen c.add.new.self c.write.new.self.row.items c.args.link c.in_ok-entry.entry c.in-New.field-0
     c.in-New.is adds)
 
 pub returns-in-Known : goal.returns-in-Known
@@ -37,9 +37,9 @@ returns-in-Known c =
     c.args.link c.args.kernel.now c.args.came c.deref.result.now c.requires.next c.requires.came
     (c.deref.ensures.value ∙ c.requires.sections)
     c.in_ok-write.ensures.row in
-    let adds = subst (λ (row : List ℕ). Adds a.seen c.add.new.self row c.args.link c.in_ok-add.field-0)
-    c.deref-2.ensures.value c.in_ok-add.ensures.ok in
-    let known = adds_known a.seen c.add.new.self c.write.new.self.row.items c.args.link c.in_ok-add.field-0
+    let adds = subst (λ (row : List ℕ). Adds a.seen c.add.new.self row c.args.link c.in_ok-entry.entry)
+    c.deref-2.ensures.value c.in_ok-entry.ensures.ok in
+    let known = adds_known a.seen c.add.new.self c.write.new.self.row.items c.args.link c.in_ok-entry.entry
     c.in-Known.field-0 c.in-Known.is adds in
     keeps_known s.image.now s.n s.question.now a _
     (record { tries = refl; fields = c.write.ensures.fields; first = c.write.ensures.first }) c.requires.survey
@@ -56,10 +56,10 @@ returns-in-Full c =
     c.args.link c.args.kernel.now c.args.came c.deref.result.now c.requires.next c.requires.came
     (c.deref.ensures.value ∙ c.requires.sections)
     c.in_ok-write.ensures.row in
-    let adds = subst (λ (row : List ℕ). Adds a.seen c.add.new.self row c.args.link c.in_ok-add.field-0)
-    c.deref-2.ensures.value c.in_ok-add.ensures.ok in
+    let adds = subst (λ (row : List ℕ). Adds a.seen c.add.new.self row c.args.link c.in_ok-entry.entry)
+    c.deref-2.ensures.value c.in_ok-entry.ensures.ok in
     keeps_none s.image.now s.n s.question.now a _
     (record { tries = refl; fields = c.write.ensures.fields; first = c.write.ensures.first }) c.requires.survey
     c.keeps_rules.ensures c.args.link c.args.kernel.now c.requires.next c.write.new.self.row.items has
     (λ e. absurd (cc (e))) (ap (λ (v : Vec (Vec Section Global) Global). v.items) c.write.ensures.held)
-    (adds_none a.seen c.add.new.self c.write.new.self.row.items c.args.link c.in_ok-add.field-0 c.in-Full.is adds) refl
+    (adds_none a.seen c.add.new.self c.write.new.self.row.items c.args.link c.in_ok-entry.entry c.in-Full.is adds) refl

@@ -17,7 +17,7 @@ keep_next-requires-clause-survey c =
 
 pub keep_next-requires-clause-at : goal.keep_next-requires-clause-at
 keep_next-requires-clause-at c =
-    stays_at c.args.self.now c.note_lines.new.self c.args.attempt.state c.args.attempt.steps.now
+    stays_at c.args.subject.now.question.now c.args.self.now c.note_lines.new.self c.args.attempt.state c.args.attempt.steps.now
     c.in_ok-note_lines.ensures.stays c.requires.at
 
 pub keep_next-requires-clause-followed : goal.keep_next-requires-clause-followed

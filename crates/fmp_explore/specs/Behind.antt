@@ -1,0 +1,39 @@
+-- Searches that begin behind events.
+use Rattle.std.specs.Prelude.{ℕ, ◌≡◌, ◌<◌, ◌⊎◌, List, [], ◌∷◌, false, count_by}
+use Rattle.fmp_base.specs.declared.events.Event.{Event}
+use Rattle.fmp_base.specs.Runs.{run}
+use Rattle.fmp_explore.specs.declared.question.Never.TheVariants as kind
+use Rattle.fmp_explore.specs.declared.question.Question.{Question}
+use Rattle.fmp_explore.specs.Forbidden.{forbids}
+use Rattle.fmp_explore.specs.Rules.{rules_of}
+use Rattle.fmp_image_bytes.specs.Images.{ImageTables}
+use Rattle.fmp_instructions.specs.Machine.{code_meaning}
+use Rattle.fmp_schedules.specs.Deadlocks.{is_interrupt}
+use Rattle.fmp_schedules.specs.Schedules.{is_told, reached}
+use Rattle.fmp_schedules.specs.Stuck.{MayFollow, acts}
+
+-- a search can begin behind the events of a question: at setup, or where it asks about no section
+pub record CanBegin (q : Question) : Type 0 where
+  pub few : count_by is_interrupt q.after.items < 256
+  pub alone : (q.after.items ≡ []) ⊎ (q.sections.items ≡ [])
+
+-- whatever events follow those behind which a search begins, as the rules let them come, no forbidden line is told
+abbrev pub NoneFollows : ImageTables → (n : ℕ) → Question → Type 0
+NoneFollows i n q =
+    (more : List Event) → MayFollow (rules_of q) i.system (code_meaning i.code) n q.after.items more →
+    is_told (forbids q.nevers.items)
+    (run i.system (code_meaning i.code) n (reached i.system (code_meaning i.code) n q.after.items) more).events ≡ false
+
+-- whatever events follow these, as the rules of a question let them come, the task does not act
+abbrev pub NeverActs : ImageTables → (n : ℕ) → Question → List Event → (t : ℕ) → Type 0
+NeverActs i n q es t =
+    (more : List Event) → MayFollow (rules_of q) i.system (code_meaning i.code) n es more →
+    is_told (acts t)
+    (run i.system (code_meaning i.code) n (reached i.system (code_meaning i.code) n es) more).events ≡ false
+
+-- a question asks whether task t acts behind these events, by the rules of another one
+pub record IsAbout (q : Question) (es : List Event) (t : ℕ) (about : Question) : Type 0 where
+  pub nevers : about.nevers.items ≡ kind.Acts t ∷ []
+  pub ticks : about.ticks ≡ q.ticks
+  pub interrupts : about.interrupts ≡ q.interrupts
+  pub after : about.after.items ≡ es

@@ -1,0 +1,311 @@
+//! The events between the states of a search, and who acted by them. They tell where to look for a task that can never go
+//! on: nothing is claimed of them.
+use fmp_base::{Call, Caller, Er, Line, Reply};
+use fmp_seen::Entry;
+use std::alloc::{AllocError, Global};
+
+/// The events that did something in the states that were examined.
+#[derive(Drop)]
+pub struct Edges {
+    /// The states to which the events led, in the order in which they were tried.
+    targets: Vec<u32>,
+    /// For each state that was examined, where its events begin among those.
+    firsts: Vec<u32>,
+    /// For each of them, a bit for each task: whether it acts by one of the events.
+    acting: Vec<u8>,
+    /// How many bytes the bits of a state take.
+    width: usize,
+    /// Whether some are missing, since memory ran out.
+    lost: bool,
+}
+
+/// For each state, those from which an event leads to it.
+#[derive(Drop)]
+pub struct Sources {
+    /// Where those of each state begin, and at the end how many there are in all.
+    firsts: Vec<u32>,
+    states: Vec<u32>,
+}
+
+/// The elements of a list from one place up to another, which is left out; none if there are no such places.
+fn between(list: &[u32], first: u32, end: u32) -> &[u32] {
+    let first = first as usize;
+    let end = end as usize;
+    if first <= end && end <= list.len() {
+        &list[first..end]
+    } else {
+        &[]
+    }
+}
+
+/// A place below 2^32 as a number of 32 bits; of a greater one its last 32 bits.
+fn low_word(place: usize) -> u32 {
+    (place % 4_294_967_296) as u32
+}
+
+/// The number at a place; 0 if there is none.
+fn at(list: &[u32], place: usize) -> u32 {
+    match list.get(place) {
+        Some(number) => *number,
+        None => 0,
+    }
+}
+
+/// The task that a call terminates, which is answered so.
+fn terminated(call: Call, reply: Option<Reply>) -> Option<u8> {
+    match (call, reply) {
+        (Call::TerTsk { task }, Some(Reply { code: Er::Ok, .. })) if task >= 1 && task <= 255 => {
+            Some((task - 1) as u8)
+        }
+        _ => None,
+    }
+}
+
+impl Edges {
+    /// No state was examined, in a system of this many tasks.
+    pub fn new(alloc: Global, tasks: usize) -> Edges {
+        Edges {
+            targets: Vec::new(alloc),
+            firsts: Vec::new(alloc),
+            acting: Vec::new(alloc),
+            width: tasks / 8 + 1,
+            lost: false,
+        }
+    }
+
+    /// How many states were examined, if none of their events is missing.
+    pub fn len(&self) -> usize {
+        if self.lost { 0 } else { self.firsts.len() }
+    }
+
+    /// Forgets all: nothing more is noted.
+    pub fn lose(&mut self, alloc: Global) {
+        self.lost = true;
+        self.targets = Vec::new(alloc);
+        self.firsts = Vec::new(alloc);
+        self.acting = Vec::new(alloc);
+    }
+
+    /// Adds a state with no event.
+    fn push_state(&mut self) -> Result<(), AllocError> {
+        let Ok(first) = u32::try_from(self.targets.len()) else {
+            return Err(AllocError);
+        };
+        self.firsts.push(first)?;
+        for _byte in 0..self.width {
+            self.acting.push(0)?;
+        }
+        Ok(())
+    }
+
+    /// The next state is examined.
+    pub fn begin_state(&mut self, alloc: Global) {
+        if self.lost {
+            return;
+        }
+        if self.push_state().is_err() {
+            self.lose(alloc);
+        }
+    }
+
+    /// An event leads from the state that is examined to this one.
+    fn note_target(&mut self, alloc: Global, state: u32) {
+        if self.lost {
+            return;
+        }
+        if self.targets.push(state).is_err() {
+            self.lose(alloc);
+        }
+    }
+
+    /// An event leads from the state that is examined to one whose row was looked up so.
+    pub fn note_entry(&mut self, alloc: Global, entry: Entry) {
+        match entry {
+            Entry::New(state) | Entry::Known(state) => self.note_target(alloc, state),
+            Entry::Full => {}
+        }
+    }
+
+    /// A task acts by an event of the state that is examined.
+    fn note_act(&mut self, t: u8) {
+        let start = self.acting.len().saturating_sub(self.width);
+        let place = start.saturating_add(usize::from(t / 8));
+        if let Some(bits) = self.acting.get_mut(place) {
+            *bits |= 1 << (t % 8);
+        }
+    }
+
+    /// A line is told by an event of the state that is examined.
+    fn note_line(&mut self, line: &Line) {
+        match line {
+            Line::Call {
+                caller,
+                call,
+                reply,
+                ..
+            } => {
+                if let Caller::Task(t) = caller {
+                    self.note_act(*t);
+                }
+                if let Some(t) = terminated(*call, *reply) {
+                    self.note_act(t);
+                }
+            }
+            Line::End {
+                caller: Caller::Task(t),
+                ..
+            }
+            | Line::Fault {
+                caller: Caller::Task(t),
+                ..
+            }
+            | Line::Gets { task: t, .. } => self.note_act(*t),
+            _ => {}
+        }
+    }
+
+    /// These lines are told by an event of the state that is examined.
+    pub fn note_lines(&mut self, lines: &[Line]) {
+        for line in lines {
+            self.note_line(line);
+        }
+    }
+
+    /// The state that is examined is a deadlock: no task is told to be stuck from which it can be reached.
+    pub fn note_deadlock(&mut self) {
+        let start = self.acting.len().saturating_sub(self.width);
+        for place in start..self.acting.len() {
+            if let Some(bits) = self.acting.get_mut(place) {
+                *bits = 255;
+            }
+        }
+    }
+
+    /// Whether a task acts by an event of a state, or the state is a deadlock.
+    fn acts(&self, state: usize, t: u8) -> bool {
+        let place = state
+            .saturating_mul(self.width)
+            .saturating_add(usize::from(t / 8));
+        match self.acting.get(place) {
+            Some(bits) => bits >> (t % 8) & 1 == 1,
+            None => true,
+        }
+    }
+
+    /// The states to which the events of a state lead.
+    fn targets_of(&self, state: usize) -> &[u32] {
+        let first = at(&self.firsts, state);
+        let end = match self.firsts.get(state.saturating_add(1)) {
+            Some(end) => *end,
+            None => low_word(self.targets.len()),
+        };
+        between(&self.targets, first, end)
+    }
+}
+
+/// Counts the events that lead to each state, of those of one state.
+fn count_targets(counts: &mut [u32], targets: &[u32]) {
+    for target in targets {
+        if let Some(count) = counts.get_mut(*target as usize) {
+            *count = count.wrapping_add(1);
+        }
+    }
+}
+
+/// How many events lead to each of the states, and one number more. `AllocError` if memory runs out.
+fn counts_of(alloc: Global, edges: &Edges) -> Result<Vec<u32>, AllocError> {
+    let mut counts = vec![in alloc; 0_u32; edges.len().saturating_add(1)]?;
+    for state in 0..edges.len() {
+        count_targets(&mut counts, edges.targets_of(state));
+    }
+    Ok(counts)
+}
+
+/// Puts the sum of the numbers up to each place there.
+fn add_up(numbers: &mut [u32]) {
+    let mut sum: u32 = 0;
+    for place in 0..numbers.len() {
+        if let Some(number) = numbers.get_mut(place) {
+            sum = sum.wrapping_add(*number);
+            *number = sum;
+        }
+    }
+}
+
+/// Puts a state in front of the sources of each state to which one of its events leads.
+fn put_source(ends: &mut [u32], states: &mut [u32], state: u32, targets: &[u32]) {
+    for target in targets {
+        if let Some(end) = ends.get_mut(*target as usize) {
+            *end = end.wrapping_sub(1);
+            if let Some(source) = states.get_mut(*end as usize) {
+                *source = state;
+            }
+        }
+    }
+}
+
+impl Sources {
+    /// The sources of events. `AllocError` if memory runs out.
+    pub fn new(alloc: Global, edges: &Edges) -> Result<Sources, AllocError> {
+        let mut firsts = counts_of(alloc, edges)?;
+        add_up(&mut firsts);
+        let mut states = vec![in alloc; 0_u32; edges.targets.len()]?;
+        for state in 0..edges.len() {
+            put_source(
+                &mut firsts,
+                &mut states,
+                low_word(state),
+                edges.targets_of(state),
+            );
+        }
+        Ok(Sources { firsts, states })
+    }
+
+    /// The states from which an event leads to this one.
+    fn of(&self, state: u32) -> &[u32] {
+        let place = state as usize;
+        between(
+            &self.states,
+            at(&self.firsts, place),
+            at(&self.firsts, place.saturating_add(1)),
+        )
+    }
+}
+
+/// Marks a state, which is new if it had no mark. `AllocError` if memory runs out.
+fn mark(marked: &mut [bool], open: &mut Vec<u32>, state: u32) -> Result<(), AllocError> {
+    if let Some(mark) = marked.get_mut(state as usize)
+        && !*mark
+    {
+        *mark = true;
+        open.push(state)?;
+    }
+    Ok(())
+}
+
+/// For each state, whether one can be reached from it in which this task acts, or which is a deadlock. `AllocError` if
+/// memory runs out.
+pub fn goes_on_from(
+    alloc: Global,
+    edges: &Edges,
+    sources: &Sources,
+    t: u8,
+) -> Result<Vec<bool>, AllocError> {
+    let count = edges.len();
+    let mut marked = vec![in alloc; false; count]?;
+    let mut open = Vec::new(alloc);
+    for state in 0..count {
+        if edges.acts(state, t) {
+            mark(&mut marked, &mut open, low_word(state))?;
+        }
+    }
+    for _state in 0..count {
+        let Some(state) = open.pop() else {
+            return Ok(marked);
+        };
+        for source in sources.of(state) {
+            mark(&mut marked, &mut open, *source)?;
+        }
+    }
+    Ok(marked)
+}

@@ -1,0 +1,97 @@
+-- A closed set in whose worlds no forbidden line was told shows that none is told behind events that lead to it.
+use Rattle.std.proofs.Common.{◌≡◌, ◌+◌, ℕ, List, [], ◌∷◌, Option, Some, None, Bool, false, ◌||◌, nat_lt, not, refl, sym, ◌∙◌, ap, ap₂, count_by}
+use Rattle.std.specs.List.{list_any}
+use Rattle.fmp_base.specs.declared.events.Event.{Event}
+use Rattle.fmp_base.specs.declared.events.Event.TheVariants as event
+use Rattle.fmp_base.specs.declared.events.Line.{Line}
+use Rattle.fmp_base.specs.Meanings.{Meaning, World}
+use Rattle.fmp_base.specs.Runs.{run}
+use Rattle.fmp_base.specs.Steps.{Reaction, Nothing, Did, Kept, step}
+use Rattle.fmp_base.specs.Systems.{SystemTables}
+use Rattle.fmp_alike.specs.Alike.{Alike}
+use Rattle.fmp_alike.specs.Closed.{AreAllowed, IsClosed, IsCovered, NoneIsBad, allowed_after, watched}
+use Rattle.fmp_alike.proofs.ClosedLaws.{run-covers}
+use Rattle.fmp_alike.proofs.StepLaws.{step-same}
+use Rattle.fmp_alike.proofs.WorldLaws.{worlds-chained}
+use Rattle.fmp_schedules.specs.Deadlocks.{is_interrupt}
+use Rattle.fmp_schedules.specs.Schedules.{Rules, Watched, came_after, is_request, is_told, may_come, may_still, none_runs, reached, watch, watched_on}
+use Rattle.fmp_schedules.specs.Stuck.{MayFollow}
+use Rattle.fmp_schedules.specs.Tried.{IsTimeless}
+use Rattle.fmp_schedules.proofs.HoldLaws.{neither, told-watched}
+use Rattle.fmp_schedules.proofs.RuleLaws.{may_come-same, watch-blind}
+
+-- as many interrupts came, where their number is limited
+abbrev pub SameCame : Option ℕ → (came other : ℕ) → Type 0
+SameCame None came other = Unit {0}
+SameCame (Some most) came other = came ≡ other
+
+still-too : (most : Option ℕ) (came other : ℕ) → SameCame most came other → may_still most came ≡ may_still most other
+still-too None came other same = refl
+still-too (Some most) came other same = ap (λ (k : ℕ). nat_lt k most) same
+
+came-too : (most : Option ℕ) (came other : ℕ) (ls : List Line) → SameCame most came other
+    → SameCame most (came_after most came ls) (came_after most other ls)
+came-too None came other ls same = tt
+came-too (Some most) came other ls same = ap (λ (k : ℕ). k + count_by is_request ls) same
+
+module _ {C : Type 0} (rules : Rules) (sys : SystemTables) (M : Meaning C) (n : ℕ) where
+  may_come-too : (w : World C) (a b : Watched) (e : Event) → SameCame rules.most a.came b.came
+      → may_come rules sys M n w a e ≡ may_come rules sys M n w b e
+  may_come-too w a b (event.Run p) same = refl
+  may_come-too w a b event.Tick same = refl
+  may_come-too w a b (event.Int i) same = still-too rules.most a.came b.came same
+
+  module _ (f g : Line → Bool) where
+    abbrev Allowed : (Line → Bool) → World C → Watched → List Event → Type 0
+    Allowed forbidden w a es = AreAllowed (watch rules forbidden) (may_come rules sys M n) (step sys M n) w a es
+
+    allowed-after : (w : World C) (a b : Watched) (es : List Event) (x : Reaction C)
+        → ((v : World C) (c d : Watched) → SameCame rules.most c.came d.came → Allowed f v c es → Allowed g v d es)
+        → SameCame rules.most a.came b.came → allowed_after (watch rules f) w a x (λ v c. Allowed f v c es)
+        → allowed_after (watch rules g) w b x (λ v c. Allowed g v c es)
+    allowed-after w a b es Nothing more same h = more w a b same h
+    allowed-after w a b es (Did d) more same h =
+        more d.world (watched_on rules f a d.lines) (watched_on rules g b d.lines)
+        (came-too rules.most a.came b.came d.lines same) h
+    allowed-after w a b es (Kept p v) more same h = more v a b same h
+
+    -- the same events may come, whatever lines are forbidden
+    pub allowed-too : (w : World C) (a b : Watched) (es : List Event) → SameCame rules.most a.came b.came
+        → Allowed f w a es → Allowed g w b es
+    allowed-too w a b [] same h = tt
+    allowed-too w a b (e ∷ es) same (now, later) = (
+      sym (may_come-too w a b e same) ∙ now,
+      allowed-after w a b es (step sys M n w e) (λ v c d s h. allowed-too v c d es s h) same later,
+    )
+
+module _ {C : Type 0} (rules : Rules) (sys : SystemTables) (M : Meaning C) (n : ℕ) (forbidden : Line → Bool)
+    (K : World C → Watched → Type 0) (even : IsTimeless forbidden)
+    (closed : IsClosed (Alike sys) (watch rules forbidden) (may_come rules sys M n) (step sys M n) K)
+    (clean : NoneIsBad (watch rules forbidden) K) where
+  -- behind events whose world is like one of the set, no forbidden line is told
+  pub none-behind : (es more : List Event) (a : Watched) → a.told ≡ false
+      → SameCame rules.most (count_by is_interrupt es) a.came → IsCovered (Alike sys) K (reached sys M n es) a
+      → MayFollow rules sys M n es more → is_told forbidden (run sys M n (reached sys M n es) more).events ≡ false
+  none-behind es more a untold same first follow =
+      let w : World C = reached sys M n es in
+      let events : List (List Line) = (run sys M n (reached sys M n es) more).events in
+      let b : Watched = watched (watch rules forbidden) a (run sys M n (reached sys M n es) more).events in
+      let k = run-covers (Alike sys) (watch rules forbidden) (worlds-chained sys) (watch-blind forbidden even rules) K
+      (may_come rules sys M n) (may_come-same sys M n rules) sys M n (step-same sys M n) closed
+      (reached sys M n es) a more
+      (allowed-too rules sys M n (λ (l : Line). false) forbidden (reached sys M n es)
+      (record { came = count_by is_interrupt es; told = false; sections = []; met = false }) a more same follow)
+      first in
+      ap (λ (told : Bool). told || is_told forbidden (run sys M n (reached sys M n es) more).events) (sym untold)
+      ∙ sym (told-watched rules forbidden a (run sys M n (reached sys M n es) more).events)
+      ∙ (neither b.told b.met (clean k.world b k.kept)).0
+
+-- what is told of lines that are the same
+any-too : (f g : Line → Bool) → ((l : Line) → f l ≡ g l) → (ls : List Line) → list_any f ls ≡ list_any g ls
+any-too f g same [] = refl
+any-too f g same (l ∷ ls) = ap₂ (λ (a b : Bool). a || b) (same l) (any-too f g same ls)
+
+pub told-too : (f g : Line → Bool) → ((l : Line) → f l ≡ g l) → (events : List (List Line))
+    → is_told f events ≡ is_told g events
+told-too f g same [] = refl
+told-too f g same (ls ∷ events) = ap₂ (λ (a b : Bool). a || b) (any-too f g same ls) (told-too f g same events)

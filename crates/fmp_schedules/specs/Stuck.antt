@@ -1,0 +1,38 @@
+-- Tasks that can never go on.
+use Rattle.std.specs.Prelude.{ℕ, ◌≡◌, ◌≢◌, List, [], Bool, false, count_by, nat_eq, ◌&&◌, ◌||◌}
+use Rattle.fmp_base.specs.declared.events.Event.{Event}
+use Rattle.fmp_base.specs.declared.events.Line.{Line}
+use Rattle.fmp_base.specs.declared.events.Line.TheVariants as line
+use Rattle.fmp_base.specs.declared.states.Phase.TheVariants.{Dormant}
+use Rattle.fmp_base.specs.Meanings.{Meaning}
+use Rattle.fmp_base.specs.Runs.{run}
+use Rattle.fmp_base.specs.States.{task_at}
+use Rattle.fmp_base.specs.Steps.{step}
+use Rattle.fmp_base.specs.Systems.{SystemTables}
+use Rattle.fmp_alike.specs.Closed.{AreAllowed}
+use Rattle.fmp_schedules.specs.Deadlocks.{is_interrupt}
+use Rattle.fmp_schedules.specs.Schedules.{Rules, is_told, may_come, reached, watch}
+use Rattle.fmp_schedules.specs.Sections.{is_ok, is_task, terminates}
+
+-- an act of task t: a call of its own, the end of its wait, its end, a fault of its body; or it is terminated
+abbrev pub acts : (t : ℕ) → Line → Bool
+acts t (line.Call p who made reply) = is_task t who || terminates t made && is_ok reply
+acts t (line.Gets p u reply) = nat_eq u t
+acts t (line.End p who) = is_task t who
+acts t (line.Fault p who fault) = is_task t who
+acts t _ = false
+
+-- after these events, each of which did something, more may come one after the other, as the rules let them
+abbrev pub MayFollow : {C : Type 0} → Rules → SystemTables → Meaning C → (n : ℕ) → (es more : List Event) → Type 0
+MayFollow rules sys M n es more =
+    AreAllowed (watch rules (λ l. false)) (may_come rules sys M n) (step sys M n) (reached sys M n es)
+    (record { came = count_by is_interrupt es; told = false; sections = []; met = false }) more
+
+-- Task t never goes on after these events, each of which did something: it is started, and whatever events follow, as
+-- the rules let them come, however many, none of them tells an act of the task.
+pub record NeverGoesOn {C : Type 0} (rules : Rules) (sys : SystemTables) (M : Meaning C) (n : ℕ) (es : List Event)
+    (t : ℕ) : Type 0 where
+  pub started : (task_at (reached sys M n es).state.tasks t).phase ≢ Dormant
+  pub never :
+      (more : List Event) → MayFollow rules sys M n es more →
+      is_told (acts t) (run sys M n (reached sys M n es) more).events ≡ false
