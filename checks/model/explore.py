@@ -7,8 +7,9 @@ Both find something or nothing. Where they find something, their shortest lists 
 program's list does something in the model, and after the last one the model shows what was found; where they find
 nothing, they have seen as many states and as many events that did something. Of three systems one has sections: tasks
 put the values by which they enter and leave them. In one some tasks may wait forever, so that fewer deadlocks are found
-first; of these some ask for few interrupts or for ticks where nobody can do anything. Every other system runs at a
-small bound. COUNT is the number of systems that were compared: systems with more than MOST states are left out.
+first and more tasks that can never go on; of these some ask for few interrupts or for ticks where nobody can do
+anything. Every other system runs at a small bound. COUNT is the number of systems that were compared: systems with more
+than MOST states are left out.
 """
 
 import random
@@ -25,7 +26,7 @@ sys.path[0] = str(Path(__file__).resolve().parents[1])  # the folder `checks`, w
 from model.bodies import Call, Statement  # noqa: E402
 from model.harness import SECONDS, expect, main, replayed  # noqa: E402
 from model.schedules import (  # noqa: E402
-    Question, Search, goes_on_for_ever, inside_after, is_deadlock, tells,
+    Question, Search, goes_on_for_ever, inside_after, is_deadlock, state_key, tells,
 )
 from model.systems import Generator  # noqa: E402
 
@@ -35,6 +36,7 @@ NEVERS = ("E_QOVR", "E_ILUSE")
 FAULTS = ("F_OVF", "F_DIV", "F_IDX")
 SECTIONS = ((101, 102), (103, 104), (101, 104))  # the values by which tasks enter and leave
 KINDS = ("plain", "sections", "rest")
+NEVER_GOES_ON = r"T(\d+) .*, and can never go on though others run"
 
 
 def with_puts(body, section, chosen):
@@ -101,6 +103,14 @@ def shows_together(kernel, what):
     expect(inside_after([line], (section,), inside)[1], f"'{line}' enters no section")
 
 
+def shows_stuck(second, kernel, came, number):
+    """The task is started, and no events that may come let it go on, by the second search."""
+    inside, _ = inside_after(kernel.world.lines, second.question.sections, second.first[1])
+    is_counted = second.question.interrupts is not None
+    key = state_key(kernel), inside, came if is_counted else 0
+    expect(key in second.never_going_on(number), f"T{number} can go on in the model")
+
+
 def shows(trial, case, bound, second, what):
     """Each event of the steps text that was found does something in the model, and after them this is seen: its
     kind."""
@@ -110,6 +120,9 @@ def shows(trial, case, bound, second, what):
     if endless := re.search(r"processor (\d) goes on for ever", what):
         expect(goes_on_for_ever(kernel, f"run {endless[1]}"), f"no actor goes on for ever, as in '{what}'")
         return "a body that goes on for ever"
+    if stuck := re.search(NEVER_GOES_ON, what):
+        shows_stuck(second, kernel, came, int(stuck[1]))
+        return "a task that can never go on"
     if "deadlock" in what:
         expect(is_deadlock(kernel, second.question, came), "there is no deadlock in the model")
         return "a deadlock"

@@ -180,6 +180,14 @@ def inside_after(lines, sections, inside):
     return inside, met
 
 
+def actors_of(lines):
+    """The numbers of the tasks of whose going on these lines tell: a call, the end of a wait, an end or a fault of
+    theirs; or that they are terminated."""
+    told = [found.groups() for line in lines if (found := OF_TASK.match(line))]
+    terminated = [found[1] for _, text in told if (found := re.fullmatch(r"ter_tsk\((\d+)\) E_OK", text))]
+    return {int(number) for number, text in told if text != "starts"} | {int(number) for number in terminated}
+
+
 def is_stuck(world, rest):
     """Whether no time runs, and a task that may not wait forever is started."""
     return (
@@ -214,13 +222,15 @@ def is_deadlock(kernel, question, came):
 class Search:
     """A search under way. The keys of the states that were seen, in the order in which they were, have the key before
     them, the event between, and the depth. The key of a state has who is in each section, and how many interrupts came
-    where that is limited."""
+    where that is limited. An edge has the key before an event that did something, the one after it, and the tasks that
+    went on by it."""
 
     def __init__(self, system, bound, question, most):
         self.start, self.question, self.most = Kernel(system, bound), question, most
         self.tries = tries_of(system)
         self.first = state_key(self.start), len(question.sections) * (None,), 0
         self.seen = {self.first: (None, None, 0)}
+        self.edges = []
         self.queue = deque([(self.start, self.first)])
         self.result = Searched()
 
@@ -246,6 +256,7 @@ class Search:
         if reached not in self.seen:
             self.seen[reached] = key, event, self.seen[key][2] + 1
             self.queue.append((kernel, reached))
+        self.edges.append((key, reached, actors_of(lines)))
 
     def examine(self, kernel, key):
         done = set()
@@ -263,6 +274,26 @@ class Search:
             else:
                 self.result.found.append(("deadlock", self.path(key)))
 
+    def never_going_on(self, number):
+        """The keys of the states, in order, in which a task is started and from which no events let it go on: what is
+        left where those are taken away from which an event lets it, or leads to one that was taken away."""
+        before = {}
+        for key, reached, _ in self.edges:
+            before.setdefault(reached, set()).add(key)
+        taken = {key for key, _, actors in self.edges if number in actors}
+        left = deque(taken)
+        while left:
+            new = before.get(left.popleft(), set()) - taken
+            taken |= new
+            left += new
+        return [key for key in self.seen if key not in taken and key[0][0][number - 1][0] is not State.DORMANT]
+
+    def note_stuck(self):
+        """Where nothing was found: each task that can never go on from some state."""
+        for task in self.start.system.tasks:
+            if task.number not in self.question.rest and (keys := self.never_going_on(task.number)):
+                self.result.found.append((f"{task.name} can never go on", self.path(keys[0])))
+
     def run(self):
         """Examines the states in order, up to the first finding."""
         result = self.result
@@ -273,6 +304,8 @@ class Search:
                 result.is_whole = False
                 break
             self.examine(kernel, key)
+        if result.is_whole and not result.found:
+            self.note_stuck()
         result.states = len(self.seen)
         result.deep = max(depth for _, _, depth in self.seen.values())
         result.found.sort(key=lambda finding: len(finding[1]))

@@ -660,6 +660,26 @@ shows 'explore: no call' 4 explore stuck.cfg stuck.src
 echo 'run 1' > wanted
 gives 'explore: steps to no call' cat stuck.found.1
 
+# B takes what it waits for first, once and for all, and goes on. A waits and can never go on, unless it may.
+echo 'NUM_PRC(2); CLASS(TCL_1) { CRE_TSK(A, { TA_ACT, 0, a, 10, 256, NULL }); CRE_SEM(S, { 0, 1, 1 }); }
+CLASS(TCL_2) { CRE_TSK(B, { TA_ACT, 0, b, 10, 256, NULL }); }' > taken.cfg
+printf 'task a {\n    put(1);\n    wai_sem(S);\n    sig_sem(S);\n}\n' > taken.src
+echo 'task b { wai_sem(S); while (1) { put(2); } }' >> taken.src
+cat > wanted <<'END'
+taken.src:3: A waits for semaphore S, and can never go on though others run: after 3 steps, in taken.found.1
+16 states, 42 events, 6 deep
+greatest counts: S 1
+END
+shows 'explore: a task that can never go on' 4 explore taken.cfg taken.src
+printf 'run 1\nrun 2\nrun 1\n' > wanted
+gives 'explore: steps to where it waits for good' cat taken.found.1
+cat > wanted <<'END'
+no deadlock, no fault: over all lists of events
+16 states, 42 events, 6 deep
+greatest counts: S 1
+END
+shows 'explore: a task that may wait' 0 explore taken.cfg taken.src --rest A
+
 # A task counts: the search stops, and names the counter.
 echo 'task a { var times; while (1) { times = times + 1; put(7); } }' > count.src
 cat > wanted <<'END'

@@ -5,10 +5,12 @@
 
 The systems are those of the folder `systems`, of which each has a comment that tells what a builder did wrong, and the
 examples. What is found, at which line and after how many steps, is in the rows below. Each steps text that was written
-is replayed by `fmp sim`: its last event tells what was found; or, after a deadlock, no processor does anything more.
+is replayed by `fmp sim`: its last event tells what was found; or, after a deadlock, no processor does anything more;
+or, where a task can never go on, random further events tell nothing of it.
 """
 
 import argparse
+import random
 import re
 import shutil
 import subprocess
@@ -23,6 +25,7 @@ sys.path[0] = str(Path(__file__).resolve().parents[1])  # the folder `checks`, w
 from common.program import ROOT, located  # noqa: E402
 from common.tally import Tally  # noqa: E402
 
+FURTHER = 300  # events after those of a task that can never go on
 FOLDERS = (ROOT / "checks/schedules/systems", ROOT / "examples")
 SECONDS = 120
 
@@ -61,6 +64,15 @@ class Endless:
     steps: int
     processor: int
     place: int
+
+
+@dataclass(frozen=True)
+class Stuck:
+    """A task that can never go on though others run: where its call stands, and what is said of it."""
+
+    steps: int
+    place: int
+    told: str
 
 
 @dataclass(frozen=True)
@@ -136,13 +148,33 @@ ROWS = [
     ("rwlock", never("put(99)"), Nothing((64_777, 171_799, 82))),
     ("prodcons", never("put(99)"), Nothing((183_811, 494_147, 71))),
     ("spins", (), Nothing(unmade=(10, 11, 12, 13, 22, 23, 24, 25))),
-    ("spinsem", (), Nothing(unmade=(21, 22, 23, 24, 27))),
+    # RIGHT polls for ever under the lock, which is refused. LEFT waits for nobody before it spins, so IDLE1 never runs.
+    ("spinsem", (), Stuck(0, 27, "IDLE1 is ready")),
+    ("spinsem", ("--rest", "IDLE1"), Stuck(1, 6, "LEFT spins for spin lock A")),
+    ("spinsem", ("--rest", "IDLE1", "--rest", "LEFT"), Nothing(unmade=(21, 22, 23, 24, 27))),
     ("flood", never("E_QOVR"), Line(11, (), "E_QOVR")),
     ("flood", never("E_TMOUT"), Line(14, (), "E_TMOUT")),
     ("invert", never("E_TMOUT"), Line(14, (), "gets E_TMOUT")),
     ("invert", never("put(99)"), Line(17, (), "put(99) E_OK")),
     ("invert", never("put(99)", "--ticks", "idle"), Nothing()),
     ("watchcyc", never("put(99)"), Line(14, (), "put(99) E_OK")),
+    # Tasks that can never go on, though others run.
+    ("unheard", (), Stuck(3, 4, "SLEEPER waits for a wakeup")),
+    ("once", (), Stuck(2, 3, "B waits for semaphore DONE")),
+    ("once", ("--rest", "B"), Nothing()),
+    ("polls", (), Stuck(2, 13, "GUEST spins for spin lock LOCK")),
+    ("polls", ("--bound", "1"), Stuck(4, 13, "GUEST spins for spin lock LOCK")),
+    ("freed", (), Nothing((22, 70, 6))),
+    ("killed", (), Nothing((5, 10, 4))),
+    ("afar", (), Stuck(1, 3, "WAITER waits for semaphore NEVER")),
+    ("woken", (), Nothing()),
+    ("woken", ("--ints", "1"), Stuck(6, 8, "READER waits for any bit of 1 of eventflag CAME")),
+    ("desk", (), Stuck(4, 5, "SERVER waits for a word of data queue DESK")),
+    ("desk", ("--bound", "1"), Stuck(14, 5, "SERVER waits for a word of data queue DESK")),
+    ("desk", ("--rest", "SERVER"), Nothing((10, 27, 5))),
+    ("parked", (), Stuck(1, 4, "WORKER is suspended")),
+    ("timed", (), Nothing((10, 24, 5))),
+    ("timed", ("--ticks", "idle"), Stuck(1, 3, "TIMER waits for the end of a delay, until tick 2")),
     # Stretches that are cut at the bound, and bodies that go on for ever.
     ("twopushes", ("--bound", "2"), Nothing((5, 9, 4))),
     ("twopushes", ("--bound", "1"), Nothing((8, 15, 7))),
@@ -203,6 +235,13 @@ class Search:
     def processors(self):
         return int(re.search(r"NUM_PRC\((\d)\)", (self.folder / f"{self.name}.cfg").read_text())[1])
 
+    def events(self):
+        """Events that may come at any time: runs, and ticks and interrupts where the options leave none out."""
+        configuration = (self.folder / f"{self.name}.cfg").read_text()
+        ticks = () if "--ticks" in self.options else ("tick",)
+        ints = () if "--ints" in self.options else (f"int {n}" for n in re.findall(r"DEF_INH\((\d+)", configuration))
+        return [*(f"run {p + 1}" for p in range(self.processors())), *ticks, *ints]
+
     def matched(self, pattern, text, row):
         """What the first line says, if that is found after as many steps."""
         found = re.match(rf"{pattern}: after {row.steps} steps?, in found\.1$", text.splitlines()[0])
@@ -247,6 +286,19 @@ def shows_endless(search, text, row):
     return search.replayed(steps + 100 * [f"run {processor}"]) == search.replayed(steps)
 
 
+def shows_stuck(search, text, row):
+    """Whether this task is found, and does nothing in many further events of those that may come."""
+    pattern = rf"{search.name}\.src:{row.place}: (.*), and can never go on though others run"
+    found = search.matched(pattern, text, row)
+    if not found or found[1] != row.told:
+        return False
+    events = search.events()
+    further = random.Random(row.told).choices(events, k=FURTHER)
+    steps, task = search.steps(), row.told.split()[0]
+    told = search.replayed(steps + further)[len(search.replayed(steps)) :]
+    return len(told) > 0 and not any(re.match(rf"\d+ p\d {task} ", line) for line in told)
+
+
 def claim_of(options):
     """The first line where something holds, by what was asked."""
     words = list(zip(options, (*options[1:], "")))
@@ -289,6 +341,8 @@ def is_shown(search, answer, row):
             return status == 4 and shows_deadlock(search, text, row)
         case Endless():
             return status == 4 and shows_endless(search, text, row)
+        case Stuck():
+            return status == 4 and shows_stuck(search, text, row)
         case Nothing():
             return status == 0 and shows_nothing(search, text, row)
         case Stopped():

@@ -6,9 +6,11 @@ mod answers;
 pub mod laws;
 mod naming;
 mod sites;
+mod stuck;
 mod words;
 
 pub use answers::{Answered, answered_calls, append_answers};
 pub use naming::{LocalNames, append_name};
 pub use sites::CallLines;
+pub use stuck::append_stuck;
 pub use words::{CodeAt, never_at_named, never_named, section_named};

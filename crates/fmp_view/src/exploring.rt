@@ -2,13 +2,14 @@
 ghost use Rattle.std.specs.Prelude.{◌≡◌, ◌≤◌, ◌^◌};
 
 use crate::asking::kept_bound;
+use crate::stuck::held_up;
 use fmp_base::{Line, Name, System};
 use fmp_explore::{
     Coverage, Ending, Finding, NeverAt, Question, Report, Section, Sight, Site, Started, Ticks,
     Together, Watcher, explore, left_by,
 };
 use fmp_explore_names::{
-    CallLines, CodeAt, LocalNames, answered_calls, append_answers, append_name,
+    CallLines, CodeAt, LocalNames, answered_calls, append_answers, append_name, append_stuck,
 };
 use fmp_image_bytes::Image;
 use fmp_trace::{print, print_steps};
@@ -71,7 +72,7 @@ fn say_place(
 fn line_of(sources: &Sources<'_>, finding: &Finding, site: Site) -> Option<u32> {
     match finding.sight {
         Sight::Endless(_) => sources.lines.head(site.body),
-        Sight::Line(_) | Sight::Deadlock | Sight::Together(_) => sources
+        Sight::Line(_) | Sight::Deadlock | Sight::Together(_) | Sight::Stuck(_) => sources
             .lines
             .line(sources.image.code(), site),
     }
@@ -175,7 +176,62 @@ fn say_sight(
             say_line(out, sys, left.number, &left.lines, together.meeting.place)?;
             say_holder(alloc, out, sources, together)
         }
+        Sight::Stuck(_) => Ok(()),
     }
+}
+
+/// Appends the call to which a finding belongs, if it belongs to one.
+fn say_site(
+    alloc: Global,
+    out: &mut Vec<u8>,
+    sources: &Sources<'_>,
+    finding: &Finding,
+    site: Option<Site>,
+) -> Result<(), AllocError> {
+    if let Some(site) = site {
+        say_place(alloc, out, sources, line_of(sources, finding, site))?;
+        say(out, ": ")?;
+    }
+    Ok(())
+}
+
+/// Appends that a task can never go on, behind the call by which it spins, or else its last one.
+fn say_stuck(
+    alloc: Global,
+    out: &mut Vec<u8>,
+    sources: &Sources<'_>,
+    finding: &Finding,
+    task: u8,
+) -> Result<(), AllocError> {
+    let steps = &finding.steps;
+    let Some(held) = held_up(alloc, sources.image, sources.bound, steps, task)? else {
+        return Ok(());
+    };
+    let sys = sources.image.system();
+    match held.spun {
+        Some(spun) => {
+            say_site(alloc, out, sources, finding, Some(spun.site))?;
+            append_stuck(sys, usize::from(task), &held.block, Some(spun.lock), out)
+        }
+        None => {
+            say_site(alloc, out, sources, finding, finding.site)?;
+            append_stuck(sys, usize::from(task), &held.block, None, out)
+        }
+    }
+}
+
+/// Appends the call to which a finding belongs, and what is seen.
+fn say_seen(
+    alloc: Global,
+    out: &mut Vec<u8>,
+    sources: &Sources<'_>,
+    finding: &Finding,
+) -> Result<(), AllocError> {
+    if let Sight::Stuck(task) = finding.sight {
+        return say_stuck(alloc, out, sources, finding, task);
+    }
+    say_site(alloc, out, sources, finding, finding.site)?;
+    say_sight(alloc, out, sources, finding)
 }
 
 /// Appends a finding, the one of this number.
@@ -186,11 +242,7 @@ fn say_finding(
     finding: &Finding,
     number: usize,
 ) -> Result<(), AllocError> {
-    if let Some(site) = finding.site {
-        say_place(alloc, out, sources, line_of(sources, finding, site))?;
-        say(out, ": ")?;
-    }
-    say_sight(alloc, out, sources, finding)?;
+    say_seen(alloc, out, sources, finding)?;
     let count = finding.steps.len();
     let word = if count == 1 { "step" } else { "steps" };
     let name = sources.named.out;
@@ -264,9 +316,10 @@ fn say_ending(
     report: &Report,
 ) -> Result<(), AllocError> {
     match report.ending {
+        Ending::Whole if !report.findings.is_empty() => Ok(()),
         Ending::Whole if report.holds => say_claim(alloc, out, nevers, question),
-        Ending::Whole if report.findings.is_empty() => say(out, "nothing found\n"),
-        Ending::Whole | Ending::Enough => Ok(()),
+        Ending::Whole => say(out, "nothing found\n"),
+        Ending::Enough => Ok(()),
         Ending::States => say(out, "stopped: as many states as are allowed\n"),
         Ending::Depth => say(out, "stopped: as deep as the search goes\n"),
         Ending::Memory => say(out, "stopped: out of memory\n"),

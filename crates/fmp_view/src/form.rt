@@ -68,7 +68,9 @@ const ALONE: &str =
 A task is there from its 'put(A)' to its 'put(B)' or its end. It may be given again, at most 4 times";
 
 /// Which task may wait forever.
-const REST: &str = "Name of a task that may wait forever, as servers do; it may be given again";
+const REST: &str =
+    "Name of a task that may wait forever, as servers do: it makes no deadlock, and may be stuck; it may
+be given again";
 
 /// When the clock may advance.
 const TICKS: &str =
@@ -351,7 +353,8 @@ fn answers<'a>(alloc: Global) -> Arg<'a> {
 
 /// The command `explore`.
 pub fn explore_command<'a>(alloc: Global) -> Made<'a> {
-    let about = "Looks at every schedule for deadlocks, faults and what must never happen";
+    let about =
+        "Looks at every schedule for deadlocks, stuck tasks, faults and what must never happen";
     let cfg = word(alloc, "CFG", "Configuration, as 'fmp check' reads it");
     let src = word(alloc, "SRC", "Bodies of its tasks and handlers");
     let states = number(alloc, "states", "S", 1, 1 << 31, STATES).default_value("16777216");

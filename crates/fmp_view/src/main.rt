@@ -21,6 +21,7 @@ mod opening;
 mod recording;
 mod running;
 mod stepping;
+mod stuck;
 mod timeline;
 mod tracing;
 mod why;

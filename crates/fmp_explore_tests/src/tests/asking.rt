@@ -222,3 +222,30 @@ fn two_in_a_section(rt: HostRuntime) -> Result<(), Fail> {
     assert!(rt; report.holds);
     Ok(())
 }
+
+/// A waits for what nobody gives, and B always has something to do.
+const LEFT_WAITING: (&str, &str) = (
+    "NUM_PRC(2);
+CLASS(TCL_1) {
+    CRE_SEM(S, { TA_TFIFO, 0, 1 });
+    CRE_TSK(A, { TA_ACT, 0, a, 8, 256, NULL });
+}
+CLASS(TCL_2) { CRE_TSK(B, { TA_ACT, 0, b, 8, 256, NULL }); }",
+    "task a { wai_sem(S); }
+task b { while (1) { put(1); } }",
+);
+
+#[test]
+fn a_stuck_task(rt: HostRuntime) -> Result<(), Fail> {
+    let alloc = rt.alloc();
+    let mut asked = question(alloc)?;
+    let report = searched(alloc, LEFT_WAITING.0, LEFT_WAITING.1, &asked)?;
+    assert_eq!(rt; report.findings.len(), 1);
+    let found = &report.findings[0];
+    assert_eq!(rt; found.steps.len(), 1);
+    assert_eq!(rt; found.sight, Sight::Stuck(0));
+    asked.rest.push(true)?;
+    let report = searched(alloc, LEFT_WAITING.0, LEFT_WAITING.1, &asked)?;
+    assert_eq!(rt; report.findings.len(), 0);
+    Ok(())
+}
