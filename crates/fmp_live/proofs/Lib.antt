@@ -1,0 +1,7 @@
+pub mod Dead
+pub mod LikeLaws
+pub mod MachineLaws
+pub mod RowLaws
+pub mod StepLaws
+pub mod Tables
+pub mod ZeroedLocals

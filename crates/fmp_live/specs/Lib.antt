@@ -1,0 +1,2 @@
+pub mod LiveLocals
+pub mod Zeroed
