@@ -10,8 +10,12 @@ use Rattle.fmp_fields.specs.FieldNumbers.{number_of}
 use Rattle.fmp_fields.specs.Fields.{AreAllFields, IsReadable}
 use Rattle.fmp_fields.proofs.BodyFields.{bodies-told}
 use Rattle.fmp_fields.proofs.StateFields.{SameFields, row-same, same-at}
+use Rattle.fmp_fields.proofs.ZeroedBodies.{readable-zeroed}
 use Rattle.fmp_instructions.specs.declared.instructions.MachineContext.{MachineContext}
 use Rattle.fmp_instructions.specs.Instructions.{BodyTables}
+use Rattle.fmp_live.specs.LiveLocals.{AreLiveTables, LiveTable}
+use Rattle.fmp_live.specs.Zeroed.{IsLike, zeroed}
+use Rattle.fmp_live.proofs.LikeLaws.{zeroed-like}
 use Rattle.fmp_rows.proofs.RowLaws.{rows-told}
 use Rattle.fmp_rows.proofs.WorldLaws.{worlds-told}
 use Rattle.fmp_rows.specs.Rows.{SameRow}
@@ -28,6 +32,18 @@ fields-told sys bodies limited fields v w came other all a b e =
     let states : AlikeStates sys v.state w.state = rows-told sys v.state w.state a.regular.state b.regular.state row in
     let told = bodies-told sys bodies v w came other a b h states in
     worlds-told sys v w a.regular b.regular row (bodies-same sys bodies v w a.rooms b.rooms told)
+
+-- so are worlds whose fields have the same numbers once dead locals are 0, but for these locals
+pub live-fields-told : (sys : SystemTables) (bodies : List BodyTables) (limited : Bool) (fields : List What)
+    (v w : World MachineContext) (tables others : List LiveTable) (came other : ℕ)
+    → AreAllFields sys bodies limited fields → AreLiveTables bodies tables → AreLiveTables bodies others
+    → IsReadable sys bodies v → IsReadable sys bodies w
+    → map (number_of sys (zeroed sys tables v) came) fields ≡ map (number_of sys (zeroed sys others w) other) fields
+    → IsLike sys bodies v w
+live-fields-told sys bodies limited fields v w tables others came other all live also a b e =
+    zeroed-like sys bodies v w tables others live also a.regular.settled b.regular.settled
+    (fields-told sys bodies limited fields (zeroed sys tables v) (zeroed sys others w) came other all
+    (readable-zeroed sys tables v bodies a) (readable-zeroed sys others w bodies b) e)
 
 below-256 : (m n : ℕ) → m < 256 → n < 256 → m % 256 ≡ n % 256 → m ≡ n
 below-256 m n a b e = omega (arith, a, b, e)

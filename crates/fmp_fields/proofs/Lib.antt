@@ -6,3 +6,4 @@ pub mod Places
 pub mod Rooms
 pub mod StateFields
 pub mod WordLaws
+pub mod ZeroedBodies

@@ -8,6 +8,8 @@ ghost use Rattle.fmp_fields.specs.FieldNumbers.{number_of};
 ghost use Rattle.fmp_fields.specs.Fields.{AreAllFields, IsReadable};
 ghost use Rattle.fmp_instructions.specs.declared.instructions.MachineContext.{MachineContext};
 ghost use Rattle.fmp_instructions.specs.Instructions.{BodyTables};
+ghost use Rattle.fmp_live.specs.LiveLocals.{AreLiveTables, LiveTable};
+ghost use Rattle.fmp_live.specs.Zeroed.{IsLike, zeroed};
 
 /// Worlds of one system and code in which each field has the same number are alike.
 pub fn worlds_of_the_same_numbers_are_alike()
@@ -15,6 +17,17 @@ pub fn worlds_of_the_same_numbers_are_alike()
         (v w : World MachineContext) (came other : ℕ) → AreAllFields sys bodies limited fields →
         IsReadable sys bodies v → IsReadable sys bodies w →
         map (number_of sys v came) fields ≡ map (number_of sys w other) fields → Alike sys v w }
+{}
+
+/// Worlds in which each field has the same number once dead locals are 0, each by tables of its own, are alike but for
+/// dead locals.
+pub fn worlds_of_the_same_live_numbers_are_like()
+    ensures { (sys : SystemTables) (bodies : List BodyTables) (limited : Bool) (fields : List What)
+        (v w : World MachineContext) (tables others : List LiveTable) (came other : ℕ) →
+        AreAllFields sys bodies limited fields → AreLiveTables bodies tables → AreLiveTables bodies others →
+        IsReadable sys bodies v → IsReadable sys bodies w →
+        map (number_of sys (zeroed sys tables v) came) fields
+        ≡ map (number_of sys (zeroed sys others w) other) fields → IsLike sys bodies v w }
 {}
 
 /// Where their number is limited, the numbers of the fields tell how many interrupts came, if these were fewer than 256.

@@ -51,7 +51,7 @@ fn operands_of(body: &BodyCode) -> u8
 }
 
 /// The place of the body of an entry; 0 where only its name is known, as in no system that runs.
-fn body_of(entry: Entry) -> u8
+pub fn body_of(entry: Entry) -> u8
     ensures { result ≡ numbered entry }
 {
     match entry {
