@@ -129,7 +129,7 @@ module _ (sys : SystemTables) (w : World MachineContext) where
   any-timeless (never ∷ rest) l = ap₂ (λ (a b : Bool). a || b) (told-timeless never l) (any-timeless rest l)
 
 -- the same is forbidden in alike worlds, whatever the number of the clock
-pub there-even : (sys : SystemTables) (nevers : List NeverAt) → IsEven sys (forbids_there sys nevers)
+pub there-even : (sys : SystemTables) (nevers : List NeverAt) → IsEven (Alike sys) (forbids_there sys nevers)
 there-even sys nevers v w l m alike same =
     any-timeless sys v nevers l
     ∙ ap (λ (x : Line). forbids_there sys nevers v x) same

@@ -23,6 +23,7 @@ use Rattle.fmp_schedules.specs.Deadlocks.{IsDeadlock}
 use Rattle.fmp_schedules.specs.Schedules.{Watched, may_come, may_still, watch, watched_at_setup}
 use Rattle.fmp_schedules.specs.Tried.{IsSearched, IsTried, IsTriedSilent, NoneIsDeadlock, is_event_of}
 use Rattle.fmp_schedules.proofs.HoldLaws.{searched-holds}
+use Rattle.fmp_schedules.proofs.LikenessLaws.{alike-likeness}
 use Rattle.fmp_schedules.proofs.SilentLaws.{searched-silent}
 use Rattle.fmp_seen.specs.declared.link.Link.{Link}
 use Rattle.fmp_seen.specs.Links.{AreLinked}
@@ -133,7 +134,8 @@ module _ (i : ImageTables) (n : ℕ) (q : Question) where
         (sym k.watch) (tried_at x k.state k.there e is))
 
     abbrev Silent : World MachineContext → Event → Type 0
-    Silent w e = IsTriedSilent i.system (code_meaning i.code) n (forbids_there i.system q.nevers_at.items) w e
+    Silent w e =
+        IsTriedSilent (Alike i.system) i.system (code_meaning i.code) n (forbids_there i.system q.nevers_at.items) w e
 
     silent_at : Examined → (k : ℕ) → k < length s.seen.links → (e : Event) → is_event_of i.system e ≡ true
         → may_come (rules_of q) i.system (code_meaning i.code) n (replay i n (path_to q s.seen.links k)).world
@@ -201,8 +203,10 @@ module _ (i : ImageTables) (n : ℕ) (q : Question) where
       h.each sure in
       let K : World MachineContext → Watched → Type 0 =
       λ (w : World MachineContext) (a : Watched). IsReached i n q s.seen.links w a in
-      let searched : IsSearched (rules_of q) i.system (code_meaning i.code) n (forbids q.nevers.items) q.rest.items K =
+      let searched : IsSearched (Alike i.system) (rules_of q) i.system (code_meaning i.code) n
+      (forbids q.nevers.items) q.rest.items K =
       record {
+        like = alike-likeness i.system (code_meaning i.code) n;
         whole = whole image s survey;
         first = first_covered s h.begun none sure;
         tried = tried image s survey examined;
@@ -212,9 +216,9 @@ module _ (i : ImageTables) (n : ℕ) (q : Question) where
       record {
         holds =
             searched-holds (rules_of q) i.system (code_meaning i.code) n (forbids q.nevers.items) q.rest.items K
-            (forbids-timeless q.nevers.items) searched;
+            (forbids-timeless q.nevers.items) (Alike i.system) searched;
         there =
             searched-silent (rules_of q) i.system (code_meaning i.code) n (forbids q.nevers.items) q.rest.items K
-            (forbids-timeless q.nevers.items) searched (forbids_there i.system q.nevers_at.items)
+            (forbids-timeless q.nevers.items) (Alike i.system) searched (forbids_there i.system q.nevers_at.items)
             (there-even i.system q.nevers_at.items) (silent image s survey examined);
       }

@@ -33,6 +33,7 @@ use Rattle.fmp_schedules.specs.Schedules.{Rules, Watched, is_told, may_come, rea
 use Rattle.fmp_schedules.specs.declared.section.Section.{Section}
 use Rattle.fmp_schedules.specs.Stuck.{MayFollow, acts}
 use Rattle.fmp_schedules.proofs.HoldLaws.{or-none}
+use Rattle.fmp_schedules.proofs.LikenessLaws.{alike-likeness}
 use Rattle.fmp_schedules.proofs.RuleLaws.{watch-blind}
 use Rattle.fmp_schedules.proofs.StuckLaws.{SameCame, none-behind, told-too}
 use Rattle.fmp_schedules.proofs.TriedLaws.{tried-closed}
@@ -51,7 +52,8 @@ module _ (i : ImageTables) (n : ℕ) (q : Question) (image : IsImage i) (s : Sur
   closed : IsClosed (Alike i.system) (watch (rules_of q) (forbids q.nevers.items))
       (may_come (rules_of q) i.system (code_meaning i.code) n) (step i.system (code_meaning i.code) n) K
   closed =
-      tried-closed i.system (code_meaning i.code) n (watch (rules_of q) (forbids q.nevers.items))
+      tried-closed i.system (code_meaning i.code) n (Alike i.system) (alike-likeness i.system (code_meaning i.code) n)
+      (watch (rules_of q) (forbids q.nevers.items))
       (may_come (rules_of q) i.system (code_meaning i.code) n) K
       (watch-blind (forbids q.nevers.items) (forbids-timeless q.nevers.items) (rules_of q))
       (whole i n q image s h.begun.survey) (tried i n q image s h.begun.survey (h.each sure))
@@ -66,7 +68,8 @@ module _ (i : ImageTables) (n : ℕ) (q : Question) (image : IsImage i) (s : Sur
   pub none_follows : NoneFollows i n q
   none_follows more follow =
       none-behind (rules_of q) i.system (code_meaning i.code) n (forbids q.nevers.items) K
-      (forbids-timeless q.nevers.items) closed (clean i n q image s h.begun.survey) q.after.items more
+      (forbids-timeless q.nevers.items) (Alike i.system) (alike-likeness i.system (code_meaning i.code) n) closed
+      (clean i n q image s h.begun.survey) q.after.items more
       (watched_of i n q q.after.items) refl (came_counted q.interrupts q.after.items) first follow
 
 -- the rules let the same events follow, whatever sections are watched

@@ -8,11 +8,9 @@ use Rattle.fmp_base.specs.Meanings.{Meaning, World}
 use Rattle.fmp_base.specs.Setups.{setup}
 use Rattle.fmp_base.specs.Steps.{step}
 use Rattle.fmp_base.specs.Systems.{SystemTables}
-use Rattle.fmp_alike.specs.Alike.{Alike}
 use Rattle.fmp_alike.specs.Closed.{IsClosed, IsCovered, NoneIsBad, watched}
 use Rattle.fmp_alike.proofs.ClosedLaws.{run-covers}
-use Rattle.fmp_alike.proofs.StepLaws.{step-same}
-use Rattle.fmp_alike.proofs.WorldLaws.{worlds-chained}
+use Rattle.fmp_schedules.specs.Likeness.{IsLikeness}
 use Rattle.fmp_schedules.specs.Deadlocks.{IsDeadlock}
 use Rattle.fmp_schedules.specs.Schedules.{Holds, IsSchedule, Rules, Watched, at_first, watched_at_setup, is_any_met, is_request, is_told, lines_after, may_come, may_still, requests, sections_after, watch, watched_on, reached}
 use Rattle.fmp_schedules.specs.declared.section.Section.{Section}
@@ -54,41 +52,48 @@ neither false b h = (refl, h)
 abbrev limited : Bool → ℕ → List Section → Rules
 limited idle most sections = record { idle_ticks = idle; most = Some most; sections = sections }
 
-came-watched : (idle : Bool) (most : ℕ) (sections : List Section) (forbidden : Line → Bool) (a : Watched) (events : List (List Line))
+came-watched : (idle : Bool) (most : ℕ) (sections : List Section) (forbidden : Line → Bool) (a : Watched)
+    (events : List (List Line))
     → (watched (watch (limited idle most sections) forbidden) a events).came ≡ a.came + requests events
 came-watched idle most sections forbidden a [] = omega arith
 came-watched idle most sections forbidden a (ls ∷ rest) =
-    let e : (a.came + count_by is_request ls) + requests rest ≡ a.came + (count_by is_request ls + requests rest) = omega arith in
+    let e : (a.came + count_by is_request ls) + requests rest ≡ a.came + (count_by is_request ls + requests rest) =
+    omega arith in
     came-watched idle most sections forbidden (watched_on (limited idle most sections) forbidden a ls) rest
     ∙ e
     ∙ ap (λ (k : ℕ). a.came + k) (sym (sum_by-cons (λ (events : List Line). count_by is_request events) ls rest))
 
-still-watched : (idle : Bool) (most : Option ℕ) (sections : List Section) (forbidden : Line → Bool) (a : Watched) (events : List (List Line))
-    → may_still most (watched (watch (record { idle_ticks = idle; most = most; sections = sections }) forbidden) a events).came
+still-watched : (idle : Bool) (most : Option ℕ) (sections : List Section) (forbidden : Line → Bool) (a : Watched)
+    (events : List (List Line)) → may_still most
+    (watched (watch (record { idle_ticks = idle; most = most; sections = sections }) forbidden) a events).came
     ≡ may_still most (a.came + requests events)
 still-watched idle None sections forbidden a events = refl
-still-watched idle (Some most) sections forbidden a events = ap (λ (came : ℕ). nat_lt came most) (came-watched idle most sections forbidden a events)
+still-watched idle (Some most) sections forbidden a events =
+    ap (λ (came : ℕ). nat_lt came most) (came-watched idle most sections forbidden a events)
 
-module _ {C : Type 0} (rules : Rules) (sys : SystemTables) (M : Meaning C) (n : ℕ) (forbidden : Line → Bool) (rest : List Bool)
-    (K : World C → Watched → Type 0) (even : IsTimeless forbidden)
-    (closed : IsClosed (Alike sys) (watch rules forbidden) (may_come rules sys M n) (step sys M n) K)
-    (first : IsCovered (Alike sys) K (setup sys M).world (watched_at_setup rules sys M forbidden)) where
+module _ {C : Type 0} (rules : Rules) (sys : SystemTables) (M : Meaning C) (n : ℕ) (forbidden : Line → Bool)
+    (rest : List Bool) (K : World C → Watched → Type 0) (even : IsTimeless forbidden) (R : World C → World C → Type 0)
+    (like : IsLikeness sys M n R)
+    (closed : IsClosed R (watch rules forbidden) (may_come rules sys M n) (step sys M n) K)
+    (first : IsCovered R K (setup sys M).world (watched_at_setup rules sys M forbidden)) where
   abbrev pub watched_after : List Event → Watched
   watched_after es = watched (watch rules forbidden) (at_first rules.sections) (lines_after sys M n es)
 
   pub covered : (es : List Event) → IsSchedule rules sys M n forbidden es
-      → IsCovered (Alike sys) K (reached sys M n es) (watched_after es)
+      → IsCovered R K (reached sys M n es) (watched_after es)
   covered es schedule =
-      run-covers (Alike sys) (watch rules forbidden) (worlds-chained sys) (watch-blind forbidden even rules) K (may_come rules sys M n)
-      (may_come-same sys M n rules) sys M n (step-same sys M n) closed (setup sys M).world (watched_at_setup rules sys M forbidden) es
-      schedule first
+      run-covers R (watch rules forbidden) like.chained (watch-blind forbidden even rules) K (may_come rules sys M n)
+      (may_come-same sys M n R like rules) sys M n like.keeps closed (setup sys M).world
+      (watched_at_setup rules sys M forbidden) es schedule first
 
   still-after : (es : List Event)
       → may_still rules.most (requests (lines_after sys M n es)) ≡ may_still rules.most (watched_after es).came
   still-after es =
       let e : requests (lines_after sys M n es) ≡ 0 + requests (lines_after sys M n es) = omega arith in
       ap (λ (came : ℕ). may_still rules.most came) e
-      ∙ sym (still-watched rules.idle_ticks rules.most rules.sections forbidden (at_first rules.sections) (lines_after sys M n es))
+      ∙ sym
+      (still-watched rules.idle_ticks rules.most rules.sections forbidden (at_first rules.sections)
+      (lines_after sys M n es))
 
   pub closed-holds : NoneIsBad (watch rules forbidden) K → NoneIsDeadlock rules sys M n rest K
       → Holds rules sys M n forbidden rest
@@ -102,21 +107,26 @@ module _ {C : Type 0} (rules : Rules) (sys : SystemTables) (M : Meaning C) (n : 
             ∙ (neither (watched_after es).told (watched_after es).met (clean k.world (watched_after es) k.kept)).1;
         free = λ es schedule d. let k = covered es schedule in
             free k.world (watched_after es) k.kept
-            (deadlock-alike sys M n (reached sys M n es) k.world rest (may_still rules.most (watched_after es).came)
+            (deadlock-alike sys M n R like (reached sys M n es) k.world rest
+            (may_still rules.most (watched_after es).came)
             (subst (λ (b : Bool). IsDeadlock sys M n (reached sys M n es) rest b) (still-after es) d) k.alike);
       }
 
-module _ {C : Type 0} (rules : Rules) (sys : SystemTables) (M : Meaning C) (n : ℕ) (forbidden : Line → Bool) (rest : List Bool)
-    (K : World C → Watched → Type 0) (even : IsTimeless forbidden) (h : IsSearched rules sys M n forbidden rest K) where
-  searched-closed : IsClosed (Alike sys) (watch rules forbidden) (may_come rules sys M n) (step sys M n) K
+module _ {C : Type 0} (rules : Rules) (sys : SystemTables) (M : Meaning C) (n : ℕ) (forbidden : Line → Bool)
+    (rest : List Bool) (K : World C → Watched → Type 0) (even : IsTimeless forbidden) (R : World C → World C → Type 0)
+    (h : IsSearched R rules sys M n forbidden rest K) where
+  searched-closed : IsClosed R (watch rules forbidden) (may_come rules sys M n) (step sys M n) K
   searched-closed =
-      tried-closed sys M n (watch rules forbidden) (may_come rules sys M n) K (watch-blind forbidden even rules) h.whole h.tried
+      tried-closed sys M n R h.like (watch rules forbidden) (may_come rules sys M n) K
+      (watch-blind forbidden even rules) h.whole h.tried
 
   -- a search that tried each event has a world like the one that any schedule reaches
   pub searched-covered : (es : List Event) → IsSchedule rules sys M n forbidden es
-      → IsCovered (Alike sys) K (reached sys M n es) (watched (watch rules forbidden) (at_first rules.sections) (lines_after sys M n es))
-  searched-covered es schedule = covered rules sys M n forbidden rest K even searched-closed h.first es schedule
+      → IsCovered R K (reached sys M n es)
+      (watched (watch rules forbidden) (at_first rules.sections) (lines_after sys M n es))
+  searched-covered es schedule =
+      covered rules sys M n forbidden rest K even R h.like searched-closed h.first es schedule
 
   -- a search that tried each event and found nothing shows that all schedules hold
   pub searched-holds : Holds rules sys M n forbidden rest
-  searched-holds = closed-holds rules sys M n forbidden rest K even searched-closed h.first h.clean h.free
+  searched-holds = closed-holds rules sys M n forbidden rest K even R h.like searched-closed h.first h.clean h.free

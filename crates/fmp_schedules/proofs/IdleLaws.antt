@@ -28,22 +28,24 @@ module _ {C : Type 0} (sys : SystemTables) (M : Meaning C) (n : ℕ) (w : World 
   abbrev runs_nothing : ℕ → Type 0
   runs_nothing p = step sys M n w (event.Run p) ≡ Nothing
 
-  by_last : (k p : ℕ) (b : Bool) → nat_eq p (suc k) ≡ b → p < suc k + 1 → runs_nothing (suc k) → (p < k + 1 → runs_nothing p)
-      → runs_nothing p
+  by_last : (k p : ℕ) (b : Bool) → nat_eq p (suc k) ≡ b → p < suc k + 1 → runs_nothing (suc k)
+      → (p < k + 1 → runs_nothing p) → runs_nothing p
   by_last k p true e to last earlier = subst (λ (q : ℕ). runs_nothing q) (sym (eqb-true p (suc k) e)) last
   by_last k p false e to last earlier =
       let apart : p ≢ suc k = eqb-false p (suc k) e in
       let below : p < k + 1 = omega arith in
       earlier below
 
-  pub none-each : (processors : ℕ) → none_runs sys M n w processors ≡ true → (p : ℕ) → 1 ≤ p → p < processors + 1 → runs_nothing p
+  pub none-each : (processors : ℕ) → none_runs sys M n w processors ≡ true → (p : ℕ) → 1 ≤ p → p < processors + 1
+      → runs_nothing p
   none-each zero h p from to = absurd (omega (arith, from, to))
   none-each (suc k) h p from to =
       by_last k p (nat_eq p (suc k)) refl to
       (nothing-is (step sys M n w (event.Run (suc k))) (and-first _ (none_runs sys M n w k) h))
       (λ below. none-each k (and-second (is_nothing (step sys M n w (event.Run (suc k)))) _ h) p from below)
 
-  pub each-none : (processors : ℕ) → ((p : ℕ) → 1 ≤ p → p < processors + 1 → runs_nothing p) → none_runs sys M n w processors ≡ true
+  pub each-none : (processors : ℕ) → ((p : ℕ) → 1 ≤ p → p < processors + 1 → runs_nothing p)
+      → none_runs sys M n w processors ≡ true
   each-none zero h = refl
   each-none (suc k) h =
       and-both _ _

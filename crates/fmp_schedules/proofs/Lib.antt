@@ -3,6 +3,7 @@ pub mod DeadlockLaws
 pub mod EventLines
 pub mod HoldLaws
 pub mod IdleLaws
+pub mod LikenessLaws
 pub mod RuleLaws
 pub mod SectionLaws
 pub mod SectionSteps

@@ -10,15 +10,15 @@ use Rattle.fmp_base.specs.Meanings.{Meaning, World}
 use Rattle.fmp_base.specs.Setups.{setup}
 use Rattle.fmp_base.specs.Steps.{Reaction, Nothing, Did, Kept, step}
 use Rattle.fmp_base.specs.Systems.{SystemTables}
-use Rattle.fmp_alike.specs.Alike.{Alike}
 use Rattle.fmp_alike.specs.Closed.{AreAllowed, BothAlike, IsBlind, IsRule, Watch, all_timeless, allowed_after, timeless}
-use Rattle.fmp_alike.proofs.StepLaws.{step-same}
+use Rattle.fmp_schedules.specs.Likeness.{IsLikeness}
 use Rattle.fmp_schedules.specs.Schedules.{IsSchedule, Rules, Watched, watched_at_setup, came_after, is_any_met, is_nothing, is_request, may_come, may_still, none_runs, sections_after, watch, watched_on}
 use Rattle.fmp_schedules.specs.declared.section.Section.{Section}
 use Rattle.fmp_schedules.specs.Tried.{IsTimeless}
 use Rattle.fmp_schedules.proofs.SectionLaws.{any_met-timeless, sections-timeless}
 
-nothing-same : {C : Type 0} (R : World C → World C → Type 0) (x y : Reaction C) → BothAlike R x y → is_nothing x ≡ is_nothing y
+nothing-same : {C : Type 0} (R : World C → World C → Type 0) (x y : Reaction C) → BothAlike R x y
+    → is_nothing x ≡ is_nothing y
 nothing-same R Nothing Nothing h = refl
 nothing-same R (Did a) (Did b) h = refl
 nothing-same R (Kept p v) (Kept q w) h = refl
@@ -29,15 +29,18 @@ nothing-same R (Did a) (Kept q w) h = absurd h
 nothing-same R (Kept p v) Nothing h = absurd h
 nothing-same R (Kept p v) (Did b) h = absurd h
 
-module _ {C : Type 0} (sys : SystemTables) (M : Meaning C) (n : ℕ) where
-  none_runs-same : (v w : World C) → Alike sys v w → (processors : ℕ) → none_runs sys M n v processors ≡ none_runs sys M n w processors
+module _ {C : Type 0} (sys : SystemTables) (M : Meaning C) (n : ℕ) (R : World C → World C → Type 0)
+    (like : IsLikeness sys M n R) where
+  none_runs-same : (v w : World C) → R v w → (processors : ℕ)
+      → none_runs sys M n v processors ≡ none_runs sys M n w processors
   none_runs-same v w h zero = refl
   none_runs-same v w h (suc p) =
       ap (λ (b : Bool). b && none_runs sys M n v p)
-      (nothing-same (Alike sys) (step sys M n v (event.Run (suc p))) (step sys M n w (event.Run (suc p))) (step-same sys M n v w (event.Run (suc p)) h))
+      (nothing-same R (step sys M n v (event.Run (suc p))) (step sys M n w (event.Run (suc p)))
+      (like.keeps v w (event.Run (suc p)) h))
       ∙ ap (λ (b : Bool). is_nothing (step sys M n w (event.Run (suc p))) && b) (none_runs-same v w h p)
 
-  pub may_come-same : (rules : Rules) → IsRule (Alike sys) (may_come rules sys M n)
+  pub may_come-same : (rules : Rules) → IsRule R (may_come rules sys M n)
   may_come-same rules v w a (event.Run p) h = refl
   may_come-same rules v w a event.Tick h =
       ap (λ (b : Bool). not rules.idle_ticks || b) (none_runs-same v w h sys.processors)
@@ -56,7 +59,8 @@ count-timeless (l ∷ ls) =
     ∙ ap (λ (k : ℕ). one (timeless l) + k) (count-timeless ls)
     ∙ sym (sum_by-cons one (timeless l) (all_timeless ls))
 
-came-timeless : (most : Option ℕ) (came : ℕ) (ls : List Line) → came_after most came ls ≡ came_after most came (all_timeless ls)
+came-timeless : (most : Option ℕ) (came : ℕ) (ls : List Line)
+    → came_after most came ls ≡ came_after most came (all_timeless ls)
 came-timeless None came ls = refl
 came-timeless (Some most) came ls = ap (λ (k : ℕ). came + k) (count-timeless ls)
 
@@ -80,16 +84,21 @@ module _ (forbidden : Line → Bool) (even : IsTimeless forbidden) where
       let ms : List Line = all_timeless ls in
       ap (λ (k : ℕ). with k (list_any forbidden ls) (sections_after a.sections ls) (is_any_met a.sections ls))
       (came-timeless rules.most a.came ls)
-      ∙ ap (λ (b : Bool). with (came_after rules.most a.came ms) b (sections_after a.sections ls) (is_any_met a.sections ls))
+      ∙ ap
+      (λ (b : Bool). with (came_after rules.most a.came ms) b (sections_after a.sections ls) (is_any_met a.sections ls))
       (told-timeless ls)
-      ∙ ap (λ (ss : List Section). with (came_after rules.most a.came ms) (list_any forbidden ms) ss (is_any_met a.sections ls))
+      ∙ ap
+      (λ (ss : List Section). with (came_after rules.most a.came ms) (list_any forbidden ms) ss
+      (is_any_met a.sections ls))
       (sections-timeless a.sections ls)
-      ∙ ap (λ (b : Bool). with (came_after rules.most a.came ms) (list_any forbidden ms) (sections_after a.sections ms) b)
+      ∙ ap
+      (λ (b : Bool). with (came_after rules.most a.came ms) (list_any forbidden ms) (sections_after a.sections ms) b)
       (any_met-timeless a.sections ls)
 
   pub watch-blind : (rules : Rules) → IsBlind (watch rules forbidden)
   watch-blind rules a ls ms e =
-      watched-timeless rules a ls ∙ ap (λ (l : List Line). watched_on rules forbidden a l) e ∙ sym (watched-timeless rules a ms)
+      watched-timeless rules a ls ∙ ap (λ (l : List Line). watched_on rules forbidden a l) e
+      ∙ sym (watched-timeless rules a ms)
 
 -- what holds of each world holds after a reaction
 after-any : {C S : Type 0} (W : Watch S) (w : World C) (a : S) (x : Reaction C) (next : World C → S → Type 0)
@@ -99,7 +108,8 @@ after-any W w a (Did d) next h = h d.world (W.next a d.lines)
 after-any W w a (Kept p v) next h = h v a
 
 all-allowed : {C S : Type 0} (W : Watch S) (may : World C → S → Event → Bool) (go : World C → Event → Reaction C)
-    → ((w : World C) (a : S) (e : Event) → may w a e ≡ true) → (w : World C) (a : S) (es : List Event) → AreAllowed W may go w a es
+    → ((w : World C) (a : S) (e : Event) → may w a e ≡ true) → (w : World C) (a : S) (es : List Event)
+    → AreAllowed W may go w a es
 all-allowed W may go free w a [] = tt
 all-allowed W may go free w a (e ∷ es) =
     (free w a e, after-any W w a (go w e) (λ v b. AreAllowed W may go v b es) (λ v b. all-allowed W may go free v b es))
@@ -112,10 +122,11 @@ still-any : (most : Option ℕ) (came : ℕ) → most ≡ None → may_still mos
 still-any None came h = refl
 still-any (Some most) came h = cc
 
-pub all-scheduled : {C : Type 0} (rules : Rules) (sys : SystemTables) (M : Meaning C) (n : ℕ) (forbidden : Line → Bool) (es : List Event)
-    → rules.idle_ticks ≡ false → rules.most ≡ None → IsSchedule rules sys M n forbidden es
+pub all-scheduled : {C : Type 0} (rules : Rules) (sys : SystemTables) (M : Meaning C) (n : ℕ) (forbidden : Line → Bool)
+    (es : List Event) → rules.idle_ticks ≡ false → rules.most ≡ None → IsSchedule rules sys M n forbidden es
 all-scheduled {C} rules sys M n forbidden es ticks most =
-    all-allowed (watch rules forbidden) (may_come rules sys M n) (step sys M n) free (setup sys M).world (watched_at_setup rules sys M forbidden) es where
+    all-allowed (watch rules forbidden) (may_come rules sys M n) (step sys M n) free (setup sys M).world
+    (watched_at_setup rules sys M forbidden) es where
       free : (w : World C) (a : Watched) (e : Event) → may_come rules sys M n w a e ≡ true
       free w a (event.Run p) = refl
       free w a event.Tick = or-not rules.idle_ticks (none_runs sys M n w sys.processors) ticks

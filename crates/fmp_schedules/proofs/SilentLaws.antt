@@ -8,9 +8,7 @@ use Rattle.fmp_base.specs.Runs.{Trace, run, run_on}
 use Rattle.fmp_base.specs.Setups.{setup}
 use Rattle.fmp_base.specs.Steps.{Reaction, Nothing, Did, Kept, step}
 use Rattle.fmp_base.specs.Systems.{SystemTables}
-use Rattle.fmp_alike.specs.Alike.{Alike}
 use Rattle.fmp_alike.specs.Closed.{AreAllowed, BothAlike, Watch, all_timeless, allowed_after, timeless, watched}
-use Rattle.fmp_alike.proofs.StepLaws.{step-same}
 use Rattle.fmp_schedules.specs.Schedules.{HoldsThere, IsSilent, Rules, Watched, at_first, lines_after, may_come, reached, watch, watched_at_setup}
 use Rattle.fmp_schedules.specs.Tried.{AreSilent, IsEven, IsSearched, IsTimeless, IsTriedSilent, is_event_of}
 use Rattle.fmp_schedules.proofs.HoldLaws.{searched-covered}
@@ -37,50 +35,53 @@ module _ {C S : Type 0} (W : Watch S) (may : World C → S → Event → Bool) (
     last-after v a es e (Did d) more h = more d.world (W.next a d.lines) h
     last-after v a es e (Kept p u) more h = more u a h
 
-    pub last-allowed : (v : World C) (a : S) (es : List Event) (e : Event) → Allowed v a (es ++ e ∷ []) → MayLast v a es e
+    pub last-allowed : (v : World C) (a : S) (es : List Event) (e : Event) → Allowed v a (es ++ e ∷ [])
+        → MayLast v a es e
     last-allowed v a [] e (now, later) = (tt, now)
     last-allowed v a (f ∷ es) e (now, later) =
         let rest = last-after v a es e (step sys M n v f) (λ u b h. last-allowed u b es e h) later in
         ((now, rest.0), rest.1)
 
-module _ {C : Type 0} (sys : SystemTables) (forbidden : World C → Line → Bool) (even : IsEven sys forbidden) where
-  none-too : (v w : World C) → Alike sys v w → (ls ms : List Line) → all_timeless ls ≡ all_timeless ms
-      → list_any (forbidden v) ls ≡ list_any (forbidden w) ms
-  none-too v w alike [] [] same = refl
-  none-too v w alike [] (m ∷ ms) same = absurd (cc)
-  none-too v w alike (l ∷ ls) [] same = absurd (cc)
-  none-too v w alike (l ∷ ls) (m ∷ ms) same =
-      let first : timeless l ≡ timeless m = cc in
-      let more : all_timeless ls ≡ all_timeless ms = cc in
-      ap₂ (λ (a b : Bool). a || b) (even v w l m alike first) (none-too v w alike ls ms more)
+module _ {C : Type 0} (R : World C → World C → Type 0) (forbidden : World C → Line → Bool) (even : IsEven R forbidden)
+  where
+    none-too : (v w : World C) → R v w → (ls ms : List Line) → all_timeless ls ≡ all_timeless ms
+        → list_any (forbidden v) ls ≡ list_any (forbidden w) ms
+    none-too v w alike [] [] same = refl
+    none-too v w alike [] (m ∷ ms) same = absurd (cc)
+    none-too v w alike (l ∷ ls) [] same = absurd (cc)
+    none-too v w alike (l ∷ ls) (m ∷ ms) same =
+        let first : timeless l ≡ timeless m = cc in
+        let more : all_timeless ls ≡ all_timeless ms = cc in
+        ap₂ (λ (a b : Bool). a || b) (even v w l m alike first) (none-too v w alike ls ms more)
 
-  -- what is silent in a world like this one is silent in this one
-  silent-too : (x y : Reaction C) → BothAlike (Alike sys) x y → IsSilent forbidden y → IsSilent forbidden x
-  silent-too Nothing Nothing both h = tt
-  silent-too (Did c) (Did d) (lines, alike) h = none-too c.world d.world alike c.lines d.lines lines ∙ h
-  silent-too (Kept p t) (Kept q u) both h = tt
-  silent-too Nothing (Did d) both h = absurd both
-  silent-too Nothing (Kept q u) both h = absurd both
-  silent-too (Did c) Nothing both h = absurd both
-  silent-too (Did c) (Kept q u) both h = absurd both
-  silent-too (Kept p t) Nothing both h = absurd both
-  silent-too (Kept p t) (Did d) both h = absurd both
+    -- what is silent in a world like this one is silent in this one
+    silent-too : (x y : Reaction C) → BothAlike R x y → IsSilent forbidden y → IsSilent forbidden x
+    silent-too Nothing Nothing both h = tt
+    silent-too (Did c) (Did d) (lines, alike) h = none-too c.world d.world alike c.lines d.lines lines ∙ h
+    silent-too (Kept p t) (Kept q u) both h = tt
+    silent-too Nothing (Did d) both h = absurd both
+    silent-too Nothing (Kept q u) both h = absurd both
+    silent-too (Did c) Nothing both h = absurd both
+    silent-too (Did c) (Kept q u) both h = absurd both
+    silent-too (Kept p t) Nothing both h = absurd both
+    silent-too (Kept p t) (Did d) both h = absurd both
 
 module _ {C : Type 0} (rules : Rules) (sys : SystemTables) (M : Meaning C) (n : ℕ) (forbidden : Line → Bool)
-    (rest : List Bool) (K : World C → Watched → Type 0) (even : IsTimeless forbidden) (h : IsSearched rules sys M n forbidden rest K)
-    (there : World C → Line → Bool) (level : IsEven sys there) (silent : AreSilent rules sys M n there K) where
+    (rest : List Bool) (K : World C → Watched → Type 0) (even : IsTimeless forbidden) (R : World C → World C → Type 0)
+    (h : IsSearched R rules sys M n forbidden rest K)
+    (there : World C → Line → Bool) (level : IsEven R there) (silent : AreSilent R rules sys M n there K) where
   abbrev Silent : World C → Event → Type 0
   Silent w e = IsSilent there (step sys M n w e)
 
-  alike-silent : (v w : World C) (e : Event) → Alike sys v w → Silent w e → Silent v e
+  alike-silent : (v w : World C) (e : Event) → R v w → Silent w e → Silent v e
   alike-silent v w e alike s =
-      silent-too sys there level (step sys M n v e) (step sys M n w e) (step-same sys M n v w e alike) s
+      silent-too R there level (step sys M n v e) (step sys M n w e) (h.like.keeps v w e alike) s
 
   kept-silent : (w : World C) (a : Watched) (e : Event) → K w a → may_come rules sys M n w a e ≡ true → Silent w e
   kept-silent w a e k now = by_event (is_event_of sys e) refl where
     by_event : (b : Bool) → is_event_of sys e ≡ b → Silent w e
     by_event true is =
-        let t : IsTriedSilent sys M n there w e = silent w a e k is now in
+        let t : IsTriedSilent R sys M n there w e = silent w a e k is now in
         alike-silent w t.world e t.alike t.silent
     by_event false is =
         subst (λ (x : Reaction C). IsSilent there x) (sym (other-nothing sys M n w e (h.whole w a k) is)) tt
@@ -92,9 +93,10 @@ module _ {C : Type 0} (rules : Rules) (sys : SystemTables) (M : Meaning C) (n : 
         silent = λ es e schedule.
             let last = last-allowed (watch rules forbidden) (may_come rules sys M n) sys M n (setup sys M).world
             (watched_at_setup rules sys M forbidden) es e schedule in
-            let k = searched-covered rules sys M n forbidden rest K even h es last.0 in
+            let k = searched-covered rules sys M n forbidden rest K even R h es last.0 in
             let v = reached sys M n es in
             let a = watched (watch rules forbidden) (at_first rules.sections) (lines_after sys M n es) in
             alike-silent v k.world e k.alike
-            (kept-silent k.world a e k.kept (sym (may_come-same sys M n rules v k.world a e k.alike) ∙ last.1));
+            (kept-silent k.world a e k.kept
+            (sym (may_come-same sys M n R h.like rules v k.world a e k.alike) ∙ last.1));
       }

@@ -1,5 +1,5 @@
 -- A closed set in whose worlds no forbidden line was told shows that none is told behind events that lead to it.
-use Rattle.std.proofs.Common.{◌≡◌, ◌+◌, ℕ, List, [], ◌∷◌, Option, Some, None, Bool, false, ◌||◌, nat_lt, not, refl, sym, ◌∙◌, ap, ap₂, count_by}
+use Rattle.std.proofs.Common.{◌≡◌, ◌+◌, ℕ, List, [], ◌∷◌, Option, Some, None, Bool, false, ◌||◌, nat_lt, refl, sym, ◌∙◌, ap, ap₂, count_by}
 use Rattle.std.specs.List.{list_any}
 use Rattle.fmp_base.specs.declared.events.Event.{Event}
 use Rattle.fmp_base.specs.declared.events.Event.TheVariants as event
@@ -8,13 +8,11 @@ use Rattle.fmp_base.specs.Meanings.{Meaning, World}
 use Rattle.fmp_base.specs.Runs.{run}
 use Rattle.fmp_base.specs.Steps.{Reaction, Nothing, Did, Kept, step}
 use Rattle.fmp_base.specs.Systems.{SystemTables}
-use Rattle.fmp_alike.specs.Alike.{Alike}
 use Rattle.fmp_alike.specs.Closed.{AreAllowed, IsClosed, IsCovered, NoneIsBad, allowed_after, watched}
 use Rattle.fmp_alike.proofs.ClosedLaws.{run-covers}
-use Rattle.fmp_alike.proofs.StepLaws.{step-same}
-use Rattle.fmp_alike.proofs.WorldLaws.{worlds-chained}
+use Rattle.fmp_schedules.specs.Likeness.{IsLikeness}
 use Rattle.fmp_schedules.specs.Deadlocks.{is_interrupt}
-use Rattle.fmp_schedules.specs.Schedules.{Rules, Watched, came_after, is_request, is_told, may_come, may_still, none_runs, reached, watch, watched_on}
+use Rattle.fmp_schedules.specs.Schedules.{Rules, Watched, came_after, is_request, is_told, may_come, may_still, reached, watch, watched_on}
 use Rattle.fmp_schedules.specs.Stuck.{MayFollow}
 use Rattle.fmp_schedules.specs.Tried.{IsTimeless}
 use Rattle.fmp_schedules.proofs.HoldLaws.{neither, told-watched}
@@ -65,19 +63,20 @@ module _ {C : Type 0} (rules : Rules) (sys : SystemTables) (M : Meaning C) (n : 
     )
 
 module _ {C : Type 0} (rules : Rules) (sys : SystemTables) (M : Meaning C) (n : ℕ) (forbidden : Line → Bool)
-    (K : World C → Watched → Type 0) (even : IsTimeless forbidden)
-    (closed : IsClosed (Alike sys) (watch rules forbidden) (may_come rules sys M n) (step sys M n) K)
+    (K : World C → Watched → Type 0) (even : IsTimeless forbidden) (R : World C → World C → Type 0)
+    (like : IsLikeness sys M n R)
+    (closed : IsClosed R (watch rules forbidden) (may_come rules sys M n) (step sys M n) K)
     (clean : NoneIsBad (watch rules forbidden) K) where
   -- behind events whose world is like one of the set, no forbidden line is told
   pub none-behind : (es more : List Event) (a : Watched) → a.told ≡ false
-      → SameCame rules.most (count_by is_interrupt es) a.came → IsCovered (Alike sys) K (reached sys M n es) a
+      → SameCame rules.most (count_by is_interrupt es) a.came → IsCovered R K (reached sys M n es) a
       → MayFollow rules sys M n es more → is_told forbidden (run sys M n (reached sys M n es) more).events ≡ false
   none-behind es more a untold same first follow =
       let w : World C = reached sys M n es in
       let events : List (List Line) = (run sys M n (reached sys M n es) more).events in
       let b : Watched = watched (watch rules forbidden) a (run sys M n (reached sys M n es) more).events in
-      let k = run-covers (Alike sys) (watch rules forbidden) (worlds-chained sys) (watch-blind forbidden even rules) K
-      (may_come rules sys M n) (may_come-same sys M n rules) sys M n (step-same sys M n) closed
+      let k = run-covers R (watch rules forbidden) like.chained (watch-blind forbidden even rules) K
+      (may_come rules sys M n) (may_come-same sys M n R like rules) sys M n like.keeps closed
       (reached sys M n es) a more
       (allowed-too rules sys M n (λ (l : Line). false) forbidden (reached sys M n es)
       (record { came = count_by is_interrupt es; told = false; sections = []; met = false }) a more same follow)

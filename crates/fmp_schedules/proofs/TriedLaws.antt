@@ -10,17 +10,16 @@ use Rattle.fmp_base.specs.Meanings.{Meaning, World}
 use Rattle.fmp_base.specs.States.{KernelState, idle, processor_at}
 use Rattle.fmp_base.specs.Steps.{Reaction, Nothing, Did, Kept, actor_of, interrupted, run_by, step}
 use Rattle.fmp_base.specs.Systems.{SystemTables, found, interrupt_config}
-use Rattle.fmp_alike.specs.Alike.{Alike}
 use Rattle.fmp_alike.specs.Closed.{BothAlike, IsBlind, IsChained, IsClosed, IsCovered, LeadsIn, Watch}
-use Rattle.fmp_alike.proofs.StepLaws.{step-same}
-use Rattle.fmp_alike.proofs.WorldLaws.{worlds-chained}
+use Rattle.fmp_schedules.specs.Likeness.{IsLikeness}
 use Rattle.fmp_schedules.specs.Tried.{IsTried, is_event_of}
 
 actor-past : (s : KernelState) (p : ℕ) → length s.processors ≤ p → actor_of (processor_at s p) ≡ None
 actor-past s p past = ap (λ (cpu : Option Processor). actor_of (found idle cpu)) (slice_get_past s.processors p past)
 
 module _ {C : Type 0} (sys : SystemTables) (M : Meaning C) (n : ℕ) (w : World C) where
-  interrupted-none : (config : Option InterruptConfig) (i : ℕ) → is_some config ≡ false → interrupted config sys M w i ≡ Nothing
+  interrupted-none : (config : Option InterruptConfig) (i : ℕ) → is_some config ≡ false
+      → interrupted config sys M w i ≡ Nothing
   interrupted-none None i h = refl
   interrupted-none (Some config) i h = cc
 
@@ -54,16 +53,18 @@ module _ {C S : Type 0} (R : World C → World C → Type 0) (W : Watch S) (chai
   leads-too a (Kept p t) Nothing both leads = absurd both
   leads-too a (Kept p t) (Did d) both leads = absurd both
 
-pub tried-closed : {C S : Type 0} (sys : SystemTables) (M : Meaning C) (n : ℕ) (W : Watch S) (may : World C → S → Event → Bool)
+pub tried-closed : {C S : Type 0} (sys : SystemTables) (M : Meaning C) (n : ℕ) (R : World C → World C → Type 0)
+    → IsLikeness sys M n R → (W : Watch S) (may : World C → S → Event → Bool)
     (K : World C → S → Type 0) → IsBlind W
     → ((w : World C) (a : S) → K w a → length w.state.processors ≡ sys.processors)
-    → ((w : World C) (a : S) (e : Event) → K w a → is_event_of sys e ≡ true → may w a e ≡ true → IsTried (Alike sys) W (step sys M n) K w a e)
-    → IsClosed (Alike sys) W may (step sys M n) K
-tried-closed {C} {S} sys M n W may K blind sizes tried w a e k now = by_event (is_event_of sys e) refl where
-  by_event : (b : Bool) → is_event_of sys e ≡ b → LeadsIn (Alike sys) W K a (step sys M n w e)
+    → ((w : World C) (a : S) (e : Event) → K w a → is_event_of sys e ≡ true → may w a e ≡ true
+    → IsTried R W (step sys M n) K w a e)
+    → IsClosed R W may (step sys M n) K
+tried-closed {C} {S} sys M n R like W may K blind sizes tried w a e k now = by_event (is_event_of sys e) refl where
+  by_event : (b : Bool) → is_event_of sys e ≡ b → LeadsIn R W K a (step sys M n w e)
   by_event true is =
-      let t : IsTried (Alike sys) W (step sys M n) K w a e = tried w a e k is now in
-      leads-too (Alike sys) W (worlds-chained sys) blind K a (step sys M n w e) (step sys M n t.world e)
-      (step-same sys M n w t.world e t.alike) t.leads
+      let t : IsTried R W (step sys M n) K w a e = tried w a e k is now in
+      leads-too R W like.chained blind K a (step sys M n w e) (step sys M n t.world e)
+      (like.keeps w t.world e t.alike) t.leads
   by_event false is =
-      subst (λ (x : Reaction C). LeadsIn (Alike sys) W K a x) (sym (other-nothing sys M n w e (sizes w a k) is)) tt
+      subst (λ (x : Reaction C). LeadsIn R W K a x) (sym (other-nothing sys M n w e (sizes w a k) is)) tt

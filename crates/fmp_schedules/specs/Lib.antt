@@ -1,4 +1,5 @@
 pub mod Deadlocks
+pub mod Likeness
 pub mod Schedules
 pub mod Sections
 pub mod Stuck

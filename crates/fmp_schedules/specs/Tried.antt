@@ -8,9 +8,9 @@ use Rattle.fmp_base.specs.Meanings.{Meaning, World}
 use Rattle.fmp_base.specs.Setups.{setup}
 use Rattle.fmp_base.specs.Steps.{Reaction, step}
 use Rattle.fmp_base.specs.Systems.{SystemTables, interrupt_config}
-use Rattle.fmp_alike.specs.Alike.{Alike}
 use Rattle.fmp_alike.specs.Closed.{IsCovered, LeadsIn, NoneIsBad, Watch, timeless}
 use Rattle.fmp_schedules.specs.Deadlocks.{IsDeadlock}
+use Rattle.fmp_schedules.specs.Likeness.{IsLikeness}
 use Rattle.fmp_schedules.specs.Schedules.{IsSilent, Rules, Watched, watched_at_setup, may_come, may_still, watch}
 
 -- all lines of the clock are forbidden, or none is
@@ -41,33 +41,34 @@ NoneIsDeadlock {C} rules sys M n rest K =
 -- What a search has to show of the set of worlds that it has seen, each with what is watched there. Each has the
 -- processors of the system. The world after setup is like one of them. Each of the system's events that may come to one
 -- of them was tried, and led to nothing new. In none was a forbidden line told, or did a task enter a section that
--- another held, and none is a deadlock.
-pub record IsSearched {C : Type 0} (rules : Rules) (sys : SystemTables) (M : Meaning C) (n : ℕ)
-    (forbidden : Line → Bool) (rest : List Bool) (K : World C → Watched → Type 0) : Type 0 where
+-- another held, and none is a deadlock. R says which worlds are like one another.
+pub record IsSearched {C : Type 0} (R : World C → World C → Type 0) (rules : Rules) (sys : SystemTables)
+    (M : Meaning C) (n : ℕ) (forbidden : Line → Bool) (rest : List Bool) (K : World C → Watched → Type 0) : Type 0 where
+  pub like : IsLikeness sys M n R
   pub whole : (w : World C) (a : Watched) → K w a → length w.state.processors ≡ sys.processors
-  pub first : IsCovered (Alike sys) K (setup sys M).world (watched_at_setup rules sys M forbidden)
+  pub first : IsCovered R K (setup sys M).world (watched_at_setup rules sys M forbidden)
   pub tried :
       (w : World C) (a : Watched) (e : Event) → K w a → is_event_of sys e ≡ true →
       may_come rules sys M n w a e ≡ true →
-      IsTried (Alike sys) (watch rules forbidden) (step sys M n) K w a e
+      IsTried R (watch rules forbidden) (step sys M n) K w a e
   pub clean : NoneIsBad (watch rules forbidden) K
   pub free : NoneIsDeadlock rules sys M n rest K
 
 -- the same is forbidden in alike worlds, whatever the number of the clock
-abbrev pub IsEven : {C : Type 0} → SystemTables → (World C → Line → Bool) → Type 0
-IsEven {C} sys forbidden =
-    (v w : World C) (l m : Line) → Alike sys v w → timeless l ≡ timeless m → forbidden v l ≡ forbidden w m
+abbrev pub IsEven : {C : Type 0} → (World C → World C → Type 0) → (World C → Line → Bool) → Type 0
+IsEven {C} R forbidden =
+    (v w : World C) (l m : Line) → R v w → timeless l ≡ timeless m → forbidden v l ≡ forbidden w m
 
 -- an event was tried on some world that is like w, and told no line that is forbidden in the world that it left
-pub record IsTriedSilent {C : Type 0} (sys : SystemTables) (M : Meaning C) (n : ℕ) (forbidden : World C → Line → Bool)
-    (w : World C) (e : Event) : Type 0 where
+pub record IsTriedSilent {C : Type 0} (R : World C → World C → Type 0) (sys : SystemTables) (M : Meaning C) (n : ℕ)
+    (forbidden : World C → Line → Bool) (w : World C) (e : Event) : Type 0 where
   pub world : World C
-  pub alike : Alike sys w world
+  pub alike : R w world
   pub silent : IsSilent forbidden (step sys M n world e)
 
 -- each of the system's events that may come to one of a set of worlds was tried so
-abbrev pub AreSilent : {C : Type 0} → Rules → SystemTables → Meaning C → (n : ℕ)
+abbrev pub AreSilent : {C : Type 0} → (World C → World C → Type 0) → Rules → SystemTables → Meaning C → (n : ℕ)
     → (forbidden : World C → Line → Bool) → (World C → Watched → Type 0) → Type 0
-AreSilent {C} rules sys M n forbidden K =
+AreSilent {C} R rules sys M n forbidden K =
     (w : World C) (a : Watched) (e : Event) → K w a → is_event_of sys e ≡ true →
-    may_come rules sys M n w a e ≡ true → IsTriedSilent sys M n forbidden w e
+    may_come rules sys M n w a e ≡ true → IsTriedSilent R sys M n forbidden w e

@@ -5,8 +5,8 @@ ghost use Rattle.fmp_schedules.specs.Stuck.{acts};
 use crate::section::{is_ok, is_task, terminates};
 use fmp_base::Line;
 
-/// Whether a line is an act of the task at this place: a call of its own, the end of its wait, its end or a fault of its
-/// body; or that it is terminated.
+/// Whether a line is an act of the task at this place: a call of its own, the end of its wait, its end or a fault of
+/// its body; or that it is terminated.
 pub fn is_act(t: u8, line: &Line) -> bool
     ensures { result ≡ acts t line.now }
 {

@@ -1,7 +1,8 @@
 //! The laws, each the contract of a function that does nothing. `C` is the type of the contexts of bodies, `S` that of
-//! what is watched. Those of lists of worlds are proved for any set of worlds: by `tried-closed` of `proofs/TriedLaws`,
-//! by `closed-holds` and `searched-holds` of `proofs/HoldLaws`, and by `searched-silent` of `proofs/SilentLaws`. No
-//! contract can speak of all sets.
+//! what is watched. They speak of alike worlds, but are proved for any relation that is `IsLikeness`. Those of lists of
+//! worlds are proved for any set of worlds: by `tried-closed` of `proofs/TriedLaws`, by `closed-holds` and
+//! `searched-holds` of `proofs/HoldLaws`, and by `searched-silent` of `proofs/SilentLaws`. No contract can speak of all
+//! sets, or of all relations.
 ghost use Rattle.std.specs.Prelude.{◌≡◌, ◌+◌, ◌<◌, ◌≤◌, ℕ, Bool, List, None, false, true, count_by, length, if◌then◌else◌};
 ghost use Rattle.fmp_base.specs.declared.events.Event.{Event};
 ghost use Rattle.fmp_base.specs.declared.events.Event.TheVariants.{Run};
@@ -91,9 +92,9 @@ pub fn tried_lists_are_closed<C, S>()
         IsClosed (Alike sys) W may (step sys M n) (IsListed seen) }
 {}
 
-/// If a closed list has a world like that after setup, and in none of its worlds was a forbidden line told or did a task
-/// enter a section that another held, and none is a deadlock, then no schedule, however long, tells a forbidden line,
-/// lets a task enter a section that another holds, or reaches a deadlock.
+/// If a closed list has a world like that after setup, and in none of its worlds was a forbidden line told or did a
+/// task enter a section that another held, and none is a deadlock, then no schedule, however long, tells a forbidden
+/// line, lets a task enter a section that another holds, or reaches a deadlock.
 pub fn closed_lists_hold<C>()
     ensures { (rules : Rules) (sys : SystemTables) (M : Meaning C) (n : ℕ) (forbidden : Line → Bool)
         (rest : List Bool) (seen : List (Seen C Watched)) → IsTimeless forbidden →
@@ -107,7 +108,7 @@ pub fn closed_lists_hold<C>()
 pub fn complete_searches_hold<C>()
     ensures { (rules : Rules) (sys : SystemTables) (M : Meaning C) (n : ℕ) (forbidden : Line → Bool)
         (rest : List Bool) (seen : List (Seen C Watched)) → IsTimeless forbidden →
-        IsSearched rules sys M n forbidden rest (IsListed seen) → Holds rules sys M n forbidden rest }
+        IsSearched (Alike sys) rules sys M n forbidden rest (IsListed seen) → Holds rules sys M n forbidden rest }
 {}
 
 /// A search that tried each event, and in which none told a line that is forbidden in the world that it left, shows
@@ -115,7 +116,7 @@ pub fn complete_searches_hold<C>()
 pub fn silent_searches_hold<C>()
     ensures { (rules : Rules) (sys : SystemTables) (M : Meaning C) (n : ℕ) (forbidden : Line → Bool)
         (rest : List Bool) (seen : List (Seen C Watched)) → IsTimeless forbidden →
-        IsSearched rules sys M n forbidden rest (IsListed seen) → (there : World C → Line → Bool) →
-        IsEven sys there → AreSilent rules sys M n there (IsListed seen) →
+        IsSearched (Alike sys) rules sys M n forbidden rest (IsListed seen) → (there : World C → Line → Bool) →
+        IsEven (Alike sys) there → AreSilent (Alike sys) rules sys M n there (IsListed seen) →
         HoldsThere rules sys M n forbidden there }
 {}

@@ -1,6 +1,8 @@
+use Rattle.fmp_alike.specs.Alike.{Alike}
 use Rattle.fmp_alike.specs.Closed.{IsListed}
 use Rattle.fmp_schedules.proofs.HoldLaws.{searched-holds}
 use Rattle.fmp_schedules.proofs.laws.complete_searches_hold.Goals as goal
 
 pub returns : goal.returns
-returns g c = λ rules sys M n forbidden rest seen even h. searched-holds rules sys M n forbidden rest (IsListed seen) even h
+returns g c = λ rules sys M n forbidden rest seen even h.
+    searched-holds rules sys M n forbidden rest (IsListed seen) even (Alike sys) h

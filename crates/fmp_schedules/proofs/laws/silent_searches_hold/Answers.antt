@@ -1,7 +1,8 @@
+use Rattle.fmp_alike.specs.Alike.{Alike}
 use Rattle.fmp_alike.specs.Closed.{IsListed}
 use Rattle.fmp_schedules.proofs.SilentLaws.{searched-silent}
 use Rattle.fmp_schedules.proofs.laws.silent_searches_hold.Goals as goal
 
 pub returns : goal.returns
 returns g c = λ rules sys M n forbidden rest seen even h there level silent.
-    searched-silent rules sys M n forbidden rest (IsListed seen) even h there level silent
+    searched-silent rules sys M n forbidden rest (IsListed seen) even (Alike sys) h there level silent

@@ -1,6 +1,9 @@
+use Rattle.fmp_alike.specs.Alike.{Alike}
 use Rattle.fmp_alike.specs.Closed.{IsListed}
+use Rattle.fmp_schedules.proofs.LikenessLaws.{alike-likeness}
 use Rattle.fmp_schedules.proofs.TriedLaws.{tried-closed}
 use Rattle.fmp_schedules.proofs.laws.tried_lists_are_closed.Goals as goal
 
 pub returns : goal.returns
-returns g c = λ sys M n W may seen blind whole tried. tried-closed sys M n W may (IsListed seen) blind whole tried
+returns g c = λ sys M n W may seen blind whole tried.
+    tried-closed sys M n (Alike sys) (alike-likeness sys M n) W may (IsListed seen) blind whole tried

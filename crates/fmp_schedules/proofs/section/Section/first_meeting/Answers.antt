@@ -14,9 +14,10 @@ loop-place-preserved c =
           ap (λ (s : Section). is_met s (drop (c.loop-place.place + 1) c.args.lines.now)) c.on-section.ensures
           ∙ unmet c.loop-place.section _ (drop (c.loop-place.place + 1) c.args.lines.now) c.met_by.result
           c.met_by.ensures.met c.in_default.is
-          ∙ sym (at_drop_more (λ (ls : List Line). is_met c.loop-place.section ls) c.args.lines.now c.loop-place.place _ low)
+          ∙ sym
+          (at_drop_more (λ (ls : List Line). is_met c.loop-place.section ls) c.args.lines.now c.loop-place.place _ low)
           ∙ c.loop-place.invariant.met;
       section =
-          section_step c.args.self.now c.loop-place.section c.on-section.result c.args.lines.now c.loop-place.place _ low
-          c.on-section.ensures c.loop-place.invariant.section;
+          section_step c.args.self.now c.loop-place.section c.on-section.result c.args.lines.now c.loop-place.place _
+          low c.on-section.ensures c.loop-place.invariant.section;
     }
