@@ -1,8 +1,8 @@
 -- Kernels along a path: what is kept of them where the path changes.
-use Rattle.std.proofs.Common.{◌≡◌, ◌≢◌, ℕ, zero, suc, ◌+◌, ◌<◌, ◌≤◌, List, [], ◌∷◌, ◌++◌, get_or, length, slice_set, take, refl, ap, ◌∙◌, subst, sym, arith}
+use Rattle.std.proofs.Common.{◌≡◌, ℕ, zero, suc, ◌+◌, ◌<◌, ◌≤◌, List, [], ◌∷◌, ◌++◌, get_or, length, slice_set, take, ap, ◌∙◌, subst, sym, arith}
 use Rattle.std.proofs.Math.ListN.{get_or-append, length-set}
 use Rattle.std.proofs.Math.Logic.{⊎_elim}
-use Rattle.std.proofs.Math.Seq.{get_or-append_seam, take-length}
+use Rattle.std.proofs.Math.Seq.{get_or-append_seam}
 use Rattle.std.proofs.lemmas.Bool.Decides.{eqb_tells}
 use Rattle.std.proofs.lemmas.List.{get_or-set_same, get_or-set_other, length-append, length-take-le, take-append-le, take-take, take_all, take_more}
 use Rattle.fmp_base.specs.declared.events.Event.{Event}

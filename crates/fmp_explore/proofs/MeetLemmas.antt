@@ -71,7 +71,8 @@ module _ (i : ImageTables) (n : ℕ) (first : Section) where
             ∙ ap (λ (x : Reaction MachineContext). section_by s x) there
             ∙ ap (λ (x : Section). section_by x (reaction i n es e)) h.section
             ∙ sym (along-by first (lines_to i n es) (reaction i n es e))
-            ∙ ap (λ (xs : List (List Line)). section_along first xs) (sym (lines_last i n es e (reaction i n es e) refl));
+            ∙ ap (λ (xs : List (List Line)). section_along first xs)
+            (sym (lines_last i n es e (reaction i n es e) refl));
       }
 
   -- the same for one more of the events of a list
@@ -117,7 +118,8 @@ so_together i n q es before last s t parts there h =
             parts = parts;
             done = h.done;
             did =
-                ap (λ (w : World MachineContext). step i.system (code_meaning i.code) n w last) (sym (world_of i n before))
+                ap (λ (w : World MachineContext). step i.system (code_meaning i.code) n w last)
+                (sym (world_of i n before))
                 ∙ h.did;
             met = h.met;
           };

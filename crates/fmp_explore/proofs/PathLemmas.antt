@@ -20,7 +20,8 @@ module _ (q : Question) where
       ∙ ap (λ (d : ℕ). length q.after.items + d) (path-depth links k link linked found)
 
   -- the first state has the path of the events behind which the search begins
-  pub first_path : (links : List Link) (link : Link) → links ≡ [] → link.depth ≡ 0 → path_by q links link ≡ q.after.items
+  pub first_path : (links : List Link) (link : Link) → links ≡ [] → link.depth ≡ 0
+      → path_by q links link ≡ q.after.items
   first_path links link none first =
       ap (λ (ls : List Link). path_by q ls link) none
       ∙ ap (λ (es : List Event). q.after.items ++ es) (path-first link first) ∙ append-nil q.after.items

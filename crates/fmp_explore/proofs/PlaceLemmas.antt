@@ -1,13 +1,15 @@
 -- Lines that tell what must never be answered to a call.
-use Rattle.std.proofs.Common.{◌≡◌, ℕ, List, [], ◌∷◌, Option, Some, None, Bool, true, false, ◌&&◌, ◌||◌, not, slice_get, refl, sym, ◌∙◌, ap, ap₂, subst}
+use Rattle.std.proofs.Common.{◌≡◌, ℕ, zero, suc, List, [], ◌∷◌, Option, Some, None, Bool, true, false, ◌&&◌, ◌||◌, map, nat_eq, not, slice_get, refl, sym, ◌∙◌, ap, ap₂}
 use Rattle.std.specs.List.{list_any}
+use Rattle.fmp_base.specs.declared.bodies.HandlerContext.{HandlerContext}
 use Rattle.fmp_base.specs.declared.bodies.Held.{Held}
+use Rattle.fmp_base.specs.declared.bodies.Held.TheVariants.{Goes, Awaits}
 use Rattle.fmp_base.specs.declared.events.Line.{Line}
 use Rattle.fmp_base.specs.declared.events.Line.TheVariants as line
 use Rattle.fmp_base.specs.declared.states.Caller.{Caller}
 use Rattle.fmp_base.specs.declared.states.Caller.TheVariants as caller
 use Rattle.fmp_base.specs.declared.states.TaskBlock.{TaskBlock}
-use Rattle.fmp_base.specs.Meanings.{World, context_at}
+use Rattle.fmp_base.specs.Meanings.{World, context_at, task_body}
 use Rattle.fmp_base.specs.States.{task_at}
 use Rattle.fmp_base.specs.Systems.{SystemTables}
 use Rattle.fmp_base.specs.TaskCalls.{is_dormant}
@@ -20,6 +22,10 @@ use Rattle.fmp_explore.specs.declared.question.Question.{Question}
 use Rattle.fmp_explore.specs.Forbidden.{forbids, has_code, is_same_code}
 use Rattle.fmp_explore.specs.Places.{forbids_there, has_body, is_bad, is_behind, is_caller_behind, is_handler_behind, is_task_behind, tells_there}
 use Rattle.fmp_instructions.specs.declared.instructions.MachineContext.{MachineContext}
+use Rattle.fmp_instructions.specs.Instructions.{BodyTables}
+use Rattle.fmp_live.specs.LiveLocals.{LiveTable, table_at}
+use Rattle.fmp_live.specs.Zeroed.{ByTables, IsLike, Through, zeroed, zeroed_handler, zeroed_task}
+use Rattle.fmp_live.proofs.LikeLaws.{context_at-each}
 use Rattle.fmp_schedules.specs.Tried.{IsEven}
 
 first-none : (a b c : Bool) → ((a || b) || c) ≡ false → a ≡ false
@@ -109,6 +115,76 @@ module _ (sys : SystemTables) (v w : World MachineContext) (alike : Alike sys v 
   any-there [] l = refl
   any-there (never ∷ rest) l = ap₂ (λ (a b : Bool). a || b) (told-there never l) (any-there rest l)
 
+-- ---- and in worlds that are alike but for dead locals
+
+behind-zeroed : (site : Site) (t : LiveTable) (held : Option (Held MachineContext))
+    → is_behind site (zeroed_task t held) ≡ is_behind site held
+behind-zeroed site t None = refl
+behind-zeroed site t (Some (Goes c)) = refl
+behind-zeroed site t (Some (Awaits c)) = refl
+
+handler-zeroed : (site : Site) (tables : List LiveTable) (h : Option (HandlerContext (Held MachineContext)))
+    → is_handler_behind site (zeroed_handler tables h) ≡ is_handler_behind site h
+handler-zeroed site tables None = refl
+handler-zeroed site tables (Some h) =
+    ap (λ (b : Bool). nat_eq h.body site.body && b)
+    (behind-zeroed site (table_at tables h.body) (Some h.context))
+
+handler_at : (tables : List LiveTable) (hs : List (Option (HandlerContext (Held MachineContext)))) (p : ℕ)
+    → context_at (map (zeroed_handler tables) hs) p ≡ zeroed_handler tables (context_at hs p)
+handler_at tables [] p = refl
+handler_at tables (h ∷ hs) zero = refl
+handler_at tables (h ∷ hs) (suc p) = handler_at tables hs p
+
+module _ (sys : SystemTables) (tables : List LiveTable) (w : World MachineContext) where
+  abbrev dead_as_0 : World MachineContext
+  dead_as_0 = zeroed sys tables w
+
+  task_behind-zeroed : (site : Site) (t : ℕ) → is_task_behind sys dead_as_0 site t ≡ is_task_behind sys w site t
+  task_behind-zeroed site t =
+      ap
+      (λ (b : Bool). not (is_dormant (task_at w.state.tasks t).phase) && (has_body site (slice_get sys.tasks t) && b))
+      (ap (λ (c : Option (Held MachineContext)). is_behind site c)
+      (context_at-each (λ u. zeroed_task (table_at tables (task_body sys u))) (λ u. refl) w.contexts.tasks t)
+      ∙ behind-zeroed site (table_at tables (task_body sys t)) (context_at w.contexts.tasks t))
+
+  caller_behind-zeroed : (site : Site) (p : ℕ) (who : Caller)
+      → is_caller_behind sys dead_as_0 site p who ≡ is_caller_behind sys w site p who
+  caller_behind-zeroed site p (caller.Task t) = task_behind-zeroed site t
+  caller_behind-zeroed site p (caller.Handler h) =
+      ap (λ (x : Option (HandlerContext (Held MachineContext))). is_handler_behind site x)
+      (handler_at tables w.contexts.handlers p)
+      ∙ handler-zeroed site tables (context_at w.contexts.handlers p)
+
+  told-zeroed : (never : NeverAt) (l : Line) → tells_there sys dead_as_0 never l ≡ tells_there sys w never l
+  unfolding tells_there
+  told-zeroed never (line.Call p who made reply) =
+      ap (λ (b : Bool). has_code never.code reply && b) (caller_behind-zeroed never.site p who)
+  told-zeroed never (line.Gets p t reply) =
+      ap (λ (b : Bool). is_same_code reply.code never.code && b) (task_behind-zeroed never.site t)
+  told-zeroed never (line.Tick clock) = refl
+  told-zeroed never (line.Int i) = refl
+  told-zeroed never (line.End p who) = refl
+  told-zeroed never (line.Fault p who fault) = refl
+  told-zeroed never (line.Starts p t) = refl
+  told-zeroed never (line.Pends p c) = refl
+  told-zeroed never (line.Begins p h) = refl
+  told-zeroed never (line.Runs p t) = refl
+
+  any-zeroed : (nevers : List NeverAt) (l : Line)
+      → forbids_there sys nevers dead_as_0 l ≡ forbids_there sys nevers w l
+  any-zeroed [] l = refl
+  any-zeroed (never ∷ rest) l = ap₂ (λ (a b : Bool). a || b) (told-zeroed never l) (any-zeroed rest l)
+
+module _ (sys : SystemTables) (bodies : List BodyTables) (nevers : List NeverAt) (l : Line) where
+  like-there : (v w : World MachineContext) → IsLike sys bodies v w
+      → forbids_there sys nevers v l ≡ forbids_there sys nevers w l
+  like-there _ _ (ByTables v w tables live h) =
+      sym (any-zeroed sys tables v nevers l)
+      ∙ any-there sys (zeroed sys tables v) (zeroed sys tables w) h nevers l
+      ∙ any-zeroed sys tables w nevers l
+  like-there _ _ (Through u v w h k) = like-there u v h ∙ like-there v w k
+
 module _ (sys : SystemTables) (w : World MachineContext) where
   told-timeless : (never : NeverAt) (l : Line) → tells_there sys w never l ≡ tells_there sys w never (timeless l)
   unfolding tells_there
@@ -128,10 +204,11 @@ module _ (sys : SystemTables) (w : World MachineContext) where
   any-timeless [] l = refl
   any-timeless (never ∷ rest) l = ap₂ (λ (a b : Bool). a || b) (told-timeless never l) (any-timeless rest l)
 
--- the same is forbidden in alike worlds, whatever the number of the clock
-pub there-even : (sys : SystemTables) (nevers : List NeverAt) → IsEven (Alike sys) (forbids_there sys nevers)
-there-even sys nevers v w l m alike same =
+-- the same is forbidden in worlds that are alike but for dead locals, whatever the number of the clock
+pub there-even : (sys : SystemTables) (bodies : List BodyTables) (nevers : List NeverAt)
+    → IsEven (IsLike sys bodies) (forbids_there sys nevers)
+there-even sys bodies nevers v w l m alike same =
     any-timeless sys v nevers l
     ∙ ap (λ (x : Line). forbids_there sys nevers v x) same
     ∙ sym (any-timeless sys v nevers m)
-    ∙ any-there sys v w alike nevers m
+    ∙ like-there sys bodies nevers m v w alike

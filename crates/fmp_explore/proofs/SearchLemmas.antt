@@ -2,7 +2,6 @@
 use Rattle.std.proofs.Common.{◌≡◌, ◌+◌, ◌<◌, ◌≤◌, ◌⊎◌, ◌||◌, inl, inr, ℕ, List, [], Some, None, Bool, true, false, refl, sym, ap, subst, ◌∙◌, arith, length, slice_get}
 use Rattle.std.proofs.lemmas.Bool.{cases_lt}
 use Rattle.std.proofs.lemmas.Option.{slice_get_cases, slice_get_within}
-use Rattle.fmp_alike.specs.Alike.{Alike}
 use Rattle.fmp_alike.specs.Closed.{IsCovered}
 use Rattle.fmp_base.specs.declared.events.Event.{Event}
 use Rattle.fmp_base.specs.Meanings.{World}
@@ -18,12 +17,14 @@ use Rattle.fmp_explore.specs.States.{IsExamined, IsKnown, IsReached, path_to, wa
 use Rattle.fmp_image_bytes.specs.Images.{ImageTables, IsImage}
 use Rattle.fmp_instructions.specs.Machine.{code_meaning}
 use Rattle.fmp_instructions.specs.declared.instructions.MachineContext.{MachineContext}
+use Rattle.fmp_live.specs.Zeroed.{IsLike}
+use Rattle.fmp_live.proofs.LikeLaws.{like-chained, like-keeps, like-states}
 use Rattle.fmp_replay.specs.Replays.{reaction, replay}
 use Rattle.fmp_schedules.specs.Deadlocks.{IsDeadlock}
+use Rattle.fmp_schedules.specs.Likeness.{IsLikeness}
 use Rattle.fmp_schedules.specs.Schedules.{Watched, may_come, may_still, watch, watched_at_setup}
 use Rattle.fmp_schedules.specs.Tried.{IsSearched, IsTried, IsTriedSilent, NoneIsDeadlock, is_event_of}
 use Rattle.fmp_schedules.proofs.HoldLaws.{searched-holds}
-use Rattle.fmp_schedules.proofs.LikenessLaws.{alike-likeness}
 use Rattle.fmp_schedules.proofs.SilentLaws.{searched-silent}
 use Rattle.fmp_seen.specs.declared.link.Link.{Link}
 use Rattle.fmp_seen.specs.Links.{AreLinked}
@@ -42,12 +43,21 @@ past_none xs k none =
     ]
 
 -- a state that is not too deep
-pub at_depth : (q : Question) (links : List Link) (k : ℕ) (link : Link) → AreLinked links → slice_get links k ≡ Some link
-    → length q.after.items + link.depth < 1048575 → IsAt q links k (path_to q links k)
+pub at_depth : (q : Question) (links : List Link) (k : ℕ) (link : Link) → AreLinked links
+    → slice_get links k ≡ Some link → length q.after.items + link.depth < 1048575 → IsAt q links k (path_to q links k)
 at_depth q links k link linked found low =
     let same : length (path_to q links k) ≡ length q.after.items + link.depth =
     path_to-depth q links k link linked found in
     record { there = slice_get_within links k link found; path = refl; deep = omega (arith, same, low) }
+
+-- worlds that are alike but for dead locals show the same to a search
+pub likeness : (i : ImageTables) (n : ℕ) → IsLikeness i.system (code_meaning i.code) n (IsLike i.system i.code)
+likeness i n =
+    record {
+      keeps = like-keeps i.system i.code n;
+      chained = like-chained i.system i.code;
+      states = like-states i.system i.code;
+    }
 
 module _ (i : ImageTables) (n : ℕ) (q : Question) where
   -- no state is examined yet
@@ -100,7 +110,7 @@ module _ (i : ImageTables) (n : ℕ) (q : Question) where
 
     abbrev pub Tried : World MachineContext → Watched → Event → Type 0
     Tried w a e =
-        IsTried (Alike i.system) (watch (rules_of q) (forbids q.nevers.items))
+        IsTried (IsLike i.system i.code) (watch (rules_of q) (forbids q.nevers.items))
         (step i.system (code_meaning i.code) n) K w a e
 
     pub whole : (w : World MachineContext) (a : Watched) → K w a → length w.state.processors ≡ i.system.processors
@@ -135,7 +145,8 @@ module _ (i : ImageTables) (n : ℕ) (q : Question) where
 
     abbrev Silent : World MachineContext → Event → Type 0
     Silent w e =
-        IsTriedSilent (Alike i.system) i.system (code_meaning i.code) n (forbids_there i.system q.nevers_at.items) w e
+        IsTriedSilent (IsLike i.system i.code) i.system (code_meaning i.code) n
+        (forbids_there i.system q.nevers_at.items) w e
 
     silent_at : Examined → (k : ℕ) → k < length s.seen.links → (e : Event) → is_event_of i.system e ≡ true
         → may_come (rules_of q) i.system (code_meaning i.code) n (replay i n (path_to q s.seen.links k)).world
@@ -185,12 +196,12 @@ module _ (i : ImageTables) (n : ℕ) (q : Question) where
 
   -- the search began at setup
   first_covered : (s : Survey) → IsBegun i n q s → q.after.items ≡ [] → s.sure ≡ true
-      → IsCovered (Alike i.system) (IsReached i n q s.seen.links) (setup i.system (code_meaning i.code)).world
+      → IsCovered (IsLike i.system i.code) (IsReached i n q s.seen.links) (setup i.system (code_meaning i.code)).world
       (watched_at_setup (rules_of q) i.system (code_meaning i.code) (forbids q.nevers.items))
   unfolding replay
   first_covered s h none sure =
       subst
-      (λ (a : Watched). IsCovered (Alike i.system) (IsReached i n q s.seen.links)
+      (λ (a : Watched). IsCovered (IsLike i.system i.code) (IsReached i n q s.seen.links)
       (setup i.system (code_meaning i.code)).world a)
       (h.clean sure) (subst (λ (es : List Event). IsKnown i n q s.seen.links es) none (h.first sure))
 
@@ -203,10 +214,10 @@ module _ (i : ImageTables) (n : ℕ) (q : Question) where
       h.each sure in
       let K : World MachineContext → Watched → Type 0 =
       λ (w : World MachineContext) (a : Watched). IsReached i n q s.seen.links w a in
-      let searched : IsSearched (Alike i.system) (rules_of q) i.system (code_meaning i.code) n
+      let searched : IsSearched (IsLike i.system i.code) (rules_of q) i.system (code_meaning i.code) n
       (forbids q.nevers.items) q.rest.items K =
       record {
-        like = alike-likeness i.system (code_meaning i.code) n;
+        like = likeness i n;
         whole = whole image s survey;
         first = first_covered s h.begun none sure;
         tried = tried image s survey examined;
@@ -216,9 +227,10 @@ module _ (i : ImageTables) (n : ℕ) (q : Question) where
       record {
         holds =
             searched-holds (rules_of q) i.system (code_meaning i.code) n (forbids q.nevers.items) q.rest.items K
-            (forbids-timeless q.nevers.items) (Alike i.system) searched;
+            (forbids-timeless q.nevers.items) (IsLike i.system i.code) searched;
         there =
             searched-silent (rules_of q) i.system (code_meaning i.code) n (forbids q.nevers.items) q.rest.items K
-            (forbids-timeless q.nevers.items) (Alike i.system) searched (forbids_there i.system q.nevers_at.items)
-            (there-even i.system q.nevers_at.items) (silent image s survey examined);
+            (forbids-timeless q.nevers.items) (IsLike i.system i.code) searched
+            (forbids_there i.system q.nevers_at.items) (there-even i.system i.code q.nevers_at.items)
+            (silent image s survey examined);
       }

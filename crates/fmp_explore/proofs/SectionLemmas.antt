@@ -118,7 +118,8 @@ pub sections-told : (ss : List Section) (a b : List (List Line))
 sections-told [] a b e = refl
 sections-told (s ∷ ss) a b e =
     let first : holder_number (section_along s a) ≡ holder_number (section_along s b) = cc in
-    let rest : map holder_number (map (λ s. section_along s a) ss) ≡ map holder_number (map (λ s. section_along s b) ss) =
+    let rest : map holder_number (map (λ s. section_along s a) ss)
+    ≡ map holder_number (map (λ s. section_along s b) ss) =
     cc in
     let same : section_along s a ≡ section_along s b =
     along-same s a

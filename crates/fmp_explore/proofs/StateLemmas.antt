@@ -4,7 +4,6 @@ use Rattle.std.proofs.lemmas.List.{length-map, length_push}
 use Rattle.std.proofs.lemmas.List.Sums.{sum_by_push}
 use Rattle.std.proofs.lemmas.Option.{slice_get_within}
 use Rattle.std.specs.List.{list_any}
-use Rattle.fmp_alike.specs.Alike.{Alike}
 use Rattle.fmp_alike.specs.Closed.{IsCovered, LeadsIn}
 use Rattle.fmp_base.specs.declared.events.Event.{Event}
 use Rattle.fmp_base.specs.declared.events.Line.{Line}
@@ -14,15 +13,18 @@ use Rattle.fmp_explore.specs.declared.question.Question.{Question}
 use Rattle.fmp_explore.specs.Forbidden.{forbids}
 use Rattle.fmp_explore.specs.Places.{forbids_there}
 use Rattle.fmp_explore.specs.Rules.{rules_of}
-use Rattle.fmp_explore.specs.States.{AreKept, HasRow, IsExamined, IsKnown, IsReached, LeadsOn, came_of, holder_number, numbers_after, path_by, path_to, sections_of, watched_of}
+use Rattle.fmp_explore.specs.States.{AreKept, HasRow, IsExamined, IsKnown, IsReached, LeadsOn, came_of, holder_number, numbers_after, path_by, path_to, sections_of, watched_of, zeroed_after}
 use Rattle.fmp_fields.specs.declared.field.What.{What}
 use Rattle.fmp_fields.specs.FieldNumbers.{number_of}
 use Rattle.fmp_fields.specs.Fields.{AreAllFields}
-use Rattle.fmp_fields.proofs.FieldLaws.{fields-told, interrupts-told}
+use Rattle.fmp_fields.proofs.FieldLaws.{fields-told, interrupts-told, live-fields-told}
 use Rattle.fmp_image_bytes.specs.Images.{ImageTables, IsImage}
 use Rattle.fmp_instructions.specs.Machine.{code_meaning}
 use Rattle.fmp_instructions.specs.declared.instructions.MachineContext.{MachineContext}
 use Rattle.fmp_kernel.specs.KernelViews.{done_or}
+use Rattle.fmp_live.specs.LiveLocals.{LiveTable}
+use Rattle.fmp_live.specs.Zeroed.{IsLike}
+use Rattle.fmp_live.proofs.LikeLaws.{alike-like}
 use Rattle.fmp_replay.specs.Replays.{reaction, replay}
 use Rattle.fmp_replay.proofs.Replaying.{replay_last}
 use Rattle.fmp_schedules.specs.Deadlocks.{is_interrupt}
@@ -61,7 +63,8 @@ module _ (i : ImageTables) (n : ℕ) (q : Question) where
   pub reached_more : (links more : List Link) (w : World MachineContext) (a : Watched) → AreLinked links
       → IsReached i n q links w a → IsReached i n q (links ++ more) w a
   reached_more links more w a h r =
-      let same : path_to q (links ++ more) r.state ≡ path_to q links r.state = path_to-stays q links more r.state h r.there in
+      let same : path_to q (links ++ more) r.state ≡ path_to q links r.state =
+      path_to-stays q links more r.state h r.there in
       let longer : length (links ++ more) ≡ length links + length more = length-append links more in
       let lt : r.state < length links = r.there in
       record {
@@ -72,14 +75,14 @@ module _ (i : ImageTables) (n : ℕ) (q : Question) where
       }
 
   pub covered_more : (links more : List Link) (w : World MachineContext) (a : Watched) → AreLinked links
-      → IsCovered (Alike i.system) (IsReached i n q links) w a
-      → IsCovered (Alike i.system) (IsReached i n q (links ++ more)) w a
+      → IsCovered (IsLike i.system i.code) (IsReached i n q links) w a
+      → IsCovered (IsLike i.system i.code) (IsReached i n q (links ++ more)) w a
   covered_more links more w a h c =
       record { world = c.world; alike = c.alike; kept = reached_more links more c.world a h c.kept }
 
   abbrev Leads : List Link → Watched → Reaction MachineContext → Type 0
   Leads links a r =
-      LeadsIn (Alike i.system) (watch (rules_of q) (forbids q.nevers.items)) (IsReached i n q links) a r
+      LeadsIn (IsLike i.system i.code) (watch (rules_of q) (forbids q.nevers.items)) (IsReached i n q links) a r
 
   abbrev Silent : Reaction MachineContext → Type 0
   Silent r = IsSilent (forbids_there i.system q.nevers_at.items) r
@@ -153,10 +156,11 @@ module _ (i : ImageTables) (n : ℕ) (q : Question) where
 
   module _ (image : IsImage i) (fields : List What)
       (all : AreAllFields i.system i.code (is_some q.interrupts) fields) where
-    pub alike_self : (es : List Event) → Alike i.system (replay i n es).world (replay i n es).world
+    pub alike_self : (es : List Event) → IsLike i.system i.code (replay i n es).world (replay i n es).world
     alike_self es =
-        fields-told i.system i.code (is_some q.interrupts) fields (replay i n es).world (replay i n es).world 0 0 all
-        (readable i n es image) (readable i n es image) refl
+        alike-like i.system i.code (replay i n es).world (replay i n es).world
+        (fields-told i.system i.code (is_some q.interrupts) fields (replay i n es).world (replay i n es).world 0 0 all
+        (readable i n es image) (readable i n es image) refl)
 
     -- the world to which the path of a state leads is known
     pub state_known : (links : List Link) (k : ℕ) → k < length links → IsKnown i n q links (path_to q links k)
@@ -174,27 +178,29 @@ module _ (i : ImageTables) (n : ℕ) (q : Question) where
 
     module _ (first : List ℕ) (size : length first ≡ length fields + length q.sections.items) (es fs : List Event)
         (row : List ℕ) (a : HasRow i n q first fields es row) (b : HasRow i n q first fields fs row) where
-      abbrev field_numbers : List Event → List ℕ
-      field_numbers gs = map (number_of i.system (replay i n gs).world (count_by is_interrupt gs)) fields
+      abbrev field_numbers : List LiveTable → List Event → List ℕ
+      field_numbers tables gs =
+          map (number_of i.system (zeroed_after i n tables gs) (count_by is_interrupt gs)) fields
 
       abbrev holders : List Event → List ℕ
       holders gs = map holder_number (sections_of i n q gs)
 
-      as_many : (gs : List Event) → length (numbers_after i n q fields gs) ≡ length first
-      as_many gs =
-          length-append (field_numbers gs) (holders gs)
+      as_many : (tables : List LiveTable) (gs : List Event)
+          → length (numbers_after i n q tables fields gs) ≡ length first
+      as_many tables gs =
+          length-append (field_numbers tables gs) (holders gs)
           ∙ ap (λ (k : ℕ). k + length (holders gs)) (length-map fields _)
           ∙ ap (λ (k : ℕ). length fields + k) (length-map (sections_of i n q gs) _ ∙ sections_length i n q gs)
           ∙ sym size
 
-      parts : (field_numbers es ≡ field_numbers fs) × (holders es ≡ holders fs)
+      parts : (field_numbers a.tables es ≡ field_numbers b.tables fs) × (holders es ≡ holders fs)
       parts =
-          append-parts (field_numbers es) (field_numbers fs) (holders es) (holders fs)
+          append-parts (field_numbers a.tables es) (field_numbers b.tables fs) (holders es) (holders fs)
           (length-map fields _ ∙ sym (length-map fields _))
-          (rows-told first (numbers_after i n q fields es) (numbers_after i n q fields fs) (as_many es) (as_many fs)
-          a.is.values b.is.values (sym a.is.is ∙ b.is.is))
+          (rows-told first (numbers_after i n q a.tables fields es) (numbers_after i n q b.tables fields fs)
+          (as_many a.tables es) (as_many b.tables fs) a.is.values b.is.values (sym a.is.is ∙ b.is.is))
 
-      same_numbers : field_numbers es ≡ field_numbers fs
+      same_numbers : field_numbers a.tables es ≡ field_numbers b.tables fs
       same_numbers = parts.0
 
       same_sections : sections_of i n q es ≡ sections_of i n q fs
@@ -204,16 +210,16 @@ module _ (i : ImageTables) (n : ℕ) (q : Question) where
       same_came : came_of q.interrupts es ≡ came_of q.interrupts fs
       same_came =
           came_same q.interrupts es fs
-          (λ limited. interrupts-told i.system i.code (is_some q.interrupts) fields (replay i n es).world
-          (replay i n fs).world (count_by is_interrupt es) (count_by is_interrupt fs) all limited (a.few limited)
-          (b.few limited) same_numbers)
+          (λ limited. interrupts-told i.system i.code (is_some q.interrupts) fields (zeroed_after i n a.tables es)
+          (zeroed_after i n b.tables fs) (count_by is_interrupt es) (count_by is_interrupt fs) all limited
+          (a.few limited) (b.few limited) same_numbers)
 
-      -- worlds of one row are alike
-      pub rows_alike : Alike i.system (replay i n es).world (replay i n fs).world
+      -- worlds of one row are alike, but for dead locals
+      pub rows_alike : IsLike i.system i.code (replay i n es).world (replay i n fs).world
       rows_alike =
-          fields-told i.system i.code (is_some q.interrupts) fields (replay i n es).world (replay i n fs).world
-          (count_by is_interrupt es) (count_by is_interrupt fs) all (readable i n es image) (readable i n fs image)
-          same_numbers
+          live-fields-told i.system i.code (is_some q.interrupts) fields (replay i n es).world (replay i n fs).world
+          a.tables b.tables (count_by is_interrupt es) (count_by is_interrupt fs) all a.live b.live
+          (readable i n es image) (readable i n fs image) same_numbers
 
       pub rows_watch : watched_of i n q es ≡ watched_of i n q fs
       rows_watch = same_watch es fs same_came same_sections
@@ -256,7 +262,8 @@ module _ (i : ImageTables) (n : ℕ) (q : Question) where
       → reaction i n es e ≡ Did d
       → list_any (forbids q.nevers.items) d.lines ≡ false
       → list_any (forbids_there i.system q.nevers_at.items d.world) d.lines ≡ false
-      → is_any_met (sections_of i n q es) d.lines ≡ false → IsKnown i n q links (es ++ e ∷ []) → LeadsOn i n q links es e
+      → is_any_met (sections_of i n q es) d.lines ≡ false → IsKnown i n q links (es ++ e ∷ [])
+      → LeadsOn i n q links es e
   unfolding reaction
   leads_done links es e d did clean clean_there alone known =
       let count : count_by is_request d.lines ≡ cond (is_interrupt e) 1 0 =
@@ -278,8 +285,8 @@ module _ (i : ImageTables) (n : ℕ) (q : Question) where
       record {
         leads =
             subst (λ (r : Reaction MachineContext). Leads links (watched_of i n q es) r) (sym did)
-            (subst (λ (a : Watched). IsCovered (Alike i.system) (IsReached i n q links) d.world a) watch
-            (subst (λ (w : World MachineContext). IsCovered (Alike i.system) (IsReached i n q links) w
+            (subst (λ (a : Watched). IsCovered (IsLike i.system i.code) (IsReached i n q links) d.world a) watch
+            (subst (λ (w : World MachineContext). IsCovered (IsLike i.system i.code) (IsReached i n q links) w
             (watched_of i n q (es ++ e ∷ []))) world known));
         silent = subst (λ (r : Reaction MachineContext). Silent r) (sym did) clean_there;
       }
@@ -312,9 +319,11 @@ module _ (i : ImageTables) (n : ℕ) (q : Question) where
       record {
         leads =
             subst (λ (r : Reaction MachineContext). Leads links (watched_of i n q es) r) (sym keeps)
-            (subst (λ (a : Watched). IsCovered (Alike i.system) (IsReached i n q links) w a)
-            (sym (same_watch es (es ++ e ∷ []) (came_kept q.interrupts es e runs) (sym (sections_kept i n q es e p w keeps))))
-            (subst (λ (v : World MachineContext). IsCovered (Alike i.system) (IsReached i n q links) v
+            (subst (λ (a : Watched). IsCovered (IsLike i.system i.code) (IsReached i n q links) w a)
+            (sym
+            (same_watch es (es ++ e ∷ []) (came_kept q.interrupts es e runs)
+            (sym (sections_kept i n q es e p w keeps))))
+            (subst (λ (v : World MachineContext). IsCovered (IsLike i.system i.code) (IsReached i n q links) v
             (watched_of i n q (es ++ e ∷ []))) world known));
         silent = subst (λ (r : Reaction MachineContext). Silent r) (sym keeps) tt;
       }

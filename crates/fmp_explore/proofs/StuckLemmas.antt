@@ -1,9 +1,7 @@
 -- A search behind events that is whole shows that a task never acts after them.
-use Rattle.std.proofs.Common.{◌≡◌, ◌≢◌, ◌<◌, ℕ, List, [], ◌∷◌, Option, Some, None, Bool, true, false, refl, sym, ap, subst, ◌∙◌, count_by, length, not}
-use Rattle.fmp_alike.specs.Alike.{Alike}
+use Rattle.std.proofs.Common.{◌≡◌, ◌≢◌, ℕ, List, [], Option, Some, None, Bool, true, refl, sym, ap, subst, ◌∙◌, count_by, not}
 use Rattle.fmp_alike.specs.Closed.{IsClosed, IsCovered}
 use Rattle.fmp_base.specs.declared.events.Event.{Event}
-use Rattle.fmp_base.specs.declared.events.Line.{Line}
 use Rattle.fmp_base.specs.Meanings.{World}
 use Rattle.fmp_base.specs.declared.states.Phase.{Phase}
 use Rattle.fmp_base.specs.declared.states.Phase.TheVariants.{Dormant}
@@ -12,7 +10,6 @@ use Rattle.fmp_base.specs.States.{task_at}
 use Rattle.fmp_base.specs.TaskCalls.{is_dormant}
 use Rattle.fmp_base.specs.Steps.{step}
 use Rattle.fmp_explore.specs.declared.question.Never.{Never}
-use Rattle.fmp_explore.specs.declared.question.Never.TheVariants as kind
 use Rattle.fmp_explore.specs.declared.question.Question.{Question}
 use Rattle.fmp_explore.specs.declared.survey.Survey.{Survey}
 use Rattle.fmp_explore.specs.declared.question.Ticks.{Ticks}
@@ -20,25 +17,25 @@ use Rattle.fmp_explore.specs.Behind.{IsAbout, NeverActs, NoneFollows}
 use Rattle.fmp_explore.specs.Followed.{IsFollowed}
 use Rattle.fmp_explore.specs.Forbidden.{forbids}
 use Rattle.fmp_explore.specs.Rules.{is_idle, rules_of}
-use Rattle.fmp_explore.specs.Searching.{IsSurvey, IsWhole}
-use Rattle.fmp_explore.specs.States.{IsExamined, IsReached, came_of, path_to, watched_of}
+use Rattle.fmp_explore.specs.Searching.{IsWhole}
+use Rattle.fmp_explore.specs.States.{IsReached, came_of, watched_of}
 use Rattle.fmp_image_bytes.specs.Images.{ImageTables, IsImage}
 use Rattle.fmp_instructions.specs.Machine.{code_meaning}
 use Rattle.fmp_instructions.specs.declared.instructions.MachineContext.{MachineContext}
 use Rattle.fmp_instructions.specs.Instructions.{BodyTables}
 use Rattle.fmp_kernel.specs.KernelViews.{KernelView}
+use Rattle.fmp_live.specs.Zeroed.{IsLike}
 use Rattle.fmp_replay.proofs.Replaying.{world_of}
 use Rattle.fmp_schedules.specs.Deadlocks.{is_interrupt}
 use Rattle.fmp_schedules.specs.Schedules.{Rules, Watched, is_told, may_come, reached, watch}
 use Rattle.fmp_schedules.specs.declared.section.Section.{Section}
 use Rattle.fmp_schedules.specs.Stuck.{MayFollow, acts}
 use Rattle.fmp_schedules.proofs.HoldLaws.{or-none}
-use Rattle.fmp_schedules.proofs.LikenessLaws.{alike-likeness}
 use Rattle.fmp_schedules.proofs.RuleLaws.{watch-blind}
 use Rattle.fmp_schedules.proofs.StuckLaws.{SameCame, none-behind, told-too}
 use Rattle.fmp_schedules.proofs.TriedLaws.{tried-closed}
 use Rattle.fmp_explore.proofs.ForbiddenLemmas.{forbids-timeless}
-use Rattle.fmp_explore.proofs.SearchLemmas.{clean, tried, whole}
+use Rattle.fmp_explore.proofs.SearchLemmas.{clean, likeness, tried, whole}
 
 came_counted : (most : Option ℕ) (es : List Event) → SameCame most (count_by is_interrupt es) (came_of most es)
 came_counted None es = tt
@@ -49,26 +46,26 @@ module _ (i : ImageTables) (n : ℕ) (q : Question) (image : IsImage i) (s : Sur
   abbrev K : World MachineContext → Watched → Type 0
   K w a = IsReached i n q s.seen.links w a
 
-  closed : IsClosed (Alike i.system) (watch (rules_of q) (forbids q.nevers.items))
+  closed : IsClosed (IsLike i.system i.code) (watch (rules_of q) (forbids q.nevers.items))
       (may_come (rules_of q) i.system (code_meaning i.code) n) (step i.system (code_meaning i.code) n) K
   closed =
-      tried-closed i.system (code_meaning i.code) n (Alike i.system) (alike-likeness i.system (code_meaning i.code) n)
+      tried-closed i.system (code_meaning i.code) n (IsLike i.system i.code) (likeness i n)
       (watch (rules_of q) (forbids q.nevers.items))
       (may_come (rules_of q) i.system (code_meaning i.code) n) K
       (watch-blind (forbids q.nevers.items) (forbids-timeless q.nevers.items) (rules_of q))
       (whole i n q image s h.begun.survey) (tried i n q image s h.begun.survey (h.each sure))
 
-  first : IsCovered (Alike i.system) K (reached i.system (code_meaning i.code) n q.after.items)
+  first : IsCovered (IsLike i.system i.code) K (reached i.system (code_meaning i.code) n q.after.items)
       (watched_of i n q q.after.items)
   first =
-      subst (λ (w : World MachineContext). IsCovered (Alike i.system) K w (watched_of i n q q.after.items))
+      subst (λ (w : World MachineContext). IsCovered (IsLike i.system i.code) K w (watched_of i n q q.after.items))
       (world_of i n q.after.items) (h.begun.first sure)
 
   -- no forbidden line is told behind the events where the search began
   pub none_follows : NoneFollows i n q
   none_follows more follow =
       none-behind (rules_of q) i.system (code_meaning i.code) n (forbids q.nevers.items) K
-      (forbids-timeless q.nevers.items) (Alike i.system) (alike-likeness i.system (code_meaning i.code) n) closed
+      (forbids-timeless q.nevers.items) (IsLike i.system i.code) (likeness i n) closed
       (clean i n q image s h.begun.survey) q.after.items more
       (watched_of i n q q.after.items) refl (came_counted q.interrupts q.after.items) first follow
 
@@ -88,8 +85,8 @@ none_acts i n q about es t is none more follow =
     let told : List Event → Bool =
     λ (fs : List Event). is_told (acts t)
     (run i.system (code_meaning i.code) n (reached i.system (code_meaning i.code) n fs) more).events in
-    let moved : MayFollow (limited (is_idle about.ticks) about.interrupts q.sections.items) i.system (code_meaning i.code) n
-    about.after.items more =
+    let moved : MayFollow (limited (is_idle about.ticks) about.interrupts q.sections.items) i.system
+    (code_meaning i.code) n about.after.items more =
     subst (λ (fs : List Event). MayFollow (limited (is_idle about.ticks) about.interrupts q.sections.items) i.system
     (code_meaning i.code) n fs more) (sym is.after)
     (subst (λ (most : Option ℕ). MayFollow (limited (is_idle about.ticks) most q.sections.items) i.system
@@ -108,8 +105,8 @@ awake : (phase : Phase) → phase ≡ Dormant → not (is_dormant phase) ≡ tru
 awake phase e started = cc (ap (λ (x : Phase). not (is_dormant x)) e, started)
 
 -- a task is started on a kernel that has taken events
-pub started_after : (i : ImageTables) (n : ℕ) (es : List Event) (k : KernelView (List BodyTables) MachineContext) (t : ℕ)
-    → IsFollowed i n es k → not (is_dormant (task_at k.world.state.tasks t).phase) ≡ true
+pub started_after : (i : ImageTables) (n : ℕ) (es : List Event) (k : KernelView (List BodyTables) MachineContext)
+    (t : ℕ) → IsFollowed i n es k → not (is_dormant (task_at k.world.state.tasks t).phase) ≡ true
     → (task_at (reached i.system (code_meaning i.code) n es).state.tasks t).phase ≢ Dormant
 started_after i n es k t h started e =
     let same : k.world ≡ reached i.system (code_meaning i.code) n es =

@@ -9,7 +9,7 @@ use Rattle.fmp_explore.specs.declared.survey.Survey.{Survey}
 use Rattle.std.specs.declared.alloc.Global.{Global}
 use Rattle.std.specs.declared.vec.Vec.{Vec}
 use Rattle.fmp_explore.specs.Searching.{AreHeld, Grows, HasKept, IsAt, IsNext, IsSurvey, Stays}
-use Rattle.fmp_explore.specs.States.{AreKept, HasRow, IsKnown, IsRowOf, holder_number, path_by, path_to, sections_of}
+use Rattle.fmp_explore.specs.States.{AreKept, HasRow, IsKnown, IsRowOf, holder_number, path_by, path_to, sections_of, zeroed_after}
 use Rattle.fmp_fields.specs.declared.field.What.{What}
 use Rattle.fmp_fields.specs.FieldNumbers.{number_of}
 use Rattle.fmp_fields.specs.Fields.{AreAllFields}
@@ -17,10 +17,11 @@ use Rattle.fmp_image_bytes.specs.Images.{ImageTables, IsImage}
 use Rattle.fmp_instructions.specs.Instructions.{BodyTables}
 use Rattle.fmp_instructions.specs.declared.instructions.MachineContext.{MachineContext}
 use Rattle.fmp_kernel.specs.KernelViews.{KernelView}
+use Rattle.fmp_live.specs.LiveLocals.{AreLiveTables, LiveTable}
+use Rattle.fmp_live.specs.Zeroed.{zeroed}
 use Rattle.fmp_schedules.specs.declared.section.Section.{Section}
 use Rattle.fmp_schedules.specs.Deadlocks.{is_interrupt}
 use Rattle.fmp_seen.specs.declared.link.Link.{Link}
-use Rattle.fmp_replay.specs.Replays.{replay}
 use Rattle.fmp_seen.specs.Links.{AreLinked}
 use Rattle.fmp_seen.specs.declared.link.Entry.{Entry}
 use Rattle.fmp_seen.specs.declared.link.Entry.TheVariants as entry
@@ -129,7 +130,9 @@ module _ (i : ImageTables) (n : ℕ) (q : Question) where
               | inl old ↦
                   let within : k < length held = slice_get_within held k x old in
                   let there : k < length links = omega (arith, within, h.size) in
-                  h.each k x old ∙ ap (λ (es : List Event). sections_of i n q es) (sym (path_to-stays q links (link ∷ []) k linked there))
+                  h.each k x old
+                  ∙ ap (λ (es : List Event). sections_of i n q es)
+                  (sym (path_to-stays q links (link ∷ []) k linked there))
               | inr last ↦
                   ap (λ (v : Vec Section Global). v.items) (sym last.1) ∙ is
                   ∙ ap (λ (j : ℕ). sections_of i n q (path_to q (links ++ link ∷ []) j)) (sym (last.0 ∙ h.size))
@@ -137,25 +140,29 @@ module _ (i : ImageTables) (n : ℕ) (q : Question) where
 
   -- the row of a kernel is that of its state
   pub row_of_kernel : (first : List ℕ) (fields : List What) (row : List ℕ) (links : List Link) (link : Link)
-      (k : Kernels)
-      (came : ℕ) (sections : List Section) → IsNext i n q links link k
+      (k : Kernels) (tables : List LiveTable) (came : ℕ) (sections : List Section) → AreLiveTables i.code tables
+      → IsNext i n q links link k
       → came ≡ count_by is_interrupt (path_by q links link) → sections ≡ sections_of i n q (path_by q links link)
-      → IsRowOf first (map (number_of k.system k.world came) fields ++ map holder_number sections) row
+      → IsRowOf first (map (number_of k.system (zeroed k.system tables k.world) came) fields
+      ++ map holder_number sections) row
       → HasRow i n q first fields (path_by q links link) row
-  row_of_kernel first fields row links link k came sections next count held is =
+  row_of_kernel first fields row links link k tables came sections live next count held is =
       record {
         legal = next.followed.legal;
         few = next.few;
+        tables = tables;
+        live = live;
         is =
             subst (λ (ss : List Section). IsRowOf first
-            (map (number_of i.system (replay i n (path_by q links link)).world (count_by is_interrupt (path_by q links link)))
-            fields ++ map holder_number ss) row) held
+            (map (number_of i.system (zeroed_after i n tables (path_by q links link))
+            (count_by is_interrupt (path_by q links link))) fields ++ map holder_number ss) row) held
             (subst (λ (x : Kernels). IsRowOf first
-            (map (number_of x.system x.world (count_by is_interrupt (path_by q links link))) fields
-            ++ map holder_number sections) row)
+            (map (number_of x.system (zeroed x.system tables x.world) (count_by is_interrupt (path_by q links link)))
+            fields ++ map holder_number sections) row)
             next.followed.kernel
             (subst (λ (c : ℕ). IsRowOf first
-            (map (number_of k.system k.world c) fields ++ map holder_number sections) row) count is));
+            (map (number_of k.system (zeroed k.system tables k.world) c) fields ++ map holder_number sections) row)
+            count is));
       }
 
   module _ (a b : Survey) (same : SameRows a b) (h : IsSurvey i n q a) where
@@ -201,7 +208,8 @@ module _ (i : ImageTables) (n : ℕ) (q : Question) where
                 (new_known i n q image a.rows.fields.items h.survey.fields a.seen.links link);
           }
 
-      same_seen : b.rows.held.items ≡ a.rows.held.items → b.seen ≡ a.seen → (b.sure ≡ true → IsKnown i n q a.seen.links (path_by q a.seen.links link))
+      same_seen : b.rows.held.items ≡ a.rows.held.items → b.seen ≡ a.seen
+          → (b.sure ≡ true → IsKnown i n q a.seen.links (path_by q a.seen.links link))
           → HasKept i n q a b (path_by q a.seen.links link)
       same_seen held e known =
           record {
@@ -221,8 +229,8 @@ module _ (i : ImageTables) (n : ℕ) (q : Question) where
           }
 
       -- it is known already
-      pub keeps_known : (place : ℕ) → b.rows.held.items ≡ a.rows.held.items → b.seen ≡ a.seen → slice_get a.seen.rows place ≡ Some row
-          → HasKept i n q a b (path_by q a.seen.links link)
+      pub keeps_known : (place : ℕ) → b.rows.held.items ≡ a.rows.held.items → b.seen ≡ a.seen
+          → slice_get a.seen.rows place ≡ Some row → HasKept i n q a b (path_by q a.seen.links link)
       keeps_known place held e found =
           same_seen held e
           (λ _. row_known i n q image a.rows.fields.items h.survey.fields a.rows.first.items a.seen place

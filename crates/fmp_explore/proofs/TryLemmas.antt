@@ -16,7 +16,8 @@ use Rattle.fmp_schedules.specs.Tried.{is_event_of}
 pub runs-more : (processors : ℕ) → runs (processors + 1) ≡ runs processors ++ event.Run (processors + 1) ∷ []
 runs-more processors = map-range_with_len_more (λ p. event.Run p) 1 processors (processors + 1) (omega arith)
 
-has-request : (sys : SystemTables) (i : ℕ) → is_event_of sys (event.Int (i + 1)) ≡ is_some (defined_for (i + 1) sys.interrupts)
+has-request : (sys : SystemTables) (i : ℕ) → is_event_of sys (event.Int (i + 1))
+    ≡ is_some (defined_for (i + 1) sys.interrupts)
 has-request sys i =
     let next : i + 1 ≡ suc i = omega arith in
     ap (λ (n : ℕ). is_event_of sys (event.Int n)) next
@@ -57,7 +58,8 @@ module _ {X : Type 0} (test : X → Bool) (x : X) (passes : test x ≡ true) whe
   kept : (xs : List X) → Contains xs x → Contains (filter test xs) x
   kept [] (k, lt, is) = absurd (omega (arith, lt))
   kept (y ∷ ys) has = by_test (test y) refl (Contains-append_cases (y ∷ []) ys x has) (λ h. kept ys h) where
-    by_test : (b : Bool) → test y ≡ b → Contains (y ∷ []) x ⊎ Contains ys x → (Contains ys x → Contains (filter test ys) x)
+    by_test : (b : Bool) → test y ≡ b → Contains (y ∷ []) x ⊎ Contains ys x
+        → (Contains ys x → Contains (filter test ys) x)
         → Contains (cond b (y ∷ filter test ys) (filter test ys)) x
     by_test true e (inl h) rest = Contains-append_left (y ∷ []) (filter test ys) x h
     by_test true e (inr h) rest = Contains-append_right (y ∷ []) (filter test ys) x (rest h)
@@ -68,17 +70,19 @@ module _ {X : Type 0} (test : X → Bool) (x : X) (passes : test x ≡ true) whe
 low-number : (count number : ℕ) (rows : List InterruptConfig) → AllByRecursion (InterruptInRange count) rows
     → is_some (defined_for number rows) ≡ true → number ≤ 32
 low-number count number [] each h = absurd (cc)
-low-number count number (i ∷ rows) each h = by_test (nat_eq i.number number) refl h (λ k. low-number count number rows each.1 k) where
-  by_test : (b : Bool) → nat_eq i.number number ≡ b
-      → is_some (if b then Some i else defined_for number rows) ≡ true
-      → (is_some (defined_for number rows) ≡ true → number ≤ 32) → number ≤ 32
-  by_test true e h rest =
-      let same : i.number ≡ number = eqb-true i.number number e in
-      omega (arith, same, each.0.number.most)
-  by_test false e h rest = rest h
+low-number count number (i ∷ rows) each h =
+    by_test (nat_eq i.number number) refl h (λ k. low-number count number rows each.1 k) where
+      by_test : (b : Bool) → nat_eq i.number number ≡ b
+          → is_some (if b then Some i else defined_for number rows) ≡ true
+          → (is_some (defined_for number rows) ≡ true → number ≤ 32) → number ≤ 32
+      by_test true e h rest =
+          let same : i.number ≡ number = eqb-true i.number number e in
+          omega (arith, same, each.0.number.most)
+      by_test false e h rest = rest h
 
 -- each of a system's events is tried
-pub each-tried : (sys : SystemTables) (e : Event) → IsInRange sys → is_event_of sys e ≡ true → Contains (all_tries sys) e
+pub each-tried : (sys : SystemTables) (e : Event) → IsInRange sys → is_event_of sys e ≡ true
+    → Contains (all_tries sys) e
 unfolding requests
 each-tried sys (event.Run zero) r h = absurd (cc)
 each-tried sys (event.Run (suc p)) r h =

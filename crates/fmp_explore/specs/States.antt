@@ -1,6 +1,5 @@
 -- The states that a search keeps. Each is the world to which a list of events leads.
 use Rattle.std.specs.Prelude.{ℕ, zero, suc, ◌≡◌, ◌<◌, List, [], ◌∷◌, ◌++◌, Option, Some, None, true, false, count_by, is_some, length, map, slice_get}
-use Rattle.fmp_alike.specs.Alike.{Alike}
 use Rattle.fmp_alike.specs.Closed.{IsCovered, LeadsIn}
 use Rattle.fmp_base.specs.declared.events.Event.{Event}
 use Rattle.fmp_base.specs.Meanings.{World}
@@ -13,6 +12,8 @@ use Rattle.fmp_fields.specs.FieldNumbers.{number_of}
 use Rattle.fmp_image_bytes.specs.Images.{ImageTables}
 use Rattle.fmp_instructions.specs.Machine.{code_meaning}
 use Rattle.fmp_instructions.specs.declared.instructions.MachineContext.{MachineContext}
+use Rattle.fmp_live.specs.LiveLocals.{AreLiveTables, LiveTable}
+use Rattle.fmp_live.specs.Zeroed.{IsLike, zeroed}
 use Rattle.fmp_replay.specs.Replays.{IsLegal, reaction, replay}
 use Rattle.fmp_schedules.specs.Deadlocks.{IsDeadlock, is_interrupt, may_interrupt}
 use Rattle.fmp_schedules.specs.declared.section.Section.{Section}
@@ -51,10 +52,14 @@ holder_place (Some t) = suc t
 abbrev pub holder_number : Section → ℕ
 holder_number s = holder_place s.holder
 
--- the numbers of the fields after these events, and of the tasks that hold the sections
-abbrev pub numbers_after : ImageTables → (n : ℕ) → Question → List What → List Event → List ℕ
-numbers_after i n q fields es =
-    map (number_of i.system (replay i n es).world (count_by is_interrupt es)) fields
+-- the world after these events, with 0 for each local that these tables call dead
+abbrev pub zeroed_after : ImageTables → (n : ℕ) → List LiveTable → List Event → World MachineContext
+zeroed_after i n tables es = zeroed i.system tables (replay i n es).world
+
+-- the numbers of the fields there, and of the tasks that hold the sections
+abbrev pub numbers_after : ImageTables → (n : ℕ) → Question → List LiveTable → List What → List Event → List ℕ
+numbers_after i n q tables fields es =
+    map (number_of i.system (zeroed_after i n tables es) (count_by is_interrupt es)) fields
     ++ map holder_number (sections_of i n q es)
 
 -- the row of these numbers, each of which is one of 32 bits
@@ -62,12 +67,14 @@ pub record IsRowOf (first numbers row : List ℕ) : Type 0 where
   pub values : AreValues numbers
   pub is : row ≡ row_of first numbers
 
--- legal events lead to a state of this row
+-- legal events lead to a state of this row, by tables of live locals
 pub record HasRow (i : ImageTables) (n : ℕ) (q : Question) (first : List ℕ) (fields : List What) (es : List Event)
     (row : List ℕ) : Type 0 where
   pub legal : IsLegal i n es
   pub few : AreFew q es
-  pub is : IsRowOf first (numbers_after i n q fields es) row
+  pub tables : List LiveTable
+  pub live : AreLiveTables i.code tables
+  pub is : IsRowOf first (numbers_after i n q tables fields es) row
 
 -- the events that lead to the state at a place, with those behind which the search begins
 abbrev pub path_to : Question → List Link → (state : ℕ) → List Event
@@ -94,17 +101,18 @@ pub record IsReached (i : ImageTables) (n : ℕ) (q : Question) (links : List Li
   pub world : w ≡ (replay i n (path_to q links state)).world
   pub watch : a ≡ watched_of i n q (path_to q links state)
 
--- one of the states is alike to that after these events
+-- one of the states is alike to that after these events, but for dead locals
 abbrev pub IsKnown : ImageTables → (n : ℕ) → Question → List Link → List Event → Type 0
-IsKnown i n q links es = IsCovered (Alike i.system) (IsReached i n q links) (replay i n es).world (watched_of i n q es)
+IsKnown i n q links es =
+    IsCovered (IsLike i.system i.code) (IsReached i n q links) (replay i n es).world (watched_of i n q es)
 
 -- what this does after these events leads to a state, if it leads to any, and tells no answer that must never be given
 -- to its call
 pub record LeadsOn (i : ImageTables) (n : ℕ) (q : Question) (links : List Link) (es : List Event) (e : Event) :
     Type 0 where
   pub leads :
-      LeadsIn (Alike i.system) (watch (rules_of q) (forbids q.nevers.items)) (IsReached i n q links) (watched_of i n q es)
-      (reaction i n es e)
+      LeadsIn (IsLike i.system i.code) (watch (rules_of q) (forbids q.nevers.items)) (IsReached i n q links)
+      (watched_of i n q es) (reaction i n es e)
   pub silent : IsSilent (forbids_there i.system q.nevers_at.items) (reaction i n es e)
 
 -- the rules let an event come after others

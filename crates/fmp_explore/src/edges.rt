@@ -1,5 +1,5 @@
-//! The events between the states of a search, and who acted by them. They tell where to look for a task that can never go
-//! on: nothing is claimed of them.
+//! The events between the states of a search, and who acted by them. They tell where to look for a task that can never
+//! go on: nothing is claimed of them.
 use fmp_base::{Call, Caller, Er, Line, Reply};
 use fmp_seen::Entry;
 use std::alloc::{AllocError, Global};

@@ -14,7 +14,7 @@ use crate::finding::{Finding, confirmed, shortest_alone};
 use crate::question::Question;
 use crate::searching::{Ending, Watcher};
 use crate::stuck::suspected;
-use crate::subject::Subject;
+use crate::subject::{Subject, live_in};
 use crate::survey::Survey;
 use crate::values::Variety;
 use fmp_code::Vm;
@@ -216,7 +216,13 @@ pub fn explore<W: Watcher>(
         (forbids_there image.now.system question.now.nevers_at.items)) }
 {
     image.keeps_rules();
-    let subject = Subject { image, n, question };
+    let live = live_in(alloc, image);
+    let subject = Subject {
+        image,
+        n,
+        question,
+        live,
+    };
     let mut survey = begun(alloc, &subject)?;
     let ending = ended(alloc, &mut survey, &subject, watcher);
     make_report(alloc, image, n, question, &mut survey, ending)

@@ -2,6 +2,8 @@
 ghost use Rattle.std.specs.Prelude.{◌≡◌, ◌+◌, ◌++◌, [], IfOk, IfSome, OnOk, is_some, length, map, slice_get};
 ghost use Rattle.fmp_fields.specs.FieldNumbers.{number_of};
 ghost use Rattle.fmp_fields.specs.Fields.{AreAllFields};
+ghost use Rattle.fmp_live.specs.LiveLocals.{live_tables};
+ghost use Rattle.fmp_live.specs.Zeroed.{zeroed};
 ghost use Rattle.fmp_explore.specs.States.{IsRowOf, holder_number};
 
 use crate::holding::push_holders;
@@ -9,6 +11,7 @@ use crate::subject::Subject;
 use fmp_code::Vm;
 use fmp_fields::{What, fields_of, read};
 use fmp_kernel::Kernel;
+use fmp_live::LiveLocals;
 use fmp_schedules::Section;
 use fmp_seen::pack;
 use std::alloc::{AllocError, Global};
@@ -53,38 +56,47 @@ impl Rows {
 
     /// Takes the values of a kernel's state, with those of its sections, as those of the first one. `AllocError` if
     /// memory runs out.
-    pub fn begin(&mut self, kernel: &Kernel<Vm<'_>>, sections: &[Section]) -> Result<(), AllocError>
+    pub fn begin(
+        &mut self,
+        kernel: &Kernel<Vm<'_>>,
+        live: &LiveLocals,
+        sections: &[Section],
+    ) -> Result<(), AllocError>
         ensures fields { self.new.fields.items ≡ self.old.fields.items }
         ensures held { self.new.held ≡ self.old.held }
         ensures first { OnOk result
             (length self.new.first.items ≡ length self.new.fields.items + length sections.now) }
     {
-        read(kernel, 0, &self.fields, &mut self.first)?;
+        read(kernel, live, 0, &self.fields, &mut self.first)?;
         push_holders(&mut self.first, sections)
     }
 
-    /// Writes the values of a kernel's state, where this many interrupts came, and of its sections.
+    /// Writes the values of a kernel's state, where this many interrupts came, with 0 for each dead local, and of its
+    /// sections.
     fn write_values(
         &mut self,
         kernel: &Kernel<Vm<'_>>,
+        live: &LiveLocals,
         came: usize,
         sections: &[Section],
     ) -> Result<(), AllocError>
         ensures fields { self.new.fields.items ≡ self.old.fields.items }
         ensures first { self.new.first.items ≡ self.old.first.items }
         ensures held { self.new.held ≡ self.old.held }
-        ensures values { OnOk result (self.new.values.items ≡ map (number_of kernel.now.system kernel.now.world came)
+        ensures values { OnOk result (self.new.values.items ≡ map (number_of kernel.now.system
+            (zeroed kernel.now.system (live_tables live.now) kernel.now.world) came)
             self.old.fields.items ++ map holder_number sections.now) }
     {
-        read(kernel, came, &self.fields, &mut self.values)?;
+        read(kernel, live, came, &self.fields, &mut self.values)?;
         push_holders(&mut self.values, sections)
     }
 
-    /// Writes the row of a kernel's state, where this many interrupts came, with its sections. `AllocError` if memory
-    /// runs out.
+    /// Writes the row of a kernel's state, where this many interrupts came, with 0 for each dead local and with its
+    /// sections. `AllocError` if memory runs out.
     pub fn write(
         &mut self,
         kernel: &Kernel<Vm<'_>>,
+        live: &LiveLocals,
         came: usize,
         sections: &[Section],
     ) -> Result<(), AllocError>
@@ -92,10 +104,10 @@ impl Rows {
         ensures first { self.new.first.items ≡ self.old.first.items }
         ensures held { self.new.held ≡ self.old.held }
         ensures row { OnOk result (IsRowOf self.old.first.items
-            (map (number_of kernel.now.system kernel.now.world came) self.old.fields.items
-            ++ map holder_number sections.now) self.new.row.items) }
+            (map (number_of kernel.now.system (zeroed kernel.now.system (live_tables live.now) kernel.now.world) came)
+            self.old.fields.items ++ map holder_number sections.now) self.new.row.items) }
     {
-        self.write_values(kernel, came, sections)?;
+        self.write_values(kernel, live, came, sections)?;
         write_row(&self.values, &self.first, &mut self.row)
     }
 

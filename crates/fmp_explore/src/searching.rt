@@ -337,7 +337,8 @@ impl Survey {
         state: u32,
     ) -> Result<(), AllocError>
         requires survey { IsSurvey subject.now.image.now subject.now.n subject.now.question.now self.old }
-        requires at { IsAt subject.now.question.now self.old.seen.links state (path_to subject.now.question.now self.old.seen.links state) }
+        requires at { IsAt subject.now.question.now self.old.seen.links state
+            (path_to subject.now.question.now self.old.seen.links state) }
         requires ladder { IsLadder subject.now.image.now subject.now.n ladder.old }
         ensures examined { OnOk result (HasExamined subject.now.image.now subject.now.n subject.now.question.now
             self.old self.new (path_to subject.now.question.now self.old.seen.links state)) }

@@ -19,7 +19,7 @@ use crate::replaying::follow;
 use crate::searching::{Ending, Watcher};
 use crate::standing::may_rest;
 use crate::stretching::body_of;
-use crate::subject::Subject;
+use crate::subject::{Subject, live_in};
 use crate::survey::Survey;
 use fmp_base::{Event, Phase, System};
 use fmp_code::Vm;
@@ -144,8 +144,8 @@ fn suspects_of(
     in_order(alloc, &suspects)
 }
 
-/// The first of the states in which tasks seem to be stuck, or one for each of these tasks, as is asked. `AllocError` if
-/// memory runs out.
+/// The first of the states in which tasks seem to be stuck, or one for each of these tasks, as is asked. `AllocError`
+/// if memory runs out.
 fn stuck_in(
     alloc: Global,
     survey: &Survey,
@@ -241,7 +241,13 @@ fn is_silent_about(
     requires high { n ≤ 2 ^ 48 }
     ensures { IfOk result (λ yes. IsTrue yes → NoneFollows image.now n question.now) }
 {
-    let subject = Subject { image, n, question };
+    let live = live_in(alloc, image);
+    let subject = Subject {
+        image,
+        n,
+        question,
+        live,
+    };
     is_silent(alloc, &subject)
 }
 

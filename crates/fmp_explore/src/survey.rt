@@ -144,7 +144,7 @@ impl Survey {
             (path_by subject.now.question.now self.old.seen.links link)) }
     {
         subject.image.keeps_rules();
-        self.rows.write(kernel, came, &sections)?;
+        self.rows.write(kernel, &subject.live, came, &sections)?;
         let entry = self.seen.add(alloc, &self.rows.row, link)?;
         self.edges.note_entry(alloc, entry);
         match entry {
@@ -162,8 +162,8 @@ impl Survey {
         }
     }
 
-    /// Notes what a list of events leads to, whose last one left these lines by a stretch that made this call, if it made
-    /// one, and found these sections: whether a task enters one while another holds it.
+    /// Notes what a list of events leads to, whose last one left these lines by a stretch that made this call, if it
+    /// made one, and found these sections: whether a task enters one while another holds it.
     fn note_meetings(
         &mut self,
         alloc: Global,
@@ -252,7 +252,8 @@ impl Survey {
         requires survey { IsSurvey subject.now.image.now subject.now.n subject.now.question.now self.old }
         requires none { self.old.seen.links ≡ [] }
         requires kernel { kernel.old ≡ kernel_after subject.now.image.now subject.now.n [] }
-        requires sections { sections.items ≡ sections_of subject.now.image.now subject.now.n subject.now.question.now [] }
+        requires sections { sections.items ≡ sections_of subject.now.image.now subject.now.n
+            subject.now.question.now [] }
         requires clean { self.old.sure ≡ true → IsClean subject.now.image.now subject.now.n subject.now.question.now }
         ensures { OnOk result (IsBegun subject.now.image.now subject.now.n subject.now.question.now self.new) }
     {
@@ -281,7 +282,7 @@ impl Survey {
     {
         self.note_setup(alloc, subject, kernel)?;
         let sections = sections_after(alloc, &subject.question.sections, kernel.lines())?;
-        self.rows.begin(kernel, &sections)?;
+        self.rows.begin(kernel, &subject.live, &sections)?;
         self.begin_behind(alloc, subject, kernel, sections)
     }
 

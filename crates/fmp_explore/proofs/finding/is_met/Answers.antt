@@ -24,4 +24,5 @@ returns c = λ met.
     let yes : IsTrue c.is_done.result = search rules in
     met_after c.args.image.now c.args.n c.args.section c.args.before.now c.args.last c.follow_section.new.kernel
     c.is_done.new.kernel c.in-Some.section c.args.meeting has (c.is_done.ensures yes)
-    (subst (λ (ls : List Line). IsMeeting c.in-Some.section ls c.args.meeting) c.lines.ensures (c.is_meeting.ensures met))
+    (subst (λ (ls : List Line). IsMeeting c.in-Some.section ls c.args.meeting) c.lines.ensures
+    (c.is_meeting.ensures met))

@@ -19,5 +19,6 @@ loop-e-preserved c =
 
 pub returns : goal.returns
 returns c =
-    section_all c.args.image.now c.args.n c.args.section c.args.steps.now c.loop-e.e-index c.loop-e.kernel c.loop-e.after
+    section_all c.args.image.now c.args.n c.args.section c.args.steps.now c.loop-e.e-index c.loop-e.kernel
+    c.loop-e.after
     (omega arith) c.loop-e.invariant

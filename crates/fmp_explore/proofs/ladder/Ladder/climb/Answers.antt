@@ -1,4 +1,3 @@
-use Rattle.fmp_explore.specs.Ladders.{IsLadder}
 use Rattle.fmp_explore.proofs.Following.{followed_step}
 use Rattle.fmp_explore.proofs.LadderLemmas.{over_going}
 use Rattle.fmp_explore.proofs.ladder.Ladder.climb.Goals as goal

@@ -11,7 +11,8 @@ returns-in_default g c = λ _.
 
 pub examine-requires-clause-at : goal.examine-requires-clause-at
 examine-requires-clause-at g c =
-    at_depth c.args.subject.now.question.now c.loop-i.self.seen.links c.loop-i.i c.in-Some.link c.loop-i.invariant.searching.begun.survey.kept.linked
+    at_depth c.args.subject.now.question.now c.loop-i.self.seen.links c.loop-i.i c.in-Some.link
+    c.loop-i.invariant.searching.begun.survey.kept.linked
     (sym c.link.ensures ∙ c.in-Some.is) c.in_default-ending_before.ensures.goes_on
 
 pub loop-i-preserved : goal.loop-i-preserved

@@ -2,6 +2,7 @@ use Rattle.std.proofs.Common.{◌∷◌, ◌++◌, [], ◌∙◌, List, ap, refl
 use Rattle.std.specs.declared.alloc.Global.{Global}
 use Rattle.std.specs.declared.vec.Vec.{Vec}
 use Rattle.fmp_schedules.specs.declared.section.Section.{Section}
+use Rattle.fmp_live.specs.LiveLocals.{live_tables}
 use Rattle.fmp_seen.specs.Seen.{Adds}
 use Rattle.fmp_explore.proofs.SurveyLemmas.{adds_known, adds_new, adds_none, keeps_known, keeps_new, keeps_none, row_of_kernel}
 use Rattle.fmp_explore.proofs.survey.Survey.keep.Goals as goal
@@ -13,7 +14,8 @@ returns-in_ok-push-in-New c =
     let links = a.seen.links in
     let has =
     row_of_kernel s.image.now s.n s.question.now a.rows.first.items a.rows.fields.items c.write.new.self.row.items links
-    c.args.link c.args.kernel.now c.args.came c.deref.result.now c.requires.next c.requires.came
+    c.args.link c.args.kernel.now (live_tables s.live) c.args.came c.deref.result.now s.live_is c.requires.next
+    c.requires.came
     (c.deref.ensures.value ∙ c.requires.sections)
     c.in_ok-write.ensures.row in
     let adds = subst (λ (row : List ℕ). Adds a.seen c.add.new.self row c.args.link c.in_ok-entry.entry)
@@ -34,7 +36,8 @@ returns-in-Known c =
     let links = a.seen.links in
     let has =
     row_of_kernel s.image.now s.n s.question.now a.rows.first.items a.rows.fields.items c.write.new.self.row.items links
-    c.args.link c.args.kernel.now c.args.came c.deref.result.now c.requires.next c.requires.came
+    c.args.link c.args.kernel.now (live_tables s.live) c.args.came c.deref.result.now s.live_is c.requires.next
+    c.requires.came
     (c.deref.ensures.value ∙ c.requires.sections)
     c.in_ok-write.ensures.row in
     let adds = subst (λ (row : List ℕ). Adds a.seen c.add.new.self row c.args.link c.in_ok-entry.entry)
@@ -53,7 +56,8 @@ returns-in-Full c =
     let links = a.seen.links in
     let has =
     row_of_kernel s.image.now s.n s.question.now a.rows.first.items a.rows.fields.items c.write.new.self.row.items links
-    c.args.link c.args.kernel.now c.args.came c.deref.result.now c.requires.next c.requires.came
+    c.args.link c.args.kernel.now (live_tables s.live) c.args.came c.deref.result.now s.live_is c.requires.next
+    c.requires.came
     (c.deref.ensures.value ∙ c.requires.sections)
     c.in_ok-write.ensures.row in
     let adds = subst (λ (row : List ℕ). Adds a.seen c.add.new.self row c.args.link c.in_ok-entry.entry)

@@ -17,8 +17,10 @@ keep-requires-clause-next c =
     let depth = l.depth ∙ ap (λ (k : ℕ). (length a.steps.now - k) + 1) same in
     let linked = c.requires.survey.kept.linked in
     next_of s.image.now s.n s.question.now links c.link.result (a.steps.now ++ a.event ∷ []) c.args.kernel.now
-    (next_linked s.question.now links a.state a.steps.now a.event c.link.result linked c.requires.at l.parent l.event depth)
-    (next_path s.question.now links a.state a.steps.now a.event c.link.result linked c.requires.at l.parent l.event depth)
+    (next_linked s.question.now links a.state a.steps.now a.event c.link.result linked c.requires.at
+    l.parent l.event depth)
+    (next_path s.question.now links a.state a.steps.now a.event c.link.result linked c.requires.at
+    l.parent l.event depth)
     c.requires.followed c.requires.few
 
 pub keep-requires-clause-came : goal.keep-requires-clause-came
@@ -32,7 +34,8 @@ keep-requires-clause-came c =
     let depth = l.depth ∙ ap (λ (k : ℕ). (length a.steps.now - k) + 1) same in
     c.interrupts.ensures
     ∙ ap (λ (es : List Event). count_by is_interrupt es)
-    (sym (next_path s.question.now links a.state a.steps.now a.event c.link.result c.requires.survey.kept.linked c.requires.at l.parent
+    (sym (next_path s.question.now links a.state a.steps.now a.event c.link.result c.requires.survey.kept.linked
+    c.requires.at l.parent
     l.event depth))
 
 pub keep-requires-clause-sections : goal.keep-requires-clause-sections
@@ -46,7 +49,8 @@ keep-requires-clause-sections c =
     let depth = l.depth ∙ ap (λ (k : ℕ). (length a.steps.now - k) + 1) same in
     c.requires.sections
     ∙ ap (λ (es : List Event). sections_of s.image.now s.n s.question.now es)
-    (sym (next_path s.question.now links a.state a.steps.now a.event c.link.result c.requires.survey.kept.linked c.requires.at l.parent
+    (sym (next_path s.question.now links a.state a.steps.now a.event c.link.result c.requires.survey.kept.linked
+    c.requires.at l.parent
     l.event depth))
 
 pub returns : goal.returns
@@ -61,6 +65,7 @@ returns c =
     subst
     (λ (es : List Event). OnOk c.keep.result
     (HasKept s.image.now s.n s.question.now c.args.self.now c.keep.new.self es))
-    (next_path s.question.now links a.state a.steps.now a.event c.link.result c.requires.survey.kept.linked c.requires.at l.parent
+    (next_path s.question.now links a.state a.steps.now a.event c.link.result c.requires.survey.kept.linked
+    c.requires.at l.parent
     l.event depth)
     c.keep.ensures

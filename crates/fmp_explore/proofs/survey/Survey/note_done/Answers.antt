@@ -17,7 +17,8 @@ keep_next-requires-clause-survey c =
 
 pub keep_next-requires-clause-at : goal.keep_next-requires-clause-at
 keep_next-requires-clause-at c =
-    stays_at c.args.subject.now.question.now c.args.self.now c.note_lines.new.self c.args.attempt.state c.args.attempt.steps.now
+    stays_at c.args.subject.now.question.now c.args.self.now c.note_lines.new.self c.args.attempt.state
+    c.args.attempt.steps.now
     c.in_ok-note_lines.ensures.stays c.requires.at
 
 pub keep_next-requires-clause-followed : goal.keep_next-requires-clause-followed
@@ -28,11 +29,13 @@ keep_next-requires-clause-sections c =
     let s = c.args.subject.now in
     let a = c.args.attempt in
     let before =
-    held_at s.image.now s.n s.question.now c.args.self.now.rows.held.items c.args.self.now.seen.links a.state a.steps.now
+    held_at s.image.now s.n s.question.now c.args.self.now.rows.held.items c.args.self.now.seen.links
+    a.state a.steps.now
     c.in_ok-before.before.items c.requires.survey.held c.requires.at c.in_ok-before.ensures in
     c.in_ok-sections.ensures
     ∙ ap (λ (ss : List Section). sections_after ss c.lines.result.now) (c.deref-2.ensures.value ∙ before)
-    ∙ ap (λ (ls : List Line). sections_after (sections_of s.image.now s.n s.question.now a.steps.now) ls) c.lines.ensures
+    ∙ ap (λ (ls : List Line). sections_after (sections_of s.image.now s.n s.question.now a.steps.now) ls)
+    c.lines.ensures
     ∙ sections_on s.image.now s.n s.question.now a.steps.now a.event c.args.kernel.now c.requires.done
 
 pub returns : goal.returns
@@ -40,7 +43,8 @@ returns c =
     let s = c.args.subject.now in
     let a = c.args.attempt in
     let before =
-    held_at s.image.now s.n s.question.now c.args.self.now.rows.held.items c.args.self.now.seen.links a.state a.steps.now
+    held_at s.image.now s.n s.question.now c.args.self.now.rows.held.items c.args.self.now.seen.links
+    a.state a.steps.now
     c.in_ok-before.before.items c.requires.survey.held c.requires.at c.in_ok-before.ensures in
     IfOk-weaker c.keep_next.result _ _
     (λ _ kept. dealt_done s.image.now s.n s.question.now c.args.self.now c.note_lines.new.self c.keep_next.new.self

@@ -13,7 +13,8 @@ keep_next-requires-clause-survey c =
 
 pub keep_next-requires-clause-at : goal.keep_next-requires-clause-at
 keep_next-requires-clause-at c =
-    stays_at c.args.subject.now.question.now c.args.self.now c.note_endless.new.self c.args.attempt.state c.args.attempt.steps.now
+    stays_at c.args.subject.now.question.now c.args.self.now c.note_endless.new.self
+    c.args.attempt.state c.args.attempt.steps.now
     c.in_ok-note_endless.ensures c.requires.at
 
 pub keep_next-requires-clause-followed : goal.keep_next-requires-clause-followed
@@ -28,7 +29,8 @@ keep_next-requires-clause-sections c =
     stays_survey s.image.now s.n s.question.now c.args.self.now c.note_endless.new.self stays c.requires.survey in
     held_at s.image.now s.n s.question.now c.note_endless.new.self.rows.held.items c.note_endless.new.self.seen.links
     a.state a.steps.now c.in_ok-sections.sections.items survey.held
-    (stays_at c.args.subject.now.question.now c.args.self.now c.note_endless.new.self a.state a.steps.now stays c.requires.at) c.in_ok-sections.ensures
+    (stays_at c.args.subject.now.question.now c.args.self.now c.note_endless.new.self
+    a.state a.steps.now stays c.requires.at) c.in_ok-sections.ensures
     ∙ sections_stay s.image.now s.n s.question.now a.steps.now a.event c.args.kernel.now c.requires.kept
 
 pub returns : goal.returns
