@@ -4,12 +4,12 @@
     checks/model/explore.py [COUNT [SEED]] [--view PATH] [--program PATH]
 
 Both find something or nothing. Where they find something, their shortest lists of events are as long, each event of the
-program's list does something in the model, and after the last one the model shows what was found; where they find
-nothing, they have seen as many states and as many events that did something. Of three systems one has sections: tasks
-put the values by which they enter and leave them. In one some tasks may wait forever, so that fewer deadlocks are found
-first and more tasks that can never go on; of these some ask for few interrupts or for ticks where nobody can do
-anything. Every other system runs at a small bound. COUNT is the number of systems that were compared: systems with more
-than MOST states are left out.
+program's list does something in the model, and after the last one the model shows what was found. Up to there, or where
+they find nothing in all, they have seen as many states and as many events that did something, as deep. Of three systems
+one has sections: tasks put the values by which they enter and leave them. In one some tasks may wait forever, so that
+fewer deadlocks are found first and more tasks that can never go on; of these some ask for few interrupts or for ticks
+where nobody can do anything. Every other system runs at a small bound. COUNT is the number of systems that were
+compared: systems with more than MOST states are left out.
 """
 
 import random
@@ -107,7 +107,7 @@ def shows_stuck(second, kernel, came, number):
     """The task is started, and no events that may come let it go on, by the second search."""
     inside, _ = inside_after(kernel.world.lines, second.question.sections, second.first[1])
     is_counted = second.question.interrupts is not None
-    key = state_key(kernel), inside, came if is_counted else 0
+    key = state_key(kernel, second.codes), inside, came if is_counted else 0
     expect(key in second.never_going_on(number), f"T{number} can go on in the model")
 
 
@@ -137,14 +137,17 @@ def shows(trial, case, bound, second, what):
 def compare(trial, case, bound, question):
     """Compares both searches: what was found, or nothing where the system was not examined whole."""
     status, text = explored(trial, bound, question)
+    if status == 5:
+        return None
     second = Search(case.system, bound, question, MOST)
     result = second.run()
-    if status == 5 or (not result.found and not result.is_whole):
+    if not result.found and not result.is_whole:
         return None
     expect(status == (4 if result.found else 0), f"it ends with status {status}; the second search: {result.found}")
+    numbers = result.states, result.events, result.deep
+    is_stopped = re.search("^stopped", text, re.MULTILINE)
+    expect(is_stopped or numbers_of(text) == numbers, f"it printed {text!r}, and the second search has {numbers}")
     if not result.found:
-        numbers = result.states, result.events, result.deep
-        expect(numbers_of(text) == numbers, f"it printed {text!r}, and the second search has {numbers}")
         return "nothing"
     what, steps = re.search(r"^(.*): after (\d+) steps?, in ", text).groups()
     length = len(result.found[0][1])

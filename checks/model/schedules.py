@@ -1,16 +1,17 @@
 """A second search of all schedules, over the model of the kernel: breadth first, with a copy of it for each state."""
 
 import copy
+import pickle
 import re
 from collections import deque
-from dataclasses import dataclass, field, replace
+from dataclasses import dataclass, field
 from math import inf
 
-from model.bodies import Call, Endless, Faulted, Return, do, meets, stretch
+from model.bodies import stretch
+from model.instructions import Code
 from model.kernel import Kernel
 from model.world import State
 
-ENDLESS_LOOP = 3  # the instructions of `while (1) { }`
 OF_TASK = re.compile(r"\d+ p\d T(\d+) (.*)")  # a line of a task: its number, and what it tells
 
 
@@ -60,64 +61,26 @@ def place_of_queues(system):
     return names, queues
 
 
-def pass_on(body, context):
-    """Goes through what stands next in a body: its loop's end or head, or a statement. False where that stops."""
-    if context.position == len(body.statements):
-        context.units += 1
-        context.position = 0
-        return body.repeats
-    if body.repeats and context.position == 0 and not context.entered:
-        context.units += 2
-        context.entered = True
-        return True
-    statement = body.statements[context.position]
-    context.position, context.entered = context.position + 1, False
-    if statement.only_if and not meets(context, statement.only_if):
-        return True
-    if isinstance(statement.action, Endless):
-        context.units = inf
-    if isinstance(statement.action, (Call, Return, Endless)):
-        return False
-    do(statement.action, context)
-    return True
+def context_key(codes, actor, is_waiting):
+    """Where the body of a task or handler stands, its operands and its live locals."""
+    return actor.context and codes[actor.body].standing(copy.copy(actor.context), is_waiting)
 
 
-def place_of(body, context):
-    """Where a body stands: the statement, whether its loop is entered, the locals, and how many instructions of the
-    statement it has made, those of an endless loop without the rounds."""
-    at = replace(context, units=0, spent=0)
-    at.entered = False
-    while True:
-        before = copy.copy(at)
-        try:
-            goes_on = pass_on(body, at)
-        except Faulted:
-            goes_on = False
-        if not goes_on or at.units > context.spent:
-            made = context.spent - before.units
-            made = made % ENDLESS_LOOP if at.units == inf else made
-            return before.position, before.entered, before.exinf, before.v, before.r, before.a, made
-
-
-def context_key(system, actor):
-    """Where the body of a task or handler stands, and its locals."""
-    return actor.context and place_of(system.bodies[actor.body], actor.context)
-
-
-def task_key(world, names, task):
+def task_key(world, codes, names, task):
     wait = task.wait and (names.get(id(task.wait.queue)), task.wait.bits, task.wait.mode, task.wait.word)
     ticks_left = None if task.deadline is None else task.deadline - world.clock
     return (
         task.state, task.suspended, task.priority, task.processor, task.activations, task.stored_processor,
-        task.wakeups, wait, ticks_left, None if task.state is State.DORMANT else context_key(world.system, task),
+        task.wakeups, wait, ticks_left,
+        None if task.state is State.DORMANT else context_key(codes, task, task.state is State.WAITING),
     )
 
 
-def processor_key(system, processor):
+def processor_key(codes, processor):
     handler = processor.handler
     return (
         processor.running and processor.running.number, processor.lock, processor.dispatch_enabled,
-        handler and handler.name, handler and context_key(system, handler),
+        handler and handler.name, handler and context_key(codes, handler, False),
         tuple(sorted(pending.name for pending in processor.pending)),
     )
 
@@ -130,16 +93,17 @@ def ready_key(world, processor):
         for priority in {task.priority for task in ready}))
 
 
-def state_key(kernel):
-    """All that a later event can show: no clock, and queues in place of the one order."""
+def state_key(kernel, codes):
+    """All that a later event can show, where the bodies have these codes: no clock, no dead locals, and queues in place
+    of the one order."""
     world, system = kernel.world, kernel.system
     names, queues = place_of_queues(system)
     names[id(world.sleepers)], names[id(world.delayed)] = ("slp", 0), ("dly", 0)
     return (
-        tuple(task_key(world, names, task) for task in world.tasks),
+        tuple(task_key(world, codes, names, task) for task in world.tasks),
         tuple(ready_key(world, processor.number) for processor in world.processors),
         tuple(tuple(task.number for task in world.members(queue)) for queue in queues),
-        tuple(processor_key(system, processor) for processor in world.processors),
+        tuple(processor_key(codes, processor) for processor in world.processors),
         tuple(semaphore.count for semaphore in system.semaphores),
         tuple(flag.pattern for flag in system.flags),
         tuple(tuple(queue.words) for queue in system.data_queues),
@@ -203,10 +167,17 @@ def goes_on_for_ever(kernel, event):
     return bool(actor) and stretch(kernel.system.bodies[actor.body], actor.context)[1].units == inf
 
 
+def copied(kernel):
+    """A copy of a kernel, which shares the bodies."""
+    bodies, kernel.system.bodies = kernel.system.bodies, None
+    other = pickle.loads(pickle.dumps(kernel, pickle.HIGHEST_PROTOCOL))
+    kernel.system.bodies = other.system.bodies = bodies
+    return other
+
+
 def after(kernel, event):
     """A copy of the kernel after an event; none if it does nothing."""
-    bodies = kernel.system.bodies
-    other = copy.deepcopy(kernel, {id(bodies): bodies})
+    other = copied(kernel)
     other.world.lines, other.world.event, other.taken = [], 0, 0
     other.step(event)
     return other if other.taken else None
@@ -228,7 +199,8 @@ class Search:
     def __init__(self, system, bound, question, most):
         self.start, self.question, self.most = Kernel(system, bound), question, most
         self.tries = tries_of(system)
-        self.first = state_key(self.start), len(question.sections) * (None,), 0
+        self.codes = [Code(body) for body in system.bodies]
+        self.first = state_key(self.start, self.codes), len(question.sections) * (None,), 0
         self.seen = {self.first: (None, None, 0)}
         self.edges = []
         self.queue = deque([(self.start, self.first)])
@@ -252,7 +224,7 @@ class Search:
         inside, met = inside_after(lines, self.question.sections, key[1])
         result.found += [(f"two in {section}", [*self.path(key), event]) for section in met]
         is_counted = event.startswith("int") and self.question.interrupts is not None
-        reached = state_key(kernel), inside, key[2] + is_counted
+        reached = state_key(kernel, self.codes), inside, key[2] + is_counted
         if reached not in self.seen:
             self.seen[reached] = key, event, self.seen[key][2] + 1
             self.queue.append((kernel, reached))
