@@ -23,7 +23,7 @@ live_tables l = map live_table l.bodies.items
 abbrev pub table_at : List LiveTable → ℕ → LiveTable
 table_at tables body = get_or tables body (record { goes = []; awaits = [] })
 
--- whether a local is live at a place: each is that a row does not tell of
+-- whether a local is live at a place; one that the rows leave out is
 abbrev pub is_live : List (List Bool) → ℕ → ℕ → Bool
 is_live rows place v = get_or (get_or rows place []) v true
 

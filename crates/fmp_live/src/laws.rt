@@ -12,8 +12,8 @@ ghost use Rattle.fmp_live.specs.LiveLocals.{AreLiveTables, LiveTable};
 ghost use Rattle.fmp_live.specs.Zeroed.{IsLike, zeroed};
 ghost use Rattle.fmp_worlds.specs.Settled.{IsSettled};
 
-/// Alike worlds are alike but for dead locals; where one world is so to another, that is so to the one; what is so to
-/// one is so to whatever that is so to; and their states are alike.
+/// Being alike but for dead locals is symmetric and transitive, it holds of alike worlds, and the states of such worlds
+/// are alike.
 pub fn like_worlds_are_chained()
     ensures alike { (sys : SystemTables) (bodies : List BodyTables) (v w : World MachineContext) →
         Alike sys v w → IsLike sys bodies v w }
