@@ -6,6 +6,7 @@ mod cuts;
 mod decoded;
 mod decoded_code;
 mod delivery;
+mod effects;
 mod holding;
 pub mod laws;
 mod machine;

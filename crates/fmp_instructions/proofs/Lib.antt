@@ -4,6 +4,8 @@ pub mod Fetching
 pub mod Fitting
 pub mod Filling
 pub mod Frames
+pub mod Giving
+pub mod Meanings
 pub mod Operations
 pub mod Places
 pub mod Steps

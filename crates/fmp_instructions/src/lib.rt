@@ -4,6 +4,7 @@
 
 mod decoder;
 pub mod instructions;
+mod loops;
 pub mod operators;
 pub mod register_file;
 pub mod registers;
