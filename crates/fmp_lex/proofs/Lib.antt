@@ -1,9 +1,11 @@
 pub mod Answered
+pub mod Counting
 pub mod Existence
 pub mod Heads
 pub mod Lists
 pub mod Names
 pub mod Packing
+pub mod Placed
 pub mod Repetitions
 pub mod Sequences
 pub mod Spellings

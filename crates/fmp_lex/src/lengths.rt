@@ -5,7 +5,8 @@ ghost use Rattle.fmp_base.specs.Words.{constant_named, api_named, service_named}
 ghost use Rattle.fmp_lex.specs.Beginnings.{begins};
 ghost use Rattle.fmp_lex.specs.Cutting.{word_kind};
 
-use crate::words::{Api, Constant, find_api, find_constant, find_service};
+use crate::finding::{find_api, find_constant, find_service};
+use crate::words::{Api, Constant};
 use fmp_base::Service;
 
 /// The lengths of the words that begin with each byte: bit `n` is set where one has `n` bytes.

@@ -4,6 +4,7 @@
 
 mod cutting;
 pub mod fault;
+mod finding;
 pub mod laws;
 mod lengths;
 mod marks;

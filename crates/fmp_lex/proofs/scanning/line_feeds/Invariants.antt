@@ -1,8 +1,12 @@
-use Rattle.std.proofs.Common.{◌≡◌, ◌≤◌, ◌==◌, take, count_by}
+use Rattle.std.proofs.Common.{◌≡◌, ◌≤◌, ◌-◌, ◌==◌, take, length, count_by}
 use Rattle.fmp_lex.proofs.scanning.line_feeds.Given as goal
 
-abbrev pub invariant-loop-b : goal.invariant-loop-b
-invariant-loop-b l = record {
-  counted : l.count ≡ count_by (λ b. b == 10) (take l.b-index l.text);
-  few : l.count ≤ l.b-index;
+abbrev pub invariant-blocks-2 : goal.invariant-blocks-2
+invariant-blocks-2 l = record {
+  inside : l.at ≤ length l.text;
+  counted : l.count ≡ count_by (λ b. b == 10) (take l.at l.text);
+  few : l.count ≤ l.at;
 }
+
+abbrev pub decreases-blocks-2 : goal.decreases-blocks-2
+decreases-blocks-2 l = length l.text - l.at
