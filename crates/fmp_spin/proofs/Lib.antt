@@ -1,2 +1,3 @@
 pub mod NewLemmas
 pub mod PendingLemmas
+pub mod RunLemmas

@@ -1,5 +1,5 @@
 //! The processors: what each runs, CPU locks, disabled dispatching and spin locks.
-ghost use Rattle.std.specs.Prelude.{◌≡◌, ◌<◌, length, replicate, slice_set, IfOk};
+ghost use Rattle.std.specs.Prelude.{◌≡◌, ◌<◌, ℕ, length, replicate, slice_set, IfOk};
 ghost use Rattle.fmp_base.specs.ProcessorCalls.{loc_cpu, unl_cpu, dispatch_set, is_held as is_held_in, is_cpu_locked as is_locked, is_spin as is_lock, spin_lock_taken};
 ghost use Rattle.fmp_base.specs.Outcomes.{code};
 ghost use Rattle.fmp_base.specs.States.{KernelState, idle as idle_processor};
@@ -116,10 +116,12 @@ impl Processors {
     }
 
     /// `loc_cpu` on processor p: a free CPU is locked, a locked one stays as it is.
+    #[tactic(auto, using(crate::proofs::RunLemmas::run_kept))]
     pub fn lock_cpu(&mut self, p: u8) -> Answer
         ensures outcome { (s : KernelState)
             → loc_cpu (with_processors s self.old) p ≡ answered_in (with_processors s self.new) result }
         ensures count { length self.new ≡ length self.old }
+        ensures runs { (q : ℕ) → (processor_in self.new q).run ≡ (processor_in self.old q).run }
     {
         let x = self.processor(p);
         if matches!(x.lock, Lock::Free) {
@@ -135,10 +137,12 @@ impl Processors {
     }
 
     /// `unl_cpu` on processor p: E_CTX while it holds a spin lock, and then nothing changes; else its CPU is free.
+    #[tactic(auto, using(crate::proofs::RunLemmas::run_kept))]
     pub fn unlock_cpu(&mut self, p: u8) -> Answer
         ensures outcome { (s : KernelState)
             → unl_cpu (with_processors s self.old) p ≡ answered_in (with_processors s self.new) result }
         ensures count { length self.new ≡ length self.old }
+        ensures runs { (q : ℕ) → (processor_in self.new q).run ≡ (processor_in self.old q).run }
     {
         let x = self.processor(p);
         match x.lock {
@@ -158,10 +162,12 @@ impl Processors {
     }
 
     /// `dis_dsp` and `ena_dsp` on processor p.
+    #[tactic(auto, using(crate::proofs::RunLemmas::run_kept))]
     pub fn set_dispatch(&mut self, p: u8, disabled: bool) -> Answer
         ensures outcome { (s : KernelState)
             → dispatch_set (with_processors s self.old) p disabled ≡ answered_in (with_processors s self.new) result }
         ensures count { length self.new ≡ length self.old }
+        ensures runs { (q : ℕ) → (processor_in self.new q).run ≡ (processor_in self.old q).run }
     {
         let x = self.processor(p);
         self.set(
@@ -197,11 +203,13 @@ impl Processors {
 
     /// `loc_spn` of spin lock l on processor p: a free lock is taken, and the CPU is locked by it; for a held one the
     /// caller spins, and nothing changes.
+    #[tactic(auto, using(crate::proofs::RunLemmas::run_kept))]
     pub fn acquire(&mut self, p: u8, l: u8) -> Answer
         ensures outcome { (s : KernelState)
             → spin_lock_taken (is_held_in l self.old) (with_processors s self.old) p l
             ≡ answered_in (with_processors s self.new) result }
         ensures count { length self.new ≡ length self.old }
+        ensures runs { (q : ℕ) → (processor_in self.new q).run ≡ (processor_in self.old q).run }
     {
         if self.is_held(l) {
             return Answer::Spins;
@@ -211,11 +219,13 @@ impl Processors {
     }
 
     /// `try_spn` of spin lock l on processor p: E_OBJ for a held lock, and then nothing changes; a free one is taken.
+    #[tactic(auto, using(crate::proofs::RunLemmas::run_kept))]
     pub fn try_acquire(&mut self, p: u8, l: u8) -> Answer
         ensures outcome { (s : KernelState)
             → tried_by (is_held_in l self.old) (with_processors s self.old) p l
             ≡ answered_in (with_processors s self.new) result }
         ensures count { length self.new ≡ length self.old }
+        ensures runs { (q : ℕ) → (processor_in self.new q).run ≡ (processor_in self.old q).run }
     {
         if self.is_held(l) {
             return replied(Er::Obj);
@@ -226,11 +236,13 @@ impl Processors {
 
     /// `unl_spn` of spin lock l on processor p: E_ILUSE if it does not hold this lock, and then nothing changes; else
     /// its CPU is free.
+    #[tactic(auto, using(crate::proofs::RunLemmas::run_kept))]
     pub fn release(&mut self, p: u8, l: u8) -> Answer
         ensures outcome { (s : KernelState)
             → released_by (is_lock l (processor_in self.old p).lock) (with_processors s self.old) p
             ≡ answered_in (with_processors s self.new) result }
         ensures count { length self.new ≡ length self.old }
+        ensures runs { (q : ℕ) → (processor_in self.new q).run ≡ (processor_in self.old q).run }
     {
         let x = self.processor(p);
         if !is_spin(l, x.lock) {
