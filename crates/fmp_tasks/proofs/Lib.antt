@@ -1,8 +1,11 @@
+pub mod ClearLemmas
 pub mod Crossing
 pub mod HoldingLemmas
+pub mod MarkLemmas
 pub mod NewLemmas
 pub mod OnceLemmas
 pub mod OrderedLemmas
+pub mod RestLemmas
 pub mod RotateLemmas
 pub mod SoundLemmas
 pub mod StandLemmas

@@ -5,6 +5,7 @@ pub mod Homes
 pub mod Joining
 pub mod KeptLaws
 pub mod Lines
+pub mod Marks
 pub mod SortLaws
 pub mod Tables
 pub mod Trails

@@ -19,6 +19,7 @@ use Rattle.fmp_ticks.specs.Times.{NoneBefore}
 use Rattle.fmp_waitq.specs.declared.queues.WaitQueues.{WaitQueues}
 use Rattle.fmp_waitq.specs.WaitLists.{count_of_lists}
 use Rattle.fmp_tasks.specs.declared.tables.Tables.TheInside.{Inside}
+use Rattle.fmp_tasks.specs.Marks.{AreAtRest}
 use Rattle.fmp_tasks.specs.Homes.{Kept, BlocksFit, Standing, home, order_with_head, counts_of, waits_of}
 
 -- the tables of the system, which never change, and the state of the kernel
@@ -67,8 +68,8 @@ pub record Sound (sys : SystemTables) (tasks : List TaskBlock) (order ready : Li
   pub kept : Kept (home waits) (order_with_head waits sys) tasks order rings.lists
   pub deadlines_kept : deadlines ≡ map (λ x. x.deadline) tasks
 
--- the system is in range, the tasks and queues agree, each deadline lies after the clock, and there is a value for each
--- object
+-- the system is in range, the tasks and queues agree, each deadline lies after the clock, there is a value for each
+-- object, and a processor that is not marked has nothing to settle
 pub record IsWhole (a : Inside) : Type 0 where
   pub system : IsInRange (tables_of a.system)
   pub later : NoneBefore (a.clock + 1) a.deadlines
@@ -85,6 +86,7 @@ pub record IsWhole (a : Inside) : Type 0 where
   pub pending_cyclics : length a.pending.cyclics ≡ length a.system.cyclics.items
   pub pending_interrupts : length a.pending.interrupts ≡ 32
   pub clock : a.clock ≤ 2 ^ 20
+  pub at_rest : AreAtRest a.marks a.processors a.rings a.pending
 
 -- the state, and the lines of what happened on the way to it
 abbrev pub progress : TablesView → List Line → Progress

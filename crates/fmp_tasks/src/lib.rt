@@ -6,6 +6,7 @@
 pub mod answers;
 mod config;
 mod latest;
+mod marks;
 mod messages;
 pub mod order;
 mod queues;

@@ -6,6 +6,7 @@ ghost use Rattle.fmp_base.specs.Systems.{tables_of};
 
 use crate::config::copied_system;
 use crate::latest::Latest;
+use crate::marks::Marks;
 use crate::order::Order;
 use crate::setup::{
     created_blocks, empty_contents, empty_queues, idle_handlers, initial_values, wait_queues,
@@ -31,7 +32,8 @@ mod values;
 /// The tables of the system, which never change, and the state of the kernel: the task blocks with the queues and
 /// deadlines that belong to them, and the values of the objects, the processors and the handlers. Everything goes by
 /// its place, from 0. The tasks stand in the lists of `rings`, of ready queues and wait queues; the messages stand in
-/// those of `mailboxes`. Each call that changes it says the whole state that it leaves.
+/// those of `mailboxes`. A processor that is not marked has nothing to settle. Each call that changes the state says
+/// the whole state that it leaves.
 #[derive(Drop)]
 pub struct Tables {
     system: System,
@@ -50,6 +52,7 @@ pub struct Tables {
     processors: Processors,
     cyclics: Cyclics,
     pending: PendingHandlers,
+    marks: Marks,
     clock: u32,
 }
 
@@ -100,6 +103,7 @@ impl Tables {
             processors,
             cyclics,
             pending,
+            marks: Marks::all(),
             clock: 0,
         })
     }

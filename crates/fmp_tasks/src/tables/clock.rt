@@ -7,6 +7,7 @@ ghost use Rattle.fmp_base.specs.Ticks.{with_clock_advanced, with_cyclic_pending,
 ghost use Rattle.fmp_tasks.specs.Tables.{HasHandler};
 ghost use Rattle.fmp_ticks.specs.Times.{first_due};
 
+use crate::marks::Marks;
 use crate::tables::Tables;
 use fmp_base::{Handler, Steps};
 
@@ -82,10 +83,12 @@ impl Tables {
     }
 
     /// A cyclic handler becomes pending.
+    #[tactic(auto, using(crate::proofs::MarkLemmas::at_rest_all))]
     pub fn pend_cyclic(&mut self, c: u8)
         requires { c < length self.old.system.cyclics }
         ensures { self.new ≡ record self.old { state = with_cyclic_pending self.old.state c } }
     {
+        self.marks = Marks::all();
         self.pending.pend_cyclic(c);
     }
 
@@ -98,10 +101,12 @@ impl Tables {
     }
 
     /// The interrupt at a place, 0 to 31, becomes pending.
+    #[tactic(auto, using(crate::proofs::MarkLemmas::at_rest_all))]
     pub fn pend_interrupt(&mut self, i: u8)
         requires { i < 32 }
         ensures { self.new ≡ record self.old { state = with_interrupt_pending self.old.state i } }
     {
+        self.marks = Marks::all();
         self.pending.pend_interrupt(i);
     }
 

@@ -1,6 +1,7 @@
 //! The state of the kernel, put back as that of other tables is.
 ghost use Rattle.std.specs.Prelude.{◌≡◌, length};
 
+use crate::marks::Marks;
 use crate::tables::Tables;
 use crate::words::Words;
 
@@ -16,6 +17,7 @@ fn put_words_back(words: &mut [Words], from: &[Words])
 
 impl Tables {
     /// Puts the state of other tables of the same system in the place of this one.
+    #[tactic(auto, using(crate::proofs::MarkLemmas::at_rest_all))]
     pub fn put_back(&mut self, from: &Tables)
         requires { self.old.system ≡ from.now.system }
         ensures { self.new ≡ from.now }
@@ -35,6 +37,7 @@ impl Tables {
         self.processors.put_back(&from.processors);
         self.cyclics.put_back(&from.cyclics);
         self.pending.put_back(&from.pending);
+        self.marks = Marks::all();
         self.clock = from.clock;
     }
 }

@@ -1,6 +1,8 @@
 //! The processors: what each runs, its CPU lock and spin locks, and whether its dispatching is disabled.
-ghost use Rattle.std.specs.Prelude.{◌≡◌, ◌<◌, ◌≤◌, [], length};
+ghost use Rattle.std.specs.Prelude.{◌≡◌, ◌<◌, ◌≤◌, [], length, false, true, None};
 ghost use Rattle.fmp_base.specs.ProcessorCalls as calls;
+ghost use Rattle.fmp_base.specs.Queues.{top};
+ghost use Rattle.fmp_base.specs.Settles.{is_same_task, pending_handler};
 ghost use Rattle.fmp_base.specs.States.{processor_at, with_processor};
 ghost use Rattle.fmp_tasks.specs.Tables.{outcome, SameShape};
 
@@ -32,10 +34,33 @@ impl Tables {
         requires { p < self.old.system.processors }
         ensures { self.new ≡ record self.old { state = with_processor self.old.state p x } }
     {
+        self.marks.mark(p);
         self.processors.set(p, x);
     }
 
+    /// Whether a processor is marked. If not, it has nothing to settle: no handler is pending on it, and it runs its
+    /// most urgent ready task.
+    pub fn is_marked(&self, p: u8) -> bool
+        requires { p < self.now.system.processors }
+        ensures none { result ≡ false → pending_handler self.now.system self.now.state p ≡ None }
+        ensures same { result ≡ false
+            → is_same_task (processor_at self.now.state p).run (top self.now.state p) ≡ true }
+    {
+        self.marks.is_marked(p)
+    }
+
+    /// A processor that has nothing to settle is no longer marked.
+    pub fn unmark(&mut self, p: u8)
+        requires there { p < self.old.system.processors }
+        requires none { pending_handler self.old.system self.old.state p ≡ None }
+        requires same { is_same_task (processor_at self.old.state p).run (top self.old.state p) ≡ true }
+        ensures { self.new ≡ self.old }
+    {
+        self.marks.unmark(p);
+    }
+
     /// `loc_cpu` on processor p: its CPU is locked; a locked one stays as it is (uITRON 4.0, section 4.8).
+    #[tactic(auto, using(crate::proofs::MarkLemmas::at_rest_runs))]
     pub fn loc_cpu(&mut self, p: u8) -> Answer
         ensures outcome { outcome result self.new [] ≡ calls.loc_cpu self.old.state p }
         ensures shape { SameShape self.old self.new }
@@ -45,6 +70,7 @@ impl Tables {
 
     /// `unl_cpu` on processor p: its CPU is free. E_CTX while it holds a spin lock, and then nothing changes (uITRON
     /// 4.0, section 4.8; FMP kernel, spin locks).
+    #[tactic(auto, using(crate::proofs::MarkLemmas::at_rest_runs))]
     pub fn unl_cpu(&mut self, p: u8) -> Answer
         ensures outcome { outcome result self.new [] ≡ calls.unl_cpu self.old.state p }
         ensures shape { SameShape self.old self.new }
@@ -53,6 +79,7 @@ impl Tables {
     }
 
     /// `dis_dsp` and `ena_dsp` on processor p: its dispatching is disabled or enabled (uITRON 4.0, section 4.8).
+    #[tactic(auto, using(crate::proofs::MarkLemmas::at_rest_runs))]
     pub fn set_dispatch(&mut self, p: u8, disabled: bool) -> Answer
         ensures outcome { outcome result self.new [] ≡ calls.dispatch_set self.old.state p disabled }
         ensures shape { SameShape self.old self.new }
@@ -62,6 +89,7 @@ impl Tables {
 
     /// `loc_spn` on processor p: a free spin lock is taken, and locks the CPU; for a held one the caller spins. E_ID if
     /// the number names no spin lock. But for a lock that is taken nothing changes (FMP kernel, spin locks).
+    #[tactic(auto, using(crate::proofs::MarkLemmas::at_rest_runs))]
     pub fn loc_spn(&mut self, p: u8, lock: i32) -> Answer
         ensures outcome { outcome result self.new [] ≡ calls.loc_spn self.old.system self.old.state p lock }
         ensures shape { SameShape self.old self.new }
@@ -74,6 +102,7 @@ impl Tables {
 
     /// `try_spn` on processor p: a free spin lock is taken, and locks the CPU. E_ID if the number names no spin lock,
     /// then E_OBJ for a held one; nothing changes then (FMP kernel, spin locks).
+    #[tactic(auto, using(crate::proofs::MarkLemmas::at_rest_runs))]
     pub fn try_spn(&mut self, p: u8, lock: i32) -> Answer
         ensures outcome { outcome result self.new [] ≡ calls.try_spn self.old.system self.old.state p lock }
         ensures shape { SameShape self.old self.new }
@@ -86,6 +115,7 @@ impl Tables {
 
     /// `unl_spn` on processor p: its spin lock is given up and its CPU is free. E_ID if the number names no spin lock,
     /// then E_ILUSE if the processor does not hold it; nothing changes then (FMP kernel, spin locks).
+    #[tactic(auto, using(crate::proofs::MarkLemmas::at_rest_runs))]
     pub fn unl_spn(&mut self, p: u8, lock: i32) -> Answer
         ensures outcome { outcome result self.new [] ≡ calls.unl_spn self.old.system self.old.state p lock }
         ensures shape { SameShape self.old self.new }

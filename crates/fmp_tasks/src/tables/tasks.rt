@@ -122,6 +122,8 @@ impl Tables {
         requires in_order { is_in_order x.now ≡ true }
         ensures { self.new ≡ record self.old { state = with_last self.old.state t x.now } }
     {
+        self.marks.mark(self.blocks[t as usize].processor);
+        self.marks.mark(x.processor);
         leave(
             &mut self.ready,
             self.waits,
@@ -152,6 +154,7 @@ impl Tables {
         requires in_order { is_in_order x ≡ false }
         ensures { self.new ≡ record self.old { state = with_removed self.old.state t x } }
     {
+        self.marks.mark(self.blocks[t as usize].processor);
         leave(
             &mut self.ready,
             self.waits,
@@ -173,6 +176,7 @@ impl Tables {
             ≡ record self.old { state = rotated self.old.state (first_ready self.old.state p priority) } }
     {
         if let Some(t) = self.first_ready(p, priority) {
+            self.marks.mark(p);
             self.ready
                 .rotate(&mut self.rings, p, priority, &mut Steps::new());
             self.order.to_end(t);

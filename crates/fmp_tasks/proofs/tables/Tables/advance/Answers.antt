@@ -23,4 +23,5 @@ invariant_of-self c =
       pending_cyclics = c.self.invariant.pending_cyclics;
       pending_interrupts = c.self.invariant.pending_interrupts;
       clock = omega arith;
+      at_rest = c.self.invariant.at_rest;
     }

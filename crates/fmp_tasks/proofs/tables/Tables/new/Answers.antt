@@ -7,6 +7,7 @@ use Rattle.fmp_ring.specs.RingLists.{RingLists}
 use Rattle.fmp_spin.specs.Pending.{PendingMarks, handler_processors}
 use Rattle.fmp_tasks.specs.Tables.{Sound}
 use Rattle.fmp_ticks.specs.ClockLaws.{NoneBefore-new}
+use Rattle.fmp_tasks.proofs.MarkLemmas.{at_rest_all}
 use Rattle.fmp_tasks.proofs.NewLemmas.{Sound-new}
 use Rattle.fmp_tasks.proofs.tables.Tables.new.Goals as goal
 
@@ -39,6 +40,7 @@ invariant_of-result c =
       pending_cyclics = ap (λ (h : PendingMarks). length h.cyclics) c.in_ok-handlers.ensures.pending ∙ length-replicate _ _ ∙ ap (λ (s : SystemTables). length s.cyclics) (sym e);
       pending_interrupts = ap (λ (h : PendingMarks). length h.interrupts) c.in_ok-handlers.ensures.pending ∙ length-replicate 32 false;
       clock = omega arith;
+      at_rest = rw c.all.ensures (at_rest_all _ _ _);
     }
 
 pub wait_queues-waits-requires : goal.wait_queues-waits-requires

@@ -5,6 +5,7 @@ use Rattle.fmp_base.specs.States.{task_at, with_last}
 use Rattle.fmp_base.specs.Systems.{tables_of}
 use Rattle.fmp_base.specs.TaskCalls.{rotated}
 use Rattle.fmp_tasks.specs.Tables.{TablesView, tables_view}
+use Rattle.fmp_tasks.proofs.MarkLemmas.{at_rest_queue}
 use Rattle.fmp_tasks.proofs.RotateLemmas.{Sound-rotated, set-task_at}
 use Rattle.fmp_tasks.proofs.SoundLemmas.{lists-enough, own_processors}
 use Rattle.fmp_tasks.proofs.TopLemmas.{ready_list}
@@ -41,6 +42,9 @@ invariant_of-self c =
       pending_cyclics = c.self.invariant.pending_cyclics;
       pending_interrupts = c.self.invariant.pending_interrupts;
       clock = c.self.invariant.clock;
+      at_rest =
+          rw (c.mark.ensures, c.rotate.ensures.rings)
+          (at_rest_queue _ _ _ _ c.args.p c.args.priority _ c.self.invariant.at_rest c.requires.urgent c.requires.least);
     }
 
 pub returns-in-Some : goal.returns-in-Some

@@ -32,4 +32,5 @@ invariant_of-self c =
       pending_cyclics = c.self.invariant.pending_cyclics;
       pending_interrupts = c.self.invariant.pending_interrupts;
       clock = c.self.invariant.clock;
+      at_rest = c.self.invariant.at_rest;
     }
