@@ -1,5 +1,5 @@
 -- A processor that already runs its most urgent ready task is not changed by dispatching.
-use Rattle.std.proofs.Common.{◌≡◌, ℕ, zero, suc, List, [], ◌∷◌, ◌++◌, Option, Some, None, Bool, true, false, ◌||◌, refl, sym, ap, ◌∙◌, append-nil}
+use Rattle.std.proofs.Common.{◌≡◌, ℕ, zero, suc, List, [], ◌∷◌, ◌++◌, Option, Some, None, Bool, true, false, ◌||◌, refl, sym, ap, ◌∙◌, append-nil, length}
 use Rattle.std.specs.Prelude.{slice_get, slice_set, if◌then◌else◌}
 use Rattle.std.proofs.lemmas.Bool.{eqb-true}
 use Rattle.fmp_base.specs.declared.events.Line.{Line}
@@ -7,8 +7,8 @@ use Rattle.fmp_base.specs.declared.states.Processor.{Processor}
 use Rattle.fmp_base.specs.declared.states.Handler.{Handler}
 use Rattle.fmp_base.specs.ProcessorCalls.{is_cpu_locked}
 use Rattle.fmp_base.specs.Queues.{top}
-use Rattle.fmp_base.specs.Settles.{dispatched, dispatch_lines, is_dispatch_held, is_same_task, pending_handler, runs_handler, settled_on, settled_with}
-use Rattle.fmp_base.specs.States.{KernelState, Progress, idle, processor_at, with_processor}
+use Rattle.fmp_base.specs.Settles.{dispatched, dispatch_lines, is_dispatch_held, is_same_task, pending_handler, runs_handler, all_settled, settled, settled_on, settled_with}
+use Rattle.fmp_base.specs.States.{KernelState, Progress, idle, places_from, processor_at, with_processor}
 use Rattle.fmp_base.specs.Systems.{SystemTables, found}
 
 pub same_task : (a b : Option ℕ) → is_same_task a b ≡ true → a ≡ b
@@ -60,3 +60,13 @@ pub settled_some : (sys : SystemTables) (g : Progress) (p : ℕ) (cpu : Processo
     → settled_on sys g p cpu ≡ settled_with (if runs_handler cpu.handler || is_cpu_locked cpu then None else Some h) g p cpu
 settled_some sys g p cpu h e =
     ap (λ (o : Option Handler). settled_with (if runs_handler cpu.handler || is_cpu_locked cpu then None else o) g p cpu) (sym e)
+
+-- a processor that runs its most urgent ready task, and on which no handler is pending, is settled
+pub settled_rest : (sys : SystemTables) (g : Progress) (p : ℕ) → pending_handler sys g.state p ≡ None
+    → is_same_task (processor_at g.state p).run (top g.state p) ≡ true → g ≡ settled_on sys g p (processor_at g.state p)
+settled_rest sys g p none same = held_same g p same ∙ sym (settled_none sys g p (processor_at g.state p) (sym none))
+
+-- one processor
+pub settled_one : (sys : SystemTables) (g : Progress) → length g.state.processors ≡ 1
+    → settled sys g ≡ settled_on sys g 0 (processor_at g.state 0)
+settled_one sys g one = ap (λ (n : ℕ). all_settled sys g (places_from 0 n)) one

@@ -1,6 +1,6 @@
 //! What ends every event: on each processor a pending handler begins, or the dispatcher gives it its most urgent ready
 //! task (uITRON 4.0, sections 3.2 and 3.5; FMP kernel, dispatching).
-ghost use Rattle.std.specs.Prelude.{◌≡◌, ◌+◌, ◌≤◌, ◌<◌, ◌||◌, Some, None, false, if◌then◌else◌, vec_len, vec_capacity};
+ghost use Rattle.std.specs.Prelude.{◌≡◌, ◌+◌, ◌≤◌, ◌<◌, ◌||◌, Some, None, false, if◌then◌else◌, length, vec_len, vec_capacity};
 ghost use Rattle.fmp_base.specs.ProcessorCalls.{is_cpu_locked as is_locked};
 ghost use Rattle.fmp_base.specs.Settles.{runs_handler, settled, settled_on, settled_with, is_dispatch_held as holds_dispatch, is_same_task as is_same};
 ghost use Rattle.fmp_base.specs.Queues.{top};
@@ -85,8 +85,8 @@ fn begin_pending(tables: &mut Tables, lines: &mut Vec<Line>, p: u8, handler: Han
     });
 }
 
-/// A processor settles. Mostly no handler is pending on it, and it runs its most urgent ready task already: then no more
-/// is looked at.
+/// A processor settles. Mostly no handler is pending on it, and it runs its most urgent ready task already: then no
+/// more is looked at, and it is not marked until that changes.
 #[tactic(auto, using(crate::proofs::SettleLemmas::settled_none, crate::proofs::SettleLemmas::settled_some))]
 #[inline(always)]
 fn settle_on(tables: &mut Tables, lines: &mut Vec<Line>, p: u8)
@@ -101,7 +101,9 @@ fn settle_on(tables: &mut Tables, lines: &mut Vec<Line>, p: u8)
     match tables.first_pending(p) {
         None => {
             let run = tables.top(p);
-            if !is_same_task(tables.processor(p).run, run) {
+            if is_same_task(tables.processor(p).run, run) {
+                tables.unmark(p);
+            } else {
                 dispatch(tables, lines, p, run);
             }
         }
@@ -109,8 +111,42 @@ fn settle_on(tables: &mut Tables, lines: &mut Vec<Line>, p: u8)
     }
 }
 
-/// All processors settle, in order of number.
+/// A processor settles, if it is marked. One that is not has nothing to settle.
+#[inline(always)]
+fn settle_marked(tables: &mut Tables, lines: &mut Vec<Line>, p: u8)
+    requires there { p < tables.old.system.processors }
+    requires room { vec_len lines.old < vec_capacity lines.old }
+    ensures progress { progress tables.new lines.new.items
+        ≡ settled_on tables.old.system (progress tables.old lines.old.items) p (processor_at tables.old.state p) }
+    ensures shape { SameShape tables.old tables.new }
+    ensures few { vec_len lines.new ≤ vec_len lines.old + 1 }
+    ensures capacity { vec_capacity lines.new ≡ vec_capacity lines.old }
+{
+    if tables.is_marked(p) {
+        settle_on(tables, lines, p);
+    }
+}
+
+/// All of several processors settle, in order of number.
 #[tactic(auto, using(crate::proofs::PlaceLemmas::places_next))]
+#[inline(always)]
+fn settle_several(tables: &mut Tables, lines: &mut Vec<Line>, count: u8)
+    requires count { count ≡ length tables.old.state.processors }
+    requires processors { count ≡ tables.old.system.processors }
+    requires few { count ≤ 8 }
+    requires room { vec_len lines.old + 8 ≤ vec_capacity lines.old }
+    ensures progress { progress tables.new lines.new.items
+        ≡ settled tables.old.system (progress tables.old lines.old.items) }
+    ensures shape { SameShape tables.old tables.new }
+    ensures capacity { vec_capacity lines.new ≡ vec_capacity lines.old }
+{
+    for p in 0..count {
+        settle_marked(tables, lines, p);
+    }
+}
+
+/// All processors settle, in order of number. A single one needs no look at its mark.
+#[tactic(auto, using(crate::proofs::SettleLemmas::settled_one))]
 pub fn settle(tables: &mut Tables, lines: &mut Vec<Line>)
     requires room { vec_len lines.old + 8 ≤ vec_capacity lines.old }
     ensures progress { progress tables.new lines.new.items
@@ -119,7 +155,9 @@ pub fn settle(tables: &mut Tables, lines: &mut Vec<Line>)
     ensures capacity { vec_capacity lines.new ≡ vec_capacity lines.old }
 {
     let count = tables.processor_count() as u8;
-    for p in 0..count {
-        settle_on(tables, lines, p);
+    if count == 1 {
+        settle_on(tables, lines, 0);
+    } else {
+        settle_several(tables, lines, count);
     }
 }

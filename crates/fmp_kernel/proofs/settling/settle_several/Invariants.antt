@@ -1,7 +1,7 @@
 use Rattle.std.proofs.Common.{◌≡◌, ◌≤◌, ◌+◌, ◌-◌, length, vec_len, vec_capacity}
 use Rattle.fmp_base.specs.Settles.{all_settled}
 use Rattle.fmp_base.specs.States.{places_from}
-use Rattle.fmp_kernel.proofs.settling.settle.Given as goal
+use Rattle.fmp_kernel.proofs.settling.settle_several.Given as goal
 use Rattle.fmp_tasks.specs.Tables.{progress, SameShape}
 
 abbrev pub invariant-loop-p : goal.invariant-loop-p
