@@ -15,7 +15,10 @@ use crate::values::{between, byte_of, name_at};
 use fmp_base::System;
 use fmp_lex::FaultKind;
 use indexmap::IndexSet;
-use std::alloc::Global;
+use std::alloc::{AllocError, Global};
+
+/// A system has at most 255 objects of each of the nine kinds with names.
+const MOST_NAMES: usize = 2295;
 
 /// Makes the object of a static API that has no fault.
 fn make(making: &mut Making, class: ClassProcessors, api: &StaticApi) -> Result<(), Stop>
@@ -55,13 +58,24 @@ fn add_classes(making: &mut Making, processors: u8, classes: &[Class]) -> Result
     Ok(())
 }
 
-fn start(alloc: Global, processors: u8) -> Making
-    ensures { making_of result ≡ nothing_made processors }
-{
-    Making {
-        system: System::empty(alloc, processors),
-        names: IndexSet::new(alloc),
+/// For how many names there is to be room: one for each static API, but at most as many as a system has.
+fn room_for_names(classes: &[Class]) -> usize {
+    let mut count: usize = 0;
+    for class in classes {
+        count = count.saturating_add(class.apis.len());
     }
+    count.min(MOST_NAMES)
+}
+
+/// Nothing made yet, with room for this many names. The error is out of memory.
+fn start(alloc: Global, processors: u8, names: usize) -> Result<Making, AllocError>
+    ensures { IfOk result (λ making. making_of making ≡ nothing_made processors) }
+{
+    let names = IndexSet::with_capacity(alloc, names)?;
+    Ok(Making {
+        system: System::empty(alloc, processors),
+        names,
+    })
 }
 
 /// What the static APIs of a configuration make, carried out in order of text, or the first fault with the place of its
@@ -73,7 +87,9 @@ pub fn configure(alloc: Global, tree: &Configuration) -> Result<Making, Stop>
         return Err(Stop::Fault(tree.at, FaultKind::Limit));
     }
     let processors = byte_of(tree.processors);
-    let mut making = start(alloc, processors);
+    let Ok(mut making) = start(alloc, processors, room_for_names(&tree.classes)) else {
+        return Err(Stop::Memory);
+    };
     match add_classes(&mut making, processors, &tree.classes) {
         Ok(()) => Ok(making),
         Err(stop) => Err(stop),
