@@ -43,6 +43,21 @@ pub(crate) fn number_rows<T: HasName>(
     Ok(())
 }
 
+/// How many objects with names a system has.
+fn count_objects(system: &System) -> usize
+    requires { IsInRange (tables_of system.now) }
+{
+    system.cyclics.len()
+        + system.spin_locks.len()
+        + system.shared_words.len()
+        + system.messages.len()
+        + system.mailboxes.len()
+        + system.data_queues.len()
+        + system.flags.len()
+        + system.semaphores.len()
+        + system.tasks.len()
+}
+
 /// The numbers of the objects of a system. Where two tables have one name, its number is that of the first. The error
 /// is out of memory.
 pub fn number_objects(alloc: Global, system: &System) -> Result<ObjectNumbers, AllocError>
@@ -50,7 +65,7 @@ pub fn number_objects(alloc: Global, system: &System) -> Result<ObjectNumbers, A
     ensures { IfOk result (λ numbers. (name : base.Name) → object_named numbers name ≡
         object_number (name_text name) (object_names (tables_of system.now))) }
 {
-    let mut numbers = HashMap::new(alloc);
+    let mut numbers = HashMap::with_capacity(alloc, count_objects(system))?;
     number_rows(&mut numbers, &system.cyclics)?;
     number_rows(&mut numbers, &system.spin_locks)?;
     number_rows(&mut numbers, &system.shared_words)?;
