@@ -4,7 +4,6 @@
 mod field;
 pub mod laws;
 mod listing;
-mod numbers;
 mod owner;
 mod reading;
 mod room;

@@ -11,7 +11,6 @@ ghost use Rattle.fmp_rows.specs.Numbers as numbers;
 ghost use Rattle.fmp_rows.specs.Worlds.{kept_context};
 
 use crate::field::What;
-use crate::numbers::unsigned;
 use crate::owner::{Owner, owner_of};
 use crate::room::body_of;
 use crate::state_values::state_value;
@@ -19,6 +18,7 @@ use fmp_base::{Body, Held, Phase};
 use fmp_instructions::MachineContext;
 use fmp_kernel::Kernel;
 use fmp_live::LiveLocals;
+use fmp_rows::numbers::unsigned;
 use fmp_tasks::Tables;
 use std::alloc::AllocError;
 

@@ -9,11 +9,11 @@ ghost use Rattle.fmp_rows.specs.Numbers as numbers;
 ghost use Rattle.fmp_rows.specs.Rows.{due_at};
 
 use crate::field::{What, low_byte};
-use crate::numbers::{
+use fmp_base::{Lock, Phase, Processor, TaskBlock};
+use fmp_rows::numbers::{
     bit, cyclic_of, interrupt_of, lock_number, phase_kind, place, ticks_to, unsigned, wait_object,
     wait_value,
 };
-use fmp_base::{Lock, Phase, Processor, TaskBlock};
 use fmp_tasks::Tables;
 
 /// The task at a place; a dormant one if there is none.
