@@ -15,7 +15,7 @@ use fmp_base::System;
 use fmp_image_parts::fault::{ImageFault, LoadFault, TABLE};
 use fmp_image_parts::fields::{byte_at, bytes_at, in_range, short_at};
 use fmp_image_parts::keys::TakenKeys;
-use fmp_image_parts::versions::{is_version, queue_limit_of};
+use fmp_image_parts::versions::is_version;
 use fmp_image_parts::{BodyHead, read_bodies};
 use fmp_image_rows::read_table;
 use fmp_instructions::Code;
@@ -44,6 +44,14 @@ fn read_header(bytes: &[u8]) -> Result<((u16, u8), &[u8]), LoadFault>
         return Err(TABLE);
     }
     Ok(((version, processors), rest))
+}
+
+/// How many activations of a task a system of a version queues, and how many wakeups: 255 from version 3 on, and 1
+/// before.
+fn queue_limit_of(version: u16) -> u8
+    ensures { result ≡ versions.queue_limit_of version }
+{
+    if version >= 3 { 255 } else { 1 }
 }
 
 /// Reads all tables of a system. Its queue limit is that of the version.

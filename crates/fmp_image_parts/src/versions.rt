@@ -1,6 +1,6 @@
 //! The versions of images, and what each of them has.
 ghost use Rattle.std.specs.Prelude.{◌≡◌};
-ghost use Rattle.fmp_image_parts.specs.Versions.{has, has_service, is_version, newest, queue_limit_of};
+ghost use Rattle.fmp_image_parts.specs.Versions.{has, has_service, is_version, newest};
 
 use fmp_base::Service;
 use fmp_instructions::Instruction;
@@ -17,14 +17,6 @@ pub fn is_version(version: u16) -> bool
     ensures { result ≡ is_version version }
 {
     1 <= version && version <= newest()
-}
-
-/// How many activations of a task a system of a version queues, and how many wakeups: 255 from version 3 on, and 1
-/// before.
-pub fn queue_limit_of(version: u16) -> u8
-    ensures { result ≡ queue_limit_of version }
-{
-    if version >= 3 { 255 } else { 1 }
 }
 
 /// Whether a version has a service.
