@@ -34,7 +34,8 @@ use Rattle.fmp_scopes.specs.Sizes.{block_size}
 use Rattle.fmp_codegen.specs.Tie.{HasAt, StandsSomehow, Reaches, ContextTied, CodeTied, longest}
 use Rattle.fmp_codegen.proofs.Behaves.{IsEnough, enough, one_is_enough, code_first, text_first}
 use Rattle.fmp_codegen.proofs.Expressions.{at_place}
-use Rattle.fmp_codegen.proofs.Lengths.{has_front, has_back, has_all, length-block_code}
+use Rattle.fmp_codegen.proofs.Standing.{has_front, has_back, has_all}
+use Rattle.fmp_emission.proofs.Lengths.{length-block_code}
 use Rattle.fmp_scopes.proofs.KnownNames.{none-first, none-second}
 use Rattle.fmp_codegen.proofs.Places.{HasPlaces, locals-plain}
 use Rattle.fmp_codegen.proofs.Matches.{Then, here, block_stands}

@@ -14,7 +14,8 @@ use Rattle.fmp_instructions.specs.Machine.{at, gives, on_place, act, exec}
 use Rattle.fmp_scopes.specs.Scheme.{array_base, name_code, load_element, expression_code, arguments_code}
 use Rattle.fmp_scopes.specs.Sizes.{expression_size, arguments_size}
 use Rattle.fmp_codegen.specs.Tie.{HasAt, LocalsTied}
-use Rattle.fmp_codegen.proofs.Lengths.{has_front, has_back, length-expression_code}
+use Rattle.fmp_codegen.proofs.Standing.{has_front, has_back}
+use Rattle.fmp_emission.proofs.Lengths.{length-expression_code}
 use Rattle.fmp_codegen.proofs.Places.{IsPlain}
 use Rattle.fmp_codegen.proofs.Tied.{tied-variable, tied-element, place-within, array-within}
 

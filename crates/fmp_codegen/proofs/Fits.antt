@@ -22,7 +22,8 @@ use Rattle.fmp_scopes.specs.Scheme.{array_base, name_code, load_element, store_e
 use Rattle.fmp_scopes.specs.Sizes.{expression_size, arguments_size, statement_size, block_size}
 use Rattle.fmp_codegen.specs.Tie.{HasAt}
 use Rattle.fmp_codegen.proofs.DepthLengths.{HasDepths, depths_front, depths_back, length-expression_depths, length-arguments_depths, length-statement_depths, length-block_depths}
-use Rattle.fmp_codegen.proofs.Lengths.{has_front, has_back, length-expression_code, length-arguments_code, length-statement_code, length-block_code}
+use Rattle.fmp_codegen.proofs.Standing.{has_front, has_back}
+use Rattle.fmp_emission.proofs.Lengths.{length-expression_code, length-arguments_code, length-statement_code, length-block_code}
 use Rattle.fmp_scopes.proofs.LeastDepths.{one-le-expression_depth, arguments-le-depth}
 use Rattle.fmp_scopes.proofs.KnownNames.{none-first, none-second, uses_front, uses_back, target_is, target_means, read_array, written_array, call-named, arguments-named}
 use Rattle.fmp_codegen.proofs.Places.{IsLaidOut, below-all}

@@ -1,19 +1,16 @@
-mod Arms
 mod Behaves
 mod Bodies
-mod BreakLemmas
 mod DepthLengths
-mod Emitted
 mod Expressions
 mod Fits
 mod Greatest
 mod Judging
-mod Lengths
 pub mod Limits
 mod LowHeadings
 mod Matches
 mod Places
 mod Printed
+mod Standing
 mod Statements
 mod TextMaking
 mod Tied

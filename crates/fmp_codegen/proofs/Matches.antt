@@ -21,7 +21,8 @@ use Rattle.fmp_scopes.specs.Scheme.{statement_code, block_code}
 use Rattle.fmp_scopes.specs.Sizes.{statement_size, block_size}
 use Rattle.fmp_codegen.specs.Tie.{HasAt, Path, Reaches, Stands, StandsSomehow, LocalsTied, ContextTied, SameLocals}
 use Rattle.fmp_codegen.proofs.Expressions.{Leads, Faults, one_step, leads_on, jumps_to, renamed}
-use Rattle.fmp_codegen.proofs.Lengths.{has_front, has_back, length-statement_code}
+use Rattle.fmp_codegen.proofs.Standing.{has_front, has_back}
+use Rattle.fmp_emission.proofs.Lengths.{length-statement_code}
 use Rattle.fmp_scopes.proofs.KnownNames.{uses_front, uses_back}
 
 -- as many instructions as the code has, for each turn and once more

@@ -21,7 +21,8 @@ use Rattle.fmp_scopes.specs.Scheme.{array_base, store_element, expression_code, 
 use Rattle.fmp_scopes.specs.Sizes.{expression_size, arguments_size, statement_size, block_size}
 use Rattle.fmp_codegen.specs.Tie.{Stands, StandsSomehow, LocalsTied}
 use Rattle.fmp_codegen.proofs.Expressions.{Leads, Runs, stacked, one_step, leads_on, faults_on, runs_on, goes, jumps_to, expression_runs, arguments_run}
-use Rattle.fmp_codegen.proofs.Lengths.{has_front, has_back, length-expression_code, length-arguments_code, length-block_code}
+use Rattle.fmp_codegen.proofs.Standing.{has_front, has_back}
+use Rattle.fmp_emission.proofs.Lengths.{length-expression_code, length-arguments_code, length-block_code}
 use Rattle.fmp_codegen.proofs.Places.{IsPlain}
 use Rattle.fmp_codegen.proofs.Tied.{tied-set, tied-store, place-within, array-within, reply-tied}
 use Rattle.fmp_scopes.proofs.KnownNames.{none-first, uses_front, uses_back, target_is, target_means}

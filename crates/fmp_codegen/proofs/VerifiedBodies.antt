@@ -24,7 +24,8 @@ use Rattle.fmp_codegen.proofs.Bodies.{not-taken, Accepted, body-accepted, few-pl
 use Rattle.fmp_codegen.proofs.DepthLengths.{HasDepths, depths_front, depths_back, depths_all, length-block_depths, length-body_depths}
 use Rattle.fmp_codegen.proofs.Fits.{fit_join, fit_at, block_first, block_fits}
 use Rattle.fmp_codegen.proofs.Places.{laid-out}
-use Rattle.fmp_codegen.proofs.Lengths.{has_front, has_back, has_all, length-block_code, length-body_code}
+use Rattle.fmp_codegen.proofs.Standing.{has_front, has_back, has_all}
+use Rattle.fmp_emission.proofs.Lengths.{length-block_code, length-body_code}
 use Rattle.fmp_scopes.proofs.KnownNames.{none-first, none-second}
 
 -- ---- limits

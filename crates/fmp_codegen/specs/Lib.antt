@@ -1,4 +1,3 @@
-pub mod Breaks
 pub mod Compiling
 pub mod Laws
 pub mod Runs

@@ -16,8 +16,8 @@ ghost use Rattle.fmp_codegen.specs.Laws.{DoesText};
 ghost use Rattle.fmp_scopes.specs.Scopes.{AreNumbers, HoldsNumbers, locals_with};
 ghost use Rattle.fmp_scopes.specs.Sizes.{block_size};
 
-use crate::emission::{Output, emit_statements, put};
 use fmp_base::System;
+use fmp_emission::{Output, emit_statements, put};
 use fmp_instructions::{BodyCode, Code, Instruction};
 use fmp_lex::{BuildFault, FaultKind, Tokens};
 use fmp_scopes::{

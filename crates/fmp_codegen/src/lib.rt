@@ -2,7 +2,6 @@
 #![tactic(auto)]
 
 mod compiling;
-mod emission;
 pub mod laws;
 mod texts;
 

@@ -2,7 +2,7 @@ use Rattle.std.proofs.Common.{◌≤◌, length, map, arith}
 use Rattle.std.proofs.lemmas.List.{length-map}
 use Rattle.fmp_tasklang.specs.Views.{expression_view}
 use Rattle.fmp_scopes.proofs.LeastDepths.{arguments-le-depth}
-use Rattle.fmp_codegen.proofs.emission.count_of.Goals as goal
+use Rattle.fmp_emission.proofs.emission.count_of.Goals as goal
 
 pub overflow_cast-result : goal.overflow_cast-result
 overflow_cast-result c =

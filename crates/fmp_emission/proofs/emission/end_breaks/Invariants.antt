@@ -1,6 +1,6 @@
 use Rattle.std.proofs.Common.{◌≡◌, drop, length}
-use Rattle.fmp_codegen.specs.Breaks.{led_to}
-use Rattle.fmp_codegen.proofs.emission.end_breaks.Given as goal
+use Rattle.fmp_emission.specs.Breaks.{led_to}
+use Rattle.fmp_emission.proofs.emission.end_breaks.Given as goal
 
 abbrev pub invariant-loop-i : goal.invariant-loop-i
 invariant-loop-i l =

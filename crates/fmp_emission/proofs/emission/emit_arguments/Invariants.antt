@@ -5,7 +5,7 @@ use Rattle.fmp_scopes.specs.DepthTables.{arguments_depths}
 use Rattle.fmp_scopes.specs.Scheme.{arguments_code}
 use Rattle.fmp_scopes.specs.Scopes.{scope_view}
 use Rattle.fmp_scopes.specs.Sizes.{arguments_size}
-use Rattle.fmp_codegen.proofs.emission.emit_arguments.Given as goal
+use Rattle.fmp_emission.proofs.emission.emit_arguments.Given as goal
 
 abbrev pub invariant-loop-i : goal.invariant-loop-i
 invariant-loop-i l =

@@ -6,10 +6,10 @@ use Rattle.fmp_scopes.specs.DepthTables.{statement_depths, block_depths}
 use Rattle.fmp_scopes.specs.Scheme.{statement_code}
 use Rattle.fmp_scopes.specs.Scopes.{scope_view}
 use Rattle.fmp_scopes.specs.Sizes.{expression_size, statement_size, block_size}
-use Rattle.fmp_codegen.specs.Breaks.{statement_breaks, block_breaks}
-use Rattle.fmp_codegen.proofs.Arms.{if-emitted, while-emitted, else-emitted, if-deep, while-deep, else-deep, both-noted}
+use Rattle.fmp_emission.specs.Breaks.{statement_breaks, block_breaks}
+use Rattle.fmp_emission.proofs.Arms.{if-emitted, while-emitted, else-emitted, if-deep, while-deep, else-deep, both-noted}
 use Rattle.fmp_scopes.proofs.ViewTrees.{view-If, view-IfElse, view-While}
-use Rattle.fmp_codegen.proofs.emission.+statement_emission.Goals as goal
+use Rattle.fmp_emission.proofs.emission.+statement_emission.Goals as goal
 
 pub emit_statement-emit_test-requires-clause-room : goal.emit_statement-emit_test-requires-clause-room
 emit_statement-emit_test-requires-clause-room t c =

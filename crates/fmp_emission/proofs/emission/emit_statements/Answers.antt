@@ -1,7 +1,7 @@
 use Rattle.fmp_tasklang.specs.Views.{block_view}
 use Rattle.fmp_scopes.specs.Scopes.{scope_view}
-use Rattle.fmp_codegen.proofs.BreakLemmas.{body-led}
-use Rattle.fmp_codegen.proofs.emission.emit_statements.Goals as goal
+use Rattle.fmp_emission.proofs.BreakLemmas.{body-led}
+use Rattle.fmp_emission.proofs.emission.emit_statements.Goals as goal
 
 pub returns-clause-code : goal.returns-clause-code
 returns-clause-code c =

@@ -5,8 +5,8 @@ use Rattle.fmp_scopes.specs.DepthTables.{block_depths}
 use Rattle.fmp_scopes.specs.Scheme.{block_code}
 use Rattle.fmp_scopes.specs.Scopes.{scope_view}
 use Rattle.fmp_scopes.specs.Sizes.{block_size}
-use Rattle.fmp_codegen.specs.Breaks.{block_breaks}
-use Rattle.fmp_codegen.proofs.emission.+statement_emission.Given as goal
+use Rattle.fmp_emission.specs.Breaks.{block_breaks}
+use Rattle.fmp_emission.proofs.emission.+statement_emission.Given as goal
 
 abbrev pub invariant-emit_block-loop-s : goal.invariant-emit_block-loop-s
 invariant-emit_block-loop-s l =

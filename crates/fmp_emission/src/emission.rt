@@ -14,7 +14,7 @@ ghost use Rattle.fmp_scopes.specs.DepthTables.{expression_depths, arguments_dept
 ghost use Rattle.fmp_scopes.specs.Scheme.{array_base, load_element, store_element, element_code, name_code, word_place, expression_code, arguments_code, target_place, call_instruction, statement_code, block_code};
 ghost use Rattle.fmp_scopes.specs.Scopes.{IsHeld, meaning_view, scope_view};
 ghost use Rattle.fmp_scopes.specs.Sizes.{expression_size, arguments_size, statement_size, block_size};
-ghost use Rattle.fmp_codegen.specs.Breaks.{statement_breaks, block_breaks, led_to};
+ghost use Rattle.fmp_emission.specs.Breaks.{statement_breaks, block_breaks, led_to};
 
 use fmp_instructions::Instruction;
 use fmp_scopes::{Meaning, Names, expression_extent, first_place_of, meaning_in, places_in};

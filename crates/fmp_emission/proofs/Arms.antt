@@ -10,9 +10,9 @@ use Rattle.fmp_scopes.specs.Chains.{test_code}
 use Rattle.fmp_scopes.specs.DepthTables.{expression_depths, statement_depths, block_depths}
 use Rattle.fmp_scopes.specs.Scheme.{expression_code, statement_code, block_code}
 use Rattle.fmp_scopes.specs.Sizes.{expression_size, block_size}
-use Rattle.fmp_codegen.specs.Breaks.{block_breaks, led_to}
-use Rattle.fmp_codegen.proofs.BreakLemmas.{led-block}
-use Rattle.fmp_codegen.proofs.Lengths.{length-expression_code, length-block_code}
+use Rattle.fmp_emission.specs.Breaks.{block_breaks, led_to}
+use Rattle.fmp_emission.proofs.BreakLemmas.{led-block}
+use Rattle.fmp_emission.proofs.Lengths.{length-expression_code, length-block_code}
 
 -- a test and what stands behind it
 tested : {A : Type 0} (begun first : List A) (test : A) (rest : List A) → (begun ++ (first ++ test ∷ [])) ++ rest ≡ begun ++ (first ++ (test ∷ rest))

@@ -9,8 +9,8 @@ use Rattle.fmp_instructions.specs.declared.instructions.Instruction.{Instruction
 use Rattle.fmp_instructions.specs.declared.instructions.Instruction.TheVariants.{Jump, JumpIfZero}
 use Rattle.fmp_scopes.specs.Scheme.{expression_code, statement_code, block_code}
 use Rattle.fmp_scopes.specs.Sizes.{expression_size, statement_size, block_size}
-use Rattle.fmp_codegen.specs.Breaks.{statement_breaks, block_breaks, led_to}
-use Rattle.fmp_codegen.proofs.Lengths.{length-expression_code, length-statement_code, length-block_code}
+use Rattle.fmp_emission.specs.Breaks.{statement_breaks, block_breaks, led_to}
+use Rattle.fmp_emission.proofs.Lengths.{length-expression_code, length-statement_code, length-block_code}
 
 module _ (to : ℕ) where
   -- one list of places after the other

@@ -1,0 +1,4 @@
+mod Arms
+mod BreakLemmas
+mod Emitted
+pub mod Lengths
