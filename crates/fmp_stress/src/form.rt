@@ -16,68 +16,89 @@ const BOUND_MAX: u64 = 281_474_976_710_656;
 /// The largest number of events, 2^20.
 const EVENTS_MAX: u64 = 1_048_576;
 
-/// A command line, where there was memory for it.
-type Made<'a> = Result<Command<'a>, AllocError>;
-
-/// A command line with one more argument.
-fn with_argument<'a>(program: Made<'a>, argument: Arg<'a>) -> Made<'a> {
-    program?.arg(argument)
+/// What an argument is.
+#[derive(Clone, Copy)]
+enum Kind {
+    /// A word that has to be there.
+    Word,
+    /// An option without a value.
+    Flag,
+    /// An option with a number: the lowest, the highest, and that where none is given.
+    Number(u64, u64, &'static str),
 }
 
-/// A word that has to be there.
-fn word<'a>(alloc: Global, id: &'a str, help: &'a str) -> Arg<'a> {
-    Arg::new(alloc, id).required(true).help(help)
-}
+/// An argument: its name, what it is, and what help says of it.
+struct Argument(&'static str, Kind, &'static str);
 
-/// An option with a number in this range, which is the default where none is given.
-fn number<'a>(
-    alloc: Global,
-    id: &'a str,
-    range: (u64, u64),
-    default: &'a str,
-    help: &'a str,
-) -> Arg<'a> {
-    let (low, high) = range;
-    Arg::new(alloc, id)
-        .long(id)
-        .value_name("N")
-        .value_parser(ValueParser::unsigned(low, high))
-        .default_value(default)
-        .help(help)
-}
+/// The arguments in the order in which help lists them.
+static ARGUMENTS: [Argument; 12] = [
+    Argument("IMAGE", Kind::Word, "Image that 'fmp build' has written"),
+    Argument("JOURNAL", Kind::Word, "File that the journal is written to"),
+    Argument(
+        "seats",
+        Kind::Number(1, 64, "8"),
+        "How many seats the board has; the last one reads the finished row",
+    ),
+    Argument(
+        "followers",
+        Kind::Number(0, 63, "0"),
+        "How many of them follow while the others call",
+    ),
+    Argument(
+        "share",
+        Kind::Number(1, 64, "1"),
+        "How many seats a thread has; two of them meet now and then",
+    ),
+    Argument(
+        "turns",
+        Kind::Number(1, EVENTS_MAX, "100"),
+        "How many turns a seat has",
+    ),
+    Argument(
+        "ticks",
+        Kind::Number(0, EVENTS_MAX, "0"),
+        "How many ticks the first seat that calls feeds, one a turn at most",
+    ),
+    Argument(
+        "capacity",
+        Kind::Number(1, EVENTS_MAX, "1048576"),
+        "How many events the journal has room for",
+    ),
+    Argument(
+        "bound",
+        Kind::Number(1, BOUND_MAX, "100000"),
+        "How many instructions a stretch may take",
+    ),
+    Argument(
+        "seed",
+        Kind::Number(0, u64::MAX, "1"),
+        "What the turns are drawn by",
+    ),
+    Argument(
+        "own",
+        Kind::Flag,
+        "Each seat takes tickets of one processor, by its number, and does nothing else",
+    ),
+    Argument(
+        "time",
+        Kind::Flag,
+        "Print how long the calls and the last reads took",
+    ),
+];
 
-/// An option without a value.
-fn flag<'a>(alloc: Global, id: &'a str, help: &'a str) -> Arg<'a> {
-    Arg::new(alloc, id)
-        .long(id)
-        .action(ArgAction::SetTrue)
-        .help(help)
-}
-
-/// A command line with the options for the seats of the board.
-fn with_seats<'a>(alloc: Global, program: Made<'a>) -> Made<'a> {
-    let help = "How many seats the board has; the last one reads the finished row";
-    let program = with_argument(program, number(alloc, "seats", (1, 64), "8", help));
-    let help = "How many of them follow while the others call";
-    let program = with_argument(program, number(alloc, "followers", (0, 63), "0", help));
-    let help = "How many seats a thread has; two of them meet now and then";
-    with_argument(program, number(alloc, "share", (1, 64), "1", help))
-}
-
-/// A command line with the options for what is done.
-fn with_work<'a>(alloc: Global, program: Made<'a>) -> Made<'a> {
-    let range = (1, EVENTS_MAX);
-    let help = "How many turns a seat has";
-    let program = with_argument(program, number(alloc, "turns", range, "100", help));
-    let help = "How many ticks the first seat that calls feeds, one a turn at most";
-    let program = with_argument(program, number(alloc, "ticks", (0, EVENTS_MAX), "0", help));
-    let help = "How many events the journal has room for";
-    let program = with_argument(program, number(alloc, "capacity", range, "1048576", help));
-    let help = "How many instructions a stretch may take";
-    with_argument(
-        program,
-        number(alloc, "bound", (1, BOUND_MAX), "100000", help),
-    )
+/// An argument as the command line has it.
+fn argument_of<'a>(alloc: Global, argument: &Argument) -> Arg<'a> {
+    let Argument(id, kind, help) = *argument;
+    let made = Arg::new(alloc, id).help(help);
+    match kind {
+        Kind::Word => made.required(true),
+        Kind::Flag => made.long(id).action(ArgAction::SetTrue),
+        Kind::Number(low, high, default) => made
+            .long(id)
+            .value_name("N")
+            .value_parser(ValueParser::unsigned(low, high))
+            .default_value(default),
+    }
 }
 
 /// The command line with none of its arguments yet.
@@ -88,17 +109,11 @@ fn bare<'a>(alloc: Global) -> Command<'a> {
         .arg_required_else_help(true)
 }
 
-/// The whole command line.
-pub fn program<'a>(alloc: Global) -> Made<'a> {
-    let image = word(alloc, "IMAGE", "Image that 'fmp build' has written");
-    let program = with_argument(Ok(bare(alloc)), image);
-    let journal = word(alloc, "JOURNAL", "File that the journal is written to");
-    let program = with_seats(alloc, with_argument(program, journal));
-    let program = with_work(alloc, program);
-    let help = "What the turns are drawn by";
-    let program = with_argument(program, number(alloc, "seed", (0, u64::MAX), "1", help));
-    let help = "Each seat takes tickets of one processor, by its number, and does nothing else";
-    let program = with_argument(program, flag(alloc, "own", help));
-    let help = "Print how long the calls and the last reads took";
-    with_argument(program, flag(alloc, "time", help))
+/// The whole command line. `AllocError` if memory runs out.
+pub fn program<'a>(alloc: Global) -> Result<Command<'a>, AllocError> {
+    let mut program = bare(alloc);
+    for argument in &ARGUMENTS {
+        program = program.arg(argument_of(alloc, argument))?;
+    }
+    Ok(program)
 }

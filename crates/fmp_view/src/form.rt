@@ -56,6 +56,30 @@ const FROM: &str = "First event that is drawn, 0 to 2^20; setup is 0";
 const TO: &str = "Last event that is drawn, 0 to 2^20; without it the last of the run.
 At most 10,000 events are drawn";
 
+/// What the event of `why` is.
+const AT: &str = "Event after which tasks are looked at, 0 to 2^20; without it the last of the run";
+
+/// What a text of expectations is.
+const EXPECT: &str = "Text of expectations, one a line, with comments from # on:
+  never E_QOVR
+  put(7) by LOGGER before put(9) by FILTER
+  LOGGER runs within 3 ticks of int 4
+  end DORMANT MAIN";
+
+/// The commands of a session.
+const LINES: &str = "Commands, one a line of standard input:
+  run P      processor P goes on, to its next service call
+  tick       the clock advances
+  int N      interrupt N is raised
+  back [K]   the last event is taken back, or the last K
+  why        what each task waits or spins for, as 'fmp_view why' says it
+  state      the states of the tasks
+  save FILE  the events that did something, as steps for 'fmp sim' with the same bound
+  help       these lines
+  quit       the end, as the end of the input is
+
+Example: fmp_view step examples/queue.cfg examples/queue.src";
+
 /// What must never happen.
 const NEVER: &str =
     "What must never happen: an answer, as E_QOVR, or E_TMOUT:12 for the calls in line 12 of SRC;
@@ -95,286 +119,302 @@ pub const BOUND_MAX: u64 = 281_474_976_710_656;
 /// The largest number of events, 2^20.
 pub const EVENTS_MAX: u32 = 1_048_576;
 
+/// What the value of an option is.
+#[derive(Clone, Copy)]
+enum Value {
+    /// A text.
+    Text,
+    /// When the clock may advance.
+    When,
+    /// A number: the lowest, and the highest.
+    Number(u64, u64),
+    /// Such a number, and the one where none is given.
+    Default(u64, u64, &'static str),
+}
+
+/// What an argument of a command is.
+#[derive(Clone, Copy)]
+enum Kind {
+    /// A word that has to be there.
+    Word,
+    /// A word that may be left out.
+    MayBeWord,
+    /// A word that has to be there, and may be a negative number.
+    WordOrNegative,
+    /// An option without a value.
+    Flag,
+    /// An option with a value, which help calls so.
+    Option(&'static str, Value),
+    /// An option with a text, which help calls so, that may be given again.
+    Again(&'static str),
+}
+
+/// An argument of a command: its name, what it is, and what help says of it.
+struct Argument(&'static str, Kind, &'static str);
+
+/// A command as help shows it.
+struct Form {
+    name: &'static str,
+    about: &'static str,
+    arguments: &'static [Argument],
+    /// What stands below the arguments.
+    example: &'static str,
+}
+
+const CFG: Argument = Argument("CFG", Kind::Word, "Configuration, as 'fmp check' reads it");
+
+const SRC: Argument = Argument("SRC", Kind::Word, "Bodies of its tasks and handlers");
+
+const IMAGE: Argument = Argument("IMAGE", Kind::Word, "Image that 'fmp build' has written");
+
+const OF_RUN: Argument = Argument("STEPS", Kind::Word, STEPS);
+
+const AT_MOST: Argument = Argument(
+    "events",
+    Kind::Option("N", Value::Default(0, EVENTS_MAX as u64, "1000")),
+    EVENTS,
+);
+
+const AT_RANDOM: Argument = Argument("seed", Kind::Option("S", Value::Number(0, u64::MAX)), SEED);
+
+const BOUNDED: Argument = Argument(
+    "bound",
+    Kind::Option("N", Value::Default(1, BOUND_MAX, "100000")),
+    BOUND,
+);
+
+const JSON: Argument = Argument(
+    "json",
+    Kind::Flag,
+    "Print an object of JSON a line, for other programs",
+);
+
+static CODE: Form = Form {
+    name: "code",
+    about: "Says what a code means, when it comes, and an example",
+    arguments: &[Argument(
+        "CODE",
+        Kind::WordOrNegative,
+        "A code as it is printed, or its number: E_PAR, -17, F_OVF, B4, L2, S1, H4",
+    )],
+    example: "Example: fmp_view code E_PAR",
+};
+
+static FAULT: Form = Form {
+    name: "fault",
+    about: "Shows the fault of two texts and of steps, and what was expected there; else warnings, if any",
+    arguments: &[CFG, SRC, Argument("STEPS", Kind::MayBeWord, STEPS), JSON],
+    example: "Example: fmp_view fault examples/queue.cfg examples/queue.src --json",
+};
+
+static RUN: Form = Form {
+    name: "run",
+    about: "Prints the trace of two texts with the names of objects, and what each task waits for",
+    arguments: &[
+        CFG,
+        SRC,
+        Argument(
+            "STEPS",
+            Kind::MayBeWord,
+            "Text of the events, as 'fmp sim' reads it; without it the system is driven",
+        ),
+        JSON,
+        AT_MOST,
+        AT_RANDOM,
+        BOUNDED,
+    ],
+    example: "Example: fmp_view run examples/queue.cfg examples/queue.src",
+};
+
+static STEP: Form = Form {
+    name: "step",
+    about: "Takes events one by one as they are typed, and tells what each of them does",
+    arguments: &[CFG, SRC, BOUNDED],
+    example: LINES,
+};
+
+static DRIVE: Form = Form {
+    name: "drive",
+    about: "Prints a steps text that runs a system until it is quiet, or N events are done",
+    arguments: &[IMAGE, AT_MOST, AT_RANDOM, BOUNDED],
+    example: "Example: fmp_view drive queue.img --events 20 > drive.steps",
+};
+
+static WHY: Form = Form {
+    name: "why",
+    about: "Says what each task waits or spins for, who took it, and whether it is a deadlock",
+    arguments: &[
+        IMAGE,
+        OF_RUN,
+        BOUNDED,
+        Argument(
+            "at",
+            Kind::Option("K", Value::Number(0, EVENTS_MAX as u64)),
+            AT,
+        ),
+    ],
+    example: "Example: fmp_view why queue.img drive.steps --at 2",
+};
+
+static EXPLORE: Form = Form {
+    name: "explore",
+    about: "Looks at every schedule for deadlocks, stuck tasks, faults and what must never happen",
+    arguments: &[
+        CFG,
+        SRC,
+        Argument("never", Kind::Again("WHAT"), NEVER),
+        Argument("alone", Kind::Again("A,B"), ALONE),
+        Argument("rest", Kind::Again("TASK"), REST),
+        Argument("ticks", Kind::Option("WHEN", Value::When), TICKS),
+        Argument("ints", Kind::Option("K", Value::Number(0, 255)), INTS),
+        BOUNDED,
+        Argument(
+            "states",
+            Kind::Option("S", Value::Default(1, 1 << 31, "16777216")),
+            STATES,
+        ),
+        Argument(
+            "all",
+            Kind::Flag,
+            "Go on after the first finding, for the first of each kind at each call",
+        ),
+        Argument(
+            "answers",
+            Kind::Flag,
+            "Print the answers that each call ever gets, by its line of SRC",
+        ),
+        Argument("out", Kind::Option("NAME", Value::Text), OUT),
+    ],
+    example: "Example: fmp_view explore examples/queue.cfg examples/queue.src --never E_TMOUT",
+};
+
+static DIFF: Form = Form {
+    name: "diff",
+    about: "Shows the first event in which two runs of an image differ, and the states then",
+    arguments: &[
+        IMAGE,
+        Argument("A", Kind::Word, STEPS),
+        Argument("B", Kind::Word, "Text of the events of the other run"),
+        BOUNDED,
+    ],
+    example: "Example: fmp_view diff queue.img drive.steps other.steps",
+};
+
+static EXPECTED: Form = Form {
+    name: "expect",
+    about: "Says which line of a text of expectations a run fails first, and in which event",
+    arguments: &[
+        IMAGE,
+        OF_RUN,
+        BOUNDED,
+        Argument("EXPECT", Kind::Word, EXPECT),
+    ],
+    example: "Example: fmp_view expect queue.img drive.steps queue.expect",
+};
+
+static STATS: Form = Form {
+    name: "stats",
+    about: "Prints a table of what each task of a run did, with its share of the events",
+    arguments: &[IMAGE, OF_RUN, BOUNDED],
+    example: "Example: fmp_view stats queue.img drive.steps",
+};
+
+static WAVES: Form = Form {
+    name: "waves",
+    about: "Writes a run as a value change dump, which waveform viewers show",
+    arguments: &[
+        IMAGE,
+        OF_RUN,
+        BOUNDED,
+        Argument("OUT", Kind::Word, "File that the dump is written to"),
+    ],
+    example: "Example: fmp_view waves queue.img drive.steps queue.vcd",
+};
+
+static TIMELINE: Form = Form {
+    name: "timeline",
+    about: "Writes a run as a picture for browsers: states, calls, and who did what to whom",
+    arguments: &[
+        IMAGE,
+        OF_RUN,
+        BOUNDED,
+        Argument(
+            "OUT",
+            Kind::Word,
+            "File that the picture, an SVG, is written to",
+        ),
+        Argument(
+            "from",
+            Kind::Option("K", Value::Default(0, EVENTS_MAX as u64, "0")),
+            FROM,
+        ),
+        Argument(
+            "to",
+            Kind::Option("K", Value::Number(0, EVENTS_MAX as u64)),
+            TO,
+        ),
+        Argument(
+            "objects",
+            Kind::Flag,
+            "Draw semaphores, eventflags, data queues, mailboxes and shared words too",
+        ),
+    ],
+    example: "Example: fmp_view timeline queue.img drive.steps queue.svg --from 2 --to 5",
+};
+
+/// An option with a value of this kind.
+fn with_value<'a>(option: Arg<'a>, value: Value) -> Arg<'a> {
+    match value {
+        Value::Text => option,
+        Value::When => option.value_parser(TICKS_WHEN).default_value("any"),
+        Value::Number(low, high) => option.value_parser(ValueParser::unsigned(low, high)),
+        Value::Default(low, high, number) => option
+            .value_parser(ValueParser::unsigned(low, high))
+            .default_value(number),
+    }
+}
+
+/// An argument as the command line has it.
+fn argument_of<'a>(alloc: Global, argument: &Argument) -> Arg<'a> {
+    let Argument(id, kind, help) = *argument;
+    let made = Arg::new(alloc, id).help(help);
+    match kind {
+        Kind::Word => made.required(true),
+        Kind::MayBeWord => made,
+        Kind::WordOrNegative => made.required(true).allow_negative_numbers(true),
+        Kind::Flag => made.long(id).action(ArgAction::SetTrue),
+        Kind::Option(name, value) => with_value(made.long(id).value_name(name), value),
+        Kind::Again(name) => made.long(id).value_name(name).action(ArgAction::Append),
+    }
+}
+
 /// A command, where there was memory for it.
 type Made<'a> = Result<Command<'a>, AllocError>;
 
-/// A command of this name, what help says of it, and an example.
-fn named<'a>(alloc: Global, name: &'a str, about: &'a str, example: &'a str) -> Command<'a> {
-    Command::new(alloc, name).about(about).after_help(example)
-}
-
-/// A command with one more argument.
-fn with_argument<'a>(command: Made<'a>, argument: Arg<'a>) -> Made<'a> {
-    command?.arg(argument)
-}
-
-/// A command with one more subcommand.
-fn with_command<'a>(command: Made<'a>, subcommand: Made<'a>) -> Made<'a> {
-    command?.subcommand(subcommand?)
-}
-
-/// A word that has to be there.
-fn word<'a>(alloc: Global, id: &'a str, help: &'a str) -> Arg<'a> {
-    Arg::new(alloc, id).required(true).help(help)
-}
-
-/// An option with a number in this range.
-fn number<'a>(
-    alloc: Global,
-    id: &'a str,
-    value: &'a str,
-    low: u64,
-    high: u64,
-    help: &'a str,
-) -> Arg<'a> {
-    Arg::new(alloc, id)
-        .long(id)
-        .value_name(value)
-        .value_parser(ValueParser::unsigned(low, high))
-        .help(help)
-}
-
-/// The option for the bound.
-fn bound<'a>(alloc: Global) -> Arg<'a> {
-    number(alloc, "bound", "N", 1, BOUND_MAX, BOUND).default_value("100000")
-}
-
-/// The word for an image.
-fn image<'a>(alloc: Global) -> Arg<'a> {
-    word(alloc, "IMAGE", "Image that 'fmp build' has written")
-}
-
-/// A command with the words for a run, and the option for its bound.
-fn of_run<'a>(alloc: Global, name: &'a str, about: &'a str, example: &'a str) -> Made<'a> {
-    let command = named(alloc, name, about, example);
-    let command = with_argument(Ok(command), image(alloc));
-    let command = with_argument(command, word(alloc, "STEPS", STEPS));
-    with_argument(command, bound(alloc))
-}
-
-fn code_command<'a>(alloc: Global) -> Made<'a> {
-    let about = "Says what a code means, when it comes, and an example";
-    let code = "A code as it is printed, or its number: E_PAR, -17, F_OVF, B4, L2, S1, H4";
-    let code = word(alloc, "CODE", code).allow_negative_numbers(true);
-    let example = "Example: fmp_view code E_PAR";
-    with_argument(Ok(named(alloc, "code", about, example)), code)
-}
-
-fn drive_command<'a>(alloc: Global) -> Made<'a> {
-    let about = "Prints a steps text that runs a system until it is quiet, or N events are done";
-    let example = "Example: fmp_view drive queue.img --events 20 > drive.steps";
-    with_drive(
-        alloc,
-        with_argument(Ok(named(alloc, "drive", about, example)), image(alloc)),
-    )
-}
-
-fn stats_command<'a>(alloc: Global) -> Made<'a> {
-    let about = "Prints a table of what each task of a run did, with its share of the events";
-    let example = "Example: fmp_view stats queue.img drive.steps";
-    of_run(alloc, "stats", about, example)
+/// A command of this form.
+fn command_of<'a>(alloc: Global, form: &Form) -> Made<'a> {
+    let mut command = Command::new(alloc, form.name)
+        .about(form.about)
+        .after_help(form.example);
+    for argument in form.arguments {
+        command = command.arg(argument_of(alloc, argument))?;
+    }
+    Ok(command)
 }
 
 /// The command `waves`.
 pub fn waves_command<'a>(alloc: Global) -> Made<'a> {
-    let about = "Writes a run as a value change dump, which waveform viewers show";
-    let example = "Example: fmp_view waves queue.img drive.steps queue.vcd";
-    let command = of_run(alloc, "waves", about, example);
-    with_argument(
-        command,
-        word(alloc, "OUT", "File that the dump is written to"),
-    )
-}
-
-/// What the event of `why` is.
-const AT: &str = "Event after which tasks are looked at, 0 to 2^20; without it the last of the run";
-
-fn why_command<'a>(alloc: Global) -> Made<'a> {
-    let about = "Says what each task waits or spins for, who took it, and whether it is a deadlock";
-    let most = u64::from(EVENTS_MAX);
-    let example = "Example: fmp_view why queue.img drive.steps --at 2";
-    with_argument(
-        of_run(alloc, "why", about, example),
-        number(alloc, "at", "K", 0, most, AT),
-    )
-}
-
-/// What a text of expectations is.
-const EXPECT: &str = "Text of expectations, one a line, with comments from # on:
-  never E_QOVR
-  put(7) by LOGGER before put(9) by FILTER
-  LOGGER runs within 3 ticks of int 4
-  end DORMANT MAIN";
-
-fn expect_command<'a>(alloc: Global) -> Made<'a> {
-    let about = "Says which line of a text of expectations a run fails first, and in which event";
-    let example = "Example: fmp_view expect queue.img drive.steps queue.expect";
-    with_argument(
-        of_run(alloc, "expect", about, example),
-        word(alloc, "EXPECT", EXPECT),
-    )
-}
-
-fn diff_command<'a>(alloc: Global) -> Made<'a> {
-    let about = "Shows the first event in which two runs of an image differ, and the states then";
-    let example = "Example: fmp_view diff queue.img drive.steps other.steps";
-    let command = named(alloc, "diff", about, example);
-    let command = with_argument(Ok(command), image(alloc));
-    let command = with_argument(command, word(alloc, "A", STEPS));
-    let command = with_argument(
-        command,
-        word(alloc, "B", "Text of the events of the other run"),
-    );
-    with_argument(command, bound(alloc))
-}
-
-/// The option for whether the objects are drawn too.
-fn objects<'a>(alloc: Global) -> Arg<'a> {
-    Arg::new(alloc, "objects")
-        .long("objects")
-        .action(ArgAction::SetTrue)
-        .help("Draw semaphores, eventflags, data queues, mailboxes and shared words too")
+    command_of(alloc, &WAVES)
 }
 
 /// The command `timeline`.
 pub fn timeline_command<'a>(alloc: Global) -> Made<'a> {
-    let about = "Writes a run as a picture for browsers: states, calls, and who did what to whom";
-    let out = "File that the picture, an SVG, is written to";
-    let most = u64::from(EVENTS_MAX);
-    let from = number(alloc, "from", "K", 0, most, FROM).default_value("0");
-    let example = "Example: fmp_view timeline queue.img drive.steps queue.svg --from 2 --to 5";
-    let command = of_run(alloc, "timeline", about, example);
-    let command = with_argument(command, word(alloc, "OUT", out));
-    let command = with_argument(command, from);
-    let command = with_argument(command, number(alloc, "to", "K", 0, most, TO));
-    with_argument(command, objects(alloc))
-}
-
-/// The option for JSON.
-fn json<'a>(alloc: Global) -> Arg<'a> {
-    Arg::new(alloc, "json")
-        .long("json")
-        .action(ArgAction::SetTrue)
-        .help("Print an object of JSON a line, for other programs")
-}
-
-fn fault_command<'a>(alloc: Global) -> Made<'a> {
-    let about =
-        "Shows the fault of two texts and of steps, and what was expected there; else warnings, if any";
-    let cfg = word(alloc, "CFG", "Configuration, as 'fmp check' reads it");
-    let src = word(alloc, "SRC", "Bodies of its tasks and handlers");
-    let example = "Example: fmp_view fault examples/queue.cfg examples/queue.src --json";
-    let command = with_argument(Ok(named(alloc, "fault", about, example)), cfg);
-    let command = with_argument(command, src);
-    let command = with_argument(command, Arg::new(alloc, "STEPS").help(STEPS));
-    with_argument(command, json(alloc))
-}
-
-/// The options for how a system is driven.
-fn with_drive<'a>(alloc: Global, command: Made<'a>) -> Made<'a> {
-    let most = u64::from(EVENTS_MAX);
-    let events = number(alloc, "events", "N", 0, most, EVENTS).default_value("1000");
-    let command = with_argument(command, events);
-    let command = with_argument(command, number(alloc, "seed", "S", 0, u64::MAX, SEED));
-    with_argument(command, bound(alloc))
-}
-
-fn run_command<'a>(alloc: Global) -> Made<'a> {
-    let about =
-        "Prints the trace of two texts with the names of objects, and what each task waits for";
-    let cfg = word(alloc, "CFG", "Configuration, as 'fmp check' reads it");
-    let src = word(alloc, "SRC", "Bodies of its tasks and handlers");
-    let steps = Arg::new(alloc, "STEPS").help(
-        "Text of the events, as 'fmp sim' reads it; without it the system is driven",
-    );
-    let example = "Example: fmp_view run examples/queue.cfg examples/queue.src";
-    let command = with_argument(Ok(named(alloc, "run", about, example)), cfg);
-    let command = with_argument(command, src);
-    let command = with_argument(command, steps);
-    with_drive(alloc, with_argument(command, json(alloc)))
-}
-
-/// The commands of a session.
-const LINES: &str = "Commands, one a line of standard input:
-  run P      processor P goes on, to its next service call
-  tick       the clock advances
-  int N      interrupt N is raised
-  back [K]   the last event is taken back, or the last K
-  why        what each task waits or spins for, as 'fmp_view why' says it
-  state      the states of the tasks
-  save FILE  the events that did something, as steps for 'fmp sim' with the same bound
-  help       these lines
-  quit       the end, as the end of the input is
-
-Example: fmp_view step examples/queue.cfg examples/queue.src";
-
-fn step_command<'a>(alloc: Global) -> Made<'a> {
-    let about = "Takes events one by one as they are typed, and tells what each of them does";
-    let cfg = word(alloc, "CFG", "Configuration, as 'fmp check' reads it");
-    let src = word(alloc, "SRC", "Bodies of its tasks and handlers");
-    let command = with_argument(Ok(named(alloc, "step", about, LINES)), cfg);
-    with_argument(with_argument(command, src), bound(alloc))
-}
-
-/// An option with a value, which may be given again.
-fn again<'a>(alloc: Global, id: &'a str, value: &'a str, help: &'a str) -> Arg<'a> {
-    Arg::new(alloc, id)
-        .long(id)
-        .value_name(value)
-        .action(ArgAction::Append)
-        .help(help)
-}
-
-/// The option for when the clock may advance.
-fn ticks<'a>(alloc: Global) -> Arg<'a> {
-    Arg::new(alloc, "ticks")
-        .long("ticks")
-        .value_name("WHEN")
-        .value_parser(TICKS_WHEN)
-        .default_value("any")
-        .help(TICKS)
-}
-
-/// The option for whether the search goes on.
-fn all<'a>(alloc: Global) -> Arg<'a> {
-    Arg::new(alloc, "all")
-        .long("all")
-        .action(ArgAction::SetTrue)
-        .help("Go on after the first finding, for the first of each kind at each call")
-}
-
-/// The option for whether the answers of calls are printed.
-fn answers<'a>(alloc: Global) -> Arg<'a> {
-    Arg::new(alloc, "answers")
-        .long("answers")
-        .action(ArgAction::SetTrue)
-        .help("Print the answers that each call ever gets, by its line of SRC")
+    command_of(alloc, &TIMELINE)
 }
 
 /// The command `explore`.
 pub fn explore_command<'a>(alloc: Global) -> Made<'a> {
-    let about =
-        "Looks at every schedule for deadlocks, stuck tasks, faults and what must never happen";
-    let cfg = word(alloc, "CFG", "Configuration, as 'fmp check' reads it");
-    let src = word(alloc, "SRC", "Bodies of its tasks and handlers");
-    let states = number(alloc, "states", "S", 1, 1 << 31, STATES).default_value("16777216");
-    let out = Arg::new(alloc, "out")
-        .long("out")
-        .value_name("NAME")
-        .help(OUT);
-    let example = "Example: fmp_view explore examples/queue.cfg examples/queue.src --never E_TMOUT";
-    let command = with_argument(Ok(named(alloc, "explore", about, example)), cfg);
-    let command = with_argument(command, src);
-    let command = with_argument(command, again(alloc, "never", "WHAT", NEVER));
-    let command = with_argument(command, again(alloc, "alone", "A,B", ALONE));
-    let command = with_argument(command, again(alloc, "rest", "TASK", REST));
-    let command = with_argument(command, ticks(alloc));
-    let command = with_argument(command, number(alloc, "ints", "K", 0, 255, INTS));
-    let command = with_argument(command, bound(alloc));
-    let command = with_argument(command, states);
-    let command = with_argument(command, all(alloc));
-    let command = with_argument(command, answers(alloc));
-    with_argument(command, out)
+    command_of(alloc, &EXPLORE)
 }
 
 /// The command line with none of its commands yet.
@@ -389,16 +429,13 @@ fn bare<'a>(alloc: Global) -> Command<'a> {
 
 /// The whole command line.
 pub fn program<'a>(alloc: Global) -> Made<'a> {
-    let program = with_command(Ok(bare(alloc)), code_command(alloc));
-    let program = with_command(program, fault_command(alloc));
-    let program = with_command(program, run_command(alloc));
-    let program = with_command(program, step_command(alloc));
-    let program = with_command(program, drive_command(alloc));
-    let program = with_command(program, why_command(alloc));
-    let program = with_command(program, explore_command(alloc));
-    let program = with_command(program, diff_command(alloc));
-    let program = with_command(program, expect_command(alloc));
-    let program = with_command(program, stats_command(alloc));
-    let program = with_command(program, waves_command(alloc));
-    with_command(program, timeline_command(alloc))
+    let forms = [
+        &CODE, &FAULT, &RUN, &STEP, &DRIVE, &WHY, &EXPLORE, &DIFF, &EXPECTED, &STATS, &WAVES,
+        &TIMELINE,
+    ];
+    let mut program = bare(alloc);
+    for form in forms {
+        program = program.subcommand(command_of(alloc, form)?)?;
+    }
+    Ok(program)
 }
