@@ -1,1 +1,12 @@
+pub mod Apart
+pub mod CallChanges
+pub mod Capacities
+pub mod Changes
+pub mod EventChanges
+pub mod HeldLaws
 pub mod ReadableLaws
+pub mod ReplayLaws
+pub mod Stands
+pub mod StepLaws
+pub mod TaskChanges
+pub mod WorldLaws

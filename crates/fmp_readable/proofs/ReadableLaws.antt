@@ -7,9 +7,9 @@ use Rattle.fmp_base.specs.Systems.{SystemTables}
 use Rattle.fmp_fields.specs.Fields.{IsReadable, IsSized}
 use Rattle.fmp_image_bytes.specs.Images.{ImageTables, IsImage}
 use Rattle.fmp_image_bytes.proofs.InRange.{image_in_range}
-use Rattle.fmp_regular.specs.Sizes.{AreWithinCapacity, IsOfSystem, IsWorldOfSystem}
-use Rattle.fmp_regular.proofs.ReplayLaws.{replays-reached}
-use Rattle.fmp_regular.proofs.WorldLaws.{reached-regular, reached-sized, reached-within}
+use Rattle.fmp_readable.specs.Sizes.{AreWithinCapacity, IsOfSystem, IsWorldOfSystem}
+use Rattle.fmp_readable.proofs.ReplayLaws.{replays-reached}
+use Rattle.fmp_readable.proofs.WorldLaws.{reached-regular, reached-sized, reached-within}
 use Rattle.fmp_replay.specs.Replays.{replay}
 use Rattle.fmp_rooms.specs.Rooms.{HasSizes}
 use Rattle.fmp_rooms.proofs.ReplayRooms.{replay-within}

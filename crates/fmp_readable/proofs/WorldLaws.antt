@@ -22,12 +22,12 @@ use Rattle.fmp_rows.specs.Numbers.{IsAhead}
 use Rattle.fmp_rows.specs.Rows.{IsRegular}
 use Rattle.fmp_rows.specs.Values.{SameSizes}
 use Rattle.fmp_rows.specs.Worlds.{IsHeldBy, IsRegularWorld}
-use Rattle.fmp_regular.specs.Sizes.{AreWithinCapacity, IsOfSystem, IsWorldOfSystem}
-use Rattle.fmp_regular.proofs.Apart.{AreApart, apart-at, linked-at}
-use Rattle.fmp_regular.proofs.Changes.{IsSteady, Sizes}
-use Rattle.fmp_regular.proofs.EventChanges.{setup-keeps}
-use Rattle.fmp_regular.proofs.HeldLaws.{GoesNot, created-held}
-use Rattle.fmp_regular.proofs.StepLaws.{IsSteadyWorld, Leaves, finished-steady, step-steady}
+use Rattle.fmp_readable.specs.Sizes.{AreWithinCapacity, IsOfSystem, IsWorldOfSystem}
+use Rattle.fmp_readable.proofs.Apart.{AreApart, apart-at, linked-at}
+use Rattle.fmp_readable.proofs.Changes.{IsSteady, Sizes}
+use Rattle.fmp_readable.proofs.EventChanges.{setup-keeps}
+use Rattle.fmp_readable.proofs.HeldLaws.{GoesNot, created-held}
+use Rattle.fmp_readable.proofs.StepLaws.{IsSteadyWorld, Leaves, finished-steady, step-steady}
 
 -- a state between events is regular
 

@@ -21,12 +21,12 @@ use Rattle.fmp_ring.specs.OrderLaws.{nat_apart, nat_eq-same, nat_same}
 use Rattle.fmp_ring.specs.RingLists.{is_in}
 use Rattle.fmp_tasks.specs.Homes.{is_in_order}
 use Rattle.fmp_worlds.proofs.Assigned.{set_over}
-use Rattle.fmp_regular.proofs.Apart.{apart-empty}
-use Rattle.fmp_regular.proofs.Capacities.{within-empty}
+use Rattle.fmp_readable.proofs.Apart.{apart-empty}
+use Rattle.fmp_readable.proofs.Capacities.{within-empty}
 use Rattle.fmp_rows.specs.Numbers.{IsAhead}
-use Rattle.fmp_regular.proofs.Changes.{Change, Cpu, Due, Interrupts, IsFair, IsFineBlock, IsSteady, Keeps, Pends, Says, changed, is_told, Sizes, keeps-changed, keeps-start, sizes, sizes_of}
-use Rattle.fmp_regular.proofs.Stands.{off}
-use Rattle.fmp_regular.proofs.TaskChanges.{released-comes, started-comes}
+use Rattle.fmp_readable.proofs.Changes.{Change, Cpu, Due, Interrupts, IsFair, IsFineBlock, IsSteady, Keeps, Pends, Says, changed, is_told, Sizes, keeps-changed, keeps-start, sizes, sizes_of}
+use Rattle.fmp_readable.proofs.Stands.{off}
+use Rattle.fmp_readable.proofs.TaskChanges.{released-comes, started-comes}
 
 -- what is due is there
 task-there : (now : ℕ) (tasks : List TaskBlock) (t : ℕ) → is_due now (task_at tasks t).deadline ≡ true

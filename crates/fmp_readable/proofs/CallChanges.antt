@@ -37,12 +37,12 @@ use Rattle.fmp_base.specs.TaskCalls.{is_dormant, self_or, by_number, activated_b
 use Rattle.fmp_ring.specs.LinkedLaws.{is_linked-queued}
 use Rattle.fmp_tasks.specs.Homes.{is_in_order, is_waiting}
 use Rattle.fmp_rows.specs.Numbers.{IsAhead}
-use Rattle.fmp_regular.specs.Sizes.{AreWithinCapacity}
-use Rattle.fmp_regular.proofs.Apart.{AreApart, apart-at, new-enqueued, new-rest, order-enqueued, order-rest, unlinked-at}
-use Rattle.fmp_regular.proofs.Capacities.{room-for, room-forced, room-refilled, room-taken}
-use Rattle.fmp_regular.proofs.Changes.{AreFine, Change, Count, Cpu, Due, InPlace, IsFair, IsFine, IsFineBlock, Messages, Moves, Out, Pattern, ToEnd, Word, Words, changed}
-use Rattle.fmp_regular.proofs.Stands.{first-ready, first-true, first-waits, goes_last-stands, named-there, numbered-there, off, ready-joins, ready-leaves, ready-on, there, waits-on, waits-stands}
-use Rattle.fmp_regular.proofs.TaskChanges.{ended-comes, released-comes, started-comes, walk-comes}
+use Rattle.fmp_readable.specs.Sizes.{AreWithinCapacity}
+use Rattle.fmp_readable.proofs.Apart.{AreApart, apart-at, new-enqueued, new-rest, order-enqueued, order-rest, unlinked-at}
+use Rattle.fmp_readable.proofs.Capacities.{room-for, room-forced, room-refilled, room-taken}
+use Rattle.fmp_readable.proofs.Changes.{AreFine, Change, Count, Cpu, Due, InPlace, IsFair, IsFine, IsFineBlock, Messages, Moves, Out, Pattern, ToEnd, Word, Words, changed}
+use Rattle.fmp_readable.proofs.Stands.{first-ready, first-true, first-waits, goes_last-stands, named-there, numbered-there, off, ready-joins, ready-leaves, ready-on, there, waits-on, waits-stands}
+use Rattle.fmp_readable.proofs.TaskChanges.{ended-comes, released-comes, started-comes, walk-comes}
 
 -- a call that waits leaves what W says, and P holds where any other leads
 abbrev pub ComesBy : (P W : Progress → Type 0) → Answer → Progress → Type 0

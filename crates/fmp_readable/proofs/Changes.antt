@@ -22,9 +22,9 @@ use Rattle.fmp_tasks.specs.Homes.{Standing, is_in_order, is_waiting}
 use Rattle.fmp_tasks.proofs.StandLemmas.{Standing-last, Standing-left, Standing-stays}
 use Rattle.fmp_worlds.proofs.Assigned.{set_at}
 use Rattle.fmp_rows.specs.Numbers.{IsAhead}
-use Rattle.fmp_regular.specs.Sizes.{AreWithinCapacity}
-use Rattle.fmp_regular.proofs.Apart.{AreApart, AreNew, apart-set}
-use Rattle.fmp_regular.proofs.Capacities.{within-set}
+use Rattle.fmp_readable.specs.Sizes.{AreWithinCapacity}
+use Rattle.fmp_readable.proofs.Apart.{AreApart, AreNew, apart-set}
+use Rattle.fmp_readable.proofs.Capacities.{within-set}
 
 -- a dormant task has no deadline and is not suspended, and no deadline is below the bound
 pub record IsFine (low : ℕ) (phase : Phase) (suspended : Bool) (deadline : Option ℕ) : Type 0 where

@@ -16,8 +16,8 @@ use Rattle.fmp_base.specs.Systems.{SystemTables}
 use Rattle.fmp_ring.specs.OrderLaws.{nat_apart, nat_same}
 use Rattle.fmp_tasks.specs.Homes.{is_waiting}
 use Rattle.fmp_worlds.proofs.Assigned.{set_at, set_other, set_over}
-use Rattle.fmp_regular.proofs.Changes.{Lasts, is_told, tells}
-use Rattle.fmp_regular.proofs.Stands.{off}
+use Rattle.fmp_readable.proofs.Changes.{Lasts, is_told, tells}
+use Rattle.fmp_readable.proofs.Stands.{off}
 
 -- what is kept of a body, if anything, awaits a reply
 abbrev pub GoesNot : {C : Type 0} → Option (Held C) → Type 0

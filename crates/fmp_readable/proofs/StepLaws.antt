@@ -37,13 +37,13 @@ use Rattle.fmp_base.specs.Ticks.{is_pending, ticked, with_interrupt_pending}
 use Rattle.fmp_ring.specs.OrderLaws.{nat_same}
 use Rattle.fmp_tasks.specs.Homes.{is_waiting}
 use Rattle.fmp_worlds.specs.Settled.{IsSettled}
-use Rattle.fmp_regular.proofs.CallChanges.{ComesBy, handler-comes, task-comes}
+use Rattle.fmp_readable.proofs.CallChanges.{ComesBy, handler-comes, task-comes}
 use Rattle.fmp_rows.specs.Numbers.{IsAhead}
-use Rattle.fmp_regular.proofs.Changes.{Change, Cpu, Interrupts, IsFair, IsSteady, Keeps, changed, is_told, keeps-changed, keeps-end, keeps-own, keeps-start, steady-waits}
-use Rattle.fmp_regular.proofs.EventChanges.{settled-comes, ticked-keeps}
-use Rattle.fmp_regular.proofs.HeldLaws.{AreHeld, SameLengths, held-but, held-waits, lengths-lines, lengths-task, lines-held, same-lengths}
-use Rattle.fmp_regular.proofs.Stands.{off, there}
-use Rattle.fmp_regular.proofs.TaskChanges.{ended-comes}
+use Rattle.fmp_readable.proofs.Changes.{Change, Cpu, Interrupts, IsFair, IsSteady, Keeps, changed, is_told, keeps-changed, keeps-end, keeps-own, keeps-start, steady-waits}
+use Rattle.fmp_readable.proofs.EventChanges.{settled-comes, ticked-keeps}
+use Rattle.fmp_readable.proofs.HeldLaws.{AreHeld, SameLengths, held-but, held-waits, lengths-lines, lengths-task, lines-held, same-lengths}
+use Rattle.fmp_readable.proofs.Stands.{off, there}
+use Rattle.fmp_readable.proofs.TaskChanges.{ended-comes}
 
 -- the period of a cyclic handler is not 0
 period-at : (processors : ℕ) (none : CyclicConfig) (cs : List CyclicConfig) (c : ℕ) → 1 ≤ none.period

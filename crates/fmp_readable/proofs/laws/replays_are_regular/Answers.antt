@@ -1,6 +1,6 @@
-use Rattle.fmp_regular.proofs.ReplayLaws.{replays-reached}
-use Rattle.fmp_regular.proofs.WorldLaws.{reached-regular, reached-sized, reached-within}
-use Rattle.fmp_regular.proofs.laws.replays_are_regular.Goals as goal
+use Rattle.fmp_readable.proofs.ReplayLaws.{replays-reached}
+use Rattle.fmp_readable.proofs.WorldLaws.{reached-regular, reached-sized, reached-within}
+use Rattle.fmp_readable.proofs.laws.replays_are_regular.Goals as goal
 
 pub returns-clause-regular : goal.returns-clause-regular
 returns-clause-regular c i n es range = reached-regular i.system _ (replays-reached i n es range)

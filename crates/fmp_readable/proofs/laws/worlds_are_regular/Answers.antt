@@ -1,5 +1,5 @@
-use Rattle.fmp_regular.proofs.WorldLaws.{reached-regular, reached-sized, reached-within, runs-reached}
-use Rattle.fmp_regular.proofs.laws.worlds_are_regular.Goals as goal
+use Rattle.fmp_readable.proofs.WorldLaws.{reached-regular, reached-sized, reached-within, runs-reached}
+use Rattle.fmp_readable.proofs.laws.worlds_are_regular.Goals as goal
 
 pub returns-clause-regular : goal.returns-clause-regular
 returns-clause-regular g c sys M n es range = reached-regular sys _ (runs-reached sys M range n es)

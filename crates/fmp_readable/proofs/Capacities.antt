@@ -5,7 +5,7 @@ use Rattle.std.proofs.lemmas.List.{length-append}
 use Rattle.fmp_base.specs.DataQueueCalls.{has_room, without_oldest, words_at}
 use Rattle.fmp_base.specs.States.{KernelState}
 use Rattle.fmp_base.specs.Systems.{SystemTables, data_queue_config}
-use Rattle.fmp_regular.specs.Sizes.{AreWithinCapacity}
+use Rattle.fmp_readable.specs.Sizes.{AreWithinCapacity}
 
 -- one queue changes, and stays within its own bound
 set-within : (most : ℕ → ℕ) (queues : List (List ℤ)) (d : ℕ) (ws : List ℤ) → length ws ≤ most d

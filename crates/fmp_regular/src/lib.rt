@@ -1,4 +1,0 @@
-//! What holds of every world of a kernel between events.
-#![tactic(auto)]
-
-pub mod laws;
