@@ -1,2 +1,4 @@
 pub mod PulseLemmas
 pub mod Pulses
+pub mod ScriptLemmas
+pub mod Scripts
