@@ -23,28 +23,31 @@ pub enum Field {
     Phase,
 }
 
+/// The names of the fields in a sentence, in order.
+static FIELD_NAMES: [&str; 17] = [
+    "name",
+    "interrupt number",
+    "attribute",
+    "extended information",
+    "entry",
+    "priority",
+    "stack size",
+    "`NULL`",
+    "initial count",
+    "greatest count",
+    "initial pattern",
+    "capacity",
+    "greatest message priority",
+    "message priority",
+    "first value of the word",
+    "period",
+    "phase",
+];
+
 impl Field {
     /// The name of the field in a sentence.
     pub fn called(self) -> &'static str {
-        match self {
-            Field::Name => "name",
-            Field::InterruptNumber => "interrupt number",
-            Field::Attribute => "attribute",
-            Field::ExtendedInformation => "extended information",
-            Field::Entry => "entry",
-            Field::Priority => "priority",
-            Field::StackSize => "stack size",
-            Field::Null => "`NULL`",
-            Field::InitialCount => "initial count",
-            Field::GreatestCount => "greatest count",
-            Field::InitialPattern => "initial pattern",
-            Field::Capacity => "capacity",
-            Field::GreatestMessagePriority => "greatest message priority",
-            Field::MessagePriority => "message priority",
-            Field::SharedWord => "first value of the word",
-            Field::Period => "period",
-            Field::Phase => "phase",
-        }
+        FIELD_NAMES[self as usize]
     }
 
     /// Whether the field is a name, and no value.

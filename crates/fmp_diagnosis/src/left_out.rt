@@ -56,82 +56,86 @@ const LEFT_OUT: [LeftOut; 20] = [
     LeftOut::Types,
 ];
 
+/// The words of each, in order.
+static WORDS: [&[&str]; 20] = [
+    &["CRE_ALM", "sta_alm", "stp_alm", "ista_alm", "istp_alm"],
+    &["CRE_MTX", "loc_mtx", "ploc_mtx", "tloc_mtx", "unl_mtx"],
+    &[
+        "CRE_MBF", "snd_mbf", "psnd_mbf", "tsnd_mbf", "rcv_mbf", "prcv_mbf", "trcv_mbf",
+    ],
+    &[
+        "CRE_POR", "cal_por", "tcal_por", "acp_por", "pacp_por", "tacp_por", "fwd_por", "rpl_rdv",
+    ],
+    &[
+        "CRE_MPF", "get_mpf", "pget_mpf", "tget_mpf", "rel_mpf", "CRE_MPL", "get_mpl", "pget_mpl",
+        "tget_mpl", "rel_mpl",
+    ],
+    &[
+        "CRE_PDQ",
+        "snd_pdq",
+        "psnd_pdq",
+        "ipsnd_pdq",
+        "tsnd_pdq",
+        "rcv_pdq",
+        "prcv_pdq",
+        "trcv_pdq",
+    ],
+    &["DEF_TEX", "ras_tex", "iras_tex", "dis_tex", "ena_tex"],
+    &["DEF_OVR", "sta_ovr", "stp_ovr", "ista_ovr", "istp_ovr"],
+    &["DEF_SVC", "cal_svc"],
+    &[
+        "CFG_INT", "ATT_ISR", "CRE_ISR", "dis_int", "ena_int", "chg_ipm", "get_ipm",
+    ],
+    &["DEF_EXC"],
+    &["ATT_INI", "ATT_TER"],
+    &["get_tim", "set_tim"],
+    &["get_pid"],
+    &["frsm_tsk"],
+    &["iloc_cpu", "iunl_cpu"],
+    &["for", "do"],
+    &["switch", "case"],
+    &["goto"],
+    &[
+        "int", "char", "short", "long", "unsigned", "signed", "float", "double", "bool", "void",
+        "const", "static", "struct",
+    ],
+];
+
+/// What there is in the place of each, in order.
+static SAID: [&str; 20] = [
+    "there are no alarm handlers",
+    "there are no mutexes; a semaphore with one count excludes too",
+    "there are no message buffers",
+    "there are no rendezvous",
+    "there are no memory pools",
+    "there are no priority data queues",
+    "there are no task exceptions",
+    "there are no overrun handlers",
+    "there are no service call routines",
+    "interrupts have no masks or levels, and `DEF_INH` defines a handler",
+    "there are no CPU exceptions",
+    "nothing but handlers and tasks runs",
+    "no call reads or sets the clock",
+    "no call tells the processor",
+    "a suspension is ended by `rsm_tsk`",
+    "no handler locks the CPU",
+    "the only loop is `while`",
+    "the only choice is `if`, with or without `else`",
+    "the only jumps are `break`, `continue` and `return`",
+    "all values are 32-bit numbers, and `var` declares a variable",
+];
+
 impl LeftOut {
     /// Its words.
     fn words(self) -> &'static [&'static str] {
-        match self {
-            LeftOut::Alarms => &["CRE_ALM", "sta_alm", "stp_alm", "ista_alm", "istp_alm"],
-            LeftOut::Mutexes => &["CRE_MTX", "loc_mtx", "ploc_mtx", "tloc_mtx", "unl_mtx"],
-            LeftOut::MessageBuffers => &[
-                "CRE_MBF", "snd_mbf", "psnd_mbf", "tsnd_mbf", "rcv_mbf", "prcv_mbf", "trcv_mbf",
-            ],
-            LeftOut::Rendezvous => &[
-                "CRE_POR", "cal_por", "tcal_por", "acp_por", "pacp_por", "tacp_por", "fwd_por",
-                "rpl_rdv",
-            ],
-            LeftOut::MemoryPools => &[
-                "CRE_MPF", "get_mpf", "pget_mpf", "tget_mpf", "rel_mpf", "CRE_MPL", "get_mpl",
-                "pget_mpl", "tget_mpl", "rel_mpl",
-            ],
-            LeftOut::PriorityQueues => &[
-                "CRE_PDQ",
-                "snd_pdq",
-                "psnd_pdq",
-                "ipsnd_pdq",
-                "tsnd_pdq",
-                "rcv_pdq",
-                "prcv_pdq",
-                "trcv_pdq",
-            ],
-            LeftOut::TaskExceptions => &["DEF_TEX", "ras_tex", "iras_tex", "dis_tex", "ena_tex"],
-            LeftOut::Overruns => &["DEF_OVR", "sta_ovr", "stp_ovr", "ista_ovr", "istp_ovr"],
-            LeftOut::ServiceRoutines => &["DEF_SVC", "cal_svc"],
-            LeftOut::InterruptLevels => &[
-                "CFG_INT", "ATT_ISR", "CRE_ISR", "dis_int", "ena_int", "chg_ipm", "get_ipm",
-            ],
-            LeftOut::CpuExceptions => &["DEF_EXC"],
-            LeftOut::Routines => &["ATT_INI", "ATT_TER"],
-            LeftOut::ClockCalls => &["get_tim", "set_tim"],
-            LeftOut::Processors => &["get_pid"],
-            LeftOut::CountedSuspensions => &["frsm_tsk"],
-            LeftOut::LocksOfHandlers => &["iloc_cpu", "iunl_cpu"],
-            LeftOut::Loops => &["for", "do"],
-            LeftOut::Choices => &["switch", "case"],
-            LeftOut::Jumps => &["goto"],
-            LeftOut::Types => &[
-                "int", "char", "short", "long", "unsigned", "signed", "float", "double", "bool",
-                "void", "const", "static", "struct",
-            ],
-        }
+        WORDS[self as usize]
     }
 
     /// What there is in its place, or that there is nothing.
     fn said(self) -> &'static str
         ensures { 0 < length result.now }
     {
-        match self {
-            LeftOut::Alarms => "there are no alarm handlers",
-            LeftOut::Mutexes => "there are no mutexes; a semaphore with one count excludes too",
-            LeftOut::MessageBuffers => "there are no message buffers",
-            LeftOut::Rendezvous => "there are no rendezvous",
-            LeftOut::MemoryPools => "there are no memory pools",
-            LeftOut::PriorityQueues => "there are no priority data queues",
-            LeftOut::TaskExceptions => "there are no task exceptions",
-            LeftOut::Overruns => "there are no overrun handlers",
-            LeftOut::ServiceRoutines => "there are no service call routines",
-            LeftOut::InterruptLevels =>
-                "interrupts have no masks or levels, and `DEF_INH` defines a handler",
-            LeftOut::CpuExceptions => "there are no CPU exceptions",
-            LeftOut::Routines => "nothing but handlers and tasks runs",
-            LeftOut::ClockCalls => "no call reads or sets the clock",
-            LeftOut::Processors => "no call tells the processor",
-            LeftOut::CountedSuspensions => "a suspension is ended by `rsm_tsk`",
-            LeftOut::LocksOfHandlers => "no handler locks the CPU",
-            LeftOut::Loops => "the only loop is `while`",
-            LeftOut::Choices => "the only choice is `if`, with or without `else`",
-            LeftOut::Jumps => "the only jumps are `break`, `continue` and `return`",
-            LeftOut::Types => "all values are 32-bit numbers, and `var` declares a variable",
-        }
+        SAID[self as usize]
     }
 
     /// Whether this is one of its words.

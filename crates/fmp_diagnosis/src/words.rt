@@ -107,37 +107,15 @@ pub fn say_of(name: &Name, words: &[Word], out: &mut Vec<u8>) -> Result<(), Allo
     say_quoted(name.as_bytes(), words, out)
 }
 
+/// The symbols as the texts write them, in order.
+static SYMBOLS: [&str; 27] = [
+    "&&", "||", "==", "!=", "<=", ">=", "(", ")", "{", "}", "[", "]", ",", ";", "|", "&", "^", "~",
+    "!", "=", "<", ">", "+", "-", "*", "/", "%",
+];
+
 /// A symbol as the texts write it.
 fn symbol_text(symbol: Symbol) -> &'static str {
-    match symbol {
-        Symbol::AndAnd => "&&",
-        Symbol::OrOr => "||",
-        Symbol::Equal => "==",
-        Symbol::NotEqual => "!=",
-        Symbol::LessEqual => "<=",
-        Symbol::GreaterEqual => ">=",
-        Symbol::LeftParen => "(",
-        Symbol::RightParen => ")",
-        Symbol::LeftBrace => "{",
-        Symbol::RightBrace => "}",
-        Symbol::LeftBracket => "[",
-        Symbol::RightBracket => "]",
-        Symbol::Comma => ",",
-        Symbol::Semicolon => ";",
-        Symbol::Or => "|",
-        Symbol::And => "&",
-        Symbol::Xor => "^",
-        Symbol::Tilde => "~",
-        Symbol::Not => "!",
-        Symbol::Assign => "=",
-        Symbol::Less => "<",
-        Symbol::Greater => ">",
-        Symbol::Plus => "+",
-        Symbol::Minus => "-",
-        Symbol::Star => "*",
-        Symbol::Slash => "/",
-        Symbol::Percent => "%",
-    }
+    SYMBOLS[symbol as usize]
 }
 
 /// Says which token stands in a place, by its kind and as the texts write it.
