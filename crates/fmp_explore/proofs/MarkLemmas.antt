@@ -9,13 +9,13 @@ use Rattle.fmp_base.specs.Meanings.{World}
 use Rattle.fmp_base.specs.Ranges.{InterruptInRange, IsInRange}
 use Rattle.fmp_base.specs.Steps.{Nothing, interrupted}
 use Rattle.fmp_base.specs.Systems.{defined_for}
-use Rattle.fmp_explore.specs.declared.question.Question.{Question}
-use Rattle.fmp_explore.specs.declared.question.Ticks.{Ticks}
-use Rattle.fmp_explore.specs.declared.question.Ticks.TheVariants as ticks
+use Rattle.fmp_question.specs.declared.question.Question.{Question}
+use Rattle.fmp_question.specs.declared.question.Ticks.{Ticks}
+use Rattle.fmp_question.specs.declared.question.Ticks.TheVariants as ticks
 use Rattle.fmp_explore.specs.declared.trying.Marks.{Marks}
-use Rattle.fmp_explore.specs.Rules.{is_idle}
+use Rattle.fmp_question.specs.Rules.{is_idle}
 use Rattle.fmp_explore.specs.Searching.{AreMarks, HasRequest, MayRequest, marked}
-use Rattle.fmp_explore.specs.Standing.{StandsStill}
+use Rattle.fmp_question.specs.Standing.{StandsStill}
 use Rattle.fmp_explore.specs.States.{AreFew, IsStuckAfter, MayCome, came_of}
 use Rattle.fmp_image_bytes.specs.Images.{ImageTables, IsImage}
 use Rattle.fmp_image_bytes.proofs.InRange.{image_in_range}

@@ -1,7 +1,7 @@
 -- The paths of states, with the events behind which a search begins.
 use Rattle.std.proofs.Common.{◌≡◌, ◌+◌, ◌<◌, ℕ, List, [], ◌++◌, Some, ap, ◌∙◌, append-nil, length, length-append, slice_get}
 use Rattle.fmp_base.specs.declared.events.Event.{Event}
-use Rattle.fmp_explore.specs.declared.question.Question.{Question}
+use Rattle.fmp_question.specs.declared.question.Question.{Question}
 use Rattle.fmp_explore.specs.States.{path_by, path_to}
 use Rattle.fmp_seen.specs.declared.link.Link.{Link}
 use Rattle.fmp_seen.specs.Links.{AreLinked, path_of}

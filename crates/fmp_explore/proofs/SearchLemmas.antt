@@ -7,11 +7,11 @@ use Rattle.fmp_base.specs.declared.events.Event.{Event}
 use Rattle.fmp_base.specs.Meanings.{World}
 use Rattle.fmp_base.specs.Setups.{setup}
 use Rattle.fmp_base.specs.Steps.{step}
-use Rattle.fmp_explore.specs.declared.question.Question.{Question}
+use Rattle.fmp_question.specs.declared.question.Question.{Question}
 use Rattle.fmp_explore.specs.declared.survey.Survey.{Survey}
-use Rattle.fmp_explore.specs.Forbidden.{forbids}
-use Rattle.fmp_explore.specs.Places.{forbids_there}
-use Rattle.fmp_explore.specs.Rules.{rules_of}
+use Rattle.fmp_question.specs.Forbidden.{forbids}
+use Rattle.fmp_question.specs.Places.{forbids_there}
+use Rattle.fmp_question.specs.Rules.{rules_of}
 use Rattle.fmp_explore.specs.Searching.{HasExamined, IsAt, IsBegun, IsSearching, IsSurvey, IsWhole, NothingIsFound}
 use Rattle.fmp_explore.specs.States.{IsExamined, IsKnown, IsReached, path_to, watched_of}
 use Rattle.fmp_image_bytes.specs.Images.{ImageTables, IsImage}
@@ -29,10 +29,10 @@ use Rattle.fmp_schedules.proofs.SilentLaws.{searched-silent}
 use Rattle.fmp_seen.specs.declared.link.Link.{Link}
 use Rattle.fmp_seen.specs.Links.{AreLinked}
 use Rattle.fmp_readable.proofs.ReadableLaws.{readable}
-use Rattle.fmp_explore.proofs.ForbiddenLemmas.{forbids-timeless}
+use Rattle.fmp_question.proofs.ForbiddenLemmas.{forbids-timeless}
 use Rattle.fmp_explore.proofs.MarkLemmas.{still_may}
 use Rattle.fmp_explore.proofs.PathLemmas.{path_to-depth, path_to-stays}
-use Rattle.fmp_explore.proofs.PlaceLemmas.{there-even}
+use Rattle.fmp_question.proofs.PlaceLemmas.{there-even}
 use Rattle.fmp_explore.proofs.StateLemmas.{alike_self, covered_more, examined_more}
 
 pub past_none : {X : Type 0} (xs : List X) (k : ℕ) → slice_get xs k ≡ None → length xs ≤ k

@@ -3,91 +3,45 @@ use Rattle.std.proofs.Common.{◌≡◌, ℕ, suc, List, [], ◌∷◌, ◌++◌
 use Rattle.std.proofs.lemmas.List.{length-map}
 use Rattle.fmp_base.specs.declared.events.Event.{Event}
 use Rattle.fmp_base.specs.declared.events.Line.{Line}
-use Rattle.fmp_base.specs.Meanings.{Meaning, World}
-use Rattle.fmp_base.specs.Runs.{run, run_on}
+use Rattle.fmp_base.specs.Meanings.{World}
 use Rattle.fmp_base.specs.Setups.{setup}
-use Rattle.fmp_base.specs.Steps.{Done, Reaction, Nothing, Did, Kept, step}
-use Rattle.fmp_base.specs.Systems.{SystemTables}
-use Rattle.fmp_explore.specs.declared.question.Question.{Question}
+use Rattle.fmp_base.specs.Steps.{Done, Did, Kept}
+use Rattle.fmp_question.specs.declared.question.Question.{Question}
 use Rattle.fmp_explore.specs.States.{holder_number, holder_place, sections_of}
 use Rattle.fmp_image_bytes.specs.Images.{ImageTables}
 use Rattle.fmp_instructions.specs.Machine.{code_meaning}
 use Rattle.fmp_instructions.specs.declared.instructions.MachineContext.{MachineContext}
 use Rattle.fmp_replay.specs.Replays.{reaction}
-use Rattle.fmp_replay.proofs.Replaying.{world_of}
 use Rattle.fmp_schedules.specs.declared.section.Section.{Section}
+use Rattle.fmp_paths.proofs.LineLemmas.{lines_last, lines_to}
 use Rattle.fmp_schedules.specs.Schedules.{lines_after, sections_after}
 use Rattle.fmp_schedules.specs.Sections.{section_after, section_along, section_on}
 use Rattle.fmp_schedules.proofs.SectionLaws.{sections-last}
 
--- ---- the lines of one more event
+module _ (i : ImageTables) (n : ℕ) (q : Question) where
+  pub sections_done : (es : List Event) (e : Event) (d : Done MachineContext) → reaction i n es e ≡ Did d
+      → sections_of i n q (es ++ e ∷ []) ≡ sections_after (sections_of i n q es) d.lines
+  unfolding sections_of
+  sections_done es e d did =
+      ap (λ (events : List (List Line)). map (λ (s : Section). section_along s events) q.sections.items)
+      (lines_last i n es e (Did d) did)
+      ∙ sections-last q.sections.items (lines_to i n es) d.lines
 
-abbrev pub lines_of : {C : Type 0} → Reaction C → List (List Line)
-lines_of Nothing = []
-lines_of (Did d) = d.lines ∷ []
-lines_of (Kept p w) = []
+  pub sections_kept : (es : List Event) (e : Event) (p : ℕ) (w : World MachineContext)
+      → reaction i n es e ≡ Kept p w → sections_of i n q (es ++ e ∷ []) ≡ sections_of i n q es
+  unfolding sections_of
+  sections_kept es e p w keeps =
+      ap (λ (events : List (List Line)). map (λ (s : Section). section_along s events) q.sections.items)
+      (lines_last i n es e (Kept p w) keeps ∙ append-nil (lines_to i n es))
 
-module _ {C : Type 0} (sys : SystemTables) (M : Meaning C) (n : ℕ) where
-  one-event : (w : World C) (r : Reaction C)
-      → (run_on w r (λ v. record { world = v; events = [] })).events ≡ lines_of r
-  one-event w Nothing = refl
-  one-event w (Did d) = refl
-  one-event w (Kept p v) = refl
+  pub sections_first :
+      sections_of i n q [] ≡ sections_after q.sections.items (setup i.system (code_meaning i.code)).lines
+  unfolding sections_of
+  sections_first = refl
 
-  run-events : (w : World C) (es : List Event) (e : Event)
-      → (run sys M n w (es ++ e ∷ [])).events
-      ≡ (run sys M n w es).events ++ lines_of (step sys M n (run sys M n w es).world e)
-  run-events w [] e = one-event w (step sys M n w e)
-  run-events w (x ∷ es) e = by_reaction (step sys M n w x) (λ v. run-events v es e) where
-    by_reaction : (r : Reaction C)
-        → ((v : World C) → (run sys M n v (es ++ e ∷ [])).events
-        ≡ (run sys M n v es).events ++ lines_of (step sys M n (run sys M n v es).world e))
-        → (run_on w r (λ v. run sys M n v (es ++ e ∷ []))).events
-        ≡ (run_on w r (λ v. run sys M n v es)).events
-        ++ lines_of (step sys M n (run_on w r (λ v. run sys M n v es)).world e)
-    by_reaction Nothing rest = rest w
-    by_reaction (Did d) rest = ap (λ (xs : List (List Line)). d.lines ∷ xs) (rest d.world)
-    by_reaction (Kept p v) rest = rest v
-
-module _ (i : ImageTables) (n : ℕ) where
-  abbrev pub lines_to : List Event → List (List Line)
-  lines_to es = lines_after i.system (code_meaning i.code) n es
-
-  pub lines_last : (es : List Event) (e : Event) (r : Reaction MachineContext) → reaction i n es e ≡ r
-      → lines_to (es ++ e ∷ []) ≡ lines_to es ++ lines_of r
-  unfolding reaction
-  lines_last es e r h =
-      let M : Meaning MachineContext = code_meaning i.code in
-      let before : List (List Line) = (run i.system M n (setup i.system M).world es).events in
-      ap (λ (xs : List (List Line)). (setup i.system M).lines ∷ xs)
-      (run-events i.system M n (setup i.system M).world es e
-      ∙ ap (λ (w : World MachineContext). before ++ lines_of (step i.system M n w e)) (sym (world_of i n es))
-      ∙ ap (λ (x : Reaction MachineContext). before ++ lines_of x) h)
-
-  module _ (q : Question) where
-    pub sections_done : (es : List Event) (e : Event) (d : Done MachineContext) → reaction i n es e ≡ Did d
-        → sections_of i n q (es ++ e ∷ []) ≡ sections_after (sections_of i n q es) d.lines
-    unfolding sections_of
-    sections_done es e d did =
-        ap (λ (events : List (List Line)). map (λ (s : Section). section_along s events) q.sections.items)
-        (lines_last es e (Did d) did)
-        ∙ sections-last q.sections.items (lines_to es) d.lines
-
-    pub sections_kept : (es : List Event) (e : Event) (p : ℕ) (w : World MachineContext)
-        → reaction i n es e ≡ Kept p w → sections_of i n q (es ++ e ∷ []) ≡ sections_of i n q es
-    unfolding sections_of
-    sections_kept es e p w keeps =
-        ap (λ (events : List (List Line)). map (λ (s : Section). section_along s events) q.sections.items)
-        (lines_last es e (Kept p w) keeps ∙ append-nil (lines_to es))
-
-    pub sections_first :
-        sections_of i n q [] ≡ sections_after q.sections.items (setup i.system (code_meaning i.code)).lines
-    unfolding sections_of
-    sections_first = refl
-
-    pub sections_length : (es : List Event) → length (sections_of i n q es) ≡ length q.sections.items
-    unfolding sections_of
-    sections_length es = length-map q.sections.items _
+  pub sections_length : (es : List Event) → length (sections_of i n q es) ≡ length q.sections.items
+  unfolding sections_of
+  sections_length es = length-map q.sections.items _
 
 -- ---- what their holders tell
 

@@ -9,10 +9,10 @@ use Rattle.fmp_base.specs.declared.events.Event.{Event}
 use Rattle.fmp_base.specs.declared.events.Line.{Line}
 use Rattle.fmp_base.specs.Meanings.{World}
 use Rattle.fmp_base.specs.Steps.{Done, Reaction, Nothing, Did, Kept}
-use Rattle.fmp_explore.specs.declared.question.Question.{Question}
-use Rattle.fmp_explore.specs.Forbidden.{forbids}
-use Rattle.fmp_explore.specs.Places.{forbids_there}
-use Rattle.fmp_explore.specs.Rules.{rules_of}
+use Rattle.fmp_question.specs.declared.question.Question.{Question}
+use Rattle.fmp_question.specs.Forbidden.{forbids}
+use Rattle.fmp_question.specs.Places.{forbids_there}
+use Rattle.fmp_question.specs.Rules.{rules_of}
 use Rattle.fmp_explore.specs.States.{AreKept, HasRow, IsExamined, IsKnown, IsReached, LeadsOn, came_of, holder_number, numbers_after, path_by, path_to, sections_of, watched_of, zeroed_after}
 use Rattle.fmp_fields.specs.declared.field.What.{What}
 use Rattle.fmp_fields.specs.FieldNumbers.{number_of}
@@ -38,7 +38,8 @@ use Rattle.fmp_seen.proofs.RowLemmas.{rows-told}
 use Rattle.fmp_readable.proofs.ReadableLaws.{readable}
 use Rattle.fmp_schedules.proofs.EventLines.{done-counts}
 use Rattle.fmp_explore.proofs.PathLemmas.{path_to-stays}
-use Rattle.fmp_explore.proofs.SectionLemmas.{append-parts, lines_to, sections-told, sections_done, sections_kept, sections_length}
+use Rattle.fmp_explore.proofs.SectionLemmas.{append-parts, sections-told, sections_done, sections_kept, sections_length}
+use Rattle.fmp_paths.proofs.LineLemmas.{lines_to}
 
 -- an element of a list with one more is one that it had, or that one
 pub element_of_push : {X : Type 0} (xs : List X) (y : X) (i : ℕ) (x : X) → slice_get (xs ++ y ∷ []) i ≡ Some x

@@ -9,14 +9,14 @@ use Rattle.fmp_base.specs.Runs.{run}
 use Rattle.fmp_base.specs.States.{task_at}
 use Rattle.fmp_base.specs.TaskCalls.{is_dormant}
 use Rattle.fmp_base.specs.Steps.{step}
-use Rattle.fmp_explore.specs.declared.question.Never.{Never}
-use Rattle.fmp_explore.specs.declared.question.Question.{Question}
+use Rattle.fmp_question.specs.declared.question.Never.{Never}
+use Rattle.fmp_question.specs.declared.question.Question.{Question}
 use Rattle.fmp_explore.specs.declared.survey.Survey.{Survey}
-use Rattle.fmp_explore.specs.declared.question.Ticks.{Ticks}
+use Rattle.fmp_question.specs.declared.question.Ticks.{Ticks}
 use Rattle.fmp_explore.specs.Behind.{IsAbout, NeverActs, NoneFollows}
-use Rattle.fmp_explore.specs.Followed.{IsFollowed}
-use Rattle.fmp_explore.specs.Forbidden.{forbids}
-use Rattle.fmp_explore.specs.Rules.{is_idle, rules_of}
+use Rattle.fmp_paths.specs.Followed.{IsFollowed}
+use Rattle.fmp_question.specs.Forbidden.{forbids}
+use Rattle.fmp_question.specs.Rules.{is_idle, rules_of}
 use Rattle.fmp_explore.specs.Searching.{IsWhole}
 use Rattle.fmp_explore.specs.States.{IsReached, came_of, watched_of}
 use Rattle.fmp_image_bytes.specs.Images.{ImageTables, IsImage}
@@ -34,7 +34,7 @@ use Rattle.fmp_schedules.proofs.HoldLaws.{or-none}
 use Rattle.fmp_schedules.proofs.RuleLaws.{watch-blind}
 use Rattle.fmp_schedules.proofs.StuckLaws.{SameCame, none-behind, told-too}
 use Rattle.fmp_schedules.proofs.TriedLaws.{tried-closed}
-use Rattle.fmp_explore.proofs.ForbiddenLemmas.{forbids-timeless}
+use Rattle.fmp_question.proofs.ForbiddenLemmas.{forbids-timeless}
 use Rattle.fmp_explore.proofs.SearchLemmas.{clean, likeness, tried, whole}
 
 came_counted : (most : Option ℕ) (es : List Event) → SameCame most (count_by is_interrupt es) (came_of most es)

@@ -1,21 +1,15 @@
--- Searches that begin behind events.
-use Rattle.std.specs.Prelude.{ℕ, ◌≡◌, ◌<◌, ◌⊎◌, List, [], ◌∷◌, false, count_by}
+-- What a search that begins behind events shows.
+use Rattle.std.specs.Prelude.{ℕ, ◌≡◌, List, [], ◌∷◌, false}
 use Rattle.fmp_base.specs.declared.events.Event.{Event}
 use Rattle.fmp_base.specs.Runs.{run}
-use Rattle.fmp_explore.specs.declared.question.Never.TheVariants as kind
-use Rattle.fmp_explore.specs.declared.question.Question.{Question}
-use Rattle.fmp_explore.specs.Forbidden.{forbids}
-use Rattle.fmp_explore.specs.Rules.{rules_of}
+use Rattle.fmp_question.specs.declared.question.Never.TheVariants as kind
+use Rattle.fmp_question.specs.declared.question.Question.{Question}
+use Rattle.fmp_question.specs.Forbidden.{forbids}
+use Rattle.fmp_question.specs.Rules.{rules_of}
 use Rattle.fmp_image_bytes.specs.Images.{ImageTables}
 use Rattle.fmp_instructions.specs.Machine.{code_meaning}
-use Rattle.fmp_schedules.specs.Deadlocks.{is_interrupt}
 use Rattle.fmp_schedules.specs.Schedules.{is_told, reached}
 use Rattle.fmp_schedules.specs.Stuck.{MayFollow, acts}
-
--- a search can begin behind the events of a question: at setup, or where it asks about no section
-pub record CanBegin (q : Question) : Type 0 where
-  pub few : count_by is_interrupt q.after.items < 256
-  pub alone : (q.after.items ≡ []) ⊎ (q.sections.items ≡ [])
 
 -- whatever events follow those behind which a search begins, as the rules let them come, no forbidden line is told
 abbrev pub NoneFollows : ImageTables → (n : ℕ) → Question → Type 0

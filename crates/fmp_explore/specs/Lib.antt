@@ -1,12 +1,3 @@
 pub mod Behind
-pub mod Endless
-pub mod Findings
-pub mod Followed
-pub mod Forbidden
-pub mod Ladders
-pub mod Places
-pub mod Rules
 pub mod Searching
-pub mod Standing
 pub mod States
-pub mod Tries

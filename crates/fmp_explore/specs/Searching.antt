@@ -2,27 +2,27 @@
 use Rattle.std.specs.Prelude.{ℕ, ◌≡◌, ◌+◌, ◌<◌, ◌≤◌, List, [], ◌∷◌, ◌++◌, Some, true, false, is_some, length, slice_get}
 use Rattle.std.specs.declared.alloc.Global.{Global}
 use Rattle.std.specs.declared.vec.Vec.{Vec}
-use Rattle.fmp_base.specs.declared.events.Effect.{Effect}
 use Rattle.fmp_base.specs.declared.events.Event.{Event}
 use Rattle.fmp_base.specs.declared.events.Event.TheVariants as event
-use Rattle.fmp_base.specs.Meanings.{World}
-use Rattle.fmp_base.specs.Steps.{Done, Nothing, Did, Kept, effect_of}
-use Rattle.fmp_explore.specs.declared.question.Question.{Question}
+use Rattle.fmp_base.specs.Steps.{Nothing}
+use Rattle.fmp_question.specs.declared.question.Question.{Question}
+use Rattle.fmp_explore.specs.declared.searching.Ending.{Ending}
+use Rattle.fmp_explore.specs.declared.searching.Ending.TheVariants as ending
 use Rattle.fmp_explore.specs.declared.survey.Survey.{Survey}
 use Rattle.fmp_explore.specs.declared.trying.Marks.{Marks}
-use Rattle.fmp_explore.specs.Followed.{IsFollowed}
-use Rattle.fmp_explore.specs.Forbidden.{forbids}
-use Rattle.fmp_explore.specs.Places.{forbids_there}
-use Rattle.fmp_explore.specs.Rules.{rules_of}
+use Rattle.fmp_paths.specs.Followed.{IsFollowed}
+use Rattle.fmp_question.specs.Forbidden.{forbids}
+use Rattle.fmp_question.specs.Places.{forbids_there}
+use Rattle.fmp_question.specs.Rules.{rules_of}
 use Rattle.fmp_explore.specs.States.{AreFew, AreKept, IsExamined, IsKnown, IsStuckAfter, LeadsOn, MayCome, path_by, path_to, sections_of, watched_of}
-use Rattle.fmp_explore.specs.Tries.{all_tries}
+use Rattle.fmp_tries.specs.Tries.{all_tries}
 use Rattle.fmp_fields.specs.Fields.{AreAllFields}
 use Rattle.fmp_image_bytes.specs.Images.{ImageTables}
 use Rattle.fmp_instructions.specs.Instructions.{BodyTables}
 use Rattle.fmp_instructions.specs.Machine.{code_meaning}
 use Rattle.fmp_instructions.specs.declared.instructions.MachineContext.{MachineContext}
-use Rattle.fmp_kernel.specs.KernelViews.{KernelView, view_after}
-use Rattle.fmp_replay.specs.Replays.{IsLegal, kernel_after, reaction, replay}
+use Rattle.fmp_kernel.specs.KernelViews.{KernelView}
+use Rattle.fmp_replay.specs.Replays.{reaction, replay}
 use Rattle.fmp_schedules.specs.Deadlocks.{may_interrupt}
 use Rattle.fmp_schedules.specs.declared.section.Section.{Section}
 use Rattle.fmp_schedules.specs.Schedules.{Holds, HoldsThere, none_runs, watched_at_setup}
@@ -100,30 +100,6 @@ pub record IsAt (q : Question) (links : List Link) (state : ℕ) (es : List Even
   pub path : es ≡ path_to q links state
   pub deep : length es < 1048575
 
--- what an event does after others, and the kernel then
-pub record HasStepped (i : ImageTables) (n : ℕ) (es : List Event) (e : Event)
-    (k : KernelView (List BodyTables) MachineContext) (x : Effect) : Type 0 where
-  pub legal : IsLegal i n es
-  pub effect : x ≡ effect_of (reaction i n es e)
-  pub kernel : k ≡ view_after (kernel_after i n es) (reaction i n es e)
-
--- an event is done after others
-pub record HasDone (i : ImageTables) (n : ℕ) (es : List Event) (e : Event)
-    (k : KernelView (List BodyTables) MachineContext) : Type 0 where
-  pub done : Done MachineContext
-  pub did : reaction i n es e ≡ Did done
-  pub lines : k.lines ≡ done.lines
-  pub world : k.world ≡ done.world
-  pub followed : IsFollowed i n (es ++ e ∷ []) k
-
--- an event keeps a place after others
-pub record HasKeptPlace (i : ImageTables) (n : ℕ) (es : List Event) (e : Event)
-    (k : KernelView (List BodyTables) MachineContext) : Type 0 where
-  pub place : ℕ
-  pub world : World MachineContext
-  pub keeps : reaction i n es e ≡ Kept place world
-  pub followed : IsFollowed i n (es ++ e ∷ []) k
-
 -- what an event leads to is kept
 pub record HasDealt (i : ImageTables) (n : ℕ) (q : Question) (old new : Survey) (es : List Event) (e : Event) :
     Type 0 where
@@ -197,6 +173,10 @@ pub record IsWhole (i : ImageTables) (n : ℕ) (q : Question) (s : Survey) : Typ
   pub each :
       s.sure ≡ true → (k : ℕ) → k < length s.seen.links →
       IsExamined i n q s.seen.links (path_to q s.seen.links k)
+
+-- a search that ended because no state is left has examined every state
+abbrev pub HasEnded : ImageTables → (n : ℕ) → Question → Survey → Ending → Type 0
+HasEnded i n q s how = how ≡ ending.Whole → IsWhole i n q s
 
 -- nothing that is asked about is found along any schedule
 pub record NothingIsFound (i : ImageTables) (n : ℕ) (q : Question) : Type 0 where

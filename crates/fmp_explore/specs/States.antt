@@ -3,10 +3,10 @@ use Rattle.std.specs.Prelude.{ℕ, zero, suc, ◌≡◌, ◌<◌, List, [], ◌�
 use Rattle.fmp_alike.specs.Closed.{IsCovered, LeadsIn}
 use Rattle.fmp_base.specs.declared.events.Event.{Event}
 use Rattle.fmp_base.specs.Meanings.{World}
-use Rattle.fmp_explore.specs.declared.question.Question.{Question}
-use Rattle.fmp_explore.specs.Forbidden.{forbids}
-use Rattle.fmp_explore.specs.Places.{forbids_there}
-use Rattle.fmp_explore.specs.Rules.{rules_of}
+use Rattle.fmp_question.specs.declared.question.Question.{Question}
+use Rattle.fmp_question.specs.Forbidden.{forbids}
+use Rattle.fmp_question.specs.Places.{forbids_there}
+use Rattle.fmp_question.specs.Rules.{rules_of}
 use Rattle.fmp_fields.specs.declared.field.What.{What}
 use Rattle.fmp_fields.specs.FieldNumbers.{number_of}
 use Rattle.fmp_image_bytes.specs.Images.{ImageTables}

@@ -3,23 +3,24 @@ ghost use Rattle.std.specs.Prelude.{◌≡◌, ◌≤◌, ◌^◌, [], All, IfOk
 ghost use Rattle.fmp_instructions.specs.Machine.{code_meaning};
 ghost use Rattle.fmp_replay.specs.Replays.{kernel_after};
 ghost use Rattle.fmp_schedules.specs.Schedules.{Holds, HoldsThere};
-ghost use Rattle.fmp_explore.specs.Findings.{IsFound};
-ghost use Rattle.fmp_explore.specs.Forbidden.{forbids};
-ghost use Rattle.fmp_explore.specs.Places.{forbids_there};
-ghost use Rattle.fmp_explore.specs.Rules.{rules_of};
-ghost use Rattle.fmp_explore.specs.Searching.{IsBegun, IsWhole, NothingIsFound};
+ghost use Rattle.fmp_findings.specs.Findings.{IsFound};
+ghost use Rattle.fmp_question.specs.Forbidden.{forbids};
+ghost use Rattle.fmp_question.specs.Places.{forbids_there};
+ghost use Rattle.fmp_question.specs.Rules.{rules_of};
+ghost use Rattle.fmp_explore.specs.Searching.{HasEnded, IsBegun, NothingIsFound};
 
-use crate::coverage::Coverage;
-use crate::finding::{Finding, confirmed, shortest_alone};
-use crate::question::Question;
+use crate::finding::{confirmed, shortest_alone};
 use crate::searching::{Ending, Watcher};
 use crate::stuck::suspected;
 use crate::subject::{Subject, live_in};
 use crate::survey::Survey;
 use crate::values::Variety;
 use fmp_code::Vm;
+use fmp_coverage::Coverage;
+use fmp_findings::Finding;
 use fmp_image_bytes::Image;
 use fmp_kernel::Kernel;
+use fmp_question::Question;
 use fmp_replay::kernel_of;
 use std::alloc::{AllocError, Global};
 
@@ -185,8 +186,7 @@ pub fn ended<W: Watcher>(
     watcher: &mut W,
 ) -> Ending
     requires { IsBegun subject.now.image.now subject.now.n subject.now.question.now survey.old }
-    ensures { result ≡ Ending.Whole →
-        IsWhole subject.now.image.now subject.now.n subject.now.question.now survey.new }
+    ensures { HasEnded subject.now.image.now subject.now.n subject.now.question.now survey.new result }
 {
     match survey.run(alloc, subject, watcher) {
         Ok(ending) => ending,

@@ -2,12 +2,13 @@
 ghost use Rattle.std.specs.Prelude.{◌≡◌, ◌≢◌, ◌+◌, ◌<◌, ◌≤◌, [], ◌∷◌, ◌++◌, IfNone, IfOk, IfSome, IsTrue, OnOk, false, length, true};
 ghost use Rattle.fmp_base.specs.Steps.{Nothing};
 ghost use Rattle.fmp_replay.specs.Replays.{kernel_after, reaction};
-ghost use Rattle.fmp_explore.specs.Followed.{IsFollowed};
-ghost use Rattle.fmp_explore.specs.Ladders.{IsBare, IsLadder, IsOver};
+ghost use Rattle.fmp_paths.specs.Followed.{IsFollowed};
+ghost use Rattle.fmp_paths.specs.Ladders.{IsBare, IsLadder, IsOver};
 ghost use Rattle.fmp_explore.specs.Searching.{
   AreMarks,
   Grows,
   HasDealt,
+  HasEnded,
   HasExamined,
   HasLooked,
   HasTried,
@@ -15,24 +16,22 @@ ghost use Rattle.fmp_explore.specs.Searching.{
   IsBegun,
   IsSurvey,
   IsTrying,
-  IsWhole,
   MayRequest,
 };
 ghost use Rattle.fmp_explore.specs.States.{AreFew, MayCome, path_to};
-ghost use Rattle.fmp_explore.specs.Tries.{all_tries};
+ghost use Rattle.fmp_tries.specs.Tries.{all_tries};
 
-use crate::finding::Sight;
-use crate::ladder::Ladder;
 use crate::notes::Path;
-use crate::question::{Question, Ticks};
-use crate::standing::stands_still;
 use crate::stretching::{next_stretch, task_sites};
 use crate::subject::Subject;
 use crate::survey::Survey;
 use crate::trying::{Attempt, DEEPEST, Marks};
 use fmp_base::{Effect, Event};
 use fmp_code::Vm;
+use fmp_findings::Sight;
 use fmp_kernel::Kernel;
+use fmp_paths::Ladder;
+use fmp_question::{Question, Ticks, stands_still};
 use fmp_seen::Link;
 use std::alloc::{AllocError, Global};
 
@@ -99,7 +98,7 @@ fn depth_of(question: &Question, link: Link) -> usize
 
 impl Survey {
     /// Tries an event on a kernel in its state: whether it does something.
-    #[tactic(auto, using(crate::proofs::LadderLemmas::over_step))]
+    #[tactic(auto, using(crate::proofs::OverLemmas::over_step))]
     fn attempt<'a>(
         &mut self,
         alloc: Global,
@@ -125,7 +124,7 @@ impl Survey {
     }
 
     /// Tries the event at a place of those that are tried, if it may come now: whether it does something.
-    #[tactic(auto, using(crate::proofs::LadderLemmas::over_after))]
+    #[tactic(auto, using(crate::proofs::OverLemmas::over_after))]
     fn try_at<'a>(
         &mut self,
         alloc: Global,
@@ -166,7 +165,7 @@ impl Survey {
 
     /// Tries the events from this place on, in the state of a kernel to which these steps led, until one does
     /// something. Gives the place behind it, or behind the last.
-    #[tactic(auto, using(crate::proofs::LadderLemmas::over_after))]
+    #[tactic(auto, using(crate::proofs::OverLemmas::over_after))]
     fn try_from<'a>(
         &mut self,
         alloc: Global,
@@ -389,7 +388,7 @@ impl Survey {
         self.seen.len()
     }
 
-    /// Examines the states in order until none is left, or the search ends. `AllocError` if memory runs out.
+    /// The same, with a ladder.
     fn examine_all<'a, W: Watcher>(
         &mut self,
         alloc: Global,
@@ -399,8 +398,7 @@ impl Survey {
     ) -> Result<Ending, AllocError>
         requires begun { IsBegun subject.now.image.now subject.now.n subject.now.question.now self.old }
         requires ladder { IsLadder subject.now.image.now subject.now.n ladder.old }
-        ensures { IfOk result (λ ending. ending ≡ Ending.Whole →
-            IsWhole subject.now.image.now subject.now.n subject.now.question.now self.new) }
+        ensures { IfOk result (HasEnded subject.now.image.now subject.now.n subject.now.question.now self.new) }
     {
         let mut told = TOLD_FIRST / 2;
         for i in 0..u32::MAX {
@@ -427,8 +425,7 @@ impl Survey {
     ) -> Result<Ending, AllocError>
         requires begun { IsBegun subject.now.image.now subject.now.n subject.now.question.now self.old }
         requires bare { IsBare subject.now.image.now subject.now.n ladder.old }
-        ensures { IfOk result (λ ending. ending ≡ Ending.Whole →
-            IsWhole subject.now.image.now subject.now.n subject.now.question.now self.new) }
+        ensures { IfOk result (HasEnded subject.now.image.now subject.now.n subject.now.question.now self.new) }
     {
         ladder.begin(alloc, subject.image, subject.n)?;
         self.examine_all(alloc, subject, ladder, watcher)
@@ -443,8 +440,7 @@ impl Survey {
         watcher: &mut W,
     ) -> Result<Ending, AllocError>
         requires { IsBegun subject.now.image.now subject.now.n subject.now.question.now self.old }
-        ensures { IfOk result (λ ending. ending ≡ Ending.Whole →
-            IsWhole subject.now.image.now subject.now.n subject.now.question.now self.new) }
+        ensures { IfOk result (HasEnded subject.now.image.now subject.now.n subject.now.question.now self.new) }
     {
         let mut ladder = Ladder::new(alloc, subject.image, subject.n)?;
         self.run_on(alloc, subject, &mut ladder, watcher)

@@ -1,12 +1,12 @@
 //! Where bodies stand: the call that the next stretch of a processor makes, and the calls in which tasks wait.
 ghost use Rattle.std.specs.Prelude.{◌≡◌};
 
-use crate::coverage::Site;
-use fmp_base::{Entry, Event, Held, Phase, Stretch, System, TaskConfig};
+use fmp_base::{Event, Stretch, System};
 use fmp_code::MachineContext;
 use fmp_fields::low_byte;
 use fmp_kernel::{Actor, Body, Kernel};
-use std::alloc::{AllocError, Global};
+use fmp_question::{Site, body_of, last_call};
+use std::alloc::AllocError;
 
 /// How the stretch of an event ends.
 #[derive(Clone, Copy)]
@@ -85,66 +85,6 @@ pub fn next_stretch<B: Body<Ctx = MachineContext>>(
     }
 }
 
-/// The place of the last call of a body of which this is kept. A call leaves its body right behind it.
-fn last_call(held: Option<Held<MachineContext>>) -> u16 {
-    match held {
-        Some(Held::Goes(context)) => context.pc.saturating_sub(1),
-        Some(Held::Awaits(context)) => context.pc.saturating_sub(1),
-        None => 0,
-    }
-}
-
-/// A task that is started, and the call in which it waits, if it does.
-#[derive(Clone, Copy, Debug, PartialEq, Eq)]
-pub struct Started {
-    pub task: u8,
-    pub waits: Option<Site>,
-}
-
-/// The body of a task.
-pub fn body_of(config: &TaskConfig) -> u8 {
-    match config.entry {
-        Entry::Body(body) => body,
-        Entry::Named(_) => 0,
-    }
-}
-
-/// Where a task stands, if there is one and it is started.
-fn started_at<B: Body<Ctx = MachineContext>>(
-    kernel: &Kernel<B>,
-    task: u8,
-    body: u8,
-) -> Option<Started> {
-    let tables = kernel.tables();
-    if usize::from(task) >= tables.task_count() {
-        return None;
-    }
-    match tables.task(task).phase {
-        Phase::Dormant => None,
-        Phase::Ready => Some(Started { task, waits: None }),
-        Phase::Waiting(_) => {
-            let pc = last_call(kernel.held(task));
-            let waits = Some(Site { body, pc });
-            Some(Started { task, waits })
-        }
-    }
-}
-
-/// The tasks that are started. `AllocError` if memory runs out.
-pub fn started_tasks<B: Body<Ctx = MachineContext>>(
-    alloc: Global,
-    kernel: &Kernel<B>,
-    sys: &System,
-) -> Result<Vec<Started>, AllocError> {
-    let mut all = Vec::new(alloc);
-    for (t, config) in sys.tasks.iter().enumerate() {
-        if let Some(started) = started_at(kernel, low_byte(t), body_of(config)) {
-            all.push(started)?;
-        }
-    }
-    Ok(all)
-}
-
 /// Writes the last call of each task's body into the place of what is there. Where a task waits, that is the call in
 /// which it waits. `AllocError` if memory runs out.
 pub fn task_sites<B: Body<Ctx = MachineContext>>(
@@ -156,7 +96,7 @@ pub fn task_sites<B: Body<Ctx = MachineContext>>(
     for (t, config) in sys.tasks.iter().enumerate() {
         let pc = last_call(kernel.held(low_byte(t)));
         sites.push(Site {
-            body: body_of(config),
+            body: body_of(config.entry),
             pc,
         })?;
     }

@@ -1,31 +1,27 @@
 //! Tasks that can never go on: where to look for one, and whether it is so.
-ghost use Rattle.std.specs.Prelude.{◌≡◌, ◌≢◌, ◌≤◌, ◌^◌, [], IfOk, IsTrue};
+ghost use Rattle.std.specs.Prelude.{◌≡◌, ◌≢◌, ◌≤◌, ◌^◌, [], ◌∷◌, IfOk, IsTrue};
 ghost use Rattle.fmp_base.specs.States.{task_at};
 ghost use Rattle.fmp_instructions.specs.Machine.{code_meaning};
 ghost use Rattle.fmp_replay.specs.Replays.{kernel_after};
 ghost use Rattle.fmp_schedules.specs.Schedules.{reached};
 ghost use Rattle.fmp_explore.specs.Behind.{IsAbout, NeverActs, NoneFollows};
-ghost use Rattle.fmp_explore.specs.Findings.{IsSo};
-ghost use Rattle.fmp_explore.specs.Followed.{IsFollowed};
+ghost use Rattle.fmp_findings.specs.Findings.{IsSo};
+ghost use Rattle.fmp_paths.specs.Followed.{IsFollowed};
 ghost use Rattle.fmp_explore.specs.Searching.{IsBegun};
 
-use crate::coverage::Site;
 use crate::edges::{Sources, goes_on_from};
 use crate::exploring::{begun, ended};
-use crate::finding::{Finding, Sight};
-use crate::placing::is_started;
-use crate::question::{Never, Question};
-use crate::replaying::follow;
 use crate::searching::{Ending, Watcher};
-use crate::standing::may_rest;
-use crate::stretching::body_of;
 use crate::subject::{Subject, live_in};
 use crate::survey::Survey;
 use fmp_base::{Event, Phase, System};
 use fmp_code::Vm;
 use fmp_fields::{What, low_byte};
+use fmp_findings::{Finding, Sight};
 use fmp_image_bytes::Image;
 use fmp_kernel::Kernel;
+use fmp_paths::follow;
+use fmp_question::{Never, Question, Site, body_of, is_started, may_rest};
 use fmp_seen::unpack;
 use std::alloc::{AllocError, Global};
 
@@ -66,7 +62,7 @@ fn value_at(values: &[u32], place: usize) -> u32 {
 /// The body of the task at a place.
 fn body_at(sys: &System, t: u8) -> u8 {
     match sys.tasks.get(usize::from(t)) {
-        Some(config) => body_of(config),
+        Some(config) => body_of(config.entry),
         None => 0,
     }
 }
@@ -179,6 +175,15 @@ pub fn suspected(
     }
 }
 
+/// This alone, of all that must never happen.
+fn only(alloc: Global, never: Never) -> Result<Vec<Never>, AllocError>
+    ensures { IfOk result (λ nevers. nevers.items ≡ never ∷ []) }
+{
+    let mut nevers = Vec::new(alloc);
+    nevers.push(never)?;
+    Ok(nevers)
+}
+
 /// A mark for each task of a system: it may rest.
 fn all_rest(alloc: Global, sys: &System) -> Result<Vec<bool>, AllocError> {
     vec![in alloc; true; sys.tasks.len()]
@@ -194,18 +199,19 @@ fn question_of(
 ) -> Result<Question, AllocError>
     ensures { IfOk result (λ about. IsAbout question.now steps.now t about) }
 {
-    let mut nevers = Vec::new(alloc);
-    nevers.push(Never::Acts(t))?;
+    let nevers = only(alloc, Never::Acts(t))?;
+    let after = Vec::from_slice(alloc, steps)?;
+    let rest = all_rest(alloc, sys)?;
     Ok(Question {
         nevers,
         nevers_at: Vec::new(alloc),
         sections: Vec::new(alloc),
-        rest: all_rest(alloc, sys)?,
+        rest,
         ticks: question.ticks,
         interrupts: question.interrupts,
         all: false,
         states: question.states,
-        after: Vec::from_slice(alloc, steps)?,
+        after,
     })
 }
 
@@ -269,25 +275,6 @@ fn never_acts(
     is_silent_about(alloc, image, n, &about)
 }
 
-/// The same; no if there is no memory.
-fn is_known_idle(
-    alloc: Global,
-    image: &Image,
-    n: u64,
-    question: &Question,
-    steps: &[Event],
-    t: u8,
-) -> bool
-    requires low { 1 ≤ n }
-    requires high { n ≤ 2 ^ 48 }
-    ensures { IsTrue result → NeverActs image.now n question.now steps.now t }
-{
-    match never_acts(alloc, image, n, question, steps, t) {
-        Ok(never) => never,
-        Err(_) => false,
-    }
-}
-
 /// Whether the task at a place is started on the kernel of an image, which has taken these events.
 fn is_started_after(kernel: &Kernel<Vm<'_>>, image: &Image, n: u64, steps: &[Event], t: u8) -> bool
     requires { IsFollowed image.now n steps.now kernel.now }
@@ -299,7 +286,7 @@ fn is_started_after(kernel: &Kernel<Vm<'_>>, image: &Image, n: u64, steps: &[Eve
 }
 
 /// Whether it is known that the task at a place, which is started on the kernel of an image that was just set up and
-/// takes these events, never goes on after them.
+/// takes these events, never goes on after them. Where memory runs out it is not known.
 pub fn is_stuck<'a>(
     alloc: Global,
     kernel: &mut Kernel<Vm<'a>>,
@@ -320,5 +307,8 @@ pub fn is_stuck<'a>(
     if !is_started_after(kernel, image, n, steps, t) {
         return false;
     }
-    is_known_idle(alloc, image, n, question, steps, t)
+    match never_acts(alloc, image, n, question, steps, t) {
+        Ok(never) => never,
+        Err(_) => false,
+    }
 }

@@ -2,9 +2,9 @@
 ghost use Rattle.std.specs.Prelude.{◌≤◌, ◌^◌};
 ghost use Rattle.fmp_live.specs.LiveLocals.{AreLiveTables, live_tables};
 
-use crate::question::Question;
 use fmp_image_bytes::Image;
 use fmp_live::{LiveLocals, live_locals};
+use fmp_question::Question;
 use std::alloc::Global;
 
 /// The image whose schedules are searched, the most instructions of a stretch of its bodies, and what is asked.

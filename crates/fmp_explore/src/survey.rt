@@ -5,41 +5,29 @@ ghost use Rattle.fmp_schedules.specs.Deadlocks.{is_interrupt as is_request};
 ghost use Rattle.fmp_replay.specs.Replays.{kernel_after};
 ghost use Rattle.fmp_schedules.specs.Schedules.{is_any_met};
 ghost use Rattle.fmp_explore.specs.States.{AreFew, path_by, path_to, sections_of};
-ghost use Rattle.fmp_explore.specs.Followed.{IsFollowed};
-ghost use Rattle.fmp_explore.specs.Places.{is_bad};
-ghost use Rattle.fmp_explore.specs.Searching.{
-  HasDealt,
-  HasDone,
-  HasKept,
-  HasKeptPlace,
-  HasStepped,
-  IsAt,
-  IsBegun,
-  IsClean,
-  IsFresh,
-  IsNext,
-  IsSurvey,
-  Stays,
-};
+ghost use Rattle.fmp_paths.specs.Followed.{IsFollowed};
+ghost use Rattle.fmp_question.specs.Places.{is_bad};
+ghost use Rattle.fmp_explore.specs.Searching.{HasDealt, HasKept, IsAt, IsBegun, IsClean, IsFresh, IsNext, IsSurvey, Stays};
+ghost use Rattle.fmp_paths.specs.Followed.{HasDone, HasKeptPlace, HasStepped};
 
-use crate::coverage::{Coverage, Site};
 use crate::edges::Edges;
-use crate::endless::is_endless;
-use crate::finding::{Finding, Sight};
 use crate::holding::sections_after;
 use crate::notes::{Notes, Path};
-use crate::question::{Question, interrupt_count};
-use crate::replaying::follow;
 use crate::rows::Rows;
 use crate::stretching::NextStretch;
 use crate::subject::Subject;
-use crate::trying::{Attempt, tries_of};
+use crate::trying::Attempt;
 use crate::values::{Variety, varieties};
 use fmp_base::{Effect, Event, Line};
 use fmp_code::Vm;
+use fmp_coverage::Coverage;
+use fmp_findings::{Finding, Sight};
 use fmp_kernel::Kernel;
+use fmp_paths::follow;
+use fmp_question::{Question, Site, interrupt_count, is_endless};
 use fmp_schedules::Section;
 use fmp_seen::{Entry, Link, Seen};
+use fmp_tries::tries_of;
 use std::alloc::{AllocError, Global};
 
 /// A search under way.
@@ -66,16 +54,28 @@ impl Survey {
     ) -> Result<Survey, AllocError>
         ensures { IfOk result (IsFresh subject.now.image.now subject.now.question.now) }
     {
+        let edges = Edges::new(alloc, kernel.tables().task_count());
         let coverage = Coverage::new(alloc, kernel.tables(), subject.image.code())?;
-        let rows = Rows::new(alloc, subject)?;
+        Survey::with_notes(alloc, subject, edges, Notes::new(alloc, coverage))
+    }
+
+    /// The same, with these edges and notes. `AllocError` if memory runs out.
+    fn with_notes(
+        alloc: Global,
+        subject: &Subject<'_>,
+        edges: Edges,
+        notes: Notes,
+    ) -> Result<Survey, AllocError>
+        ensures { IfOk result (IsFresh subject.now.image.now subject.now.question.now) }
+    {
         let tries = tries_of(alloc, subject.image.system())?;
         let seen = Seen::new(alloc, subject.question.states)?;
-        let edges = Edges::new(alloc, kernel.tables().task_count());
+        let rows = Rows::new(alloc, subject)?;
         Ok(Survey {
             rows,
             tries,
             seen,
-            notes: Notes::new(alloc, coverage),
+            notes,
             edges,
             full: false,
             sure: true,

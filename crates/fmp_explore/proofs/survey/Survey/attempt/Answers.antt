@@ -1,4 +1,4 @@
-use Rattle.fmp_explore.proofs.StepLemmas.{stepped, stepped_does}
+use Rattle.fmp_paths.proofs.StepLemmas.{stepped, stepped_does}
 use Rattle.fmp_explore.proofs.survey.Survey.attempt.Goals as goal
 
 pub note_effect-requires-clause-stepped : goal.note_effect-requires-clause-stepped

@@ -1,4 +1,4 @@
-use Rattle.fmp_explore.specs.Ladders.{IsLadder}
+use Rattle.fmp_paths.specs.Ladders.{IsLadder}
 use Rattle.fmp_explore.specs.Searching.{IsSearching}
 use Rattle.fmp_explore.proofs.survey.Survey.examine_all.Given as goal
 

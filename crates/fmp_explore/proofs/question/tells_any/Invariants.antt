@@ -1,6 +1,0 @@
-use Rattle.std.proofs.Common.{◌≡◌, false, take}
-use Rattle.fmp_explore.specs.Forbidden.{forbids}
-use Rattle.fmp_explore.proofs.question.tells_any.Given as goal
-
-abbrev pub invariant-loop-never : goal.invariant-loop-never
-invariant-loop-never l = forbids (take l.never-index l.nevers) l.line ≡ false

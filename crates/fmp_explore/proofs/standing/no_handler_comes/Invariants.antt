@@ -1,5 +1,0 @@
-use Rattle.fmp_explore.specs.Standing.{NoHandlerComes}
-use Rattle.fmp_explore.proofs.standing.no_handler_comes.Given as goal
-
-abbrev pub invariant-loop-c : goal.invariant-loop-c
-invariant-loop-c l = NoHandlerComes l.tables.state l.c

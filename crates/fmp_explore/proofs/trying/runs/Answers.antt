@@ -1,7 +1,0 @@
-use Rattle.fmp_explore.proofs.TryLemmas.{runs-more}
-use Rattle.fmp_explore.proofs.trying.runs.Goals as goal
-
-pub loop-p-preserved : goal.loop-p-preserved
-loop-p-preserved c =
-    let more = runs-more c.loop-p.p in
-    cc (more, c.in_ok-push.ensures.items)

@@ -1,6 +1,0 @@
-use Rattle.std.proofs.Common.{◌≡◌}
-use Rattle.fmp_explore.specs.Tries.{runs}
-use Rattle.fmp_explore.proofs.trying.runs.Given as goal
-
-abbrev pub invariant-loop-p : goal.invariant-loop-p
-invariant-loop-p l = l.runs.items ≡ runs l.p

@@ -1,0 +1,2 @@
+pub mod MeetLemmas
+pub mod SeenThere

@@ -1,0 +1,4 @@
+pub mod Following
+pub mod LadderLemmas
+pub mod LineLemmas
+pub mod StepLemmas

@@ -1,0 +1,41 @@
+-- A kernel that has taken events, each of which did something, and what one more event does.
+use Rattle.std.specs.Prelude.{ℕ, ◌≡◌, List, [], ◌∷◌, ◌++◌}
+use Rattle.fmp_base.specs.declared.events.Effect.{Effect}
+use Rattle.fmp_base.specs.declared.events.Event.{Event}
+use Rattle.fmp_base.specs.Meanings.{World}
+use Rattle.fmp_base.specs.Steps.{Done, Did, Kept, effect_of}
+use Rattle.fmp_image_bytes.specs.Images.{ImageTables}
+use Rattle.fmp_instructions.specs.Instructions.{BodyTables}
+use Rattle.fmp_instructions.specs.declared.instructions.MachineContext.{MachineContext}
+use Rattle.fmp_kernel.specs.KernelViews.{KernelView, view_after}
+use Rattle.fmp_replay.specs.Replays.{IsLegal, kernel_after, reaction}
+
+-- the kernel of an image that has taken these events
+pub record IsFollowed (i : ImageTables) (n : ℕ) (es : List Event) (k : KernelView (List BodyTables) MachineContext) :
+    Type 0 where
+  pub legal : IsLegal i n es
+  pub kernel : k ≡ kernel_after i n es
+
+-- what an event does after others, and the kernel then
+pub record HasStepped (i : ImageTables) (n : ℕ) (es : List Event) (e : Event)
+    (k : KernelView (List BodyTables) MachineContext) (x : Effect) : Type 0 where
+  pub legal : IsLegal i n es
+  pub effect : x ≡ effect_of (reaction i n es e)
+  pub kernel : k ≡ view_after (kernel_after i n es) (reaction i n es e)
+
+-- an event is done after others
+pub record HasDone (i : ImageTables) (n : ℕ) (es : List Event) (e : Event)
+    (k : KernelView (List BodyTables) MachineContext) : Type 0 where
+  pub done : Done MachineContext
+  pub did : reaction i n es e ≡ Did done
+  pub lines : k.lines ≡ done.lines
+  pub world : k.world ≡ done.world
+  pub followed : IsFollowed i n (es ++ e ∷ []) k
+
+-- an event keeps a place after others
+pub record HasKeptPlace (i : ImageTables) (n : ℕ) (es : List Event) (e : Event)
+    (k : KernelView (List BodyTables) MachineContext) : Type 0 where
+  pub place : ℕ
+  pub world : World MachineContext
+  pub keeps : reaction i n es e ≡ Kept place world
+  pub followed : IsFollowed i n (es ++ e ∷ []) k

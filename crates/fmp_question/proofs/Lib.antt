@@ -1,0 +1,4 @@
+pub mod EndlessLemmas
+pub mod ForbiddenLemmas
+pub mod PlaceLemmas
+pub mod StandLemmas

@@ -1,0 +1,12 @@
+use Rattle.fmp_code.specs.Vms.{IsContext}
+use Rattle.fmp_question.specs.Endless.{LeadsTo}
+use Rattle.fmp_instructions.specs.Machine.{code_meaning}
+use Rattle.fmp_question.proofs.endless.goes_on_for_ever.Given as goal
+
+abbrev pub invariant-loop-tried : goal.invariant-loop-tried
+invariant-loop-tried l =
+    record {
+      marked : LeadsTo (code_meaning l.fn.body) l.fn.entry l.fn.context l.mark.context;
+      made : LeadsTo (code_meaning l.fn.body) l.fn.entry l.mark.context l.at;
+      fits : IsContext l.fn.body l.fn.entry l.at;
+    }

@@ -1,0 +1,118 @@
+//! Bodies that go on for ever without a service call.
+ghost use Rattle.std.specs.Prelude.{◌≡◌, ◌<◌, ◌≤◌, ◌⊎◌, IfSome, IsTrue, Some, length};
+ghost use Rattle.fmp_base.specs.Stretches as ends;
+ghost use Rattle.fmp_instructions.specs.Machine.{code_meaning};
+ghost use Rattle.fmp_code.specs.Vms.{IsContext};
+ghost use Rattle.fmp_question.specs.Endless.{GoesOnForEver, IsEndlessOn};
+
+use fmp_base::Stretch;
+use fmp_code::{MachineContext, Vm};
+use fmp_kernel::{Body, Kernel};
+
+/// How many stretches are made at most to find out.
+const TRIED_MOST: u32 = 1 << 16;
+
+/// A look for a context that comes again: the one that is looked for, how many stretches were made since it stood
+/// there, and after how many a later one takes its place.
+#[derive(Clone, Copy)]
+struct Mark {
+    context: MachineContext,
+    since: u32,
+    most: u32,
+}
+
+/// Whether the places of two contexts hold the same numbers.
+fn are_same(a: &[i32; 64], b: &[i32; 64]) -> bool
+    ensures { IsTrue result → a.now ≡ b.now }
+{
+    a == b
+}
+
+/// Whether two contexts stand at one place, with as many operands.
+fn stand_together(a: &MachineContext, b: &MachineContext) -> bool
+    ensures { IsTrue result → (a.now.pc ≡ b.now.pc) × (a.now.count ≡ b.now.count) }
+{
+    a.pc == b.pc && a.count == b.count
+}
+
+/// Whether two contexts are one.
+fn is_same(a: &MachineContext, b: &MachineContext) -> bool
+    ensures { IsTrue result → a.now ≡ b.now }
+{
+    if !stand_together(a, b) {
+        return false;
+    }
+    if !are_same(&a.locals, &b.locals) {
+        return false;
+    }
+    are_same(&a.operands, &b.operands)
+}
+
+impl Mark {
+    /// One stretch more was made, which left this context. Where twice as many were made as at the last time, this is
+    /// the context that is looked for.
+    fn advance(&mut self, context: &MachineContext)
+        ensures { (self.new.context ≡ self.old.context) ⊎ (self.new.context ≡ context.now) }
+    {
+        self.since = self.since.saturating_add(1);
+        if self.since >= self.most {
+            self.context = *context;
+            self.since = 0;
+            self.most = self.most.saturating_mul(2);
+        }
+    }
+}
+
+/// The context at which a stretch of a body reaches its bound, if it does.
+fn cut(body: &Vm<'_>, n: u64, entry: u8, context: MachineContext) -> Option<MachineContext>
+    requires entry { entry < length body.now }
+    requires context { IsContext body.now entry context }
+    ensures value { IfSome result
+        (λ next. (code_meaning body.now).stretch entry n context ≡ ends.Over (Some next)) }
+    ensures context { IfSome result (λ next. IsContext body.now entry next) }
+{
+    match body.stretch(entry, n, context) {
+        Stretch::Over(next) => Some(next),
+        Stretch::Call(..) | Stretch::End(_) | Stretch::Fault(..) => None,
+    }
+}
+
+/// Whether a body is known to go on for ever from a context: cut into stretches of n instructions it comes to a
+/// context again from which one of them began.
+pub fn goes_on_for_ever(body: &Vm<'_>, n: u64, entry: u8, context: MachineContext) -> bool
+    requires some { 1 ≤ n }
+    requires entry { entry < length body.now }
+    requires context { IsContext body.now entry context }
+    ensures { IsTrue result → GoesOnForEver (code_meaning body.now) entry context }
+{
+    let mut mark = Mark {
+        context,
+        since: 0,
+        most: 1,
+    };
+    let mut at = context;
+    for tried in 0..TRIED_MOST {
+        let Some(next) = cut(body, n, entry, at) else {
+            return false;
+        };
+        if is_same(&next, &mark.context) {
+            return true;
+        }
+        mark.advance(&next);
+        at = next;
+    }
+    false
+}
+
+/// Whether the actor of the processor of this number, from 1, is known to go on for ever without a call, on a kernel
+/// over these bodies.
+pub fn is_endless<'a>(kernel: &Kernel<Vm<'a>>, body: &Vm<'a>, n: u64, p: u8) -> bool
+    requires some { 1 ≤ n }
+    requires body { body.now ≡ kernel.now.body }
+    ensures { IsTrue result → IsEndlessOn kernel.now.system (code_meaning kernel.now.body) kernel.now.world p }
+{
+    match kernel.actor(p) {
+        Some(actor) => goes_on_for_ever(body, n, actor.entry, actor.context),
+        None => false,
+    }
+}

@@ -1,0 +1,7 @@
+use Rattle.fmp_tries.proofs.TryLemmas.{runs-more}
+use Rattle.fmp_tries.proofs.runs.Goals as goal
+
+pub loop-p-preserved : goal.loop-p-preserved
+loop-p-preserved c =
+    let more = runs-more c.loop-p.p in
+    cc (more, c.in_ok-push.ensures.items)
