@@ -27,6 +27,13 @@ const NO_NEVER: &str =
 /// The message for a word that names no section, or for more sections than are watched.
 const NO_SECTION: &str = "--alone wants two different values as 1,2, and is given at most 4 times";
 
+/// The faults of bodies, which must never happen.
+const FAULTS: [Never; 3] = [
+    Never::Fault(Fault::Overflow),
+    Never::Fault(Fault::Division),
+    Never::Fault(Fault::Index),
+];
+
 /// How many sections are watched at most.
 const SECTIONS_MAX: usize = 4;
 
@@ -81,6 +88,13 @@ pub struct Exploring<'a> {
 pub enum Cmd<'a> {
     /// Explore the schedules of two texts.
     Explore(Exploring<'a>),
+    /// Look at a system or at a run.
+    Look(Look<'a>),
+}
+
+/// How the program is asked to look at a system or at a run.
+#[derive(Clone, Copy)]
+pub enum Look<'a> {
     /// Say what the code of this word means.
     Code(&'a str),
     /// Show the fault of the texts of these files, and of steps if there are steps, or their warnings.
@@ -178,50 +192,39 @@ fn ticks_of(words: &ArgMatches<'_>) -> Ticks {
     }
 }
 
-/// Adds what each of these words says must never happen anywhere.
-fn add_nevers(nevers: &mut Vec<Never>, words: &[&str]) -> Result<(), AllocError> {
+/// Adds what each of these words says must never happen: anywhere, or at the calls of a line. An error if one says
+/// nothing of what must never happen.
+fn add_nevers(
+    alloc: Global,
+    words: &[&str],
+    nevers: &mut Vec<Never>,
+    nevers_at: &mut Vec<CodeAt>,
+) -> Result<(), Error> {
     for word in words {
-        if let Some(never) = never_named(word) {
-            nevers.push(never)?;
+        match (never_at_named(word), never_named(word)) {
+            (Some(code), _) => nevers_at.push(code)?,
+            (None, Some(never)) => nevers.push(never)?,
+            (None, None) => return Err(no_never(alloc)?),
         }
     }
     Ok(())
 }
 
-/// Those of these words that speak of the calls of a line. An error if one says nothing of what must never happen.
-fn nevers_at(alloc: Global, words: &[&str]) -> Result<Vec<CodeAt>, Error> {
-    let mut codes = Vec::new(alloc);
-    for word in words {
-        match never_at_named(word) {
-            Some(code) => codes.push(code)?,
-            None if never_named(word).is_none() => return Err(no_never(alloc)?),
-            None => {}
-        }
-    }
-    Ok(codes)
-}
-
-/// The sections that these words name. An error if one names none, or if there are too many.
-fn sections(alloc: Global, words: &[&str]) -> Result<Vec<Section>, Error> {
-    let mut sections = Vec::new(alloc);
+/// Adds the sections that these words name. An error if one names none, or if there are too many.
+fn add_sections(alloc: Global, words: &[&str], sections: &mut Vec<Section>) -> Result<(), Error> {
     for word in words {
         match section_named(word) {
             Some(section) if sections.len() < SECTIONS_MAX => sections.push(section)?,
             _ => return Err(no_section(alloc)?),
         }
     }
-    Ok(sections)
+    Ok(())
 }
 
-/// What is asked of all schedules, but for the sections.
+/// What is asked of all schedules, but for what options say that may be given again.
 fn question_of(alloc: Global, words: &ArgMatches<'_>) -> Result<Question, AllocError> {
     let mut question = Question::new(alloc);
-    question.nevers.push(Never::Fault(Fault::Overflow))?;
-    question.nevers.push(Never::Fault(Fault::Division))?;
-    question.nevers.push(Never::Fault(Fault::Index))?;
-    if let Some(nevers) = words.get_strs("never") {
-        add_nevers(&mut question.nevers, nevers)?;
-    }
+    question.nevers.extend_from_slice(&FAULTS)?;
     question.ticks = ticks_of(words);
     question.interrupts = words.get_one::<u8>("ints");
     question.all = words.get_flag("all");
@@ -229,61 +232,68 @@ fn question_of(alloc: Global, words: &ArgMatches<'_>) -> Result<Question, AllocE
     Ok(question)
 }
 
-/// The words that an option is given, in order.
-fn given<'a>(
+/// Adds the words of the options that may be given again, and what they say.
+fn add_given<'a>(
     alloc: Global,
     words: &ArgMatches<'a>,
-    option: &str,
-) -> Result<Vec<&'a str>, AllocError> {
-    let mut given = Vec::new(alloc);
-    if let Some(values) = words.get_strs(option) {
-        given.extend_from_slice(values)?;
+    exploring: &mut Exploring<'a>,
+) -> Result<(), Error> {
+    let question = &mut exploring.question;
+    if let Some(alone) = words.get_strs("alone") {
+        add_sections(alloc, alone, &mut question.sections)?;
     }
-    Ok(given)
+    if let Some(nevers) = words.get_strs("never") {
+        let nevers_at = &mut exploring.nevers_at;
+        add_nevers(alloc, nevers, &mut question.nevers, nevers_at)?;
+        exploring.nevers.extend_from_slice(nevers)?;
+    }
+    if let Some(rest) = words.get_strs("rest") {
+        exploring.rest.extend_from_slice(rest)?;
+    }
+    Ok(())
 }
 
 /// What is explored.
 fn exploring_of<'a>(alloc: Global, words: &ArgMatches<'a>) -> Result<Exploring<'a>, Error> {
-    let nevers = given(alloc, words, "never")?;
-    let mut question = question_of(alloc, words)?;
-    question.sections = sections(alloc, &given(alloc, words, "alone")?)?;
-    Ok(Exploring {
+    let mut exploring = Exploring {
         cfg: word_of(words, "CFG"),
         src: word_of(words, "SRC"),
-        question,
-        nevers_at: nevers_at(alloc, &nevers)?,
-        nevers,
-        rest: given(alloc, words, "rest")?,
+        question: question_of(alloc, words)?,
+        nevers: Vec::new(alloc),
+        nevers_at: Vec::new(alloc),
+        rest: Vec::new(alloc),
         bound: bound_of(words),
         answers: words.get_flag("answers"),
         out: words.get_str("out"),
-    })
+    };
+    add_given(alloc, words, &mut exploring)?;
+    Ok(exploring)
 }
 
 /// What a subcommand of this name other than `explore` asks for with its words.
-fn asked<'a>(name: &str, words: &ArgMatches<'a>) -> Cmd<'a> {
+fn asked<'a>(name: &str, words: &ArgMatches<'a>) -> Look<'a> {
     match name {
-        "code" => Cmd::Code(word_of(words, "CODE")),
-        "fault" => Cmd::Fault(names_of(words), form_of(words)),
-        "run" => Cmd::Run(names_of(words), running_of(words)),
-        "step" => Cmd::Step(names_of(words), bound_of(words)),
-        "drive" => Cmd::Drive {
+        "code" => Look::Code(word_of(words, "CODE")),
+        "fault" => Look::Fault(names_of(words), form_of(words)),
+        "run" => Look::Run(names_of(words), running_of(words)),
+        "step" => Look::Step(names_of(words), bound_of(words)),
+        "drive" => Look::Drive {
             image: word_of(words, "IMAGE"),
             events: words.get_one::<u32>("events").unwrap_or(0),
             seed: words.get_one::<u64>("seed"),
             bound: bound_of(words),
         },
-        "why" => Cmd::Why(run_of(words), words.get_one::<u32>("at")),
-        "expect" => Cmd::Expect(run_of(words), word_of(words, "EXPECT")),
-        "diff" => Cmd::Diff {
+        "why" => Look::Why(run_of(words), words.get_one::<u32>("at")),
+        "expect" => Look::Expect(run_of(words), word_of(words, "EXPECT")),
+        "diff" => Look::Diff {
             image: word_of(words, "IMAGE"),
             a: word_of(words, "A"),
             b: word_of(words, "B"),
             bound: bound_of(words),
         },
-        "stats" => Cmd::Stats(run_of(words)),
-        "timeline" => Cmd::Timeline(run_of(words), word_of(words, "OUT"), drawing_of(words)),
-        _ => Cmd::Waves(run_of(words), word_of(words, "OUT")),
+        "stats" => Look::Stats(run_of(words)),
+        "timeline" => Look::Timeline(run_of(words), word_of(words, "OUT"), drawing_of(words)),
+        _ => Look::Waves(run_of(words), word_of(words, "OUT")),
     }
 }
 
@@ -336,7 +346,7 @@ pub fn picture_of_nothing(alloc: Global) -> Result<Error, AllocError> {
 fn asked_by<'a>(alloc: Global, words: &ArgMatches<'a>) -> Result<Cmd<'a>, Error> {
     match words.subcommand() {
         Some(("explore", words)) => Ok(Cmd::Explore(exploring_of(alloc, words)?)),
-        Some((name, words)) => Ok(asked(name, words)),
+        Some((name, words)) => Ok(Cmd::Look(asked(name, words))),
         None => Err(no_code(alloc)?),
     }
 }

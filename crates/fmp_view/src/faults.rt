@@ -11,7 +11,7 @@ use fmp_trace::{StepsFault, read_steps};
 use std::alloc::{AllocError, Global};
 
 /// How findings are printed.
-#[derive(Clone, Copy, PartialEq, Eq)]
+#[derive(Clone, Copy)]
 pub enum Form {
     /// For readers: a sentence, and the line of the text with marks.
     Text,

@@ -1,26 +1,20 @@
 //! A run of the program, from the words of its command line to its status.
 use crate::asking::{
-    Cmd, Drawing, Exploring, Run, command, dump_over_input, no_code, no_such_call, no_such_task,
-    picture_of_nothing, picture_over_input,
+    Cmd, Drawing, Look, Run, command, dump_over_input, no_code, picture_of_nothing,
+    picture_over_input,
 };
-use crate::built::{NoTrace, Running, Traced, traced_texts};
-use crate::commands::{DrivenText, Ending, Output, code, run_output, steps};
+use crate::commands::{DrivenText, Output, code, run_output, steps};
 use crate::comparing::diff;
 use crate::exit::Exit;
 use crate::expecting::expect;
-use crate::exploring::{Explored, Named, add_nevers_at, explored_image};
-use crate::faults::{FileNames, Form, Shown, shown_fault};
-use crate::stepping::step_image;
+use crate::reading::read_both;
+use crate::searching::run_explore;
+use crate::telling::{print_made, print_run};
+use crate::texts::{print_fault, run_step, run_texts};
 use crate::timeline::{Cut, Picture, TimelineFault, timeline};
 use crate::why::why;
-use fmp_base::{Call, System};
-use fmp_diagnosis::Texts;
-use fmp_drive::{NextRun, Stop};
 use fmp_engine::SimFault;
-use fmp_explore::Watcher;
 use fmp_files::{Failure, Outside, end, print, read_file, refuse, refuse_mistake, write_file};
-use fmp_image::build;
-use fmp_image_bytes::Image;
 use std::alloc::{AllocError, Global};
 use std::io::Input;
 
@@ -42,15 +36,22 @@ fn driven_steps<O: Outside>(
     or_fault(steps(alloc, &image, events, seed, bound))
 }
 
-/// The bytes of two files.
-fn read_both<O: Outside>(
+/// Prints steps that run an image, and says how their drive ended.
+fn run_drive<O: Outside>(
     alloc: Global,
-    outside: &O,
-    one: &str,
-    other: &str,
-) -> Result<(Vec<u8>, Vec<u8>), Failure> {
-    let first = read_file(alloc, outside, one, None)?;
-    Ok((first, read_file(alloc, outside, other, None)?))
+    outside: &mut O,
+    image: &str,
+    events: u32,
+    seed: Option<u64>,
+    bound: u64,
+) -> u8 {
+    match driven_steps(alloc, outside, image, events, seed, bound) {
+        Ok(driven) => {
+            let ending = Some(driven.ending);
+            print_run(alloc, outside, &driven.steps, ending, &driven.why)
+        }
+        Err(exit) => end(outside, &exit),
+    }
 }
 
 /// What is made of a run.
@@ -62,73 +63,6 @@ fn made_of_run<O: Outside>(
 ) -> Result<Vec<u8>, Exit> {
     let (image, steps) = read_both(alloc, outside, run.image, run.steps)?;
     or_fault(run_output(alloc, &image, &steps, run.bound, output))
-}
-
-/// Says why a drive has stopped.
-fn say_stop<O: Outside>(outside: &mut O, stop: Stop) {
-    match stop {
-        Stop::Quiet => outside.say("quiet: no processor goes on, and the clock changes nothing\n"),
-        Stop::Enough => outside.say("as many events as were asked for are done\n"),
-    }
-}
-
-/// Says why the next run of a processor comes to no call, if so: always if it reaches the bound, and in a quiet system
-/// whatever the reason is.
-fn say_next<O: Outside>(outside: &mut O, stop: Stop, processor: usize, next: NextRun) {
-    match (stop, next) {
-        (_, NextRun::OverBound) => outside.say(format_args!(
-            "processor {processor}: what runs there reaches the bound before its next call\n"
-        )),
-        (Stop::Quiet, NextRun::NoActor) => {
-            outside.say(format_args!("processor {processor}: nothing runs there\n"));
-        }
-        (Stop::Quiet, NextRun::Calls(Call::LocSpn { lock })) => outside.say(format_args!(
-            "processor {processor}: what runs there asks for spin lock {lock}, which is held\n"
-        )),
-        _ => {}
-    }
-}
-
-/// Says why a drive has stopped, and of each processor why it does not go on.
-fn say_end<O: Outside>(outside: &mut O, ending: Ending) {
-    say_stop(outside, ending.stop);
-    for p in 0..usize::from(ending.processors).min(8) {
-        say_next(outside, ending.stop, p + 1, ending.next[p]);
-    }
-}
-
-/// Says a text that was put together.
-fn say_text<O: Outside>(alloc: Global, outside: &mut O, text: &[u8]) -> Result<(), AllocError> {
-    let text = String::from_utf8_lossy(alloc, text)?;
-    outside.say(text);
-    Ok(())
-}
-
-/// Prints a text, and says how its drive ended if it was driven, and what tasks wait for then.
-fn print_run<O: Outside>(
-    alloc: Global,
-    outside: &mut O,
-    text: &[u8],
-    ending: Option<Ending>,
-    why: &[u8],
-) -> u8 {
-    if let Some(ending) = ending {
-        say_end(outside, ending);
-    }
-    match say_text(alloc, outside, why) {
-        Ok(()) => print(alloc, outside, text),
-        Err(error) => end(outside, &Failure::Memory(error)),
-    }
-}
-
-fn run_drive<O: Outside>(alloc: Global, outside: &mut O, made: Result<DrivenText, Exit>) -> u8 {
-    match made {
-        Ok(driven) => {
-            let ending = Some(driven.ending);
-            print_run(alloc, outside, &driven.steps, ending, &driven.why)
-        }
-        Err(exit) => end(outside, &exit),
-    }
 }
 
 /// Writes all that there is to write to a file, and gives the status.
@@ -170,6 +104,19 @@ fn title_of(image: &str) -> &str {
 /// The status where two runs differ, or a run fails an expectation.
 const DIFFER: u8 = 4;
 
+/// The difference of the runs of the image of these bytes over the steps of two files.
+fn difference_over<O: Outside>(
+    alloc: Global,
+    outside: &O,
+    image: &[u8],
+    a: &str,
+    b: &str,
+    bound: u64,
+) -> Result<Option<Vec<u8>>, Exit> {
+    let (a, b) = read_both(alloc, outside, a, b)?;
+    or_fault(diff(alloc, image, &a, &b, bound))
+}
+
 /// The difference of the runs of an image over two steps texts.
 fn difference_of<O: Outside>(
     alloc: Global,
@@ -180,8 +127,20 @@ fn difference_of<O: Outside>(
     bound: u64,
 ) -> Result<Option<Vec<u8>>, Exit> {
     let image = read_file(alloc, outside, image, None)?;
-    let (a, b) = read_both(alloc, outside, a, b)?;
-    or_fault(diff(alloc, &image, &a, &b, bound))
+    difference_over(alloc, outside, &image, a, b, bound)
+}
+
+/// What is printed of a run of the image of these bytes, if it fails an expectation of the text of this file.
+fn failure_over<O: Outside>(
+    alloc: Global,
+    outside: &O,
+    image: &[u8],
+    steps: &[u8],
+    bound: u64,
+    name: &str,
+) -> Result<Option<Vec<u8>>, Exit> {
+    let text = read_file(alloc, outside, name, None)?;
+    expect(alloc, image, steps, bound, name, &text)
 }
 
 /// What is printed of a run that fails an expectation.
@@ -192,8 +151,7 @@ fn failure_of<O: Outside>(
     name: &str,
 ) -> Result<Option<Vec<u8>>, Exit> {
     let (image, steps) = read_both(alloc, outside, run.image, run.steps)?;
-    let text = read_file(alloc, outside, name, None)?;
-    expect(alloc, &image, &steps, run.bound, name, &text)
+    failure_over(alloc, outside, &image, &steps, run.bound, name)
 }
 
 /// Prints a difference or a failure, if there is one, with status 4.
@@ -229,6 +187,37 @@ fn why_of_run<O: Outside>(
 ) -> Result<Vec<u8>, Exit> {
     let (image, steps) = read_both(alloc, outside, run.image, run.steps)?;
     why(alloc, &image, &steps, run.bound, at).map_err(|fault| exit_of(fault))
+}
+
+/// Prints what each task of a run waits or spins for after an event.
+fn print_why<O: Outside>(alloc: Global, outside: &mut O, run: Run<'_>, at: Option<u32>) -> u8 {
+    let made = why_of_run(alloc, outside, run, at);
+    print_made(alloc, outside, made)
+}
+
+/// Prints the table of a run.
+fn print_stats<O: Outside>(alloc: Global, outside: &mut O, run: Run<'_>) -> u8 {
+    let made = made_of_run(alloc, outside, run, Output::Table);
+    print_made(alloc, outside, made)
+}
+
+/// Prints which expectation a run fails, with status 4 if it fails one.
+fn print_failure<O: Outside>(alloc: Global, outside: &mut O, run: Run<'_>, name: &str) -> u8 {
+    let made = failure_of(alloc, outside, run, name);
+    print_difference(alloc, outside, made)
+}
+
+/// Prints the first event in which two runs of an image differ, with status 4 if they differ.
+fn print_diff<O: Outside>(
+    alloc: Global,
+    outside: &mut O,
+    image: &str,
+    a: &str,
+    b: &str,
+    bound: u64,
+) -> u8 {
+    let made = difference_of(alloc, outside, image, a, b, bound);
+    print_difference(alloc, outside, made)
 }
 
 /// The picture of a run.
@@ -288,241 +277,33 @@ fn say_code<O: Outside>(alloc: Global, outside: &mut O, word: &str) -> u8 {
     }
 }
 
-/// The bytes of a file; none where it has no name.
-fn read_named<O: Outside>(alloc: Global, outside: &O, name: &str) -> Result<Vec<u8>, Failure> {
-    if name.is_empty() {
-        return Ok(Vec::new(alloc));
-    }
-    read_file(alloc, outside, name, None)
-}
-
-/// What is shown of the texts of these files.
-fn shown_of<O: Outside>(
-    alloc: Global,
-    outside: &O,
-    names: FileNames<'_>,
-    form: Form,
-) -> Result<Shown, Exit> {
-    let (cfg, src) = read_both(alloc, outside, names.cfg, names.src)?;
-    let steps = read_named(alloc, outside, names.steps)?;
-    let texts = Texts {
-        cfg: &cfg,
-        src: &src,
-    };
-    shown_fault(alloc, form, names, texts, &steps).map_err(|error| Exit::Failed(Failure::Memory(
-        error,
-    )))
-}
-
-/// Prints the fault of the texts of these files, with status 1, or their warnings.
-fn print_fault<O: Outside>(alloc: Global, outside: &mut O, names: FileNames<'_>, form: Form) -> u8 {
-    match shown_of(alloc, outside, names, form) {
-        Ok(shown) => print(alloc, outside, shown.text()).max(shown.status()),
-        Err(exit) => end(outside, &exit),
-    }
-}
-
-/// What is printed of a run of the texts of these files, or why there is nothing.
-fn traced_run<O: Outside>(
-    alloc: Global,
-    outside: &O,
-    names: FileNames<'_>,
-    run: Running,
-) -> Result<Result<Traced, NoTrace>, Failure> {
-    let (cfg, src) = read_both(alloc, outside, names.cfg, names.src)?;
-    if names.steps.is_empty() {
-        return Ok(traced_texts(alloc, &cfg, &src, None, run));
-    }
-    let steps = read_file(alloc, outside, names.steps, None)?;
-    Ok(traced_texts(alloc, &cfg, &src, Some(&steps), run))
-}
-
-/// Prints the trace of a run of the texts of these files, or their fault, with status 1.
-fn run_texts<O: Outside>(alloc: Global, outside: &mut O, names: FileNames<'_>, run: Running) -> u8 {
-    match traced_run(alloc, outside, names, run) {
-        Ok(Ok(traced)) => print_run(alloc, outside, &traced.text, traced.ending, &traced.why),
-        Ok(Err(NoTrace::Faulty)) => print_fault(alloc, outside, names, run.form),
-        Ok(Err(NoTrace::Memory)) => end(outside, &Failure::Memory(AllocError)),
-        Err(failure) => end(outside, &failure),
-    }
-}
-
-/// What an exploration tells on standard error while it goes on.
-#[derive(Drop)]
-struct Telling<'o, O: Outside> {
-    outside: &'o mut O,
-}
-
-impl<O: Outside> Watcher for Telling<'_, O> {
-    fn grown(&mut self, states: usize, examined: usize, deep: u32) {
-        self.outside.say(format_args!(
-            "{states} states, {examined} of them examined, {deep} deep\n"
-        ));
-    }
-}
-
-/// Marks the tasks of these names, which may wait forever. False if a name is that of no task.
-fn mark_rest(sys: &System, names: &[&str], rest: &mut Vec<bool>) -> Result<bool, AllocError> {
-    let mut found: usize = 0;
-    for config in &sys.tasks {
-        let is_named = names
-            .iter()
-            .any(|name| name.as_bytes() == config.name.as_bytes());
-        rest.push(is_named)?;
-        if is_named {
-            found = found.saturating_add(1);
-        }
-    }
-    Ok(found == names.len())
-}
-
-/// The name of the files of steps: the one that was asked for, or that of the configuration.
-fn out_name(alloc: Global, asked: &Exploring<'_>) -> Result<String, AllocError> {
-    match asked.out {
-        Some(name) => String::from_str(alloc, name),
-        None => {
-            let stem = asked.cfg.strip_suffix(".cfg").unwrap_or(asked.cfg);
-            format!(in alloc; "{stem}.found")
-        }
-    }
-}
-
-/// Writes the steps texts to their files, up to the first that cannot be written.
-fn write_steps<O: Outside>(
-    alloc: Global,
-    outside: &mut O,
-    name: &str,
-    texts: &[Vec<u8>],
-) -> Result<(), Failure> {
-    for (i, text) in texts.iter().enumerate() {
-        let number = i.saturating_add(1);
-        let file = format!(in alloc; "{name}.{number}").map_err(|error| Failure::Memory(error))?;
-        write_file(alloc, outside, file.as_str(), text)?;
-    }
-    Ok(())
-}
-
-/// Prints what an exploration came to, and writes its steps texts. The status is that of the exploration, or of what
-/// went wrong.
-fn give<O: Outside>(alloc: Global, outside: &mut O, name: &str, explored: &Explored) -> u8 {
-    match write_steps(alloc, outside, name, &explored.steps) {
-        Ok(()) => print(alloc, outside, &explored.text).max(explored.status),
-        Err(failure) => end(outside, &failure),
-    }
-}
-
-/// Explores the image of two texts.
-fn explore_image<O: Outside>(
-    alloc: Global,
-    outside: &mut O,
-    image: &Image,
-    src: &[u8],
-    asked: &mut Exploring<'_>,
-) -> Result<u8, AllocError> {
-    if !mark_rest(image.system(), &asked.rest, &mut asked.question.rest)? {
-        return Ok(refuse_mistake(outside, no_such_task(alloc)));
-    }
-    let nevers = &mut asked.question.nevers_at;
-    if !add_nevers_at(alloc, image, src, &asked.nevers_at, nevers)? {
-        return Ok(refuse_mistake(outside, no_such_call(alloc)));
-    }
-    let name = out_name(alloc, asked)?;
-    let named = Named {
-        src: asked.src,
-        out: name.as_str(),
-        nevers: &asked.nevers,
-        answers: asked.answers,
-    };
-    let explored = explored_image(
-        alloc,
-        image,
-        src,
-        named,
-        &asked.question,
-        asked.bound,
-        &mut Telling { outside },
-    )?;
-    Ok(give(alloc, outside, name.as_str(), &explored))
-}
-
-/// Explores the schedules of the texts of two files, or prints their first fault, with status 1.
-fn run_explore<O: Outside>(alloc: Global, outside: &mut O, mut asked: Exploring<'_>) -> u8 {
-    let (cfg, src) = match read_both(alloc, outside, asked.cfg, asked.src) {
-        Ok(texts) => texts,
-        Err(failure) => return end(outside, &failure),
-    };
-    match build(alloc, &cfg, &src) {
-        Ok(image) => match explore_image(alloc, outside, &image, &src, &mut asked) {
-            Ok(status) => status,
-            Err(_) => end(outside, &Failure::Memory(AllocError)),
-        },
-        Err(_) => {
-            let names = FileNames {
-                cfg: asked.cfg,
-                src: asked.src,
-                steps: "",
-            };
-            print_fault(alloc, outside, names, Form::Text)
-        }
-    }
-}
-
-/// Takes events of standard input on the system of these texts, or prints their first fault, with status 1.
-fn run_step<O: Outside, R: Input>(
-    alloc: Global,
-    outside: &mut O,
-    rt: &R,
-    names: FileNames<'_>,
-    bound: u64,
-) -> u8 {
-    let (cfg, src) = match read_both(alloc, outside, names.cfg, names.src) {
-        Ok(texts) => texts,
-        Err(failure) => return end(outside, &failure),
-    };
-    match build(alloc, &cfg, &src) {
-        Ok(image) => match step_image(alloc, outside, rt, &image, names, bound) {
-            Ok(status) => status,
-            Err(_) => end(outside, &Failure::Memory(AllocError)),
-        },
-        Err(_) => print_fault(alloc, outside, names, Form::Text),
+/// Looks at a system or at a run, and gives the status.
+fn look<O: Outside, R: Input>(alloc: Global, outside: &mut O, rt: &R, look: Look<'_>) -> u8 {
+    match look {
+        Look::Step(names, bound) => run_step(alloc, outside, rt, names, bound),
+        Look::Code(word) => say_code(alloc, outside, word),
+        Look::Fault(names, form) => print_fault(alloc, outside, names, form),
+        Look::Run(names, run) => run_texts(alloc, outside, names, run),
+        Look::Drive {
+            image,
+            events,
+            seed,
+            bound,
+        } => run_drive(alloc, outside, image, events, seed, bound),
+        Look::Why(run, at) => print_why(alloc, outside, run, at),
+        Look::Expect(run, name) => print_failure(alloc, outside, run, name),
+        Look::Diff { image, a, b, bound } => print_diff(alloc, outside, image, a, b, bound),
+        Look::Stats(run) => print_stats(alloc, outside, run),
+        Look::Waves(run, out) => write_waves(alloc, outside, run, out),
+        Look::Timeline(run, out, drawing) => write_timeline(alloc, outside, run, out, drawing),
     }
 }
 
 /// Carries out a command, and gives the status.
 fn carry_out<O: Outside, R: Input>(alloc: Global, outside: &mut O, rt: &R, cmd: Cmd<'_>) -> u8 {
     match cmd {
-        Cmd::Step(names, bound) => run_step(alloc, outside, rt, names, bound),
-        Cmd::Code(word) => say_code(alloc, outside, word),
-        Cmd::Fault(names, form) => print_fault(alloc, outside, names, form),
-        Cmd::Run(names, run) => run_texts(alloc, outside, names, run),
         Cmd::Explore(asked) => run_explore(alloc, outside, asked),
-        Cmd::Drive {
-            image,
-            events,
-            seed,
-            bound,
-        } => {
-            let made = driven_steps(alloc, outside, image, events, seed, bound);
-            run_drive(alloc, outside, made)
-        }
-        Cmd::Why(run, at) => match why_of_run(alloc, outside, run, at) {
-            Ok(text) => print(alloc, outside, &text),
-            Err(exit) => end(outside, &exit),
-        },
-        Cmd::Expect(run, name) => {
-            let made = failure_of(alloc, outside, run, name);
-            print_difference(alloc, outside, made)
-        }
-        Cmd::Diff { image, a, b, bound } => {
-            let made = difference_of(alloc, outside, image, a, b, bound);
-            print_difference(alloc, outside, made)
-        }
-        Cmd::Stats(run) => match made_of_run(alloc, outside, run, Output::Table) {
-            Ok(table) => print(alloc, outside, &table),
-            Err(exit) => end(outside, &exit),
-        },
-        Cmd::Waves(run, out) => write_waves(alloc, outside, run, out),
-        Cmd::Timeline(run, out, drawing) => write_timeline(alloc, outside, run, out, drawing),
+        Cmd::Look(asked) => look(alloc, outside, rt, asked),
     }
 }
 

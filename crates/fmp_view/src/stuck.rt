@@ -86,7 +86,8 @@ fn asked_by<B: Body<Ctx = MachineContext>>(kernel: &Kernel<B>, body: &B, task: u
     Some(Spun { lock, site })
 }
 
-/// How a task stands that can never go on, on a kernel over these bodies. Where it runs and asks for a spin lock, it spins.
+/// How a task stands that can never go on, on a kernel over these bodies. Where it runs and asks for a spin lock, it
+/// spins.
 fn held_up_in<B: Body<Ctx = MachineContext>>(
     kernel: &Kernel<B>,
     body: &B,

@@ -1,0 +1,185 @@
+//! What falls out of a search: what was never made or run, the greatest counts and lengths, and the answers.
+use crate::sources::{Sources, say, say_made, say_place};
+use fmp_base::{Name, System};
+use fmp_explore::{Coverage, Report};
+use fmp_explore_names::{answered_calls, append_answers, append_name};
+use std::alloc::{AllocError, Global};
+
+/// Appends the calls that were never made.
+fn say_unmade(
+    alloc: Global,
+    out: &mut Vec<u8>,
+    sources: &Sources<'_>,
+    coverage: &Coverage,
+) -> Result<(), AllocError> {
+    let sites = coverage.never_made(alloc, sources.image.code())?;
+    if sites.is_empty() {
+        return Ok(());
+    }
+    say(out, "calls never made:")?;
+    let mut last = None;
+    for site in &sites {
+        let line = sources.lines.line(sources.image.code(), *site);
+        if line != last {
+            say(out, " ")?;
+            say_place(alloc, out, sources, line)?;
+            last = line;
+        }
+    }
+    say(out, "\n")
+}
+
+/// Appends the answers that each call got, if they are asked for.
+fn say_answers(
+    alloc: Global,
+    out: &mut Vec<u8>,
+    sources: &Sources<'_>,
+    coverage: &Coverage,
+) -> Result<(), AllocError> {
+    if !sources.named.answers {
+        return Ok(());
+    }
+    let calls = answered_calls(alloc, sources.image.code(), sources.lines, coverage)?;
+    append_answers(sources.named.src.as_bytes(), &calls, out)
+}
+
+/// A line of what there is of one kind, which begins with a title where there is any.
+#[derive(Clone, Copy)]
+struct Row<'a> {
+    title: &'a str,
+    is_begun: bool,
+}
+
+impl<'a> Row<'a> {
+    /// A line with this title.
+    fn new(title: &'a str) -> Row<'a> {
+        Row {
+            title,
+            is_begun: false,
+        }
+    }
+
+    /// Appends a name.
+    fn say_name(&mut self, out: &mut Vec<u8>, name: Name) -> Result<(), AllocError> {
+        say(out, if self.is_begun { " " } else { self.title })?;
+        self.is_begun = true;
+        out.extend_from_slice(name.as_bytes())
+    }
+
+    /// Appends a name with a number.
+    fn say_number(
+        &mut self,
+        alloc: Global,
+        out: &mut Vec<u8>,
+        name: Name,
+        number: usize,
+    ) -> Result<(), AllocError> {
+        self.say_name(out, name)?;
+        say_made(out, format!(in alloc; " {number}"))
+    }
+
+    /// Ends the line, if there is one.
+    fn end(self, out: &mut Vec<u8>) -> Result<(), AllocError> {
+        if self.is_begun {
+            say(out, "\n")
+        } else {
+            Ok(())
+        }
+    }
+}
+
+/// Appends the tasks and the cyclic handlers that never ran.
+fn say_unrun(out: &mut Vec<u8>, sys: &System, coverage: &Coverage) -> Result<(), AllocError> {
+    let mut row = Row::new("never run: ");
+    for (t, config) in sys.tasks.iter().enumerate() {
+        if coverage.runs.tasks.get(t) == Some(&false) {
+            row.say_name(out, config.name)?;
+        }
+    }
+    for (c, config) in sys.cyclics.iter().enumerate() {
+        if coverage.runs.cyclics.get(c) == Some(&false) {
+            row.say_name(out, config.name)?;
+        }
+    }
+    row.end(out)
+}
+
+/// Appends the greatest count of each semaphore.
+fn say_counts(
+    alloc: Global,
+    out: &mut Vec<u8>,
+    sys: &System,
+    counts: &[u16],
+) -> Result<(), AllocError> {
+    let mut row = Row::new("greatest counts: ");
+    for (s, config) in sys.semaphores.iter().enumerate() {
+        if let Some(count) = counts.get(s) {
+            row.say_number(alloc, out, config.name, usize::from(*count))?;
+        }
+    }
+    row.end(out)
+}
+
+/// Appends the greatest length of each data queue and mailbox.
+fn say_lengths(
+    alloc: Global,
+    out: &mut Vec<u8>,
+    sys: &System,
+    coverage: &Coverage,
+) -> Result<(), AllocError> {
+    let mut row = Row::new("greatest lengths: ");
+    for (d, config) in sys.data_queues.iter().enumerate() {
+        if let Some(words) = coverage.peaks.words.get(d) {
+            row.say_number(alloc, out, config.name, usize::from(*words))?;
+        }
+    }
+    for (x, config) in sys.mailboxes.iter().enumerate() {
+        if let Some(messages) = coverage.peaks.messages.get(x) {
+            row.say_number(alloc, out, config.name, usize::from(*messages))?;
+        }
+    }
+    row.end(out)
+}
+
+/// Appends what falls out of a search.
+pub fn say_coverage(
+    alloc: Global,
+    out: &mut Vec<u8>,
+    sources: &Sources<'_>,
+    coverage: &Coverage,
+) -> Result<(), AllocError> {
+    let sys = sources.image.system();
+    say_unmade(alloc, out, sources, coverage)?;
+    say_answers(alloc, out, sources, coverage)?;
+    say_unrun(out, sys, coverage)?;
+    say_counts(alloc, out, sys, &coverage.peaks.counts)?;
+    say_lengths(alloc, out, sys, coverage)
+}
+
+/// Appends how many values the most varied fields have, where the search stopped at a limit.
+pub fn say_varieties(
+    alloc: Global,
+    out: &mut Vec<u8>,
+    sources: &Sources<'_>,
+    report: &Report,
+) -> Result<(), AllocError> {
+    let mut most = 0;
+    for variety in &report.varieties {
+        most = variety.values.max(most);
+    }
+    for variety in &report.varieties {
+        if variety.values > 1 && variety.values >= most / 2 {
+            let values = variety.values;
+            say_made(out, format!(in alloc; "{values} values: "))?;
+            append_name(
+                alloc,
+                out,
+                sources.image.system(),
+                sources.names,
+                variety.what,
+            )?;
+            say(out, "\n")?;
+        }
+    }
+    Ok(())
+}

@@ -1,0 +1,201 @@
+//! What is printed of a finding: what is seen after its steps, and the call to which it belongs.
+use crate::sources::{Sources, say, say_made, say_place};
+use crate::stuck::held_up;
+use fmp_base::{Line, System};
+use fmp_explore::{Finding, Left, Sight, Site, Started, Together, left_by};
+use fmp_explore_names::append_stuck;
+use fmp_trace::print;
+use std::alloc::{AllocError, Global};
+
+/// The line of a finding: of its call, or of the head of the body that goes on for ever.
+fn line_of(sources: &Sources<'_>, finding: &Finding, site: Site) -> Option<u32> {
+    match finding.sight {
+        Sight::Endless(_) => sources.lines.head(site.body),
+        Sight::Line(_) | Sight::Deadlock | Sight::Together(_) | Sight::Stuck(_) => sources
+            .lines
+            .line(sources.image.code(), site),
+    }
+}
+
+/// Appends a line of the trace, without its line feed.
+fn say_line(
+    out: &mut Vec<u8>,
+    sys: &System,
+    number: u32,
+    lines: &[Line],
+    place: usize,
+) -> Result<(), AllocError> {
+    if let Some(line) = lines.get(place) {
+        print(sys, number, &[*line], out)?;
+        let _feed = out.pop();
+    }
+    Ok(())
+}
+
+/// Appends a task that is started, with the call in which it waits.
+fn say_started(
+    alloc: Global,
+    out: &mut Vec<u8>,
+    sources: &Sources<'_>,
+    started: Started,
+) -> Result<(), AllocError> {
+    if let Some(config) = sources.image.system().tasks.get(usize::from(started.task)) {
+        out.extend_from_slice(config.name.as_bytes())?;
+    }
+    if let Some(site) = started.waits {
+        say(out, " (")?;
+        say_place(
+            alloc,
+            out,
+            sources,
+            sources.lines.line(sources.image.code(), site),
+        )?;
+        say(out, ")")?;
+    }
+    Ok(())
+}
+
+/// Appends the tasks of a deadlock.
+fn say_deadlock(
+    alloc: Global,
+    out: &mut Vec<u8>,
+    sources: &Sources<'_>,
+    started: &[Started],
+) -> Result<(), AllocError> {
+    for (i, task) in started.iter().enumerate() {
+        say(out, if i == 0 { "deadlock of " } else { ", " })?;
+        say_started(alloc, out, sources, *task)?;
+    }
+    Ok(())
+}
+
+/// Appends who holds the section that a task entered.
+fn say_holder(
+    alloc: Global,
+    out: &mut Vec<u8>,
+    sources: &Sources<'_>,
+    together: Together,
+) -> Result<(), AllocError> {
+    say(out, ": while ")?;
+    let holder = usize::from(together.meeting.holder);
+    if let Some(config) = sources.image.system().tasks.get(holder) {
+        out.extend_from_slice(config.name.as_bytes())?;
+    }
+    let Some(section) = sources.sections.get(together.section) else {
+        return Ok(());
+    };
+    let (enters, leaves) = (section.enters, section.leaves);
+    say_made(
+        out,
+        format!(in alloc; " is between put({enters}) and put({leaves})"),
+    )
+}
+
+/// Appends what the steps of a finding leave.
+fn say_left(
+    alloc: Global,
+    out: &mut Vec<u8>,
+    sources: &Sources<'_>,
+    sight: Sight,
+    left: &Left,
+) -> Result<(), AllocError> {
+    let sys = sources.image.system();
+    match sight {
+        Sight::Line(place) => say_line(out, sys, left.number, &left.lines, place),
+        Sight::Deadlock => say_deadlock(alloc, out, sources, &left.started),
+        Sight::Endless(p) => say_made(
+            out,
+            format!(in alloc; "processor {p} goes on for ever without a call"),
+        ),
+        Sight::Together(together) => {
+            say_line(out, sys, left.number, &left.lines, together.meeting.place)?;
+            say_holder(alloc, out, sources, together)
+        }
+        Sight::Stuck(_) => Ok(()),
+    }
+}
+
+/// Appends what is seen after the steps of a finding.
+fn say_sight(
+    alloc: Global,
+    out: &mut Vec<u8>,
+    sources: &Sources<'_>,
+    finding: &Finding,
+) -> Result<(), AllocError> {
+    match left_by(alloc, sources.image, sources.bound, &finding.steps)? {
+        Some(left) => say_left(alloc, out, sources, finding.sight, &left),
+        None => Ok(()),
+    }
+}
+
+/// Appends the call to which a finding belongs, if it belongs to one.
+fn say_site(
+    alloc: Global,
+    out: &mut Vec<u8>,
+    sources: &Sources<'_>,
+    finding: &Finding,
+    site: Option<Site>,
+) -> Result<(), AllocError> {
+    if let Some(site) = site {
+        say_place(alloc, out, sources, line_of(sources, finding, site))?;
+        say(out, ": ")?;
+    }
+    Ok(())
+}
+
+/// Appends that a task can never go on, behind the call by which it spins, or else its last one.
+fn say_stuck(
+    alloc: Global,
+    out: &mut Vec<u8>,
+    sources: &Sources<'_>,
+    finding: &Finding,
+    task: u8,
+) -> Result<(), AllocError> {
+    let steps = &finding.steps;
+    let Some(held) = held_up(alloc, sources.image, sources.bound, steps, task)? else {
+        return Ok(());
+    };
+    let sys = sources.image.system();
+    match held.spun {
+        Some(spun) => {
+            say_site(alloc, out, sources, finding, Some(spun.site))?;
+            append_stuck(sys, usize::from(task), &held.block, Some(spun.lock), out)
+        }
+        None => {
+            say_site(alloc, out, sources, finding, finding.site)?;
+            append_stuck(sys, usize::from(task), &held.block, None, out)
+        }
+    }
+}
+
+/// Appends the call to which a finding belongs, and what is seen.
+fn say_seen(
+    alloc: Global,
+    out: &mut Vec<u8>,
+    sources: &Sources<'_>,
+    finding: &Finding,
+) -> Result<(), AllocError> {
+    if let Sight::Stuck(task) = finding.sight {
+        return say_stuck(alloc, out, sources, finding, task);
+    }
+    say_site(alloc, out, sources, finding, finding.site)?;
+    say_sight(alloc, out, sources, finding)
+}
+
+/// Appends a finding, the one of this number.
+pub fn say_finding(
+    alloc: Global,
+    out: &mut Vec<u8>,
+    sources: &Sources<'_>,
+    finding: &Finding,
+    number: usize,
+) -> Result<(), AllocError> {
+    say_seen(alloc, out, sources, finding)?;
+    let count = finding.steps.len();
+    let word = if count == 1 { "step" } else { "steps" };
+    let name = sources.named.out;
+    say_made(
+        out,
+        format!(in alloc; ": after {count} {word}, in {name}.{number}\n"),
+    )
+}

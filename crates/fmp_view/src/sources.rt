@@ -1,0 +1,57 @@
+//! What is explored, the names of its files, and the text that is put together.
+ghost use Rattle.std.specs.Prelude.{◌≤◌, ◌^◌};
+
+use fmp_explore::Section;
+use fmp_explore_names::{CallLines, LocalNames};
+use fmp_image_bytes::Image;
+use std::alloc::{AllocError, Global};
+
+/// The names of the files that an exploration speaks of, and what it prints beside its findings.
+#[derive(Clone, Copy)]
+pub struct Named<'a> {
+    /// The file of the bodies.
+    pub src: &'a str,
+    /// The files of steps are this name, a dot and a number from 1 on.
+    pub out: &'a str,
+    /// What must never happen, in the words that ask for it.
+    pub nevers: &'a [&'a str],
+    /// Whether the answers of each call are printed.
+    pub answers: bool,
+}
+
+/// What is explored, and where its calls stand in the text.
+#[derive(Clone, Copy)]
+pub struct Sources<'a> {
+    pub image: &'a Image,
+    pub bound: u64,
+    pub lines: &'a CallLines,
+    pub names: &'a LocalNames,
+    pub sections: &'a [Section],
+    pub named: Named<'a>,
+    ghost low: { 1 ≤ bound },
+    ghost high: { bound ≤ 2 ^ 48 },
+}
+
+/// Appends text.
+pub fn say(out: &mut Vec<u8>, text: &str) -> Result<(), AllocError> {
+    out.extend_from_slice(text.as_bytes())
+}
+
+/// Appends a text that was made.
+pub fn say_made(out: &mut Vec<u8>, text: Result<String, AllocError>) -> Result<(), AllocError> {
+    say(out, text?.as_str())
+}
+
+/// Appends a line of the file of the bodies.
+pub fn say_place(
+    alloc: Global,
+    out: &mut Vec<u8>,
+    sources: &Sources<'_>,
+    line: Option<u32>,
+) -> Result<(), AllocError> {
+    say(out, sources.named.src)?;
+    if let Some(line) = line {
+        say_made(out, format!(in alloc; ":{line}"))?;
+    }
+    Ok(())
+}

@@ -1,0 +1,145 @@
+//! The commands over the two texts of a system: its fault, a run of it, and a session.
+use crate::built::{NoTrace, Running, Traced, traced_texts};
+use crate::faults::{FileNames, Form, Shown, shown_fault};
+use crate::reading::{read_both, read_named};
+use crate::stepping::step_image;
+use crate::telling::print_run;
+use fmp_diagnosis::Texts;
+use fmp_files::{Failure, Outside, end, print, read_file};
+use fmp_image::build;
+use fmp_image_bytes::Image;
+use std::alloc::{AllocError, Global};
+use std::io::Input;
+
+/// What is shown of two texts, and of the steps of a file if there are steps.
+fn shown_over<O: Outside>(
+    alloc: Global,
+    outside: &O,
+    names: FileNames<'_>,
+    form: Form,
+    texts: Texts<'_>,
+) -> Result<Shown, Failure> {
+    let steps = read_named(alloc, outside, names.steps)?;
+    shown_fault(alloc, form, names, texts, &steps).map_err(|error| Failure::Memory(error))
+}
+
+/// What is shown of the texts of these files.
+fn shown_of<O: Outside>(
+    alloc: Global,
+    outside: &O,
+    names: FileNames<'_>,
+    form: Form,
+) -> Result<Shown, Failure> {
+    let (cfg, src) = read_both(alloc, outside, names.cfg, names.src)?;
+    let texts = Texts {
+        cfg: &cfg,
+        src: &src,
+    };
+    shown_over(alloc, outside, names, form, texts)
+}
+
+/// Prints the fault of the texts of these files, with status 1, or their warnings.
+pub fn print_fault<O: Outside>(
+    alloc: Global,
+    outside: &mut O,
+    names: FileNames<'_>,
+    form: Form,
+) -> u8 {
+    match shown_of(alloc, outside, names, form) {
+        Ok(shown) => print(alloc, outside, shown.text()).max(shown.status()),
+        Err(exit) => end(outside, &exit),
+    }
+}
+
+/// What is printed of a run of two texts over the steps of a file, if there are steps, or why there is nothing.
+fn traced_over<O: Outside>(
+    alloc: Global,
+    outside: &O,
+    names: FileNames<'_>,
+    texts: Texts<'_>,
+    run: Running,
+) -> Result<Result<Traced, NoTrace>, Failure> {
+    if names.steps.is_empty() {
+        return Ok(traced_texts(alloc, texts.cfg, texts.src, None, run));
+    }
+    let steps = read_file(alloc, outside, names.steps, None)?;
+    Ok(traced_texts(alloc, texts.cfg, texts.src, Some(&steps), run))
+}
+
+/// What is printed of a run of the texts of these files, or why there is nothing.
+fn traced_run<O: Outside>(
+    alloc: Global,
+    outside: &O,
+    names: FileNames<'_>,
+    run: Running,
+) -> Result<Result<Traced, NoTrace>, Failure> {
+    let (cfg, src) = read_both(alloc, outside, names.cfg, names.src)?;
+    let texts = Texts {
+        cfg: &cfg,
+        src: &src,
+    };
+    traced_over(alloc, outside, names, texts, run)
+}
+
+/// Prints the trace of a run of the texts of these files, or their fault, with status 1.
+pub fn run_texts<O: Outside>(
+    alloc: Global,
+    outside: &mut O,
+    names: FileNames<'_>,
+    run: Running,
+) -> u8 {
+    match traced_run(alloc, outside, names, run) {
+        Ok(Ok(traced)) => print_run(alloc, outside, &traced.text, traced.ending, &traced.why),
+        Ok(Err(NoTrace::Faulty)) => print_fault(alloc, outside, names, run.form),
+        Ok(Err(NoTrace::Memory)) => end(outside, &Failure::Memory(AllocError)),
+        Err(failure) => end(outside, &failure),
+    }
+}
+
+/// Takes events of standard input on an image, and gives the status.
+fn step_status<O: Outside, R: Input>(
+    alloc: Global,
+    outside: &mut O,
+    rt: &R,
+    image: &Image,
+    names: FileNames<'_>,
+    bound: u64,
+) -> u8 {
+    match step_image(alloc, outside, rt, image, names, bound) {
+        Ok(status) => status,
+        Err(error) => end(outside, &Failure::Memory(error)),
+    }
+}
+
+/// Takes events of standard input on the system of two texts, or prints their first fault, with status 1.
+fn step_texts<O: Outside, R: Input>(
+    alloc: Global,
+    outside: &mut O,
+    rt: &R,
+    (cfg, src): (&[u8], &[u8]),
+    names: FileNames<'_>,
+    bound: u64,
+) -> u8 {
+    match build(alloc, cfg, src) {
+        Ok(image) => {
+            let status = step_status(alloc, outside, rt, &image, names, bound);
+            drop(image);
+            status
+        }
+        Err(_) => print_fault(alloc, outside, names, Form::Text),
+    }
+}
+
+/// Takes events of standard input on the system of the texts of two files, or prints their first fault, with status 1.
+pub fn run_step<O: Outside, R: Input>(
+    alloc: Global,
+    outside: &mut O,
+    rt: &R,
+    names: FileNames<'_>,
+    bound: u64,
+) -> u8 {
+    match read_both(alloc, outside, names.cfg, names.src) {
+        Ok((cfg, src)) => step_texts(alloc, outside, rt, (&cfg, &src), names, bound),
+        Err(failure) => end(outside, &failure),
+    }
+}
