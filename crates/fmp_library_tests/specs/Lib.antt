@@ -1,4 +1,2 @@
 pub mod PulseLemmas
 pub mod Pulses
-pub mod ScriptLemmas
-pub mod Scripts

@@ -1,6 +1,5 @@
 //! The programs of docs/LIBRARY.md: a system that is built and run step by step, and bodies of your own. Beside them
-//! stand the tests of the kernel on bodies that are lists of calls, of searches over small systems, of rings, deadlines,
-//! the row of a journal, and files whose calls fail.
+//! stand the tests of rings, deadlines, the row of a journal, and files whose calls fail.
 #![tactic(auto)]
 
 #[cfg(test)]
@@ -13,7 +12,5 @@ mod journals;
 mod pulse;
 #[cfg(test)]
 mod rings;
-#[cfg(test)]
-mod script;
 #[cfg(test)]
 mod tests;

@@ -2,7 +2,7 @@
 ghost use Rattle.std.specs.Prelude.{◌≡◌, ◌<◌, ◌↔◌, map, IsTrue};
 ghost use Rattle.std.specs.List.{AllByRecursion};
 ghost use Rattle.fmp_base.specs.Systems.{body_of, tables_of};
-ghost use Rattle.fmp_library_tests.specs.Scripts.{AreBodiesOf, IsBody, calls_of as list_of_calls};
+ghost use Rattle.fmp_kernel_tests.specs.Scripts.{AreBodiesOf, IsBody, calls_of as list_of_calls};
 
 use fmp_base::{Body, Call, Entry, Reply, Stretch, System, TaskConfig};
 use std::marker::Model;
@@ -71,8 +71,8 @@ impl Script {
 
 impl Body for Script {
     ghost use Rattle.std.specs.Prelude.{◌≤◌, length};
-    ghost use Rattle.fmp_library_tests.specs.Scripts.{IsBody, calls_of, script_meaning};
-    ghost use Rattle.fmp_library_tests.specs.ScriptLemmas.{script-stays};
+    ghost use Rattle.fmp_kernel_tests.specs.Scripts.{IsBody, calls_of, script_meaning};
+    ghost use Rattle.fmp_kernel_tests.specs.ScriptLemmas.{script-stays};
 
     type Ctx = u64;
 

@@ -2,7 +2,7 @@
 ghost use Rattle.std.specs.Prelude.{◌≡◌, ◌≤◌, ◌^◌, length};
 ghost use Rattle.fmp_base.specs.Ranges.{IsInRange};
 ghost use Rattle.fmp_base.specs.Systems.{tables_of};
-ghost use Rattle.fmp_library_tests.specs.Scripts.{AreBodiesOf};
+ghost use Rattle.fmp_kernel_tests.specs.Scripts.{AreBodiesOf};
 
 use crate::script::Script;
 use crate::tests::reading::{bind, read_scripts, set_queue_limit, steps_text};

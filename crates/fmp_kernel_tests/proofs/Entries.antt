@@ -8,7 +8,7 @@ use Rattle.fmp_base.specs.declared.systems.TaskConfig.{TaskConfig}
 use Rattle.fmp_base.specs.Meanings.{handler_start}
 use Rattle.fmp_base.specs.Systems.{SystemTables, body_of, found}
 use Rattle.fmp_contexts.specs.Contexts.{BeginsIn, Entered}
-use Rattle.fmp_library_tests.specs.Scripts.{AreBodiesOf, IsBody}
+use Rattle.fmp_kernel_tests.specs.Scripts.{AreBodiesOf, IsBody}
 
 task_at : (bodies : List (List Call)) (other : TaskConfig) (ts : List TaskConfig) (t : ℕ)
     → AllByRecursion (λ x. IsBody bodies (body_of x.entry)) ts → t < length ts → IsBody bodies (body_of (found other (slice_get ts t)).entry)

@@ -3,7 +3,7 @@ use Rattle.std.proofs.Common.{arith, ◌≡◌, ℕ, ◌≤◌, List, Option, So
 use Rattle.std.proofs.lemmas.Bool.Decides.{nat_tests}
 use Rattle.fmp_base.specs.declared.calls.Call.{Call}
 use Rattle.fmp_base.specs.Stretches.{is_over}
-use Rattle.fmp_library_tests.specs.Scripts.{calls_of, call_within, end_within, script_from, script_meaning}
+use Rattle.fmp_kernel_tests.specs.Scripts.{calls_of, call_within, end_within, script_from, script_meaning}
 
 later_test : (low high m : ℕ) → low ≤ high → nat_lt low m ≡ false → nat_lt high m ≡ false
 later_test low high m l h = grind (arith, nat_tests)

@@ -1,0 +1,4 @@
+//! Small systems, each with what is asked and what falls out.
+
+mod asking;
+mod searching;
