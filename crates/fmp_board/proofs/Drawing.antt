@@ -26,6 +26,7 @@ use Rattle.fmp_journal.specs.Seats.{events}
 use Rattle.fmp_worlds.specs.Stamps.{EndsSo, Going, actor_at, applied, stamp}
 use Rattle.fmp_worlds.proofs.SettledLaws.{run-settled, setup-settled}
 use Rattle.fmp_worlds.proofs.StampLaws.{applied-runs, equal_stamps}
+use Rattle.fmp_receipts.specs.Stamps.{is_current}
 use Rattle.fmp_board.specs.Boards.{IsReplay}
 use Rattle.fmp_board.specs.Outcomes.{HasNoActorAfter, TicketState, IsDrawn, IsTicketOf, OutcomeState, IsOutcome, actor_after, stamp_after, stamp_at}
 use Rattle.fmp_replay.specs.Replays.{kernel_after, reaction, replay, stamps_after}
@@ -168,6 +169,16 @@ pub none_test : (i : ImageTables) (n k m : ℕ) (kernel : Kernels) (journal : Li
 none_test i n k m kernel journal t r d h = λ same.
     let there : Some t.actor ≡ None = sym (drawn_now i n journal t d same) ∙ sym (actor_there i n k m kernel journal t.processor r) ∙ h in
     absurd (cc)
+
+-- a ticket is that of its processor as long as its stamp is the processor's
+pub current_test : (i : ImageTables) (n k m : ℕ) (kernel : Kernels) (journal : List JournalEntry) (t : TicketState) → IsReplay i n k m kernel journal
+    → IsDrawn i n journal t
+    → MatchBool (is_current (stamp_in (actor_in kernel t.processor)) t.actor.stamp) (actor_after i n journal t.processor ≡ Some t.actor) (stamp_after i n journal t.processor ≢ t.actor.stamp)
+current_test i n k m kernel journal t r d = by_actor (actor_in kernel t.processor) refl where
+  by_actor : (o : Option (Actor MachineContext)) → actor_in kernel t.processor ≡ o
+      → MatchBool (is_current (stamp_in o) t.actor.stamp) (actor_after i n journal t.processor ≡ Some t.actor) (stamp_after i n journal t.processor ≢ t.actor.stamp)
+  by_actor None e = none_test i n k m kernel journal t r d e
+  by_actor (Some a) e = stamp_test i n k m kernel journal t a r d e
 
 -- the context of a stretch that is not made yet
 pub waits_at : {C : Type 0} (s : Stop) (c d : C) → stopped s c ≡ Over (Some d) → c ≡ d

@@ -14,8 +14,8 @@ use Rattle.fmp_image_bytes.specs.Images.{ImageTables}
 use Rattle.fmp_kernel.specs.KernelViews.{KernelView, view_after}
 use Rattle.fmp_journal.specs.declared.entry.JournalEntry.{JournalEntry}
 use Rattle.fmp_journal.specs.Seats.{events}
-use Rattle.fmp_board.specs.declared.receipt.Receipt.{Receipt}
-use Rattle.fmp_board.specs.Receipts.{call_reply, receipt_of}
+use Rattle.fmp_receipts.specs.declared.receipt.Receipt.{Receipt}
+use Rattle.fmp_receipts.specs.Receipts.{call_reply, receipt, receipt_of}
 use Rattle.fmp_board.specs.Boards.{IsJournal, IsReplay}
 use Rattle.fmp_replay.specs.Replays.{IsLegal, kernel_after, reaction}
 use Rattle.fmp_replay.proofs.Replaying.{step_of_replay, legal_last, kernel_last, none_legal}
@@ -87,9 +87,6 @@ replay_begins i n k m kernel h =
       kernel_is = h;
       journal_is = record { legal = none_legal i n; room = omega arith; seats = All-nil (λ y. y.seat < m) };
     }
-
-abbrev receipt : ℕ → Effect → Option Reply → Receipt
-receipt number effect reply = record { number = number; effect = effect; reply = reply }
 
 pub receipt_done : {C : Type 0} (r : Reaction C) (d : Done C) (before number : ℕ) (reply : Option Reply) → r ≡ Did d → number ≡ before + 1 → reply ≡ call_reply d.lines
     → receipt number effect.Done reply ≡ receipt_of before r

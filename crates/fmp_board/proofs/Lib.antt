@@ -1,5 +1,4 @@
 pub mod Blanks
-pub mod Copying
 pub mod Crossing
 pub mod Drawing
 pub mod Entering

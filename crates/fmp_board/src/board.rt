@@ -6,11 +6,11 @@ use crate::closed::Closed;
 use crate::desk::Desk;
 use crate::fault::BoardFault;
 use crate::outcome::{Outcome, Ticket, Workspace};
-use crate::receipt::Receipt;
 use crate::site::Site;
 use fmp_base::Event;
 use fmp_image_bytes::Image;
 use fmp_journal::{Row, Seat};
+use fmp_receipts::Receipt;
 use std::sync::{Mutex, Wait};
 
 /// A kernel that many threads share, with the journal of what they did on it. Both lie under one lock, as a

@@ -5,13 +5,13 @@ ghost use Rattle.fmp_journal.specs.Seats.{events};
 
 use crate::closed::Closed;
 use crate::fault::BoardFault;
-use crate::receipt::{Receipt, call_reply};
 use crate::site::Site;
 use fmp_base::{Effect, Event};
 use fmp_code::Vm;
 use fmp_image_bytes::Image;
 use fmp_journal::{JournalEntry, Scribe, Seat};
 use fmp_kernel::Kernel;
+use fmp_receipts::Receipt;
 use std::marker::{Model, PhantomData};
 
 /// The kernel of a board, and the journal of the events that did something on it. Its type keeps that the image and the
@@ -46,7 +46,7 @@ impl<'a, S: Site> Book<'a, S> {
     ghost use Rattle.std.specs.Prelude.{◌≡◌, ◌<◌, ◌≤◌, ◌↔◌, [], length, slice_get, vec_capacity, IfOk, IsTrue, OnOk, OnErr, MatchResult};
     ghost use Rattle.fmp_board.specs.declared.fault.BoardFault.TheVariants.{Full};
     ghost use Rattle.fmp_board.specs.Boards.{IsAt, IsJournal, IsReplay, IsRoom};
-    ghost use Rattle.fmp_board.specs.Receipts.{journal_after, marks_after, receipt_of};
+    ghost use Rattle.fmp_receipts.specs.Receipts.{journal_after, marks_after, receipt_of};
     ghost use Rattle.fmp_replay.specs.Replays.{kernel_after, reaction};
     ghost use Rattle.fmp_board.specs.Visits.{shown, unmarked};
     ghost use Rattle.fmp_journal.specs.Views.{own};
@@ -150,26 +150,14 @@ impl<'a, S: Site> Book<'a, S> {
             return Err(BoardFault::Full);
         }
         match self.kernel.step(event) {
-            Effect::Nothing => Ok(Receipt {
-                number: 0,
-                effect: Effect::Nothing,
-                reply: None,
-            }),
+            Effect::Nothing => Ok(Receipt::nothing()),
             Effect::Done => {
                 self.scribe.write(seat, event);
-                Ok(Receipt {
-                    number: self.scribe.len(),
-                    effect: Effect::Done,
-                    reply: call_reply(self.kernel.lines()),
-                })
+                Ok(Receipt::done(self.scribe.len(), self.kernel.lines()))
             }
             Effect::Kept => {
                 self.scribe.write(seat, event);
-                Ok(Receipt {
-                    number: self.scribe.len(),
-                    effect: Effect::Kept,
-                    reply: None,
-                })
+                Ok(Receipt::kept(self.scribe.len()))
             }
         }
     }
@@ -203,20 +191,7 @@ impl<'a, S: Site> Book<'a, S> {
             seats: _,
             site: _,
         } = self;
-        let events = copied(&mut scribe, room);
+        let events = scribe.events(room);
         Closed::new(kernel, events)
     }
-}
-
-/// The events that a scribe wrote, in a list that has room for them.
-fn copied(scribe: &mut Scribe, mut room: Vec<Event>) -> Vec<Event>
-    requires { (room.items ≡ []) × (length scribe.old.journal ≤ vec_capacity room) }
-    ensures { result.items ≡ events scribe.old.journal }
-{
-    for place in 0..scribe.len() {
-        if let Some(entry) = scribe.entry(place) {
-            room.push_reserved(entry.event);
-        }
-    }
-    room
 }

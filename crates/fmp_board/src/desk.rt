@@ -5,10 +5,10 @@ use crate::book::Book;
 use crate::closed::Closed;
 use crate::fault::BoardFault;
 use crate::outcome::{Ticket, Workspace};
-use crate::receipt::Receipt;
 use crate::site::Site;
 use fmp_base::Event;
 use fmp_journal::Seat;
+use fmp_receipts::Receipt;
 
 /// A book in whose journal each seat has counted its entries: a seat that enters one is shown it before the lock is
 /// free. Its calls are those of the board.

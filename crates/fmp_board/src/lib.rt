@@ -8,7 +8,6 @@ mod closed;
 mod desk;
 mod fault;
 mod outcome;
-mod receipt;
 mod site;
 mod submitting;
 
@@ -18,6 +17,6 @@ pub use book::Book;
 pub use closed::Closed;
 pub use fault::BoardFault;
 pub use fmp_journal::Seat;
+pub use fmp_receipts::Receipt;
 pub use outcome::{Outcome, Ticket, Workspace};
-pub use receipt::Receipt;
 pub use site::Site;

@@ -5,15 +5,15 @@ ghost use Rattle.fmp_journal.specs.Seats.{events};
 ghost use Rattle.fmp_journal.specs.Words.{entry};
 ghost use Rattle.fmp_board.specs.Boards.{IsJournal};
 ghost use Rattle.fmp_board.specs.Outcomes.{AnsweredAfter, Drew, IsDrawn, IsOutcome, IsTicket, IsTicketOf, IsWhyRefused, actor_after, stamp_after, waiting};
-ghost use Rattle.fmp_board.specs.Receipts.{journal_after, marks_after, receipt_of};
+ghost use Rattle.fmp_receipts.specs.Receipts.{journal_after, marks_after, receipt_of};
 ghost use Rattle.fmp_replay.specs.Replays.{reaction};
 
 use crate::book::Book;
 use crate::fault::BoardFault;
 use crate::outcome::{Outcome, Ticket, Workspace};
-use crate::receipt::{Receipt, call_reply};
 use crate::site::Site;
 use fmp_base::{Effect, Event};
+use fmp_receipts::{Receipt, is_current};
 
 impl<'a, S: Site> Book<'a, S> {
     /// A ticket for the stretch that the actor of processor p makes next. None exactly if there is no such processor,
@@ -59,10 +59,7 @@ impl<'a, S: Site> Book<'a, S> {
             (stamp_after S.image S.bound self.now.journal outcome.now.ticket.processor
             ≢ outcome.now.ticket.actor.stamp) }
     {
-        match self.kernel.stamp(outcome.processor()) {
-            Some(stamp) => stamp == outcome.stamp(),
-            None => false,
-        }
+        is_current(self.kernel.stamp(outcome.processor()), outcome.stamp())
     }
 
     /// Takes the run of an outcome's processor on the kernel, by the stretch that was made before, and journals it
@@ -114,26 +111,14 @@ impl<'a, S: Site> Book<'a, S> {
         }
         let event = Event::Run(outcome.processor());
         match self.kernel.apply(outcome.processor(), outcome.ended()) {
-            Effect::Nothing => Ok(Receipt {
-                number: 0,
-                effect: Effect::Nothing,
-                reply: None,
-            }),
+            Effect::Nothing => Ok(Receipt::nothing()),
             Effect::Done => {
                 self.scribe.write(seat, event);
-                Ok(Receipt {
-                    number: self.scribe.len(),
-                    effect: Effect::Done,
-                    reply: call_reply(self.kernel.lines()),
-                })
+                Ok(Receipt::done(self.scribe.len(), self.kernel.lines()))
             }
             Effect::Kept => {
                 self.scribe.write(seat, event);
-                Ok(Receipt {
-                    number: self.scribe.len(),
-                    effect: Effect::Kept,
-                    reply: None,
-                })
+                Ok(Receipt::kept(self.scribe.len()))
             }
         }
     }

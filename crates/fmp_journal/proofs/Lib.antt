@@ -1,3 +1,4 @@
+pub mod Copying
 pub mod Counts
-pub mod Rows
 pub mod Moves
+pub mod Rows

@@ -1,5 +1,5 @@
-pub mod Words
 pub mod Laws
-pub mod Views
 pub mod Rule
 pub mod Seats
+pub mod Views
+pub mod Words

@@ -1,8 +1,8 @@
 //! The writer of a row.
-ghost use Rattle.std.specs.Prelude.{◌≡◌, ◌<◌, ◌≤◌, ◌↔◌, [], length, slice_get, IsTrue, MatchBool};
+ghost use Rattle.std.specs.Prelude.{◌≡◌, ◌<◌, ◌≤◌, ◌↔◌, [], length, slice_get, vec_capacity, IsTrue, MatchBool};
 ghost use mathlib.Core.List.{IsPrefix};
 ghost use Rattle.fmp_journal.specs.Views.{own, new_pen, scribe_view};
-ghost use Rattle.fmp_journal.specs.Seats.{new_scribe, scribe_after, scribe_unmarked, seat_shown};
+ghost use Rattle.fmp_journal.specs.Seats.{events, new_scribe, scribe_after, scribe_unmarked, seat_shown};
 
 use crate::entry::JournalEntry;
 use crate::knowledge::View;
@@ -107,5 +107,18 @@ impl Scribe {
         let word = read(self.row.words(), &mut token, place as usize);
         self.badge = token.into_badge();
         JournalEntry::from_word(word)
+    }
+
+    /// The events of the journal, in a list that has room for them.
+    pub fn events(&mut self, mut room: Vec<Event>) -> Vec<Event>
+        requires { (room.items ≡ []) × (length self.old.journal ≤ vec_capacity room) }
+        ensures { result.items ≡ events self.old.journal }
+    {
+        for place in 0..self.len() {
+            if let Some(entry) = self.entry(place) {
+                room.push_reserved(entry.event);
+            }
+        }
+        room
     }
 }

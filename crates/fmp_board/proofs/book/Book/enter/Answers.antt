@@ -6,7 +6,7 @@ use Rattle.fmp_journal.specs.declared.entry.JournalEntry.{JournalEntry}
 use Rattle.fmp_journal.specs.Seats.{events}
 use Rattle.fmp_journal.specs.Words.{entry}
 use Rattle.fmp_board.specs.Boards.{IsReplay}
-use Rattle.fmp_board.specs.Receipts.{call_reply, journal_after, marks_after}
+use Rattle.fmp_receipts.specs.Receipts.{call_reply, journal_after, marks_after}
 use Rattle.fmp_replay.specs.Replays.{reaction}
 use Rattle.fmp_board.proofs.Entering.{done_by, kept_by, nothing_by, step_there, replay_more, receipt_done, receipt_kept, receipt_nothing}
 use Rattle.fmp_board.proofs.book.Book.enter.Goals as goal
@@ -36,7 +36,7 @@ returns-in-Nothing-clause-receipt g c =
     let site = g.S.Site in
     let there = step_there site.image site.bound site.row_id.capacity site.row_id.seats c.self.inside.kernel c.self.inside.scribe.journal c.args.event b.3 in
     let was : c.args.self.now.journal ≡ c.self.inside.scribe.journal = search rules in
-    rw was (receipt_nothing _ _ (sym there ∙ nothing_by _ (sym c.in-Nothing.is ∙ c.step.ensures.effect)))
+    rw was (c.nothing.ensures ∙ receipt_nothing _ _ (sym there ∙ nothing_by _ (sym c.in-Nothing.is ∙ c.step.ensures.effect)))
 
 pub returns-in-Nothing-clause-journal : goal.returns-in-Nothing-clause-journal
 returns-in-Nothing-clause-journal g c =
@@ -69,7 +69,7 @@ returns-in-Done-clause-receipt g c =
     let lines : c.step.new.self.lines ≡ done.0.lines = ap (λ v. v.lines) (c.step.ensures.state ∙ ap (view_after kernel) done.1) in
     let count : c.len.result ≡ length journal + 1 = search (rules, length-append) in
     let was : c.args.self.now.journal ≡ c.self.inside.scribe.journal = search rules in
-    rw was (receipt_done _ done.0 _ _ _ there count (c.call_reply.ensures ∙ ap call_reply (c.lines.ensures ∙ lines)))
+    rw was (c.done.ensures ∙ receipt_done _ done.0 _ _ _ there count (ap call_reply (c.lines.ensures ∙ lines)))
 
 pub returns-in-Done-clause-journal : goal.returns-in-Done-clause-journal
 returns-in-Done-clause-journal g c =
@@ -126,7 +126,7 @@ returns-in-Kept-clause-receipt g c =
     sym (step_there site.image site.bound site.row_id.capacity site.row_id.seats kernel journal c.args.event b.3) ∙ kept.2 in
     let count : c.len-in-Kept.result ≡ length journal + 1 = search (rules, length-append) in
     let was : c.args.self.now.journal ≡ c.self.inside.scribe.journal = search rules in
-    rw was (receipt_kept _ kept.0 kept.1 _ _ there count)
+    rw was (c.kept.ensures ∙ receipt_kept _ kept.0 kept.1 _ _ there count)
 
 pub returns-in-Kept-clause-journal : goal.returns-in-Kept-clause-journal
 returns-in-Kept-clause-journal g c =

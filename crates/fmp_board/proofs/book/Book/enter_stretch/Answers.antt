@@ -10,7 +10,7 @@ use Rattle.fmp_journal.specs.Seats.{events}
 use Rattle.fmp_journal.specs.Words.{entry}
 use Rattle.fmp_board.specs.Boards.{IsReplay}
 use Rattle.fmp_board.specs.Outcomes.{actor_after}
-use Rattle.fmp_board.specs.Receipts.{call_reply, journal_after, marks_after}
+use Rattle.fmp_receipts.specs.Receipts.{call_reply, journal_after, marks_after}
 use Rattle.fmp_replay.specs.Replays.{reaction}
 use Rattle.fmp_board.proofs.Drawing.{outcome_runs, stamp_of_actor}
 use Rattle.fmp_board.proofs.Entering.{done_by, kept_by, nothing_by, replay_more, receipt_done, receipt_kept, receipt_nothing}
@@ -35,7 +35,7 @@ returns-in-Nothing-clause-answer g c =
     rw was (
       stamp_of_actor site.image site.bound journal p o.ticket.actor there,
       lt,
-      receipt_nothing _ _ (sym runs ∙ nothing_by _ (sym c.in-Nothing.is ∙ c.apply.ensures.effect)),
+      c.nothing.ensures ∙ receipt_nothing _ _ (sym runs ∙ nothing_by _ (sym c.in-Nothing.is ∙ c.apply.ensures.effect)),
     )
 
 pub returns-in-Nothing-clause-journal : goal.returns-in-Nothing-clause-journal
@@ -120,7 +120,7 @@ returns-in-Done-clause-answer g c =
     rw was (
       stamp_of_actor site.image site.bound journal p o.ticket.actor there,
       lt,
-      receipt_done _ done.0 _ _ _ (sym runs ∙ done.1) count (c.call_reply.ensures ∙ ap call_reply (c.lines.ensures ∙ lines)),
+      c.done.ensures ∙ receipt_done _ done.0 _ _ _ (sym runs ∙ done.1) count (ap call_reply (c.lines.ensures ∙ lines)),
     )
 
 pub returns-in-Done-clause-journal : goal.returns-in-Done-clause-journal
@@ -208,7 +208,7 @@ returns-in-Kept-clause-answer g c =
     rw was (
       stamp_of_actor site.image site.bound journal p o.ticket.actor there,
       lt,
-      receipt_kept _ kept.0 kept.1 _ _ (sym runs ∙ kept.2) count,
+      c.kept.ensures ∙ receipt_kept _ kept.0 kept.1 _ _ (sym runs ∙ kept.2) count,
     )
 
 pub returns-in-Kept-clause-journal : goal.returns-in-Kept-clause-journal

@@ -1,12 +1,13 @@
 -- Receipts: what an event did at its place in the journal.
 use Rattle.std.specs.Prelude.{ℕ, ◌+◌, List, [], ◌∷◌, ◌++◌, Option, None}
 use Rattle.fmp_base.specs.declared.calls.Reply.{Reply}
+use Rattle.fmp_base.specs.declared.events.Effect.{Effect}
 use Rattle.fmp_base.specs.declared.events.Effect.TheVariants as effect
 use Rattle.fmp_base.specs.declared.events.Line.{Line}
 use Rattle.fmp_base.specs.declared.events.Line.TheVariants.{Tick, Int, Call, End, Fault, Gets, Starts, Pends, Begins, Runs}
 use Rattle.fmp_base.specs.Steps.{Reaction, Nothing, Did, Kept}
 use Rattle.fmp_journal.specs.declared.entry.JournalEntry.{JournalEntry}
-use Rattle.fmp_board.specs.declared.receipt.Receipt.{Receipt}
+use Rattle.fmp_receipts.specs.declared.receipt.Receipt.{Receipt}
 
 -- the reply of a call in its line; a caller that waits, or that ends by its call, has none
 abbrev pub reply_in : Line → Option Reply
@@ -25,6 +26,9 @@ reply_in (Runs p t) = None
 abbrev pub call_reply : List Line → Option Reply
 call_reply [] = None
 call_reply (l ∷ ls) = reply_in l
+
+abbrev pub receipt : (number : ℕ) → Effect → Option Reply → Receipt
+receipt number effect reply = record { number = number; effect = effect; reply = reply }
 
 -- the receipt of an event before which n were journaled, by what the event does then
 abbrev pub receipt_of : {C : Type 0} → (before : ℕ) → Reaction C → Receipt
