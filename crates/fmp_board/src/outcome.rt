@@ -3,6 +3,7 @@ ghost use Rattle.std.specs.Prelude.{◌≡◌};
 ghost use Rattle.fmp_board.specs.Outcomes.{IsTicket, ending_of};
 
 use fmp_base::{Body, Stop, Stretch};
+use fmp_code::stretch_of;
 use fmp_image_bytes::Image;
 use fmp_instructions::MachineContext;
 use fmp_kernel::Actor;
@@ -179,12 +180,7 @@ impl Workspace {
     pub(crate) fn ended(&self) -> Stretch<MachineContext>
         ensures { ending result ≡ self.now.ending }
     {
-        match self.stop {
-            Stop::Call(made) => Stretch::Call(self.actor.context, made),
-            Stop::End => Stretch::End(self.actor.context),
-            Stop::Fault(fault) => Stretch::Fault(self.actor.context, fault),
-            Stop::Over => Stretch::Over(self.actor.context),
-        }
+        stretch_of(self.stop, self.actor.context)
     }
 }
 

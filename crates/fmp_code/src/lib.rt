@@ -2,7 +2,6 @@
 //! `fmp_instructions`, and are given out here too.
 #![tactic(auto)]
 
-mod cuts;
 mod decoded;
 mod decoded_code;
 mod delivery;
@@ -10,7 +9,6 @@ mod effects;
 mod holding;
 pub mod laws;
 mod machine;
-mod operands;
 mod prepared;
 mod stretches;
 mod vm;
@@ -20,6 +18,7 @@ pub use delivery::{deliver, deliver_in_place};
 pub use fmp_instructions::{
     BodyCode, Code, Instruction, MachineContext, keeps_table, verify, verify_body,
 };
+pub use fmp_operands::stretch_of;
 pub use machine::start;
 pub use stretches::{stretch, stretch_in_place};
 pub use vm::Vm;

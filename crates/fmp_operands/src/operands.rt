@@ -5,7 +5,9 @@ ghost use Rattle.fmp_instructions.specs.Machine.{tops, unstacked};
 
 use fmp_base::{Call, Service};
 
-pub(crate) fn push(values: &mut [i32; 64], count: &mut usize, x: i32)
+/// Pushes a value.
+#[inline(always)]
+pub fn push(values: &mut [i32; 64], count: &mut usize, x: i32)
     requires { count.old < 64 }
     ensures count { count.new ≡ count.old + 1 }
     ensures value { tops values.new count.new ≡ x ∷ tops values.old count.old }
@@ -14,7 +16,9 @@ pub(crate) fn push(values: &mut [i32; 64], count: &mut usize, x: i32)
     *count += 1;
 }
 
-pub(crate) fn pop(values: &[i32; 64], count: &mut usize) -> i32
+/// Takes the topmost operand.
+#[inline(always)]
+pub fn pop(values: &[i32; 64], count: &mut usize) -> i32
     requires some { 0 < count.old }
     requires within { count.old ≤ 64 }
     ensures count { count.new + 1 ≡ count.old }
@@ -24,8 +28,9 @@ pub(crate) fn pop(values: &[i32; 64], count: &mut usize) -> i32
     values[*count]
 }
 
-// The same of an array of four, as of a body on its way to a call.
-pub(crate) fn push_argument(values: &mut [i32; 4], count: &mut usize, x: i32)
+/// Pushes a value onto an array of four, as of a body on its way to a call.
+#[inline(always)]
+pub fn push_argument(values: &mut [i32; 4], count: &mut usize, x: i32)
     requires { count.old < 4 }
     ensures count { count.new ≡ count.old + 1 }
     ensures value { tops values.new count.new ≡ x ∷ tops values.old count.old }
@@ -34,7 +39,9 @@ pub(crate) fn push_argument(values: &mut [i32; 4], count: &mut usize, x: i32)
     *count += 1;
 }
 
-pub(crate) fn pop_argument(values: &[i32; 4], count: &mut usize) -> i32
+/// Takes the topmost operand of an array of four.
+#[inline(always)]
+pub fn pop_argument(values: &[i32; 4], count: &mut usize) -> i32
     requires some { 0 < count.old }
     requires within { count.old ≤ 4 }
     ensures count { count.new + 1 ≡ count.old }
@@ -44,6 +51,7 @@ pub(crate) fn pop_argument(values: &[i32; 4], count: &mut usize) -> i32
     values[*count]
 }
 
+#[inline(always)]
 fn operand(values: &[i32], count: usize, index: usize) -> i32
     requires { count ≤ length values.now }
     ensures { result ≡ argument (unstacked (tops values.now count) []) index }
@@ -51,8 +59,9 @@ fn operand(values: &[i32], count: usize, index: usize) -> i32
     if index < count { values[index] } else { 0 }
 }
 
-// The call of a service whose arguments are all operands, from the first pushed on.
-pub(crate) fn call(values: &[i32], count: usize, service: Service) -> Call
+/// The call of a service whose arguments are all operands, from the first pushed on.
+#[inline(always)]
+pub fn call(values: &[i32], count: usize, service: Service) -> Call
     requires { count ≤ length values.now }
     ensures { result ≡ request service (unstacked (tops values.now count) []) }
 {

@@ -1,0 +1,3 @@
+pub mod OperandLists
+pub mod Places
+pub mod Requests
