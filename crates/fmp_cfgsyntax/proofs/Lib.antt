@@ -1,0 +1,5 @@
+pub mod Classes
+pub mod Items
+pub mod Parses
+pub mod Parts
+pub mod Single

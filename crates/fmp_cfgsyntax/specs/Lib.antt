@@ -1,0 +1,4 @@
+pub mod Grammar
+pub mod Parsing
+pub mod Reading
+pub mod Trees
