@@ -1,7 +1,6 @@
 -- Images: what they hold, and the one spelling of each.
-use Rattle.std.specs.Prelude.{◌≡◌, ◌<◌, ℕ, List, [], ◌∷◌, ◌++◌, length, map, Result, Ok, Err, Bool, true, codes}
+use Rattle.std.specs.Prelude.{◌≡◌, ◌<◌, ℕ, List, [], ◌∷◌, ◌++◌, length, map, Result, Ok, Err, true}
 use Rattle.std.specs.List.{AllByRecursion}
-use Rattle.std.specs.Str.{bytes_eq}
 use Rattle.fmp_base.specs.declared.systems.TaskConfig.{TaskConfig}
 use Rattle.fmp_base.specs.declared.systems.SemaphoreConfig.{SemaphoreConfig}
 use Rattle.fmp_base.specs.declared.systems.FlagConfig.{FlagConfig}
@@ -18,9 +17,10 @@ use Rattle.fmp_image_parts.specs.declared.fault.ImageFault.{ImageFault}
 use Rattle.fmp_image_parts.specs.declared.fault.ImageFault.TheVariants as fault
 use Rattle.fmp_image_parts.specs.declared.heads.BodyHead.{BodyHead}
 use Rattle.fmp_image_parts.specs.declared.keys.Key.{Key}
-use Rattle.fmp_image_parts.specs.Fields.{Field, ◌>>=◌, ◌⊗◌, byte, short, bytes_at, tested, chained}
+use Rattle.fmp_image_parts.specs.Fields.{Field, ◌>>=◌, chained}
 use Rattle.fmp_image_parts.specs.Keys.{are_new}
 use Rattle.fmp_image_parts.specs.Fields.{in_range}
+use Rattle.fmp_image_rules.specs.Header.{magic, header}
 use Rattle.fmp_image_rows.specs.Rows.{RowContext, context_of, RowForm, row, task_form, semaphore_form, flag_form, data_queue_form, mailbox_form, message_form, shared_word_form, spin_lock_form, cyclic_form, interrupt_form}
 use Rattle.fmp_image_rows.specs.Tables.{table}
 use Rattle.fmp_image_parts.specs.Bodies.{bodies, IsBody}
@@ -38,22 +38,6 @@ pub record ImageTables : Type 0 where
 
 abbrev pub image_tables : (version : ℕ) → SystemTables → List BodyHead → List BodyTables → ImageTables
 image_tables version system heads code = record { version = version; system = system; heads = heads; code = code }
-
--- n bytes as they are
-abbrev pub plain : ℕ → Field (List ℕ)
-plain size = record { fits = λ t. length t ≡ size; spell = λ t. t; read = bytes_at size }
-
-abbrev pub magic : List ℕ
-magic = codes "FMPI"
-
-abbrev pub is_magic : List ℕ → Bool
-is_magic t = bytes_eq t magic
-
--- `FMPI`, the version, and the number of processors
-abbrev pub header : Field (List ℕ × (ℕ × ℕ))
-header =
-    tested is_magic fault.Magic (plain 4) ⊗ tested is_version fault.Version short ⊗ tested (in_range 1 8) fault.Table
-    byte
 
 -- the table of a kind of rows, behind which these keys stand
 abbrev pub table_of : {F A : Type 0} → RowForm F A → RowContext → List Key → Field (List A)

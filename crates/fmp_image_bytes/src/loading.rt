@@ -6,53 +6,19 @@ ghost use Rattle.fmp_instructions.specs.Instructions.{code_tables};
 ghost use Rattle.fmp_image_parts.specs.Fields.{Gives};
 ghost use Rattle.fmp_image_parts.specs.Versions as versions;
 ghost use Rattle.fmp_image_rows.specs.Rows.{context_of};
-ghost use Rattle.fmp_image_bytes.specs.Images.{ImageTables, Spells, magic, is_magic, header, tables, tables_in, image_tables, image_at};
+ghost use Rattle.fmp_image_bytes.specs.Images.{ImageTables, Spells, tables, tables_in, image_tables, image_at};
 ghost use Rattle.fmp_image_bytes.specs.OlderImages.{MeansTheSame};
 
 use crate::image::Image;
 use crate::laws::older_images_mean_the_same;
 use fmp_base::System;
-use fmp_image_parts::fault::{ImageFault, LoadFault, TABLE};
-use fmp_image_parts::fields::{byte_at, bytes_at, in_range, short_at};
+use fmp_image_parts::fault::{ImageFault, LoadFault};
 use fmp_image_parts::keys::TakenKeys;
-use fmp_image_parts::versions::is_version;
 use fmp_image_parts::{BodyHead, read_bodies};
 use fmp_image_rows::read_table;
+use fmp_image_rules::{is_end, queue_limit_of, read_header};
 use fmp_instructions::Code;
 use std::alloc::Global;
-
-fn is_magic(bytes: &[u8]) -> bool
-    ensures { result ≡ is_magic bytes.now }
-{
-    bytes == b"FMPI".as_slice()
-}
-
-/// Reads the header, and gives the version and the number of processors.
-fn read_header(bytes: &[u8]) -> Result<((u16, u8), &[u8]), LoadFault>
-    ensures { Gives (λ x. ((magic, (x.0.0, x.0.1)), x.1.now)) result (header.read bytes.now) }
-{
-    let (magic, rest) = bytes_at(bytes, 4)?;
-    if !is_magic(magic) {
-        return Err(LoadFault::Image(ImageFault::Magic));
-    }
-    let (version, rest) = short_at(rest)?;
-    if !is_version(version) {
-        return Err(LoadFault::Image(ImageFault::Version));
-    }
-    let (processors, rest) = byte_at(rest)?;
-    if !in_range(1, 8, processors as u32) {
-        return Err(TABLE);
-    }
-    Ok(((version, processors), rest))
-}
-
-/// How many activations of a task a system of a version queues, and how many wakeups: 255 from version 3 on, and 1
-/// before.
-fn queue_limit_of(version: u16) -> u8
-    ensures { result ≡ versions.queue_limit_of version }
-{
-    if version >= 3 { 255 } else { 1 }
-}
 
 /// Reads all tables of a system. Its queue limit is that of the version.
 fn read_tables<'a>(
@@ -103,7 +69,7 @@ fn read_image(alloc: Global, bytes: &[u8]) -> Result<(u16, System, Code, Vec<Bod
     let ((version, processors), rest) = read_header(bytes)?;
     let ((heads, bodies), rest) = read_bodies(alloc, version, rest)?;
     let (system, rest) = read_tables(alloc, version, processors, &heads, rest)?;
-    if !rest.is_empty() {
+    if !is_end(rest) {
         return Err(LoadFault::Image(ImageFault::Trailing));
     }
     Ok((version, system, Code { bodies }, heads))

@@ -3,23 +3,14 @@
 ghost use Rattle.std.specs.Prelude.{◌≡◌, ◌++◌, [], IfOk, OnOk};
 ghost use Rattle.fmp_base.specs.Systems.{tables_of};
 ghost use Rattle.fmp_image_rows.specs.Rows.{context_of};
-ghost use Rattle.fmp_image_bytes.specs.Images.{CanPut, header, magic, tables, tables_in, spelling};
+ghost use Rattle.fmp_image_bytes.specs.Images.{CanPut, tables, tables_in, spelling};
 
 use crate::image::Image;
 use fmp_base::System;
-use fmp_image_parts::fields::{put_byte, put_short};
 use fmp_image_parts::put_bodies;
 use fmp_image_rows::put_table;
+use fmp_image_rules::put_header;
 use std::alloc::{AllocError, Global};
-
-fn put_header(out: &mut Vec<u8>, version: u16, processors: u8) -> Result<(), AllocError>
-    ensures { OnOk result (out.new.items ≡ out.old.items ++ header.spell (magic, (version, processors))) }
-{
-    out.extend_from_slice(b"FMPI")?;
-    put_short(out, version)?;
-    put_byte(out, processors)?;
-    Ok(())
-}
 
 fn put_tables(out: &mut Vec<u8>, system: &System) -> Result<(), AllocError>
     requires { CanPut (tables_of system.now) }

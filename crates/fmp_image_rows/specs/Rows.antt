@@ -23,6 +23,7 @@ use Rattle.fmp_image_parts.specs.declared.keys.Key.{Key}
 use Rattle.fmp_image_parts.specs.declared.keys.Key.TheVariants as key
 use Rattle.fmp_image_parts.specs.Fields.{Field, ◌>>=◌, ◌⊗◌, byte, short, long, word, text, in_range}
 use Rattle.fmp_image_parts.specs.Keys.{is_name}
+use Rattle.fmp_image_rules.specs.Ranges.{cyclic_numbers, mailbox_rules, semaphore_rules, task_numbers}
 
 -- what rows refer to: the version, the number of processors, and what is said of each body
 pub record RowContext : Type 0 where
@@ -86,17 +87,9 @@ abbrev pub is_handler_body : Option BodyHead → Bool
 is_handler_body None = false
 is_handler_body (Some head) = is_handler head.kind
 
--- attributes of which only the second bit may be set: TA_ACT, TA_STA
-abbrev pub is_start_bit : ℕ → Bool
-is_start_bit attributes = (attributes == 0) || (attributes == 2)
-
 -- name, attributes, exinf, body, priority, stack, processor from 1, and 1 if that is the only one allowed
 abbrev pub TaskFields : Type 0
 TaskFields = List ℕ × (ℕ × (ℤ × (ℕ × (ℕ × (ℕ × (ℕ × ℕ))))))
-
-abbrev pub task_numbers : (attributes priority stack only : ℕ) → Bool
-task_numbers attributes priority stack only =
-    is_start_bit attributes && in_range 1 16 priority && in_range 1 65536 stack && nat_le only 1
 
 abbrev pub task_rules : RowContext → (attributes body priority stack processor only : ℕ) → Bool
 task_rules context attributes body priority stack processor only =
@@ -134,9 +127,6 @@ task_form = record {
 -- name, attributes, initial and greatest count
 abbrev pub SemaphoreFields : Type 0
 SemaphoreFields = List ℕ × (ℕ × (ℕ × ℕ))
-
-abbrev pub semaphore_rules : (attributes initial most : ℕ) → Bool
-semaphore_rules attributes initial most = nat_le attributes 1 && nat_le 1 most && nat_le initial most
 
 abbrev pub semaphore_form : RowForm SemaphoreFields SemaphoreConfig
 semaphore_form = record {
@@ -194,9 +184,6 @@ data_queue_form = record {
 abbrev pub MailboxFields : Type 0
 MailboxFields = List ℕ × (ℕ × ℕ)
 
-abbrev pub mailbox_rules : (attributes most : ℕ) → Bool
-mailbox_rules attributes most = nat_le attributes 3 && in_range 1 16 most
-
 -- TA_TPRI is 1, TA_MPRI 2
 abbrev pub mailbox_form : RowForm MailboxFields MailboxConfig
 mailbox_form = record {
@@ -251,10 +238,6 @@ spin_lock_form = record {
 -- name, attributes, exinf, body, period, phase, processor from 1
 abbrev pub CyclicFields : Type 0
 CyclicFields = List ℕ × (ℕ × (ℤ × (ℕ × (ℕ × (ℕ × ℕ)))))
-
-abbrev pub cyclic_numbers : (attributes period phase : ℕ) → Bool
-cyclic_numbers attributes period phase =
-    is_start_bit attributes && in_range 1 1073741824 period && nat_le phase 1073741824
 
 abbrev pub cyclic_rules : RowContext → (attributes body period phase processor : ℕ) → Bool
 cyclic_rules context attributes body period phase processor =

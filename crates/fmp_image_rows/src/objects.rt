@@ -2,7 +2,7 @@
 
 ghost use Rattle.std.specs.Prelude.{◌≡◌, ◌++◌, ◌+◌, ◌<◌, length, OnOk};
 ghost use Rattle.fmp_base.specs.Names.{name_text};
-ghost use Rattle.fmp_image_rows.specs.Rows.{row, order_bit, order_of, semaphore_form, semaphore_rules, flag_form, data_queue_form, mailbox_form, mailbox_rules, message_form, shared_word_form, spin_lock_form};
+ghost use Rattle.fmp_image_rows.specs.Rows.{row, order_bit, order_of, semaphore_form, flag_form, data_queue_form, mailbox_form, message_form, shared_word_form, spin_lock_form};
 ghost use Rattle.fmp_image_parts.specs.Fields.{byte};
 
 use crate::rows::{Row, put_name};
@@ -16,6 +16,7 @@ use fmp_image_parts::fields::{
 };
 use fmp_image_parts::heads::BodyHead;
 use fmp_image_parts::keys::{Key, name_of};
+use fmp_image_rules::{keeps_mailbox_rules, keeps_semaphore_rules};
 use std::alloc::AllocError;
 
 fn order_bit(order: QueueOrder, number: u8) -> u8
@@ -35,12 +36,6 @@ fn order_of(by_priority: bool) -> QueueOrder
     } else {
         QueueOrder::Fifo
     }
-}
-
-fn keeps_semaphore_rules(attributes: u8, initial: u16, most: u16) -> bool
-    ensures { result ≡ semaphore_rules attributes initial most }
-{
-    attributes <= 1 && 1 <= most && initial <= most
 }
 
 impl Row for SemaphoreConfig {
@@ -187,12 +182,6 @@ impl Row for DataQueueConfig {
         put_byte(out, self.capacity)?;
         Ok(())
     }
-}
-
-fn keeps_mailbox_rules(attributes: u8, most: u8) -> bool
-    ensures { result ≡ mailbox_rules attributes most }
-{
-    attributes <= 3 && in_range(1, 16, most as u32)
 }
 
 impl Row for MailboxConfig {

@@ -5,7 +5,7 @@ ghost use Rattle.fmp_base.specs.Names.{name_text};
 ghost use Rattle.fmp_base.specs.Systems.{body_of};
 ghost use Rattle.fmp_image_parts.specs.Fields.{byte};
 ghost use Rattle.fmp_image_parts.specs.Fields.{in_range};
-ghost use Rattle.fmp_image_rows.specs.Rows.{row, is_task_body, is_handler_body, is_start_bit, task_form, task_numbers, cyclic_form, cyclic_numbers, interrupt_form};
+ghost use Rattle.fmp_image_rows.specs.Rows.{row, is_task_body, is_handler_body, task_form, cyclic_form, interrupt_form};
 
 use crate::rows::{Row, put_bit, put_name};
 use fmp_base::{CyclicConfig, Entry, InterruptConfig, TaskConfig};
@@ -15,6 +15,7 @@ use fmp_image_parts::fields::{
 };
 use fmp_image_parts::heads::{BodyHead, BodyKind};
 use fmp_image_parts::keys::{Key, name_of};
+use fmp_image_rules::{keeps_cyclic_numbers, keeps_task_numbers};
 use std::alloc::AllocError;
 
 fn is_task_body(heads: &[BodyHead], body: u8, stack: u32) -> bool
@@ -57,31 +58,10 @@ fn put_processor(out: &mut Vec<u8>, place: u8) -> Result<(), AllocError>
     put_byte(out, place + 1)
 }
 
-fn is_start_bit(attributes: u8) -> bool
-    ensures { result ≡ is_start_bit attributes }
-{
-    attributes == 0 || attributes == 2
-}
-
 fn is_processor(processors: u8, processor: u8) -> bool
     ensures { result ≡ in_range 1 processors processor }
 {
     in_range(1, processors as u32, processor as u32)
-}
-
-fn keeps_task_numbers(attributes: u8, priority: u8, stack: u32, only: u8) -> bool
-    ensures { result ≡ task_numbers attributes priority stack only }
-{
-    is_start_bit(attributes)
-        && in_range(1, 16, priority as u32)
-        && in_range(1, 65536, stack)
-        && only <= 1
-}
-
-fn keeps_cyclic_numbers(attributes: u8, period: u32, phase: u32) -> bool
-    ensures { result ≡ cyclic_numbers attributes period phase }
-{
-    is_start_bit(attributes) && in_range(1, 1_073_741_824, period) && phase <= 1_073_741_824
 }
 
 impl Row for TaskConfig {
