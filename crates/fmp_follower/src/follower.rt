@@ -12,13 +12,11 @@ use fmp_base::{Effect, Event, System};
 use fmp_board::{Board, Seat, Site};
 use fmp_code::Vm;
 use fmp_kernel::Kernel;
+use fmp_printing::{EVENT_ROOM, print_reserved};
 use fmp_replay::kernel_of;
 use fmp_trace::print;
 use std::alloc::{AllocError, Global};
 use std::marker::Model;
-
-/// Room for the lines of any event, in bytes: at most 519 lines of at most 128 bytes.
-const EVENT_ROOM: usize = 66_432;
 
 /// Reads the journal of a board from a seat, and prints it: it waits for nobody. The events that the seat is given run
 /// on a kernel of the follower's own, and their lines are printed as a simulation of them prints them. It is seen by
@@ -75,9 +73,7 @@ fn take<'a>(sys: &System, kernel: &mut Kernel<Vm<'a>>, event: Event, out: &mut V
         Effect::Kept => {}
         Effect::Done => {
             kernel.lines_are_few();
-            if print(sys, kernel.done(), kernel.lines(), out).is_err() {
-                unreachable!();
-            }
+            print_reserved(sys, kernel.done(), kernel.lines(), out);
         }
     }
 }
