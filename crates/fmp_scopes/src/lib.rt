@@ -14,11 +14,12 @@ mod uses;
 
 pub use entries::{EntryUse, check_entries, check_headings};
 pub use extents::{Extent, block_extent, expression_extent};
+pub use fmp_places::places_of_length;
 pub use headings::{Heading, body_place, heading_with};
 pub use lists::append;
 pub use locals::{first_place_of, first_places, is_named_before, number_variables};
 pub use names::{HasName, Meaning, Names, Objects, is_exinf, is_object, meaning_in, place_in};
 pub use numbers::{ObjectNumbers, number_objects};
 pub use offences::{Offence, source_fault};
-pub use places::{places_in, places_of_body, places_of_length};
+pub use places::{places_in, places_of_body};
 pub use uses::block_offence;

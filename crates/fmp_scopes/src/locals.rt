@@ -8,9 +8,10 @@ ghost use Rattle.fmp_scopes.specs.Scopes.{AreNumbers, ArePlaces, IsHeld, locals_
 
 use crate::names::{Names, place_in};
 use crate::numbers::{ObjectNumbers, number_rows};
-use crate::places::{first_place_in, places_of_length};
+use crate::places::first_place_in;
 use fmp_base::Name;
 use fmp_lex::ObjectName;
+use fmp_places::places_of_length;
 use fmp_tasklang::Declaration;
 use std::alloc::{AllocError, Global};
 use std::collections::HashMap;

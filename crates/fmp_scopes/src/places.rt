@@ -1,22 +1,11 @@
 //! The places of the locals of a body: each variable has as many as its declaration says, one after another.
 
-ghost use Rattle.std.specs.Prelude.{◌≡◌, ◌<◌, ◌≤◌, map};
-ghost use Rattle.fmp_tasklang.specs.Layout.{first_place, local_of, places_of, places_at, total_places};
+ghost use Rattle.std.specs.Prelude.{◌≡◌, ◌≤◌, map};
+ghost use Rattle.fmp_tasklang.specs.Layout.{first_place, local_of, places_at, total_places};
 ghost use Rattle.fmp_scopes.specs.Scopes.{locals_with};
 
-use fmp_tasklang::{Declaration, Length};
-
-/// How many places a variable takes, given its length: 1 for a plain variable.
-pub fn places_of_length(length: Option<Length>) -> usize
-    ensures places { result ≡ places_of length }
-    ensures low { result < 2147483648 }
-{
-    match length {
-        None => 1,
-        Some(length) if length.places > 0 => length.places as usize,
-        Some(_) => 0,
-    }
-}
+use fmp_places::places_of_length;
+use fmp_tasklang::Declaration;
 
 /// How many places variables have together.
 #[tactic(auto, using(crate::proofs::Sums::sums))]
