@@ -1,4 +1,3 @@
 mod Arms
 mod BreakLemmas
-mod Emitted
 pub mod Lengths

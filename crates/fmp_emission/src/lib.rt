@@ -3,4 +3,5 @@
 
 mod emission;
 
-pub use emission::{Output, emit_statements, put};
+pub use emission::emit_statements;
+pub use fmp_expressions::{Output, put};
