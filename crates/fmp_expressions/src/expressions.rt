@@ -2,7 +2,7 @@
 //! size of an operand of `&&` and `||` is counted before, so that each jump there is known when it is emitted; nesting
 //! bounds how often an operand is counted.
 
-ghost use Rattle.std.specs.Prelude.{◌≡◌, ◌+◌, ◌<◌, ◌≤◌, ◌++◌, ◌∷◌, map, max, length, OnOk};
+ghost use Rattle.std.specs.Prelude.{◌≡◌, ◌+◌, ◌<◌, ◌≤◌, ◌++◌, ◌∷◌, [], map, max, length, OnOk};
 ghost use Rattle.fmp_tasklang.specs.Scopes.{meaning_of};
 ghost use Rattle.fmp_tasklang.specs.Values.{array_places};
 ghost use Rattle.fmp_tasklang.specs.Views.{expression_view, link_view};
