@@ -1,5 +1,5 @@
 -- Kernels along a path: what is kept of them where the path changes.
-use Rattle.std.proofs.Common.{◌≡◌, ℕ, zero, suc, ◌+◌, ◌<◌, ◌≤◌, List, [], ◌∷◌, ◌++◌, get_or, length, slice_set, take, ap, ◌∙◌, subst, sym, arith}
+use Rattle.std.proofs.Common.{◌≡◌, ℕ, zero, suc, ◌+◌, ◌*◌, ◌/◌, ◌%◌, ◌<◌, ◌≤◌, List, [], ◌∷◌, ◌++◌, get_or, length, slice_set, take, ap, ◌∙◌, subst, sym, arith}
 use Rattle.std.proofs.Math.ListN.{get_or-append, length-set}
 use Rattle.std.proofs.Math.Logic.{⊎_elim}
 use Rattle.std.proofs.Math.Seq.{get_or-append_seam}
@@ -60,7 +60,8 @@ module _ (i : ImageTables) (n : ℕ) where
   over_one k0 d zero o lt = o
   over_one k0 d (suc k) o lt = absurd (omega arith)
 
-  each_one : (k0 d : Kernels) (k : ℕ) → IsFollowed i n [] k0 → k ≤ 0 → IsFollowed i n (take k []) (get_or (k0 ∷ []) k d)
+  each_one : (k0 d : Kernels) (k : ℕ) → IsFollowed i n [] k0 → 8 * k ≤ 0
+      → IsFollowed i n (take (8 * k) []) (get_or (k0 ∷ []) k d)
   each_one k0 d zero f le = f
   each_one k0 d (suc k) f le = absurd (omega arith)
 
@@ -94,7 +95,7 @@ module _ (i : ImageTables) (n : ℕ) where
         over = λ k d lt. over_more rungs new d k o r.over (omega (arith, more));
         long = omega (arith, more, r.long);
         each = λ k d le.
-            subst (λ (x : Kernels). IsFollowed i n (take k steps) x)
+            subst (λ (x : Kernels). IsFollowed i n (take (8 * k) steps) x)
             (sym (get_or-append rungs (new ∷ []) d k (omega (arith, r.long)))) (r.each k d le);
       }
 
@@ -107,8 +108,8 @@ module _ (i : ImageTables) (n : ℕ) where
         over = r.over;
         long = omega (arith, few, r.long);
         each = λ k d le.
-            let k_low : k ≤ m = omega (arith, few) in
-            subst (λ (es : List Event). IsFollowed i n es (get_or rungs k d)) (sym (take-take k m steps k_low))
+            let k_low : 8 * k ≤ m = omega (arith, few) in
+            subst (λ (es : List Event). IsFollowed i n es (get_or rungs k d)) (sym (take-take (8 * k) m steps k_low))
             (r.each k d (omega arith));
       }
 
@@ -123,58 +124,72 @@ module _ (i : ImageTables) (n : ℕ) where
       (λ other. subst (λ (x : Kernels). IsOver i n x) (sym (get_or-set_other rungs at k top d other.1)) (each k d lt))
       (eqb_tells k at)
 
-  each_kept : (rungs : List Kernels) (steps : List Event) (e : Event) (top d : Kernels) (k : ℕ)
-      → AreRungs i n rungs steps → length steps + 1 < length rungs → IsFollowed i n (steps ++ e ∷ []) top
-      → k ≤ length steps + 1
-      → IsFollowed i n (take k (steps ++ e ∷ [])) (get_or (slice_set rungs (length steps + 1) top) k d)
-  each_kept rungs steps e top d k r there f le =
+  each_kept : (rungs : List Kernels) (steps : List Event) (e : Event) (at : ℕ) (top d : Kernels) (k : ℕ)
+      → AreRungs i n rungs steps → at < length rungs → 8 * at ≡ length steps + 1 → IsFollowed i n (steps ++ e ∷ []) top
+      → 8 * k ≤ length steps + 1
+      → IsFollowed i n (take (8 * k) (steps ++ e ∷ [])) (get_or (slice_set rungs at top) k d)
+  each_kept rungs steps e at top d k r there eighth f le =
       let more : length (steps ++ e ∷ []) ≡ length steps + 1 = length-append steps (e ∷ []) in
       ⊎_elim
-      (λ same. subst (λ (m : ℕ). IsFollowed i n (take m (steps ++ e ∷ []))
-      (get_or (slice_set rungs (length steps + 1) top) m d)) (sym same.1)
-      (subst (λ (x : Kernels). IsFollowed i n (take (length steps + 1) (steps ++ e ∷ [])) x)
-      (sym (get_or-set_same rungs (length steps + 1) top d there))
+      (λ same. subst (λ (m : ℕ). IsFollowed i n (take (8 * m) (steps ++ e ∷ [])) (get_or (slice_set rungs at top) m d))
+      (sym same.1)
+      (subst (λ (x : Kernels). IsFollowed i n (take (8 * at) (steps ++ e ∷ [])) x)
+      (sym (get_or-set_same rungs at top d there))
       (subst (λ (es : List Event). IsFollowed i n es top)
-      (sym (take_all (length steps + 1) (steps ++ e ∷ []) (omega (arith, more)))) f)))
+      (sym (take_all (8 * at) (steps ++ e ∷ []) (omega (arith, more, eighth)))) f)))
       (λ other.
       let apart = other.1 in
-      let low : k ≤ length steps = omega arith in
-      subst (λ (x : Kernels). IsFollowed i n (take k (steps ++ e ∷ [])) x)
-      (sym (get_or-set_other rungs (length steps + 1) k top d apart))
-      (subst (λ (es : List Event). IsFollowed i n es (get_or rungs k d)) (sym (take-append-le k steps (e ∷ []) low))
-      (r.each k d low)))
-      (eqb_tells k (length steps + 1))
+      let low : 8 * k ≤ length steps = omega (arith, eighth, apart) in
+      subst (λ (x : Kernels). IsFollowed i n (take (8 * k) (steps ++ e ∷ [])) x)
+      (sym (get_or-set_other rungs at k top d apart))
+      (subst (λ (es : List Event). IsFollowed i n es (get_or rungs k d))
+      (sym (take-append-le (8 * k) steps (e ∷ []) low)) (r.each k d low)))
+      (eqb_tells k at)
 
-  pub rungs_kept : (rungs : List Kernels) (steps : List Event) (e : Event) (top : Kernels) → AreRungs i n rungs steps
-      → length steps + 1 < length rungs → IsFollowed i n (steps ++ e ∷ []) top
-      → AreRungs i n (slice_set rungs (length steps + 1) top) (steps ++ e ∷ [])
-  rungs_kept rungs steps e top r there f =
+  pub rungs_kept : (rungs : List Kernels) (steps : List Event) (e : Event) (at : ℕ) (top : Kernels)
+      → AreRungs i n rungs steps → at < length rungs → 8 * at ≡ length steps + 1 → IsFollowed i n (steps ++ e ∷ []) top
+      → AreRungs i n (slice_set rungs at top) (steps ++ e ∷ [])
+  rungs_kept rungs steps e at top r there eighth f =
       let more : length (steps ++ e ∷ []) ≡ length steps + 1 = length-append steps (e ∷ []) in
-      let long : length (slice_set rungs (length steps + 1) top) ≡ length rungs =
-      length-set rungs (length steps + 1) top in
+      let long : length (slice_set rungs at top) ≡ length rungs = length-set rungs at top in
       record {
-        over = λ k d lt. over_kept rungs (length steps + 1) top d k there (over_after (steps ++ e ∷ []) top f) r.over
+        over = λ k d lt. over_kept rungs at top d k there (over_after (steps ++ e ∷ []) top f) r.over
             (omega (arith, long));
-        long = omega (arith, more, long);
-        each = λ k d le. each_kept rungs steps e top d k r there f (omega (arith, more));
+        long = omega (arith, more, long, eighth);
+        each = λ k d le. each_kept rungs steps e at top d k r there eighth f (omega (arith, more));
       }
+
+  -- one more event, after which no kernel is kept
+  pub rungs_between : (rungs : List Kernels) (steps more : List Event) (e : Event) → AreRungs i n rungs steps
+      → (((length steps + 1) % 8 ≡ 0) → ⊥) → more ≡ steps ++ e ∷ [] → AreRungs i n rungs more
+  rungs_between rungs steps more e r between h =
+      let long : length (steps ++ e ∷ []) ≡ length steps + 1 = length-append steps (e ∷ []) in
+      let kept : AreRungs i n rungs (steps ++ e ∷ []) =
+      record {
+        over = r.over;
+        long = omega (arith, long, r.long, between);
+        each = λ k d le.
+            let low : 8 * k ≤ length steps = omega (arith, long, between) in
+            subst (λ (es : List Event). IsFollowed i n es (get_or rungs k d))
+            (sym (take-append-le (8 * k) steps (e ∷ []) low)) (r.each k d low);
+      } in
+      subst (λ (es : List Event). AreRungs i n rungs es) (sym h) kept
 
   -- the same with what is equal to these
   pub rungs_put : (rungs : List Kernels) (steps steps0 more : List Event) (e : Event) (top top0 x : Kernels) (place : ℕ)
-      → AreRungs i n rungs steps → length steps + 1 < length rungs → steps ≡ steps0 → top ≡ top0
-      → IsFollowed i n (steps0 ++ e ∷ []) top0 → place ≡ length steps → x ≡ top → more ≡ steps ++ e ∷ []
-      → AreRungs i n (slice_set rungs (place + 1) x) more
-  rungs_put rungs steps steps0 more e top top0 x place r room hs ht f hp hx hm =
+      → AreRungs i n rungs steps → place < length rungs → steps ≡ steps0 → top ≡ top0
+      → IsFollowed i n (steps0 ++ e ∷ []) top0 → 8 * place ≡ length steps + 1 → x ≡ top → more ≡ steps ++ e ∷ []
+      → AreRungs i n (slice_set rungs place x) more
+  rungs_put rungs steps steps0 more e top top0 x place r room hs ht f eighth hx hm =
       let f1 : IsFollowed i n (steps ++ e ∷ []) top0 =
       subst (λ (es : List Event). IsFollowed i n (es ++ e ∷ []) top0) (sym hs) f in
       let f2 : IsFollowed i n (steps ++ e ∷ []) top =
       subst (λ (k : Kernels). IsFollowed i n (steps ++ e ∷ []) k) (sym ht) f1 in
-      let k1 : AreRungs i n (slice_set rungs (place + 1) top) (steps ++ e ∷ []) =
-      subst (λ (m : ℕ). AreRungs i n (slice_set rungs (m + 1) top) (steps ++ e ∷ [])) (sym hp)
-      (rungs_kept rungs steps e top r room f2) in
-      let k2 : AreRungs i n (slice_set rungs (place + 1) x) (steps ++ e ∷ []) =
-      subst (λ (k : Kernels). AreRungs i n (slice_set rungs (place + 1) k) (steps ++ e ∷ [])) (sym hx) k1 in
-      subst (λ (es : List Event). AreRungs i n (slice_set rungs (place + 1) x) es) (sym hm) k2
+      let k1 : AreRungs i n (slice_set rungs place top) (steps ++ e ∷ []) =
+      rungs_kept rungs steps e place top r room eighth f2 in
+      let k2 : AreRungs i n (slice_set rungs place x) (steps ++ e ∷ []) =
+      subst (λ (k : Kernels). AreRungs i n (slice_set rungs place k) (steps ++ e ∷ [])) (sym hx) k1 in
+      subst (λ (es : List Event). AreRungs i n (slice_set rungs place x) es) (sym hm) k2
 
   pub rungs_cut : (rungs : List Kernels) (steps cut : List Event) (m : ℕ) → AreRungs i n rungs steps → m ≤ length steps
       → cut ≡ take m steps → AreRungs i n rungs cut
@@ -183,17 +198,18 @@ module _ (i : ImageTables) (n : ℕ) where
 
   -- a kernel that is put back into the state of a rung
   pub over_rung : (rungs : List Kernels) (steps : List Event) (m : ℕ) (x k : Kernels) → AreRungs i n rungs steps
-      → m ≤ length steps → x ≡ get_or rungs m x → k ≡ x → IsOver i n k
+      → 8 * m ≤ length steps → x ≡ get_or rungs m x → k ≡ x → IsOver i n k
   over_rung rungs steps m x k r low there same =
       let o : IsOver i n (get_or rungs m x) = r.over m x (omega (arith, r.long)) in
       subst (λ (y : Kernels). IsOver i n y) (sym (same ∙ there)) o
 
   -- and the events that led to it
   pub followed_rung : (rungs : List Kernels) (steps es : List Event) (m : ℕ) (x k : Kernels) → AreRungs i n rungs steps
-      → m ≤ length steps → x ≡ get_or rungs m x → k ≡ x → take m steps ≡ take m es → IsFollowed i n (take m es) k
+      → 8 * m ≤ length steps → x ≡ get_or rungs m x → k ≡ x → take (8 * m) steps ≡ take (8 * m) es
+      → IsFollowed i n (take (8 * m) es) k
   followed_rung rungs steps es m x k r low there same alike =
       subst (λ (xs : List Event). IsFollowed i n xs k) alike
-      (subst (λ (y : Kernels). IsFollowed i n (take m steps) y) (sym (same ∙ there)) (r.each m x low))
+      (subst (λ (y : Kernels). IsFollowed i n (take (8 * m) steps) y) (sym (same ∙ there)) (r.each m x low))
 
 -- the first events of a list that begins with others are those
 pub begins_here : (es start : List Event) (at : ℕ) → BeginsWith es start → length start ≡ at → start ≡ take at es
@@ -216,3 +232,8 @@ begins_next es start new at d h lt e =
 pub begins_common : (a b : List Event) (m : ℕ) → take m a ≡ take m b → m ≤ length a → BeginsWith b (take m a)
 begins_common a b m h low =
     subst (λ (x : ℕ). take m a ≡ take x b) (sym (length-take-le m a low)) h
+
+-- and fewer of it
+pub alike_fewer : (a b : List Event) (m most : ℕ) → take most a ≡ take most b → m ≤ most → take m a ≡ take m b
+alike_fewer a b m most h low =
+    sym (take-take m most a low) ∙ ap (λ (xs : List Event). take m xs) h ∙ take-take m most b low

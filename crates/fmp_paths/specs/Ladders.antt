@@ -1,5 +1,5 @@
 -- Kernels that are kept along a path.
-use Rattle.std.specs.Prelude.{ℕ, ◌≡◌, ◌<◌, ◌≤◌, List, [], get_or, length, take}
+use Rattle.std.specs.Prelude.{ℕ, ◌≡◌, ◌*◌, ◌<◌, ◌≤◌, List, [], get_or, length, take}
 use Rattle.fmp_base.specs.declared.events.Event.{Event}
 use Rattle.fmp_paths.specs.declared.ladder.Ladder.{Ladder}
 use Rattle.fmp_paths.specs.Followed.{IsFollowed}
@@ -14,14 +14,14 @@ pub record IsOver (i : ImageTables) (n : ℕ) (k : KernelView (List BodyTables) 
   pub bound : k.bound ≡ n
   pub system : k.system ≡ i.system
 
--- each kernel is one of the image, and the first of them have taken the first of these events
+-- each kernel is one of the image, and the first of them have taken none of these events, the first 8, the first 16, ..
 pub record AreRungs (i : ImageTables) (n : ℕ) (rungs : List (KernelView (List BodyTables) MachineContext))
     (steps : List Event) : Type 0 where
   pub over : (k : ℕ) (d : KernelView (List BodyTables) MachineContext) → k < length rungs
       → IsOver i n (get_or rungs k d)
-  pub long : length steps < length rungs
-  pub each : (k : ℕ) (d : KernelView (List BodyTables) MachineContext) → k ≤ length steps
-      → IsFollowed i n (take k steps) (get_or rungs k d)
+  pub long : length steps < 8 * length rungs
+  pub each : (k : ℕ) (d : KernelView (List BodyTables) MachineContext) → 8 * k ≤ length steps
+      → IsFollowed i n (take (8 * k) steps) (get_or rungs k d)
 
 -- the kernels of a ladder
 pub record IsLadder (i : ImageTables) (n : ℕ) (l : Ladder) : Type 0 where

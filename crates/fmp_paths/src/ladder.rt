@@ -1,5 +1,5 @@
 //! Kernels that are kept along a path, so that a state is reached again by few events.
-ghost use Rattle.std.specs.Prelude.{◌≡◌, ◌+◌, ◌<◌, ◌≤◌, ◌^◌, ◌∷◌, ◌++◌, [], IfOk, IsTrue, OnOk, length, take, true};
+ghost use Rattle.std.specs.Prelude.{◌≡◌, ◌+◌, ◌*◌, ◌%◌, ◌<◌, ◌≤◌, ◌^◌, ◌∷◌, ◌++◌, [], IfOk, IsTrue, OnOk, length, take, true};
 ghost use Rattle.fmp_paths.specs.Followed.{IsFollowed};
 ghost use Rattle.fmp_paths.specs.Ladders.{IsBare, IsClimbing, IsLadder, IsOver};
 
@@ -14,8 +14,12 @@ use std::alloc::{AllocError, Global};
 /// The most kernels that are kept.
 const RUNGS_MOST: usize = 1024;
 
-/// The kernels along the path to the state that was reached last: one after setup, and one after each of its first
-/// events but the last. The next path mostly begins with the same events, and goes on from where the two part.
+/// A kernel is kept after each multiple of this many events.
+const STRIDE: usize = 8;
+
+/// The kernels along the path to the state that was reached last: one after setup, and one after each eighth of its
+/// events but the last. The next path mostly begins with the same events, and goes on from the last kernel before the
+/// two part.
 #[derive(Drop)]
 pub struct Ladder<'a> {
     rungs: Vec<Kernel<Vm<'a>>>,
@@ -95,17 +99,42 @@ impl<'a> Ladder<'a> {
         requires high { n ≤ 2 ^ 48 }
         requires ladder { IsLadder image.now n self.old }
         ensures ladder { OnOk result (IsLadder image.now n self.new) }
-        ensures room { OnOk result (length self.new.steps.items + 1 < length self.new.rungs.items) }
+        ensures room { OnOk result (length self.new.steps.items + 1 < 8 * length self.new.rungs.items) }
         ensures steps { self.new.steps.items ≡ self.old.steps.items }
         ensures top { self.new.top ≡ self.old.top }
     {
-        if self.steps.len() + 1 >= self.rungs.len() {
+        if (self.steps.len() + 1) / STRIDE >= self.rungs.len() {
             self.rungs.push(kernel_of(alloc, image, n)?)?;
         }
         Ok(())
     }
 
-    /// Keeps the kernel in the state that one more event has reached. `AllocError` if memory runs out.
+    /// Keeps the kernel in the state that one more event has reached, an eighth one. `AllocError` if memory runs out.
+    fn keep_rung(
+        &mut self,
+        alloc: Global,
+        image: &'a Image,
+        n: u64,
+        e: Event,
+    ) -> Result<(), AllocError>
+        requires low { 1 ≤ n }
+        requires high { n ≤ 2 ^ 48 }
+        requires ladder { IsLadder image.now n self.old }
+        requires eighth { (length self.old.steps.items + 1) % 8 ≡ 0 }
+        requires followed { IsFollowed image.now n (self.old.steps.items ++ e ∷ []) self.old.top }
+        ensures ladder { OnOk result (IsLadder image.now n self.new) }
+        ensures steps { OnOk result (self.new.steps.items ≡ self.old.steps.items ++ e ∷ []) }
+        ensures top { self.new.top ≡ self.old.top }
+    {
+        self.make_rung(alloc, image, n)?;
+        let place = (self.steps.len() + 1) / STRIDE;
+        self.rungs[place].put_back(&self.top);
+        self.steps.push(e)?;
+        Ok(())
+    }
+
+    /// Keeps one more event, and the kernel in the state that it has reached if it is an eighth one. `AllocError` if
+    /// memory runs out.
     fn keep(&mut self, alloc: Global, image: &'a Image, n: u64, e: Event) -> Result<(), AllocError>
         requires low { 1 ≤ n }
         requires high { n ≤ 2 ^ 48 }
@@ -115,22 +144,24 @@ impl<'a> Ladder<'a> {
         ensures steps { OnOk result (self.new.steps.items ≡ self.old.steps.items ++ e ∷ []) }
         ensures top { self.new.top ≡ self.old.top }
     {
-        self.make_rung(alloc, image, n)?;
-        let place = self.steps.len() + 1;
-        self.rungs[place].put_back(&self.top);
+        if (self.steps.len() + 1) % STRIDE == 0 {
+            return self.keep_rung(alloc, image, n, e);
+        }
         self.steps.push(e)?;
         Ok(())
     }
 
-    /// Puts the top back to where the last path and the next one part. Gives how many events lead there.
+    /// Puts the top back to the last kernel before the last path and the next one part. Gives how many events lead
+    /// there.
     fn part(&mut self, image: &Image, n: u64, steps: &[Event]) -> usize
         requires { IsLadder image.now n self.old }
         ensures climbing { IsClimbing image.now n steps.now result self.new }
         ensures within { result ≤ length steps.now }
     {
-        let first = common_count(self.steps.as_slice(), steps);
+        let place = common_count(self.steps.as_slice(), steps) / STRIDE;
+        let first = STRIDE * place;
         self.steps.truncate(first);
-        self.top.put_back(&self.rungs[first]);
+        self.top.put_back(&self.rungs[place]);
         first
     }
 
@@ -164,7 +195,7 @@ impl<'a> Ladder<'a> {
         ensures { OnOk result (IsClimbing image.now n steps.now (i + 1) self.new) }
     {
         let next = i + 1;
-        if next >= steps.len() || next >= RUNGS_MOST || self.steps.len() != i {
+        if next >= steps.len() || next / STRIDE >= RUNGS_MOST || self.steps.len() != i {
             return Ok(());
         }
         self.keep(alloc, image, n, steps[i])?;
