@@ -1,7 +1,6 @@
 //! Exploring every schedule of an image.
 ghost use Rattle.std.specs.Prelude.{◌≡◌, ◌≤◌, ◌^◌, [], All, IfOk, IsTrue, true};
 ghost use Rattle.fmp_instructions.specs.Machine.{code_meaning};
-ghost use Rattle.fmp_replay.specs.Replays.{kernel_after};
 ghost use Rattle.fmp_schedules.specs.Schedules.{Holds, HoldsThere};
 ghost use Rattle.fmp_findings.specs.Findings.{IsFound};
 ghost use Rattle.fmp_question.specs.Forbidden.{forbids};
@@ -15,13 +14,10 @@ use crate::stuck::suspected;
 use crate::subject::{Subject, live_in};
 use crate::survey::Survey;
 use crate::values::Variety;
-use fmp_code::Vm;
 use fmp_coverage::Coverage;
 use fmp_findings::Finding;
 use fmp_image_bytes::Image;
-use fmp_kernel::Kernel;
 use fmp_question::Question;
-use fmp_replay::kernel_of;
 use std::alloc::{AllocError, Global};
 
 /// What a search came to.
@@ -156,26 +152,13 @@ fn make_report(
     })
 }
 
-/// A search over a kernel of an image that was just set up.
-fn begun_on(
-    alloc: Global,
-    kernel: &mut Kernel<Vm<'_>>,
-    subject: &Subject<'_>,
-) -> Result<Survey, AllocError>
-    requires { kernel.old ≡ kernel_after subject.now.image.now subject.now.n [] }
-    ensures { IfOk result (IsBegun subject.now.image.now subject.now.n subject.now.question.now) }
-{
-    let mut survey = Survey::new(alloc, subject, kernel)?;
-    survey.begin(alloc, subject, kernel)?;
-    Ok(survey)
-}
-
 /// A search that has seen the state in which it begins.
 pub fn begun(alloc: Global, subject: &Subject<'_>) -> Result<Survey, AllocError>
     ensures { IfOk result (IsBegun subject.now.image.now subject.now.n subject.now.question.now) }
 {
-    let mut kernel = kernel_of(alloc, subject.image, subject.n)?;
-    begun_on(alloc, &mut kernel, subject)
+    let mut survey = Survey::new(alloc, subject)?;
+    survey.begin(alloc, subject)?;
+    Ok(survey)
 }
 
 /// Why a search ended that has now been made.

@@ -59,15 +59,26 @@ fn is_of_kind(found: &Finding, sight: Sight, site: Option<Site>) -> bool {
 }
 
 impl Notes {
-    /// Nothing is noted yet, in a system of this coverage.
-    pub fn new(alloc: Global, coverage: Coverage) -> Notes {
+    /// Nothing is noted yet, and nothing can be covered.
+    pub fn new(alloc: Global) -> Notes {
         Notes {
             candidates: Vec::new(alloc),
-            coverage,
+            coverage: Coverage::nothing(alloc),
             sites: Vec::new(alloc),
             events: 0,
             waits: false,
         }
+    }
+
+    /// Makes room for what is done in the system of a kernel. `AllocError` if memory runs out.
+    pub fn cover(
+        &mut self,
+        alloc: Global,
+        subject: &Subject<'_>,
+        kernel: &Kernel<Vm<'_>>,
+    ) -> Result<(), AllocError> {
+        self.coverage = Coverage::new(alloc, kernel.tables(), subject.image.code())?;
+        Ok(())
     }
 
     /// The candidates, which are forgotten.

@@ -3,7 +3,7 @@ ghost use Rattle.std.specs.Prelude.{◌≡◌, ◌≢◌, ◌+◌, ◌<◌, ◌�
 ghost use Rattle.fmp_base.specs.Steps.{Nothing};
 ghost use Rattle.fmp_replay.specs.Replays.{kernel_after, reaction};
 ghost use Rattle.fmp_paths.specs.Followed.{IsFollowed};
-ghost use Rattle.fmp_paths.specs.Ladders.{IsBare, IsLadder, IsOver};
+ghost use Rattle.fmp_paths.specs.Ladders.{IsLadder, IsOver};
 ghost use Rattle.fmp_explore.specs.Searching.{
   AreMarks,
   Grows,
@@ -32,6 +32,7 @@ use fmp_findings::Sight;
 use fmp_kernel::Kernel;
 use fmp_paths::Ladder;
 use fmp_question::{Question, Ticks, stands_still};
+use fmp_replay::kernel_of;
 use fmp_seen::Link;
 use std::alloc::{AllocError, Global};
 
@@ -327,21 +328,24 @@ impl Survey {
         self.look_if_idle(alloc, subject, from, steps, marks)
     }
 
-    /// Examines a state.
+    /// Examines a state, with the kernels of a ladder and one on which events are tried.
     fn examine<'a>(
         &mut self,
         alloc: Global,
         subject: &Subject<'a>,
         ladder: &mut Ladder<'a>,
+        work: &mut Kernel<Vm<'a>>,
         state: u32,
     ) -> Result<(), AllocError>
         requires survey { IsSurvey subject.now.image.now subject.now.n subject.now.question.now self.old }
         requires at { IsAt subject.now.question.now self.old.seen.links state
             (path_to subject.now.question.now self.old.seen.links state) }
         requires ladder { IsLadder subject.now.image.now subject.now.n ladder.old }
+        requires work { IsOver subject.now.image.now subject.now.n work.old }
         ensures examined { OnOk result (HasExamined subject.now.image.now subject.now.n subject.now.question.now
             self.old self.new (path_to subject.now.question.now self.old.seen.links state)) }
         ensures ladder { OnOk result (IsLadder subject.now.image.now subject.now.n ladder.new) }
+        ensures work { IsOver subject.now.image.now subject.now.n work.new }
     {
         let steps = self.steps_to(alloc, subject.question, state)?;
         if !ladder.reach(alloc, subject.image, subject.n, &steps)? {
@@ -349,7 +353,7 @@ impl Survey {
             self.edges.lose(alloc);
             return Ok(());
         }
-        self.examine_on(alloc, subject, &ladder.top, &mut ladder.work, state, &steps)
+        self.examine_on(alloc, subject, &ladder.top, work, state, &steps)
     }
 
     /// Why the search ends before the state at a place, if it does.
@@ -388,16 +392,19 @@ impl Survey {
         self.seen.len()
     }
 
-    /// The same, with a ladder.
+    /// Examines the states in order until none is left, or the search ends, with the kernels of a ladder and one on
+    /// which events are tried.
     fn examine_all<'a, W: Watcher>(
         &mut self,
         alloc: Global,
         subject: &Subject<'a>,
         ladder: &mut Ladder<'a>,
+        work: &mut Kernel<Vm<'a>>,
         watcher: &mut W,
     ) -> Result<Ending, AllocError>
         requires begun { IsBegun subject.now.image.now subject.now.n subject.now.question.now self.old }
         requires ladder { IsLadder subject.now.image.now subject.now.n ladder.old }
+        requires work { IsOver subject.now.image.now subject.now.n work.old }
         ensures { IfOk result (HasEnded subject.now.image.now subject.now.n subject.now.question.now self.new) }
     {
         let mut told = TOLD_FIRST / 2;
@@ -408,13 +415,13 @@ impl Survey {
             if let Some(ending) = self.ending_before(subject, link) {
                 return Ok(ending);
             }
-            self.examine(alloc, subject, ladder, i)?;
+            self.examine(alloc, subject, ladder, work, i)?;
             told = self.tell(watcher, told, i as usize + 1);
         }
         Ok(Ending::States)
     }
 
-    /// The same, with a ladder that keeps no kernel yet.
+    /// The same, with a kernel of its own on which events are tried.
     #[tactic(none)]
     fn run_on<'a, W: Watcher>(
         &mut self,
@@ -424,14 +431,14 @@ impl Survey {
         watcher: &mut W,
     ) -> Result<Ending, AllocError>
         requires begun { IsBegun subject.now.image.now subject.now.n subject.now.question.now self.old }
-        requires bare { IsBare subject.now.image.now subject.now.n ladder.old }
+        requires ladder { IsLadder subject.now.image.now subject.now.n ladder.old }
         ensures { IfOk result (HasEnded subject.now.image.now subject.now.n subject.now.question.now self.new) }
     {
-        ladder.begin(alloc, subject.image, subject.n)?;
-        self.examine_all(alloc, subject, ladder, watcher)
+        let mut work = kernel_of(alloc, subject.image, subject.n)?;
+        self.examine_all(alloc, subject, ladder, &mut work, watcher)
     }
 
-    /// Examines the states in order until none is left, or the search ends. `AllocError` if memory runs out.
+    /// The same, with a ladder of its own. `AllocError` if memory runs out.
     #[tactic(none)]
     pub fn run<W: Watcher>(
         &mut self,

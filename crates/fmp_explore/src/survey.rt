@@ -25,6 +25,7 @@ use fmp_findings::{Finding, Sight};
 use fmp_kernel::Kernel;
 use fmp_paths::follow;
 use fmp_question::{Question, Site, interrupt_count, is_endless};
+use fmp_replay::kernel_of;
 use fmp_schedules::Section;
 use fmp_seen::{Entry, Link, Seen};
 use fmp_tries::tries_of;
@@ -47,36 +48,19 @@ pub struct Survey {
 
 impl Survey {
     /// A search with no state yet. `AllocError` if memory runs out.
-    pub fn new(
-        alloc: Global,
-        subject: &Subject<'_>,
-        kernel: &Kernel<Vm<'_>>,
-    ) -> Result<Survey, AllocError>
+    pub fn new(alloc: Global, subject: &Subject<'_>) -> Result<Survey, AllocError>
         ensures { IfOk result (IsFresh subject.now.image.now subject.now.question.now) }
     {
-        let edges = Edges::new(alloc, kernel.tables().task_count());
-        let coverage = Coverage::new(alloc, kernel.tables(), subject.image.code())?;
-        Survey::with_notes(alloc, subject, edges, Notes::new(alloc, coverage))
-    }
-
-    /// The same, with these edges and notes. `AllocError` if memory runs out.
-    fn with_notes(
-        alloc: Global,
-        subject: &Subject<'_>,
-        edges: Edges,
-        notes: Notes,
-    ) -> Result<Survey, AllocError>
-        ensures { IfOk result (IsFresh subject.now.image.now subject.now.question.now) }
-    {
-        let tries = tries_of(alloc, subject.image.system())?;
+        let sys = subject.image.system();
+        let tries = tries_of(alloc, sys)?;
         let seen = Seen::new(alloc, subject.question.states)?;
         let rows = Rows::new(alloc, subject)?;
         Ok(Survey {
             rows,
             tries,
             seen,
-            notes,
-            edges,
+            notes: Notes::new(alloc),
+            edges: Edges::new(alloc, sys.tasks.len()),
             full: false,
             sure: true,
         })
@@ -269,8 +253,9 @@ impl Survey {
         self.keep_first(alloc, subject, kernel, sections)
     }
 
-    /// Keeps the state after the events behind which the search begins. `AllocError` if memory runs out.
-    pub fn begin(
+    /// Keeps the state after the events behind which the search begins, on a kernel that was just set up. `AllocError`
+    /// if memory runs out.
+    fn begin_on(
         &mut self,
         alloc: Global,
         subject: &Subject<'_>,
@@ -280,10 +265,20 @@ impl Survey {
         requires kernel { kernel.old ≡ kernel_after subject.now.image.now subject.now.n [] }
         ensures { OnOk result (IsBegun subject.now.image.now subject.now.n subject.now.question.now self.new) }
     {
+        self.notes.cover(alloc, subject, kernel)?;
         self.note_setup(alloc, subject, kernel)?;
         let sections = sections_after(alloc, &subject.question.sections, kernel.lines())?;
         self.rows.begin(kernel, &subject.live, &sections)?;
         self.begin_behind(alloc, subject, kernel, sections)
+    }
+
+    /// Keeps the state after the events behind which the search begins. `AllocError` if memory runs out.
+    pub fn begin(&mut self, alloc: Global, subject: &Subject<'_>) -> Result<(), AllocError>
+        requires { IsFresh subject.now.image.now subject.now.question.now self.old }
+        ensures { OnOk result (IsBegun subject.now.image.now subject.now.n subject.now.question.now self.new) }
+    {
+        let mut kernel = kernel_of(alloc, subject.image, subject.n)?;
+        self.begin_on(alloc, subject, &mut kernel)
     }
 
     /// Keeps the state of a kernel to which an attempt led, whose event kept a place or was done, with its sections.

@@ -1,5 +1,5 @@
 -- Kernels that are kept along a path.
-use Rattle.std.specs.Prelude.{ℕ, ◌≡◌, ◌*◌, ◌<◌, ◌≤◌, List, [], get_or, length, take}
+use Rattle.std.specs.Prelude.{ℕ, ◌≡◌, ◌*◌, ◌<◌, ◌≤◌, List, get_or, length, take}
 use Rattle.fmp_base.specs.declared.events.Event.{Event}
 use Rattle.fmp_paths.specs.declared.ladder.Ladder.{Ladder}
 use Rattle.fmp_paths.specs.Followed.{IsFollowed}
@@ -27,14 +27,6 @@ pub record AreRungs (i : ImageTables) (n : ℕ) (rungs : List (KernelView (List 
 pub record IsLadder (i : ImageTables) (n : ℕ) (l : Ladder) : Type 0 where
   pub rungs : AreRungs i n l.rungs.items l.steps.items
   pub top : IsOver i n l.top
-  pub work : IsOver i n l.work
-
--- a ladder that keeps no kernel yet
-pub record IsBare (i : ImageTables) (n : ℕ) (l : Ladder) : Type 0 where
-  pub rungs : l.rungs.items ≡ []
-  pub steps : l.steps.items ≡ []
-  pub top : IsOver i n l.top
-  pub work : IsOver i n l.work
 
 -- a list begins with others
 abbrev pub BeginsWith : List Event → List Event → Type 0

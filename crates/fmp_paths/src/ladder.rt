@@ -1,7 +1,7 @@
 //! Kernels that are kept along a path, so that a state is reached again by few events.
 ghost use Rattle.std.specs.Prelude.{◌≡◌, ◌+◌, ◌*◌, ◌%◌, ◌<◌, ◌≤◌, ◌^◌, ◌∷◌, ◌++◌, [], IfOk, IsTrue, OnOk, length, take, true};
 ghost use Rattle.fmp_paths.specs.Followed.{IsFollowed};
-ghost use Rattle.fmp_paths.specs.Ladders.{IsBare, IsClimbing, IsLadder, IsOver};
+ghost use Rattle.fmp_paths.specs.Ladders.{AreRungs, IsClimbing, IsLadder};
 
 use crate::replaying::{TAKEN_MOST, does};
 use fmp_base::Event;
@@ -14,20 +14,18 @@ use std::alloc::{AllocError, Global};
 /// The most kernels that are kept.
 const RUNGS_MOST: usize = 1024;
 
-/// A kernel is kept after each multiple of this many events.
+/// How many events lie between two kernels that are kept.
 const STRIDE: usize = 8;
 
-/// The kernels along the path to the state that was reached last: one after setup, and one after each eighth of its
-/// events but the last. The next path mostly begins with the same events, and goes on from the last kernel before the
-/// two part.
+/// The kernels along the path to the state that was reached last: one after setup, and one after each eighth event that
+/// is not the last. The next path mostly begins with the same events, and goes on from the last kernel that is kept
+/// before the two part.
 #[derive(Drop)]
 pub struct Ladder<'a> {
     rungs: Vec<Kernel<Vm<'a>>>,
     steps: Vec<Event>,
     /// The kernel in the state that was reached last.
     pub top: Kernel<Vm<'a>>,
-    /// A kernel on which events are tried.
-    pub work: Kernel<Vm<'a>>,
 }
 
 /// How many events two lists have in common at the start.
@@ -45,52 +43,34 @@ fn common_count(a: &[Event], b: &[Event]) -> usize
     end
 }
 
+/// The kernel after setup, alone. `AllocError` if memory runs out.
+fn first_rung<'a>(
+    alloc: Global,
+    image: &'a Image,
+    n: u64,
+) -> Result<Vec<Kernel<Vm<'a>>>, AllocError>
+    requires low { 1 ≤ n }
+    requires high { n ≤ 2 ^ 48 }
+    ensures { IfOk result (λ rungs. AreRungs image.now n rungs.items []) }
+{
+    let mut rungs = Vec::new(alloc);
+    rungs.push(kernel_of(alloc, image, n)?)?;
+    Ok(rungs)
+}
+
 impl<'a> Ladder<'a> {
-    /// A ladder over an image, with no kernel kept yet. A stretch of a body takes at most n instructions, 1 to 2^48.
-    /// `AllocError` if memory runs out.
+    /// A ladder over an image, which keeps the kernel after setup. A stretch of a body takes at most n instructions, 1
+    /// to 2^48. `AllocError` if memory runs out.
     #[tactic(none)]
     pub fn new(alloc: Global, image: &'a Image, n: u64) -> Result<Ladder<'a>, AllocError>
         requires low { 1 ≤ n }
         requires high { n ≤ 2 ^ 48 }
-        ensures { IfOk result (IsBare image.now n) }
+        ensures { IfOk result (IsLadder image.now n) }
     {
+        let rungs = first_rung(alloc, image, n)?;
         let top = kernel_of(alloc, image, n)?;
-        Ladder::with_top(alloc, image, n, top)
-    }
-
-    /// The same, with this kernel at the top. `AllocError` if memory runs out.
-    #[tactic(none)]
-    fn with_top(
-        alloc: Global,
-        image: &'a Image,
-        n: u64,
-        top: Kernel<Vm<'a>>,
-    ) -> Result<Ladder<'a>, AllocError>
-        requires low { 1 ≤ n }
-        requires high { n ≤ 2 ^ 48 }
-        requires top { IsOver image.now n top }
-        ensures { IfOk result (IsBare image.now n) }
-    {
-        let work = kernel_of(alloc, image, n)?;
-        let rungs = Vec::new(alloc);
         let steps = Vec::new(alloc);
-        Ok(Ladder {
-            rungs,
-            steps,
-            top,
-            work,
-        })
-    }
-
-    /// Keeps the kernel after setup. `AllocError` if memory runs out.
-    pub fn begin(&mut self, alloc: Global, image: &'a Image, n: u64) -> Result<(), AllocError>
-        requires low { 1 ≤ n }
-        requires high { n ≤ 2 ^ 48 }
-        requires bare { IsBare image.now n self.old }
-        ensures { OnOk result (IsLadder image.now n self.new) }
-    {
-        self.rungs.push(kernel_of(alloc, image, n)?)?;
-        Ok(())
+        Ok(Ladder { rungs, steps, top })
     }
 
     /// Makes a kernel for one more event, if there is none. `AllocError` if memory runs out.
@@ -109,7 +89,7 @@ impl<'a> Ladder<'a> {
         Ok(())
     }
 
-    /// Keeps the kernel in the state that one more event has reached, an eighth one. `AllocError` if memory runs out.
+    /// Keeps an eighth event, and the kernel in the state that it has reached. `AllocError` if memory runs out.
     fn keep_rung(
         &mut self,
         alloc: Global,
@@ -133,7 +113,7 @@ impl<'a> Ladder<'a> {
         Ok(())
     }
 
-    /// Keeps one more event, and the kernel in the state that it has reached if it is an eighth one. `AllocError` if
+    /// Keeps one more event, and if it is an eighth one the kernel in the state that it has reached. `AllocError` if
     /// memory runs out.
     fn keep(&mut self, alloc: Global, image: &'a Image, n: u64, e: Event) -> Result<(), AllocError>
         requires low { 1 ≤ n }
@@ -151,8 +131,8 @@ impl<'a> Ladder<'a> {
         Ok(())
     }
 
-    /// Puts the top back to the last kernel before the last path and the next one part. Gives how many events lead
-    /// there.
+    /// Puts the top back to the last kernel that is kept before the last path and the next one part. Gives how many
+    /// events lead there.
     fn part(&mut self, image: &Image, n: u64, steps: &[Event]) -> usize
         requires { IsLadder image.now n self.old }
         ensures climbing { IsClimbing image.now n steps.now result self.new }

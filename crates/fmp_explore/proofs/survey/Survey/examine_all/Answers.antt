@@ -25,4 +25,5 @@ loop-i-preserved g c =
           (slice_get_within c.loop-i.self.seen.links c.loop-i.i c.in-Some.link (sym c.link.ensures ∙ c.in-Some.is))
           c.in_ok-examine.ensures.examined;
       ladder = c.in_ok-examine.ensures.ladder;
+      work = c.in_ok-examine.ensures.work;
     }

@@ -1,4 +1,4 @@
-use Rattle.fmp_paths.specs.Ladders.{IsLadder}
+use Rattle.fmp_paths.specs.Ladders.{IsLadder, IsOver}
 use Rattle.fmp_explore.specs.Searching.{IsSearching}
 use Rattle.fmp_explore.proofs.survey.Survey.examine_all.Given as goal
 
@@ -7,4 +7,5 @@ invariant-loop-i g l =
     record {
       searching : IsSearching l.subject.image.now l.subject.n l.subject.question.now l.i l.self;
       ladder : IsLadder l.subject.image.now l.subject.n l.ladder;
+      work : IsOver l.subject.image.now l.subject.n l.work;
     }

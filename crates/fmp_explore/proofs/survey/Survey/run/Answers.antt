@@ -13,8 +13,8 @@ returns-in_err-ladder g c = rw ((err_from_is_err_and c.from_residual.result c.fr
 pub run_on-requires-clause-begun : goal.run_on-requires-clause-begun
 run_on-requires-clause-begun g c = c.requires
 
-pub run_on-requires-clause-bare : goal.run_on-requires-clause-bare
-run_on-requires-clause-bare g c = c.in_ok-ladder.ensures
+pub run_on-requires-clause-ladder : goal.run_on-requires-clause-ladder
+run_on-requires-clause-ladder g c = c.in_ok-ladder.ensures
 
 pub returns : goal.returns
 returns g c = c.run_on.ensures

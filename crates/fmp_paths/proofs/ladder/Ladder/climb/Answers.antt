@@ -8,7 +8,6 @@ returns-clause-ladder c =
     record {
       rungs = l.rungs;
       top = over_going c.args.image.now c.args.n _ _ _ l.top c.does.ensures.view;
-      work = l.work;
     }
 
 pub returns-clause-climbing : goal.returns-clause-climbing
@@ -19,7 +18,6 @@ returns-clause-climbing c = λ yes.
           record {
             rungs = l.rungs;
             top = over_going c.args.image.now c.args.n _ _ _ l.top c.does.ensures.view;
-            work = l.work;
           };
       begins = c.requires.climbing.begins;
       followed =

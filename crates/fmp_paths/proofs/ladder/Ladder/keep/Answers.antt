@@ -10,5 +10,4 @@ returns-clause-ladder c =
           rungs_between c.args.image.now c.args.n l.rungs.items l.steps.items _ c.args.e c.requires.ladder.rungs
           (search rules) c.in_ok-push.ensures.items;
       top = c.requires.ladder.top;
-      work = c.requires.ladder.work;
     }

@@ -19,5 +19,4 @@ returns-clause-ladder c =
           made.ladder.rungs there made.steps made.top c.requires.followed eighth c.put_back.ensures
           c.in_ok-push.ensures.items;
       top = made.ladder.top;
-      work = made.ladder.work;
     }

@@ -14,5 +14,4 @@ returns-in_ok-push-clause-ladder c =
           (rungs_more i n l.rungs.items l.steps.items c.in_ok-kernel_of.field-0 c.requires.ladder.rungs
           (over_first i n c.in_ok-kernel_of.field-0 c.in_ok-kernel_of.ensures));
       top = c.requires.ladder.top;
-      work = c.requires.ladder.work;
     }

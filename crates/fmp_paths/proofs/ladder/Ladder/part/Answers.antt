@@ -25,7 +25,6 @@ returns-clause-climbing c =
             top =
                 over_rung i n l.rungs.items l.steps.items place c.index.result.now _ c.requires.rungs low
                 c.index.ensures c.put_back.ensures;
-            work = c.requires.work;
           };
       begins =
           subst (λ (xs : List Event). BeginsWith es xs) (sym c.truncate.ensures.items)

@@ -9,7 +9,7 @@ use Rattle.fmp_explore.proofs.HeldLemmas.{setup_sections}
 use Rattle.fmp_explore.specs.declared.rows.Rows.{Rows}
 use Rattle.fmp_seen.specs.Seen.{SeenStates}
 use Rattle.fmp_explore.proofs.NextLemmas.{clean_setup, fresh_survey}
-use Rattle.fmp_explore.proofs.survey.Survey.begin.Goals as goal
+use Rattle.fmp_explore.proofs.survey.Survey.begin_on.Goals as goal
 
 pub begin_behind-requires-clause-survey : goal.begin_behind-requires-clause-survey
 begin_behind-requires-clause-survey c =
