@@ -562,6 +562,10 @@ claimed() { # claimed NAME CLAIM WORD..: nothing is found in the system of the q
 claimed queue 'no deadlock, no fault: over all lists of events'
 claimed 'what never happens, in order' \
     'never put(99), never E_QOVR, no deadlock, no fault: over all lists of events' --never 'put(99)' --never E_QOVR
+claimed 'a negative value, and a fault, which is one of all' \
+    'never put(-3), never F_IDX, no deadlock, no fault: over all lists of events' --never 'put(-3)' --never F_IDX
+claimed 'a section of which one value is negative' \
+    'alone 1,-2, no deadlock, no fault: over all lists of events' --alone 1,-2
 claimed 'no interrupts' 'no deadlock, no fault: over all lists of events with at most 0 interrupts' --ints 0
 claimed 'one interrupt' 'no deadlock, no fault: over all lists of events with at most 1 interrupt' --ints 1
 # The clock ticks only in the last of the seven states, where both tasks have ended.
@@ -680,6 +684,34 @@ greatest counts: S 1
 END
 shows 'explore: a task that may wait' 0 explore taken.cfg taken.src --rest A
 
+# A call that is not made, a task that is not started, and a semaphore of three that is signalled twice.
+cat > unused.cfg <<'END'
+NUM_PRC(1);
+CLASS(TCL_1) {
+    CRE_TSK(A, { TA_ACT, 0, some, 8, 256, NULL });
+    CRE_TSK(OTHER, { TA_NULL, 0, other, 8, 256, NULL });
+    CRE_SEM(S, { TA_TFIFO, 0, 3 });
+}
+END
+cat > unused.src <<'END'
+task some {
+    if (exinf == 1) {
+        put(1);
+    }
+    sig_sem(S);
+    sig_sem(S);
+}
+task other { put(2); }
+END
+cat > wanted <<'END'
+no deadlock, no fault: over all lists of events
+4 states, 7 events, 3 deep
+calls never made: unused.src:3 unused.src:8
+never run: OTHER
+greatest counts: S 2
+END
+shows 'explore: what is never done' 0 explore unused.cfg unused.src
+
 # A task counts: the search stops, and names the counter.
 echo 'task a { var times; while (1) { times = times + 1; put(7); } }' > count.src
 cat > wanted <<'END'
@@ -700,11 +732,16 @@ greatest counts: S 0
 END
 shows 'explore: bound 2' 0 explore wait.cfg sum2.src --bound 2
 
-refused 'explore: no such word' 'an answer as E_QOVR' explore queue.cfg queue.src --never E_FOO
-refused 'explore: no call at a line' 'no call' explore queue.cfg queue.src --never E_OK:1000
-refused 'explore: no such code at a line' 'an answer as E_QOVR' explore queue.cfg queue.src --never E_FOO:1
+for word in E_FOO E_SYS 'put()' E_FOO:1 E_QOVR:; do
+    refused "explore: no such word: $word" 'an answer as E_QOVR' explore queue.cfg queue.src --never "$word"
+done
+for line in 1 1000; do
+    refused "explore: no call at line $line" 'no call' explore queue.cfg queue.src --never E_OK:$line
+done
 refused 'explore: no such task' 'no task' explore queue.cfg queue.src --rest NOBODY
-refused 'explore: one value twice' 'two different values' explore queue.cfg queue.src --alone 1,1
+for word in 1 1, 1,2,3 1,1; do
+    refused "explore: no two values: $word" 'two different values' explore queue.cfg queue.src --alone "$word"
+done
 
 # Expectations of the run of the queue: CONSUMER puts 42 in event 4, and PRODUCER ends in event 6, the last one.
 cat > queue.expect <<'END'

@@ -1,7 +1,7 @@
 """Rows of images and steps: images byte for byte, what loading changed ones answers, and the faults of steps."""
 
 from images.image_samples import ONE_TASK, ONE_TASK_CONFIGURATION, ONE_TASK_SOURCE
-from rows.row_runs import AND, SETUP, alone, apart, runs, task
+from rows.row_runs import AND, SETUP, alone, apart, idle, runs, task
 
 NOTHING = bytes.fromhex("464d50490300010000000000000000000000")
 
@@ -43,6 +43,22 @@ STORED = {
     2: "2 p1 T mact_tsk(0,1) E_QOVR / 3 p1 T end / 3 p2 T starts / 3 p2 > T / T RUNNING p2 10 / ",
     3: "2 p1 T mact_tsk(0,1) E_OK / 3 p1 T end / 3 p1 T starts / 3 p1 > T / T RUNNING p1 10 / ",
 }
+
+# What queues activations and wakeups of another task, and of its own, takes them back, and queues again; and what an
+# image of the versions that queue one prints.
+LIMIT = (
+    alone(task("M", "m", 5), task("A", "a")),
+    "task m { act_tsk(A); act_tsk(A); mact_tsk(A,1); can_act(A); mact_tsk(A,1); mact_tsk(A,1); wup_tsk(A); wup_tsk(A); "
+    "can_wup(A); wup_tsk(TSK_SELF); wup_tsk(M); slp_tsk(); } task a { put(2); }",
+)
+AT_LIMIT = (
+    "0 p1 M starts / 0 p1 A starts / 0 p1 > M / 1 p1 M act_tsk(2) E_OK / 2 p1 M act_tsk(2) E_QOVR / "
+    "3 p1 M mact_tsk(2,1) E_QOVR / 4 p1 M can_act(2) E_OK 1 / 5 p1 M mact_tsk(2,1) E_OK / "
+    "6 p1 M mact_tsk(2,1) E_QOVR / 7 p1 M wup_tsk(2) E_OK / 8 p1 M wup_tsk(2) E_QOVR / 9 p1 M can_wup(2) E_OK 1 / "
+    "10 p1 M wup_tsk(0) E_OK / 11 p1 M wup_tsk(1) E_QOVR / 12 p1 M slp_tsk() E_OK / 13 p1 M end / 13 p1 > A / "
+    "14 p1 A put(2) E_OK / 15 p1 A end / 15 p1 A starts / 15 p1 > A / 16 p1 A put(2) E_OK / 17 p1 A end / "
+    "M DORMANT p1 5 / A DORMANT p1 10 / "
+)
 
 # Two texts and their image.
 IMAGES = (
@@ -196,6 +212,7 @@ def by_version():
     for call in ("act_tsk", "wup_tsk"):
         configuration, source = QUEUING
         yield configuration, source.format(call), {v: (runs(256), queued(call, limit)) for v, limit in QUEUED.items()}
+    yield *LIMIT, {version: (runs(20), AT_LIMIT) for version in (1, 2)}
     yield *STORING, {version: (runs(3), STORING_SETUP + trace) for version, trace in STORED.items()}
 
 

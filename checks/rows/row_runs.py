@@ -263,6 +263,13 @@ RUNS = (
         "7 p1 U starts / 7 p1 > U / 8 p1 U end / 8 p1 > T / T RUNNING p1 10 / U DORMANT p1 5 / ",
     ),
     (
+        "an interrupt without a handler",
+        ONE,
+        "task main { put(7); }",
+        steps("int 3,run 1"),
+        SETUP + "1 p1 T1 put(7) E_OK / T1 RUNNING p1 10 / ",
+    ),
+    (
         "a cyclic handler",
         alone("CRE_CYC(C,{TA_STA,0,h,2,0});"),
         "handler h { put(exinf); }",

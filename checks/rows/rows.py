@@ -5,7 +5,7 @@ fault of the texts, and what is changed in images.
     checks/rows/rows.py [PROGRAM]
 
 PROGRAM is crates/fmp/out/fmp where it is not given, as `rt ci` or `rt run` leaves it. The rows stand in row_texts.py,
-row_images.py and row_runs.py, and every expected answer is worked out by hand from the rules.
+row_images.py, row_runs.py and row_calls.py, and every expected answer is worked out by hand from the rules.
 
 It prints how many answers were compared; each that differs it prints before that, and its status is then 1.
 """
@@ -20,6 +20,7 @@ sys.path[0] = str(Path(__file__).resolve().parents[1])  # the folder `checks`, w
 from common.program import Program, program_of_words  # noqa: E402
 from common.tally import Tally  # noqa: E402
 from images.image_samples import ONE_TASK  # noqa: E402
+from rows.row_calls import all_calls  # noqa: E402
 from rows.row_images import JUMP, LOOP, LOOP_SETUP, OUT_OF_BODY, by_version, changed, faulty_steps  # noqa: E402
 from rows.row_images import kept_images, loaded_images, refused_images, sized  # noqa: E402
 from rows.row_runs import ONE, SETUP, all_runs, all_values, runs  # noqa: E402
@@ -75,7 +76,7 @@ def steps(program):
 
 def traces(program):
     """What each system prints, and what it must."""
-    for configuration, source, events, bound, trace in all_runs():
+    for configuration, source, events, bound, trace in (*all_runs(), *all_calls()):
         _, image = program.build(configuration.encode(), source.encode())
         yield source, program.sim(image or b"", events.encode(), bound), printed(trace)
 
