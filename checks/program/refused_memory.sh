@@ -1,21 +1,20 @@
 #!/bin/bash
 # Refuses each allocation of the proved program in turn, for each of its commands: it must then answer `memory` with
-# status 3, print nothing and write no file, or else answer as it does with memory. So it does with tests of boards,
-# which ask again where memory ran out for making a board or a follower, or for running a board, and then expect what
-# they expect with memory; and it refuses all from the Nth on: the calls of a board that is made take none. Then it
-# counts the allocations of longer and longer runs: events take none, so only the growth of the text that is read is
-# seen.
+# status 3, print nothing and write no file, or else answer as it does with memory. Tests of boards must pass, or end
+# because memory or a thread was refused. Then it refuses all allocations from the Nth on: the calls of a board that is
+# made take none. At last it counts the allocations of longer and longer runs: events take none, so only the growth of
+# the text that is read is seen.
 #
 #   checks/program/refused_memory.sh
 #
 # It wants a C compiler and the GNU C library, and the program and the tests as `rt run` and `rt test` leave them in
-# crates/fmp/out and crates/fmp_host_tests/out.
+# crates/fmp/out and crates/fmp_library_tests/out.
 set -euo pipefail
 root=$(cd "$(dirname "$0")/../.." && pwd)
 fmp=$root/crates/fmp/out/fmp
 [ -x "$fmp" ] || (cd "$root/crates/fmp" && rt run > /dev/null)
-tests=$root/crates/fmp_host_tests/out/fmp_host_tests_tests
-[ -x "$tests" ] || (cd "$root/crates/fmp_host_tests" && rt test > /dev/null)
+tests=$root/crates/fmp_library_tests/out/fmp_library_tests_tests
+[ -x "$tests" ] || (cd "$root/crates/fmp_library_tests" && rt test > /dev/null)
 room=$(mktemp -d)
 trap 'rm -rf "$room"' EXIT
 cd "$room"
@@ -95,14 +94,14 @@ each_refused sim system.img fault.steps
 each_refused host system.img made.img --turns 8 --ticks 0
 each_refused host short.img made.img --turns 8 --ticks 0
 
-# One test of boards with allocations refused as the first word says: whether it passed. Else it has to end for want of
-# memory.
+# One test of boards with allocations refused as the first word says: whether it passed. Else it has to end because
+# memory was refused, or a thread, whose memory the system refused.
 passes() {
     local status=0
     echo 0 > asked
     env "$1" REFUSE_LOG=asked LD_PRELOAD="$room/refuse.so" "$tests" "tests::$2" > output 2> errors || status=$?
     [ "$status" -ne 0 ] || return 0
-    if [ "$status" -ne 101 ] || ! grep -Eq '^error: .*(AllocError|AllocFailed|Memory)' errors; then
+    if [ "$status" -ne 101 ] || ! grep -Eq '^error: .*(AllocError|AllocFailed|Memory|Thread)' errors; then
         echo "test $2, $1: status $status: $(cat errors)"
         failed=1
     fi
@@ -120,13 +119,11 @@ each_refused_in_test() {
     echo "test $1: $((at - 1)) allocations refused in turn, after $passed of which it passed"
 }
 
-each_refused_in_test feeding::three_events_on_one_task
-each_refused_in_test tickets::an_outcome_of_a_task_that_was_suspended_and_resumed
-each_refused_in_test hosting::processors_of_which_one_may_be_refused
+each_refused_in_test hosting::processors_that_wait_for_one_another
 each_refused_in_test following::a_board_that_was_fed
 
 # Its one growth behind those of the board is refused, too.
-made=tickets::a_board_that_takes_no_memory_once_it_is_made
+made=overtaking::a_board_that_takes_no_memory_once_it_is_made
 passes REFUSE_FROM=0 "$made" || failed=1
 whole=$(cat asked)
 from=1

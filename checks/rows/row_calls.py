@@ -1,5 +1,5 @@
-"""Rows of runs that show each service call: its cases, and what it refuses. Where their number says nothing the steps are
-more than are needed: a processor with nothing to do does nothing. In each trace ` / ` stands for a line feed."""
+"""Rows of runs that show each service call: its cases, and what it refuses. Where their number says nothing, the steps
+are more than are needed: a processor with nothing to do does nothing. In each trace ` / ` stands for a line feed."""
 
 from rows.row_runs import DEFAULT_BOUND, alone, idle, runs, task
 

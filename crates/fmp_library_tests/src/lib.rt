@@ -1,16 +1,14 @@
-//! The programs of docs/LIBRARY.md: a system that is built and run step by step, and bodies of your own. Beside them
-//! stand the tests of rings, deadlines, the row of a journal, and files whose calls fail.
+//! The programs of docs/LIBRARY.md: a system that is built and run step by step, bodies of your own, and a board of
+//! threads. Beside them stand the tests of gates, of what a board shows beside its contract, and of files whose calls fail.
 #![tactic(auto)]
 
 #[cfg(test)]
-mod deadlines;
-#[cfg(test)]
 mod files;
 #[cfg(test)]
-mod journals;
+mod gate;
 #[cfg(test)]
 mod pulse;
 #[cfg(test)]
-mod rings;
+mod refusing;
 #[cfg(test)]
 mod tests;

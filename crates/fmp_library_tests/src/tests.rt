@@ -1,4 +1,9 @@
-//! The programs, each run on a small system.
+//! The programs, each run on a small system, and boards.
 
+mod boards;
+mod following;
+mod hosting;
+mod overtaking;
 mod pulses;
 mod running;
+mod threads;

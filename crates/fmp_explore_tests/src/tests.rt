@@ -1,4 +1,0 @@
-//! Small systems, each with what is asked and what falls out.
-
-mod asking;
-mod searching;

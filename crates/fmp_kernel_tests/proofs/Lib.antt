@@ -1,3 +1,0 @@
-mod Entries
-mod RangeLemmas
-pub mod Views

@@ -1,2 +1,0 @@
-pub mod ScriptLemmas
-pub mod Scripts
