@@ -185,7 +185,9 @@ fn judged_at_end(
     ended: Result<Ended, AllocError>,
     closed: Closed<'_>,
 ) -> Result<Hosted, AllocError> {
-    judged(alloc, ended, &closed)
+    let hosted = judged(alloc, ended, &closed);
+    drop(closed);
+    hosted
 }
 
 /// A board that is not yet open, and its seats, as `Blank::new` answers.

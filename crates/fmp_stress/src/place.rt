@@ -187,7 +187,11 @@ fn printed<S: Site>(
     }
     let mut text = Vec::new(alloc);
     match Follower::new(alloc, board, &mut seat, &mut text) {
-        Ok(mut follower) => Ok(pulled(alloc, &mut follower, calling, text)),
+        Ok(mut follower) => {
+            let record = pulled(alloc, &mut follower, calling, text);
+            follower.end();
+            Ok(record)
+        }
         Err(fault) => Err(fault),
     }
 }

@@ -67,7 +67,9 @@ fn followed<S: Site, R: Wait>(
     requires fresh { reader.old.place ≡ 0 }
 {
     let mut follower = Start::new(alloc, board, text)?.follow(reader);
-    fed_and_pulled(rt, board, seat, &mut follower, text)
+    let same = fed_and_pulled(rt, board, seat, &mut follower, text);
+    follower.end();
+    same
 }
 
 /// The same, by two of the seats of a board.

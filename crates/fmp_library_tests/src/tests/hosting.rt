@@ -56,7 +56,9 @@ fn ran_on<G: Gate, R: Threads + Wait + Sync>(
 ) -> Result<Ran, Fail> {
     let (blank, seats) = board_of(alloc, image, schedule.capacity, 3)?;
     let (answer, count, closed) = run::<Brand, G, R>(rt, alloc, blank, seats, gate, schedule.turns);
-    Ok(Ran::new(answer, count, &closed))
+    let ran = Ran::new(answer, count, &closed);
+    drop(closed);
+    Ok(ran)
 }
 
 /// Runs a board of the image of two texts at a gate.

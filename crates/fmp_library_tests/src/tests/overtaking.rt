@@ -55,7 +55,9 @@ fn overtaken_on<S: Site, R: Wait>(
         None => None,
     };
     let closed = board.close_all(seats);
-    (answers, first_events(&closed))
+    let events = first_events(&closed);
+    drop(closed);
+    (answers, events)
 }
 
 /// The same, of a board of an image that has room for two events.
