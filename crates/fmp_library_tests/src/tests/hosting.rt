@@ -103,10 +103,12 @@ fn two_turns_of_which_one_is_stale(rt: HostRuntime) -> Result<(), Fail> {
     assert_eq!(rt; gate.told(), 4);
     assert_eq!(rt; ran.answer?, 3);
     assert_eq!(rt; ran.events, 3);
-    let [first, second, third] = ran.first;
-    assert_eq!(rt; first, Some(Event::Run(2)));
-    assert_eq!(rt; second, Some(Event::Run(2)));
-    assert_eq!(rt; third, Some(Event::Run(1)));
+    let expected = [
+        Some(Event::Run(2)),
+        Some(Event::Run(2)),
+        Some(Event::Run(1)),
+    ];
+    assert_eq!(rt; ran.first, expected);
     Ok(())
 }
 

@@ -55,9 +55,9 @@ fn overtaken_on<S: Site, R: Wait>(
         None => None,
     };
     let closed = board.close_all(seats);
-    let events = first_events(&closed);
+    let journal = first_events(&closed);
     drop(closed);
-    (answers, events)
+    (answers, journal)
 }
 
 /// The same, of a board of an image that has room for two events.
