@@ -87,7 +87,11 @@ fn found_in(alloc: Global, cfg: &[u8], src: &[u8]) -> Result<Found, AllocError>
     ensures { IfOk result (IsFound cfg.now src.now) }
 {
     match build(alloc, cfg, src) {
-        Ok(image) => Ok(Found::Sound(image.system().processors)),
+        Ok(image) => {
+            let processors = image.system().processors;
+            drop(image);
+            Ok(Found::Sound(processors))
+        }
         Err(BuildFault::Memory) => Err(AllocError),
         Err(BuildFault::At(file, place, kind)) => Ok(Found::Faulty(Fault { file, place, kind })),
     }
