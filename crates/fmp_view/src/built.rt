@@ -106,7 +106,9 @@ fn trace_of(
         events.now out.items) }
 {
     let mut kernel = kernel_of(alloc, image, n)?;
-    trace_from(alloc, form, image, &mut kernel, events, n)
+    let trace = trace_from(alloc, form, image, &mut kernel, events, n);
+    drop(kernel);
+    trace
 }
 
 /// The events that a drive of an image takes, and how it ended.
@@ -169,10 +171,10 @@ fn steps_for(
 fn traced_over(
     alloc: Global,
     image: &Image,
-    stepped: Stepped,
+    stepped: &Stepped,
     run: Running,
 ) -> Result<Traced, AllocError>
-    requires { length stepped.events.items ≤ 2 ^ 20 }
+    requires { length stepped.now.events.items ≤ 2 ^ 20 }
 {
     let text = trace_of(
         alloc,
@@ -197,7 +199,7 @@ fn traced_image(
     run: Running,
 ) -> Result<Traced, NoTrace> {
     let stepped = steps_for(alloc, image, steps, run)?;
-    traced_over(alloc, image, stepped, run).map_err(|_| NoTrace::Memory)
+    traced_over(alloc, image, &stepped, run).map_err(|_| NoTrace::Memory)
 }
 
 /// What is printed of a run of the system of two texts: over a steps text, or of a drive where there is none.
@@ -209,5 +211,7 @@ pub fn traced_texts(
     run: Running,
 ) -> Result<Traced, NoTrace> {
     let image = built(alloc, cfg, src)?;
-    traced_image(alloc, &image, steps, run)
+    let traced = traced_image(alloc, &image, steps, run);
+    drop(image);
+    traced
 }

@@ -85,7 +85,9 @@ pub fn steps(
     bound: u64,
 ) -> Result<DrivenText, SimFault> {
     let image = image_of(alloc, image)?;
-    made(driven_text(alloc, &image, events, seed, bound))
+    let driven = driven_text(alloc, &image, events, seed, bound);
+    drop(image);
+    made(driven)
 }
 
 /// What is counted of a run of a kernel over events.
@@ -105,6 +107,7 @@ fn tallied<B: Body>(
 {
     let setup = last_frame(alloc, kernel, body, n)?;
     let mut tallies = Tallies::new(alloc, &setup)?;
+    drop(setup);
     show_all(alloc, kernel, body, n, events, &mut tallies)?;
     Ok(tallies)
 }
@@ -147,6 +150,7 @@ fn waved<B: Body>(
 {
     let setup = last_frame(alloc, kernel, body, n)?;
     let mut waves = Waves::new(alloc, sys, &setup)?;
+    drop(setup);
     show_all(alloc, kernel, body, n, events, &mut waves)?;
     Ok(waves)
 }
@@ -211,7 +215,7 @@ fn output_of(
 {
     let n = kept_bound(bound);
     let mut kernel = fresh_kernel(alloc, image, n)?;
-    output_on(
+    let made = output_on(
         alloc,
         image.system(),
         &mut kernel,
@@ -219,7 +223,9 @@ fn output_of(
         n,
         events,
         output,
-    )
+    );
+    drop(kernel);
+    made
 }
 
 /// What is made of a run of an image over a steps text.
@@ -243,5 +249,7 @@ pub fn run_output(
     output: Output,
 ) -> Result<Vec<u8>, SimFault> {
     let image = image_of(alloc, image)?;
-    output_over(alloc, &image, steps, bound, output)
+    let made = output_over(alloc, &image, steps, bound, output);
+    drop(image);
+    made
 }

@@ -22,7 +22,9 @@ fn told_of<'a>(
 {
     let n = kept_bound(bound);
     let mut kernel = fresh_kernel(alloc, image, n)?;
-    told_on(alloc, image.system(), &mut kernel, &image.vm(), n, events)
+    let told = told_on(alloc, image.system(), &mut kernel, &image.vm(), n, events);
+    drop(kernel);
+    told
 }
 
 /// How many of these events lead up to the event of a number, or all of them if there are fewer.
@@ -39,7 +41,9 @@ fn count_to(
 {
     let mut kernel = fresh_kernel(alloc, image, kept_bound(bound))?;
     let number = u32::try_from(number).unwrap_or(u32::MAX);
-    Ok(count_up_to(&mut kernel, events, number))
+    let count = count_up_to(&mut kernel, events, number);
+    drop(kernel);
+    Ok(count)
 }
 
 /// What is told of a run of an image over events up to the event of a number.
@@ -56,6 +60,55 @@ fn told_up_to<'a>(
     told_of(alloc, image, &events[..count], bound)
 }
 
+/// What is printed of runs that tell this and differ first in the event of a number, up to which they tell that.
+fn text_of(
+    alloc: Global,
+    runs: (&Told<'_>, &Told<'_>),
+    number: usize,
+    ends: (&Told<'_>, &Told<'_>),
+) -> Result<Vec<u8>, AllocError> {
+    let mut out = Vec::new(alloc);
+    append_difference(alloc, runs, number, ends, &mut out)?;
+    Ok(out)
+}
+
+/// What is printed of the runs of an image over two lists of events, which tell this and differ first in the event of a
+/// number.
+fn text_at(
+    alloc: Global,
+    image: &Image,
+    a: &[Event],
+    b: &[Event],
+    bound: u64,
+    runs: (&Told<'_>, &Told<'_>),
+    number: usize,
+) -> Result<Vec<u8>, AllocError>
+    requires a { length a.now ≤ 2 ^ 20 }
+    requires b { length b.now ≤ 2 ^ 20 }
+{
+    let one_then = told_up_to(alloc, image, a, bound, number)?;
+    let other_then = told_up_to(alloc, image, b, bound, number)?;
+    text_of(alloc, runs, number, (&one_then, &other_then))
+}
+
+/// What is printed of the runs of an image over two lists of events, which tell this; none if they tell the same.
+fn difference_between(
+    alloc: Global,
+    image: &Image,
+    a: &[Event],
+    b: &[Event],
+    bound: u64,
+    runs: (&Told<'_>, &Told<'_>),
+) -> Result<Option<Vec<u8>>, AllocError>
+    requires a { length a.now ≤ 2 ^ 20 }
+    requires b { length b.now ≤ 2 ^ 20 }
+{
+    match first_difference(runs.0, runs.1) {
+        Some(number) => Ok(Some(text_at(alloc, image, a, b, bound, runs, number)?)),
+        None => Ok(None),
+    }
+}
+
 /// The first event in which the runs of an image over two lists of events differ, with the events in front of it and
 /// the states that differ then; none if they tell the same. `AllocError` if memory runs out.
 fn difference(
@@ -70,20 +123,7 @@ fn difference(
 {
     let one = told_of(alloc, image, a, bound)?;
     let other = told_of(alloc, image, b, bound)?;
-    let Some(number) = first_difference(&one, &other) else {
-        return Ok(None);
-    };
-    let one_then = told_up_to(alloc, image, a, bound, number)?;
-    let other_then = told_up_to(alloc, image, b, bound, number)?;
-    let mut out = Vec::new(alloc);
-    append_difference(
-        alloc,
-        (&one, &other),
-        number,
-        (&one_then, &other_then),
-        &mut out,
-    )?;
-    Ok(Some(out))
+    difference_between(alloc, image, a, b, bound, (&one, &other))
 }
 
 /// The difference of the runs of an image over two steps texts.
@@ -109,5 +149,7 @@ pub fn diff(
     bound: u64,
 ) -> Result<Option<Vec<u8>>, SimFault> {
     let image = image_of(alloc, image)?;
-    difference_over(alloc, &image, a, b, bound)
+    let difference = difference_over(alloc, &image, a, b, bound);
+    drop(image);
+    difference
 }

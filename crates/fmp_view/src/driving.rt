@@ -83,5 +83,7 @@ pub fn driven(
     ensures { IfOk result (λ d. DrivesImage image.now n events d) }
 {
     let mut kernel = kernel_of(alloc, image, n)?;
-    drive_on(alloc, &mut kernel, image, events, seed, n)
+    let drive = drive_on(alloc, &mut kernel, image, events, seed, n);
+    drop(kernel);
+    drive
 }

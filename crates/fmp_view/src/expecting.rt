@@ -8,7 +8,7 @@ use crate::asking::kept_bound;
 use crate::exit::Exit;
 use crate::flaws::flaw_text;
 use crate::opening::{events_of, fresh_kernel, image_of};
-use fmp_base::{Event, TaskState};
+use fmp_base::{Event, Line, System, TaskState};
 use fmp_engine::SimFault;
 use fmp_expect::{Broken, Checker, ExpectFault, Expected, Flaw, read_expectations, tell_run};
 use fmp_image_bytes::Image;
@@ -61,7 +61,9 @@ fn verdict_of(
     requires { length events.now ≤ 2 ^ 20 }
 {
     let mut kernel = fresh_kernel(alloc, image, kept_bound(bound))?;
-    verdict_on(alloc, &mut kernel, events, expected)
+    let verdict = verdict_on(alloc, &mut kernel, events, expected);
+    drop(kernel);
+    verdict
 }
 
 /// Runs events on a kernel up to the event of this number.
@@ -74,6 +76,18 @@ fn run_up_to<B: Body>(kernel: &mut Kernel<B>, events: &[Event], number: u32)
         }
         kernel.step(*e);
     }
+}
+
+/// Lines of the event of this number, with the names of objects.
+fn lines_text(
+    alloc: Global,
+    sys: &System,
+    lines: &[Line],
+    number: u32,
+) -> Result<Vec<u8>, AllocError> {
+    let mut out = Vec::new(alloc);
+    append_lines(sys, number, lines, &mut out)?;
+    Ok(out)
 }
 
 /// The lines of the event of this number, with the names of objects.
@@ -89,9 +103,9 @@ fn event_text(
 {
     let mut kernel = fresh_kernel(alloc, image, kept_bound(bound))?;
     run_up_to(&mut kernel, events, number);
-    let mut out = Vec::new(alloc);
-    append_lines(image.system(), number, kernel.lines(), &mut out)?;
-    Ok(out)
+    let text = lines_text(alloc, image.system(), kernel.lines(), number);
+    drop(kernel);
+    text
 }
 
 /// The line of this number of a text, from 1, without its line feed.
@@ -111,9 +125,8 @@ fn broken_text(
     broken: Broken,
     event: &[u8],
 ) -> Result<Vec<u8>, AllocError> {
-    let mut out = Vec::new(alloc);
     let head = format!(in alloc; "{name}:{}: event {}: ", broken.line, broken.event)?;
-    out.extend_from_slice(head.as_bytes())?;
+    let mut out = head.into_bytes();
     out.extend_from_slice(line_of(text, broken.line))?;
     out.push(b'\n')?;
     out.extend_from_slice(event)?;
@@ -203,7 +216,11 @@ pub fn expect(
     text: &[u8],
 ) -> Result<Option<Vec<u8>>, Exit> {
     match image_of(alloc, image) {
-        Ok(image) => checked_over(alloc, &image, steps, bound, name, text),
+        Ok(image) => {
+            let failure = checked_over(alloc, &image, steps, bound, name, text);
+            drop(image);
+            failure
+        }
         Err(fault) => Err(Exit::Sim(fault)),
     }
 }

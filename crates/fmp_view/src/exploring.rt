@@ -158,5 +158,7 @@ pub fn explored_image<W: Watcher>(
     watcher: &mut W,
 ) -> Result<Explored, AllocError> {
     let report = explore(alloc, image, kept_bound(bound), question, watcher)?;
-    explored_by(alloc, image, src, named, question, bound, &report)
+    let explored = explored_by(alloc, image, src, named, question, bound, &report);
+    drop(report);
+    explored
 }

@@ -92,7 +92,9 @@ fn states_text(alloc: Global, session: &Session<'_>) -> Result<Vec<u8>, AllocErr
     let image = session.image();
     let frame = last_frame(alloc, session.kernel(), &image.vm(), session.bound())?;
     let mut out = Vec::new(alloc);
-    append_states(image.system(), &frame.states, &frame.blocks, &mut out)?;
+    let told = append_states(image.system(), &frame.states, &frame.blocks, &mut out);
+    drop(frame);
+    told?;
     Ok(out)
 }
 
@@ -139,18 +141,23 @@ fn known_words(alloc: Global) -> Result<Vec<Name>, AllocError> {
     Ok(known)
 }
 
+/// The nearest word that a command begins with, if one is near.
+fn meant(alloc: Global, name: &Name) -> Result<Option<&'static str>, AllocError> {
+    let known = known_words(alloc)?;
+    match nearest(alloc, name, &known)? {
+        Some(place) => Ok(WORDS.get(place).copied()),
+        None => Ok(None),
+    }
+}
+
 /// What is said of a word that no command begins with, and of the nearest one that a command does begin with.
 fn unknown_text(alloc: Global, word: &[u8]) -> Result<String, AllocError> {
     let Some(name) = Name::new(word) else {
         return String::from_str(alloc, "no command begins so");
     };
     let word = String::from_utf8_lossy(alloc, word)?;
-    let known = known_words(alloc)?;
-    match nearest(alloc, &name, &known)? {
-        Some(place) => {
-            let meant = WORDS.get(place).copied().unwrap_or("");
-            format!(in alloc; "`{word}` is no command; did you mean `{meant}`?")
-        }
+    match meant(alloc, &name)? {
+        Some(meant) => format!(in alloc; "`{word}` is no command; did you mean `{meant}`?"),
         None => format!(in alloc; "`{word}` is no command; `help` prints them"),
     }
 }
@@ -370,7 +377,9 @@ fn session_over<O: Outside, I: BufRead>(
     bound: u64,
 ) -> Result<u8, AllocError> {
     let mut session = Session::new(alloc, image, kept_bound(bound))?;
-    Ok(begin(alloc, outside, input, &mut session, names))
+    let status = begin(alloc, outside, input, &mut session, names);
+    drop(session);
+    Ok(status)
 }
 
 /// A session of an image over the lines of standard input, and its status. `AllocError` if there is no memory for it.

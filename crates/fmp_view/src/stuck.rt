@@ -150,5 +150,7 @@ pub fn held_up(
     requires high { n ≤ 2 ^ 48 }
 {
     let mut kernel = fresh_kernel(alloc, image, n)?;
-    Ok(held_up_on(&mut kernel, image, events, task))
+    let held = held_up_on(&mut kernel, image, events, task);
+    drop(kernel);
+    Ok(held)
 }

@@ -82,6 +82,7 @@ fn recorded<'a, B: Body>(
 {
     let setup = last_frame(alloc, kernel, body, n)?;
     let mut recorder = Recorder::new(alloc, sys, objects, turns, &setup)?;
+    drop(setup);
     show_all(alloc, kernel, body, n, events, &mut recorder)?;
     Ok(recorder)
 }
@@ -117,7 +118,9 @@ fn turns_of(
     requires { length events.now ≤ 2 ^ 20 }
 {
     let mut kernel = fresh_kernel(alloc, image, kept_bound(bound))?;
-    idle_turns(alloc, &mut kernel, events)
+    let turns = idle_turns(alloc, &mut kernel, events);
+    drop(kernel);
+    turns
 }
 
 /// A run of an image over events.
@@ -134,7 +137,7 @@ fn run_of(
     let turns = turns_of(alloc, image, events, bound)?;
     let n = kept_bound(bound);
     let mut kernel = fresh_kernel(alloc, image, n)?;
-    run_on(
+    let run = run_on(
         alloc,
         image.system(),
         &mut kernel,
@@ -143,7 +146,9 @@ fn run_of(
         events,
         objects,
         &turns,
-    )
+    );
+    drop(kernel);
+    run
 }
 
 /// The picture that is asked for of a run.
@@ -195,7 +200,11 @@ fn picture_over(
     drawing: Drawing,
 ) -> Result<Picture, TimelineFault> {
     match run_over(alloc, image, steps, bound, drawing.objects) {
-        Ok(run) => picture_of(alloc, image.system(), &run, name, drawing),
+        Ok(run) => {
+            let picture = picture_of(alloc, image.system(), &run, name, drawing);
+            drop(run);
+            picture
+        }
         Err(fault) => Err(TimelineFault::Sim(fault)),
     }
 }
@@ -210,7 +219,11 @@ pub fn timeline(
     drawing: Drawing,
 ) -> Result<Picture, TimelineFault> {
     match image_of(alloc, image) {
-        Ok(image) => picture_over(alloc, &image, steps, bound, name, drawing),
+        Ok(image) => {
+            let picture = picture_over(alloc, &image, steps, bound, name, drawing);
+            drop(image);
+            picture
+        }
         Err(fault) => Err(TimelineFault::Sim(fault)),
     }
 }

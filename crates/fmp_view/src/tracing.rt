@@ -151,6 +151,7 @@ fn traced<'a, B: Body>(
 {
     let setup = last_frame(alloc, kernel, body, n)?;
     let mut tracer = Tracer::new(alloc, form, sys, &setup)?;
+    drop(setup);
     show_all(alloc, kernel, body, n, events, &mut tracer)?;
     Ok(tracer)
 }

@@ -28,7 +28,9 @@ pub fn why_of(
 {
     let n = kept_bound(bound);
     let mut kernel = fresh_kernel(alloc, image, n)?;
-    fmp_watch::why(alloc, image.system(), &mut kernel, &image.vm(), n, events)
+    let text = fmp_watch::why(alloc, image.system(), &mut kernel, &image.vm(), n, events);
+    drop(kernel);
+    text
 }
 
 /// How many of these events lead up to the event of a number, and how many events are done then.
@@ -45,7 +47,9 @@ fn counted(
 {
     let mut kernel = fresh_kernel(alloc, image, kept_bound(bound))?;
     let count = count_up_to(&mut kernel, events, number);
-    Ok((count, kernel.done()))
+    let done = kernel.done();
+    drop(kernel);
+    Ok((count, done))
 }
 
 /// How many of these events lead up to the event of a number, or all of them.
@@ -110,7 +114,11 @@ pub fn why(
     at: Option<u32>,
 ) -> Result<Vec<u8>, TimelineFault> {
     match image_of(alloc, image) {
-        Ok(image) => why_over(alloc, &image, steps, bound, at),
+        Ok(image) => {
+            let text = why_over(alloc, &image, steps, bound, at);
+            drop(image);
+            text
+        }
         Err(fault) => Err(TimelineFault::Sim(fault)),
     }
 }

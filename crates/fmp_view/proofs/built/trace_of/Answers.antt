@@ -10,11 +10,11 @@ kernel_of-requires-clause-high c = c.requires.high
 pub returns-in_err-kernel : goal.returns-in_err-kernel
 returns-in_err-kernel c = rw ((err_from_is_err_and c.from_residual.result c.from_residual.ensures.1).1) tt
 
-pub trace_from-requires-clause-kernel : goal.trace_from-requires-clause-kernel
-trace_from-requires-clause-kernel c = c.in_ok-kernel.ensures
+pub trace_from-trace-requires-clause-kernel : goal.trace_from-trace-requires-clause-kernel
+trace_from-trace-requires-clause-kernel c = c.in_ok-kernel.ensures
 
-pub trace_from-requires-clause-few : goal.trace_from-requires-clause-few
-trace_from-requires-clause-few c = c.requires.few
+pub trace_from-trace-requires-clause-few : goal.trace_from-trace-requires-clause-few
+trace_from-trace-requires-clause-few c = c.requires.few
 
 pub returns : goal.returns
-returns c = c.trace_from.ensures
+returns c = c.trace_from-trace.ensures

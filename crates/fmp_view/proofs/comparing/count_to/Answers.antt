@@ -11,8 +11,8 @@ fresh_kernel-requires-clause-high c = c.kept_bound.ensures.high
 pub returns-in_err-kernel : goal.returns-in_err-kernel
 returns-in_err-kernel c = rw ((err_from_is_err_and c.from_residual.result c.from_residual.ensures.1).1) tt
 
-pub count_up_to-requires : goal.count_up_to-requires
-count_up_to-requires c = room _ _ c.in_ok-kernel.ensures.taken c.requires
+pub count_up_to-count-requires : goal.count_up_to-count-requires
+count_up_to-count-requires c = room _ _ c.in_ok-kernel.ensures.taken c.requires
 
 pub returns : goal.returns
-returns c = c.count_up_to.ensures.few
+returns c = c.count_up_to-count.ensures.few

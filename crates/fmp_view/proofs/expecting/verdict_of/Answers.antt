@@ -7,5 +7,5 @@ fresh_kernel-requires-clause-low c = c.kept_bound.ensures.low
 pub fresh_kernel-requires-clause-high : goal.fresh_kernel-requires-clause-high
 fresh_kernel-requires-clause-high c = c.kept_bound.ensures.high
 
-pub verdict_on-requires : goal.verdict_on-requires
-verdict_on-requires c = room _ _ c.in_ok-kernel.ensures.taken c.requires
+pub verdict_on-verdict-requires : goal.verdict_on-verdict-requires
+verdict_on-verdict-requires c = room _ _ c.in_ok-kernel.ensures.taken c.requires

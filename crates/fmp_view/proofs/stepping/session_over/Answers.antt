@@ -6,5 +6,5 @@ new-requires-clause-low g c = c.kept_bound.ensures.low
 pub new-requires-clause-high : goal.new-requires-clause-high
 new-requires-clause-high g c = c.kept_bound.ensures.high
 
-pub begin-requires : goal.begin-requires
-begin-requires g c = c.in_ok-session.ensures
+pub begin-status-requires : goal.begin-status-requires
+begin-status-requires g c = c.in_ok-session.ensures

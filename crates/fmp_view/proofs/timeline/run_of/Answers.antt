@@ -11,11 +11,11 @@ fresh_kernel-requires-clause-high c = c.kept_bound-n.ensures.high
 pub turns_of-requires : goal.turns_of-requires
 turns_of-requires c = c.requires
 
-pub run_on-requires-clause-few : goal.run_on-requires-clause-few
-run_on-requires-clause-few c = room _ _ c.in_ok-kernel.ensures.taken c.requires
+pub run_on-run-requires-clause-few : goal.run_on-run-requires-clause-few
+run_on-run-requires-clause-few c = room _ _ c.in_ok-kernel.ensures.taken c.requires
 
-pub run_on-requires-clause-body : goal.run_on-requires-clause-body
-run_on-requires-clause-body c = c.vm.ensures ∙ sym c.in_ok-kernel.ensures.body
+pub run_on-run-requires-clause-body : goal.run_on-run-requires-clause-body
+run_on-run-requires-clause-body c = c.vm.ensures ∙ sym c.in_ok-kernel.ensures.body
 
-pub run_on-requires-clause-bound : goal.run_on-requires-clause-bound
-run_on-requires-clause-bound c = sym c.in_ok-kernel.ensures.bound
+pub run_on-run-requires-clause-bound : goal.run_on-run-requires-clause-bound
+run_on-run-requires-clause-bound c = sym c.in_ok-kernel.ensures.bound
