@@ -1,14 +1,38 @@
 //! Which of the candidates that a search has noted are so, and which of them are told.
-ghost use Rattle.std.specs.Prelude.{◌≤◌, ◌^◌, All, IfOk, IsTrue, OnOk};
+ghost use Rattle.std.specs.Prelude.{◌≡◌, ◌≤◌, ◌^◌, [], All, IfOk, IsTrue, OnOk};
+ghost use Rattle.fmp_replay.specs.Replays.{kernel_after};
 ghost use Rattle.fmp_findings.specs.Findings.{IsFound, IsSo};
 
 use crate::stuck::is_stuck;
 use fmp_base::Event;
+use fmp_code::Vm;
 use fmp_findings::{Finding, Sight, is_so};
 use fmp_image_bytes::Image;
+use fmp_kernel::Kernel;
 use fmp_question::Question;
 use fmp_replay::kernel_of;
 use std::alloc::{AllocError, Global};
+
+/// Whether each of these events does something, and this is seen after them, on a kernel that was just set up.
+fn is_shown_on<'a>(
+    alloc: Global,
+    kernel: &mut Kernel<Vm<'a>>,
+    image: &'a Image,
+    n: u64,
+    question: &Question,
+    steps: &[Event],
+    sight: Sight,
+) -> bool
+    requires low { 1 ≤ n }
+    requires high { n ≤ 2 ^ 48 }
+    requires begun { kernel.old ≡ kernel_after image.now n [] }
+    ensures { IsTrue result → IsSo image.now n question.now steps.now sight }
+{
+    if let Sight::Stuck(t) = sight {
+        return is_stuck(alloc, kernel, image, n, question, steps, t);
+    }
+    is_so(kernel, image, n, question, steps, sight)
+}
 
 /// Whether each of these events does something, and this is seen after them. `AllocError` if memory runs out.
 fn is_shown(
@@ -24,10 +48,9 @@ fn is_shown(
     ensures { IfOk result (λ found. IsTrue found → IsSo image.now n question.now steps.now sight) }
 {
     let mut kernel = kernel_of(alloc, image, n)?;
-    if let Sight::Stuck(t) = sight {
-        return Ok(is_stuck(alloc, &mut kernel, image, n, question, steps, t));
-    }
-    Ok(is_so(&mut kernel, image, n, question, steps, sight))
+    let shown = is_shown_on(alloc, &mut kernel, image, n, question, steps, sight);
+    drop(kernel);
+    Ok(shown)
 }
 
 /// Whether a finding is so. `AllocError` if memory runs out.

@@ -435,7 +435,9 @@ impl Survey {
         ensures { IfOk result (HasEnded subject.now.image.now subject.now.n subject.now.question.now self.new) }
     {
         let mut work = kernel_of(alloc, subject.image, subject.n)?;
-        self.examine_all(alloc, subject, ladder, &mut work, watcher)
+        let ending = self.examine_all(alloc, subject, ladder, &mut work, watcher);
+        drop(work);
+        ending
     }
 
     /// The same, with a ladder of its own. `AllocError` if memory runs out.
@@ -450,6 +452,8 @@ impl Survey {
         ensures { IfOk result (HasEnded subject.now.image.now subject.now.n subject.now.question.now self.new) }
     {
         let mut ladder = Ladder::new(alloc, subject.image, subject.n)?;
-        self.run_on(alloc, subject, &mut ladder, watcher)
+        let ending = self.run_on(alloc, subject, &mut ladder, watcher);
+        drop(ladder);
+        ending
     }
 }

@@ -278,7 +278,9 @@ impl Survey {
         ensures { OnOk result (IsBegun subject.now.image.now subject.now.n subject.now.question.now self.new) }
     {
         let mut kernel = kernel_of(alloc, subject.image, subject.n)?;
-        self.begin_on(alloc, subject, &mut kernel)
+        let begun = self.begin_on(alloc, subject, &mut kernel);
+        drop(kernel);
+        begun
     }
 
     /// Keeps the state of a kernel to which an attempt led, whose event kept a place or was done, with its sections.

@@ -283,5 +283,7 @@ pub fn left_by(
     ensures { IfOk result (λ left. IfSome left (IsLeft image.now n steps.now)) }
 {
     let mut kernel = kernel_of(alloc, image, n)?;
-    left_on(alloc, &mut kernel, image, n, steps)
+    let left = left_on(alloc, &mut kernel, image, n, steps);
+    drop(kernel);
+    left
 }

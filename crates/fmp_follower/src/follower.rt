@@ -52,7 +52,10 @@ fn begun<'a, S: Site>(
     let kernel = kernel_of(alloc, image, board.bound())?;
     match print(image.system(), 0, kernel.lines(), out) {
         Ok(()) => Ok(kernel),
-        Err(_) => Err(AllocError),
+        Err(_) => {
+            drop(kernel);
+            Err(AllocError)
+        }
     }
 }
 
@@ -211,8 +214,9 @@ impl<'a, 'b, S: Site> Follower<'a, 'b, S> {
         let Follower {
             board: _,
             seat,
-            kernel: _,
+            kernel,
         } = self;
+        drop(kernel);
         seat
     }
 }

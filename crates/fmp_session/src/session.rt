@@ -15,6 +15,7 @@ use fmp_named::append_lines;
 use fmp_replay::kernel_of;
 use fmp_trace::print_steps;
 use std::alloc::{AllocError, Global};
+use std::mem;
 
 /// The most events of a session.
 const MOST: u32 = 1 << 20;
@@ -124,7 +125,8 @@ impl<'a> Session<'a> {
         ensures err { OnErr result (self.new.events.items ≡ self.old.events.items) }
     {
         let left = self.events.len().saturating_sub(count);
-        self.kernel = kernel_over(alloc, self.image, self.bound, &self.events[..left])?;
+        let kernel = kernel_over(alloc, self.image, self.bound, &self.events[..left])?;
+        drop(mem::replace(&mut self.kernel, kernel));
         self.events.truncate(left);
         Ok(())
     }

@@ -10,11 +10,11 @@ new-requires-clause-high g c = c.args.subject.now.high
 pub returns-in_err-ladder : goal.returns-in_err-ladder
 returns-in_err-ladder g c = rw ((err_from_is_err_and c.from_residual.result c.from_residual.ensures.1).1) tt
 
-pub run_on-requires-clause-begun : goal.run_on-requires-clause-begun
-run_on-requires-clause-begun g c = c.requires
+pub run_on-ending-requires-clause-begun : goal.run_on-ending-requires-clause-begun
+run_on-ending-requires-clause-begun g c = c.requires
 
-pub run_on-requires-clause-ladder : goal.run_on-requires-clause-ladder
-run_on-requires-clause-ladder g c = c.in_ok-ladder.ensures
+pub run_on-ending-requires-clause-ladder : goal.run_on-ending-requires-clause-ladder
+run_on-ending-requires-clause-ladder g c = c.in_ok-ladder.ensures
 
 pub returns : goal.returns
-returns g c = c.run_on.ensures
+returns g c = c.run_on-ending.ensures

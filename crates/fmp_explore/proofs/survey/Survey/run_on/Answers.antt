@@ -11,16 +11,16 @@ kernel_of-requires-clause-high g c = c.args.subject.now.high
 pub returns-in_err-work : goal.returns-in_err-work
 returns-in_err-work g c = rw ((err_from_is_err_and c.from_residual.result c.from_residual.ensures.1).1) tt
 
-pub examine_all-requires-clause-begun : goal.examine_all-requires-clause-begun
-examine_all-requires-clause-begun g c = c.requires.begun
+pub examine_all-ending-requires-clause-begun : goal.examine_all-ending-requires-clause-begun
+examine_all-ending-requires-clause-begun g c = c.requires.begun
 
-pub examine_all-requires-clause-ladder : goal.examine_all-requires-clause-ladder
-examine_all-requires-clause-ladder g c = c.requires.ladder
+pub examine_all-ending-requires-clause-ladder : goal.examine_all-ending-requires-clause-ladder
+examine_all-ending-requires-clause-ladder g c = c.requires.ladder
 
-pub examine_all-requires-clause-work : goal.examine_all-requires-clause-work
-examine_all-requires-clause-work g c =
+pub examine_all-ending-requires-clause-work : goal.examine_all-ending-requires-clause-work
+examine_all-ending-requires-clause-work g c =
     let s = c.args.subject.now in
     over_first s.image.now s.n c.in_ok-work.work c.in_ok-work.ensures
 
 pub returns : goal.returns
-returns g c = c.examine_all.ensures
+returns g c = c.examine_all-ending.ensures

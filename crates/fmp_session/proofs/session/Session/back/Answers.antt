@@ -21,5 +21,5 @@ returns-clause-session c =
       few = rw c.truncate.ensures.items (omega (arith, short, c.requires.few));
       legal = rw c.truncate.ensures.items (legal_take s.image.now s.bound s.events.items left c.requires.legal);
       kernel = rw c.truncate.ensures.items
-          (c.in_ok-self.ensures ∙ ap (λ (xs : List Event). kernel_after s.image.now s.bound (take left xs)) c.deref.ensures.value);
+          (c.replace.ensures.after ∙ c.in_ok-kernel.ensures ∙ ap (λ (xs : List Event). kernel_after s.image.now s.bound (take left xs)) c.deref.ensures.value);
     }
