@@ -1,5 +1,5 @@
-//! Constants, static APIs and services are found with one comparison: a sum of some of the bytes of a word tells the only
-//! one that it may be.
+//! Constants, static APIs and services are found with one comparison: a sum of some of the bytes of a word tells the
+//! only one that it may be.
 ghost use Rattle.std.specs.Prelude.{◌≡◌, IsTrue, Some, false, slice_get};
 ghost use Rattle.fmp_base.specs.Services.{service_name};
 ghost use Rattle.fmp_base.specs.Words.{api_name, api_named, constant_name, constant_named, service_named};

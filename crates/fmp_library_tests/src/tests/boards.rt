@@ -57,7 +57,7 @@ fn event_at(closed: &Closed<'_>, place: u32) -> Option<Event> {
     }
 }
 
-/// The first three events of a journal, as far as there are so many.
+/// The first three events of a journal; `None` where it has fewer.
 pub fn first_events(closed: &Closed<'_>) -> [Option<Event>; 3] {
     [
         event_at(closed, 0),
