@@ -2,6 +2,7 @@
 //! of its `break`s, get their places when these are known.
 
 ghost use Rattle.std.specs.Prelude.{◌≡◌, ◌+◌, ◌<◌, ◌≤◌, ◌++◌, ◌∷◌, [], map, length, drop, take, slice_set, Some, OnOk};
+ghost use Rattle.std.specs.Option.{option_copied};
 ghost use Rattle.fmp_instructions.specs.declared.instructions.Instruction.TheVariants.{Jump, JumpIfZero};
 ghost use Rattle.fmp_tasklang.specs.Views.{expression_view, call_view, statement_view, block_view};
 ghost use Rattle.fmp_scopes.specs.Chains.{test_code};
@@ -30,9 +31,9 @@ fn target_of(names: &Names<'_>, word: &Word) -> u8
 }
 
 /// The place of a variable, where one is named.
-fn place_of_word(names: &Names<'_>, word: Option<Word>) -> Option<u8>
+fn place_of_word(names: &Names<'_>, word: Option<&Word>) -> Option<u8>
     requires { IsHeld names.now }
-    ensures { result ≡ word_place (scope_view names.now) word }
+    ensures { result ≡ word_place (scope_view names.now) (option_copied word.entry) }
 {
     match word {
         None => None,
@@ -89,8 +90,8 @@ fn emit_call(out: &mut Output, names: &Names<'_>, call: &ServiceCall) -> Result<
     emit_arguments(out, names, arguments)?;
     let instruction = Instruction::Call {
         service: call.service,
-        out: place_of_word(names, call.out.word()),
-        result: place_of_word(names, call.result.word()),
+        out: place_of_word(names, call.receivers.out()),
+        result: place_of_word(names, call.receivers.result()),
     };
     put(out, instruction, count_of(arguments))?;
     Ok(())

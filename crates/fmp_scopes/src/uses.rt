@@ -1,6 +1,7 @@
 //! The first name of a tree that is unknown or used with the wrong shape, in order of text.
 
 ghost use Rattle.std.specs.Prelude.{◌≡◌, ◌++◌, ◌∷◌, map, min, take, drop};
+ghost use Rattle.std.specs.Option.{option_copied};
 ghost use Rattle.fmp_base.specs.Services.{out_place};
 ghost use Rattle.fmp_base.specs.Systems.{found};
 ghost use Rattle.fmp_tasklang.specs.Views.{expression_view, link_view, call_view, statement_view, block_view};
@@ -63,12 +64,12 @@ fn arguments_offence(names: &Names<'_>, arguments: &[Expression]) -> Option<Offe
 }
 
 /// The fault of a variable that is written, if there is one.
-fn word_offence(names: &Names<'_>, word: Option<Word>) -> Option<Offence>
+fn word_offence(names: &Names<'_>, word: Option<&Word>) -> Option<Offence>
     requires { IsHeld names.now }
-    ensures { result ≡ uses_offence (scope_view names.now) (word_uses word) }
+    ensures { result ≡ uses_offence (scope_view names.now) (word_uses (option_copied word.entry)) }
 {
     match word {
-        Some(word) => write_offence(names, &word),
+        Some(word) => write_offence(names, word),
         None => None,
     }
 }
@@ -107,10 +108,10 @@ fn call_offence(names: &Names<'_>, call: &ServiceCall) -> Option<Offence>
     let arguments = call.arguments.as_slice();
     let before = least(before_out(call.service), arguments.len());
     let last = arguments_offence(names, &arguments[before..]);
-    let from_out = earlier(word_offence(names, call.out.word()), last);
+    let from_out = earlier(word_offence(names, call.receivers.out()), last);
     let first = arguments_offence(names, &arguments[..before]);
     earlier(
-        word_offence(names, call.result.word()),
+        word_offence(names, call.receivers.result()),
         earlier(first, from_out),
     )
 }

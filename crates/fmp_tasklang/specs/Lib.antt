@@ -7,9 +7,11 @@ pub mod Examples
 pub mod Expressions
 pub mod Grammar
 pub mod HeldArguments
+pub mod HeldReceivers
 pub mod Layout
 pub mod Laws
 pub mod Reading
+pub mod Receivers
 pub mod Scopes
 pub mod Statements
 pub mod Stretches

@@ -303,7 +303,7 @@ else_view (Some v) = Some (block_view v)
 
 -- a call, without the variable before `=`
 abbrev pub called_view : ServiceCall → Called
-called_view c = record { service = c.service; arguments = map expression_view c.arguments.items; out = c.out }
+called_view c = record { service = c.service; arguments = map expression_view c.arguments.items; out = c.receivers.out }
 
 abbrev pub argument_view : Option Argument → Option ArgumentTree
 argument_view None = None

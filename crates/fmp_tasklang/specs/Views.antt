@@ -50,7 +50,12 @@ link_view = fold-Link ExpressionTree LinkTree expression_step link_step
 -- the tree of a service call
 abbrev pub call_view : ServiceCall → CallTree
 call_view c =
-    record { service = c.service; arguments = map expression_view c.arguments.items; out = c.out; result = c.result }
+    record {
+      service = c.service;
+      arguments = map expression_view c.arguments.items;
+      out = c.receivers.out;
+      result = c.receivers.result;
+    }
 
 -- a statement, and the statements of a block within it
 abbrev mutual

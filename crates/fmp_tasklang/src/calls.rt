@@ -1,5 +1,5 @@
 //! Service calls of the task language.
-ghost use Rattle.std.specs.Prelude.{◌≡◌, ◌^◌, ◌+◌, ◌≤◌, ◌<◌, ◌++◌, Some, [], length, map, slice_get, option_and_then, IfOk, IfErr};
+ghost use Rattle.std.specs.Prelude.{◌≡◌, ◌^◌, ◌+◌, ◌≤◌, ◌<◌, ◌++◌, None, Some, [], length, map, slice_get, option_and_then, IfOk, IfErr};
 ghost use Rattle.fmp_lex.specs.Reading.{kinds_of, max_depth, Answers};
 ghost use Rattle.fmp_lex.specs.Forms as forms;
 ghost use Rattle.fmp_tasklang.specs.Calls.{service_of, values_of, out_from};
@@ -9,7 +9,7 @@ ghost use Rattle.fmp_tasklang.specs.Views.{expression_view};
 use crate::argument_list::ArgumentList;
 use crate::expressions::expression;
 use crate::forms::{Part, parts_of};
-use crate::receivers::Receiver;
+use crate::receivers::Receivers;
 use crate::trees::{Expression, ServiceCall, Word};
 use crate::words::{LOOSEST, expect_word};
 use fmp_base::Service;
@@ -58,13 +58,15 @@ fn part(
 fn put(alloc: Global, call: &mut ServiceCall, argument: Option<Argument>) -> Result<(), ReadError>
     ensures arguments { IfOk result (λ _. map expression_view call.new.arguments.items
         ≡ map expression_view call.old.arguments.items ++ values_of (forms.put (argument_view argument) [])) }
-    ensures out { IfOk result (λ _. call.new.out ≡ out_from call.old.out (forms.put (argument_view argument) [])) }
+    ensures out { IfOk result (λ _. call.new.receivers.out
+        ≡ out_from call.old.receivers.out (forms.put (argument_view argument) [])) }
+    ensures result { IfOk result (λ _. call.new.receivers.result ≡ call.old.receivers.result) }
     ensures service { IfOk result (λ _. call.new.service ≡ call.old.service) }
     ensures memory { IfErr result (λ e. e ≡ ReadError.Memory) }
 {
     match argument {
         Some(Argument::Value(value)) => call.arguments.push(alloc, value)?,
-        Some(Argument::Out(word)) => call.out = Receiver::of(alloc, word)?,
+        Some(Argument::Out(word)) => call.receivers.set_out(alloc, word)?,
         None => (),
     }
     Ok(())
@@ -80,14 +82,14 @@ fn arguments(
 ) -> Result<(ServiceCall, usize), ReadError>
     requires depth { depth ≤ max_depth }
     requires at { at ≤ length tokens.now }
-    ensures { Answers called_view result
+    ensures reads { Answers called_view result
         (RightArguments (kinds_of tokens.now) depth service parts.now at) }
+    ensures result { IfOk result (λ read. read.0.receivers.result ≡ None) }
 {
     let mut call = ServiceCall {
         service,
         arguments: ArgumentList::with_capacity(alloc, usize::from(service.arity()))?,
-        out: Receiver::none(),
-        result: Receiver::none(),
+        receivers: Receivers::none(),
     };
     let mut i = at;
     for one in parts {
@@ -110,7 +112,8 @@ pub fn call(
     requires at { at < length tokens.now }
     requires room { at + 1 < 2 ^ 64 }
     requires first { option_and_then service_of (slice_get (kinds_of tokens.now) at) ≡ Some service }
-    ensures { Answers called_view result (RightCall (kinds_of tokens.now) depth at) }
+    ensures reads { Answers called_view result (RightCall (kinds_of tokens.now) depth at) }
+    ensures result { IfOk result (λ read. read.0.receivers.result ≡ None) }
 {
     arguments(alloc, tokens, depth, service, parts_of(service), at + 1)
 }

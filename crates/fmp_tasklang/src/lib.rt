@@ -17,7 +17,7 @@ mod words;
 pub use argument_list::ArgumentList;
 pub use bodies::body;
 pub use reading::read_tasks;
-pub use receivers::Receiver;
+pub use receivers::Receivers;
 pub use trees::{
     Body, BodyKind, Declaration, Expression, Length, Link, Operator, Program, ServiceCall,
     Statement, Word,

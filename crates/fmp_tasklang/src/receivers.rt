@@ -1,49 +1,94 @@
 //! The variables that receive what a service call answers.
-ghost use Rattle.std.specs.Prelude.{◌≡◌, IfOk, None, Some};
+ghost use Rattle.std.specs.Prelude.{◌≡◌, None, OnOk, Some};
+ghost use Rattle.std.specs.Option.{option_copied};
+ghost use Rattle.fmp_tasklang.specs.HeldReceivers.{held_out, held_result};
 
 use crate::trees::Word;
 use std::alloc::{AllocError, Global};
 use std::marker::Model;
 
-/// The variable at a place of a call, if there is one. It lies in a box, so that a call without it needs no room for
-/// its name. Contracts see the variable.
+/// The variables of a call: the one at its out place and the one before `=`, where they stand. They lie in one box, so
+/// that a call without them needs no room for their names. Contracts see both.
 #[derive(Drop)]
-pub struct Receiver {
-    boxed: Option<Box<Word>>,
+pub struct Receivers {
+    held: Held,
 }
 
-impl Model for Receiver {
-    ghost use Rattle.std.specs.Prelude.{Option, option_map};
-    ghost use Rattle.fmp_tasklang.specs.declared.trees.Word as trees;
-
-    ghost Value = { Option trees.Word };
-
-    ghost view = { λ r. option_map (λ b. b.value) r.boxed };
+/// Where the variables lie.
+#[derive(Drop)]
+enum Held {
+    Nothing,
+    Out(Box<Word>),
+    Result(Box<Word>),
+    /// The variable at the out place, then the one before `=`.
+    Both(Box<(Word, Word)>),
 }
 
-impl Receiver {
+impl Model for Receivers {
+    ghost use Rattle.fmp_tasklang.specs.Receivers.{ReceiverWords};
+    ghost use Rattle.fmp_tasklang.specs.HeldReceivers.{held_out, held_result};
+
+    ghost Value = { ReceiverWords };
+
+    ghost view = { λ r. record { out = held_out r.held; result = held_result r.held } };
+}
+
+impl Receivers {
     /// No variable.
-    pub(crate) fn none() -> Receiver
-        ensures { result ≡ None }
+    pub(crate) fn none() -> Receivers
+        ensures out { result.out ≡ None }
+        ensures result { result.result ≡ None }
     {
-        Receiver { boxed: None }
+        Receivers {
+            held: Held::Nothing,
+        }
     }
 
-    /// This variable. The error is out of memory.
-    pub(crate) fn of(alloc: Global, word: Word) -> Result<Receiver, AllocError>
-        ensures { IfOk result (λ receiver. receiver ≡ Some word) }
+    /// Sets the variable at the out place. The error is out of memory.
+    pub(crate) fn set_out(&mut self, alloc: Global, word: Word) -> Result<(), AllocError>
+        ensures out { OnOk result (self.new.out ≡ Some word) }
+        ensures result { OnOk result (self.new.result ≡ self.old.result) }
     {
-        let boxed = Box::new(alloc, word)?;
-        Ok(Receiver { boxed: Some(boxed) })
+        self.held = match self.result() {
+            None => Held::Out(Box::new(alloc, word)?),
+            Some(other) => Held::Both(Box::new(alloc, (word, *other))?),
+        };
+        Ok(())
     }
 
-    /// The variable, if there is one.
-    pub fn word(&self) -> Option<Word>
-        ensures { result ≡ self.now }
+    /// Sets the variable before `=`. The error is out of memory.
+    pub(crate) fn set_result(&mut self, alloc: Global, word: Word) -> Result<(), AllocError>
+        ensures result { OnOk result (self.new.result ≡ Some word) }
+        ensures out { OnOk result (self.new.out ≡ self.old.out) }
     {
-        match &self.boxed {
-            Some(word) => Some(**word),
-            None => None,
+        self.held = match self.out() {
+            None => Held::Result(Box::new(alloc, word)?),
+            Some(other) => Held::Both(Box::new(alloc, (*other, word))?),
+        };
+        Ok(())
+    }
+
+    /// The variable at the out place, if there is one.
+    pub fn out(&self) -> Option<&Word>
+        ensures { option_copied result ≡ self.now.out }
+    {
+        match &self.held {
+            Held::Nothing => None,
+            Held::Out(word) => Some(word),
+            Held::Result(_) => None,
+            Held::Both(both) => Some(&both.0),
+        }
+    }
+
+    /// The variable before `=`, if there is one.
+    pub fn result(&self) -> Option<&Word>
+        ensures { option_copied result ≡ self.now.result }
+    {
+        match &self.held {
+            Held::Nothing => None,
+            Held::Out(_) => None,
+            Held::Result(word) => Some(word),
+            Held::Both(both) => Some(&both.1),
         }
     }
 }

@@ -4,15 +4,13 @@ ghost use Rattle.fmp_lex.specs.Reading.{kinds_of, max_depth, Answers};
 ghost use Rattle.fmp_base.specs.declared.words.Keyword.TheVariants as keyword;
 ghost use Rattle.fmp_lex.specs.declared.token.Symbol.TheVariants as symbol;
 ghost use Rattle.fmp_tasklang.specs.Blocks.{choice};
-ghost use Rattle.fmp_tasklang.specs.Calls.{service_of, call_tree};
-ghost use Rattle.fmp_tasklang.specs.Reading.{statements_view, block_view, else_view, source_view, element_view, change_view, called_view, assigned, changed, RightCondition, RightSource, RightVariableChange, RightElementChange, RightChange, RightAssignment, RightPlainCall, RightJump, RightStatement, RightIf, RightElse, RightOther, RightBlock, RightStatements};
+ghost use Rattle.fmp_tasklang.specs.Calls.{service_of};
+ghost use Rattle.fmp_tasklang.specs.Reading.{statements_view, block_view, else_view, source_view, element_view, change_view, assigned, changed, RightCondition, RightSource, RightVariableChange, RightElementChange, RightChange, RightAssignment, RightPlainCall, RightJump, RightStatement, RightIf, RightElse, RightOther, RightBlock, RightStatements};
 ghost use Rattle.fmp_tasklang.specs.Statements.{jump_of};
-ghost use Rattle.fmp_tasklang.specs.Trees.{service_call};
 ghost use Rattle.fmp_tasklang.specs.Views.{expression_view, statement_view};
 
 use crate::calls::call;
 use crate::expressions::{bracketed, expression};
-use crate::receivers::Receiver;
 use crate::trees::{Expression, ServiceCall, Statement, Word};
 use crate::words::{LOOSEST, MAX_DEPTH, expect_word, jump_at, service_at};
 use fmp_base::Service;
@@ -77,17 +75,6 @@ fn source(
     Ok((Given::Value(value), next))
 }
 
-fn calling(call: ServiceCall, receiver: Receiver) -> Statement
-    ensures { statement_view result ≡ service_call (call_tree receiver (called_view call)) }
-{
-    Statement::Call(ServiceCall {
-        service: call.service,
-        arguments: call.arguments,
-        out: call.out,
-        result: receiver,
-    })
-}
-
 fn assign(alloc: Global, target: Word, source: Given) -> Result<Statement, ReadError>
     ensures tree { IfOk result (λ s. statement_view s ≡ assigned target (source_view source)) }
     ensures memory { IfErr result (λ e. e ≡ ReadError.Memory) }
@@ -95,8 +82,9 @@ fn assign(alloc: Global, target: Word, source: Given) -> Result<Statement, ReadE
     match source {
         Given::Value(value) => Ok(Statement::Assign { target, value }),
         Given::Call(call) => {
-            let receiver = Receiver::of(alloc, target)?;
-            Ok(calling(call, receiver))
+            let mut call = call;
+            call.receivers.set_result(alloc, target)?;
+            Ok(Statement::Call(call))
         }
     }
 }
@@ -204,7 +192,7 @@ fn plain_call(
 {
     let (call, next) = call(alloc, tokens, depth, service, at)?;
     let next = expect_symbol(tokens, next, Symbol::Semicolon)?;
-    Ok((calling(call, Receiver::none()), next))
+    Ok((Statement::Call(call), next))
 }
 
 fn jump(

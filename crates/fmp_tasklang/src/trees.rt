@@ -1,6 +1,6 @@
 //! The syntax tree of a task text.
 use crate::argument_list::ArgumentList;
-use crate::receivers::Receiver;
+use crate::receivers::Receivers;
 use fmp_base::{BinaryOperator, Name, Service, UnaryOperator};
 
 /// A name in a text.
@@ -62,10 +62,8 @@ pub struct ServiceCall {
     pub service: Service,
     /// The arguments, without the out place.
     pub arguments: ArgumentList,
-    /// The variable at the out place.
-    pub out: Receiver,
-    /// The variable before `=`.
-    pub result: Receiver,
+    /// The variable at the out place and the one before `=`.
+    pub receivers: Receivers,
 }
 
 /// A statement.

@@ -26,11 +26,12 @@ loop-one-init c =
       seen = [];
       values = search rules;
       out = search rules;
+      result = search rules;
       goes = λ o x. no_before o (RightParts ts d ps i) x;
     }
 
-pub returns-in_err-argument : goal.returns-in_err-argument
-returns-in_err-argument c =
+pub returns-in_err-argument-clause-reads : goal.returns-in_err-argument-clause-reads
+returns-in_err-argument-clause-reads c =
     let ts = kinds_of c.args.tokens.now in
     let d = c.args.depth in
     let i = c.args.at in
@@ -68,12 +69,13 @@ loop-one-preserved c =
       seen = seen ++ put a [];
       values = c.in_ok-put.ensures.arguments ∙ (ap (λ z. z ++ values_of (put a [])) c.loop-one.invariant.values ∙ sym (values_of-append seen (put a [])));
       out = c.in_ok-put.ensures.out ∙ (ap (λ w. out_from w (put a [])) c.loop-one.invariant.out ∙ sym (out_from-append None seen (put a [])));
+      result = c.in_ok-put.ensures.result ∙ c.loop-one.invariant.result;
       goes = λ o rest. push_put seen a o (RightParts ts d ps i) (c.loop-one.invariant.goes (map_result (put a) o)
           (subst (λ rows. RightParts ts d rows k (map_result (put a) o)) (sym split) (parts_then d row (drop (n + 1) ps) ts k a m x o rest)));
     }
 
-pub returns : goal.returns
-returns c =
+pub returns-clause-reads : goal.returns-clause-reads
+returns-clause-reads c =
     let ts = kinds_of c.args.tokens.now in
     let d = c.args.depth in
     let i = c.args.at in
@@ -84,6 +86,7 @@ returns c =
     let seen = c.loop-one.invariant.seen in
     let within : k ≤ length ts = simp length-map c.loop-one.invariant.within in
     let all : RightParts ts d ps i (found seen k) = rw append-nil at (c.loop-one.invariant.goes (found [] k) (parts_none d (drop n ps) ts k (parts_done ps n (omega arith)) within)) in
-    let same = called_is c.loop-one.call.service s (map expression_view c.loop-one.call.arguments.items) (values_of seen) c.loop-one.call.out (out_from None seen)
+    let same = called_is c.loop-one.call.service s (map expression_view c.loop-one.call.arguments.items)
+    (values_of seen) c.loop-one.call.receivers.out (out_from None seen)
     c.loop-one.invariant.service c.loop-one.invariant.values c.loop-one.invariant.out in
     subst (λ z. RightArguments ts d s ps i (found z k)) (sym same) (arguments_as d s ps ts i (found seen k) all)

@@ -1,4 +1,4 @@
-use Rattle.std.proofs.Common.{◌≡◌, ◌≤◌, List, length, drop, map}
+use Rattle.std.proofs.Common.{◌≡◌, ◌≤◌, List, None, length, drop, map}
 use Rattle.fmp_lex.specs.Reading.{kinds_of, ParseResult, map_result}
 use Rattle.fmp_lex.proofs.Repetitions.{put_before}
 use Rattle.fmp_tasklang.specs.Calls.{ArgumentTree, values_of, out_of}
@@ -12,7 +12,8 @@ invariant-loop-one l = record {
   service : l.call.service ≡ l.fn.service;
   seen : List ArgumentTree;
   values : map expression_view l.call.arguments.items ≡ values_of seen;
-  out : l.call.out ≡ out_of seen;
+  out : l.call.receivers.out ≡ out_of seen;
+  result : l.call.receivers.result ≡ None;
   goes : (o : ParseResult (List ArgumentTree)) → RightParts (kinds_of l.tokens) l.depth (drop l.one-index l.parts) l.i o →
       RightParts (kinds_of l.tokens) l.depth l.parts l.at (map_result (put_before seen) o);
 }

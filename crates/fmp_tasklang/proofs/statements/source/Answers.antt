@@ -15,7 +15,8 @@ returns-in_err-call c =
     let i = c.args.at in
     let p = err_from_is_err_and c.from_residual.result c.from_residual.ensures.1 in
     rw (p.1, p.2) (err_as called_view source_view c.in_err-call.field-0.0 (RightCall ts d i) (RightSource ts d i)
-    (λ j why x. source_call ts d i c.in-Some.service (sym c.in-Some.ensures.value) (stopped j why) x) c.in_err-call.ensures)
+    (λ j why x. source_call ts d i c.in-Some.service (sym c.in-Some.ensures.value) (stopped j why) x)
+    c.in_err-call.ensures.reads)
 
 pub returns-in_err-value : goal.returns-in_err-value
 returns-in_err-value c =
@@ -31,7 +32,8 @@ returns-in-Some c =
     let ts = kinds_of c.args.tokens.now in
     let d = c.args.depth in
     let i = c.args.at in
-    source_call ts d i c.in-Some.service (sym c.in-Some.ensures.value) (found (called_view c.in_ok-call.call) c.in_ok-call.next) c.in_ok-call.ensures
+    source_call ts d i c.in-Some.service (sym c.in-Some.ensures.value)
+    (found (called_view c.in_ok-call.call) c.in_ok-call.next) c.in_ok-call.ensures.reads
 
 pub returns : goal.returns
 returns c =
