@@ -25,6 +25,7 @@ impl<'a> Attempt<'a> {
         requires { length self.now.steps.now < 1048575 }
         ensures parent { result.parent ≡ self.now.state }
         ensures event { result.event ≡ self.now.event }
+        ensures kept { result.kept ≡ kept }
         ensures depth { result.depth ≡ (length self.now.steps.now - before) + 1 }
     {
         Link {
