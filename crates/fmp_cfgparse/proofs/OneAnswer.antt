@@ -33,7 +33,7 @@ module _ {A : Type 0} (X : Rel A) (framed : Framed X) where
         drop m (take n ts) ++ b.0,
         b.1,
         subst (λ us. X us lower 0 b.1 (length us)) whole
-            (framed.same (take n ts ++ b.0) (take n ts ++ b.0) limit lower 0 b.1 _ low b.2 (λ k lt. refl)),
+            (framed.same (take n ts ++ b.0) (take n ts ++ b.0) limit lower 0 b.1 _ low b.2 (λ k from lt. refl)),
       )
 
   not_before : (ts : List TokenKind) (j k : ℕ) (why other : GrammarFault) → IsFirstFault X ts j why → IsFirstFault X ts k other → j < k → ⊥

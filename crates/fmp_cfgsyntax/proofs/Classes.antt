@@ -13,7 +13,7 @@ use Rattle.fmp_lex.specs.declared.reading.ReadError.{ReadError}
 use Rattle.fmp_lex.specs.declared.reading.ReadError.TheVariants.{Memory, Fault}
 use Rattle.fmp_lex.specs.Reading.{Rel, At, Seq, OneToken, Same, ParseResult, found, stopped, place, map_result, Right, Anywhere, IsFirstFault, IsWhole, Answers, Star}
 use Rattle.fmp_lex.specs.Reading as reading
-use Rattle.fmp_lex.proofs.Sequences.{Framed, Fills, Follows, token_found, right_as, item_framed, fewer}
+use Rattle.fmp_lex.proofs.Sequences.{Framed, Fills, Follows, token_found, right_as, item_framed, between_front, between_rest}
 use Rattle.fmp_lex.proofs.Wholes.{whole_found, whole_longer, whole_stopped}
 use Rattle.fmp_cfgsyntax.specs.Trees.{FieldTree, ApiTree, ClassTree, ConfigurationTree, configuration_view}
 use Rattle.fmp_cfgsyntax.specs.Grammar.{token_number, name_of, api_of, Parts, api_parts, OneApi, OneClass, Config}
@@ -41,8 +41,8 @@ api_framed = record {
       let rest = (parts_framed (api_parts a.kind)).up ts limit x.1 a.fields j x.3 in (
         x.0,
         x.1,
-        (item_framed api_of).same ts us limit lower i a.kind x.1 low x.2 (fewer x.1 j ts us rest same),
-        (parts_framed (api_parts a.kind)).same ts us limit lower x.1 a.fields j low x.3 same,
+        (item_framed api_of).same ts us limit lower i a.kind x.1 low x.2 (between_front i x.1 j ts us rest same),
+        (parts_framed (api_parts a.kind)).same ts us limit lower x.1 a.fields j low x.3 (between_rest i x.1 j ts us (omega (arith, x.2.1)) same),
       );
 }
 

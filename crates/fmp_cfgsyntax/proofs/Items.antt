@@ -6,9 +6,9 @@ use Rattle.fmp_lex.specs.declared.token.TokenKind.{TokenKind}
 use Rattle.fmp_lex.specs.declared.token.TokenKind.TheVariants as kind
 use Rattle.fmp_lex.specs.declared.reading.GrammarFault.{GrammarFault}
 use Rattle.fmp_lex.specs.declared.reading.GrammarFault.TheVariants.{Syntax}
-use Rattle.fmp_lex.specs.Reading.{Rel, At, Seq, OneToken, IsToken, IsItem, Same, ParseResult, found, stopped, place, map_result, Right, Anywhere, Star}
+use Rattle.fmp_lex.specs.Reading.{Rel, At, Seq, OneToken, IsToken, IsItem, ParseResult, found, stopped, place, map_result, Right, Anywhere, Star}
 use Rattle.fmp_lex.specs.Reading as reading
-use Rattle.fmp_lex.proofs.Sequences.{Framed, Fills, token_found, seq_framed, seq_fills, seq_then, seq_stop, right_as, item_framed, item_fills, item_found, item_missing}
+use Rattle.fmp_lex.proofs.Sequences.{Framed, Fills, Between, token_found, seq_framed, seq_fills, seq_then, seq_stop, right_as, item_framed, item_fills, item_found, item_missing}
 use Rattle.fmp_cfgsyntax.specs.declared.tree.Item.{Item}
 use Rattle.fmp_cfgsyntax.specs.declared.tree.Item.TheVariants as item
 use Rattle.fmp_cfgsyntax.specs.Grammar.{token_number, name_of, plain_item_of, OneItem, MoreItem, OneValue}
@@ -48,7 +48,7 @@ item_up us limit i (item.Constant n) j x = omega (arith, x.1)
 item_up us limit i (item.Name n) j x = omega (arith, x.1)
 item_up us limit i (item.Minus n) j x = omega (arith, x.1.1, x.2.1)
 
-item_same : (ts us : List TokenKind) (limit lower i : ℕ) (a : Item) (j : ℕ) → lower ≤ limit → OneItem ts limit i a j → Same j ts us → OneItem us lower i a j
+item_same : (ts us : List TokenKind) (limit lower i : ℕ) (a : Item) (j : ℕ) → lower ≤ limit → OneItem ts limit i a j → Between i j ts us → OneItem us lower i a j
 item_same ts us limit lower i (item.Number n) j low x same = (item_framed plain_item_of).same ts us limit lower i (item.Number n) j low x same
 item_same ts us limit lower i (item.Constant n) j low x same = (item_framed plain_item_of).same ts us limit lower i (item.Constant n) j low x same
 item_same ts us limit lower i (item.Name n) j low x same = (item_framed plain_item_of).same ts us limit lower i (item.Name n) j low x same
@@ -156,7 +156,7 @@ value_up : (us : List TokenKind) (limit i : ℕ) (e : List Item) (j : ℕ) → O
 value_up us limit i [] j x = absurd x
 value_up us limit i (a ∷ more) j x = (seq_framed OneItem (Star MoreItem) one_item_framed (star_framed MoreItem more_item_framed)).up us limit i (a, more) j x
 
-value_same : (ts us : List TokenKind) (limit lower i : ℕ) (e : List Item) (j : ℕ) → lower ≤ limit → OneValue ts limit i e j → Same j ts us → OneValue us lower i e j
+value_same : (ts us : List TokenKind) (limit lower i : ℕ) (e : List Item) (j : ℕ) → lower ≤ limit → OneValue ts limit i e j → Between i j ts us → OneValue us lower i e j
 value_same ts us limit lower i [] j low x same = absurd x
 value_same ts us limit lower i (a ∷ more) j low x same =
     (seq_framed OneItem (Star MoreItem) one_item_framed (star_framed MoreItem more_item_framed)).same ts us limit lower i (a, more) j low x same

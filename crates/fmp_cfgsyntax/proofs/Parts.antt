@@ -5,9 +5,9 @@ use Rattle.fmp_lex.specs.declared.token.Symbol.TheVariants as symbol
 use Rattle.fmp_lex.specs.declared.token.TokenKind.{TokenKind}
 use Rattle.fmp_lex.specs.declared.token.TokenKind.TheVariants as kind
 use Rattle.fmp_lex.specs.declared.reading.GrammarFault.{GrammarFault}
-use Rattle.fmp_lex.specs.Reading.{At, Seq, OneToken, Same, ParseResult, found, stopped, place, map_result, Right, Anywhere}
+use Rattle.fmp_lex.specs.Reading.{At, Seq, OneToken, ParseResult, found, stopped, place, map_result, Right, Anywhere}
 use Rattle.fmp_lex.specs.Reading as reading
-use Rattle.fmp_lex.proofs.Sequences.{Framed, Fills, Follows, token_framed, token_fills, seq_fills, seq_then, seq_stop, right_as, item_framed}
+use Rattle.fmp_lex.proofs.Sequences.{Framed, Fills, Follows, Between, between_front, between_rest, token_framed, token_fills, seq_fills, seq_then, seq_stop, right_as, item_framed}
 use Rattle.fmp_lex.specs.Forms.{mark_kind, put}
 use Rattle.fmp_lex.specs.declared.marks.Mark.{Mark}
 use Rattle.fmp_lex.specs.declared.marks.Mark.TheVariants as mark
@@ -32,7 +32,7 @@ part_up part.Value us limit i None j x = absurd x
 part_up part.Value us limit i (Some (value v)) j x = value_framed.up us limit i v j x
 part_up part.Value us limit i (Some (name n)) j x = absurd x
 
-part_same : (p : Part) (ts us : List TokenKind) (limit lower i : ℕ) (f : Option FieldTree) (j : ℕ) → lower ≤ limit → OnePart p ts limit i f j → Same j ts us → OnePart p us lower i f j
+part_same : (p : Part) (ts us : List TokenKind) (limit lower i : ℕ) (f : Option FieldTree) (j : ℕ) → lower ≤ limit → OnePart p ts limit i f j → Between i j ts us → OnePart p us lower i f j
 part_same (part.Mark m) ts us limit lower i None j low x same = (token_framed (mark_kind m)).same ts us limit lower i tt j low x same
 part_same (part.Mark m) ts us limit lower i (Some (value v)) j low x same = absurd x
 part_same (part.Mark m) ts us limit lower i (Some (name n)) j low x same = absurd x
@@ -126,11 +126,18 @@ parts_up (p ∷ ps) us limit i fs j x =
     let rest = parts_up ps us limit x.3 x.1 j x.5 in
     omega arith
 
-parts_same : (ps : List Part) (ts us : List TokenKind) (limit lower i : ℕ) (fs : List FieldTree) (j : ℕ) → lower ≤ limit → Parts ps ts limit i fs j → Same j ts us → Parts ps us lower i fs j
+parts_same : (ps : List Part) (ts us : List TokenKind) (limit lower i : ℕ) (fs : List FieldTree) (j : ℕ) → lower ≤ limit → Parts ps ts limit i fs j → Between i j ts us → Parts ps us lower i fs j
 parts_same [] ts us limit lower i fs j low x same = x
 parts_same (p ∷ ps) ts us limit lower i fs j low x same =
-    let rest = parts_up ps ts limit x.3 x.1 j x.5 in
-    (x.0, x.1, x.2, x.3, part_same p ts us limit lower i x.0 x.3 low x.4 (λ k lt. same k (omega arith)), parts_same ps ts us limit lower x.3 x.1 j low x.5 same)
+    let one = part_up p ts limit i x.0 x.3 x.4 in
+    let rest = parts_up ps ts limit x.3 x.1 j x.5 in (
+      x.0,
+      x.1,
+      x.2,
+      x.3,
+      part_same p ts us limit lower i x.0 x.3 low x.4 (between_front i x.3 j ts us rest same),
+      parts_same ps ts us limit lower x.3 x.1 j low x.5 (between_rest i x.3 j ts us one same),
+    )
 
 pub parts_framed : (ps : List Part) → Framed (Parts ps)
 parts_framed ps = record { up = parts_up ps; same = parts_same ps }

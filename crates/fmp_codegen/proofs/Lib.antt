@@ -12,6 +12,7 @@ mod Places
 mod Printed
 mod Standing
 mod Statements
+mod StreamMaking
 mod TextMaking
 mod Tied
 mod Variables

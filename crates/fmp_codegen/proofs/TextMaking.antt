@@ -28,7 +28,7 @@ use Rattle.fmp_tasklang.specs.Views.{body_view}
 use Rattle.fmp_tasklang.proofs.BodyPaths.{ends_there}
 use Rattle.fmp_tasklang.specs.Trees.{BodyTree}
 use Rattle.fmp_instructions.specs.declared.instructions.BodyCode.{BodyCode}
-use Rattle.fmp_instructions.specs.Instructions.{BodyTables, body_tables}
+use Rattle.fmp_instructions.specs.Instructions.{BodyTables, body_tables, code_tables}
 use Rattle.fmp_scopes.specs.declared.headings.Heading.{Heading}
 use Rattle.fmp_scopes.specs.declared.offences.Offence.{Offence}
 use Rattle.fmp_codegen.specs.declared.texts.CompiledText.{CompiledText}
@@ -36,7 +36,7 @@ use Rattle.fmp_codegen.specs.declared.texts.Made.{Made}
 use Rattle.fmp_codegen.specs.Compiling.{body_offence, bodies_offence, compiled_body}
 use Rattle.fmp_scopes.specs.Headings.{heading_of}
 use Rattle.fmp_scopes.specs.Naming.{first_offence}
-use Rattle.fmp_codegen.specs.Texts.{AreMade, IsMadeUpTo, IsMadeOf, MadeText, IsTextCompiled}
+use Rattle.fmp_codegen.specs.Texts.{AreMade, IsMadeUpTo, IsMadeOf, IsStreamed, MadeText, IsTextCompiled}
 use Rattle.fmp_scopes.proofs.Headed.{names-of, length-headed}
 use Rattle.fmp_codegen.proofs.LowHeadings.{low-headed}
 use Rattle.fmp_codegen.proofs.Limits.{few-bodies}
@@ -124,17 +124,6 @@ made-stopped tables ts (Fault f) a = whole_stopped Bodies EndsBodies ends_there 
 
 -- what is answered of the bodies that a text spells
 module _ (tables : SystemTables) (made : Made) (bodies : List BodyTree) (are : AreMade tables made bodies) (ts : List Token) where
-  pub text-few : (r : Result CompiledText BuildFault) → MadeText ts made r → IfOk r (λ c. length c.headings.items ≤ 255)
-  text-few (Ok c) h =
-      let few = few-bodies tables bodies (sym are.offence ∙ h.0) in
-      let long : length c.headings.items ≡ length bodies = ap length (h.1 ∙ are.headings h.0) ∙ length-headed bodies in
-      omega (arith, few, long)
-  text-few (Err f) h = tt
-
-  pub text-low : (r : Result CompiledText BuildFault) → MadeText ts made r → IfOk r (λ c. AllByRecursion (λ (h : Heading). h.depth ≤ 64) c.headings.items)
-  text-low (Ok c) h = low-headed tables bodies c.headings.items (sym are.offence ∙ h.0) (h.1 ∙ are.headings h.0)
-  text-low (Err f) h = tt
-
   pub text-compiled :
       (text : List ℕ) → Spells Bodies text ts bodies → (r : Result CompiledText BuildFault) → MadeText ts made r →
       IsTextCompiled tables text r
@@ -142,6 +131,32 @@ module _ (tables : SystemTables) (made : Made) (bodies : List BodyTree) (are : A
       (ts, bodies, spelled, sym are.offence ∙ h.0, h.1 ∙ are.headings h.0, h.2 ∙ are.code h.0)
   text-compiled text spelled (Err build.Memory) h = tt
   text-compiled text spelled (Err (build.At f place why)) h = inr (ts, bodies, spelled, h.0, sym are.offence ∙ h.1, h.2)
+
+-- what is known of the headings that are answered
+pub compiled-few :
+    (tables : SystemTables) (text : List ℕ) (r : Result CompiledText BuildFault) → IsTextCompiled tables text r →
+    IfOk r (λ c. length c.headings.items ≤ 255)
+compiled-few tables text (Ok c) h =
+    let few = few-bodies tables h.1 h.3 in
+    let long : length c.headings.items ≡ length h.1 = ap length h.4 ∙ length-headed h.1 in
+    omega (arith, few, long)
+compiled-few tables text (Err f) h = tt
+
+pub compiled-low :
+    (tables : SystemTables) (text : List ℕ) (r : Result CompiledText BuildFault) → IsTextCompiled tables text r →
+    IfOk r (λ c. AllByRecursion (λ (h : Heading). h.depth ≤ 64) c.headings.items)
+compiled-low tables text (Ok c) h = low-headed tables h.1 c.headings.items h.3 h.4
+compiled-low tables text (Err f) h = tt
+
+-- a text without a fault, all of whose bodies are made
+pub text-streamed :
+    (tables : SystemTables) (text : List ℕ) (made : Made) (c : CompiledText) → IsStreamed tables text made →
+    c.headings.items ≡ made.headings.items → code_tables c.code ≡ map body_tables made.bodies.items →
+    IsTextCompiled tables text (Ok c)
+text-streamed tables text made c x headings code =
+    let are = x.3 in
+    let fine = x.4 in
+    (x.0, x.1, x.2, sym are.offence ∙ fine, headings ∙ are.headings fine, code ∙ are.code fine)
 
 pub not_long : (text : List ℕ) (list : TokenList) → ((Ok list ≡ Err text_fault.TooLong) ↔ (text_max < length text)) → length text ≤ text_max
 not_long text list h = elim (cases_lt text_max (length text)) [

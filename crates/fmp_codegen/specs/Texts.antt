@@ -34,6 +34,12 @@ IsMadeUpTo tables ts (Ok x) =
 IsMadeUpTo tables ts (Err errors.Memory) = Unit {0}
 IsMadeUpTo tables ts (Err (errors.Fault f)) = RightBodies ts 0 (stopped f.at f.why)
 
+-- the text spells bodies without a fault, and they are made
+abbrev pub IsStreamed : SystemTables → List ℕ → Made → Type 0
+IsStreamed tables text made =
+    (ts : List Token) × (bodies : List BodyTree) × Spells Bodies text ts bodies × AreMade tables made bodies
+    × (made.offence ≡ None)
+
 -- the bodies that the tokens spell are made, or the first fault stands there
 abbrev pub IsMadeOf : SystemTables → List TokenKind → Result Made ReadError → Type 0
 IsMadeOf tables ts (Ok made) = (bodies : List BodyTree) × AreMade tables made bodies × IsWhole Bodies ts bodies

@@ -18,7 +18,7 @@ use Rattle.fmp_base.specs.Words.{is_letter, is_digit}
 use Rattle.fmp_lex.specs.Scanning.{is_space, in_class, value_from, IsRun, Closes, IsFirstClose, NeverCloses, greatest}
 use Rattle.fmp_lex.specs.Cutting.{long_symbol, short_symbol, is_followed, number_piece, hex_piece, word_kind, word_or_name, word_piece, long_piece, symbol_piece, start_of, IsPieceOf, IsPiece, Cuts, ended, skipped, token, faulty, line_at}
 use Rattle.fmp_lex.specs.Laws.{HasOneCut}
-use Rattle.fmp_lex.proofs.Unique.{cuts_unique}
+use Rattle.fmp_lex.proofs.Unique.{cuts_unique, piece_unique}
 
 -- runs end
 run_step : (test : ℕ → Bool) (text : List ℕ) (i : ℕ) (b : Bool) → test (slice_index text i) ≡ b → i < length text →
@@ -111,7 +111,7 @@ hex_inside text i e =
     ]
 
 -- the piece goes on
-abbrev GoesOn : ℕ → Piece → Type 0
+abbrev pub GoesOn : ℕ → Piece → Type 0
 GoesOn i (Skip j) = i < j
 GoesOn i (Whole k j) = i < j
 GoesOn i (Fault f) = Unit {0}
@@ -183,6 +183,12 @@ piece_of text i start.Other lt inside =
 
 piece_at : (text : List ℕ) (i : ℕ) → i < length text → (p : Piece) × IsPiece text i p × GoesOn i p
 piece_at text i lt = piece_of text i (start_of (slice_index text i) (slice_index text (i + 1))) lt (hex_inside text i)
+
+-- each piece goes on, since there is one at each byte
+pub goes_on : (text : List ℕ) (i : ℕ) (p : Piece) → i < length text → IsPiece text i p → GoesOn i p
+goes_on text i p lt is =
+    let (q, found, on) = piece_at text i lt in
+    subst (GoesOn i) (piece_unique text i q p found is) on
 
 -- the rest is cut behind the piece
 cut_behind : (text : List ℕ) (i : ℕ) (p : Piece) → i < length text → IsPiece text i p → GoesOn i p →

@@ -9,8 +9,9 @@ pub mod Placed
 pub mod Repetitions
 pub mod Sequences
 pub mod Spellings
-pub mod Turns
+pub mod Streaming
 pub mod Unique
 pub mod Values
 pub mod Wholes
+pub mod Windows
 pub mod WordLengths

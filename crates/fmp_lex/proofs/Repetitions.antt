@@ -2,8 +2,8 @@
 use Rattle.std.proofs.Common.{◌≡◌, ℕ, ◌≤◌, List, [], ◌∷◌, ◌++◌, length, slice_get, refl, sym, ap, subst, arith, append_assoc}
 use Rattle.fmp_lex.specs.declared.token.TokenKind.{TokenKind}
 use Rattle.fmp_lex.specs.declared.reading.GrammarFault.{GrammarFault}
-use Rattle.fmp_lex.specs.Reading.{Rel, At, Seq, OneToken, IsToken, Same, ParseResult, found, stopped, map_result, Right, Anywhere}
-use Rattle.fmp_lex.proofs.Sequences.{Framed, Fills, Follows, fewer, token_framed, token_fills, seq_framed, seq_fills, seq_then, seq_stop, right_as}
+use Rattle.fmp_lex.specs.Reading.{Rel, At, Seq, OneToken, IsToken, ParseResult, found, stopped, map_result, Right, Anywhere}
+use Rattle.fmp_lex.proofs.Sequences.{Framed, Fills, Follows, Between, between_front, between_rest, token_framed, token_fills, seq_framed, seq_fills, seq_then, seq_stop, right_as}
 use Rattle.fmp_lex.specs.Reading.{Star}
 
 -- a token, and then an X
@@ -102,11 +102,15 @@ module _ {A : Type 0} (X : Rel A) where
       let rest = star_up fx us limit s.0 more j s.2 in
       omega arith
 
-  star_same : Framed X → (ts us : List TokenKind) (limit lower i : ℕ) (a : List A) (j : ℕ) → lower ≤ limit → Star X ts limit i a j → Same j ts us → Star X us lower i a j
+  star_same : Framed X → (ts us : List TokenKind) (limit lower i : ℕ) (a : List A) (j : ℕ) → lower ≤ limit → Star X ts limit i a j → Between i j ts us → Star X us lower i a j
   star_same fx ts us limit lower i [] j low s same = s
   star_same fx ts us limit lower i (a ∷ more) j low s same =
-      let rest = star_up fx ts limit s.0 more j s.2 in
-      (s.0, fx.same ts us limit lower i a s.0 low s.1 (fewer s.0 j ts us rest same), star_same fx ts us limit lower s.0 more j low s.2 same)
+      let le = fx.up ts limit i a s.0 s.1 in
+      let rest = star_up fx ts limit s.0 more j s.2 in (
+        s.0,
+        fx.same ts us limit lower i a s.0 low s.1 (between_front i s.0 j ts us rest same),
+        star_same fx ts us limit lower s.0 more j low s.2 (between_rest i s.0 j ts us le same),
+      )
 
   pub star_framed : Framed X → Framed (Star X)
   star_framed fx = record { up = star_up fx; same = star_same fx }

@@ -11,6 +11,22 @@ use Rattle.fmp_lex.proofs.Lists.{get_take, same_take, take_long, same_self, one_
 pub fewer : (m n : ℕ) (ts us : List TokenKind) → m ≤ n → Same n ts us → Same m ts us
 fewer m n ts us le same = λ k lt. same k (omega arith)
 
+-- the same tokens from i up to j
+abbrev pub Between : ℕ → ℕ → List TokenKind → List TokenKind → Type 0
+Between i j ts us = (k : ℕ) → i ≤ k → k < j → slice_get ts k ≡ slice_get us k
+
+pub same_between : (i j : ℕ) (ts us : List TokenKind) → Same j ts us → Between i j ts us
+same_between i j ts us same = λ k from lt. same k lt
+
+pub between_part : (i m n j : ℕ) (ts us : List TokenKind) → i ≤ m → n ≤ j → Between i j ts us → Between m n ts us
+between_part i m n j ts us le more same = λ k from lt. same k (omega arith) (omega arith)
+
+pub between_front : (i k j : ℕ) (ts us : List TokenKind) → k ≤ j → Between i j ts us → Between i k ts us
+between_front i k j ts us le same = λ n from lt. same n from (omega arith)
+
+pub between_rest : (i k j : ℕ) (ts us : List TokenKind) → i ≤ k → Between i j ts us → Between k j ts us
+between_rest i k j ts us le same = λ n from lt. same n (omega arith) lt
+
 pub at_least_covered : (j : ℕ) (why : GrammarFault) → j ≤ covered j why
 at_least_covered j Syntax = omega arith
 at_least_covered j Depth = omega arith
@@ -18,7 +34,7 @@ at_least_covered j Depth = omega arith
 -- a reading depends on the tokens that it takes alone
 pub record Framed {A : Type 0} (X : Rel A) : Type 0 where
   pub up : (us : List TokenKind) (limit i : ℕ) (a : A) (j : ℕ) → X us limit i a j → i ≤ j
-  pub same : (ts us : List TokenKind) (limit lower i : ℕ) (a : A) (j : ℕ) → lower ≤ limit → X ts limit i a j → Same j ts us → X us lower i a j
+  pub same : (ts us : List TokenKind) (limit lower i : ℕ) (a : A) (j : ℕ) → lower ≤ limit → X ts limit i a j → Between i j ts us → X us lower i a j
 
 -- something can be read at the end of any list, by more tokens
 pub record Filled {A : Type 0} (X : Rel A) (us : List TokenKind) (limit : ℕ) : Type 0 where
@@ -41,13 +57,13 @@ pair_is p a b x y = ap₂ (λ u v. (u, v)) x y
 pub token_framed : (t : TokenKind) → Framed (OneToken t)
 token_framed t = record {
   up = λ us limit i a j x. omega (arith, x.1);
-  same = λ ts us limit lower i a j low x same. (sym (same i (omega (arith, x.1))) ∙ x.0, x.1);
+  same = λ ts us limit lower i a j low x same. (sym (same i (omega arith) (omega (arith, x.1))) ∙ x.0, x.1);
 }
 
 pub opening_framed : (t : TokenKind) (d : ℕ) → Framed (Opening t d)
 opening_framed t d = record {
   up = λ us limit i a j x. omega (arith, x.2);
-  same = λ ts us limit lower i a j low x same. (sym (same i (omega (arith, x.2))) ∙ x.0, (λ lt. x.1 (omega arith)), x.2);
+  same = λ ts us limit lower i a j low x same. (sym (same i (omega arith) (omega (arith, x.2))) ∙ x.0, (λ lt. x.1 (omega arith)), x.2);
 }
 
 pub token_fills : (t : TokenKind) → Fills (OneToken t)
@@ -73,8 +89,12 @@ module _ {A B : Type 0} (X : Rel A) (Y : Rel B) where
   seq_framed fx fy = record {
     up = λ us limit i a j s. let le = fx.up us limit i a.0 s.0 s.1 in let more = fy.up us limit s.0 a.1 j s.2 in omega arith;
     same = λ ts us limit lower i a j low s same.
-        let more = fy.up ts limit s.0 a.1 j s.2 in
-        (s.0, fx.same ts us limit lower i a.0 s.0 low s.1 (fewer s.0 j ts us more same), fy.same ts us limit lower s.0 a.1 j low s.2 same);
+        let le = fx.up ts limit i a.0 s.0 s.1 in
+        let more = fy.up ts limit s.0 a.1 j s.2 in (
+          s.0,
+          fx.same ts us limit lower i a.0 s.0 low s.1 (between_front i s.0 j ts us more same),
+          fy.same ts us limit lower s.0 a.1 j low s.2 (between_rest i s.0 j ts us le same),
+        );
   }
 
   pub seq_fills : Framed X → Fills X → Fills Y → Fills (Seq X Y)
@@ -88,7 +108,12 @@ module _ {A B : Type 0} (X : Rel A) (Y : Rel B) where
         same = λ k lt. x.same k lt ∙ y.same k (omega arith);
         long = omega arith;
         tree = (x.tree, y.tree);
-        reads = (length x.other, fx.same x.other y.other limit limit (length us) x.tree (length x.other) (omega arith) x.reads y.same, y.reads);
+        reads = (
+          length x.other,
+          fx.same x.other y.other limit limit (length us) x.tree (length x.other) (omega arith) x.reads
+              (same_between (length us) (length x.other) x.other y.other y.same),
+          y.reads,
+        );
       }
 
   -- an X, and then the outcome of a Y
@@ -114,7 +139,12 @@ module _ {A B : Type 0} (X : Rel A) (Y : Rel B) where
           same = c.same;
           long = c.long;
           tree = (a, c.tree);
-          reads = (k, fx.same ts c.other j j i a k (omega arith) (x.reads j) (fewer k (covered j why) ts c.other (omega arith) c.same), c.reads);
+          reads = (
+            k,
+            fx.same ts c.other j j i a k (omega arith) (x.reads j)
+                (same_between i k ts c.other (fewer k (covered j why) ts c.other (omega arith) c.same)),
+            c.reads,
+          );
         };
     decides = λ us limit p j' same low r ends.
         let one = x.decides us limit p.0 r.0 (fewer (k + 1) (j + 1) ts us (omega arith) same) (omega arith) r.1 (follow us limit r.0 p.1 j' r.2 ends) in
@@ -138,7 +168,12 @@ module _ {A B : Type 0} (X : Rel A) (Y : Rel B) where
           same = λ k lt. c.same k lt ∙ y.same k (omega arith);
           long = omega arith;
           tree = (c.tree, y.tree);
-          reads = (length c.other, fx.same c.other y.other j j i c.tree (length c.other) (omega arith) c.reads y.same, y.reads);
+          reads = (
+            length c.other,
+            fx.same c.other y.other j j i c.tree (length c.other) (omega arith) c.reads
+                (same_between i (length c.other) c.other y.other y.same),
+            y.reads,
+          );
         };
     decides = λ us limit p j' same low r ends. x.decides us limit p.0 r.0 same low r.1 (follow us limit r.0 p.1 j' r.2 ends);
   }
@@ -268,7 +303,7 @@ module _ {A : Type 0} (read : TokenKind → Option A) where
   pub item_framed : Framed (Item read)
   item_framed = record {
     up = λ us limit i a j x. omega (arith, x.1);
-    same = λ ts us limit lower i a j low x same. (ap (option_and_then read) (sym (same i (omega (arith, x.1)))) ∙ x.0, x.1);
+    same = λ ts us limit lower i a j low x same. (ap (option_and_then read) (sym (same i (omega arith) (omega (arith, x.1)))) ∙ x.0, x.1);
   }
 
   -- by a token that stands for something

@@ -8,7 +8,7 @@ use Rattle.fmp_lex.specs.declared.reading.GrammarFault.{GrammarFault}
 use Rattle.fmp_lex.specs.declared.reading.GrammarFault.TheVariants.{Syntax, Depth}
 use Rattle.fmp_lex.specs.Reading.{Rel, At, Same, found, stopped, Completes, Right, IsWhole, Begins, IsFirstFault}
 use Rattle.fmp_lex.proofs.Lists.{same_take, take_long}
-use Rattle.fmp_lex.proofs.Sequences.{Framed}
+use Rattle.fmp_lex.proofs.Sequences.{Framed, same_between}
 
 same_front : (ts us : List TokenKind) (n : ℕ) → n ≤ length ts → n ≤ length us → Same n ts us → take n ts ≡ take n us
 same_front ts us zero a b same = refl
@@ -54,7 +54,7 @@ module _ {A : Type 0} (X : Rel A) (Ends : List TokenKind → ℕ → Type 0) (en
       let same = same_take ts [] j (omega arith) in
       let size : length (take j ts ++ []) ≡ j = (let e = length-append (take j ts) [] in let long = take_long ts j (omega arith) in omega arith) in (
         omega arith,
-        ([], a, subst (λ k. X (take j ts ++ []) j 0 a k) (sym size) (framed.same ts (take j ts ++ []) j j 0 a j (omega arith) (x.reads j) same)),
+        ([], a, subst (λ k. X (take j ts ++ []) j 0 a k) (sym size) (framed.same ts (take j ts ++ []) j j 0 a j (omega arith) (x.reads j) (same_between 0 j ts (take j ts ++ []) same))),
         (λ h more. let e = x.decides (take (j + 1) ts ++ more.0) 0 more.1 _ (same_take ts more.0 (j + 1) (omega arith)) (omega arith) more.2 (ends _) in
             let long = fronts_long ts more.0 (j + 1) (omega arith) in absurd (omega (arith, e.1))),
         (λ other r. let e = x.decides ts (length ts) other (length ts) (λ k h. refl) (omega arith) r (ends ts) in absurd (omega (arith, e.1))),

@@ -8,3 +8,4 @@ pub mod Packing
 pub mod Places
 pub mod Reading
 pub mod Scanning
+pub mod Windows

@@ -6,6 +6,7 @@ use Rattle.fmp_lex.specs.declared.cutting.Segment.TheVariants as segment
 use Rattle.fmp_lex.specs.declared.packed.Packed.{Packed}
 use Rattle.fmp_lex.specs.declared.packed.Shape.{Shape}
 use Rattle.fmp_lex.specs.declared.packed.Shape.TheVariants as shape
+use Rattle.fmp_lex.specs.declared.token.LexFault.TheVariants.{Syntax}
 use Rattle.fmp_lex.specs.declared.token.Token.{Token}
 use Rattle.fmp_lex.specs.declared.token.TokenKind.{TokenKind}
 use Rattle.fmp_lex.specs.declared.token.TokenKind.TheVariants as kind
@@ -31,6 +32,10 @@ Stands text _ = Unit {0}
 abbrev pub whole_in : List ℕ → Packed → Token
 whole_in text p =
     record { kind = kind_in text p.shape; line = line_at text p.start; start = p.start; end = p.end.value }
+
+-- what stands for a token that is not held
+abbrev pub absent : Token
+absent = record { kind = kind.Bad Syntax; line = 1; start = 0; end = 0 }
 
 -- where a piece ends that begins at i; where no token stands, it has no bytes
 abbrev pub end_after : ℕ → Piece → ℕ

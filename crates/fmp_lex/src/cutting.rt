@@ -3,6 +3,7 @@ ghost use Rattle.std.specs.Prelude.{◌≡◌, List, ℕ, ◌+◌, ◌-◌, ◌^
 ghost use Rattle.std.specs.List.{All};
 ghost use Rattle.fmp_lex.specs.Packing.{IsPacked, IsPlain, HasName, end_after, kind_in, piece_in, whole_in};
 ghost use Rattle.fmp_lex.specs.Places.{text_end};
+ghost use Rattle.fmp_lex.specs.Windows.{CutsUpTo, IsPartEnd};
 ghost use Rattle.fmp_lex.specs.Scanning.{Saturated, IsRun, in_class};
 ghost use Rattle.fmp_lex.specs.declared.scanning.Class.TheVariants as class;
 ghost use Rattle.fmp_lex.specs.Cutting.{word_kind, hex_piece, long_symbol, short_symbol, start_of, Piece, IsPiece, number_piece, word_piece, symbol_piece, Cuts, EndsWithin, line_at};
@@ -39,6 +40,16 @@ pub enum Segment {
     Skip(usize),
     Whole(Shape, usize),
     Fault(LexFault),
+}
+
+/// The tokens of a part of a text.
+#[derive(Drop)]
+pub struct Part {
+    pub packed: Vec<Packed>,
+    /// Where the text goes on behind the part.
+    pub next: usize,
+    /// Why no token begins there, if a fault ends the part.
+    pub fault: Option<LexFault>,
 }
 
 fn long_sign(b: u8, c: u8) -> Option<Symbol>
@@ -274,6 +285,50 @@ fn end_of(text: &[u8]) -> Place
     }
 }
 
+/// The tokens of a text from `start` on that begin before `stop`, up to the first fault. They take the place of what
+/// `room` holds.
+#[inline(never)]
+pub(crate) fn cut_part(
+    text: &[u8],
+    start: usize,
+    stop: usize,
+    room: Vec<Packed>,
+) -> Result<Part, AllocError>
+    requires short { length text.now ≤ TEXT_MAX }
+    requires start { start ≤ length text.now }
+    requires stop { stop ≤ length text.now }
+    ensures cut { IfOk result (λ p. CutsUpTo text.now p.next start (map (whole_in text.now) p.packed.items)) }
+    ensures packed { IfOk result (λ p. All (IsPacked text.now) p.packed.items) }
+    ensures few { IfOk result (λ p. length p.packed.items ≤ p.next) }
+    ensures within { IfOk result (λ p. p.next ≤ length text.now) }
+    ensures end { IfOk result (λ p. IsPartEnd text.now stop p.next p.fault) }
+{
+    let mut packed = room;
+    packed.clear();
+    let mut i = start;
+    'pieces: while i < stop {
+        match next_piece(text, i) {
+            Segment::Skip(end) => i = end,
+            Segment::Whole(shape, end) => {
+                packed.push(Packed::new(shape, i as u32, end as u32))?;
+                i = end;
+            }
+            Segment::Fault(fault) => {
+                return Ok(Part {
+                    packed,
+                    next: i,
+                    fault: Some(fault),
+                });
+            }
+        }
+    }
+    Ok(Part {
+        packed,
+        next: i,
+        fault: None,
+    })
+}
+
 /// The tokens of a text that is not too long.
 fn cut(alloc: Global, text: &[u8]) -> Result<Vec<Packed>, AllocError>
     requires { length text.now ≤ TEXT_MAX }
@@ -282,22 +337,18 @@ fn cut(alloc: Global, text: &[u8]) -> Result<Vec<Packed>, AllocError>
     ensures packed { IfOk result (λ v. All (IsPacked text.now) v.items) }
     ensures few { IfOk result (λ v. length v.items ≤ length text.now) }
 {
-    let mut tokens = Vec::new(alloc);
-    let mut i = 0;
-    'pieces: while i < text.len() {
-        match next_piece(text, i) {
-            Segment::Skip(end) => i = end,
-            Segment::Whole(shape, end) => {
-                tokens.push(Packed::new(shape, i as u32, end as u32))?;
-                i = end;
-            }
-            Segment::Fault(fault) => {
-                tokens.push(Packed::new(Shape::Bad(fault), i as u32, i as u32))?;
-                return Ok(tokens);
-            }
+    let Part {
+        mut packed,
+        next,
+        fault,
+    } = cut_part(text, 0, text.len(), Vec::new(alloc))?;
+    match fault {
+        None => Ok(packed),
+        Some(fault) => {
+            packed.push(Packed::new(Shape::Bad(fault), next as u32, next as u32))?;
+            Ok(packed)
         }
     }
-    Ok(tokens)
 }
 
 /// The tokens of a text. The last one is `Bad` if no token stands in its place.

@@ -14,9 +14,11 @@ mod place;
 pub mod reading;
 mod scanning;
 mod small;
+mod stops;
 pub mod token;
+mod window;
 
-pub use cutting::tokens;
+pub use cutting::{TEXT_MAX, tokens};
 pub use fault::{BuildFault, FaultKind, TextFile, fault_at, offence_at, too_long};
 pub use fmp_base::words::{self, Api, Constant, Keyword};
 pub use marks::{Mark, expect_mark};
@@ -25,3 +27,4 @@ pub use packed::Tokens;
 pub use place::Place;
 pub use reading::{FirstFault, GrammarFault, ReadError};
 pub use token::{LexFault, Symbol, TextFault, Token, TokenKind, TokenList};
+pub use window::Window;

@@ -1,9 +1,9 @@
 //! The tokens of a text in few bytes each: the bytes of a name stay in the text, and lines and ends are worked out of
 //! it.
-ghost use Rattle.std.specs.Prelude.{◌≡◌, ℕ, List, ◌+◌, ◌<◌, ◌≤◌, ◌^◌, length, map, slice_get, option_map, IfSome};
+ghost use Rattle.std.specs.Prelude.{◌≡◌, ℕ, List, ◌+◌, ◌++◌, ◌<◌, ◌≤◌, ◌^◌, length, map, replicate, slice_get, option_map, IfSome};
 ghost use Rattle.std.specs.List.{All};
 ghost use Rattle.fmp_base.specs.Names.{name_from};
-ghost use Rattle.fmp_lex.specs.Packing.{IsPacked, Stands, kind_in, whole_in};
+ghost use Rattle.fmp_lex.specs.Packing.{IsPacked, Stands, absent, kind_in, whole_in};
 ghost use Rattle.fmp_lex.specs.Places.{place_of};
 ghost use Rattle.fmp_lex.specs.Reading.{kinds_of};
 
@@ -85,24 +85,46 @@ fn name_of(bytes: &[u8]) -> TokenKind
     }
 }
 
-/// The tokens of a text, in order. Contracts see the list of them.
+/// Where a token that is not held is said to stand: at the start of the text.
+const ABSENT: Place = Place {
+    line: 1,
+    start: 0,
+    end: 0,
+};
+
+/// How far behind the first token that is held the one at a place of the list stands. One that stands before it is
+/// farther than any that is held.
+#[inline(always)]
+fn offset(first: usize, at: usize) -> usize
+    requires { first ≤ 1048576 }
+    ensures held { first ≤ at → first + result ≡ at }
+    ensures absent { at < first → 1048576 < result }
+{
+    at.wrapping_sub(first)
+}
+
+/// The tokens of a text, in order, or those of a part of it behind others that are not held. Contracts see the list of
+/// them.
 #[derive(Drop)]
 pub struct Tokens<'a> {
     text: &'a [u8],
+    /// How many tokens stand before those that are held.
+    first: usize,
     packed: Vec<Packed>,
 }
 
 impl<'a> Model for Tokens<'a> {
-    ghost use Rattle.std.specs.Prelude.{List, ◌≤◌, length, map};
+    ghost use Rattle.std.specs.Prelude.{List, ◌++◌, ◌≤◌, length, map, replicate};
     ghost use Rattle.std.specs.List.{All};
-    ghost use Rattle.fmp_lex.specs.Packing.{IsPacked, whole_in};
+    ghost use Rattle.fmp_lex.specs.Packing.{IsPacked, absent, whole_in};
     ghost use Rattle.fmp_lex.specs.declared.token.Token.{Token as OneToken};
 
     ghost Value = { List OneToken };
 
-    ghost view = { λ t. map (whole_in t.text.now) t.packed.items };
+    ghost view = { λ t. replicate t.first absent ++ map (whole_in t.text.now) t.packed.items };
 
     ghost invariant = { λ t. (length t.text.now ≤ 1048576)
+        × (t.first ≤ 1048576)
         × (length t.packed.items ≤ length t.text.now)
         × All (IsPacked t.text.now) t.packed.items };
 }
@@ -115,38 +137,79 @@ impl<'a> Tokens<'a> {
         requires packed { All (IsPacked text.now) packed.items }
         ensures { result ≡ map (whole_in text.now) packed.items }
     {
-        Tokens { text, packed }
+        Tokens::part(text, 0, packed)
     }
 
-    /// How many tokens there are.
+    /// The tokens that stand so in the text behind `first` others, which are absent.
+    pub(crate) fn part(text: &'a [u8], first: usize, packed: Vec<Packed>) -> Tokens<'a>
+        requires short { length text.now ≤ 1048576 }
+        requires first { first ≤ 1048576 }
+        requires few { length packed.items ≤ length text.now }
+        requires packed { All (IsPacked text.now) packed.items }
+        ensures { result ≡ replicate first absent ++ map (whole_in text.now) packed.items }
+    {
+        Tokens {
+            text,
+            first,
+            packed,
+        }
+    }
+
+    /// The tokens that are held, in few bytes each.
+    pub(crate) fn into_packed(self) -> Vec<Packed>
+        ensures { (text : List ℕ) × (first : ℕ)
+            × (self.entry ≡ replicate first absent ++ map (whole_in text) result.items) }
+    {
+        self.packed
+    }
+
+    /// Where the token at a place of the list begins in the text; 0 if it is not held.
+    pub(crate) fn start(&self, at: usize) -> Option<usize>
+        ensures { result ≡ option_map (λ t. t.start) (slice_get self.now at) }
+    {
+        let place = offset(self.first, at);
+        if place >= self.packed.len() {
+            return if at < self.first { Some(0) } else { None };
+        }
+        Some(self.packed[place].start.get() as usize)
+    }
+
+    /// How many tokens there are, with those that are not held.
     pub fn len(&self) -> usize
         ensures { result ≡ length self.now }
     {
-        self.packed.len()
+        self.first + self.packed.len()
     }
 
-    /// What the token at a place is.
+    /// What the token at a place of the list is; a fault if it is not held.
     pub fn kind(&self, at: usize) -> Option<TokenKind>
         ensures value { result ≡ slice_get (kinds_of self.now) at }
         ensures within { IfSome result (λ _. at < length self.now) }
         ensures room { IfSome result (λ _. at + 1 < 2 ^ 64) }
         ensures few { IfSome result (λ _. at < 2 ^ 32) }
     {
-        if at >= self.packed.len() {
-            return None;
+        let place = offset(self.first, at);
+        if place >= self.packed.len() {
+            return if at < self.first {
+                Some(TokenKind::Bad(LexFault::Syntax))
+            } else {
+                None
+            };
         }
-        let packed = &self.packed[at];
+        let packed = &self.packed[place];
         Some(kind_of(self.text, &packed.shape))
     }
 
-    /// Where the token at a place of the list stands in the text. The text is read from its begin.
+    /// Where the token at a place of the list stands in the text; at its start if it is not held. The text is read from
+    /// its start.
     pub fn place(&self, at: usize) -> Option<Place>
         ensures { result ≡ option_map place_of (slice_get self.now at) }
     {
-        if at >= self.packed.len() {
-            return None;
+        let place = offset(self.first, at);
+        if place >= self.packed.len() {
+            return if at < self.first { Some(ABSENT) } else { None };
         }
-        let start = self.packed[at].start.get() as usize;
+        let start = self.packed[place].start.get() as usize;
         Some(place_of_piece(self.text, start))
     }
 }

@@ -101,34 +101,44 @@ pub(crate) fn value_of(digits: &[u8], base: u64) -> u64
     value
 }
 
-/// The number of line feeds of at most 255 bytes.
+/// How often a byte stands among at most 255.
 #[inline(always)]
-fn block_feeds(block: &[u8]) -> u8
+fn count_in_block(block: &[u8], byte: u8) -> u8
     requires { length block.now ≤ 255 }
-    ensures count { result ≡ count_by (λ b. b == 10) block.now }
+    ensures count { result ≡ count_by (λ b. b == byte) block.now }
     ensures few { result ≤ length block.now }
 {
     let mut count = 0;
     for b in block {
-        if *b == b'\n' {
+        if *b == byte {
             count += 1;
         }
     }
     count
 }
 
-/// The number of line feeds. A byte counts those of a block, since many bytes are added at once.
-pub(crate) fn line_feeds(text: &[u8]) -> u32
+/// How often a byte stands in a text. A byte counts those of a block, since many bytes are added at once.
+#[inline(always)]
+pub(crate) fn count_of(text: &[u8], byte: u8) -> u32
     requires { length text.now ≤ 1048576 }
-    ensures count { result ≡ count_by (λ b. b == 10) text.now }
+    ensures count { result ≡ count_by (λ b. b == byte) text.now }
     ensures few { result ≤ length text.now }
 {
     let mut count = 0;
     let mut at = 0;
     'blocks: while at < text.len() {
         let end = text.len().min(at + 255);
-        count += u32::from(block_feeds(&text[at..end]));
+        count += u32::from(count_in_block(&text[at..end], byte));
         at = end;
     }
     count
+}
+
+/// The number of line feeds.
+pub(crate) fn line_feeds(text: &[u8]) -> u32
+    requires { length text.now ≤ 1048576 }
+    ensures count { result ≡ count_by (λ b. b == 10) text.now }
+    ensures few { result ≤ length text.now }
+{
+    count_of(text, b'\n')
 }

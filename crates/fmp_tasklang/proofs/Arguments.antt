@@ -5,8 +5,8 @@ use Rattle.fmp_lex.specs.declared.reading.GrammarFault.{GrammarFault}
 use Rattle.fmp_lex.specs.declared.token.Symbol.TheVariants as symbol
 use Rattle.fmp_lex.specs.declared.token.TokenKind.{TokenKind}
 use Rattle.fmp_lex.specs.declared.token.TokenKind.TheVariants as kind
-use Rattle.fmp_lex.specs.Reading.{Rel, At, Seq, OneToken, Same, ParseResult, found, stopped, map_result, Right, Anywhere, RightToken}
-use Rattle.fmp_lex.proofs.Sequences.{Framed, Fills, fewer, token_framed, token_fills, token_found, seq_fills, seq_then, seq_stop, right_as}
+use Rattle.fmp_lex.specs.Reading.{Rel, At, Seq, OneToken, ParseResult, found, stopped, map_result, Right, Anywhere, RightToken}
+use Rattle.fmp_lex.proofs.Sequences.{Framed, Fills, Between, between_front, between_rest, token_framed, token_fills, token_found, seq_fills, seq_then, seq_stop, right_as}
 use Rattle.fmp_lex.proofs.Repetitions.{Behind, Closed, behind_framed, behind_fills, behind_then, behind_stop, closed_framed, closed_fills, closed_found, closed_missing, closed_stop, put_before}
 use Rattle.fmp_lex.specs.Forms.{mark_kind, put}
 use Rattle.fmp_lex.specs.declared.marks.Mark.{Mark}
@@ -62,7 +62,7 @@ module _ (d : ℕ) where
   part_up (part.Out m) us limit i (Some (out w)) j x = (outs_framed m).up us limit i w j x
 
   part_same : (p : Part) (ts us : List TokenKind) (limit lower i : ℕ) (a : Option ArgumentTree) (j : ℕ) → lower ≤ limit
-      → OnePart d p ts limit i a j → Same j ts us → OnePart d p us lower i a j
+      → OnePart d p ts limit i a j → Between i j ts us → OnePart d p us lower i a j
   part_same (part.Mark m) ts us limit lower i None j low x same = (token_framed (mark_kind m)).same ts us limit lower i tt j low x same
   part_same (part.Mark m) ts us limit lower i (Some (value e)) j low x same = absurd x
   part_same (part.Mark m) ts us limit lower i (Some (out w)) j low x same = absurd x
@@ -152,11 +152,18 @@ module _ (d : ℕ) where
       omega arith
 
   parts_same : (ps : List Part) (ts us : List TokenKind) (limit lower i : ℕ) (args : List ArgumentTree) (j : ℕ)
-      → lower ≤ limit → Parts d ps ts limit i args j → Same j ts us → Parts d ps us lower i args j
+      → lower ≤ limit → Parts d ps ts limit i args j → Between i j ts us → Parts d ps us lower i args j
   parts_same [] ts us limit lower i args j low x same = x
   parts_same (p ∷ ps) ts us limit lower i args j low x same =
-      let rest = parts_up ps ts limit x.3 x.1 j x.5 in
-      (x.0, x.1, x.2, x.3, part_same p ts us limit lower i x.0 x.3 low x.4 (fewer x.3 j ts us rest same), parts_same ps ts us limit lower x.3 x.1 j low x.5 same)
+      let one = part_up p ts limit i x.0 x.3 x.4 in
+      let rest = parts_up ps ts limit x.3 x.1 j x.5 in (
+        x.0,
+        x.1,
+        x.2,
+        x.3,
+        part_same p ts us limit lower i x.0 x.3 low x.4 (between_front i x.3 j ts us rest same),
+        parts_same ps ts us limit lower x.3 x.1 j low x.5 (between_rest i x.3 j ts us one same),
+      )
 
   pub parts_framed : (ps : List Part) → Framed (Parts d ps)
   parts_framed ps = record { up = parts_up ps; same = parts_same ps }
@@ -256,8 +263,8 @@ module _ (d : ℕ) where
           x.0,
           x.1,
           x.2,
-          (ap (option_and_then service_of) (sym (same i (omega (arith, x.3.1)))) ∙ x.3.0, x.3.1),
-          parts_same (call_parts c.service) ts us limit lower x.2 x.0 j low x.4 same,
+          (ap (option_and_then service_of) (sym (same i (omega arith) (omega (arith, x.3.1)))) ∙ x.3.0, x.3.1),
+          parts_same (call_parts c.service) ts us limit lower x.2 x.0 j low x.4 (between_rest i x.2 j ts us (omega (arith, x.3.1)) same),
         );
   }
 

@@ -8,8 +8,8 @@ use Rattle.fmp_lex.specs.declared.reading.ReadError.TheVariants.{Memory, Fault}
 use Rattle.fmp_lex.specs.declared.token.TokenKind.{TokenKind}
 use Rattle.fmp_lex.specs.declared.token.TokenKind.TheVariants as kind
 use Rattle.fmp_base.specs.declared.words.Keyword.TheVariants as keyword
-use Rattle.fmp_lex.specs.Reading.{Rel, At, Seq, Star, OneToken, Item, Same, ParseResult, found, stopped, map_result, Right, Anywhere, RightToken, IsWhole, IsFirstFault, Answers}
-use Rattle.fmp_lex.proofs.Sequences.{Framed, Fills, Follows, fewer, item_framed, item_fills, item_found, item_missing, token_found, seq_framed, seq_fills, seq_then, seq_stop, right_as}
+use Rattle.fmp_lex.specs.Reading.{Rel, At, Seq, Star, OneToken, Item, ParseResult, found, stopped, map_result, Right, Anywhere, RightToken, IsWhole, IsFirstFault, Answers}
+use Rattle.fmp_lex.proofs.Sequences.{Framed, Fills, Follows, Between, between_front, between_rest, item_framed, item_fills, item_found, item_missing, token_found, seq_framed, seq_fills, seq_then, seq_stop, right_as}
 use Rattle.fmp_lex.proofs.Repetitions.{Behind, Closed, behind_framed, behind_fills, behind_then, behind_stop, closed_framed, closed_fills, closed_found, closed_missing, closed_stop, star_framed, star_fills, star_none, star_more, star_stop}
 use Rattle.fmp_lex.proofs.Wholes.{whole_found, whole_longer, whole_stopped}
 use Rattle.fmp_tasklang.specs.declared.trees.BodyKind.{BodyKind}
@@ -65,7 +65,7 @@ length_up : (us : List TokenKind) (limit i : ℕ) (o : Option Length) (j : ℕ) 
 length_up us limit i None j x = omega (arith, x)
 length_up us limit i (Some l) j x = counted_framed.up us limit i l j x
 
-length_same : (ts us : List TokenKind) (limit lower i : ℕ) (o : Option Length) (j : ℕ) → lower ≤ limit → OneLength ts limit i o j → Same j ts us → OneLength us lower i o j
+length_same : (ts us : List TokenKind) (limit lower i : ℕ) (o : Option Length) (j : ℕ) → lower ≤ limit → OneLength ts limit i o j → Between i j ts us → OneLength us lower i o j
 length_same ts us limit lower i None j low x same = x
 length_same ts us limit lower i (Some l) j low x same = counted_framed.same ts us limit lower i l j low x same
 
@@ -196,13 +196,13 @@ Declared = Seq (Star OneVariable) Inner
 abbrev Rest : Rel (Word × (List Declaration × List StatementTree))
 Rest = Seq OneWord (Behind open_brace Declared)
 
-statements_framed : Framed (Star (OneStatement 0 false))
+pub statements_framed : Framed (Star (OneStatement 0 false))
 statements_framed = star_framed (OneStatement 0 false) (statement_framed 0 false)
 
 inner_framed : Framed Inner
 inner_framed = closed_framed (Star (OneStatement 0 false)) close_brace statements_framed
 
-variables_framed : Framed (Star OneVariable)
+pub variables_framed : Framed (Star OneVariable)
 variables_framed = star_framed OneVariable variable_framed
 
 rest_framed : Framed Rest
@@ -248,8 +248,9 @@ body_framed = record {
   up = λ us limit i b j x. let up = rest_framed.up us limit x.1 (rest_tree b x.9) j (rest_from us limit i b j x) in omega (arith, x.2.1);
   same = λ ts us limit lower i b j low x same.
       let up = rest_framed.up ts limit x.1 (rest_tree b x.9) j (rest_from ts limit i b j x) in
-      let first = (item_framed body_kind_of).same ts us limit lower i b.kind x.1 low x.2 (fewer x.1 j ts us up same) in
-      let r = rest_framed.same ts us limit lower x.1 (rest_tree b x.9) j low (rest_from ts limit i b j x) same in
+      let first = (item_framed body_kind_of).same ts us limit lower i b.kind x.1 low x.2 (between_front i x.1 j ts us up same) in
+      let r = rest_framed.same ts us limit lower x.1 (rest_tree b x.9) j low (rest_from ts limit i b j x)
+      (between_rest i x.1 j ts us (omega (arith, x.2.1)) same) in
       (x.0, x.1, first, r.0, r.1, r.2.0, r.2.1, r.2.2.0, r.2.2.1, x.9, x.10, r.2.2.2.0, from_star us lower 0 false r.2.2.0 x.9 r.2.2.2.0 r.2.2.2.1, r.2.2.2.2);
 }
 

@@ -8,9 +8,9 @@ use Rattle.fmp_lex.specs.declared.reading.GrammarFault.TheVariants.{Syntax, Dept
 use Rattle.fmp_lex.specs.declared.token.Symbol.TheVariants as symbol
 use Rattle.fmp_lex.specs.declared.token.TokenKind.{TokenKind}
 use Rattle.fmp_lex.specs.declared.token.TokenKind.TheVariants as kind
-use Rattle.fmp_lex.specs.Reading.{Rel, At, OneToken, Item, Same, ParseResult, found, stopped, map_result, Right, Anywhere, RightToken}
+use Rattle.fmp_lex.specs.Reading.{Rel, At, OneToken, Item, ParseResult, found, stopped, map_result, Right, Anywhere, RightToken}
 use Rattle.fmp_lex.specs.Reading.{Seq}
-use Rattle.fmp_lex.proofs.Sequences.{Framed, Fills, Follows, fewer, token_framed, token_found, item_framed, item_fills, item_found, item_missing, right_as, seq_then, seq_stop}
+use Rattle.fmp_lex.proofs.Sequences.{Framed, Fills, Follows, Between, between_part, between_front, between_rest, token_framed, token_found, item_framed, item_fills, item_found, item_missing, right_as, seq_then, seq_stop}
 use Rattle.fmp_lex.proofs.Repetitions.{Behind, Closed, behind_framed, behind_then, closed_framed, closed_fills, closed_found, closed_missing, closed_stop}
 use Rattle.fmp_tasklang.specs.declared.trees.Operator.{Operator}
 use Rattle.fmp_tasklang.specs.declared.trees.Word.{Word}
@@ -61,37 +61,48 @@ module _ (ts : List TokenKind) (limit : ℕ) where
 
 module _ (ts us : List TokenKind) (limit lower : ℕ) (low : lower ≤ limit) where
   mutual
-    operand_same : {d i : ℕ} {e : ExpressionTree} {j : ℕ} → IsOperand ts limit d i e j → Same j ts us → IsOperand us lower d i e j
+    operand_same : {d i : ℕ} {e : ExpressionTree} {j : ℕ} → IsOperand ts limit d i e j → Between i j ts us → IsOperand us lower d i e j
     operand_same {i = i} {j = j} (a_number {n = n} x) same = a_number ((item_framed token_number).same ts us limit lower i n j low x same)
     operand_same {i = i} {j = j} (a_name {a = a} {w = w} x index is) same =
-        a_name (word_framed.same ts us limit lower i w a low x (fewer a j ts us (index_up ts limit index) same)) (index_same index same) is
+        a_name (word_framed.same ts us limit lower i w a low x (between_front i a j ts us (index_up ts limit index) same))
+        (index_same index (between_rest i a j ts us (omega (arith, x.1.1)) same)) is
     operand_same {i = i} {j = j} (a_group {a = a} {b = b} fits x e y) same =
         let up = expression_up ts limit e in
-        a_group (λ lt. fits (omega (arith, lt))) ((token_framed left).same ts us limit lower i tt a low x (fewer a j ts us (omega (arith, y.1)) same))
-        (expression_same e (fewer b j ts us (omega (arith, y.1)) same)) ((token_framed right).same ts us limit lower b tt j low y same)
+        a_group (λ lt. fits (omega (arith, lt))) ((token_framed left).same ts us limit lower i tt a low x
+        (between_front i a j ts us (omega (arith, y.1)) same))
+        (expression_same e (between_part i a b j ts us (omega (arith, x.1)) (omega (arith, y.1)) same))
+        ((token_framed right).same ts us limit lower b tt j low y (between_rest i b j ts us (omega (arith, x.1)) same))
     operand_same {i = i} {j = j} (a_unary {a = a} {op = op} fits x e) same =
         let up = operand_up ts limit e in
-        a_unary (λ lt. fits (omega (arith, lt))) ((item_framed unary_of).same ts us limit lower i op a low x (fewer a j ts us (omega arith) same)) (operand_same e same)
+        a_unary (λ lt. fits (omega (arith, lt))) ((item_framed unary_of).same ts us limit lower i op a low x
+        (between_front i a j ts us (omega arith) same))
+        (operand_same e (between_rest i a j ts us (omega (arith, x.1)) same))
 
-    index_same : {d i : ℕ} {o : Option ExpressionTree} {j : ℕ} → IsIndex ts limit d i o j → Same j ts us → IsIndex us lower d i o j
+    index_same : {d i : ℕ} {o : Option ExpressionTree} {j : ℕ} → IsIndex ts limit d i o j → Between i j ts us → IsIndex us lower d i o j
     index_same no_index same = no_index
     index_same {i = i} {j = j} (an_index {a = a} {b = b} fits x e y) same =
         let up = expression_up ts limit e in
-        an_index (λ lt. fits (omega (arith, lt))) ((token_framed open_bracket).same ts us limit lower i tt a low x (fewer a j ts us (omega (arith, y.1)) same))
-        (expression_same e (fewer b j ts us (omega (arith, y.1)) same)) ((token_framed close_bracket).same ts us limit lower b tt j low y same)
+        an_index (λ lt. fits (omega (arith, lt))) ((token_framed open_bracket).same ts us limit lower i tt a low x
+        (between_front i a j ts us (omega (arith, y.1)) same))
+        (expression_same e (between_part i a b j ts us (omega (arith, x.1)) (omega (arith, y.1)) same))
+        ((token_framed close_bracket).same ts us limit lower b tt j low y (between_rest i b j ts us (omega (arith, x.1)) same))
 
-    expression_same : {d l i : ℕ} {e : ExpressionTree} {j : ℕ} → IsExpression ts limit d l i e j → Same j ts us → IsExpression us lower d l i e j
+    expression_same : {d l i : ℕ} {e : ExpressionTree} {j : ℕ} → IsExpression ts limit d l i e j → Between i j ts us → IsExpression us lower d l i e j
     expression_same (an_operand z e) same = an_operand z (operand_same e same)
-    expression_same {j = j} (a_chain {a = a} z first links is) same =
-        a_chain z (expression_same first (fewer a j ts us (links_up ts limit links) same)) (links_same links same) is
+    expression_same {i = i} {j = j} (a_chain {a = a} z first links is) same =
+        let up = expression_up ts limit first in
+        a_chain z (expression_same first (between_front i a j ts us (links_up ts limit links) same))
+        (links_same links (between_rest i a j ts us (omega arith) same)) is
 
-    links_same : {d m i : ℕ} {links : List LinkTree} {j : ℕ} → AreLinks ts limit d m i links j → Same j ts us → AreLinks us lower d m i links j
+    links_same : {d m i : ℕ} {links : List LinkTree} {j : ℕ} → AreLinks ts limit d m i links j → Between i j ts us → AreLinks us lower d m i links j
     links_same no_link same = no_link
     links_same {m = m} {i = i} {j = j} (a_link {a = a} {b = b} {l = l} x e links) same =
         let up = expression_up ts limit e in
         let more = links_up ts limit links in
-        a_link ((item_framed operator_of).same ts us limit lower i (m, l.operator) a low x (fewer a j ts us (omega arith) same))
-        (expression_same e (fewer b j ts us more same)) (links_same links same)
+        a_link ((item_framed operator_of).same ts us limit lower i (m, l.operator) a low x
+        (between_front i a j ts us (omega arith) same))
+        (expression_same e (between_part i a b j ts us (omega (arith, x.1)) more same))
+        (links_same links (between_rest i b j ts us (omega (arith, x.1)) same))
 
 pub operand_framed : (d : ℕ) → Framed (OneOperand d)
 operand_framed d = record {
@@ -111,8 +122,8 @@ link_framed d m = record {
   same = λ ts us limit lower i l j low x same.
       let up = expression_up ts limit x.2 in (
         x.0,
-        (item_framed operator_of).same ts us limit lower i (m, l.operator) x.0 low x.1 (fewer x.0 j ts us (omega arith) same),
-        expression_same ts us limit lower low x.2 same,
+        (item_framed operator_of).same ts us limit lower i (m, l.operator) x.0 low x.1 (between_front i x.0 j ts us (omega arith) same),
+        expression_same ts us limit lower low x.2 (between_rest i x.0 j ts us (omega (arith, x.1.1)) same),
       );
 }
 

@@ -2,8 +2,8 @@
 use Rattle.std.proofs.Common.{◌≡◌, ℕ, ◌+◌, ◌<◌, ◌≤◌, Bool, List, length, slice_get, Some, None, option_and_then, refl, sym, ap, ◌∙◌, arith}
 use Rattle.fmp_lex.specs.declared.reading.GrammarFault.{GrammarFault}
 use Rattle.fmp_lex.specs.declared.token.TokenKind.{TokenKind}
-use Rattle.fmp_lex.specs.Reading.{Rel, At, Seq, OneToken, Item, ParseResult, found, stopped, map_result, Right, Anywhere, RightToken, Same}
-use Rattle.fmp_lex.proofs.Sequences.{Framed, Fills, Follows, item_framed, item_found, seq_then, seq_stop, right_as}
+use Rattle.fmp_lex.specs.Reading.{Rel, At, Seq, OneToken, Item, ParseResult, found, stopped, map_result, Right, Anywhere, RightToken}
+use Rattle.fmp_lex.proofs.Sequences.{Framed, Fills, Follows, Between, item_framed, item_found, seq_then, seq_stop, right_as}
 use Rattle.fmp_lex.proofs.Repetitions.{Behind, Closed, behind_fills, behind_then, behind_stop, closed_fills, closed_found, closed_missing, closed_stop}
 use Rattle.fmp_tasklang.specs.declared.trees.Word.{Word}
 use Rattle.fmp_tasklang.specs.Trees.{ExpressionTree, StatementTree, service_call}
@@ -57,7 +57,7 @@ module _ (ts : List TokenKind) (d : ℕ) where
   source_up us limit i (by_value e) j x = (expression_framed d loosest).up us limit i e j x
   source_up us limit i (by_call c) j x = (call_framed d).up us limit i c j x
 
-  source_same : (vs us : List TokenKind) (limit lower i : ℕ) (e : SourceTree) (j : ℕ) → lower ≤ limit → OneSource d vs limit i e j → Same j vs us → OneSource d us lower i e j
+  source_same : (vs us : List TokenKind) (limit lower i : ℕ) (e : SourceTree) (j : ℕ) → lower ≤ limit → OneSource d vs limit i e j → Between i j vs us → OneSource d us lower i e j
   source_same vs us limit lower i (by_value e) j low x same = (expression_framed d loosest).same vs us limit lower i e j low x same
   source_same vs us limit lower i (by_call c) j low x same = (call_framed d).same vs us limit lower i c j low x same
 

@@ -4,8 +4,8 @@ use Rattle.fmp_lex.specs.declared.token.Symbol.TheVariants as symbol
 use Rattle.fmp_lex.specs.declared.token.TokenKind.{TokenKind}
 use Rattle.fmp_lex.specs.declared.token.TokenKind.TheVariants as kind
 use Rattle.fmp_base.specs.declared.words.Keyword.TheVariants as keyword
-use Rattle.fmp_lex.specs.Reading.{Rel, Same, Item, Star, OneToken}
-use Rattle.fmp_lex.proofs.Sequences.{Framed, Fills, fewer, token_framed, item_framed}
+use Rattle.fmp_lex.specs.Reading.{Rel, Item, Star, OneToken}
+use Rattle.fmp_lex.proofs.Sequences.{Framed, Fills, Between, between_part, between_front, between_rest, token_framed, item_framed}
 use Rattle.fmp_lex.proofs.Repetitions.{Behind, Closed, behind_framed, behind_fills, closed_framed, closed_fills, star_framed, star_fills}
 use Rattle.fmp_tasklang.specs.declared.trees.Word.{Word}
 use Rattle.fmp_tasklang.specs.Trees.{ExpressionTree, StatementTree, Block}
@@ -53,12 +53,12 @@ result_up : (us : List TokenKind) (limit i : ℕ) (r : Option Word) (j : ℕ) �
 result_up us limit i None j x = omega (arith, x)
 result_up us limit i (Some w) j x = omega (arith, x.1.1.1, x.2.1)
 
-result_same : (ts us : List TokenKind) (limit lower i : ℕ) (r : Option Word) (j : ℕ) → lower ≤ limit → Result ts limit i r j → Same j ts us → Result us lower i r j
+result_same : (ts us : List TokenKind) (limit lower i : ℕ) (r : Option Word) (j : ℕ) → lower ≤ limit → Result ts limit i r j → Between i j ts us → Result us lower i r j
 result_same ts us limit lower i None j low x same = x
 result_same ts us limit lower i (Some w) j low x same = (
   x.0,
-  word_framed.same ts us limit lower i w x.0 low x.1 (fewer x.0 j ts us (omega (arith, x.2.1)) same),
-  (token_framed equals).same ts us limit lower x.0 tt j low x.2 same,
+  word_framed.same ts us limit lower i w x.0 low x.1 (between_front i x.0 j ts us (omega (arith, x.2.1)) same),
+  (token_framed equals).same ts us limit lower x.0 tt j low x.2 (between_rest i x.0 j ts us (omega (arith, x.1.1.1)) same),
 )
 
 result_framed : Framed Result
@@ -107,69 +107,75 @@ module _ (ts : List TokenKind) (limit : ℕ) where
 
 module _ (ts us : List TokenKind) (limit lower : ℕ) (low : lower ≤ limit) where
   -- a part of what has the same tokens
-  piece : {A : Type 0} (X : Rel A) → Framed X → (i : ℕ) (a : A) (k j : ℕ) → k ≤ j → X ts limit i a k → Same j ts us → X us lower i a k
-  piece X fx i a k j le x same = fx.same ts us limit lower i a k low x (fewer k j ts us le same)
+  piece : {A : Type 0} (X : Rel A) → Framed X → (i m : ℕ) (a : A) (n j : ℕ) → i ≤ m → n ≤ j → X ts limit m a n → Between i j ts us → X us lower m a n
+  piece X fx i m a n j le more x same = fx.same ts us limit lower m a n low x (between_part i m n j ts us le more same)
 
   mutual
-    pub statement_same : {d : ℕ} {loop : Bool} {i : ℕ} {s : StatementTree} {j : ℕ} → IsStatement ts limit d loop i s j → Same j ts us → IsStatement us lower d loop i s j
+    pub statement_same : {d : ℕ} {loop : Bool} {i : ℕ} {s : StatementTree} {j : ℕ} → IsStatement ts limit d loop i s j → Between i j ts us → IsStatement us lower d loop i s j
     statement_same {d = d} {i = i} {j = j} (an_assignment {b = b} {w = w} {e = e} a r x semi) same =
         let up = expression_up ts limit x in
-        an_assignment a (piece Result result_framed i (Some w) a j (omega (arith, semi.1)) r same)
-        (piece (OneExpression d loosest) (expression_framed d loosest) a e b j (omega (arith, semi.1)) x same)
-        (piece (OneToken semicolon) (token_framed semicolon) b tt j j (omega arith) semi same)
+        an_assignment a (piece Result result_framed i i (Some w) a j (omega arith) (omega (arith, semi.1)) r same)
+        (piece (OneExpression d loosest) (expression_framed d loosest) i a e b j (omega (arith, r.1.1.1, r.2.1)) (omega (arith, semi.1)) x same)
+        (piece (OneToken semicolon) (token_framed semicolon) i b tt j j (omega (arith, r.1.1.1, r.2.1)) (omega arith) semi same)
     statement_same {d = d} {i = i} {j = j} (an_element_assignment {b = b} {c = c} {k = k} {w = w} {index = index} {e = e} a name x eq y semi) same =
         let first = bracketed_up ts limit d a index b x in
         let up = expression_up ts limit y in
-        an_element_assignment a (piece OneWord word_framed i w a j (omega (arith, eq.1, semi.1)) name same)
-        (piece (Bracketed d) (bracketed_framed d) a index b j (omega (arith, eq.1, semi.1)) x same)
-        (piece (OneToken equals) (token_framed equals) b tt c j (omega (arith, semi.1)) eq same)
-        (piece (OneExpression d loosest) (expression_framed d loosest) c e k j (omega (arith, semi.1)) y same)
-        (piece (OneToken semicolon) (token_framed semicolon) k tt j j (omega arith) semi same)
+        an_element_assignment a (piece OneWord word_framed i i w a j (omega arith) (omega (arith, eq.1, semi.1)) name same)
+        (piece (Bracketed d) (bracketed_framed d) i a index b j (omega (arith, name.1.1)) (omega (arith, eq.1, semi.1)) x same)
+        (piece (OneToken equals) (token_framed equals) i b tt c j (omega (arith, name.1.1)) (omega (arith, semi.1)) eq same)
+        (piece (OneExpression d loosest) (expression_framed d loosest) i c e k j (omega (arith, name.1.1, eq.1)) (omega (arith, semi.1)) y same)
+        (piece (OneToken semicolon) (token_framed semicolon) i k tt j j (omega (arith, name.1.1, eq.1)) (omega arith) semi same)
     statement_same {d = d} {i = i} {j = j} (a_call r a c b res call semi is) same =
+        let first = result_up ts limit i r a res in
         let up = (call_framed d).up ts limit a c b call in
-        a_call r a c b (piece Result result_framed i r a j (omega (arith, semi.1)) res same)
-        (piece (OneCall d) (call_framed d) a c b j (omega (arith, semi.1)) call same)
-        (piece (OneToken semicolon) (token_framed semicolon) b tt j j (omega arith) semi same) is
+        a_call r a c b (piece Result result_framed i i r a j (omega arith) (omega (arith, semi.1)) res same)
+        (piece (OneCall d) (call_framed d) i a c b j (omega arith) (omega (arith, semi.1)) call same)
+        (piece (OneToken semicolon) (token_framed semicolon) i b tt j j (omega arith) (omega arith) semi same) is
     statement_same {i = i} {j = j} (a_jump {a = a} {loop = loop} {s = s} x semi) same =
-        a_jump (piece (Item (jump_of loop)) (item_framed (jump_of loop)) i s a j (omega (arith, semi.1)) x same)
-        (piece (OneToken semicolon) (token_framed semicolon) a tt j j (omega arith) semi same)
+        a_jump (piece (Item (jump_of loop)) (item_framed (jump_of loop)) i i s a j (omega arith) (omega (arith, semi.1)) x same)
+        (piece (OneToken semicolon) (token_framed semicolon) i a tt j j (omega (arith, x.1)) (omega arith) semi same)
     statement_same (an_if s) same = an_if (if_same s same)
     statement_same {d = d} {i = i} {j = j} (a_while {a = a} {b = b} {e = e} x test body) same =
         let up = (condition_framed d).up ts limit a e b test in
         let more = block_up ts limit body in
-        a_while (piece (OneToken while_word) (token_framed while_word) i tt a j (omega arith) x same)
-        (piece (Condition d) (condition_framed d) a e b j (omega arith) test same) (block_same body same)
+        a_while (piece (OneToken while_word) (token_framed while_word) i i tt a j (omega arith) (omega arith) x same)
+        (piece (Condition d) (condition_framed d) i a e b j (omega (arith, x.1)) (omega arith) test same)
+        (block_same body (between_rest i b j ts us (omega (arith, x.1)) same))
 
-    pub if_same : {d : ℕ} {loop : Bool} {i : ℕ} {s : StatementTree} {j : ℕ} → IsIf ts limit d loop i s j → Same j ts us → IsIf us lower d loop i s j
+    pub if_same : {d : ℕ} {loop : Bool} {i : ℕ} {s : StatementTree} {j : ℕ} → IsIf ts limit d loop i s j → Between i j ts us → IsIf us lower d loop i s j
     if_same {d = d} {i = i} {j = j} (if_chosen {a = a} {b = b} {c = c} {e = e} x test body o is) same =
         let up = (condition_framed d).up ts limit a e b test in
         let more = block_up ts limit body in
         let last = else_up ts limit o in
-        if_chosen (piece (OneToken if_word) (token_framed if_word) i tt a j (omega arith) x same)
-        (piece (Condition d) (condition_framed d) a e b j (omega arith) test same)
-        (block_same body (fewer c j ts us last same)) (else_same o same) is
+        if_chosen (piece (OneToken if_word) (token_framed if_word) i i tt a j (omega arith) (omega arith) x same)
+        (piece (Condition d) (condition_framed d) i a e b j (omega (arith, x.1)) (omega arith) test same)
+        (block_same body (between_part i b c j ts us (omega (arith, x.1)) last same))
+        (else_same o (between_rest i c j ts us (omega (arith, x.1)) same)) is
 
-    pub else_same : {d : ℕ} {loop : Bool} {i : ℕ} {o : Option Block} {j : ℕ} → IsElse ts limit d loop i o j → Same j ts us → IsElse us lower d loop i o j
+    pub else_same : {d : ℕ} {loop : Bool} {i : ℕ} {o : Option Block} {j : ℕ} → IsElse ts limit d loop i o j → Between i j ts us → IsElse us lower d loop i o j
     else_same no_else same = no_else
     else_same {i = i} {j = j} (an_else {a = a} x o) same =
         let more = other_up ts limit o in
-        an_else (piece (OneToken else_word) (token_framed else_word) i tt a j (omega arith) x same) (other_same o same)
+        an_else (piece (OneToken else_word) (token_framed else_word) i i tt a j (omega arith) (omega arith) x same)
+        (other_same o (between_rest i a j ts us (omega (arith, x.1)) same))
 
-    pub other_same : {d : ℕ} {loop : Bool} {i : ℕ} {b : Block} {j : ℕ} → IsOther ts limit d loop i b j → Same j ts us → IsOther us lower d loop i b j
+    pub other_same : {d : ℕ} {loop : Bool} {i : ℕ} {b : Block} {j : ℕ} → IsOther ts limit d loop i b j → Between i j ts us → IsOther us lower d loop i b j
     other_same (a_block b) same = a_block (block_same b same)
     other_same (another_if fits s is) same = another_if (λ lt. fits (omega (arith, lt))) (if_same s same) is
 
-    pub block_same : {d : ℕ} {loop : Bool} {i : ℕ} {b : Block} {j : ℕ} → IsBlock ts limit d loop i b j → Same j ts us → IsBlock us lower d loop i b j
+    pub block_same : {d : ℕ} {loop : Bool} {i : ℕ} {b : Block} {j : ℕ} → IsBlock ts limit d loop i b j → Between i j ts us → IsBlock us lower d loop i b j
     block_same {i = i} {j = j} (braces {a = a} {b = b} fits x ss y is) same =
         let more = statements_up ts limit ss in
-        braces (λ lt. fits (omega (arith, lt))) (piece (OneToken open_brace) (token_framed open_brace) i tt a j (omega (arith, y.1)) x same)
-        (statements_same ss (fewer b j ts us (omega (arith, y.1)) same))
-        (piece (OneToken close_brace) (token_framed close_brace) b tt j j (omega arith) y same) is
+        braces (λ lt. fits (omega (arith, lt))) (piece (OneToken open_brace) (token_framed open_brace) i i tt a j (omega arith) (omega (arith, y.1)) x same)
+        (statements_same ss (between_part i a b j ts us (omega (arith, x.1)) (omega (arith, y.1)) same))
+        (piece (OneToken close_brace) (token_framed close_brace) i b tt j j (omega (arith, x.1)) (omega arith) y same) is
 
-    pub statements_same : {d : ℕ} {loop : Bool} {i : ℕ} {ss : List StatementTree} {j : ℕ} → AreStatements ts limit d loop i ss j → Same j ts us → AreStatements us lower d loop i ss j
+    pub statements_same : {d : ℕ} {loop : Bool} {i : ℕ} {ss : List StatementTree} {j : ℕ} → AreStatements ts limit d loop i ss j → Between i j ts us → AreStatements us lower d loop i ss j
     statements_same no_statement same = no_statement
-    statements_same {j = j} (a_statement {a = a} s ss) same =
-        a_statement (statement_same s (fewer a j ts us (statements_up ts limit ss) same)) (statements_same ss same)
+    statements_same {i = i} {j = j} (a_statement {a = a} s ss) same =
+        let up = statement_up ts limit s in
+        a_statement (statement_same s (between_front i a j ts us (statements_up ts limit ss) same))
+        (statements_same ss (between_rest i a j ts us (omega arith) same))
 
 module _ (d : ℕ) (loop : Bool) where
   pub statement_framed : Framed (OneStatement d loop)

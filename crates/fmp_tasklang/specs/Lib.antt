@@ -13,7 +13,9 @@ pub mod Laws
 pub mod Reading
 pub mod Receivers
 pub mod Scopes
+pub mod Starts
 pub mod Statements
+pub mod Streaming
 pub mod Stretches
 pub mod Texts
 pub mod Trees

@@ -281,10 +281,6 @@ module _ (ts : List TokenKind) where
 abbrev pub declarations_view : Vec Declaration Global → List Declaration
 declarations_view v = v.items
 
-abbrev pub index_view : Option Expression → Option ExpressionTree
-index_view None = None
-index_view (Some e) = Some (expression_view e)
-
 abbrev pub links_view : Vec Link Global → List LinkTree
 links_view v = map link_view v.items
 

@@ -36,7 +36,8 @@ fn variable(tokens: &Tokens<'_>, at: usize) -> Result<(Declaration, usize), Firs
     Ok((Declaration { name, length }, next))
 }
 
-fn variables(
+/// The variables from a place on, and the place behind them.
+pub fn variables(
     alloc: Global,
     tokens: &Tokens<'_>,
     at: usize,

@@ -1,14 +1,14 @@
 //! Expressions of the task language.
-ghost use Rattle.std.specs.Prelude.{◌≡◌, ◌^◌, ◌≤◌, ◌<◌, ◌+◌, Some, length, slice_get, option_and_then, IfOk, IfErr};
+ghost use Rattle.std.specs.Prelude.{◌≡◌, ◌^◌, ◌≤◌, ◌<◌, ◌+◌, Some, length, slice_get, option_and_then};
 ghost use Rattle.fmp_lex.specs.Reading.{kinds_of, max_depth, Answers};
 ghost use Rattle.fmp_lex.specs.declared.token.Symbol.TheVariants as symbol;
-ghost use Rattle.fmp_tasklang.specs.Expressions.{loosest, reference, unary_of};
-ghost use Rattle.fmp_tasklang.specs.Reading.{index_view, links_view, RightOperand, RightIndex, RightBracketed, RightExpression, RightLinks};
+ghost use Rattle.fmp_tasklang.specs.Expressions.{IsWord, loosest, unary_of};
+ghost use Rattle.fmp_tasklang.specs.Reading.{links_view, RightOperand, RightBracketed, RightExpression, RightLinks};
 ghost use Rattle.fmp_tasklang.specs.Trees as trees;
 ghost use Rattle.fmp_tasklang.specs.Views.{expression_view};
 
 use crate::trees::{Expression, Link, Word};
-use crate::words::{LOOSEST, MAX_DEPTH, expect_word, level_at, number_at, operator_at, unary_at};
+use crate::words::{LOOSEST, MAX_DEPTH, Start, level_at, operator_at, start_at};
 use fmp_base::UnaryOperator;
 use fmp_lex::reading::{expect_symbol, is_symbol_at};
 use fmp_lex::{FirstFault, GrammarFault, ReadError, Symbol, TokenKind, Tokens};
@@ -18,21 +18,6 @@ fn literal(number: i32) -> Expression
     ensures { expression_view result ≡ trees.number number }
 {
     Expression::Number(number)
-}
-
-/// A name, or the element of an array if an index stands behind the name.
-fn refer(alloc: Global, word: Word, index: Option<Expression>) -> Result<Expression, ReadError>
-    ensures tree { IfOk result (λ e. expression_view e ≡ reference word (index_view index)) }
-    ensures memory { IfErr result (λ e. e ≡ ReadError.Memory) }
-{
-    match index {
-        None => Ok(Expression::Name(word)),
-        Some(inner) => {
-            let index = Box::new(alloc, inner)?;
-            let array = Box::new(alloc, word)?;
-            Ok(Expression::Element { array, index })
-        }
-    }
 }
 
 /// The operand at a place, given the number of open levels of nesting, and the place behind it.
@@ -48,38 +33,67 @@ fn operand(
     requires at { at ≤ length tokens.now }
     ensures { Answers expression_view result (RightOperand (kinds_of tokens.now) depth at) }
 {
-    if let Some(number) = number_at(tokens, at) {
-        return Ok((literal(number), at + 1));
+    match start_at(tokens, at) {
+        Some(Start::Number(number)) => Ok((literal(number), at + 1)),
+        Some(Start::Name(name)) => {
+            let word = Word {
+                name,
+                at: at as u32,
+            };
+            named(alloc, tokens, depth, word, at)
+        }
+        Some(Start::Unary(operator)) => unary(alloc, tokens, depth, operator, at),
+        Some(Start::Group) => group(alloc, tokens, depth, at),
+        None => Err(ReadError::Fault(FirstFault {
+            at,
+            why: GrammarFault::Syntax,
+        })),
     }
-    if let Some(operator) = unary_at(tokens, at) {
-        return unary(alloc, tokens, depth, operator, at);
-    }
-    if is_symbol_at(tokens, at, Symbol::LeftParen) {
-        return group(alloc, tokens, depth, at);
-    }
-    let (word, next) = expect_word(tokens, at)?;
-    let (index, next) = index(alloc, tokens, depth, next)?;
-    let operand = refer(alloc, word, index)?;
-    Ok((operand, next))
 }
 
-/// An index between brackets, if one stands at a place.
+/// A name, or the element of an array if an index stands behind the name.
 #[cycle(expressions)]
-fn index(
+#[inline(always)]
+fn named(
     alloc: Global,
     tokens: &Tokens<'_>,
     depth: usize,
+    word: Word,
     at: usize,
-) -> Result<(Option<Expression>, usize), ReadError>
+) -> Result<(Expression, usize), ReadError>
     requires depth { depth ≤ max_depth }
-    requires at { at ≤ length tokens.now }
-    ensures { Answers index_view result (RightIndex (kinds_of tokens.now) depth at) }
+    requires at { at < length tokens.now }
+    requires room { at + 1 < 2 ^ 64 }
+    requires word { IsWord (kinds_of tokens.now) at word (at + 1) }
+    ensures { Answers expression_view result (RightOperand (kinds_of tokens.now) depth at) }
 {
-    if !is_symbol_at(tokens, at, Symbol::LeftBracket) {
-        return Ok((None, at));
+    if is_symbol_at(tokens, at + 1, Symbol::LeftBracket) {
+        return element(alloc, tokens, depth, word, at);
     }
-    let (inner, next) = bracketed(alloc, tokens, depth, at)?;
-    Ok((Some(inner), next))
+    Ok((Expression::Name(word), at + 1))
+}
+
+/// The element of an array. It is rare, so it stands out of the way of the other operands.
+#[cycle(expressions)]
+#[inline(never)]
+fn element(
+    alloc: Global,
+    tokens: &Tokens<'_>,
+    depth: usize,
+    word: Word,
+    at: usize,
+) -> Result<(Expression, usize), ReadError>
+    requires depth { depth ≤ max_depth }
+    requires at { at + 1 < length tokens.now }
+    requires room { at + 2 < 2 ^ 64 }
+    requires word { IsWord (kinds_of tokens.now) at word (at + 1) }
+    requires bracket { slice_get (kinds_of tokens.now) (at + 1) ≡ Some (TokenKind.Symbol symbol.LeftBracket) }
+    ensures { Answers expression_view result (RightOperand (kinds_of tokens.now) depth at) }
+{
+    let (inner, next) = bracketed(alloc, tokens, depth, at + 1)?;
+    let index = Box::new(alloc, inner)?;
+    let array = Box::new(alloc, word)?;
+    Ok((Expression::Element { array, index }, next))
 }
 
 /// `[`, an expression a level deeper and `]`.

@@ -11,6 +11,7 @@ pub mod laws;
 mod reading;
 mod receivers;
 mod statements;
+mod streaming;
 pub mod trees;
 mod words;
 
@@ -18,6 +19,7 @@ pub use argument_list::ArgumentList;
 pub use bodies::body;
 pub use reading::read_tasks;
 pub use receivers::Receivers;
+pub use streaming::{hold_heading, stream_body};
 pub use trees::{
     Body, BodyKind, Declaration, Expression, Length, Link, Operator, Program, ServiceCall,
     Statement, Word,

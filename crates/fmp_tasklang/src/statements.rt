@@ -7,6 +7,7 @@ ghost use Rattle.fmp_tasklang.specs.Blocks.{choice};
 ghost use Rattle.fmp_tasklang.specs.Calls.{service_of};
 ghost use Rattle.fmp_tasklang.specs.Reading.{statements_view, block_view, else_view, source_view, element_view, change_view, assigned, changed, RightCondition, RightSource, RightVariableChange, RightElementChange, RightChange, RightAssignment, RightPlainCall, RightJump, RightStatement, RightIf, RightElse, RightOther, RightBlock, RightStatements};
 ghost use Rattle.fmp_tasklang.specs.Statements.{jump_of};
+ghost use Rattle.fmp_tasklang.specs.Streaming.{Adds};
 ghost use Rattle.fmp_tasklang.specs.Views.{expression_view, statement_view};
 
 use crate::calls::call;
@@ -396,10 +397,30 @@ pub fn statements(
 {
     let mut found = Vec::with_capacity(alloc, 1)?;
     let mut i = at;
-    'statements: while !is_symbol_at(tokens, i, Symbol::RightBrace) {
-        let (one, next) = statement(alloc, tokens, depth, looped, i)?;
-        found.push(one)?;
-        i = next;
-    }
+    add_statements(alloc, tokens, depth, looped, &mut found, &mut i)?;
     Ok((found, i))
+}
+
+/// Adds the statements from a place up to a `}`, and moves the place behind each of them.
+#[cycle(statements)]
+#[inline(never)]
+pub fn add_statements(
+    alloc: Global,
+    tokens: &Tokens<'_>,
+    depth: usize,
+    looped: bool,
+    found: &mut Vec<Statement>,
+    at: &mut usize,
+) -> Result<(), ReadError>
+    requires depth { depth ≤ max_depth }
+    requires at { at.now ≤ length tokens.now }
+    ensures { Adds (kinds_of tokens.now) depth looped at.old at.new
+        (statements_view found.old) (statements_view found.new) result }
+{
+    'statements: while !is_symbol_at(tokens, *at, Symbol::RightBrace) {
+        let (one, next) = statement(alloc, tokens, depth, looped, *at)?;
+        found.push(one)?;
+        *at = next;
+    }
+    Ok(())
 }

@@ -5,6 +5,7 @@ ghost use Rattle.fmp_tasklang.specs.Calls as calls;
 ghost use Rattle.fmp_tasklang.specs.Expressions as expressions;
 ghost use Rattle.fmp_tasklang.specs.Grammar as grammar;
 ghost use Rattle.fmp_tasklang.specs.Reading.{itself, RightWord, RightCount};
+ghost use Rattle.fmp_tasklang.specs.Starts.{Starts};
 ghost use Rattle.fmp_tasklang.specs.Statements as statements;
 ghost use Rattle.fmp_tasklang.specs.Views.{statement_view};
 
@@ -19,12 +20,29 @@ pub const LOOSEST: usize = 9;
 /// How many levels of nesting may be open at once.
 pub const MAX_DEPTH: usize = 64;
 
-fn token_number(kind: TokenKind) -> Option<i32>
-    ensures { result ≡ expressions.token_number kind }
+/// How an operand begins.
+#[derive(Clone, Copy)]
+pub enum Start {
+    Number(i32),
+    Name(Name),
+    Unary(UnaryOperator),
+    /// `(`
+    Group,
+}
+
+/// How the operand begins whose first token this is, if one begins so.
+#[inline(always)]
+fn start_of(kind: TokenKind) -> Option<Start>
+    ensures { Starts (Some kind) result }
 {
     match kind {
-        TokenKind::Number(number) => Some(number),
-        TokenKind::Constant(constant) => Some(constant.value()),
+        TokenKind::Number(number) => Some(Start::Number(number)),
+        TokenKind::Constant(constant) => Some(Start::Number(constant.value())),
+        TokenKind::Name(name) => Some(Start::Name(name)),
+        TokenKind::Symbol(Symbol::Minus) => Some(Start::Unary(UnaryOperator::Negate)),
+        TokenKind::Symbol(Symbol::Not) => Some(Start::Unary(UnaryOperator::Not)),
+        TokenKind::Symbol(Symbol::Tilde) => Some(Start::Unary(UnaryOperator::Complement)),
+        TokenKind::Symbol(Symbol::LeftParen) => Some(Start::Group),
         _ => None,
     }
 }
@@ -43,17 +61,6 @@ fn name_of(kind: TokenKind) -> Option<Name>
 {
     match kind {
         TokenKind::Name(name) => Some(name),
-        _ => None,
-    }
-}
-
-fn unary_of(kind: TokenKind) -> Option<UnaryOperator>
-    ensures { result ≡ expressions.unary_of kind }
-{
-    match kind {
-        TokenKind::Symbol(Symbol::Minus) => Some(UnaryOperator::Negate),
-        TokenKind::Symbol(Symbol::Not) => Some(UnaryOperator::Not),
-        TokenKind::Symbol(Symbol::Tilde) => Some(UnaryOperator::Complement),
         _ => None,
     }
 }
@@ -120,13 +127,15 @@ fn body_kind_of(kind: TokenKind) -> Option<BodyKind>
     }
 }
 
-/// The number that the token at a place stands for.
-pub fn number_at(tokens: &Tokens<'_>, at: usize) -> Option<i32>
-    ensures value { result ≡ option_and_then expressions.token_number (slice_get (kinds_of tokens.now) at) }
+/// How the operand at a place begins, if one does.
+#[inline(always)]
+pub fn start_at(tokens: &Tokens<'_>, at: usize) -> Option<Start>
+    ensures value { Starts (slice_get (kinds_of tokens.now) at) result }
     ensures within { IfSome result (λ _. at < length tokens.now) }
     ensures room { IfSome result (λ _. at + 1 < 2 ^ 64) }
+    ensures few { IfSome result (λ _. at < 2 ^ 32) }
 {
-    token_number(kind_at(tokens, at)?)
+    start_of(kind_at(tokens, at)?)
 }
 
 /// The number at a place; a constant is none.
@@ -140,6 +149,7 @@ pub fn plain_number_at(tokens: &Tokens<'_>, at: usize) -> Option<i32>
 }
 
 /// The name at a place.
+#[inline(always)]
 pub fn name_at(tokens: &Tokens<'_>, at: usize) -> Option<Name>
     ensures value { result ≡ option_and_then expressions.name_of (slice_get (kinds_of tokens.now) at) }
     ensures within { IfSome result (λ _. at < length tokens.now) }
@@ -147,15 +157,6 @@ pub fn name_at(tokens: &Tokens<'_>, at: usize) -> Option<Name>
     ensures few { IfSome result (λ _. at < 2 ^ 32) }
 {
     name_of(kind_at(tokens, at)?)
-}
-
-/// The unary operator at a place.
-pub fn unary_at(tokens: &Tokens<'_>, at: usize) -> Option<UnaryOperator>
-    ensures value { result ≡ option_and_then expressions.unary_of (slice_get (kinds_of tokens.now) at) }
-    ensures within { IfSome result (λ _. at < length tokens.now) }
-    ensures room { IfSome result (λ _. at + 1 < 2 ^ 64) }
-{
-    unary_of(kind_at(tokens, at)?)
 }
 
 /// The operator at a place, if it is one of this level.

@@ -1,4 +1,4 @@
-use Rattle.std.proofs.Common.{◌≤◌, ◌++◌, ◌∷◌, List, [], length, sym, arith, append-nil}
+use Rattle.std.proofs.Common.{◌≤◌, ◌++◌, ◌∷◌, List, [], length, sym, arith, append-nil, rules}
 use Rattle.std.proofs.lemmas.List.{length-map}
 use Rattle.std.proofs.lemmas.Result.{err_from_is_err_and}
 use Rattle.fmp_base.specs.Systems.{tables_of}
@@ -10,6 +10,12 @@ use Rattle.fmp_tasklang.specs.Views.{body_view}
 use Rattle.fmp_tasklang.proofs.BodyPaths.{body_longer, bodies_more, bodies_stop, bodies_none}
 use Rattle.fmp_codegen.proofs.TextMaking.{read-error}
 use Rattle.fmp_codegen.proofs.texts.compile_bodies.Goals as goal
+
+pub bodies-init : goal.bodies-init
+bodies-init c = record {
+  within = omega arith;
+  goes = ([], c.no_bodies-made.ensures (tables_of c.args.objects.now.system.now), search rules);
+}
 
 pub returns-in_err-one : goal.returns-in_err-one
 returns-in_err-one c =

@@ -1,33 +1,28 @@
-use Rattle.std.proofs.Common.{◌≤◌, length}
+use Rattle.std.proofs.Common.{Ok}
 use Rattle.fmp_base.specs.Systems.{tables_of}
-use Rattle.fmp_lex.specs.Faults.{text_max}
-use Rattle.fmp_codegen.proofs.TextMaking.{text-few, text-low, text-compiled, text-stopped, not_long}
+use Rattle.fmp_codegen.specs.Texts.{IsStreamed}
+use Rattle.fmp_codegen.proofs.TextMaking.{text-streamed, compiled-few, compiled-low}
 use Rattle.fmp_codegen.proofs.texts.compile_text.Goals as goal
 
-pub returns-in-Ok-compile_tokens-clause-compiled : goal.returns-in-Ok-compile_tokens-clause-compiled
-returns-in-Ok-compile_tokens-clause-compiled c =
-    let text = c.args.text.now in
-    let list = c.in-Ok.list in
-    let made = c.in-Ok-compile_tokens.made in
-    let x = c.in-Ok-compile_tokens.ensures in
-    let short : length text ≤ text_max = not_long text list c.in-Ok.ensures.too_long in
-    text-compiled (tables_of c.args.system.now) made x.0 x.1 list.tokens text (short, c.in-Ok.ensures.cut, x.2) c.answer.result c.answer.ensures
+pub returns-in-Some-clause-compiled : goal.returns-in-Some-clause-compiled
+returns-in-Some-clause-compiled c =
+    let tables = tables_of c.args.system.now in
+    let streamed : IsStreamed tables c.args.text.now c.in-Some.made = rw c.in-Some.is at c.in_ok-made.ensures in
+    let made = c.text_of.ensures in
+    text-streamed tables c.args.text.now c.in-Some.made c.text_of.result streamed made.headings made.code
 
-pub returns-in-Ok-compile_tokens-clause-few : goal.returns-in-Ok-compile_tokens-clause-few
-returns-in-Ok-compile_tokens-clause-few c =
-    let x = c.in-Ok-compile_tokens.ensures in
-    text-few (tables_of c.args.system.now) c.in-Ok-compile_tokens.made x.0 x.1 c.in-Ok.list.tokens c.answer.result c.answer.ensures
+pub returns-in-Some-clause-few : goal.returns-in-Some-clause-few
+returns-in-Some-clause-few c =
+    compiled-few (tables_of c.args.system.now) c.args.text.now (Ok c.text_of.result) (returns-in-Some-clause-compiled c)
 
-pub returns-in-Ok-compile_tokens-clause-low : goal.returns-in-Ok-compile_tokens-clause-low
-returns-in-Ok-compile_tokens-clause-low c =
-    let x = c.in-Ok-compile_tokens.ensures in
-    text-low (tables_of c.args.system.now) c.in-Ok-compile_tokens.made x.0 x.1 c.in-Ok.list.tokens c.answer.result c.answer.ensures
+pub returns-in-Some-clause-low : goal.returns-in-Some-clause-low
+returns-in-Some-clause-low c =
+    compiled-low (tables_of c.args.system.now) c.args.text.now (Ok c.text_of.result) (returns-in-Some-clause-compiled c)
 
-pub returns-in-Ok-clause-compiled : goal.returns-in-Ok-clause-compiled
-returns-in-Ok-clause-compiled c =
-    let text = c.args.text.now in
-    let list = c.in-Ok.list in
-    let short : length text ≤ text_max = not_long text list c.in-Ok.ensures.too_long in
-    let first = rw c.in-Err-Fault.field-0-is at c.in-Err-Fault.ensures in
-    text-stopped (tables_of c.args.system.now) text list.tokens c.in-Err-Fault.fault.at list.end c.in-Err-Fault.fault.why c.fault_at.result short
-    c.in-Ok.ensures.cut first c.in-Ok.ensures.end c.fault_at.ensures
+pub returns-clause-few : goal.returns-clause-few
+returns-clause-few c =
+    compiled-few (tables_of c.args.system.now) c.args.text.now c.compile_all.result c.compile_all.ensures
+
+pub returns-clause-low : goal.returns-clause-low
+returns-clause-low c =
+    compiled-low (tables_of c.args.system.now) c.args.text.now c.compile_all.result c.compile_all.ensures

@@ -1,4 +1,4 @@
-use Rattle.std.proofs.Common.{◌≡◌, ap}
+use Rattle.std.proofs.Common.{ap}
 use Rattle.fmp_lex.specs.Cutting.{Skip, Whole, Fault}
 use Rattle.fmp_lex.specs.Packing.{end_after, kind_in}
 use Rattle.fmp_lex.proofs.Unique.{piece_unique}

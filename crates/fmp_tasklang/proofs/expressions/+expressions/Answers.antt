@@ -1,16 +1,17 @@
-use Rattle.std.proofs.Common.{◌≡◌, ◌+◌, ◌-◌, ◌≤◌, ◌<◌, ◌++◌, ◌∷◌, List, [], length, refl, sym, arith, rules, append-nil}
+use Rattle.std.proofs.Common.{◌≡◌, ◌+◌, ◌-◌, ◌≤◌, ◌<◌, ◌++◌, ◌∷◌, List, [], length, refl, arith, rules, append-nil}
 use Rattle.std.proofs.lemmas.List.{length-map}
 use Rattle.std.proofs.lemmas.Result.{err_from_is_err_and}
 use Rattle.fmp_lex.specs.Reading.{kinds_of, found, stopped, map_result, RightToken}
-use Rattle.fmp_lex.proofs.Answered.{err_as, find_as, step_as}
+use Rattle.fmp_lex.proofs.Answered.{err_as, step_as}
 use Rattle.fmp_lex.proofs.Repetitions.{push_before}
 use Rattle.fmp_tasklang.specs.Expressions.{loosest}
-use Rattle.fmp_tasklang.specs.Reading.{itself, index_view, links_view, RightWord, RightOperand, RightIndex, RightBracketed, RightExpression, RightLinks}
+use Rattle.fmp_tasklang.specs.Reading.{links_view, RightOperand, RightBracketed, RightExpression, RightLinks}
 use Rattle.fmp_tasklang.specs.Trees.{number}
 use Rattle.fmp_tasklang.specs.Views.{LinkTree, chain_tree, expression_view}
 use Rattle.fmp_tasklang.proofs.Links.{expression_zero, raised, raised_stop, raised_to, chain_then, links_more, links_stop, links_none}
-use Rattle.fmp_tasklang.proofs.Operands.{right, close_bracket, ended_stop, ended_then, number_found, name_stop, name_then, without_index, with_index, bracketed_deep, bracketed_then, group_deep, group_then, unary_deep, unary_then}
-use Rattle.fmp_tasklang.proofs.Views.{expression_view-Unary, expression_view-Chain, links_push}
+use Rattle.fmp_tasklang.proofs.Names.{operand_missing, named_found, element_then}
+use Rattle.fmp_tasklang.proofs.Operands.{right, close_bracket, ended_stop, ended_then, number_found, bracketed_deep, bracketed_then, group_deep, group_then, unary_deep, unary_then}
+use Rattle.fmp_tasklang.proofs.Views.{expression_view-Name, expression_view-Element, expression_view-Unary, expression_view-Chain, links_push}
 use Rattle.fmp_tasklang.proofs.expressions.+expressions.Goals as goal
 
 pub expression-returns-in_err-tree : goal.expression-returns-in_err-tree
@@ -152,68 +153,55 @@ links-returns m0 c =
     let within : k ≤ length ts = simp length-map c.links.invariant.within in
     rw append-nil at (c.links.invariant.goes (found [] k) (links_none d m ts k c.in_default.ensures.value within))
 
-pub operand-returns-in-Some : goal.operand-returns-in-Some
-operand-returns-in-Some m0 c =
+pub operand-returns-in-Some-Number : goal.operand-returns-in-Some-Number
+operand-returns-in-Some-Number m0 c =
     let ts = kinds_of c.args.tokens.now in
     let d = c.args.depth in
     let i = c.args.at in
-    let lt : i < length ts = simp length-map c.in-Some.ensures.within in
-    let it : RightOperand ts d i (found (number c.in-Some.number) (i + 1)) = number_found ts d i c.in-Some.number lt (sym c.in-Some.ensures.value) in
+    let n = c.in-Some-Number.number in
+    let lt : i < length ts = simp length-map c.in-Some-Number.ensures.within in
+    let first = rw c.in-Some-Number.field-0-is at c.in-Some-Number.ensures.value in
+    let it : RightOperand ts d i (found (number n) (i + 1)) = number_found ts d i n lt first in
     rw c.literal.ensures (search (rules, it))
 
-pub operand-returns-in_err-word : goal.operand-returns-in_err-word
-operand-returns-in_err-word m0 c =
-    let ts = kinds_of c.args.tokens.now in
-    let d = c.args.depth in
-    let i = c.args.at in
-    let p = err_from_is_err_and c.from_residual.result c.from_residual.ensures.1 in
-    rw (p.1, p.2) (find_as itself expression_view c.in_err-word.field-0.0 (RightWord ts i) (RightOperand ts d i)
-    (λ j why x. name_stop ts d i (sym c.in_default.ensures.value) (sym c.in_default-unary_at.ensures.value)
-    (c.is_symbol_at.ensures.no c.if-is_symbol_at.false) j why x) c.in_err-word.ensures)
-
-pub operand-returns : goal.operand-returns
-operand-returns m0 c =
-    let ts = kinds_of c.args.tokens.now in
-    let d = c.args.depth in
-    let i = c.args.at in
-    rw c.in_ok-operand.ensures.tree (name_then ts d i (sym c.in_default.ensures.value)
-    (sym c.in_default-unary_at.ensures.value) (c.is_symbol_at.ensures.no c.if-is_symbol_at.false)
-    c.in_ok-word.word c.in_ok-word.next c.in_ok-word.ensures
-    (found (index_view c.in_ok-index.index) c.in_ok-index.next) c.in_ok-index.ensures)
-
-pub operand-returns-in_err-index : goal.operand-returns-in_err-index
-operand-returns-in_err-index m0 c =
-    let ts = kinds_of c.args.tokens.now in
-    let d = c.args.depth in
-    let i = c.args.at in
-    let p = err_from_is_err_and c.from_residual-in_err-index.result c.from_residual-in_err-index.ensures.1 in
-    rw (p.1, p.2) (err_as index_view expression_view c.in_err-index.field-0.0 (RightIndex ts d c.in_ok-word.next) (RightOperand ts d i)
-    (λ j why x. name_then ts d i (sym c.in_default.ensures.value) (sym c.in_default-unary_at.ensures.value)
-    (c.is_symbol_at.ensures.no c.if-is_symbol_at.false) c.in_ok-word.word c.in_ok-word.next c.in_ok-word.ensures (stopped j why) x) c.in_err-index.ensures)
-
-pub index-returns-then-not-is_symbol_at : goal.index-returns-then-not-is_symbol_at
-index-returns-then-not-is_symbol_at m0 c =
+pub operand-returns-in-None : goal.operand-returns-in-None
+operand-returns-in-None m0 c =
     let ts = kinds_of c.args.tokens.now in
     let within : c.args.at ≤ length ts = simp length-map c.requires.at in
-    without_index ts c.args.depth c.args.at (c.is_symbol_at.ensures.no (search rules)) within
+    operand_missing ts c.args.depth c.args.at c.in-None.ensures.value within
 
-pub index-returns-in_err-inner : goal.index-returns-in_err-inner
-index-returns-in_err-inner m0 c =
+pub named-returns : goal.named-returns
+named-returns m0 c =
+    let ts = kinds_of c.args.tokens.now in
+    let lt : c.args.at < length ts = simp length-map c.requires.at in
+    rw (expression_view-Name c.args.word) (named_found ts c.args.depth c.args.at c.args.word lt c.requires.word
+    (c.is_symbol_at.ensures.no (search rules)))
+
+pub element-returns-in_err-inner : goal.element-returns-in_err-inner
+element-returns-in_err-inner m0 c =
     let ts = kinds_of c.args.tokens.now in
     let d = c.args.depth in
     let i = c.args.at in
-    let is = c.is_symbol_at.ensures.yes (search rules) in
+    let lt : i < length ts = let long : i + 1 < length ts = simp length-map c.requires.at in omega (arith, long) in
     let p = err_from_is_err_and c.from_residual.result c.from_residual.ensures.1 in
-    rw (p.1, p.2) (err_as expression_view index_view c.in_err-inner.field-0.0 (RightBracketed ts d i) (RightIndex ts d i)
-    (λ j why x. with_index ts d i is (stopped j why) x) c.in_err-inner.ensures)
+    rw (p.1, p.2) (err_as expression_view expression_view c.in_err-inner.field-0.0 (RightBracketed ts d (i + 1))
+    (RightOperand ts d i)
+    (λ j why x. element_then ts d i c.args.word lt c.requires.word c.requires.bracket (stopped j why) x)
+    c.in_err-inner.ensures)
 
-pub index-returns : goal.index-returns
-index-returns m0 c =
+pub element-returns : goal.element-returns
+element-returns m0 c =
     let ts = kinds_of c.args.tokens.now in
     let d = c.args.depth in
     let i = c.args.at in
-    let is = c.is_symbol_at.ensures.yes (search rules) in
-    with_index ts d i is (found (expression_view c.in_ok-inner.inner) c.in_ok-inner.next) c.in_ok-inner.ensures
+    let lt : i < length ts = let long : i + 1 < length ts = simp length-map c.requires.at in omega (arith, long) in
+    rw (
+      expression_view-Element c.in_ok-array.array c.in_ok-index.index,
+      c.in_ok-array.ensures.ok,
+      c.in_ok-index.ensures.ok,
+    )
+    (element_then ts d i c.args.word lt c.requires.word c.requires.bracket
+    (found (expression_view c.in_ok-inner.inner) c.in_ok-inner.next) c.in_ok-inner.ensures)
 
 pub bracketed-returns-then-depth-eq-MAX_DEPTH : goal.bracketed-returns-then-depth-eq-MAX_DEPTH
 bracketed-returns-then-depth-eq-MAX_DEPTH m0 c =

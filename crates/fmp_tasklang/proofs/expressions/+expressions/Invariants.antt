@@ -6,10 +6,13 @@ use Rattle.fmp_tasklang.specs.Views.{LinkTree, expression_view}
 use Rattle.fmp_tasklang.proofs.expressions.+expressions.Given as goal
 
 abbrev pub decreases-operand : goal.decreases-operand
-decreases-operand l = (65 - l.depth) * 32 + 2
+decreases-operand l = (65 - l.depth) * 32 + 3
 
-abbrev pub decreases-index : goal.decreases-index
-decreases-index l = (65 - l.depth) * 32 + 1
+abbrev pub decreases-named : goal.decreases-named
+decreases-named l = (65 - l.depth) * 32 + 2
+
+abbrev pub decreases-element : goal.decreases-element
+decreases-element l = (65 - l.depth) * 32 + 1
 
 abbrev pub decreases-bracketed : goal.decreases-bracketed
 decreases-bracketed l = (65 - l.depth) * 32
@@ -21,10 +24,10 @@ abbrev pub decreases-group : goal.decreases-group
 decreases-group l = (65 - l.depth) * 32
 
 abbrev pub decreases-expression : goal.decreases-expression
-decreases-expression l = (65 - l.depth) * 32 + 2 * l.level + 3
+decreases-expression l = (65 - l.depth) * 32 + 2 * l.level + 4
 
 abbrev pub decreases-links : goal.decreases-links
-decreases-links l = (65 - l.depth) * 32 + 2 * l.level + 4
+decreases-links l = (65 - l.depth) * 32 + 2 * l.level + 5
 
 abbrev pub invariant-expression-levels : goal.invariant-expression-levels
 invariant-expression-levels l = record {

@@ -1,15 +1,21 @@
-use Rattle.std.proofs.Common.{◌<◌, length, arith}
-use Rattle.fmp_lex.proofs.Packing.{one_of_all, packed_place}
+use Rattle.std.proofs.Common.{◌≡◌, ◌+◌, ◌<◌, length, arith}
+use Rattle.fmp_lex.proofs.Packing.{is_held, one_of_all, packed_place, part_held}
 use Rattle.fmp_lex.proofs.packed.Tokens.place.Goals as goal
 
 pub returns : goal.returns
 returns c =
-    let text = c.self.inside.text.now in
-    let ps = c.self.inside.packed.items in
-    let lt : c.args.at < length ps = omega (arith, c.if-at-len.false, c.len.ensures) in
+    let inside = c.self.inside in
+    let text = inside.text.now in
+    let ps = inside.packed.items in
+    let k = c.offset-place.result in
+    let lt : k < length ps = omega (arith, c.if-place-len.false, c.len.ensures) in
+    let held : inside.first + k ≡ c.args.at =
+    is_held inside.first c.args.at k (length ps) c.offset-place.ensures.held c.offset-place.ensures.absent lt
+    (omega (arith, c.self.invariant.0, c.self.invariant.2)) in
     let p = c.index.result.now in
-    let packed = one_of_all text ps c.args.at _ p c.self.invariant.2 lt c.index.ensures in
+    let packed = one_of_all text ps k _ p c.self.invariant.3 lt c.index.ensures in
     let start = c.get-start.ensures.value in
-    rw (← c.self.view_is)
-    (packed_place text ps c.args.at _ p c.place_of_piece.result lt c.index.ensures packed (rw start at c.place_of_piece.ensures.line)
-    (rw start at c.place_of_piece.ensures.start) (rw start at c.place_of_piece.ensures.end))
+    rw (← c.self.view_is, part_held text inside.first ps c.args.at k held)
+    (packed_place text ps k _ p c.place_of_piece.result lt c.index.ensures packed
+    (rw start at c.place_of_piece.ensures.line) (rw start at c.place_of_piece.ensures.start)
+    (rw start at c.place_of_piece.ensures.end))
