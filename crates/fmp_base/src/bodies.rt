@@ -5,7 +5,7 @@ use crate::calls::Call;
 use std::alloc::AllocError;
 
 /// Why a body stops in the middle of a statement.
-#[derive(Clone, Copy)]
+#[derive(Clone, Copy, PartialEq, Eq)]
 pub enum Fault {
     /// A result outside 32 bits.
     Overflow,

@@ -55,9 +55,9 @@ pub raised_run : (stamps : List ℕ) (ran : Option ℕ) (p : ℕ) → p < length
 raised_run stamps None p l = omega arith
 raised_run stamps (Some q) p l = raised_at stamps q p l
 
-pub raised_few : (stamps : List ℕ) (ran : Option ℕ) → ((p : ℕ) → get_or stamps p 0 < 2 ^ 20) → (p : ℕ) → get_or (raised stamps ran) p 0 ≤ 2 ^ 20
+pub raised_few : (stamps : List ℕ) (ran : Option ℕ) → ((p : ℕ) → get_or stamps p 0 < 2 ^ 31) → (p : ℕ) → get_or (raised stamps ran) p 0 ≤ 2 ^ 31
 raised_few stamps ran few p = by_test (nat_lt p (length stamps)) refl where
-  by_test : (b : Bool) → nat_lt p (length stamps) ≡ b → get_or (raised stamps ran) p 0 ≤ 2 ^ 20
+  by_test : (b : Bool) → nat_lt p (length stamps) ≡ b → get_or (raised stamps ran) p 0 ≤ 2 ^ 31
   by_test true e =
       let now = raised_run stamps ran p (grind (arith, nat_tests, e)) in
       let one = one_few (is_same_task ran (Some p)) in
@@ -128,9 +128,9 @@ rising_on old now ran lines l rest h =
           omega (arith, was, one, sum)
 
 pub rising_few : (old now : List ℕ) (ran : Option ℕ) (lines rest : List Line) → Rising old now ran lines rest
-    → ((p : ℕ) → get_or old p 0 ≤ 2 ^ 20) → length lines ≤ 519 → (p : ℕ) → get_or now p 0 < 2 ^ 21
+    → ((p : ℕ) → get_or old p 0 ≤ 2 ^ 31) → length lines ≤ 519 → (p : ℕ) → get_or now p 0 < 2 ^ 31 + 2 ^ 10
 rising_few old now ran lines rest h few short p = by_test (nat_lt p (length old)) refl where
-  by_test : (b : Bool) → nat_lt p (length old) ≡ b → get_or now p 0 < 2 ^ 21
+  by_test : (b : Bool) → nat_lt p (length old) ≡ b → get_or now p 0 < 2 ^ 31 + 2 ^ 10
   by_test true e =
       let l : p < length old = grind (arith, nat_tests, e) in
       let here = h.each p l in

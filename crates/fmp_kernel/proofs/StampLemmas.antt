@@ -112,8 +112,8 @@ stamps_begin stamps processors e =
           let h : get_or stamps p 0 ≡ zero_here = ap (λ (xs : List ℕ). get_or xs p 0) e ∙ get_or-same processors p 0 in
           omega (arith, h)
 
-pub below : (stamps : List ℕ) (processors taken : ℕ) → AreStamps stamps processors taken → taken < 2 ^ 20 → (p : ℕ)
-    → get_or stamps p 0 < 2 ^ 20
+pub below : (stamps : List ℕ) (processors taken : ℕ) → AreStamps stamps processors taken → taken < 2 ^ 31 → (p : ℕ)
+    → get_or stamps p 0 < 2 ^ 31
 below stamps processors taken a l p = let h = a.few p in omega (arith, h, l)
 
 pub stamps_after : (old new : List ℕ) (processors taken : ℕ) (ran : Option ℕ) (s u : KernelState) → AreStamps old processors taken

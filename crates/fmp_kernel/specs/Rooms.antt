@@ -13,4 +13,4 @@ pub record HasRoom (sys : SystemTables) (caused_room lines_room : ℕ) : Type 0 
 pub record IsEarly (clock done taken : ℕ) : Type 0 where
   pub time : clock ≤ taken
   pub few : done ≤ taken
-  pub early : taken ≤ 2 ^ 20
+  pub early : taken ≤ 2 ^ 31

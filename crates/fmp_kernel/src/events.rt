@@ -438,7 +438,7 @@ impl<B: Body> Runner<B> {
 
     /// The clock advances by one.
     fn tick(&mut self)
-        requires { self.old.world.state.clock < 2 ^ 20 }
+        requires { self.old.world.state.clock < 2 ^ 31 }
         ensures after { Did (done_of self.new)
             ≡ step self.old.system (B.meaning self.old.body) self.old.bound self.old.world Event.Tick }
         ensures bodies { SameBodies self.old self.new }
@@ -482,7 +482,7 @@ impl<B: Body> Runner<B> {
 
     /// One event.
     pub fn react(&mut self, e: Event) -> Effect
-        requires { self.old.world.state.clock < 2 ^ 20 }
+        requires { self.old.world.state.clock < 2 ^ 31 }
         ensures effect { result
             ≡ effect_of (step self.old.system (B.meaning self.old.body) self.old.bound self.old.world e) }
         ensures after { done_of self.new

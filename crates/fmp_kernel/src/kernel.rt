@@ -94,6 +94,13 @@ impl<B: Body> Kernel<B> {
         self.runner.lines()
     }
 
+    /// What its bodies are.
+    pub fn body(&self) -> &B
+        ensures { result.now ≡ self.now.body }
+    {
+        &self.runner.body
+    }
+
     /// How many events were done: the number of the last one in the trace.
     pub fn done(&self) -> u32
         ensures { result ≡ self.now.done }
@@ -193,6 +200,17 @@ impl<B: Body> Kernel<B> {
         ensures state { self.new
             ≡ view_after self.old (step self.old.system (B.meaning self.old.body) self.old.bound self.old.world e) }
     {
+        self.step_long(e)
+    }
+
+    /// As `step`, while fewer than 2^31 events were taken: a run of days.
+    pub fn step_long(&mut self, e: Event) -> Effect
+        requires { self.old.taken < 2 ^ 31 }
+        ensures effect { result
+            ≡ effect_of (step self.old.system (B.meaning self.old.body) self.old.bound self.old.world e) }
+        ensures state { self.new
+            ≡ view_after self.old (step self.old.system (B.meaning self.old.body) self.old.bound self.old.world e) }
+    {
         let effect = self.runner.react(e);
         self.runner.world_is_whole();
         match effect {
@@ -215,6 +233,19 @@ impl<B: Body> Kernel<B> {
     /// which makes the stretch itself. The stretch is one of the present actor's; if there is none, nothing happens.
     pub fn apply(&mut self, p: u8, s: Stretch<B::Ctx>) -> Effect
         requires early { self.old.taken < 2 ^ 20 }
+        requires stretch { IsFor B.is_context self.old.body (ending s)
+            (actor_at_number self.old.system self.old.world p) }
+        ensures effect { result
+            ≡ effect_of (applied self.old.system (B.meaning self.old.body) self.old.world p (ending s)) }
+        ensures state { self.new
+            ≡ view_after self.old (applied self.old.system (B.meaning self.old.body) self.old.world p (ending s)) }
+    {
+        self.apply_long(p, s)
+    }
+
+    /// As `apply`, while fewer than 2^31 events were taken.
+    pub fn apply_long(&mut self, p: u8, s: Stretch<B::Ctx>) -> Effect
+        requires early { self.old.taken < 2 ^ 31 }
         requires stretch { IsFor B.is_context self.old.body (ending s)
             (actor_at_number self.old.system self.old.world p) }
         ensures effect { result

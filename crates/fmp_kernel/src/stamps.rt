@@ -1,5 +1,5 @@
 //! The stamps of the processors: how many events ran a processor or left it another actor.
-ghost use Rattle.std.specs.Prelude.{◌≡◌, ◌<◌, ◌≤◌, ◌^◌, ℕ, [], Some, length, get_or, replicate, IfOk};
+ghost use Rattle.std.specs.Prelude.{◌≡◌, ◌+◌, ◌<◌, ◌≤◌, ◌^◌, ℕ, [], Some, length, get_or, replicate, IfOk};
 ghost use Rattle.fmp_kernel.specs.Stamps.{AreCounted, AreRaised, behind_own, given_by as given_by_line, raised, raised_unless};
 ghost use Rattle.fmp_worlds.specs.Stamps.{run_place as place_of_event};
 
@@ -68,7 +68,7 @@ impl Stamps {
 
     /// Processor p, if there is one, is counted once more.
     fn raise(&mut self, p: u8)
-        requires { get_or self.old p 0 < 2 ^ 21 }
+        requires { get_or self.old p 0 < 2 ^ 31 + 2 ^ 10 }
         ensures { self.new ≡ raised self.old (Some p) }
     {
         if (p as usize) < self.counts.len() {
@@ -80,7 +80,7 @@ impl Stamps {
     /// it.
     #[inline(always)]
     fn count_line(&mut self, line: &Line, ran: Option<u8>)
-        requires { (p : ℕ) → get_or self.old p 0 < 2 ^ 21 }
+        requires { (p : ℕ) → get_or self.old p 0 < 2 ^ 31 + 2 ^ 10 }
         ensures { self.new ≡ raised_unless ran self.old (given_by_line line.now) }
     {
         if let Some(p) = given_by(line) {
@@ -93,7 +93,7 @@ impl Stamps {
     /// The processor that an event ran, if any, is counted once more.
     #[inline(always)]
     fn count_run(&mut self, ran: Option<u8>)
-        requires { (p : ℕ) → get_or self.old p 0 < 2 ^ 20 }
+        requires { (p : ℕ) → get_or self.old p 0 < 2 ^ 31 }
         ensures { self.new ≡ raised self.old ran }
     {
         if let Some(p) = ran {
@@ -104,7 +104,7 @@ impl Stamps {
     /// Counts an event that kept a place, which gives no processor another actor, for the one that it ran.
     #[tactic(auto, using(crate::proofs::CountLemmas::counted_run))]
     pub fn count_kept(&mut self, ran: Option<u8>)
-        requires { (p : ℕ) → get_or self.old p 0 < 2 ^ 20 }
+        requires { (p : ℕ) → get_or self.old p 0 < 2 ^ 31 }
         ensures { AreCounted self.old self.new ran [] }
     {
         self.count_run(ran);
@@ -113,7 +113,7 @@ impl Stamps {
     /// Counts the lines of settling for the processors that they give another actor, unless the event ran them.
     #[inline(always)]
     fn count_lines(&mut self, lines: &[Line], ran: Option<u8>)
-        requires few { (p : ℕ) → get_or self.old p 0 ≤ 2 ^ 20 }
+        requires few { (p : ℕ) → get_or self.old p 0 ≤ 2 ^ 31 }
         requires short { length lines.now ≤ 519 }
         ensures { AreRaised self.old self.new ran lines.now }
     {
@@ -126,7 +126,7 @@ impl Stamps {
     /// actor.
     #[inline(always)]
     pub fn count(&mut self, lines: &[Line], ran: Option<u8>)
-        requires few { (p : ℕ) → get_or self.old p 0 < 2 ^ 20 }
+        requires few { (p : ℕ) → get_or self.old p 0 < 2 ^ 31 }
         requires short { length lines.now ≤ 519 }
         ensures { AreCounted self.old self.new ran (behind_own lines.now) }
     {

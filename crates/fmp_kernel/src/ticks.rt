@@ -116,7 +116,7 @@ fn cycle_all(tables: &mut Tables, caused: &mut Vec<Line>, count: u8)
 /// The tasks whose deadline is the next tick are released, the clock advances by one to it, and the cyclic handlers
 /// that are due become pending.
 pub fn advance(tables: &mut Tables, caused: &mut Vec<Line>)
-    requires time { tables.old.state.clock < 2 ^ 20 }
+    requires time { tables.old.state.clock < 2 ^ 31 }
     requires range { IsInRange tables.old.system }
     requires caused { AreEmptyWithRoom 510 caused.old }
     ensures progress { progress tables.new caused.new.items ≡ ticked tables.old.system tables.old.state }

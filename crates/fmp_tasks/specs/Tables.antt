@@ -85,7 +85,7 @@ pub record IsWhole (a : Inside) : Type 0 where
   pub handlers : a.pending.processors ≡ handler_processors (tables_of a.system)
   pub pending_cyclics : length a.pending.cyclics ≡ length a.system.cyclics.items
   pub pending_interrupts : length a.pending.interrupts ≡ 32
-  pub clock : a.clock ≤ 2 ^ 20
+  pub clock : a.clock ≤ 2 ^ 31
   pub at_rest : AreAtRest a.marks a.processors a.rings a.pending
 
 -- the state, and the lines of what happened on the way to it

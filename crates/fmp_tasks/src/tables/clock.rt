@@ -15,14 +15,14 @@ impl Tables {
     /// The system clock.
     pub fn clock(&self) -> u32
         ensures value { result ≡ self.now.state.clock }
-        ensures early { result ≤ 2 ^ 20 }
+        ensures early { result ≤ 2 ^ 31 }
     {
         self.clock
     }
 
     /// Advances the clock by one.
     pub fn advance(&mut self)
-        requires time { self.old.state.clock < 2 ^ 20 }
+        requires time { self.old.state.clock < 2 ^ 31 }
         requires none_due { first_due (self.old.state.clock + 1) (map (λ x. x.deadline) self.old.state.tasks) ≡ None }
         ensures { self.new ≡ record self.old { state = with_clock_advanced self.old.state } }
     {

@@ -7,7 +7,7 @@ use Rattle.fmp_kernel.proofs.ActorLemmas.{step-stamps}
 use Rattle.fmp_kernel.proofs.FrontLemmas.{ran-step}
 use Rattle.fmp_kernel.proofs.StampLemmas.{below, kept_is, stamps_after, view_done, view_kept, view_nothing}
 use Rattle.fmp_kernel.proofs.StepLemmas.{kept_after_step, settled_after}
-use Rattle.fmp_kernel.proofs.kernel.Kernel.step.Goals as goal
+use Rattle.fmp_kernel.proofs.kernel.Kernel.step_long.Goals as goal
 
 pub returns-in-Nothing-clause-state : goal.returns-in-Nothing-clause-state
 returns-in-Nothing-clause-state g c =

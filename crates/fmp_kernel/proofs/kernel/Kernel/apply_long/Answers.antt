@@ -10,7 +10,7 @@ use Rattle.fmp_kernel.proofs.ActorLemmas.{applied-stamps, ran-applied_by}
 use Rattle.fmp_kernel.proofs.FrontLemmas.{RanOn}
 use Rattle.fmp_kernel.proofs.StampLemmas.{below, kept_is, stamps_after, view_done, view_kept, view_nothing}
 use Rattle.fmp_kernel.proofs.StepLemmas.{kept_after_stretch, settled_applied, same_after, by_number}
-use Rattle.fmp_kernel.proofs.kernel.Kernel.apply.Goals as goal
+use Rattle.fmp_kernel.proofs.kernel.Kernel.apply_long.Goals as goal
 
 pub returns-in-Nothing-clause-state : goal.returns-in-Nothing-clause-state
 returns-in-Nothing-clause-state g c =
