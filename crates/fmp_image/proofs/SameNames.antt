@@ -17,6 +17,7 @@ use Rattle.fmp_codegen.specs.Compiling.{is_among, length_offence, variables_offe
 use Rattle.fmp_scopes.specs.Scopes.{is_object}
 use Rattle.fmp_scopes.specs.DepthTables.{body_depths}
 use Rattle.fmp_scopes.specs.Naming.{is_known, first_offence, uses_offence, block_uses}
+use Rattle.fmp_codegen.specs.Laws.{DoesText}
 use Rattle.fmp_codegen.specs.Runs.{PrintsText}
 use Rattle.fmp_scopes.specs.Scheme.{block_code}
 use Rattle.fmp_scopes.specs.Sizes.{block_size}
@@ -93,3 +94,16 @@ built_prints tables bodies i n es run accepted is =
     let prints = run (bodies_same built tables same [] bodies ∙ accepted) in
     subst (λ (j : ImageTables). PrintsText j.system bodies j.code n es) (sym is)
     (subst (λ (code : List BodyTables). PrintsText built bodies code n es) (compiled_same built tables same bodies) prints)
+
+-- and so it does what the text does
+pub built_does :
+    (tables : SystemTables) (bodies : List BodyTree) (i : ImageTables) →
+    (IsAccepted (built_tables bodies tables) bodies →
+    DoesText (built_tables bodies tables) bodies (compiled (built_tables bodies tables) bodies)) →
+    IsAccepted tables bodies → i ≡ built_image tables bodies → DoesText i.system bodies i.code
+built_does tables bodies i law accepted is =
+    let built = built_tables bodies tables in
+    let same = names_kept bodies tables in
+    let does = law (bodies_same built tables same [] bodies ∙ accepted) in
+    subst (λ (j : ImageTables). DoesText j.system bodies j.code) (sym is)
+    (subst (λ (code : List BodyTables). DoesText built bodies code) (compiled_same built tables same bodies) does)

@@ -13,9 +13,9 @@ pub fn one_spelling()
     ensures front { (i j : ImageTables) (a b more : List ℕ) → Spells i a → Spells j b → b ≡ a ++ more → more ≡ [] }
 {}
 
-/// A law: images of versions 1 and 2 keep the meaning that they had. Whatever the bound of a stretch and whatever the
-/// events, such an image has the trace and the states that a kernel gives which queues one activation and one wakeup of
-/// a task and has the first 58 services.
+/// A law: images of versions 1 and 2 keep the meaning that they had, apart from long stretches, which keep their place
+/// in images of every version. Whatever the bound of a stretch and whatever the events, such an image has the trace and
+/// the states that a kernel gives which queues one activation and one wakeup of a task and has the first 58 services.
 pub fn older_images_mean_the_same()
     ensures { (i : ImageTables) (bytes : List ℕ) → Spells i bytes → i.version ≤ 2 → MeansTheSame i }
 {}

@@ -83,7 +83,8 @@ pub fn load(alloc: Global, bytes: &[u8]) -> Result<Image, LoadFault>
     ensures found { IfOk result (λ image. Spells image bytes.now) }
     // What spells an image is loaded, unless memory runs out.
     ensures only { (image : ImageTables) → Spells image bytes.now → Gives (λ x. x) result (Ok image) }
-    // In an image of version 1 or 2 nothing has changed since these were the newest.
+    // An image of version 1 or 2 means what it meant when that was the newest, apart from long stretches, which keep
+    // their place in images of every version.
     ensures older { IfOk result (λ image. image.version ≤ 2 → MeansTheSame image) }
     // Which fault it is.
     ensures exact { Gives (λ x. x) result (image_at bytes.now) }
