@@ -52,7 +52,7 @@ neither false b h = (refl, h)
 abbrev limited : Bool → ℕ → List Section → Rules
 limited idle most sections = record { idle_ticks = idle; most = Some most; sections = sections }
 
-came-watched : (idle : Bool) (most : ℕ) (sections : List Section) (forbidden : Line → Bool) (a : Watched)
+pub came-watched : (idle : Bool) (most : ℕ) (sections : List Section) (forbidden : Line → Bool) (a : Watched)
     (events : List (List Line))
     → (watched (watch (limited idle most sections) forbidden) a events).came ≡ a.came + requests events
 came-watched idle most sections forbidden a [] = omega arith

@@ -1,8 +1,12 @@
 pub mod CallLines
+pub mod Catching
+pub mod CompletedLaws
 pub mod DeadlockLaws
 pub mod EventLines
 pub mod HoldLaws
 pub mod IdleLaws
+pub mod KeptPlaces
+pub mod LeadLaws
 pub mod LikenessLaws
 pub mod RuleLaws
 pub mod SectionLaws
@@ -10,3 +14,4 @@ pub mod SectionSteps
 pub mod SilentLaws
 pub mod StuckLaws
 pub mod TriedLaws
+pub mod WayLaws

@@ -1,6 +1,9 @@
+pub mod Beside
+pub mod Completed
 pub mod Deadlocks
 pub mod Likeness
 pub mod Schedules
 pub mod Sections
 pub mod Stuck
 pub mod Tried
+pub mod WaysOn

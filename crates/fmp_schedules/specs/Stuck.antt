@@ -1,5 +1,5 @@
 -- Tasks that can never go on.
-use Rattle.std.specs.Prelude.{ℕ, ◌≡◌, ◌≢◌, List, [], Bool, false, count_by, nat_eq, ◌&&◌, ◌||◌}
+use Rattle.std.specs.Prelude.{ℕ, ◌≡◌, ◌≢◌, ◌<◌, List, [], Bool, true, false, count_by, length, nat_eq, slice_index_or, ◌&&◌, ◌||◌}
 use Rattle.fmp_base.specs.declared.events.Event.{Event}
 use Rattle.fmp_base.specs.declared.events.Line.{Line}
 use Rattle.fmp_base.specs.declared.events.Line.TheVariants as line
@@ -11,7 +11,7 @@ use Rattle.fmp_base.specs.Steps.{step}
 use Rattle.fmp_base.specs.Systems.{SystemTables}
 use Rattle.fmp_alike.specs.Closed.{AreAllowed}
 use Rattle.fmp_schedules.specs.Deadlocks.{is_interrupt}
-use Rattle.fmp_schedules.specs.Schedules.{Rules, is_told, may_come, reached, watch}
+use Rattle.fmp_schedules.specs.Schedules.{IsSchedule, Rules, is_told, lines_after, may_come, reached, requests, watch}
 use Rattle.fmp_schedules.specs.Sections.{is_ok, is_task, terminates}
 
 -- an act of task t: a call of its own, the end of its wait, its end, a fault of its body; or it is terminated
@@ -36,3 +36,22 @@ pub record NeverGoesOn {C : Type 0} (rules : Rules) (sys : SystemTables) (M : Me
   pub never :
       (more : List Event) → MayFollow rules sys M n es more →
       is_told (acts t) (run sys M n (reached sys M n es) more).events ≡ false
+
+-- After these events task t may still go on: more events may come one after the other, as the rules let them, along
+-- which it acts.
+pub record MayGoOn {C : Type 0} (rules : Rules) (sys : SystemTables) (M : Meaning C) (n : ℕ) (es : List Event) (t : ℕ)
+    : Type 0 where
+  pub more : List Event
+  pub follow :
+      AreAllowed (watch rules (λ l. false)) (may_come rules sys M n) (step sys M n) (reached sys M n es)
+      (record { came = requests (lines_after sys M n es); told = false; sections = []; met = false }) more
+  pub told : is_told (acts t) (run sys M n (reached sys M n es) more).events ≡ true
+
+-- No task is ever stuck: after whatever events, as the rules let them come, each task that is started and may not rest
+-- may still go on.
+pub record NoneIsStuck {C : Type 0} (rules : Rules) (sys : SystemTables) (M : Meaning C) (n : ℕ) (rest : List Bool)
+    : Type 0 where
+  pub goes_on :
+      (es : List Event) (t : ℕ) → IsSchedule rules sys M n (λ l. false) es → t < length sys.tasks →
+      slice_index_or rest t false ≡ false → (task_at (reached sys M n es).state.tasks t).phase ≢ Dormant →
+      MayGoOn rules sys M n es t

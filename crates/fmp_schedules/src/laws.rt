@@ -1,9 +1,9 @@
 //! The laws, each the contract of a function that does nothing. `C` is the type of the contexts of bodies, `S` that of
 //! what is watched. They speak of alike worlds, but are proved for any relation that is `IsLikeness`. Those of lists of
 //! worlds are proved for any set of worlds: by `tried-closed` of `proofs/TriedLaws`, by `closed-holds` and
-//! `searched-holds` of `proofs/HoldLaws`, and by `searched-silent` of `proofs/SilentLaws`. No contract can speak of all
-//! sets, or of all relations.
-ghost use Rattle.std.specs.Prelude.{◌≡◌, ◌+◌, ◌<◌, ◌≤◌, ℕ, Bool, List, None, false, true, count_by, length, if◌then◌else◌};
+//! `searched-holds` of `proofs/HoldLaws`, by `searched-silent` of `proofs/SilentLaws`, and by `none-stuck` of
+//! `proofs/WayLaws`. No contract can speak of all sets, or of all relations.
+ghost use Rattle.std.specs.Prelude.{◌≡◌, ◌+◌, ◌<◌, ◌≤◌, ℕ, Bool, List, Option, None, false, true, count_by, length, if◌then◌else◌};
 ghost use Rattle.fmp_base.specs.declared.events.Event.{Event};
 ghost use Rattle.fmp_base.specs.declared.events.Event.TheVariants.{Run};
 ghost use Rattle.fmp_base.specs.declared.events.Line.{Line};
@@ -26,6 +26,7 @@ ghost use Rattle.fmp_schedules.specs.Schedules.{
   none_runs,
   watch,
 };
+ghost use Rattle.fmp_schedules.specs.Stuck.{NoneIsStuck};
 ghost use Rattle.fmp_schedules.specs.Tried.{
   AreSilent,
   IsEven,
@@ -35,6 +36,7 @@ ghost use Rattle.fmp_schedules.specs.Tried.{
   NoneIsDeadlock,
   is_event_of,
 };
+ghost use Rattle.fmp_schedules.specs.WaysOn.{HaveWays, IsNoted};
 
 /// Where the clock may advance at any time and any number of interrupts may come, every list of events is a schedule.
 pub fn all_lists_are_schedules<C>()
@@ -119,4 +121,17 @@ pub fn silent_searches_hold<C>()
         IsSearched (Alike sys) rules sys M n forbidden rest (IsListed seen) → (there : World C → Line → Bool) →
         IsEven (Alike sys) there → AreSilent (Alike sys) rules sys M n there (IsListed seen) →
         HoldsThere rules sys M n forbidden there }
+{}
+
+/// A search that tried each event and found nothing, and in which, in each world, each task that is started and may not
+/// rest has a way on: at the world's place in the list a distance is noted for the task, and some event that may come
+/// there tells an act of the task, or leads to a world of the list with a smaller distance. Then no task is ever stuck:
+/// after each schedule, however long, more events may come along which it acts.
+pub fn ways_on_leave_none_stuck<C>()
+    ensures { (rules : Rules) (sys : SystemTables) (M : Meaning C) (n : ℕ) (forbidden : Line → Bool)
+        (rest resting : List Bool) (seen : List (Seen C Watched)) (distances : ℕ → ℕ → Option ℕ) →
+        IsTimeless forbidden →
+        IsSearched (Alike sys) rules sys M n forbidden rest (IsListed seen) →
+        HaveWays (Alike sys) rules sys M n forbidden resting (IsListed seen) (λ t. IsNoted seen (distances t)) →
+        NoneIsStuck rules sys M n resting }
 {}
