@@ -1,0 +1,3 @@
+pub mod OutsideRuns
+pub mod KeptPlaces
+mod Histories

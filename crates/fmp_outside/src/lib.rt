@@ -1,0 +1,8 @@
+//! Bodies that run outside the kernel, as C functions do: what they do is handed in, and the text of a body says what
+//! it may be.
+#![tactic(auto)]
+
+mod given;
+pub mod laws;
+
+pub use given::{Act, Given};
