@@ -350,19 +350,21 @@ not_full i n row always load seats back closed f new size room came c answer is 
     never_full i n row always load seats back closed new size room (came.all (λ e. absurd (cc (e, is)))) c
     (subst (λ (g : BoardFault). IsAnswer i n row always load seats back (Err g)) is answer)
 
--- what threads journaled that were joined
+-- what the threads of a board journaled that has room for all their turns and ticks
 pub is_run_of : (i : ImageTables) (n : ℕ) (row : RowId) (always : Type 0) (turns ticks : ℕ) (seats back : List SeatState) (closed : ClosedState) (count : ℕ) → AreNew row seats
-    → row.seats ≡ i.system.processors + 1 → IsAnswer i n row always (load_of i turns ticks) seats back (Ok count) → IsCountedBy i n row.capacity row.seats back closed
+    → row.seats ≡ i.system.processors + 1 → row.capacity ≡ i.system.processors * turns + ticks → IsAnswer i n row always (load_of i turns ticks) seats back (Ok count) → IsCountedBy i n row.capacity row.seats back closed
     → IsRun i n always turns ticks closed.events
-is_run_of i n row always turns ticks seats back closed count new size answer c = record {
+is_run_of i n row always turns ticks seats back closed count new size room answer c = record {
   row = row;
+  size = size;
+  capacity = room;
   seats = seats;
   new = new;
-  size = size;
   back = back;
   count = count;
-  joined = answer;
+  worked = answer;
   journal = c.journal;
+  journal_is = c.journal_is;
   counted = c.counted;
   events_are = c.events_are;
 }

@@ -1,4 +1,4 @@
--- Threads are joined, one after the other.
+-- What is given back, one after the other.
 use Rattle.std.proofs.Common.{◌≡◌, ◌≢◌, ◌⊎◌, inl, inr, ℕ, zero, suc, ◌+◌, ◌*◌, ◌<◌, ◌≤◌, ◌^◌, List, [], ◌∷◌, ◌++◌, Some, slice_get, Result, Ok, Err, length, map, refl, ap, sym, ◌∙◌, subst, append_assoc, arith}
 use Rattle.std.proofs.lemmas.List.{append-nil, map-append}
 use Rattle.std.specs.List.{AllZip}
@@ -10,7 +10,7 @@ use Rattle.fmp_board.specs.declared.fault.BoardFault.{BoardFault}
 use Rattle.fmp_board.specs.declared.fault.BoardFault.TheVariants as fault
 use Rattle.fmp_hostrun.specs.declared.turns.Load.{Load}
 use Rattle.fmp_hostrun.specs.declared.turns.Part.{Part}
-use Rattle.fmp_hostrun.specs.Works.{AllAdded, Added, AreRun, GaveBack, Gave, HasFull, IsAnswer, IsWhyStopped, Job, Joined, both, gave, job_of, jobs_of, mine_of, part_at, seats_of, total}
+use Rattle.fmp_hostrun.specs.Works.{AllAdded, Added, AreRun, GaveBack, Gave, HasFull, IsAnswer, IsWhyStopped, Job, AllGave, both, gave, job_of, jobs_of, mine_of, part_at, seats_of, total}
 use Rattle.fmp_hostrun.proofs.Starting.{none_left}
 
 -- jobs whose parts are those of threads from this place on
@@ -38,11 +38,11 @@ all_gave i n row always load place (j ∷ jobs) (g ∷ all) each placed =
     (subst (λ (part : Part). Added i n row part.event part.times j.seat g.seat) placed.0 each.0.added, all_gave i n row always load (place + 1) jobs all each.1 placed.1)
 
 pub all_added : (i : ImageTables) (n : ℕ) (row : RowId) (always : Type 0) (load : Load) (jobs : List Job) (back : List SeatState) (answer : Result ℕ BoardFault)
-    → Joined i n row always jobs back answer → ArePlaced load 0 jobs → AllAdded i n row load 0 (seats_of jobs) back
+    → AllGave i n row always jobs back answer → ArePlaced load 0 jobs → AllAdded i n row load 0 (seats_of jobs) back
 all_added i n row always load jobs back answer j placed =
     subst (AllAdded i n row load 0 (seats_of jobs)) (sym j.back_is) (all_gave i n row always load 0 jobs j.all j.each placed)
 
--- one thread after the other is joined
+-- one more is given back
 
 zip_push : (P : Job → Gave → Type 0) (jobs : List Job) (all : List Gave) (x : Job) (y : Gave) → AllZip P jobs all → P x y → AllZip P (jobs ++ x ∷ []) (all ++ y ∷ [])
 zip_push P [] [] x y each p = (p, tt)
@@ -64,12 +64,12 @@ total_last : (answers : List (Result ℕ BoardFault)) (answer : Result ℕ Board
 total_last [] answer = both_none answer
 total_last (x ∷ answers) answer = ap (both x) (total_last answers answer) ∙ both_all x (total answers) answer
 
-pub none_joined : (i : ImageTables) (n : ℕ) (row : RowId) (always : Type 0) (back : List SeatState) → back ≡ [] → Joined i n row always [] back (Ok 0)
+pub none_joined : (i : ImageTables) (n : ℕ) (row : RowId) (always : Type 0) (back : List SeatState) → back ≡ [] → AllGave i n row always [] back (Ok 0)
 none_joined i n row always back is = record { all = []; each = tt; back_is = is; answer_is = refl }
 
 pub one_joined : (i : ImageTables) (n : ℕ) (row : RowId) (always : Type 0) (first : List Job) (back now : List SeatState) (j : Job) (s : SeatState)
-    (answer more result : Result ℕ BoardFault) → Joined i n row always first back answer → GaveBack i n row always j (gave s more) → now ≡ back ++ s ∷ [] → result ≡ both answer more
-    → Joined i n row always (first ++ j ∷ []) now result
+    (answer more result : Result ℕ BoardFault) → AllGave i n row always first back answer → GaveBack i n row always j (gave s more) → now ≡ back ++ s ∷ [] → result ≡ both answer more
+    → AllGave i n row always (first ++ j ∷ []) now result
 one_joined i n row always first back now j s answer more result w g is r =
     record {
       all = w.all ++ gave s more ∷ [];
@@ -81,14 +81,14 @@ one_joined i n row always first back now j s answer more result w g is r =
     }
 
 pub joined_as : (i : ImageTables) (n : ℕ) (row : RowId) (always : Type 0) (first jobs : List Job) (back : List SeatState) (answer : Result ℕ BoardFault) → first ≡ jobs
-    → Joined i n row always first back answer → Joined i n row always jobs back answer
-joined_as i n row always first jobs back answer is w = subst (λ (js : List Job). Joined i n row always js back answer) is w
+    → AllGave i n row always first back answer → AllGave i n row always jobs back answer
+joined_as i n row always first jobs back answer is w = subst (λ (js : List Job). AllGave i n row always js back answer) is w
 
--- the threads of all seats are joined
+-- what was given back for all seats
 pub all_joined : (i : ImageTables) (n : ℕ) (row : RowId) (always : Type 0) (load : Load) (jobs : List Job) (seats worked back : List SeatState) (answer : Result ℕ BoardFault)
-    → Joined i n row always jobs worked answer → ArePlaced load 0 jobs → seats_of jobs ≡ seats → worked ≡ back → Joined i n row always (jobs_of load 0 seats) back answer
+    → AllGave i n row always jobs worked answer → ArePlaced load 0 jobs → seats_of jobs ≡ seats → worked ≡ back → AllGave i n row always (jobs_of load 0 seats) back answer
 all_joined i n row always load jobs seats worked back answer w placed were are =
-    subst (λ (xs : List SeatState). Joined i n row always (jobs_of load 0 seats) xs answer) are
+    subst (λ (xs : List SeatState). AllGave i n row always (jobs_of load 0 seats) xs answer) are
     (joined_as i n row always jobs (jobs_of load 0 seats) worked answer (placed_jobs load 0 jobs placed ∙ ap (jobs_of load 0) were) w)
 
 -- the first thread that stopped
@@ -140,7 +140,7 @@ first_stopped i n row always (j ∷ jobs) (g ∷ all) f each is = by_answer (fir
     by_answer next (Ok count) (Ok more) a r is = absurd (no_error (count + more) f is)
     by_answer next (Ok count) (Err e) a r is = later (next (r ∙ is))
 
-pub stopped : (i : ImageTables) (n : ℕ) (row : RowId) (always : Type 0) (jobs : List Job) (back : List SeatState) (f : BoardFault) → Joined i n row always jobs back (Err f)
+pub stopped : (i : ImageTables) (n : ℕ) (row : RowId) (always : Type 0) (jobs : List Job) (back : List SeatState) (f : BoardFault) → AllGave i n row always jobs back (Err f)
     → Stopped i n row always jobs back f
 stopped i n row always jobs back f w =
     subst (λ (xs : List SeatState). Stopped i n row always jobs xs f) (sym w.back_is) (first_stopped i n row always jobs w.all f w.each (sym w.answer_is))
@@ -153,30 +153,30 @@ no_other : (f g : BoardFault) → (f ≡ fault.Full) ⊎ (f ≡ fault.Held) → 
 no_other f g (inl full) is other more = other (sym is ∙ full)
 no_other f g (inr held) is other more = more (sym is ∙ held)
 
--- threads that are joined answer no other fault
-other_fault : (i : ImageTables) (n : ℕ) (row : RowId) (always : Type 0) (jobs : List Job) (back : List SeatState) (f : BoardFault) → Joined i n row always jobs back (Err f)
+-- no other fault is given back
+other_fault : (i : ImageTables) (n : ℕ) (row : RowId) (always : Type 0) (jobs : List Job) (back : List SeatState) (f : BoardFault) → AllGave i n row always jobs back (Err f)
     → f ≢ fault.Full → f ≢ fault.Held → ⊥
 other_fault i n row always jobs back f w full held =
     let s = stopped i n row always jobs back f w in
     no_other f f (why_fault row always s.job.part.event s.seat f s.why) refl full held
 
-pub not_refused : (i : ImageTables) (n : ℕ) (row : RowId) (always : Type 0) (jobs : List Job) (back : List SeatState) (answer : Result ℕ BoardFault) → Joined i n row always jobs back answer
+pub not_refused : (i : ImageTables) (n : ℕ) (row : RowId) (always : Type 0) (jobs : List Job) (back : List SeatState) (answer : Result ℕ BoardFault) → AllGave i n row always jobs back answer
     → answer ≢ Err fault.Thread
 not_refused i n row always jobs back answer w is =
-    other_fault i n row always jobs back fault.Thread (subst (Joined i n row always jobs back) is w) (λ e. absurd (cc)) (λ e. absurd (cc))
+    other_fault i n row always jobs back fault.Thread (subst (AllGave i n row always jobs back) is w) (λ e. absurd (cc)) (λ e. absurd (cc))
 
 pub is_answer : (i : ImageTables) (n : ℕ) (row : RowId) (always : Type 0) (load : Load) (seats back : List SeatState) (answer : Result ℕ BoardFault)
     → AreRun i n row always load seats back answer → IsAnswer i n row always load seats back answer
-is_answer i n row always load seats back (Ok count) r = r.joined (λ e. absurd (cc))
-is_answer i n row always load seats back (Err fault.Full) r = r.joined (λ e. absurd (cc))
-is_answer i n row always load seats back (Err fault.Held) r = r.joined (λ e. absurd (cc))
+is_answer i n row always load seats back (Ok count) r = r.worked (λ e. absurd (cc))
+is_answer i n row always load seats back (Err fault.Full) r = r.worked (λ e. absurd (cc))
+is_answer i n row always load seats back (Err fault.Held) r = r.worked (λ e. absurd (cc))
 is_answer i n row always load seats back (Err fault.Thread) r = r.added.refused refl
 is_answer i n row always load seats back (Err fault.Limit) r =
-    absurd (other_fault i n row always _ back fault.Limit (r.joined (λ e. absurd (cc))) (λ e. absurd (cc)) (λ e. absurd (cc)))
+    absurd (other_fault i n row always _ back fault.Limit (r.worked (λ e. absurd (cc))) (λ e. absurd (cc)) (λ e. absurd (cc)))
 is_answer i n row always load seats back (Err fault.Memory) r =
-    absurd (other_fault i n row always _ back fault.Memory (r.joined (λ e. absurd (cc))) (λ e. absurd (cc)) (λ e. absurd (cc)))
+    absurd (other_fault i n row always _ back fault.Memory (r.worked (λ e. absurd (cc))) (λ e. absurd (cc)) (λ e. absurd (cc)))
 is_answer i n row always load seats back (Err fault.Stale) r =
-    absurd (other_fault i n row always _ back fault.Stale (r.joined (λ e. absurd (cc))) (λ e. absurd (cc)) (λ e. absurd (cc)))
+    absurd (other_fault i n row always _ back fault.Stale (r.worked (λ e. absurd (cc))) (λ e. absurd (cc)) (λ e. absurd (cc)))
 
 -- the same of the count of processors that a board tells
 pub is_answer_for : (i : ImageTables) (n : ℕ) (row : RowId) (always : Type 0) (told processors turns ticks : ℕ) (seats back : List SeatState) (answer : Result ℕ BoardFault)
@@ -189,12 +189,12 @@ is_answer_for i n row always told processors turns ticks seats back answer is r 
 pub not_limit : (i : ImageTables) (n : ℕ) (row : RowId) (always : Type 0) (load : Load) (seats back : List SeatState) (answer : Result ℕ BoardFault)
     → AreRun i n row always load seats back answer → answer ≢ Err fault.Limit
 not_limit i n row always load seats back answer r is =
-    other_fault i n row always _ back fault.Limit (subst (Joined i n row always (jobs_of load 0 seats) back) is (r.joined (λ e. absurd (cc (e, is))))) (λ e. absurd (cc)) (λ e. absurd (cc))
+    other_fault i n row always _ back fault.Limit (subst (AllGave i n row always (jobs_of load 0 seats) back) is (r.worked (λ e. absurd (cc (e, is))))) (λ e. absurd (cc)) (λ e. absurd (cc))
 
 pub not_stale : (i : ImageTables) (n : ℕ) (row : RowId) (always : Type 0) (load : Load) (seats back : List SeatState) (answer : Result ℕ BoardFault)
     → AreRun i n row always load seats back answer → answer ≢ Err fault.Stale
 not_stale i n row always load seats back answer r is =
-    other_fault i n row always _ back fault.Stale (subst (Joined i n row always (jobs_of load 0 seats) back) is (r.joined (λ e. absurd (cc (e, is))))) (λ e. absurd (cc)) (λ e. absurd (cc))
+    other_fault i n row always _ back fault.Stale (subst (AllGave i n row always (jobs_of load 0 seats) back) is (r.worked (λ e. absurd (cc (e, is))))) (λ e. absurd (cc)) (λ e. absurd (cc))
 
 pub why_seen : (row : RowId) (always : Type 0) (e : Event) (s : SeatState) → IsWhyStopped row always e s fault.Full → length s.seen ≡ row.capacity
 why_seen row always e s (inl full) = full.1
@@ -207,14 +207,14 @@ why_held row always e s (inr held) o = held.1 o
 pub has_full : (i : ImageTables) (n : ℕ) (row : RowId) (always : Type 0) (load : Load) (seats back : List SeatState) (answer : Result ℕ BoardFault)
     → AreRun i n row always load seats back answer → answer ≡ Err fault.Full → HasFull row back
 has_full i n row always load seats back answer r is =
-    let w = subst (Joined i n row always (jobs_of load 0 seats) back) is (r.joined (λ e. absurd (cc (e, is)))) in
+    let w = subst (AllGave i n row always (jobs_of load 0 seats) back) is (r.worked (λ e. absurd (cc (e, is)))) in
     let s = stopped i n row always _ back fault.Full w in
     record { place = s.place; seat = s.seat; found = s.seat_is; full = why_seen row always s.job.part.event s.seat s.why }
 
 pub never_held : (i : ImageTables) (n : ℕ) (row : RowId) (always : Type 0) (load : Load) (seats back : List SeatState) (answer : Result ℕ BoardFault)
     → AreRun i n row always load seats back answer → always → answer ≢ Err fault.Held
 never_held i n row always load seats back answer r o is =
-    let w = subst (Joined i n row always (jobs_of load 0 seats) back) is (r.joined (λ e. absurd (cc (e, is)))) in
+    let w = subst (AllGave i n row always (jobs_of load 0 seats) back) is (r.worked (λ e. absurd (cc (e, is)))) in
     let s = stopped i n row always _ back fault.Held w in
     why_held row always s.job.part.event s.seat s.why o
 

@@ -1,13 +1,13 @@
 -- What a thread has added to the journal by its seat.
-use Rattle.std.proofs.Common.{◌≡◌, ◌≢◌, ◌⊎◌, inl, inr, ℕ, zero, suc, ◌+◌, ◌<◌, ◌≤◌, ◌==◌, Bool, true, false, cond, List, [], ◌∷◌, ◌++◌, Result, Ok, Err, length, replicate, refl, sym, ap, ◌∙◌, subst, append_assoc, arith, length-append}
-use Rattle.std.specs.Prelude.{IfOk}
+use Rattle.std.proofs.Common.{◌≡◌, ◌≢◌, ◌⊎◌, inl, inr, ℕ, zero, suc, ◌+◌, ◌<◌, ◌≤◌, ◌==◌, Bool, true, false, cond, List, [], ◌∷◌, ◌++◌, Option, Some, None, Result, Ok, Err, length, replicate, refl, sym, ap, ◌∙◌, subst, append_assoc, arith, length-append}
+use Rattle.std.specs.Prelude.{IfErr}
 use Rattle.std.proofs.lemmas.List.{append-nil, length-replicate}
 use Rattle.std.proofs.lemmas.List.Elements.{filter-append}
 use Rattle.std.proofs.lemmas.Bool.Decides.{nat_tests}
 use lib.ListN.{replicate-append-replicate}
 use mathlib.Core.List.{IsPrefix}
 use Rattle.fmp_base.specs.declared.events.Event.{Event}
-use Rattle.fmp_base.specs.declared.events.Event.TheVariants.{Run}
+use Rattle.fmp_base.specs.declared.events.Event.TheVariants.{Int, Run, Tick}
 use Rattle.fmp_base.specs.Steps.{Reaction, Nothing, Did}
 use Rattle.fmp_base.specs.Steps as steps
 use Rattle.fmp_image_bytes.specs.Images.{ImageTables}
@@ -18,12 +18,13 @@ use Rattle.fmp_journal.specs.Words.{entry}
 use Rattle.fmp_board.specs.declared.fault.BoardFault.{BoardFault}
 use Rattle.fmp_board.specs.declared.fault.BoardFault.TheVariants as fault
 use Rattle.fmp_receipts.specs.declared.receipt.Receipt.{Receipt}
-use Rattle.fmp_board.specs.Outcomes.{AnsweredAfter, HasNoActorAfter, IsDrawn, IsWhyRefused, Submitted, TicketState, stamp_after}
+use Rattle.fmp_board.specs.Outcomes.{AnsweredAfter, Drew, HasNoActorAfter, IsWhyRefused, Submitted, TicketState, actor_after, stamp_after}
 use Rattle.fmp_receipts.specs.Receipts.{receipt_of}
 use Rattle.fmp_replay.specs.Replays.{reaction}
 use Rattle.fmp_board.specs.Visits.{FedAfter, Fed, Kept, Visited, entered, journaled}
-use Rattle.fmp_hostrun.specs.Works.{Added, CameToNothing, DidOnce, DidTimes, IsCounted, IsIdle, IsWhyStopped}
-use Rattle.fmp_board.proofs.Visiting.{kept_none, kept_more, kept_on, visited_on}
+use Rattle.fmp_hostrun.specs.Works.{Added, DidOnce, DidTimes, IsCounted, IsFed, IsWhyStopped}
+use Rattle.fmp_board.proofs.Drawing.{stamp_of_actor}
+use Rattle.fmp_board.proofs.Visiting.{kept_none, kept_more, kept_on}
 
 -- entries of one seat
 
@@ -242,39 +243,59 @@ pub feed_refused : (i : ImageTables) (n : ℕ) (row : RowId) (e : Event) (was no
     → now.mine ≡ was.mine + journaled (Err f) → (now.mine ≡ was.mine) × (f ≡ fault.Full) × (length now.seen ≡ row.capacity)
 feed_refused i n row e was now f s mine = let full = full_fed i n row e was now f s in (omega (arith, mine), full.0, full.1)
 
--- turns in which nothing was journaled
-
-idle_turn : (i : ImageTables) (n : ℕ) (row : RowId) (p : ℕ) (t : TicketState) (drawn now : SeatState) (answer : Result Receipt BoardFault) → t.processor ≡ p → IsDrawn i n drawn.seen t
-    → Submitted i n row t drawn now answer → journaled answer ≡ 0 → IsIdle i n row p now
-idle_turn i n row p t drawn now answer is d s none = inr (t, is, (drawn, d, (answer, s, none)))
-
--- a thread's part, one time after the other
-
-none_or_one : (count : ℕ) → count ≤ 1 → (count ≡ 0) ⊎ (count ≡ 1)
-none_or_one count few = grind (arith, few)
+-- one time of a thread's part
 
 -- a turn of a processor with no actor
-pub did_none : (i : ImageTables) (n : ℕ) (row : RowId) (p : ℕ) (was now : SeatState) → Visited i n row was now → HasNoActorAfter i n now.seen p → DidOnce i n row (Run p) was now
-did_none i n row p was now v none = (v, inr (inr (p, refl, inl none)))
+pub did_none : (i : ImageTables) (n : ℕ) (row : RowId) (p : ℕ) (was now : SeatState) → Visited i n row was now → now.mine ≡ was.mine → HasNoActorAfter i n now.seen p
+    → DidOnce i n row (Run p) was now
+did_none i n row p was now v same none = record { drawn = now; visited = v; mine = same; ticket = None; drew = none; over = refl }
+
+-- behind a list that was seen stands at least one more
+behind : (P : List JournalEntry → Type 0) (seen before : List JournalEntry) → IsPrefix seen before → P seen → (P before → ⊥) → length seen < length before
+behind P seen before p here gone = by_rest p.0 p.1
+  where
+    by_rest : (rest : List JournalEntry) → seen ++ rest ≡ before → length seen < length before
+    by_rest [] is = absurd (gone (subst P (sym (append-nil seen) ∙ is) here))
+    by_rest (x ∷ rest) is = omega (arith, ap length is, length-append seen (x ∷ rest))
+
+-- a stretch is refused as stale only behind an event that came after the draw
+stale_behind : (i : ImageTables) (n : ℕ) (row : RowId) (t : TicketState) (drawn now : SeatState) → actor_after i n drawn.seen t.processor ≡ Some t.actor
+    → Submitted i n row t drawn now (Err fault.Stale) → length drawn.seen < length now.seen
+stale_behind i n row t drawn now there s =
+    let other : stamp_after i n s.0 t.processor ≢ t.actor.stamp = λ same. absurd (cc ((s.3.full same).0)) in
+    let more = behind (λ xs. stamp_after i n xs t.processor ≡ t.actor.stamp) drawn.seen s.0 s.2 (stamp_of_actor i n drawn.seen t.processor t.actor there) other in
+    omega (arith, more, ap length s.4)
 
 -- a turn in which an outcome was submitted
 pub did_submitted : (i : ImageTables) (n : ℕ) (row : RowId) (p : ℕ) (t : TicketState) (was drawn now : SeatState) (answer : Result Receipt BoardFault) → Visited i n row was drawn
-    → drawn.mine ≡ was.mine → t.processor ≡ p → IsDrawn i n drawn.seen t → Visited i n row drawn now → now.mine ≡ drawn.mine + journaled answer → Submitted i n row t drawn now answer
-    → DidOnce i n row (Run p) was now
-did_submitted i n row p t was drawn now answer v same is d w mine s = (visited_on i n row was drawn now v w, by_count (none_or_one (journaled answer) (few_journaled answer)))
+    → drawn.mine ≡ was.mine → Drew i n drawn.seen p (Some t) → Visited i n row drawn now → now.mine ≡ drawn.mine + journaled answer → Submitted i n row t drawn now answer
+    → IfErr answer (λ f. f ≡ fault.Stale) → DidOnce i n row (Run p) was now
+did_submitted i n row p t was drawn now answer v same d w mine s stale =
+    record {
+      drawn = drawn;
+      visited = v;
+      mine = same;
+      ticket = Some t;
+      drew = d;
+      over = record { visited = w; answer = answer; submitted = s; mine = mine; stale = by_answer answer stale s };
+    }
   where
-    by_count : (journaled answer ≡ 0) ⊎ (journaled answer ≡ 1) → (now.mine ≡ was.mine + 1) ⊎ CameToNothing i n row (Run p) now
-    by_count (inl none) = inr (inr (p, refl, idle_turn i n row p t drawn now answer is d s none))
-    by_count (inr one) = inl (omega (arith, same, mine, one))
+    there : actor_after i n drawn.seen t.processor ≡ Some t.actor
+    there = subst (λ (q : ℕ). actor_after i n drawn.seen q ≡ Some t.actor) (sym d.1) d.2
+
+    by_answer : (answer : Result Receipt BoardFault) → IfErr answer (λ f. f ≡ fault.Stale) → Submitted i n row t drawn now answer
+        → IfErr answer (λ f. (f ≡ fault.Stale) × (length drawn.seen < length now.seen))
+    by_answer (Ok receipt) is s = tt
+    by_answer (Err f) is s = (is, stale_behind i n row t drawn now there (subst (λ (g : BoardFault). Submitted i n row t drawn now (Err g)) is s))
 
 -- an event that was fed
-pub did_fed : (i : ImageTables) (n : ℕ) (row : RowId) (e : Event) (was now : SeatState) (receipt : Receipt) → Visited i n row was now → now.mine ≡ was.mine + journaled (Ok receipt)
-    → Fed i n row e was now (Ok receipt) → DidOnce i n row e was now
-did_fed i n row e was now receipt v mine fed = (v, by_count (none_or_one (journaled (Ok receipt)) (few_journaled (Ok receipt))))
-  where
-    by_count : (journaled (Ok receipt) ≡ 0) ⊎ (journaled (Ok receipt) ≡ 1) → (now.mine ≡ was.mine + 1) ⊎ CameToNothing i n row e now
-    by_count (inl none) = inr (inl (was, (receipt, fed, none)))
-    by_count (inr one) = inl (omega (arith, mine, one))
+pub did_fed : (i : ImageTables) (n : ℕ) (row : RowId) (e : Event) (was now : SeatState) (receipt : Receipt) → IsFed e → Visited i n row was now
+    → now.mine ≡ was.mine + journaled (Ok receipt) → Fed i n row e was now (Ok receipt) → DidOnce i n row e was now
+did_fed i n row (Run p) was now receipt is v mine fed = absurd is
+did_fed i n row Tick was now receipt is v mine fed = record { visited = v; receipt = receipt; fed = fed; mine = mine }
+did_fed i n row (Int h) was now receipt is v mine fed = record { visited = v; receipt = receipt; fed = fed; mine = mine }
+
+-- a thread's part, one time after the other
 
 pub did_begin : (i : ImageTables) (n : ℕ) (row : RowId) (e : Event) (was now : SeatState) → now ≡ was → DidTimes i n row e 0 was now
 did_begin i n row e was now is = is

@@ -1,8 +1,8 @@
 -- The effect of a board's threads on their seats.
-use Rattle.std.specs.Prelude.{◌≡◌, ◌≢◌, ◌⊎◌, ℕ, ◌+◌, zero, suc, ◌<◌, ◌≤◌, nat_lt, if◌then◌else◌, List, [], ◌∷◌, ◌++◌, length, map, replicate, slice_get, Some, Result, Ok, Err, IfErr, IfOk}
+use Rattle.std.specs.Prelude.{◌≡◌, ◌≢◌, ◌⊎◌, ℕ, ◌+◌, ◌*◌, zero, suc, ◌<◌, ◌≤◌, nat_lt, if◌then◌else◌, List, [], ◌∷◌, ◌++◌, length, map, replicate, slice_get, Option, Some, Result, Ok, Err, IfErr, IfOk, MatchOption}
 use Rattle.std.specs.List.{All, AllZip}
 use Rattle.fmp_base.specs.declared.events.Event.{Event}
-use Rattle.fmp_base.specs.declared.events.Event.TheVariants.{Run, Tick}
+use Rattle.fmp_base.specs.declared.events.Event.TheVariants.{Int, Run, Tick}
 use Rattle.fmp_image_bytes.specs.Images.{ImageTables}
 use Rattle.fmp_journal.specs.declared.entry.JournalEntry.{JournalEntry}
 use Rattle.fmp_journal.specs.Seats.{AreNew, RowId, SeatState, events}
@@ -11,8 +11,8 @@ use Rattle.fmp_journal.specs.Words.{entry}
 use Rattle.fmp_board.specs.declared.fault.BoardFault.{BoardFault}
 use Rattle.fmp_board.specs.declared.fault.BoardFault.TheVariants as fault
 use Rattle.fmp_receipts.specs.declared.receipt.Receipt.{Receipt}
-use Rattle.fmp_board.specs.Outcomes.{HasNoActorAfter, IsDrawn, Submitted, TicketState}
-use Rattle.fmp_board.specs.Boards.{HasCounted}
+use Rattle.fmp_board.specs.Outcomes.{Drew, Submitted, TicketState}
+use Rattle.fmp_board.specs.Boards.{HasCounted, IsJournal}
 use Rattle.fmp_board.specs.Visits.{Fed, Kept, Visited, journaled}
 use Rattle.fmp_hostrun.specs.declared.turns.Load.{Load}
 use Rattle.fmp_hostrun.specs.declared.turns.Part.{Part}
@@ -47,24 +47,42 @@ AllAdded i n row load place (s ∷ seats) (b ∷ back) =
 AllAdded i n row load place [] (b ∷ back) = ⊥
 AllAdded i n row load place (s ∷ seats) [] = ⊥
 
--- a turn of processor p in which nothing was journaled: it had no actor, or what became of its stretch was refused or
--- did nothing
-abbrev pub IsIdle : ImageTables → (n : ℕ) → RowId → (p : ℕ) → (now : SeatState) → Type 0
-IsIdle i n row p now =
-    HasNoActorAfter i n now.seen p
-    ⊎ ((t : TicketState) × (t.processor ≡ p)
-    × ((drawn : SeatState) × IsDrawn i n drawn.seen t
-    × ((answer : Result Receipt BoardFault) × Submitted i n row t drawn now answer × (journaled answer ≡ 0))))
+-- The stretch of a ticket was submitted by the seat that drew the ticket: the answer is a receipt, or the stretch is
+-- stale, and the seat has then seen an event that came after the draw.
+pub record HandedIn (i : ImageTables) (n : ℕ) (row : RowId) (t : TicketState) (drawn now : SeatState) : Type 0 where
+  pub visited : Visited i n row drawn now
+  pub answer : Result Receipt BoardFault
+  pub submitted : Submitted i n row t drawn now answer
+  pub mine : now.mine ≡ drawn.mine + journaled answer
+  pub stale : IfErr answer (λ f. (f ≡ fault.Stale) × (length drawn.seen < length now.seen))
 
--- nothing was journaled of an event: it was fed and did nothing, or it is the run of a processor whose turn was idle
-abbrev pub CameToNothing : ImageTables → (n : ℕ) → RowId → Event → (now : SeatState) → Type 0
-CameToNothing i n row e now =
-    ((was : SeatState) × ((receipt : Receipt) × Fed i n row e was now (Ok receipt) × (journaled (Ok receipt) ≡ 0)))
-    ⊎ ((p : ℕ) × (e ≡ Run p) × IsIdle i n row p now)
+-- A turn of processor p: a seat drew a ticket, and found no actor, or handed in the stretch of the actor that it drew.
+pub record TookTurn (i : ImageTables) (n : ℕ) (row : RowId) (p : ℕ) (was now : SeatState) : Type 0 where
+  pub drawn : SeatState
+  pub visited : Visited i n row was drawn
+  pub mine : drawn.mine ≡ was.mine
+  pub ticket : Option TicketState
+  pub drew : Drew i n drawn.seen p ticket
+  pub over : MatchOption ticket (now ≡ drawn) (λ t. HandedIn i n row t drawn now)
 
--- one time of a thread's part: its seat has visited the board, and has counted one event more, or nothing was journaled
+-- a seat fed an event, and the answer is a receipt
+pub record WasFed (i : ImageTables) (n : ℕ) (row : RowId) (e : Event) (was now : SeatState) : Type 0 where
+  pub visited : Visited i n row was now
+  pub receipt : Receipt
+  pub fed : Fed i n row e was now (Ok receipt)
+  pub mine : now.mine ≡ was.mine + journaled (Ok receipt)
+
+-- one time of a thread's part: a turn of its processor, or another event that it feeds
 abbrev pub DidOnce : ImageTables → (n : ℕ) → RowId → Event → (was now : SeatState) → Type 0
-DidOnce i n row e was now = Visited i n row was now × ((now.mine ≡ was.mine + 1) ⊎ CameToNothing i n row e now)
+DidOnce i n row (Run p) was now = TookTurn i n row p was now
+DidOnce i n row Tick was now = WasFed i n row Tick was now
+DidOnce i n row (Int h) was now = WasFed i n row (Int h) was now
+
+-- an event that is fed by such a part
+abbrev pub IsFed : Event → Type 0
+IsFed (Run p) = ⊥
+IsFed Tick = Unit {0}
+IsFed (Int h) = Unit {0}
 
 -- its part as often as asked, one time after the other
 abbrev pub DidTimes : ImageTables → (n : ℕ) → RowId → Event → (times : ℕ) → (was now : SeatState) → Type 0
@@ -126,8 +144,8 @@ abbrev pub total : List (Result ℕ BoardFault) → Result ℕ BoardFault
 total [] = Ok 0
 total (answer ∷ answers) = both answer (total answers)
 
--- threads that did these jobs were joined: their seats came back, and the answer is the total of theirs
-pub record Joined (i : ImageTables) (n : ℕ) (row : RowId) (always : Type 0) (jobs : List Job) (back : List SeatState)
+-- what was given back by all who have these jobs, in their order: the seats, and the total of the answers
+pub record AllGave (i : ImageTables) (n : ℕ) (row : RowId) (always : Type 0) (jobs : List Job) (back : List SeatState)
     (answer : Result ℕ BoardFault) : Type 0 where
   pub all : List Gave
   pub each : AllZip (GaveBack i n row always) jobs all
@@ -161,22 +179,22 @@ abbrev pub CameBack : (P : SeatState → SeatState → Type 0) → (seats back :
     → Type 0
 CameBack P seats back result = CameBackAs (AllZip P) seats back result
 
--- threads were started for seats
+-- what came back of seats, and the answer to their jobs
 pub record AreRun (i : ImageTables) (n : ℕ) (row : RowId) (always : Type 0) (load : Load) (seats back : List SeatState)
     (answer : Result ℕ BoardFault) : Type 0 where
   pub added : CameBackAs (AllAdded i n row load 0) seats back answer
   pub mine : IfOk answer (λ count. mine_of back ≡ mine_of seats + count)
-  pub joined : answer ≢ Err fault.Thread → Joined i n row always (jobs_of load 0 seats) back answer
+  pub worked : answer ≢ Err fault.Thread → AllGave i n row always (jobs_of load 0 seats) back answer
 
--- What is answered for seats: no thread was started, and they are as they were; or a thread was refused, and its seat
--- is lost; or the threads of all seats were joined in their order. It is never that an outcome was stale.
+-- What is answered for seats: what all of them gave back; or a thread was refused, and its seat is lost; or they are as
+-- they were. It is never that an outcome was stale.
 abbrev pub IsAnswer : ImageTables → (n : ℕ) → RowId → (always : Type 0) → Load → (seats back : List SeatState)
     → Result ℕ BoardFault → Type 0
-IsAnswer i n row always load seats back (Ok count) = Joined i n row always (jobs_of load 0 seats) back (Ok count)
+IsAnswer i n row always load seats back (Ok count) = AllGave i n row always (jobs_of load 0 seats) back (Ok count)
 IsAnswer i n row always load seats back (Err fault.Full) =
-    Joined i n row always (jobs_of load 0 seats) back (Err fault.Full)
+    AllGave i n row always (jobs_of load 0 seats) back (Err fault.Full)
 IsAnswer i n row always load seats back (Err fault.Held) =
-    Joined i n row always (jobs_of load 0 seats) back (Err fault.Held)
+    AllGave i n row always (jobs_of load 0 seats) back (Err fault.Held)
 IsAnswer i n row always load seats back (Err fault.Thread) = AllButOne (AllAdded i n row load 0) seats back
 IsAnswer i n row always load seats back (Err fault.Limit) = back ≡ seats
 IsAnswer i n row always load seats back (Err fault.Memory) = back ≡ seats
@@ -193,16 +211,18 @@ pub record HasFull (row : RowId) (seats : List SeatState) : Type 0 where
 abbrev pub load_of : ImageTables → (turns ticks : ℕ) → Load
 load_of i turns ticks = record { processors = i.system.processors; turns = turns; ticks = ticks }
 
--- What threads journal on a board of new seats, one for each processor and one for the ticks: the threads were joined,
--- none of them had stopped, and these are the events that their seats have counted.
+-- What the threads of a board of new seats journal, one for each processor and one for the ticks, where the board has
+-- room for all their turns and ticks: each seat has done all of its part, and these are the events that they counted.
 pub record IsRun (i : ImageTables) (n : ℕ) (always : Type 0) (turns ticks : ℕ) (es : List Event) : Type 0 where
   pub row : RowId
+  pub size : row.seats ≡ i.system.processors + 1
+  pub capacity : row.capacity ≡ i.system.processors * turns + ticks
   pub seats : List SeatState
   pub new : AreNew row seats
-  pub size : row.seats ≡ i.system.processors + 1
   pub back : List SeatState
   pub count : ℕ
-  pub joined : Joined i n row always (jobs_of (load_of i turns ticks) 0 seats) back (Ok count)
+  pub worked : AllGave i n row always (jobs_of (load_of i turns ticks) 0 seats) back (Ok count)
   pub journal : List JournalEntry
+  pub journal_is : IsJournal i n row.capacity row.seats journal
   pub counted : All (HasCounted journal) back
   pub events_are : es ≡ events journal

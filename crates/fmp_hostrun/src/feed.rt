@@ -1,7 +1,7 @@
 //! A taker of events from many threads.
-ghost use Rattle.std.specs.Prelude.{◌≡◌, ◌+◌, ℕ, MatchBool};
+ghost use Rattle.std.specs.Prelude.{◌≡◌, ◌+◌, ℕ, MatchBool, None, Some};
 ghost use Rattle.fmp_board.specs.Boards.{IsAt};
-ghost use Rattle.fmp_board.specs.Outcomes.{HasNoActorAfter, IsDrawn, IsOutcome, Submitted};
+ghost use Rattle.fmp_board.specs.Outcomes.{Drew, IsDrawn, IsOutcome, Submitted};
 ghost use Rattle.fmp_board.specs.Visits.{Fed, Visited, journaled};
 ghost use Rattle.fmp_image_bytes.specs.Images.{ImageTables};
 ghost use Rattle.fmp_journal.specs.Seats.{RowId};
@@ -32,9 +32,9 @@ pub(crate) trait Feed {
         ensures visited { Visited image bound row_id seat.old seat.new }
         ensures mine { seat.new.mine ≡ seat.old.mine }
         ensures made { MatchBool result
-            (IsOutcome workspace.new × IsDrawn image bound seat.new.seen workspace.new.ticket
-            × (workspace.new.ticket.processor ≡ p))
-            (HasNoActorAfter image bound seat.new.seen p) };
+            (IsOutcome workspace.new × Drew image bound seat.new.seen p (Some workspace.new.ticket)
+            × IsDrawn image bound seat.new.seen workspace.new.ticket)
+            (Drew image bound seat.new.seen p None) };
 
     /// Takes the outcome that a workspace has, under the number of the seat.
     fn submit<R: Wait>(

@@ -2,7 +2,7 @@
 ghost use Rattle.std.specs.Prelude.{◌≡◌, ◌+◌, ◌<◌, ◌≤◌, ◌^◌, [], ◌++◌, ◌↔◌, ◌≢◌, All, Err, IfOk, length, map, vec_len, vec_capacity};
 ghost use Rattle.fmp_board.specs.Boards.{IsAt};
 ghost use Rattle.fmp_board.specs.Visits.{Kept};
-ghost use Rattle.fmp_hostrun.specs.Works.{AllAdded, AreRun, CameBack, CameBackAs, GaveBack, HasFull, IsAnswer, Joined, both, gave, job_of, mine_of, seats_of};
+ghost use Rattle.fmp_hostrun.specs.Works.{AllAdded, AreRun, CameBack, CameBackAs, GaveBack, HasFull, IsAnswer, AllGave, both, gave, job_of, mine_of, seats_of};
 ghost use Rattle.fmp_board.specs.declared.fault.BoardFault.TheVariants.{Full, Held, Limit, Stale};
 
 use crate::feed::Feed;
@@ -54,7 +54,7 @@ fn joined<B: Feed, G: Gate, R: Threads>(
     requires room { B.row_id.capacity ≤ 2 ^ 20 }
     requires few { vec_len handles ≤ 256 }
     requires back { (back.items ≡ []) × (vec_len handles ≤ vec_capacity back) }
-    ensures joined { Joined B.image B.bound B.row_id G.is_open
+    ensures joined { AllGave B.image B.bound B.row_id G.is_open
         (map (λ h. job_of h.promise.part h.promise.seat.value) handles.items) result.0.items result.1 }
     ensures mine { IfOk result.1 (λ count. mine_of result.0.items
         ≡ mine_of (seats_of (map (λ h. job_of h.promise.part h.promise.seat.value) handles.items)) + count) }
@@ -187,6 +187,9 @@ fn run_threads<B: Feed + Sync, G: Gate, R: Threads + Wait + Sync>(
 /// fault of the first thread that stopped, by the order of the processors, the ticks last: `BoardFault::Full` where the
 /// journal has no room for one more event, or `BoardFault::Held` where the gate said no 10,000 times. It is never
 /// `BoardFault::Stale`. What was journaled before a fault stands.
+///
+/// The contract says what was done with each seat and what came back. That threads do it is tested: no clause can tell
+/// them from calls, one after the other.
 pub fn run_all<S: Site + Send + Sync, G: Gate, R: Threads + Wait + Sync>(
     rt: &R,
     alloc: Global,

@@ -3,7 +3,7 @@ ghost use Rattle.std.specs.Prelude.{◌≡◌, ◌+◌, ◌<◌, cond, true, len
 ghost use Rattle.fmp_base.specs.declared.events.Event.TheVariants.{Run};
 ghost use Rattle.fmp_board.specs.declared.fault.BoardFault.TheVariants.{Full};
 ghost use Rattle.fmp_board.specs.Boards.{IsAt};
-ghost use Rattle.fmp_hostrun.specs.Works.{Added, DidOnce, DidTimes, GaveBack, IsWhyStopped, gave, job_of};
+ghost use Rattle.fmp_hostrun.specs.Works.{Added, DidOnce, DidTimes, GaveBack, IsFed, IsWhyStopped, gave, job_of};
 
 use crate::feed::Feed;
 use fmp_base::Event;
@@ -153,7 +153,8 @@ fn feed_once<B: Feed, R: Wait>(
     seat: &mut Seat,
     event: Event,
 ) -> Result<bool, BoardFault>
-    requires { IsAt B.row_id seat.old }
+    requires at { IsAt B.row_id seat.old }
+    requires fed { IsFed event }
     ensures at { IsAt B.row_id seat.new }
     ensures added { Added B.image B.bound B.row_id event 1 seat.old seat.new }
     ensures did { IfOk result (λ _. DidOnce B.image B.bound B.row_id event seat.old seat.new) }
@@ -174,7 +175,8 @@ fn feed_all<B: Feed, R: Wait>(
     event: Event,
     times: u32,
 ) -> Result<u32, BoardFault>
-    requires { IsAt B.row_id seat.old }
+    requires at { IsAt B.row_id seat.old }
+    requires fed { IsFed event }
     ensures at { IsAt B.row_id seat.new }
     ensures added { Added B.image B.bound B.row_id event times seat.old seat.new }
     ensures finished { IfOk result (λ journaled. DidTimes B.image B.bound B.row_id event times seat.old seat.new

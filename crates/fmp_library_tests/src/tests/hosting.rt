@@ -112,6 +112,22 @@ fn two_turns_of_which_one_is_stale(rt: HostRuntime) -> Result<(), Fail> {
     Ok(())
 }
 
+/// Each turn of either processor is an event: two of the first task, and both of the second. Where the board has room
+/// for one event fewer, the last turn finds the journal full.
+#[test]
+fn room_for_one_event_fewer(rt: HostRuntime) -> Result<(), Fail> {
+    for (capacity, answer) in [(4, Ok(4)), (3, Err(BoardFault::Full))] {
+        let gate = SecondFirst::new(1);
+        let schedule = Schedule { capacity, turns: 2 };
+        let ran = run_texts(&rt, rt.alloc(), TWO_TASKS, &gate, schedule)?;
+        assert_eq!(rt; ran.answer, answer);
+        assert_eq!(rt; ran.seats, 3);
+        assert_eq!(rt; ran.events, capacity);
+        assert_eq!(rt; gate.told(), 4);
+    }
+    Ok(())
+}
+
 #[test]
 fn gates_that_say_no(rt: HostRuntime) -> Result<(), Fail> {
     let schedule = Schedule {

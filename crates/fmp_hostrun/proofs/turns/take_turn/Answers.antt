@@ -1,6 +1,6 @@
-use Rattle.std.proofs.Common.{◌≡◌, rules}
+use Rattle.std.proofs.Common.{◌≡◌, Some, rules}
 use Rattle.fmp_base.specs.declared.events.Event.TheVariants.{Run}
-use Rattle.fmp_board.specs.Outcomes.{IsDrawn}
+use Rattle.fmp_board.specs.Outcomes.{Drew}
 use Rattle.fmp_hostrun.proofs.Working.{added_none, added_submitted, added_turn, did_submitted, turn_refused}
 use Rattle.fmp_hostrun.proofs.turns.take_turn.Goals as goal
 
@@ -18,17 +18,15 @@ returns-in-Err-Stale-clause-added g c =
 
 pub returns-in-Ok-clause-did : goal.returns-in-Ok-clause-did
 returns-in-Ok-clause-did g c =
-    let processor : c.stretch.new.workspace.ticket.processor ≡ c.args.p = search rules in
-    let drawn : IsDrawn g.B.Feed.image g.B.Feed.bound c.stretch.new.seat.seen c.stretch.new.workspace.ticket = search rules in
-    did_submitted _ _ _ _ _ _ _ _ _ c.stretch.ensures.visited c.stretch.ensures.mine processor drawn
-    c.submit-answer.ensures.visited c.submit-answer.ensures.mine c.submit-answer.ensures.submitted
+    let drew : Drew g.B.Feed.image g.B.Feed.bound c.stretch.new.seat.seen c.args.p (Some c.stretch.new.workspace.ticket) = search rules in
+    did_submitted _ _ _ _ _ _ _ _ _ c.stretch.ensures.visited c.stretch.ensures.mine drew
+    c.submit-answer.ensures.visited c.submit-answer.ensures.mine c.submit-answer.ensures.submitted (search rules)
 
 pub returns-in-Err-Stale-clause-did : goal.returns-in-Err-Stale-clause-did
 returns-in-Err-Stale-clause-did g c =
-    let processor : c.stretch.new.workspace.ticket.processor ≡ c.args.p = search rules in
-    let drawn : IsDrawn g.B.Feed.image g.B.Feed.bound c.stretch.new.seat.seen c.stretch.new.workspace.ticket = search rules in
-    did_submitted _ _ _ _ _ _ _ _ _ c.stretch.ensures.visited c.stretch.ensures.mine processor drawn
-    c.submit-answer.ensures.visited c.submit-answer.ensures.mine c.submit-answer.ensures.submitted
+    let drew : Drew g.B.Feed.image g.B.Feed.bound c.stretch.new.seat.seen c.args.p (Some c.stretch.new.workspace.ticket) = search rules in
+    did_submitted _ _ _ _ _ _ _ _ _ c.stretch.ensures.visited c.stretch.ensures.mine drew
+    c.submit-answer.ensures.visited c.submit-answer.ensures.mine c.submit-answer.ensures.submitted (search rules)
 
 pub returns-in-Err : goal.returns-in-Err
 returns-in-Err g c =

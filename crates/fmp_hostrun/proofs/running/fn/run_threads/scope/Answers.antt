@@ -62,7 +62,7 @@ returns-then-refused-2 g c =
           all_but_one (AllAdded g.B.Feed.image g.B.Feed.bound g.B.Feed.row_id _ 0) _ _ _ _ _ _ _ _ c.if-refused-2.true i.started (sym i.size ∙ search rules) (search rules)
           (search rules) added;
       mine = tt;
-      joined = λ other. absurd (other refl);
+      worked = λ other. absurd (other refl);
     }
 
 pub returns : goal.returns
@@ -74,7 +74,7 @@ returns g c =
           all_back (AllAdded g.B.Feed.image g.B.Feed.bound g.B.Feed.row_id _ 0) _ _ _ _ _ _ _ _ _ c.if-refused-2.false i.started (sym i.size ∙ search rules) (search rules)
           (search rules) added (not_refused _ _ _ _ _ _ _ c.joined-back.ensures.joined);
       mine = mine_back _ _ _ _ _ _ _ _ _ c.if-refused-2.false i.started (sym i.size ∙ search rules) (search rules) (search rules) c.joined-back.ensures.mine;
-      joined = λ other.
+      worked = λ other.
           all_joined _ _ _ _ _ _ _ _ _ _ c.joined-back.ensures.joined i.placed
           (all_started _ _ _ _ _ _ c.if-refused-2.false i.started (sym i.size ∙ search rules) (search rules))
           (all_worked _ [] _ _ _ _ _ _ c.if-refused-2.false i.started (search rules));
