@@ -1,5 +1,5 @@
 -- What an outlet was given of a text, and why not all.
-use Rattle.std.proofs.Common.{ℕ, List, [], append-nil, sym, Result, IfErr, OnOk}
+use Rattle.std.proofs.Common.{ℕ, List, [], Result, IfErr, OnOk}
 use Rattle.std.proofs.lemmas.Result.{IfErr-weaker, on_ok_weaker}
 use Rattle.fmp.specs.Giving.{GivesText, IsWhyCut}
 use Rattle.fmp.specs.declared.perform.Cut.{Cut}
@@ -7,11 +7,6 @@ use Rattle.fmp.specs.declared.perform.Cut.TheVariants.{Refused, Stopped}
 use Rattle.fmp.specs.declared.perform.Exit.{Exit}
 
 module _ {T : Type 0} (gave stopped : T → T → List ℕ → Type 0) (from to : T) where
-  -- all of a text
-  pub gives_all : (Holds : List ℕ → Type 0) (text : List ℕ) → Holds text → gave from to text → GivesText gave Holds from to []
-  gives_all Holds text holds given =
-      record { text = text; holds = holds; given = record { front = text; is_given = given; whole_is = sym (append-nil text) } }
-
   -- a text of which more holds
   pub gives_then : (P Q : List ℕ → Type 0) (left : List ℕ) → ((text : List ℕ) → P text → Q text) → GivesText gave P from to left
       → GivesText gave Q from to left

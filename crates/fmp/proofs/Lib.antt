@@ -3,6 +3,7 @@ mod Entering
 mod Given
 mod Giving
 mod Growing
+mod Over
 mod Performing
 mod Printed
 mod Rows

@@ -3,7 +3,7 @@ use Rattle.std.proofs.Common.{◌≡◌, ℕ, sym, subst, ◌∙◌, append-nil,
 use Rattle.fmp.specs.declared.asking.Cmd.{Cmd}
 use Rattle.fmp_files.specs.Deeds.{Deed, Does, Says}
 use Rattle.fmp_files.specs.declared.failure.Failure.{Failure}
-use Rattle.fmp_files.specs.Endings.{IsFailureOf, IsOneOf, all_printed, some_printed}
+use Rattle.fmp_files.specs.Endings.{IsFailureOf, all_printed, some_printed}
 use Rattle.fmp_files.specs.Outside.{Files}
 use Rattle.fmp_files.specs.Prints.{Prints}
 use Rattle.fmp_files.specs.PrintsLaws.{does_nothing}
@@ -12,21 +12,21 @@ use Rattle.fmp.specs.declared.perform.Exit.{Exit}
 use Rattle.fmp.specs.declared.perform.Exit.TheVariants.{Failed}
 use Rattle.fmp.specs.Performed.{IsWhyNot, status_of}
 use Rattle.fmp.specs.Printing.{PrintsFront}
-use Rattle.fmp.specs.Runs.{AreInputs, CarriedOut, EndsCommand, KeepsInputs, done, failed, faulty, unread, writes_to}
+use Rattle.fmp.specs.Runs.{AreInputs, CarriedOut, EndsCommand, IsNoneOf, KeepsInputs, done, failed, faulty, unread, writes_to}
 
 module _ (files : Files) (can_fail : Bool) (before : Option (List Deed)) (cmd : Cmd) (fileless : output_of cmd ≡ None) where
   -- it writes over nothing that it reads
-  pub kept : KeepsInputs cmd
-  kept = subst (λ (o : Option (List ℕ)). IfSome o (λ name. ¬ IsOneOf (inputs_of cmd) name)) (sym fileless) tt
+  pub kept : KeepsInputs files cmd
+  kept = subst (λ (o : Option (List ℕ)). IfSome o (IsNoneOf files (inputs_of cmd))) (sym fileless) tt
 
-  no_file : (file : List ℕ) → Does before (writes_to (output_of cmd) file) before
-  no_file file = subst (λ (o : Option (List ℕ)). Does before (writes_to o file) before) (sym fileless) (does_nothing before)
+  no_file : Does before (writes_to (output_of cmd) []) before
+  no_file = subst (λ (o : Option (List ℕ)). Does before (writes_to o []) before) (sym fileless) (does_nothing before)
 
   module _ (inputs : List (List ℕ)) (read : AreInputs files cmd inputs) where
     carried : (after : Option (List Deed)) (left : List ℕ) (p : PrintsFront cmd inputs before after left)
         → CarriedOut files cmd before before p.text
     carried after left p =
-        record { file = p.file; performed = record { inputs = inputs; read = read; made = p.made }; written = no_file p.file }
+        record { file = []; performed = record { inputs = inputs; read = read; made = p.made }; written = no_file }
 
     -- all of it is printed
     pub ends_all : (after : Option (List Deed)) (status : ℕ) → PrintsFront cmd inputs before after [] → status ≡ 0

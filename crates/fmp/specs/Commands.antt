@@ -1,16 +1,8 @@
 -- The files of a command.
-use Rattle.std.specs.Prelude.{ℕ, List, [], ◌∷◌, Option, None, Some, string_bytes, ⊤}
+use Rattle.std.specs.Prelude.{ℕ, List, [], ◌∷◌, Option, None, Some, string_bytes}
 use Rattle.fmp_lex.specs.Faults.{text_max}
 use Rattle.fmp.specs.declared.asking.Cmd.{Cmd}
 use Rattle.fmp.specs.declared.asking.Cmd.TheVariants.{Check, Build, Sim, Host, Stored}
-
--- a command that starts no threads
-abbrev pub IsAlone : Cmd → Type 0
-IsAlone (Check _ _) = ⊤
-IsAlone (Build _ _ _) = ⊤
-IsAlone (Sim _ _ _) = ⊤
-IsAlone (Host _ _ _ _ _) = ⊥
-IsAlone Stored = ⊤
 
 -- how many files a command reads
 abbrev pub input_count : Cmd → ℕ

@@ -1,11 +1,9 @@
 -- What an outlet is given of what a command prints, and why it is not given all.
 use Rattle.std.specs.Prelude.{ℕ, List, []}
 use Rattle.fmp_engine.specs.Outlets.{Given, GivenFront}
-use Rattle.fmp.specs.declared.asking.Cmd.{Cmd}
 use Rattle.fmp.specs.declared.perform.Cut.{Cut}
 use Rattle.fmp.specs.declared.perform.Cut.TheVariants.{Refused, Stopped}
 use Rattle.fmp.specs.declared.perform.Exit.{Exit}
-use Rattle.fmp.specs.Performed.{CarriesOut}
 
 -- an outlet was given the front of a text of which this holds, and this is left of it
 pub record GivesText {T : Type 0} (gave : T → T → List ℕ → Type 0) (Holds : List ℕ → Type 0) (from to : T)
@@ -26,7 +24,3 @@ abbrev pub IsStopped : {T : Type 0} → (stopped : T → T → List ℕ → Type
     → Type 0
 IsStopped stopped from to text (Refused exit) = ⊥
 IsStopped stopped from to text Stopped = GivenFront stopped from to text
-
--- what a command prints, whatever its file gains
-abbrev pub Makes : Cmd → (inputs : List (List ℕ)) → (file_before : List ℕ) → List ℕ → Type 0
-Makes cmd inputs file_before text = (file_after : List ℕ) × CarriesOut cmd inputs file_before file_after [] text

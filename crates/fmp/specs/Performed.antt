@@ -27,52 +27,47 @@ status_of (Failed _) = 3
 abbrev pub input_at : List (List ℕ) → ℕ → List ℕ
 input_at inputs k = unwrap_or (slice_get inputs k) []
 
--- two texts build an image, and `ok` was appended
-pub record Checks (cfg src before after : List ℕ) : Type 0 where
+-- two texts build an image, and `ok` is printed
+pub record Checks (cfg src out : List ℕ) : Type 0 where
   pub builds : CanBuild cfg src
-  pub text : after ≡ before ++ codes "ok\n"
+  pub text : out ≡ codes "ok\n"
 
--- two texts build an image: the file gained the bytes that spell it, and `ok` was appended with how many they are
-pub record BuildsFile (cfg src file_before file_after before after : List ℕ) : Type 0 where
+-- two texts build an image: the bytes of the file spell it, and `ok` is printed with how many they are
+pub record BuildsFile (cfg src file out : List ℕ) : Type 0 where
   pub image : ImageTables
   pub built : Builds cfg src image
-  pub bytes : List ℕ
-  pub spelled : Spells image bytes
-  pub file : file_after ≡ file_before ++ bytes
-  pub text : after ≡ before ++ (codes "ok " ++ (decimal (length bytes) ++ codes "\n"))
+  pub spelled : Spells image file
+  pub text : out ≡ codes "ok " ++ (decimal (length file) ++ codes "\n")
 
--- What was appended is what an image prints over the steps; and where two texts build the image, it is what they mean.
-pub record RunsImage (image steps : List ℕ) (n : ℕ) (before after : List ℕ) : Type 0 where
-  pub printed : Simulates image steps n before after
+-- What is printed is what an image prints over the steps; and where two texts build the image, it is what they mean.
+pub record RunsImage (image steps : List ℕ) (n : ℕ) (out : List ℕ) : Type 0 where
+  pub printed : Simulates image steps n [] out
   pub meant : (cfg src : List ℕ) (i : ImageTables) (b : Builds cfg src i) → Spells i image
-      → PrintsTexts i b.tasks.bodies steps n before after
+      → PrintsTexts i b.tasks.bodies steps n [] out
 
--- The file gained the journal that the threads of an image made, and what was appended is what the image prints over
--- it; and where two texts build the image, it is what they mean over the journal.
-pub record HostsImage (image : List ℕ) (work : Workload) (file_before file_after before after : List ℕ) : Type 0 where
-  pub hosted : Hosts image work file_before file_after before after
+-- The file has the journal that the threads of an image made, and what is printed is what the image prints over it; and
+-- where two texts build the image, it is what they mean over the journal.
+pub record HostsImage (image : List ℕ) (work : Workload) (file out : List ℕ) : Type 0 where
+  pub hosted : Hosts image work [] file [] out
   pub meant : (cfg src : List ℕ) (i : ImageTables) (b : Builds cfg src i) → Spells i image
-      → HostsTexts i b.tasks.bodies work file_before file_after before after
+      → HostsTexts i b.tasks.bodies work [] file [] out
 
--- two texts build an image, and what was appended is what they mean over the steps that the run of the image finished
-pub record RunsTexts (cfg src steps : List ℕ) (n : ℕ) (before after : List ℕ) : Type 0 where
+-- two texts build an image, and what is printed is what they mean over the steps that the run of the image finished
+pub record RunsTexts (cfg src steps : List ℕ) (n : ℕ) (out : List ℕ) : Type 0 where
   pub image : ImageTables
   pub built : Builds cfg src image
-  pub meant : PrintsTexts image built.tasks.bodies steps n before after
+  pub meant : PrintsTexts image built.tasks.bodies steps n [] out
 
--- What was written and printed is what a command asks for, given what was read.
-abbrev pub CarriesOut : Cmd → List (List ℕ) → (file_before file_after before after : List ℕ) → Type 0
-CarriesOut (cmd.Check _ _) inputs file_before file_after before after =
-    Checks (input_at inputs 0) (input_at inputs 1) before after × (file_after ≡ file_before)
-CarriesOut (cmd.Build _ _ _) inputs file_before file_after before after =
-    BuildsFile (input_at inputs 0) (input_at inputs 1) file_before file_after before after
-CarriesOut (cmd.Sim _ _ bound) inputs file_before file_after before after =
-    RunsImage (input_at inputs 0) (input_at inputs 1) bound before after × (file_after ≡ file_before)
-CarriesOut (cmd.Host _ _ turns ticks bound) inputs file_before file_after before after =
-    HostsImage (input_at inputs 0) (record { turns = turns; ticks = ticks; bound = bound })
-    file_before file_after before after
-CarriesOut cmd.Stored inputs file_before file_after before after =
-    RunsTexts STORED_CONFIG.now STORED_TASKS.now STORED_STEPS.now STORED_BOUND before after × (file_after ≡ file_before)
+-- What is written and printed is what a command asks for, given what was read.
+abbrev pub CarriesOut : Cmd → List (List ℕ) → (file out : List ℕ) → Type 0
+CarriesOut (cmd.Check _ _) inputs file out = Checks (input_at inputs 0) (input_at inputs 1) out × (file ≡ [])
+CarriesOut (cmd.Build _ _ _) inputs file out = BuildsFile (input_at inputs 0) (input_at inputs 1) file out
+CarriesOut (cmd.Sim _ _ bound) inputs file out =
+    RunsImage (input_at inputs 0) (input_at inputs 1) bound out × (file ≡ [])
+CarriesOut (cmd.Host _ _ turns ticks bound) inputs file out =
+    HostsImage (input_at inputs 0) (record { turns = turns; ticks = ticks; bound = bound }) file out
+CarriesOut cmd.Stored inputs file out =
+    RunsTexts STORED_CONFIG.now STORED_TASKS.now STORED_STEPS.now STORED_BOUND out × (file ≡ [])
 
 -- why two texts build no image
 abbrev pub IsWhyNoImage : (cfg src : List ℕ) → Exit → Type 0

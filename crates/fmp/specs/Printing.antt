@@ -10,9 +10,8 @@ use Rattle.fmp.specs.Performed.{CarriesOut, IsWhyNot}
 -- the front of what a command prints, given what was read, was printed, and this is left of it
 pub record PrintsFront (cmd : Cmd) (inputs : List (List ℕ)) (before after : Option (List Deed)) (left : List ℕ)
     : Type 0 where
-  pub file : List ℕ
   pub text : List ℕ
-  pub made : CarriesOut cmd inputs [] file [] text
+  pub made : CarriesOut cmd inputs [] text
   pub front : List ℕ
   pub text_is : text ≡ front ++ left
   pub printed : Prints before front after

@@ -1,10 +1,10 @@
 -- What a run of the program reads, writes, prints and says, and the status that it ends with.
-use Rattle.std.specs.Prelude.{ℕ, ◌≡◌, ◌⊎◌, Bool, IsTrue, List, [], ◌∷◌, Option, None, Some, IfSome, IsSomeAnd, ⊤}
+use Rattle.std.specs.Prelude.{ℕ, ◌≡◌, ◌≢◌, ◌⊎◌, Bool, true, false, List, [], ◌∷◌, Option, None, Some, IfSome, IsSomeAnd, ⊤}
 use Rattle.fmp.specs.Asked.{AsksFor, IsRefused}
 use Rattle.fmp.specs.declared.asking.Cmd.{Cmd}
 use Rattle.fmp_files.specs.Deeds.{Begins, Deed, Does, Says, wrote}
 use Rattle.fmp_files.specs.declared.failure.Failure.{Failure}
-use Rattle.fmp_files.specs.Endings.{EndsPrinting, EndsRefused, IsFailureAt, IsFailureOf, IsOneOf}
+use Rattle.fmp_files.specs.Endings.{EndsPrinting, EndsRefused, IsFailureAt, IsFailureOf}
 use Rattle.fmp_files.specs.Files.{front}
 use Rattle.fmp_files.specs.Outside.{Files}
 use Rattle.clap.specs.declared.error.kind.ErrorKind.{ErrorKind}
@@ -42,14 +42,27 @@ abbrev pub BeginsFile : (output : Option (List ℕ)) → List ℕ → (before af
 BeginsFile None bytes before after = ⊥
 BeginsFile (Some name) bytes before after = Begins (wrote name) bytes before after
 
--- the file that a command writes has another name than each that it reads
-abbrev pub KeepsInputs : Cmd → Type 0
-KeepsInputs cmd = IfSome (output_of cmd) (λ name. ¬ IsOneOf (inputs_of cmd) name)
+-- two names lead to one file: they are equal, or the system says so
+abbrev pub AreOne : Files → (name other : List ℕ) → Type 0
+AreOne files name other = (name ≡ other) ⊎ (files.says_one name other ≡ Some true)
+
+-- they can lead to one file: they are equal, or the system does not say that they lead to two
+abbrev pub CanBeOne : Files → (name other : List ℕ) → Type 0
+CanBeOne files name other = (name ≡ other) ⊎ (files.says_one name other ≢ Some false)
+
+-- a name leads to none of the files of these
+abbrev pub IsNoneOf : Files → (names : List (List ℕ)) → List ℕ → Type 0
+IsNoneOf files [] name = ⊤
+IsNoneOf files (first ∷ names) name = (¬ AreOne files name first) × IsNoneOf files names name
 
 -- a name can lead to the file of one of these
 abbrev pub CanBeOneOf : Files → (names : List (List ℕ)) → List ℕ → Type 0
 CanBeOneOf files [] name = ⊥
-CanBeOneOf files (first ∷ names) name = IsTrue (files.can_be_one name first) ⊎ CanBeOneOf files names name
+CanBeOneOf files (first ∷ names) name = CanBeOne files name first ⊎ CanBeOneOf files names name
+
+-- the file that a command writes is none that it reads
+abbrev pub KeepsInputs : Files → Cmd → Type 0
+KeepsInputs files cmd = IfSome (output_of cmd) (IsNoneOf files (inputs_of cmd))
 
 -- the file that a command writes can be one that it reads
 abbrev pub CanBeOver : Files → Cmd → Type 0
@@ -59,7 +72,7 @@ CanBeOver files cmd = IsSomeAnd (output_of cmd) (CanBeOneOf files (inputs_of cmd
 pub record Performs (files : Files) (cmd : Cmd) (file out : List ℕ) : Type 0 where
   pub inputs : List (List ℕ)
   pub read : AreInputs files cmd inputs
-  pub made : CarriesOut cmd inputs [] file [] out
+  pub made : CarriesOut cmd inputs file out
 
 -- a command was carried out: its file has been written, and this is to be printed
 pub record CarriedOut (files : Files) (cmd : Cmd) (before after : Option (List Deed)) (out : List ℕ) : Type 0 where
@@ -82,10 +95,10 @@ pub data Fails (files : Files) (cmd : Cmd) (before after : Option (List Deed)) (
 pub data EndsCommand (files : Files) (can_fail : Bool) (cmd : Cmd) (before after : Option (List Deed)) (status : ℕ)
     : Type 0 where
   -- it was carried out: its file is written, and then is printed what there is to print
-  done : (out : List ℕ) (between : Option (List Deed)) → KeepsInputs cmd → CarriedOut files cmd before between out
+  done : (out : List ℕ) (between : Option (List Deed)) → KeepsInputs files cmd → CarriedOut files cmd before between out
       → EndsPrinting out can_fail between after status → EndsCommand files can_fail cmd before after status
   -- it was not carried out, and why is said
-  failed : (exit : Exit) (between : Option (List Deed)) → KeepsInputs cmd → Fails files cmd before between exit
+  failed : (exit : Exit) (between : Option (List Deed)) → KeepsInputs files cmd → Fails files cmd before between exit
       → Says between after → status ≡ status_of exit → EndsCommand files can_fail cmd before after status
   -- its file would replace one that it reads
   over_input : CanBeOver files cmd → Says before after → (status ≡ 2) ⊎ (status ≡ 3)

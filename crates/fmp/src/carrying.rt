@@ -1,5 +1,5 @@
 //! Carrying out a command over files: what it reads is judged, and then its file is written.
-ghost use Rattle.std.specs.Prelude.{◌≡◌, ◌∷◌, [], IfErr, IfOk, OnErr, OnOk, length, map};
+ghost use Rattle.std.specs.Prelude.{◌≡◌, ◌≢◌, ◌∷◌, [], None, IfErr, IfOk, OnErr, OnOk, length, map};
 ghost use Rattle.fmp.specs.CommandRanges.{KeepsRanges};
 ghost use Rattle.fmp_files.specs.Deeds.{Does};
 ghost use Rattle.fmp_files.specs.Endings.{IsFailureAt, IsFailureOf};
@@ -89,32 +89,28 @@ fn performed<R: Threads + Wait + Sync>(
     cmd: &Cmd,
     texts: &[Vec<u8>],
 ) -> Result<(Vec<u8>, Vec<u8>), Exit>
+    requires writes { output_of cmd.now ≢ None }
     requires inputs { length texts.now ≡ input_count cmd.now }
     requires ranges { KeepsRanges cmd.now }
     ensures ok { IfOk result (λ made.
-        CarriesOut cmd.now (map (λ t. t.items) texts.now) [] made.0.items [] made.1.items) }
+        CarriesOut cmd.now (map (λ t. t.items) texts.now) made.0.items made.1.items) }
     ensures err { IfErr result (IsWhyNot cmd.now (map (λ t. t.items) texts.now)) }
 {
-    let inputs = match borrowed(alloc, texts) {
-        Ok(inputs) => inputs,
-        Err(error) => return Err(Exit::Failed(Failure::Memory(error))),
-    };
-    let mut file = Vec::new(alloc);
-    let mut out = Vec::new(alloc);
-    match perform(rt, alloc, cmd, &inputs, &mut file, &mut out) {
-        Ok(()) => Ok((file, out)),
-        Err(exit) => Err(exit),
+    match borrowed(alloc, texts) {
+        Ok(inputs) => perform(rt, alloc, cmd, &inputs),
+        Err(error) => Err(Exit::Failed(Failure::Memory(error))),
     }
 }
 
-/// Writes the file that a command names for it, if it names one. After an error, which names that file or is out of
-/// memory, the file may have a beginning of the bytes.
+/// Writes the file that a command names for it. After an error, which names that file or is out of memory, the file may
+/// have a beginning of the bytes.
 pub fn write_output<O: Outside>(
     alloc: Global,
     outside: &mut O,
     cmd: &Cmd,
     bytes: &[u8],
 ) -> Result<(), Failure>
+    requires writes { output_of cmd.now ≢ None }
     ensures ok { OnOk result
         (Does (O.done outside.old) (writes_to (output_of cmd.now) bytes.now) (O.done outside.new)) }
     ensures begun { OnErr result (BeginsFile (output_of cmd.now) bytes.now (O.done outside.old) (O.done outside.new)) }
@@ -122,20 +118,21 @@ pub fn write_output<O: Outside>(
     ensures output { O.output_can_fail outside.new ≡ O.output_can_fail outside.old }
 {
     let (Cmd::Build { image: name, .. } | Cmd::Host { journal: name, .. }) = cmd else {
-        return Ok(());
+        unreachable!()
     };
     write_file(alloc, outside, name, bytes)
 }
 
-/// Reads the files of a command, carries it out, writes its file, and gives what is to be printed. An error is why what
-/// was read is refused, a file on which a call failed, or out of memory.
+/// Reads the files of a command that writes one, carries it out, writes its file, and gives what is to be printed. An
+/// error is why what was read is refused, a file on which a call failed, or out of memory.
 pub fn carry_out<O: Outside, R: Threads + Wait + Sync>(
     rt: &R,
     alloc: Global,
     outside: &mut O,
     cmd: &Cmd,
 ) -> Result<Vec<u8>, Exit>
-    requires { KeepsRanges cmd.now }
+    requires writes { output_of cmd.now ≢ None }
+    requires ranges { KeepsRanges cmd.now }
     ensures ok { IfOk result (λ out.
         CarriedOut (O.files outside.old) cmd.now (O.done outside.old) (O.done outside.new) out.items) }
     ensures err { IfErr result (Fails (O.files outside.old) cmd.now (O.done outside.old) (O.done outside.new)) }

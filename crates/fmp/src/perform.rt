@@ -1,15 +1,13 @@
 //! Carrying out a command, from the bytes that were read to those that are to be written.
-ghost use Rattle.std.specs.Prelude.{◌≡◌, ◌++◌, ℕ, List, [], OnOk, OnErr, IfErr, IfOk, codes, decimal, length, map, string_bytes};
+ghost use Rattle.std.specs.Prelude.{◌≡◌, ◌≢◌, ◌++◌, ℕ, List, [], None, OnOk, IfErr, IfOk, codes, decimal, length, map, string_bytes};
 ghost use Rattle.fmp_image.specs.Building.{IsBuildFault};
 ghost use Rattle.fmp_engine.specs.Hosting.{IsWhyHost, IsWorkload};
 ghost use Rattle.fmp_engine.specs.Simulations.{IsWhySim};
 ghost use Rattle.fmp.specs.CommandRanges.{IsBound, KeepsRanges};
-ghost use Rattle.fmp.specs.Commands.{IsAlone, input_count};
+ghost use Rattle.fmp.specs.Commands.{input_count, output_of};
 ghost use Rattle.fmp.specs.Performed.{BuildsFile, CarriesOut, Checks, HostsImage, IsWhyNoImage, IsWhyNoRun, IsWhyNot, IsWhyNotHosted, IsWhyNotRun, RunsImage, RunsTexts, status_of};
 ghost use Rattle.fmp.specs.declared.perform.Exit.TheVariants.{Failed};
-ghost use Rattle.fmp.specs.Giving.{GivesText, IsStopped, IsWhyCut, Makes};
-ghost use Rattle.fmp.specs.Runs.{IsFailed};
-ghost use Rattle.fmp_files.specs.Endings.{IsMemory};
+ghost use Rattle.fmp.specs.Giving.{GivesText, IsStopped, IsWhyCut};
 
 use crate::asking::Cmd;
 use fmp_engine::{
@@ -127,8 +125,8 @@ fn give<T: Outlet>(outlet: &mut T, text: &[u8]) -> Result<(), Cut>
 
 /// Checks two texts, and gives an outlet `ok` where they build an image.
 fn checked<T: Outlet>(alloc: Global, cfg: &[u8], src: &[u8], outlet: &mut T) -> Result<(), Cut>
-    ensures ok { OnOk result (GivesText T.gave (Checks cfg.now src.now []) outlet.old outlet.new []) }
-    ensures err { IfErr result (IsWhyCut T.gave T.stopped (IsWhyNoImage cfg.now src.now) (Checks cfg.now src.now [])
+    ensures ok { OnOk result (GivesText T.gave (Checks cfg.now src.now) outlet.old outlet.new []) }
+    ensures err { IfErr result (IsWhyCut T.gave T.stopped (IsWhyNoImage cfg.now src.now) (Checks cfg.now src.now)
         outlet.old outlet.new) }
 {
     match check(alloc, cfg, src) {
@@ -144,43 +142,19 @@ fn size_line(alloc: Global, size: usize) -> Result<String, AllocError>
     format!(in alloc; "ok {size}\n")
 }
 
-/// Gives an outlet `ok` and the number of bytes of an image.
-fn give_size<T: Outlet>(alloc: Global, size: usize, outlet: &mut T) -> Result<(), Cut>
-    ensures ok { OnOk result (T.gave outlet.old outlet.new (codes "ok " ++ (decimal size ++ codes "\n"))) }
-    ensures err { IfErr result (IsWhyCut T.gave T.stopped (IsFailed IsMemory)
-        (λ text. text ≡ codes "ok " ++ (decimal size ++ codes "\n")) outlet.old outlet.new) }
+/// The bytes of the image that two texts build, and the line that says how many they are.
+fn built(alloc: Global, cfg: &[u8], src: &[u8]) -> Result<(Vec<u8>, Vec<u8>), Exit>
+    ensures ok { IfOk result (λ made. BuildsFile cfg.now src.now made.0.items made.1.items) }
+    ensures refused { IfErr result (IsWhyNoImage cfg.now src.now) }
 {
-    match size_line(alloc, size) {
-        Ok(line) => give(outlet, line.as_bytes()),
-        Err(error) => Err(Cut::Refused(Exit::Failed(Failure::Memory(error)))),
-    }
-}
-
-/// Builds the image of two texts: the file gains its bytes, and an outlet is given how many they are.
-fn built<T: Outlet>(
-    alloc: Global,
-    cfg: &[u8],
-    src: &[u8],
-    file: &mut Vec<u8>,
-    outlet: &mut T,
-) -> Result<(), Cut>
-    ensures ok { OnOk result (GivesText T.gave (BuildsFile cfg.now src.now file.old.items file.new.items [])
-        outlet.old outlet.new []) }
-    ensures err { IfErr result (IsWhyCut T.gave T.stopped (IsWhyNoImage cfg.now src.now)
-        (λ text. (after : List ℕ) × BuildsFile cfg.now src.now file.old.items after [] text) outlet.old outlet.new) }
-    ensures file { OnErr result (file.new.items ≡ file.old.items) }
-{
-    let before = file.len();
-    match build_image(alloc, cfg, src, file) {
+    let mut image = Vec::new(alloc);
+    match build_image(alloc, cfg, src, &mut image) {
         Ok(()) => {}
-        Err(fault) => return Err(Cut::Refused(no_image(fault))),
+        Err(fault) => return Err(no_image(fault)),
     }
-    match give_size(alloc, file.len() - before, outlet) {
-        Ok(()) => Ok(()),
-        Err(cut) => {
-            file.truncate(before);
-            Err(cut)
-        }
+    match size_line(alloc, image.len()) {
+        Ok(line) => Ok((image, line.into_bytes())),
+        Err(error) => Err(Exit::Failed(Failure::Memory(error))),
     }
 }
 
@@ -193,9 +167,9 @@ fn simulated<T: Outlet>(
     outlet: &mut T,
 ) -> Result<(), Cut>
     requires { IsBound bound }
-    ensures ok { OnOk result (GivesText T.gave (RunsImage image.now steps.now bound []) outlet.old outlet.new []) }
+    ensures ok { OnOk result (GivesText T.gave (RunsImage image.now steps.now bound) outlet.old outlet.new []) }
     ensures err { IfErr result (IsWhyCut T.gave T.stopped (IsWhyNoRun image.now steps.now)
-        (RunsImage image.now steps.now bound []) outlet.old outlet.new) }
+        (RunsImage image.now steps.now bound) outlet.old outlet.new) }
 {
     match sim_into(alloc, image, steps, bound, outlet) {
         Ok(()) => Ok(()),
@@ -204,22 +178,21 @@ fn simulated<T: Outlet>(
     }
 }
 
-/// Runs an image by threads: the file gains the journal, and appended is what the image prints over it.
+/// Runs an image by threads: the journal, and what the image prints over it.
 fn hosted<R: Threads + Wait + Sync>(
     rt: &R,
     alloc: Global,
     image: &[u8],
     work: Workload,
-    file: &mut Vec<u8>,
-    out: &mut Vec<u8>,
-) -> Result<(), Exit>
+) -> Result<(Vec<u8>, Vec<u8>), Exit>
     requires { IsWorkload work }
-    ensures ok { OnOk result (HostsImage image.now work file.old.items file.new.items out.old.items out.new.items) }
+    ensures ok { IfOk result (λ made. HostsImage image.now work made.0.items made.1.items) }
     ensures refused { IfErr result (IsWhyNotHosted image.now work) }
-    ensures err { OnErr result ((file.new.items ≡ file.old.items) × (out.new.items ≡ out.old.items)) }
 {
-    match host(rt, alloc, image, work, file, out) {
-        Ok(()) => Ok(()),
+    let mut journal = Vec::new(alloc);
+    let mut out = Vec::new(alloc);
+    match host(rt, alloc, image, work, &mut journal, &mut out) {
+        Ok(()) => Ok((journal, out)),
         Err(fault) => Err(no_host(fault)),
     }
 }
@@ -234,10 +207,9 @@ fn built_and_run<T: Outlet>(
     outlet: &mut T,
 ) -> Result<(), Cut>
     requires { IsBound bound }
-    ensures ok { OnOk result (GivesText T.gave (RunsTexts cfg.now src.now steps.now bound [])
-        outlet.old outlet.new []) }
+    ensures ok { OnOk result (GivesText T.gave (RunsTexts cfg.now src.now steps.now bound) outlet.old outlet.new []) }
     ensures err { IfErr result (IsWhyCut T.gave T.stopped (IsWhyNotRun cfg.now src.now steps.now)
-        (RunsTexts cfg.now src.now steps.now bound []) outlet.old outlet.new) }
+        (RunsTexts cfg.now src.now steps.now bound) outlet.old outlet.new) }
 {
     let mut image = Vec::new(alloc);
     match build_image(alloc, cfg, src, &mut image) {
@@ -246,28 +218,24 @@ fn built_and_run<T: Outlet>(
     }
 }
 
-/// Carries out a command that starts no threads, on the bytes of its files, in order of its words: `file` gains what is
-/// to be written, and an outlet is given what is printed, what a run prints while it goes on. After an error the file
-/// has gained nothing.
+/// Carries out a command that writes no file, on the bytes of its files, in order of its words: an outlet is given what
+/// is printed, what a run prints while it goes on.
 pub fn perform_into<T: Outlet>(
     alloc: Global,
     cmd: &Cmd,
     inputs: &[&[u8]],
-    file: &mut Vec<u8>,
     outlet: &mut T,
 ) -> Result<(), Cut>
-    requires alone { IsAlone cmd.now }
+    requires fileless { output_of cmd.now ≡ None }
     requires inputs { length inputs.now ≡ input_count cmd.now }
     requires ranges { KeepsRanges cmd.now }
     ensures ok { OnOk result (GivesText T.gave
-        (CarriesOut cmd.now (map (λ s. s.now) inputs.now) file.old.items file.new.items []) outlet.old outlet.new []) }
+        (CarriesOut cmd.now (map (λ s. s.now) inputs.now) []) outlet.old outlet.new []) }
     ensures err { IfErr result (IsWhyCut T.gave T.stopped (IsWhyNot cmd.now (map (λ s. s.now) inputs.now))
-        (Makes cmd.now (map (λ s. s.now) inputs.now) file.old.items) outlet.old outlet.new) }
-    ensures file { OnErr result (file.new.items ≡ file.old.items) }
+        (CarriesOut cmd.now (map (λ s. s.now) inputs.now) []) outlet.old outlet.new) }
 {
     match cmd {
         Cmd::Check { .. } => checked(alloc, inputs[0], inputs[1], outlet),
-        Cmd::Build { .. } => built(alloc, inputs[0], inputs[1], file, outlet),
         Cmd::Sim { bound, .. } => simulated(alloc, inputs[0], inputs[1], *bound, outlet),
         Cmd::Stored => built_and_run(
             alloc,
@@ -277,55 +245,27 @@ pub fn perform_into<T: Outlet>(
             STORED_BOUND,
             outlet,
         ),
-        Cmd::Host { .. } => unreachable!(),
+        Cmd::Build { .. } | Cmd::Host { .. } => unreachable!(),
     }
 }
 
-/// Carries out a command that starts no threads, as `perform` does.
-fn perform_alone(
-    alloc: Global,
-    cmd: &Cmd,
-    inputs: &[&[u8]],
-    file: &mut Vec<u8>,
-    out: &mut Vec<u8>,
-) -> Result<(), Exit>
-    requires alone { IsAlone cmd.now }
-    requires inputs { length inputs.now ≡ input_count cmd.now }
-    requires ranges { KeepsRanges cmd.now }
-    ensures ok { OnOk result
-        (CarriesOut cmd.now (map (λ s. s.now) inputs.now) file.old.items file.new.items out.old.items out.new.items) }
-    ensures refused { IfErr result (IsWhyNot cmd.now (map (λ s. s.now) inputs.now)) }
-    ensures err { OnErr result ((file.new.items ≡ file.old.items) × (out.new.items ≡ out.old.items)) }
-{
-    let before = out.len();
-    match perform_into(alloc, cmd, inputs, file, out) {
-        Ok(()) => Ok(()),
-        Err(Cut::Refused(exit)) => Err(exit),
-        Err(Cut::Stopped) => {
-            out.truncate(before);
-            Err(Exit::Failed(Failure::Memory(AllocError)))
-        }
-    }
-}
-
-/// Carries out a command on the bytes of its files, in order of its words: `file` and `out` gain what is to be
-/// written and printed. After an error neither has gained anything.
+/// Carries out a command that writes a file, on the bytes of its files, in order of its words: what is to be written
+/// and what is to be printed.
 pub fn perform<R: Threads + Wait + Sync>(
     rt: &R,
     alloc: Global,
     cmd: &Cmd,
     inputs: &[&[u8]],
-    file: &mut Vec<u8>,
-    out: &mut Vec<u8>,
-) -> Result<(), Exit>
+) -> Result<(Vec<u8>, Vec<u8>), Exit>
+    requires writes { output_of cmd.now ≢ None }
     requires inputs { length inputs.now ≡ input_count cmd.now }
     requires ranges { KeepsRanges cmd.now }
-    ensures ok { OnOk result
-        (CarriesOut cmd.now (map (λ s. s.now) inputs.now) file.old.items file.new.items out.old.items out.new.items) }
+    ensures ok { IfOk result (λ made.
+        CarriesOut cmd.now (map (λ s. s.now) inputs.now) made.0.items made.1.items) }
     ensures refused { IfErr result (IsWhyNot cmd.now (map (λ s. s.now) inputs.now)) }
-    ensures err { OnErr result ((file.new.items ≡ file.old.items) × (out.new.items ≡ out.old.items)) }
 {
     match cmd {
+        Cmd::Build { .. } => built(alloc, inputs[0], inputs[1]),
         Cmd::Host {
             turns,
             ticks,
@@ -337,8 +277,8 @@ pub fn perform<R: Threads + Wait + Sync>(
                 ticks: *ticks,
                 bound: *bound,
             };
-            hosted(rt, alloc, inputs[0], work, file, out)
+            hosted(rt, alloc, inputs[0], work)
         }
-        _ => perform_alone(alloc, cmd, inputs, file, out),
+        Cmd::Check { .. } | Cmd::Sim { .. } | Cmd::Stored => unreachable!(),
     }
 }

@@ -1,7 +1,7 @@
 //! Printing what a command prints, piece by piece.
-ghost use Rattle.std.specs.Prelude.{◌≡◌, [], List, ℕ, IfErr, IsTrue, OnOk, length, map};
+ghost use Rattle.std.specs.Prelude.{◌≡◌, [], List, ℕ, None, IfErr, IsTrue, OnOk, length, map};
 ghost use Rattle.fmp.specs.CommandRanges.{KeepsRanges};
-ghost use Rattle.fmp.specs.Commands.{IsAlone, input_count};
+ghost use Rattle.fmp.specs.Commands.{input_count, output_of};
 ghost use Rattle.fmp.specs.Printing.{IsWhyNotPrinted, PrintsFront};
 
 use crate::asking::Cmd;
@@ -55,7 +55,7 @@ impl<O: Outside> Outlet for Printer<'_, O> {
     }
 }
 
-/// Carries out a command that starts no threads, and prints what it prints, piece by piece. Where it is not carried
+/// Carries out a command that writes no file, and prints what it prints, piece by piece. Where it is not carried
 /// out, nothing has been printed; where standard output fails, a front of it.
 pub fn print_performed<O: Outside>(
     alloc: Global,
@@ -63,7 +63,7 @@ pub fn print_performed<O: Outside>(
     cmd: &Cmd,
     inputs: &[&[u8]],
 ) -> Result<(), Cut>
-    requires alone { IsAlone cmd.now }
+    requires fileless { output_of cmd.now ≡ None }
     requires inputs { length inputs.now ≡ input_count cmd.now }
     requires ranges { KeepsRanges cmd.now }
     ensures ok { OnOk result (PrintsFront cmd.now (map (λ s. s.now) inputs.now)
@@ -71,9 +71,8 @@ pub fn print_performed<O: Outside>(
     ensures err { IfErr result (IsWhyNotPrinted (O.output_can_fail outside.old) cmd.now (map (λ s. s.now) inputs.now)
         (O.done outside.old) (O.done outside.new)) }
 {
-    let mut file = Vec::new(alloc);
     let mut printer = Printer { outside };
-    let performed = perform_into(alloc, cmd, inputs, &mut file, &mut printer);
+    let performed = perform_into(alloc, cmd, inputs, &mut printer);
     let Printer { outside } = printer;
     // No effect at run time. The proof reads what `outside` holds from this use of it.
     let _ = &*outside;

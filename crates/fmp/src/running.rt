@@ -1,8 +1,8 @@
 //! A run of the program, from the words of its command line to its status.
-ghost use Rattle.std.specs.Prelude.{◌≡◌, ◌⊎◌, IsTrue, IsFalse, IfOk, None, length, map, string_bytes};
+ghost use Rattle.std.specs.Prelude.{◌≡◌, ◌≢◌, ◌⊎◌, IsTrue, IsFalse, IfOk, None, length, map, string_bytes};
 ghost use Rattle.fmp.specs.CommandRanges.{KeepsRanges};
 ghost use Rattle.fmp_files.specs.Deeds.{Says};
-ghost use Rattle.fmp.specs.Commands.{IsAlone, input_count, output_of};
+ghost use Rattle.fmp.specs.Commands.{input_count, output_of};
 ghost use Rattle.fmp.specs.Runs.{AreInputs, CanBeOver, Ends, EndsCommand, KeepsInputs};
 
 use crate::asking::{Cmd, command, image_over_text, journal_over_image};
@@ -15,8 +15,9 @@ use std::sync::Wait;
 use std::thread::Threads;
 
 /// Whether the file that a command writes is one that it reads.
+#[tactic(auto, using(crate::proofs::Over::one_file, crate::proofs::Over::two_files))]
 fn is_over_input<O: Outside>(outside: &O, cmd: &Cmd) -> bool
-    ensures kept { IsFalse result → KeepsInputs cmd.now }
+    ensures kept { IsFalse result → KeepsInputs (O.files outside.now) cmd.now }
     ensures over { IsTrue result → CanBeOver (O.files outside.now) cmd.now }
 {
     match cmd {
@@ -44,7 +45,6 @@ fn refuse_over_input<O: Outside>(alloc: Global, outside: &mut O, cmd: &Cmd) -> u
 
 /// Carries out a command that writes no file, prints what it prints while it goes on, and gives the status.
 fn show<O: Outside>(alloc: Global, outside: &mut O, cmd: &Cmd, texts: &[Vec<u8>]) -> u8
-    requires alone { IsAlone cmd.now }
     requires fileless { output_of cmd.now ≡ None }
     requires inputs { length texts.now ≡ input_count cmd.now }
     requires ranges { KeepsRanges cmd.now }
@@ -65,7 +65,6 @@ fn show<O: Outside>(alloc: Global, outside: &mut O, cmd: &Cmd, texts: &[Vec<u8>]
 
 /// Reads the files of a command that writes none, carries it out and prints, and gives the status.
 fn read_and_show<O: Outside>(alloc: Global, outside: &mut O, cmd: &Cmd) -> u8
-    requires alone { IsAlone cmd.now }
     requires fileless { output_of cmd.now ≡ None }
     requires ranges { KeepsRanges cmd.now }
     ensures { EndsCommand (O.files outside.old) (O.output_can_fail outside.old) cmd.now
@@ -77,7 +76,7 @@ fn read_and_show<O: Outside>(alloc: Global, outside: &mut O, cmd: &Cmd) -> u8
     }
 }
 
-/// Carries out a command, writes its file and then prints, and gives the status.
+/// Carries out a command that writes a file, writes it and then prints, and gives the status.
 fn write_and_print<O: Outside, R: Threads + Wait + Sync>(
     rt: &R,
     alloc: Global,
@@ -85,7 +84,8 @@ fn write_and_print<O: Outside, R: Threads + Wait + Sync>(
     cmd: &Cmd,
 ) -> u8
     requires ranges { KeepsRanges cmd.now }
-    requires kept { KeepsInputs cmd.now }
+    requires writes { output_of cmd.now ≢ None }
+    requires kept { KeepsInputs (O.files outside.old) cmd.now }
     ensures { EndsCommand (O.files outside.old) (O.output_can_fail outside.old) cmd.now
         (O.done outside.old) (O.done outside.new) result }
 {

@@ -52,10 +52,10 @@ pub trait Outside {
     fn say<D: Display + Drop>(&mut self, text: D)
         ensures { Says (done self.old) (done self.new) };
 
-    /// Whether two names lead to one file. Equal names do.
+    /// Whether two names lead to one file. Equal names do, and of others it is what the system says.
     fn is_one_file(&self, name: &str, other: &str) -> bool
-        ensures same { name.now ≡ other.now → IsTrue result }
-        ensures one { IsTrue result → IsTrue ((files self.now).can_be_one name.now other.now) };
+        ensures equal { name.now ≡ other.now → IsTrue result }
+        ensures said { IfSome ((files self.now).says_one name.now other.now) (λ one. result ≡ one) };
 }
 
 /// The files, standard output and standard error of the system that the program runs on.
