@@ -1,5 +1,5 @@
 //! The events of a session, and the kernel after them.
-ghost use Rattle.std.specs.Prelude.{◌≡◌, ◌≤◌, ◌^◌, ◌-◌, ◌++◌, IfOk, OnErr, OnOk, length, take};
+ghost use Rattle.std.specs.Prelude.{◌≡◌, ◌≤◌, ◌^◌, ◌-◌, ◌++◌, IfOk, OnErr, OnOk, [], length, take};
 ghost use Rattle.fmp_drive.specs.NextRuns.{AreNext};
 ghost use Rattle.fmp_instructions.specs.Machine.{code_meaning};
 ghost use Rattle.fmp_steps.specs.Steps.{steps_text};
@@ -44,13 +44,16 @@ pub struct Session<'a> {
 }
 
 impl<'a> Session<'a> {
-    /// The session of an image after setup. A stretch of a body takes at most n instructions, 1 to 2^48. `AllocError`
-    /// if memory runs out.
+    /// The session of an image after setup, with no event yet. A stretch of a body takes at most n instructions, 1 to
+    /// 2^48. `AllocError` if memory runs out.
     #[tactic(none)]
     pub fn new(alloc: Global, image: &'a Image, n: u64) -> Result<Session<'a>, AllocError>
         requires low { 1 ≤ n }
         requires high { n ≤ 2 ^ 48 }
-        ensures { IfOk result (λ session. IsSession session) }
+        ensures session { IfOk result (λ session. IsSession session) }
+        ensures image { IfOk result (λ session. session.image.now ≡ image.now) }
+        ensures bound { IfOk result (λ session. session.bound ≡ n) }
+        ensures events { IfOk result (λ session. session.events.items ≡ []) }
     {
         let kernel = kernel_of(alloc, image, n)?;
         Ok(Session {
@@ -90,11 +93,12 @@ impl<'a> Session<'a> {
     }
 
     /// Takes an event, if there are fewer than 2^20. One that does nothing leaves all as it was. `AllocError` if memory
-    /// runs out: then nothing has changed.
+    /// runs out: then nothing has changed. The image and the bound stay.
     pub fn take(&mut self, e: Event) -> Result<Taken, AllocError>
         requires { IsSession self.old }
         ensures session { IsSession self.new }
         ensures image { self.new.image.now ≡ self.old.image.now }
+        ensures bound { self.new.bound ≡ self.old.bound }
         ensures events { IfOk result (λ taken. self.new.events.items ≡ with_event taken e self.old.events.items) }
         ensures exact { IfOk result (λ taken. IsTakenAs self.old e taken) }
         ensures err { OnErr result (self.new.events.items ≡ self.old.events.items) }
@@ -115,11 +119,12 @@ impl<'a> Session<'a> {
     }
 
     /// Takes the last events back, this many or all that there are: those before them are taken anew from setup on.
-    /// `AllocError` if memory runs out: then nothing has changed.
+    /// `AllocError` if memory runs out: then nothing has changed. The image and the bound stay.
     pub fn back(&mut self, alloc: Global, count: usize) -> Result<(), AllocError>
         requires { IsSession self.old }
         ensures session { IsSession self.new }
         ensures image { self.new.image.now ≡ self.old.image.now }
+        ensures bound { self.new.bound ≡ self.old.bound }
         ensures events { OnOk result (self.new.events.items
             ≡ take (length self.old.events.items - count) self.old.events.items) }
         ensures err { OnErr result (self.new.events.items ≡ self.old.events.items) }

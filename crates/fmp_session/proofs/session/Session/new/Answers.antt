@@ -1,4 +1,4 @@
-use Rattle.std.proofs.Common.{◌≤◌, ◌^◌, [], length, arith}
+use Rattle.std.proofs.Common.{◌≤◌, ◌^◌, [], length, arith, refl}
 use Rattle.std.proofs.lemmas.Result.{err_from_is_err_and}
 use Rattle.fmp_replay.proofs.Replaying.{none_legal}
 use Rattle.fmp_session.proofs.session.Session.new.Goals as goal
@@ -9,11 +9,24 @@ kernel_of-requires-clause-low c = c.requires.low
 pub kernel_of-requires-clause-high : goal.kernel_of-requires-clause-high
 kernel_of-requires-clause-high c = c.requires.high
 
-pub returns-in_err-kernel : goal.returns-in_err-kernel
-returns-in_err-kernel c = rw ((err_from_is_err_and c.from_residual.result c.from_residual.ensures.1).1) tt
+pub returns-in_err-kernel-clause-session : goal.returns-in_err-kernel-clause-session
+returns-in_err-kernel-clause-session c =
+    rw ((err_from_is_err_and c.from_residual.result c.from_residual.ensures.1).1) tt
 
-pub returns : goal.returns
-returns c =
+pub returns-in_err-kernel-clause-image : goal.returns-in_err-kernel-clause-image
+returns-in_err-kernel-clause-image c =
+    rw ((err_from_is_err_and c.from_residual.result c.from_residual.ensures.1).1) tt
+
+pub returns-in_err-kernel-clause-bound : goal.returns-in_err-kernel-clause-bound
+returns-in_err-kernel-clause-bound c =
+    rw ((err_from_is_err_and c.from_residual.result c.from_residual.ensures.1).1) tt
+
+pub returns-in_err-kernel-clause-events : goal.returns-in_err-kernel-clause-events
+returns-in_err-kernel-clause-events c =
+    rw ((err_from_is_err_and c.from_residual.result c.from_residual.ensures.1).1) tt
+
+pub returns-clause-session : goal.returns-clause-session
+returns-clause-session c =
     record {
       low = c.requires.low;
       high = c.requires.high;
@@ -21,3 +34,12 @@ returns c =
       legal = rw c.new.ensures.items (none_legal c.args.image.now c.args.n);
       kernel = rw c.new.ensures.items c.in_ok-kernel.ensures;
     }
+
+pub returns-clause-image : goal.returns-clause-image
+returns-clause-image c = refl
+
+pub returns-clause-bound : goal.returns-clause-bound
+returns-clause-bound c = refl
+
+pub returns-clause-events : goal.returns-clause-events
+returns-clause-events c = c.new.ensures.items
