@@ -103,12 +103,11 @@ fn stands<'a>(
 
 /// Whether the actor of a processor is known to go on for ever on the kernel of an image, which has taken these events.
 fn goes_on<'a>(kernel: &Kernel<Vm<'a>>, image: &'a Image, n: u64, steps: &[Event], p: u8) -> bool
-    requires some { 1 ≤ n }
-    requires followed { IsFollowed image.now n steps.now kernel.now }
+    requires { IsFollowed image.now n steps.now kernel.now }
     ensures { IsTrue result → IsEndlessOn image.now.system (code_meaning image.now.code)
         (replay image.now n steps.now).world p }
 {
-    is_endless(kernel, &image.vm(), n, p)
+    is_endless(kernel, &image.vm(), p)
 }
 
 /// Whether this is seen on the kernel of an image, which has taken these events.
@@ -120,8 +119,7 @@ fn is_seen<'a>(
     steps: &[Event],
     sight: Sight,
 ) -> bool
-    requires some { 1 ≤ n }
-    requires followed { IsFollowed image.now n steps.now kernel.old }
+    requires { IsFollowed image.now n steps.now kernel.old }
     ensures { IsTrue result → IsSeen image.now.system (code_meaning image.now.code) n question.now steps.now
         (replay image.now n steps.now) sight }
 {

@@ -9,8 +9,22 @@ use fmp_base::Stretch;
 use fmp_code::{MachineContext, Vm};
 use fmp_kernel::{Body, Kernel};
 
-/// How many stretches are made at most to find out.
-const TRIED_MOST: u32 = 1 << 16;
+/// The instructions of each stretch that is made to find out.
+const CUT: u64 = 256;
+
+/// How many stretches are made at most to find out: they take 2^26 instructions.
+const TRIED_MOST: u32 = 1 << 18;
+
+/// What becomes of a body from a context on.
+#[derive(Clone, Copy, Debug, PartialEq, Eq)]
+pub enum Outlook {
+    /// It goes on for ever without a call.
+    Endless,
+    /// It comes to a call, its end or a fault.
+    Ends,
+    /// Within 2^26 instructions neither is seen.
+    Unknown,
+}
 
 /// A look for a context that comes again: the one that is looked for, how many stretches were made since it stood
 /// there, and after how many a later one takes its place.
@@ -36,7 +50,7 @@ fn stand_together(a: &MachineContext, b: &MachineContext) -> bool
 }
 
 /// Whether two contexts are one.
-fn is_same(a: &MachineContext, b: &MachineContext) -> bool
+pub fn is_same(a: &MachineContext, b: &MachineContext) -> bool
     ensures { IsTrue result → a.now ≡ b.now }
 {
     if !stand_together(a, b) {
@@ -63,27 +77,26 @@ impl Mark {
     }
 }
 
-/// The context at which a stretch of a body reaches its bound, if it does.
-fn cut(body: &Vm<'_>, n: u64, entry: u8, context: MachineContext) -> Option<MachineContext>
+/// The context at which the next stretch of a body is cut, if it is.
+fn cut(body: &Vm<'_>, entry: u8, context: MachineContext) -> Option<MachineContext>
     requires entry { entry < length body.now }
     requires context { IsContext body.now entry context }
     ensures value { IfSome result
-        (λ next. (code_meaning body.now).stretch entry n context ≡ ends.Over (Some next)) }
+        (λ next. (code_meaning body.now).stretch entry CUT context ≡ ends.Over (Some next)) }
     ensures context { IfSome result (λ next. IsContext body.now entry next) }
 {
-    match body.stretch(entry, n, context) {
+    match body.stretch(entry, CUT, context) {
         Stretch::Over(next) => Some(next),
         Stretch::Call(..) | Stretch::End(_) | Stretch::Fault(..) => None,
     }
 }
 
-/// Whether a body is known to go on for ever from a context: cut into stretches of n instructions it comes to a
-/// context again from which one of them began.
-pub fn goes_on_for_ever(body: &Vm<'_>, n: u64, entry: u8, context: MachineContext) -> bool
-    requires some { 1 ≤ n }
+/// What becomes of a body from a context on. It goes on for ever if it comes again to a context at which a stretch of
+/// it was cut. This takes at most 2^26 instructions.
+pub fn outlook_of(body: &Vm<'_>, entry: u8, context: MachineContext) -> Outlook
     requires entry { entry < length body.now }
     requires context { IsContext body.now entry context }
-    ensures { IsTrue result → GoesOnForEver (code_meaning body.now) entry context }
+    ensures { result ≡ Outlook.Endless → GoesOnForEver (code_meaning body.now) entry context }
 {
     let mut mark = Mark {
         context,
@@ -92,27 +105,29 @@ pub fn goes_on_for_ever(body: &Vm<'_>, n: u64, entry: u8, context: MachineContex
     };
     let mut at = context;
     for tried in 0..TRIED_MOST {
-        let Some(next) = cut(body, n, entry, at) else {
-            return false;
+        let Some(next) = cut(body, entry, at) else {
+            return Outlook::Ends;
         };
         if is_same(&next, &mark.context) {
-            return true;
+            return Outlook::Endless;
         }
         mark.advance(&next);
         at = next;
     }
-    false
+    Outlook::Unknown
 }
 
 /// Whether the actor of the processor of this number, from 1, is known to go on for ever without a call, on a kernel
-/// over these bodies.
-pub fn is_endless<'a>(kernel: &Kernel<Vm<'a>>, body: &Vm<'a>, n: u64, p: u8) -> bool
-    requires some { 1 ≤ n }
-    requires body { body.now ≡ kernel.now.body }
+/// over these bodies, as `outlook_of` tells of it.
+pub fn is_endless<'a>(kernel: &Kernel<Vm<'a>>, body: &Vm<'a>, p: u8) -> bool
+    requires { body.now ≡ kernel.now.body }
     ensures { IsTrue result → IsEndlessOn kernel.now.system (code_meaning kernel.now.body) kernel.now.world p }
 {
     match kernel.actor(p) {
-        Some(actor) => goes_on_for_ever(body, n, actor.entry, actor.context),
+        Some(actor) => match outlook_of(body, actor.entry, actor.context) {
+            Outlook::Endless => true,
+            Outlook::Ends | Outlook::Unknown => false,
+        },
         None => false,
     }
 }

@@ -7,8 +7,8 @@ mod question;
 mod site;
 mod standing;
 
-pub use endless::is_endless;
-pub use placing::{body_of, is_bad, is_started, last_call};
-pub use question::{ANSWERS, Never, NeverAt, Question, Ticks, interrupt_count};
+pub use endless::{Outlook, is_endless, is_same, outlook_of};
+pub use placing::{body_of, first_bad_at, is_bad, is_started, last_call};
+pub use question::{ANSWERS, Never, NeverAt, Question, Ticks, first_forbidden, interrupt_count};
 pub use site::Site;
 pub use standing::{is_deadlock, may_rest, stands_still};

@@ -1,5 +1,6 @@
 //! Where the callers of lines stand in their bodies: whether a line tells an answer that one call must never get.
 ghost use Rattle.std.specs.Prelude.{◌≡◌, Some, not, slice_get};
+ghost use Rattle.std.specs.List.{position};
 ghost use Rattle.fmp_base.specs.States.{task_at};
 ghost use Rattle.fmp_base.specs.Systems.{body_of as number_of, tables_of};
 ghost use Rattle.fmp_base.specs.TaskCalls.{is_dormant as sleeps};
@@ -161,4 +162,21 @@ pub fn is_bad(kernel: &Kernel<Vm<'_>>, sys: &System, question: &Question, line: 
     ensures { result ≡ spec.is_bad (tables_of sys.now) question.now kernel.now.world line.now }
 {
     is_forbidden(question, line) || tells_any_there(kernel, sys, &question.nevers_at, line)
+}
+
+/// The place of the first answer that must never be given to one call, of those that a line tells. The line was just
+/// told on a kernel. None if it tells none.
+pub fn first_bad_at(
+    kernel: &Kernel<Vm<'_>>,
+    sys: &System,
+    question: &Question,
+    line: &Line,
+) -> Option<usize>
+    ensures { result ≡ position (λ never. spec.tells_there (tables_of sys.now) kernel.now.world never line.now)
+        question.now.nevers_at.items }
+{
+    question
+        .nevers_at
+        .iter()
+        .position(|never| tells_there(kernel, sys, *never, line))
 }

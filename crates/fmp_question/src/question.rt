@@ -1,6 +1,7 @@
 //! What is asked about all schedules: what must never happen, which events may happen, and where to stop.
 
-ghost use Rattle.std.specs.Prelude.{◌<◌, ◌≡◌, IsTrue, count_by, is_some, true};
+ghost use Rattle.std.specs.Prelude.{◌<◌, ◌≡◌, ◌^◌, [], IsTrue, None, count_by, false, is_some, true};
+ghost use Rattle.std.specs.List.{position};
 ghost use Rattle.fmp_schedules.specs.Deadlocks.{is_interrupt as is_request, may_interrupt as may};
 ghost use Rattle.fmp_question.specs.Forbidden.{forbids, is_answered as answers, is_fault as stops_with};
 ghost use Rattle.fmp_question.specs.Forbidden.{is_put as prints, is_same_code as same_code, is_same_fault as same_fault};
@@ -82,7 +83,17 @@ pub struct Question {
 impl Question {
     /// Deadlocks and bodies that go on for ever without a call are looked for, and nothing else. No task may wait
     /// forever. Ticks and interrupts come at any time. The search stops at the first finding, or at 2^24 states.
-    pub fn new(alloc: Global) -> Question {
+    pub fn new(alloc: Global) -> Question
+        ensures nevers { result.nevers.items ≡ [] }
+        ensures nevers_at { result.nevers_at.items ≡ [] }
+        ensures sections { result.sections.items ≡ [] }
+        ensures rest { result.rest.items ≡ [] }
+        ensures ticks { result.ticks ≡ Ticks.Any }
+        ensures interrupts { result.interrupts ≡ None }
+        ensures all { result.all ≡ false }
+        ensures states { result.states ≡ 2 ^ 24 }
+        ensures after { result.after.items ≡ [] }
+    {
         Question {
             nevers: Vec::new(alloc),
             nevers_at: Vec::new(alloc),
@@ -223,4 +234,11 @@ pub fn is_forbidden(question: &Question, line: &Line) -> bool
     ensures { result ≡ forbids question.now.nevers.items line.now }
 {
     tells_any(&question.nevers, line)
+}
+
+/// The place of the first of what must never happen anywhere that a line tells. None if it tells nothing of it.
+pub fn first_forbidden(question: &Question, line: &Line) -> Option<usize>
+    ensures { result ≡ position (λ never. names never line.now) question.now.nevers.items }
+{
+    question.nevers.iter().position(|never| tells(*never, line))
 }

@@ -1,8 +1,8 @@
 use Rattle.std.proofs.Common.{IsTrue, rules}
 use Rattle.fmp_findings.proofs.finding.is_so.Goals as goal
 
-pub is_seen-requires-clause-followed : goal.is_seen-requires-clause-followed
-is_seen-requires-clause-followed c =
+pub is_seen-requires : goal.is_seen-requires
+is_seen-requires c =
     let yes : IsTrue c.follow.result = search rules in
     c.follow.ensures yes
 

@@ -1,7 +1,7 @@
 use Rattle.fmp_code.specs.Vms.{IsContext}
 use Rattle.fmp_question.specs.Endless.{LeadsTo}
 use Rattle.fmp_instructions.specs.Machine.{code_meaning}
-use Rattle.fmp_question.proofs.endless.goes_on_for_ever.Given as goal
+use Rattle.fmp_question.proofs.endless.outlook_of.Given as goal
 
 abbrev pub invariant-loop-tried : goal.invariant-loop-tried
 invariant-loop-tried l =
