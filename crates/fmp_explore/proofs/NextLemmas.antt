@@ -127,6 +127,12 @@ module _ (i : ImageTables) (n : ℕ) (q : Question) where
             (kept.known sure);
       }
 
+  -- what an event leads to is kept, where something was noted before
+  pub dealt_after : (a b c : Survey) (es : List Event) (e : Event) → Stays a b → HasDealt i n q b c es e
+      → HasDealt i n q a c es e
+  dealt_after a b c es e stays h =
+      record { survey = h.survey; grows = grows_on a b c (stays_grows a b stays) h.grows; leads = h.leads }
+
   -- ---- setup
 
   came_at_setup : (most : Option ℕ) (ls : List Line) → count_by is_request ls ≡ 0

@@ -13,6 +13,10 @@ pub struct Edges {
     firsts: Vec<u32>,
     /// For each of them, a bit for each task: whether it acts by one of the events.
     acting: Vec<u8>,
+    /// The states that were examined and are deadlocks.
+    deadlocks: Vec<u32>,
+    /// The states that were examined and can go on only by an interrupt.
+    waiting: Vec<u32>,
     /// How many bytes the bits of a state take.
     width: usize,
     /// Whether some are missing, since memory ran out.
@@ -68,14 +72,21 @@ impl Edges {
             targets: Vec::new(alloc),
             firsts: Vec::new(alloc),
             acting: Vec::new(alloc),
+            deadlocks: Vec::new(alloc),
+            waiting: Vec::new(alloc),
             width: tasks / 8 + 1,
             lost: false,
         }
     }
 
+    /// Itself, if none of the events is missing. `AllocError` if memory ran out for one.
+    pub fn all(&self) -> Result<&Edges, AllocError> {
+        if self.lost { Err(AllocError) } else { Ok(self) }
+    }
+
     /// How many states were examined, if none of their events is missing.
-    pub fn len(&self) -> usize {
-        if self.lost { 0 } else { self.firsts.len() }
+    fn len(&self) -> usize {
+        self.firsts.len()
     }
 
     /// Forgets all: nothing more is noted.
@@ -84,6 +95,8 @@ impl Edges {
         self.targets = Vec::new(alloc);
         self.firsts = Vec::new(alloc);
         self.acting = Vec::new(alloc);
+        self.deadlocks = Vec::new(alloc);
+        self.waiting = Vec::new(alloc);
     }
 
     /// Adds a state with no event.
@@ -126,8 +139,8 @@ impl Edges {
         }
     }
 
-    /// A task acts by an event of the state that is examined.
-    fn note_act(&mut self, t: u8) {
+    /// A task acts by an event of the state that is examined, or goes on for ever in it.
+    pub fn note_act(&mut self, t: u8) {
         let start = self.acting.len().saturating_sub(self.width);
         let place = start.saturating_add(usize::from(t / 8));
         if let Some(bits) = self.acting.get_mut(place) {
@@ -171,17 +184,38 @@ impl Edges {
         }
     }
 
+    /// The state that is examined.
+    fn state(&self) -> u32 {
+        low_word(self.firsts.len().saturating_sub(1))
+    }
+
     /// The state that is examined is a deadlock: no task is told to be stuck from which it can be reached.
-    pub fn note_deadlock(&mut self) {
-        let start = self.acting.len().saturating_sub(self.width);
-        for place in start..self.acting.len() {
-            if let Some(bits) = self.acting.get_mut(place) {
-                *bits = 255;
-            }
+    pub fn note_deadlock(&mut self, alloc: Global) {
+        let state = self.state();
+        if !self.lost && self.deadlocks.push(state).is_err() {
+            self.lose(alloc);
         }
     }
 
-    /// Whether a task acts by an event of a state, or the state is a deadlock.
+    /// The state that is examined can go on only by an interrupt, though a task that may not rest waits.
+    pub fn note_waiting(&mut self, alloc: Global) {
+        let state = self.state();
+        if !self.lost && self.waiting.push(state).is_err() {
+            self.lose(alloc);
+        }
+    }
+
+    /// The states that are deadlocks.
+    pub fn deadlocks(&self) -> &[u32] {
+        &self.deadlocks
+    }
+
+    /// The states that can go on only by an interrupt, though a task that may not rest waits.
+    pub fn waiting(&self) -> &[u32] {
+        &self.waiting
+    }
+
+    /// Whether a task acts by an event of a state.
     fn acts(&self, state: usize, t: u8) -> bool {
         let place = state
             .saturating_mul(self.width)
@@ -283,17 +317,21 @@ fn mark(marked: &mut [bool], open: &mut Vec<u32>, state: u32) -> Result<(), Allo
     Ok(())
 }
 
-/// For each state, whether one can be reached from it in which this task acts, or which is a deadlock. `AllocError` if
-/// memory runs out.
+/// For each state, whether one can be reached from it in which this task acts, or one of these. `AllocError` if memory
+/// runs out.
 pub fn goes_on_from(
     alloc: Global,
     edges: &Edges,
     sources: &Sources,
     t: u8,
+    ends: &[u32],
 ) -> Result<Vec<bool>, AllocError> {
     let count = edges.len();
     let mut marked = vec![in alloc; false; count]?;
     let mut open = Vec::new(alloc);
+    for state in ends {
+        mark(&mut marked, &mut open, *state)?;
+    }
     for state in 0..count {
         if edges.acts(state, t) {
             mark(&mut marked, &mut open, low_word(state))?;

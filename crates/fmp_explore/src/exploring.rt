@@ -8,9 +8,10 @@ ghost use Rattle.fmp_question.specs.Places.{forbids_there};
 ghost use Rattle.fmp_question.specs.Rules.{rules_of};
 ghost use Rattle.fmp_explore.specs.Searching.{HasEnded, IsBegun, NothingIsFound};
 
-use crate::finding::{confirmed, shortest_alone};
+use crate::finding::{add_confirmed, confirmed, shortest_alone};
+use crate::notes::is_beside;
 use crate::searching::{Ending, Watcher};
-use crate::stuck::suspected;
+use crate::stuck::{Suspicions, suspected};
 use crate::subject::{Subject, live_in};
 use crate::survey::Survey;
 use crate::values::Variety;
@@ -30,13 +31,16 @@ pub struct Report {
     /// Whether no schedule reaches a deadlock, and along none happens what must never happen: every state was
     /// examined, and nothing was found.
     pub holds: bool,
+    /// Whether stuck tasks were looked for: every state was examined, and there was memory to look for them.
+    pub looked: bool,
     /// How many states were kept.
     pub states: usize,
     /// How many events did something.
     pub events: u64,
     /// How many events lead to the deepest state.
     pub deep: u32,
-    /// Whether a state can go on only by an interrupt, though a task that may not rest waits.
+    /// Whether in a state that can go on only by an interrupt a task that may not rest waits, and can go on later.
+    /// False where stuck tasks were not looked for.
     pub waits: bool,
     /// What was ever done.
     pub coverage: Coverage,
@@ -78,15 +82,46 @@ fn is_whole(ending: Ending) -> bool {
     }
 }
 
-/// Adds findings to others. `AllocError` if memory runs out.
-fn add_all(findings: &mut Vec<Finding>, more: Vec<Finding>) -> Result<(), AllocError> {
-    for finding in more {
-        findings.push(finding)?;
-    }
-    Ok(())
+/// What a search has found.
+#[derive(Drop)]
+struct Found {
+    findings: Vec<Finding>,
+    /// Whether stuck tasks were looked for, and there was memory for that.
+    looked: bool,
+    /// Whether a task waits for an interrupt.
+    waits: bool,
 }
 
-/// The findings of a search that has ended, which forgets them.
+/// Other findings and, of what seems to be so after a search in which every state was examined, the tasks that are
+/// stuck.
+fn with_stuck(
+    alloc: Global,
+    image: &Image,
+    n: u64,
+    question: &Question,
+    mut findings: Vec<Finding>,
+    more: Suspicions,
+) -> Found
+    requires low { 1 ≤ n }
+    requires high { n ≤ 2 ^ 48 }
+    requires found { All (IsFound image.now n question.now) findings.items }
+    ensures { All (IsFound image.now n question.now) result.findings.items }
+{
+    let added = add_confirmed(alloc, image, n, question, &mut findings, more.findings);
+    Found {
+        findings,
+        looked: added.is_ok(),
+        waits: more.waits,
+    }
+}
+
+/// Whether stuck tasks are looked for after a search that has ended so with these candidates.
+fn is_open(question: &Question, ending: Ending, candidates: &[Finding]) -> bool {
+    is_whole(ending) && (question.all || candidates.iter().all(|found| is_beside(found)))
+}
+
+/// The findings of a search that has ended, which forgets them. Stuck tasks are looked for where every state was
+/// examined, and more is asked for.
 fn findings_of(
     alloc: Global,
     image: &Image,
@@ -94,19 +129,22 @@ fn findings_of(
     question: &Question,
     survey: &mut Survey,
     ending: Ending,
-) -> Result<Vec<Finding>, AllocError>
+) -> Result<Found, AllocError>
     requires low { 1 ≤ n }
     requires high { n ≤ 2 ^ 48 }
-    ensures { IfOk result (λ findings. All (IsFound image.now n question.now) findings.items) }
+    ensures { IfOk result (λ found. All (IsFound image.now n question.now) found.findings.items) }
 {
-    let mut candidates = asked_for(alloc, question, survey.take_candidates(alloc))?;
-    if is_whole(ending) && (question.all || candidates.is_empty()) {
-        add_all(
-            &mut candidates,
-            suspected(alloc, survey, image.system(), question),
-        )?;
+    let candidates = asked_for(alloc, question, survey.take_candidates(alloc)?)?;
+    let goes_on = is_open(question, ending, &candidates);
+    let findings = confirmed(alloc, image, n, question, candidates)?;
+    if goes_on && let Ok(more) = suspected(alloc, survey, image.system(), question) {
+        return Ok(with_stuck(alloc, image, n, question, findings, more));
     }
-    confirmed(alloc, image, n, question, candidates)
+    Ok(Found {
+        findings,
+        looked: false,
+        waits: false,
+    })
 }
 
 /// Whether a search that ended so shows that nothing is found along any schedule.
@@ -138,15 +176,16 @@ fn make_report(
     ensures holds { IfOk result (λ r. r.holds ≡ true → NothingIsFound image.now n question.now) }
 {
     let holds = shows_all(survey, question, ending);
-    let findings = findings_of(alloc, image, n, question, survey, ending)?;
+    let found = findings_of(alloc, image, n, question, survey, ending)?;
     Ok(Report {
-        findings,
+        findings: found.findings,
         ending,
         holds,
+        looked: found.looked,
         states: survey.seen.len(),
         events: survey.notes.events,
         deep: survey.deep(),
-        waits: survey.notes.waits,
+        waits: found.waits,
         coverage: survey.take_coverage(alloc),
         varieties: table(alloc, survey, ending),
     })

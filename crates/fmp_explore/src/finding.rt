@@ -3,6 +3,7 @@ ghost use Rattle.std.specs.Prelude.{◌≡◌, ◌≤◌, ◌^◌, [], All, IfOk
 ghost use Rattle.fmp_replay.specs.Replays.{kernel_after};
 ghost use Rattle.fmp_findings.specs.Findings.{IsFound, IsSo};
 
+use crate::notes::is_beside;
 use crate::stuck::is_stuck;
 use fmp_base::Event;
 use fmp_code::Vm;
@@ -14,6 +15,7 @@ use fmp_replay::kernel_of;
 use std::alloc::{AllocError, Global};
 
 /// Whether each of these events does something, and this is seen after them, on a kernel that was just set up.
+/// `AllocError` if memory runs out.
 fn is_shown_on<'a>(
     alloc: Global,
     kernel: &mut Kernel<Vm<'a>>,
@@ -22,16 +24,17 @@ fn is_shown_on<'a>(
     question: &Question,
     steps: &[Event],
     sight: Sight,
-) -> bool
+) -> Result<bool, AllocError>
     requires low { 1 ≤ n }
     requires high { n ≤ 2 ^ 48 }
     requires begun { kernel.old ≡ kernel_after image.now n [] }
-    ensures { IsTrue result → IsSo image.now n question.now steps.now sight }
+    ensures { IfOk result (λ shown. IsTrue shown → IsSo image.now n question.now steps.now sight) }
 {
     if let Sight::Stuck(t) = sight {
-        return is_stuck(alloc, kernel, image, n, question, steps, t);
+        let stuck = is_stuck(alloc, kernel, image, n, question, steps, t)?;
+        return Ok(stuck);
     }
-    is_so(kernel, image, n, question, steps, sight)
+    Ok(is_so(kernel, image, n, question, steps, sight))
 }
 
 /// Whether each of these events does something, and this is seen after them. `AllocError` if memory runs out.
@@ -50,7 +53,7 @@ fn is_shown(
     let mut kernel = kernel_of(alloc, image, n)?;
     let shown = is_shown_on(alloc, &mut kernel, image, n, question, steps, sight);
     drop(kernel);
-    Ok(shown)
+    shown
 }
 
 /// Whether a finding is so. `AllocError` if memory runs out.
@@ -68,7 +71,7 @@ fn is_found(
     is_shown(alloc, image, n, question, &finding.steps, finding.sight)
 }
 
-/// Adds a finding to others, if it is so. `AllocError` if memory runs out.
+/// Adds a finding to others, if it is so. `AllocError` if memory runs out: then the others stay alone.
 fn add_if_found(
     alloc: Global,
     image: &Image,
@@ -80,7 +83,7 @@ fn add_if_found(
     requires low { 1 ≤ n }
     requires high { n ≤ 2 ^ 48 }
     requires found { All (IsFound image.now n question.now) findings.old.items }
-    ensures { OnOk result (All (IsFound image.now n question.now) findings.new.items) }
+    ensures { All (IsFound image.now n question.now) findings.new.items }
 {
     let found = is_found(alloc, image, n, question, &finding)?;
     if !found {
@@ -90,7 +93,28 @@ fn add_if_found(
     Ok(())
 }
 
-/// Those of the findings that are so. `AllocError` if memory runs out.
+/// Adds those of the candidates that are so to other findings. `AllocError` if memory runs out: then those up to there
+/// are added.
+pub fn add_confirmed(
+    alloc: Global,
+    image: &Image,
+    n: u64,
+    question: &Question,
+    findings: &mut Vec<Finding>,
+    candidates: Vec<Finding>,
+) -> Result<(), AllocError>
+    requires low { 1 ≤ n }
+    requires high { n ≤ 2 ^ 48 }
+    requires found { All (IsFound image.now n question.now) findings.old.items }
+    ensures { All (IsFound image.now n question.now) findings.new.items }
+{
+    for candidate in candidates {
+        add_if_found(alloc, image, n, question, findings, candidate)?;
+    }
+    Ok(())
+}
+
+/// Those of the candidates that are so. `AllocError` if memory runs out.
 pub fn confirmed(
     alloc: Global,
     image: &Image,
@@ -103,18 +127,17 @@ pub fn confirmed(
     ensures { IfOk result (λ findings. All (IsFound image.now n question.now) findings.items) }
 {
     let mut findings = Vec::new(alloc);
-    for candidate in candidates {
-        add_if_found(alloc, image, n, question, &mut findings, candidate)?;
-    }
+    add_confirmed(alloc, image, n, question, &mut findings, candidates)?;
     Ok(findings)
 }
 
-/// The place of the first of the shortest findings.
+/// The place of the first of the shortest findings, but for those beside which a search goes on; behind all of them if
+/// there is no other.
 fn shortest(findings: &[Finding]) -> usize {
-    let mut place = 0;
+    let mut place = findings.len();
     let mut least = usize::MAX;
     for (i, finding) in findings.iter().enumerate() {
-        if finding.steps.len() < least {
+        if finding.steps.len() < least && !is_beside(finding) {
             least = finding.steps.len();
             place = i;
         }
@@ -122,12 +145,12 @@ fn shortest(findings: &[Finding]) -> usize {
     place
 }
 
-/// The first of the shortest findings alone. `AllocError` if memory runs out.
+/// The first of the shortest findings, and those beside which a search goes on. `AllocError` if memory runs out.
 pub fn shortest_alone(alloc: Global, findings: Vec<Finding>) -> Result<Vec<Finding>, AllocError> {
     let place = shortest(&findings);
     let mut alone = Vec::new(alloc);
     for (i, finding) in findings.into_iter().enumerate() {
-        if i == place {
+        if i == place || is_beside(&finding) {
             alone.push(finding)?;
         }
     }

@@ -7,6 +7,7 @@ mod exploring;
 mod finding;
 mod holding;
 mod notes;
+mod outlooks;
 mod rows;
 mod searching;
 mod stretching;

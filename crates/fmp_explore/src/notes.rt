@@ -5,28 +5,45 @@ ghost use Rattle.fmp_schedules.specs.Schedules.{is_any_met};
 ghost use Rattle.fmp_schedules.specs.Sections.{is_met};
 ghost use Rattle.fmp_question.specs.Places.{is_bad as is_bad_line};
 
+use crate::outlooks::Outlooks;
 use crate::subject::Subject;
 use fmp_base::{Event, Line};
 use fmp_code::Vm;
 use fmp_coverage::Coverage;
 use fmp_findings::{Finding, Sight, Together};
 use fmp_kernel::Kernel;
-use fmp_question::{Site, is_bad};
+use fmp_question::{Site, first_bad_at, first_forbidden, is_bad};
 use fmp_schedules::Section;
 use std::alloc::{AllocError, Global};
 use std::mem;
 
+/// Which of what must never happen a line tells: a place among that which must never happen anywhere, or among that
+/// which must never happen at a call.
+#[derive(Clone, Copy, PartialEq, Eq)]
+enum Broken {
+    Anywhere(usize),
+    At(usize),
+}
+
+/// Something that seems to be found.
+#[derive(Drop)]
+struct Candidate {
+    finding: Finding,
+    /// What a line tells that must never happen, if it is a line.
+    broken: Option<Broken>,
+}
+
 /// What was noted.
 #[derive(Drop)]
 pub struct Notes {
-    candidates: Vec<Finding>,
+    candidates: Vec<Candidate>,
+    /// What is known of bodies that may go on for ever.
+    pub outlooks: Outlooks,
     pub coverage: Coverage,
     /// The last call of each task in the state that is examined: where it waits, the one in which it does.
     pub sites: Vec<Site>,
     /// How many events did something.
     pub events: u64,
-    /// Whether a state can go on only by an interrupt, though a task waits.
-    pub waits: bool,
 }
 
 /// A list of events: those that lead to a state, and one more, if there is one.
@@ -45,17 +62,32 @@ fn events_of(alloc: Global, path: Path<'_>) -> Result<Vec<Event>, AllocError> {
     Ok(events)
 }
 
-/// Whether a finding is of a kind, and at a call.
-fn is_of_kind(found: &Finding, sight: Sight, site: Option<Site>) -> bool {
-    let is_same = match (found.sight, sight) {
-        (Sight::Line(_), Sight::Line(_)) => true,
+/// Whether a search goes on beside a finding where only the first is asked for: a body that goes on for ever hides
+/// nothing else.
+pub fn is_beside(found: &Finding) -> bool {
+    matches!(found.sight, Sight::Endless(_))
+}
+
+/// Which of what must never happen a line tells that a kernel has just told, if it tells something of it.
+fn broken_by(subject: &Subject<'_>, kernel: &Kernel<Vm<'_>>, line: &Line) -> Option<Broken> {
+    if let Some(place) = first_forbidden(subject.question, line) {
+        return Some(Broken::Anywhere(place));
+    }
+    let place = first_bad_at(kernel, subject.image.system(), subject.question, line)?;
+    Some(Broken::At(place))
+}
+
+/// Whether a candidate is of a kind, and at a call. Lines are of one kind if they tell the same that must never happen.
+fn is_of_kind(known: &Candidate, sight: Sight, site: Option<Site>, broken: Option<Broken>) -> bool {
+    let is_same = match (known.finding.sight, sight) {
+        (Sight::Line(_), Sight::Line(_)) => known.broken == broken,
         (Sight::Deadlock, Sight::Deadlock) => true,
         (Sight::Endless(_), Sight::Endless(_)) => true,
         (Sight::Stuck(a), Sight::Stuck(b)) => a == b,
         (Sight::Together(a), Sight::Together(b)) => a.section == b.section,
         _ => false,
     };
-    is_same && found.site == site
+    is_same && known.finding.site == site
 }
 
 impl Notes {
@@ -63,10 +95,10 @@ impl Notes {
     pub fn new(alloc: Global) -> Notes {
         Notes {
             candidates: Vec::new(alloc),
+            outlooks: Outlooks::new(alloc),
             coverage: Coverage::nothing(alloc),
             sites: Vec::new(alloc),
             events: 0,
-            waits: false,
         }
     }
 
@@ -81,9 +113,13 @@ impl Notes {
         Ok(())
     }
 
-    /// The candidates, which are forgotten.
-    pub fn take_candidates(&mut self, alloc: Global) -> Vec<Finding> {
-        mem::replace(&mut self.candidates, Vec::new(alloc))
+    /// The candidates, which are forgotten. `AllocError` if memory runs out.
+    pub fn take_candidates(&mut self, alloc: Global) -> Result<Vec<Finding>, AllocError> {
+        let mut findings = Vec::new(alloc);
+        for candidate in mem::replace(&mut self.candidates, Vec::new(alloc)) {
+            findings.push(candidate.finding)?;
+        }
+        Ok(findings)
     }
 
     /// What was ever done, which is forgotten.
@@ -91,22 +127,37 @@ impl Notes {
         mem::replace(&mut self.coverage, Coverage::nothing(alloc))
     }
 
-    /// Whether a candidate has at most this many steps.
+    /// Whether a candidate has at most this many steps, and the search does not go on beside it.
     pub fn has_within(&self, depth: usize) -> bool {
-        self.candidates
-            .iter()
-            .any(|found| found.steps.len() <= depth)
+        self.candidates.iter().any(|known| known.finding.steps.len() <= depth
+            && !is_beside(&known.finding))
     }
 
-    /// Whether a candidate is of this kind, and at this call.
-    fn has_kind(&self, sight: Sight, site: Option<Site>) -> bool {
-        self.candidates
+    /// Adds a candidate of a list of events, unless there is one of its kind at the same call. `AllocError` if memory
+    /// runs out.
+    fn note(
+        &mut self,
+        alloc: Global,
+        path: Path<'_>,
+        sight: Sight,
+        site: Option<Site>,
+        broken: Option<Broken>,
+    ) -> Result<(), AllocError> {
+        let is_known = self
+            .candidates
             .iter()
-            .any(|found| is_of_kind(found, sight, site))
+            .any(|known| is_of_kind(known, sight, site, broken));
+        if is_known {
+            return Ok(());
+        }
+        let steps = events_of(alloc, path)?;
+        let finding = Finding { steps, sight, site };
+        self.candidates.push(Candidate { finding, broken })?;
+        Ok(())
     }
 
-    /// Adds what is seen after a list of events, unless the same was seen at the same call. `AllocError` if memory runs
-    /// out.
+    /// Adds what is seen after a list of events and is no line, unless the same was seen at the same call. `AllocError`
+    /// if memory runs out.
     pub fn note_sight(
         &mut self,
         alloc: Global,
@@ -114,12 +165,7 @@ impl Notes {
         sight: Sight,
         site: Option<Site>,
     ) -> Result<(), AllocError> {
-        if self.has_kind(sight, site) {
-            return Ok(());
-        }
-        let steps = events_of(alloc, path)?;
-        self.candidates.push(Finding { steps, sight, site })?;
-        Ok(())
+        self.note(alloc, path, sight, site, None)
     }
 
     /// The call to which a line belongs: that of the stretch, or where a wait ends that of the task that waited.
@@ -130,23 +176,29 @@ impl Notes {
         }
     }
 
-    /// Notes a line of an event that made this call, if it made one: what it tells, and that it must never be told, if
-    /// it must not.
+    /// Notes a line that a kernel has just told at this place, by an event that made this call, if it made one, or by
+    /// setup: whether it must never be told.
     fn note_line(
         &mut self,
         alloc: Global,
+        subject: &Subject<'_>,
+        kernel: &Kernel<Vm<'_>>,
         path: Path<'_>,
         made: Option<Site>,
         place: usize,
         line: &Line,
-        is_bad: bool,
-    ) -> Result<(), AllocError> {
+    ) -> Result<bool, AllocError>
+        ensures { IfOk result (λ found. found ≡ is_bad_line subject.now.image.now.system subject.now.question.now
+            kernel.now.world line.now) }
+    {
         let site = self.site_of(line, made);
         self.coverage.note_line(line, site);
-        if is_bad {
-            self.note_sight(alloc, path, Sight::Line(place), site)?;
+        let bad = is_bad(kernel, subject.image.system(), subject.question, line);
+        if bad {
+            let broken = broken_by(subject, kernel, line);
+            self.note(alloc, path, Sight::Line(place), site, broken)?;
         }
-        Ok(())
+        Ok(bad)
     }
 
     /// Notes the lines that a kernel has just told, by an event that made this call, if it made one, or by setup:
@@ -162,14 +214,10 @@ impl Notes {
         ensures { IfOk result (λ found. found ≡ list_any (is_bad_line subject.now.image.now.system
             subject.now.question.now kernel.now.world) kernel.now.lines) }
     {
-        let sys = subject.image.system();
         let lines = kernel.lines();
         let mut found = false;
         for place in 0..lines.len() {
-            let line = &lines[place];
-            let bad = is_bad(kernel, sys, subject.question, line);
-            self.note_line(alloc, path, made, place, line, bad)?;
-            if bad {
+            if self.note_line(alloc, subject, kernel, path, made, place, &lines[place])? {
                 found = true;
             }
         }

@@ -22,7 +22,7 @@ ghost use Rattle.fmp_explore.specs.States.{AreFew, MayCome, path_to};
 ghost use Rattle.fmp_tries.specs.Tries.{all_tries};
 
 use crate::notes::Path;
-use crate::stretching::{next_stretch, task_sites};
+use crate::stretching::{Ahead, task_sites};
 use crate::subject::Subject;
 use crate::survey::Survey;
 use crate::trying::{Attempt, DEEPEST, Marks};
@@ -98,8 +98,33 @@ fn depth_of(question: &Question, link: Link) -> usize
 }
 
 impl Survey {
-    /// Tries an event on a kernel in its state: whether it does something.
+    /// Tries an event on a kernel in its state, where this is known of its stretch: whether it does something.
     #[tactic(auto, using(crate::proofs::OverLemmas::over_step))]
+    fn attempt_ahead<'a>(
+        &mut self,
+        alloc: Global,
+        subject: &Subject<'a>,
+        kernel: &mut Kernel<Vm<'a>>,
+        attempt: Attempt<'_>,
+        ahead: Ahead,
+    ) -> Result<bool, AllocError>
+        requires survey { IsSurvey subject.now.image.now subject.now.n subject.now.question.now self.old }
+        requires at { IsAt subject.now.question.now self.old.seen.links attempt.state attempt.steps.now }
+        requires few { AreFew subject.now.question.now (attempt.steps.now ++ attempt.event ∷ []) }
+        requires followed { IsFollowed subject.now.image.now subject.now.n attempt.steps.now kernel.old }
+        ensures dealt { OnOk result (HasDealt subject.now.image.now subject.now.n subject.now.question.now self.old
+            self.new attempt.entry.steps.now attempt.entry.event) }
+        ensures still { IfOk result (λ did. did ≡ false → kernel.new ≡ kernel.old) }
+        ensures does { IfOk result (λ did. did ≡ true →
+            reaction subject.now.image.now subject.now.n attempt.entry.steps.now attempt.entry.event ≢ Nothing) }
+        ensures over { IsOver subject.now.image.now subject.now.n kernel.new }
+    {
+        let effect = kernel.step(attempt.event);
+        self.note_effect(alloc, subject, kernel, attempt, effect, ahead)?;
+        Ok(has_done(effect))
+    }
+
+    /// The same, where nothing is known yet of its stretch.
     fn attempt<'a>(
         &mut self,
         alloc: Global,
@@ -118,10 +143,8 @@ impl Survey {
             reaction subject.now.image.now subject.now.n attempt.entry.steps.now attempt.entry.event ≢ Nothing) }
         ensures over { IsOver subject.now.image.now subject.now.n kernel.new }
     {
-        let stretch = next_stretch(kernel, &subject.image.vm(), subject.n, attempt.event);
-        let effect = kernel.step(attempt.event);
-        self.note_effect(alloc, subject, kernel, attempt, effect, stretch)?;
-        Ok(has_done(effect))
+        let ahead = self.note_ahead(alloc, subject, kernel, attempt)?;
+        self.attempt_ahead(alloc, subject, kernel, attempt, ahead)
     }
 
     /// Tries the event at a place of those that are tried, if it may come now: whether it does something.
@@ -275,11 +298,11 @@ impl Survey {
             return Ok(());
         }
         if marks.interrupted {
-            self.notes.waits = true;
+            self.edges.note_waiting(alloc);
             return Ok(());
         }
         self.sure = false;
-        self.edges.note_deadlock();
+        self.edges.note_deadlock(alloc);
         let path = Path { steps, last: None };
         self.notes.note_sight(alloc, path, Sight::Deadlock, None)
     }

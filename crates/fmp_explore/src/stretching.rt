@@ -1,11 +1,12 @@
-//! Where bodies stand: the call that the next stretch of a processor makes, and the calls in which tasks wait.
+//! Where bodies stand: the call that the next stretch of a processor makes, who makes it, and the calls in which tasks
+//! wait.
 ghost use Rattle.std.specs.Prelude.{◌≡◌};
 
 use fmp_base::{Event, Stretch, System};
 use fmp_code::MachineContext;
 use fmp_fields::low_byte;
 use fmp_kernel::{Actor, Body, Kernel};
-use fmp_question::{Site, body_of, last_call};
+use fmp_question::{Outlook, Site, body_of, last_call};
 use std::alloc::AllocError;
 
 /// How the stretch of an event ends.
@@ -41,6 +42,28 @@ impl NextStretch {
             }
             NextStretch::None => None,
         }
+    }
+}
+
+/// What is known of the stretch of an event before the event is taken.
+#[derive(Clone, Copy)]
+pub struct Ahead {
+    /// The call that it makes, if it makes one.
+    pub made: Option<Site>,
+    /// What becomes of the actor whose place it keeps, where that was looked at.
+    pub outlook: Option<Outlook>,
+}
+
+/// The task that acts on the processor of this number, from 1, if one does.
+pub fn task_on<B: Body>(kernel: &Kernel<B>, p: u8) -> Option<u8> {
+    let tables = kernel.tables();
+    if p == 0 || usize::from(p) > tables.processor_count() {
+        return None;
+    }
+    let cpu = tables.processor(p - 1);
+    match cpu.handler {
+        Some(_) => None,
+        None => cpu.run,
     }
 }
 

@@ -41,6 +41,16 @@ struct Suspect {
     site: Site,
 }
 
+/// What seems to be so after a search in which every state was examined.
+#[derive(Drop)]
+pub struct Suspicions {
+    /// The tasks that seem to be stuck: the first of the states in which one does, or one for each of these tasks, as
+    /// is asked.
+    pub findings: Vec<Finding>,
+    /// Whether in a state that can go on only by an interrupt a task that may not rest waits, and can go on later.
+    pub waits: bool,
+}
+
 /// The place of a field; behind all of them if there is none.
 fn place_of(fields: &[What], what: What) -> usize {
     for (place, field) in fields.iter().enumerate() {
@@ -123,16 +133,16 @@ fn suspects_of(
     survey: &Survey,
     sys: &System,
     question: &Question,
+    sources: &Sources,
 ) -> Result<Vec<Suspect>, AllocError> {
     let mut suspects = Vec::new(alloc);
     let edges = &survey.edges;
-    let sources = Sources::new(alloc, edges)?;
     for t in 0..sys.tasks.len() {
         let t = low_byte(t);
         if may_rest(question, t) {
             continue;
         }
-        let marked = goes_on_from(alloc, edges, &sources, t)?;
+        let marked = goes_on_from(alloc, edges, sources, t, edges.deadlocks())?;
         if let Some(suspect) = suspect_of(alloc, survey, sys, &marked, t)? {
             suspects.push(suspect)?;
         }
@@ -147,9 +157,10 @@ fn stuck_in(
     survey: &Survey,
     sys: &System,
     question: &Question,
+    sources: &Sources,
 ) -> Result<Vec<Finding>, AllocError> {
     let mut findings = Vec::new(alloc);
-    for suspect in suspects_of(alloc, survey, sys, question)? {
+    for suspect in suspects_of(alloc, survey, sys, question, sources)? {
         if question.all || findings.is_empty() {
             findings.push(Finding {
                 steps: survey.steps_to(alloc, question, suspect.state)?,
@@ -161,18 +172,60 @@ fn stuck_in(
     Ok(findings)
 }
 
-/// The tasks that seem to be stuck after a search in which every state was examined; none if there is no memory to look
-/// for them.
+/// Whether a task is started in a state that can go on only by an interrupt, and can go on from there, as these marks
+/// tell. `AllocError` if memory runs out.
+fn is_helped(alloc: Global, survey: &Survey, marked: &[bool], t: u8) -> Result<bool, AllocError> {
+    let phase = place_of(&survey.rows.fields, What::Phase(t));
+    let mut values = Vec::new(alloc);
+    for state in survey.edges.waiting() {
+        if let Some(true) = marked.get(*state as usize) {
+            unpack(survey.seen.row(*state), &survey.rows.first, &mut values)?;
+            if value_at(&values, phase) != 0 {
+                return Ok(true);
+            }
+        }
+    }
+    Ok(false)
+}
+
+/// Whether in a state that can go on only by an interrupt a task that may not rest waits, and can go on later.
+/// `AllocError` if memory runs out.
+fn waits_for_interrupt(
+    alloc: Global,
+    survey: &Survey,
+    sys: &System,
+    question: &Question,
+    sources: &Sources,
+) -> Result<bool, AllocError> {
+    let edges = &survey.edges;
+    if edges.waiting().is_empty() {
+        return Ok(false);
+    }
+    for t in 0..sys.tasks.len() {
+        let t = low_byte(t);
+        if may_rest(question, t) {
+            continue;
+        }
+        let marked = goes_on_from(alloc, edges, sources, t, &[])?;
+        if is_helped(alloc, survey, &marked, t)? {
+            return Ok(true);
+        }
+    }
+    Ok(false)
+}
+
+/// What seems to be so after a search in which every state was examined. `AllocError` if there was no memory to look.
 pub fn suspected(
     alloc: Global,
     survey: &Survey,
     sys: &System,
     question: &Question,
-) -> Vec<Finding> {
-    match stuck_in(alloc, survey, sys, question) {
-        Ok(findings) => findings,
-        Err(_) => Vec::new(alloc),
-    }
+) -> Result<Suspicions, AllocError> {
+    let sources = Sources::new(alloc, survey.edges.all()?)?;
+    Ok(Suspicions {
+        findings: stuck_in(alloc, survey, sys, question, &sources)?,
+        waits: waits_for_interrupt(alloc, survey, sys, question, &sources)?,
+    })
 }
 
 /// This alone, of all that must never happen.
@@ -216,27 +269,34 @@ fn question_of(
 }
 
 /// Whether a search shows that no forbidden line is told along any schedule behind the events where it began.
-fn shows_silence(alloc: Global, subject: &Subject<'_>, survey: &mut Survey) -> bool
+/// `AllocError` if it ends before it knows, as where memory runs out.
+fn shows_silence(
+    alloc: Global,
+    subject: &Subject<'_>,
+    survey: &mut Survey,
+) -> Result<bool, AllocError>
     requires { IsBegun subject.now.image.now subject.now.n subject.now.question.now survey.old }
-    ensures { IsTrue result → NoneFollows subject.now.image.now subject.now.n subject.now.question.now }
+    ensures { IfOk result (λ yes. IsTrue yes →
+        NoneFollows subject.now.image.now subject.now.n subject.now.question.now) }
 {
     subject.image.keeps_rules();
     match ended(alloc, survey, subject, &mut Nobody) {
-        Ending::Whole => survey.sure,
-        Ending::Enough | Ending::States | Ending::Depth | Ending::Memory => false,
+        Ending::Whole => Ok(survey.sure),
+        Ending::Enough => Ok(false),
+        Ending::States | Ending::Depth | Ending::Memory => Err(AllocError),
     }
 }
 
-/// The same of a search that is now made. `AllocError` if there is no memory to begin with.
+/// The same of a search that is now made. `AllocError` if it ends before it knows, as where memory runs out.
 fn is_silent(alloc: Global, subject: &Subject<'_>) -> Result<bool, AllocError>
     ensures { IfOk result (λ yes. IsTrue yes →
         NoneFollows subject.now.image.now subject.now.n subject.now.question.now) }
 {
     let mut survey = begun(alloc, subject)?;
-    Ok(shows_silence(alloc, subject, &mut survey))
+    shows_silence(alloc, subject, &mut survey)
 }
 
-/// The same of what is asked about an image. `AllocError` if there is no memory to begin with.
+/// The same of what is asked about an image.
 fn is_silent_about(
     alloc: Global,
     image: &Image,
@@ -257,8 +317,8 @@ fn is_silent_about(
     is_silent(alloc, &subject)
 }
 
-/// Whether it is known that a task never acts after these events, as a question lets others follow. `AllocError` if
-/// there is no memory to begin with.
+/// Whether a task never acts after these events, as a question lets others follow. `AllocError` if the search for that
+/// ends before it knows, as where memory runs out.
 fn never_acts(
     alloc: Global,
     image: &Image,
@@ -285,8 +345,8 @@ fn is_started_after(kernel: &Kernel<Vm<'_>>, image: &Image, n: u64, steps: &[Eve
     is_started(kernel.tables(), t)
 }
 
-/// Whether it is known that the task at a place, which is started on the kernel of an image that was just set up and
-/// takes these events, never goes on after them. Where memory runs out it is not known.
+/// Whether the task at a place is started on the kernel of an image that was just set up and takes these events, and
+/// never goes on after them. `AllocError` if the search for that ends before it knows, as where memory runs out.
 pub fn is_stuck<'a>(
     alloc: Global,
     kernel: &mut Kernel<Vm<'a>>,
@@ -295,20 +355,18 @@ pub fn is_stuck<'a>(
     question: &Question,
     steps: &[Event],
     t: u8,
-) -> bool
+) -> Result<bool, AllocError>
     requires low { 1 ≤ n }
     requires high { n ≤ 2 ^ 48 }
     requires begun { kernel.old ≡ kernel_after image.now n [] }
-    ensures { IsTrue result → IsSo image.now n question.now steps.now (Sight.Stuck t) }
+    ensures { IfOk result (λ stuck. IsTrue stuck → IsSo image.now n question.now steps.now (Sight.Stuck t)) }
 {
     if !follow(kernel, image, n, steps) {
-        return false;
+        return Ok(false);
     }
     if !is_started_after(kernel, image, n, steps, t) {
-        return false;
+        return Ok(false);
     }
-    match never_acts(alloc, image, n, question, steps, t) {
-        Ok(never) => never,
-        Err(_) => false,
-    }
+    let never = never_acts(alloc, image, n, question, steps, t)?;
+    Ok(never)
 }

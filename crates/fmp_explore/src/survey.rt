@@ -14,7 +14,7 @@ use crate::edges::Edges;
 use crate::holding::sections_after;
 use crate::notes::{Notes, Path};
 use crate::rows::Rows;
-use crate::stretching::NextStretch;
+use crate::stretching::{Ahead, NextStretch, next_stretch, task_on};
 use crate::subject::Subject;
 use crate::trying::Attempt;
 use crate::values::{Variety, varieties};
@@ -24,7 +24,7 @@ use fmp_coverage::Coverage;
 use fmp_findings::{Finding, Sight};
 use fmp_kernel::Kernel;
 use fmp_paths::follow;
-use fmp_question::{Question, Site, interrupt_count, is_endless};
+use fmp_question::{Outlook, Question, Site, interrupt_count, may_rest};
 use fmp_replay::kernel_of;
 use fmp_schedules::Section;
 use fmp_seen::{Entry, Link, Seen};
@@ -67,7 +67,8 @@ impl Survey {
     }
 
     /// What it noted, which it forgets.
-    pub fn take_candidates(&mut self, alloc: Global) -> Vec<Finding> {
+    /// `AllocError` if memory runs out.
+    pub fn take_candidates(&mut self, alloc: Global) -> Result<Vec<Finding>, AllocError> {
         self.notes.take_candidates(alloc)
     }
 
@@ -363,49 +364,102 @@ impl Survey {
         self.keep_next(alloc, subject, kernel, attempt, false, sections)
     }
 
-    /// Whether the same event led to the state, and kept a place there: then it is known whether its actor goes on for
-    /// ever.
-    fn was_tried(&self, attempt: Attempt<'_>) -> bool {
-        match self.seen.link(attempt.state) {
-            Some(link) => link.kept && link.event == attempt.event,
-            None => false,
-        }
-    }
-
-    /// Looks whether the actor whose place an event kept goes on for ever, from the state before it on.
+    /// Notes that the actor of a processor goes on for ever. It is this task or a handler, and its body is this one.
     fn note_endless(
         &mut self,
         alloc: Global,
-        subject: &Subject<'_>,
-        kernel: &Kernel<Vm<'_>>,
         attempt: Attempt<'_>,
+        p: u8,
+        task: Option<u8>,
         body: Option<Site>,
     ) -> Result<(), AllocError>
-        requires { kernel.now.body ≡ subject.now.image.now.code }
         ensures { OnOk result (Stays self.old self.new) }
     {
-        let Event::Run(p) = attempt.event else {
-            return Ok(());
-        };
-        if self.was_tried(attempt) || !is_endless(kernel, &subject.image.vm(), subject.n, p) {
-            return Ok(());
+        if let Some(t) = task {
+            self.edges.note_act(t);
         }
         let path = Path {
             steps: attempt.steps,
             last: None,
         };
-        self.sure = false;
         self.notes.note_sight(alloc, path, Sight::Endless(p), body)
     }
 
-    /// An event kept the place of an actor of this body.
+    /// Looks what becomes of the actor of a processor, of this body, whose place an event will keep, and notes it if it
+    /// goes on for ever. None, and nothing is noted, of a task that may rest.
+    fn note_outlook(
+        &mut self,
+        alloc: Global,
+        subject: &Subject<'_>,
+        kernel: &Kernel<Vm<'_>>,
+        attempt: Attempt<'_>,
+        p: u8,
+        body: Option<Site>,
+    ) -> Result<Option<Outlook>, AllocError>
+        requires { kernel.now.body ≡ subject.now.image.now.code }
+        ensures { OnOk result (Stays self.old self.new) }
+    {
+        let task = task_on(kernel, p);
+        if let Some(t) = task
+            && may_rest(subject.question, t)
+        {
+            return Ok(None);
+        }
+        let seen = self.notes.outlooks.on(kernel, &subject.image.vm(), p)?;
+        if seen == Outlook::Endless {
+            self.note_endless(alloc, attempt, p, task, body)?;
+        }
+        Ok(Some(seen))
+    }
+
+    /// Looks at the stretch of an event that is not yet taken, and notes that its actor goes on for ever, if it does.
+    /// `AllocError` if memory runs out.
+    pub fn note_ahead(
+        &mut self,
+        alloc: Global,
+        subject: &Subject<'_>,
+        kernel: &Kernel<Vm<'_>>,
+        attempt: Attempt<'_>,
+    ) -> Result<Ahead, AllocError>
+        requires { kernel.now.body ≡ subject.now.image.now.code }
+        ensures { OnOk result (Stays self.old self.new) }
+    {
+        let stretch = next_stretch(kernel, &subject.image.vm(), subject.n, attempt.event);
+        let outlook = match (stretch, attempt.event) {
+            (NextStretch::Keeps(_), Event::Run(p)) => {
+                self.note_outlook(alloc, subject, kernel, attempt, p, stretch.body())?
+            }
+            _ => None,
+        };
+        Ok(Ahead {
+            made: stretch.call(),
+            outlook,
+        })
+    }
+
+    /// An event kept the place of an actor, of which this was told before: it holds there too.
+    fn note_place(
+        &mut self,
+        kernel: &Kernel<Vm<'_>>,
+        event: Event,
+        outlook: Option<Outlook>,
+    ) -> Result<(), AllocError>
+        ensures { OnOk result (Stays self.old self.new) }
+    {
+        match (event, outlook) {
+            (Event::Run(p), Some(seen)) => self.notes.outlooks.go_on(kernel, p, seen),
+            _ => Ok(()),
+        }
+    }
+
+    /// An event kept the place of an actor, of which this was told before.
     fn note_kept(
         &mut self,
         alloc: Global,
         subject: &Subject<'_>,
         kernel: &Kernel<Vm<'_>>,
         attempt: Attempt<'_>,
-        body: Option<Site>,
+        outlook: Option<Outlook>,
     ) -> Result<(), AllocError>
         requires survey { IsSurvey subject.now.image.now subject.now.n subject.now.question.now self.old }
         requires at { IsAt subject.now.question.now self.old.seen.links attempt.state attempt.steps.now }
@@ -414,12 +468,12 @@ impl Survey {
         ensures { OnOk result (HasDealt subject.now.image.now subject.now.n subject.now.question.now self.old self.new
             attempt.entry.steps.now attempt.entry.event) }
     {
-        self.note_endless(alloc, subject, kernel, attempt, body)?;
+        self.note_place(kernel, attempt.event, outlook)?;
         let sections = self.rows.sections_at(alloc, attempt.state)?;
         self.keep_next(alloc, subject, kernel, attempt, true, sections)
     }
 
-    /// Notes what an event did, which did this. Its stretch is this one.
+    /// Notes what an event did, which did this, and of whose stretch this was known before.
     pub fn note_effect(
         &mut self,
         alloc: Global,
@@ -427,7 +481,7 @@ impl Survey {
         kernel: &Kernel<Vm<'_>>,
         attempt: Attempt<'_>,
         effect: Effect,
-        stretch: NextStretch,
+        ahead: Ahead,
     ) -> Result<(), AllocError>
         requires survey { IsSurvey subject.now.image.now subject.now.n subject.now.question.now self.old }
         requires at { IsAt subject.now.question.now self.old.seen.links attempt.state attempt.steps.now }
@@ -439,8 +493,8 @@ impl Survey {
     {
         match effect {
             Effect::Nothing => Ok(()),
-            Effect::Done => self.note_done(alloc, subject, kernel, attempt, stretch.call()),
-            Effect::Kept => self.note_kept(alloc, subject, kernel, attempt, stretch.body()),
+            Effect::Done => self.note_done(alloc, subject, kernel, attempt, ahead.made),
+            Effect::Kept => self.note_kept(alloc, subject, kernel, attempt, ahead.outlook),
         }
     }
 }

@@ -1,18 +1,23 @@
-use Rattle.fmp_paths.proofs.StepLemmas.{stepped, stepped_does}
+use Rattle.std.proofs.lemmas.Result.{IfOk-weaker}
+use Rattle.fmp_explore.proofs.NextLemmas.{dealt_after}
+use Rattle.fmp_explore.proofs.SurveyLemmas.{stays_at, stays_survey}
 use Rattle.fmp_explore.proofs.survey.Survey.attempt.Goals as goal
 
-pub note_effect-requires-clause-stepped : goal.note_effect-requires-clause-stepped
-note_effect-requires-clause-stepped c =
+pub attempt_ahead-requires-clause-survey : goal.attempt_ahead-requires-clause-survey
+attempt_ahead-requires-clause-survey c =
     let s = c.args.subject.now in
-    let a = c.args.attempt in
-    stepped s.image.now s.n a.steps.now a.event c.args.kernel.now c.step-effect.new.self c.step-effect.result
-    c.requires.followed c.step-effect.ensures.effect c.step-effect.ensures.state
+    stays_survey s.image.now s.n s.question.now c.args.self.now c.note_ahead.new.self c.in_ok-ahead.ensures
+    c.requires.survey
 
-pub returns-clause-does : goal.returns-clause-does
-returns-clause-does c = λ yes.
+pub attempt_ahead-requires-clause-at : goal.attempt_ahead-requires-clause-at
+attempt_ahead-requires-clause-at c =
+    stays_at c.args.subject.now.question.now c.args.self.now c.note_ahead.new.self c.args.attempt.state
+    c.args.attempt.steps.now c.in_ok-ahead.ensures c.requires.at
+
+pub returns-clause-dealt : goal.returns-clause-dealt
+returns-clause-dealt c =
     let s = c.args.subject.now in
-    let a = c.args.attempt in
-    stepped_does s.image.now s.n a.steps.now a.event c.step-effect.new.self c.step-effect.result
-    (stepped s.image.now s.n a.steps.now a.event c.args.kernel.now c.step-effect.new.self c.step-effect.result
-    c.requires.followed c.step-effect.ensures.effect c.step-effect.ensures.state)
-    (c.has_done.ensures.something yes)
+    IfOk-weaker c.attempt_ahead.result _ _
+    (λ _ dealt. dealt_after s.image.now s.n s.question.now c.args.self.now c.note_ahead.new.self
+    c.attempt_ahead.new.self c.args.attempt.steps.now c.args.attempt.event c.in_ok-ahead.ensures dealt)
+    c.attempt_ahead.ensures.dealt

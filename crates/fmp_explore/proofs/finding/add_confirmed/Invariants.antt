@@ -1,6 +1,6 @@
 use Rattle.std.proofs.Common.{All}
 use Rattle.fmp_findings.specs.Findings.{IsFound}
-use Rattle.fmp_explore.proofs.finding.confirmed.Given as goal
+use Rattle.fmp_explore.proofs.finding.add_confirmed.Given as goal
 
 abbrev pub invariant-loop-candidate : goal.invariant-loop-candidate
 invariant-loop-candidate l = All (IsFound l.fn.image l.fn.n l.fn.question) l.findings.items
