@@ -1,3 +1,7 @@
 pub mod Answers
+pub mod Claims
+pub mod Questions
+pub mod Sites
 pub mod Stuck
 pub mod TextSchedules
+pub mod Words

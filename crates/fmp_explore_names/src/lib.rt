@@ -1,8 +1,11 @@
-//! What a search of all schedules finds, in the words of the two texts: the lines of calls, the names of the fields of
-//! a state, and the words for what must never happen.
+//! What is asked of all schedules and what a search of them finds, in the words of the two texts: the question of
+//! words, the claim, the lines of calls, and the names of the fields of a state.
 #![tactic(auto)]
 
 mod answers;
+mod asking;
+mod claiming;
+mod ending;
 pub mod laws;
 mod naming;
 mod sites;
@@ -10,6 +13,9 @@ mod stuck;
 mod words;
 
 pub use answers::{Answered, answered_calls, append_answers};
+pub use asking::{Asked, Mistake, Wanted, question_by, wanted_by};
+pub use claiming::append_claim;
+pub use ending::{append_ending, status_of};
 pub use naming::{LocalNames, append_name};
 pub use sites::CallLines;
 pub use stuck::append_stuck;

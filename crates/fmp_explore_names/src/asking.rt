@@ -1,0 +1,339 @@
+//! The question that the words of a command ask.
+ghost use Rattle.std.specs.Prelude.{◌≡◌, ◌++◌, IfOk, Ok, OnOk, map};
+ghost use Rattle.std.specs.List.{list_all};
+ghost use Rattle.fmp_base.specs.Systems.{tables_of};
+ghost use Rattle.fmp_instructions.specs.Instructions.{code_tables};
+ghost use Rattle.fmp_explore_names.specs.Questions as spec;
+ghost use Rattle.fmp_explore_names.specs.Questions.{IsAsked, IsQuestionOf, IsWanted};
+ghost use Rattle.fmp_explore_names.specs.Sites.{HasSites};
+
+use crate::sites::CallLines;
+use crate::words::{CodeAt, never_at_named, never_named, section_named};
+use fmp_base::{Er, Fault, System, TaskConfig};
+use fmp_code::Code;
+use fmp_explore::{Never, NeverAt, Question, Section, Site, Ticks};
+use fmp_image_bytes::Image;
+use std::alloc::{AllocError, Global};
+
+/// The words of a command that explores.
+#[derive(Clone, Copy)]
+pub struct Asked<'a> {
+    /// What must never happen, each as `never_named` or `never_at_named` reads it.
+    pub nevers: &'a [&'a str],
+    /// The sections, each as `section_named` reads it: at most 4.
+    pub alone: &'a [&'a str],
+    /// The names of the tasks that may wait forever.
+    pub rest: &'a [&'a str],
+    /// When the clock may advance.
+    pub ticks: Ticks,
+    /// How many interrupts there may be; any number, if none is given.
+    pub interrupts: Option<u8>,
+    /// Whether the search goes on after the first finding.
+    pub all: bool,
+    /// How many states may be kept.
+    pub states: u32,
+}
+
+/// Which words of a command are mistaken.
+#[derive(Clone, Copy, Debug, PartialEq, Eq)]
+pub enum Mistake {
+    /// A word says nothing of what must never happen.
+    Never,
+    /// A word names no section, or there are more than 4.
+    Alone,
+    /// A word is the name of no task.
+    Rest,
+    /// No call stands in the line that a word names.
+    Call,
+}
+
+/// What the words of a command say before its files are read.
+#[derive(Drop)]
+pub struct Wanted {
+    /// What must never happen anywhere, but for faults, which never may.
+    pub nevers: Vec<Never>,
+    /// The codes that must never be answered to the calls of a line.
+    pub nevers_at: Vec<CodeAt>,
+    /// The sections in which one task at a time may be.
+    pub sections: Vec<Section>,
+}
+
+/// How many sections are watched at most.
+const SECTIONS_MAX: usize = 4;
+
+/// The faults of bodies, which must never happen.
+const FAULTS: [Never; 3] = [
+    Never::Fault(Fault::Overflow),
+    Never::Fault(Fault::Division),
+    Never::Fault(Fault::Index),
+];
+
+/// Whether a word says what must never happen.
+fn is_never(word: &str) -> bool
+    ensures { result ≡ spec.is_never word.now }
+{
+    never_named(word).is_some() || never_at_named(word).is_some()
+}
+
+/// Whether each word says what must never happen.
+fn are_nevers(words: &[&str]) -> bool
+    ensures { result ≡ spec.are_nevers words.now }
+{
+    for word in words {
+        if !is_never(word) {
+            return false;
+        }
+    }
+    true
+}
+
+/// What the words say must never happen anywhere.
+fn nevers_in(alloc: Global, words: &[&str]) -> Result<Vec<Never>, AllocError>
+    ensures { IfOk result (λ nevers. nevers.items ≡ spec.nevers_in words.now) }
+{
+    let mut nevers = Vec::new(alloc);
+    for word in words {
+        if let Some(never) = never_named(word) {
+            nevers.push(never)?;
+        }
+    }
+    Ok(nevers)
+}
+
+/// The codes that the words say must never be answered to the calls of a line.
+fn codes_in(alloc: Global, words: &[&str]) -> Result<Vec<CodeAt>, AllocError>
+    ensures { IfOk result (λ codes. codes.items ≡ spec.codes_in words.now) }
+{
+    let mut codes = Vec::new(alloc);
+    for word in words {
+        if let Some(code) = never_at_named(word) {
+            codes.push(code)?;
+        }
+    }
+    Ok(codes)
+}
+
+/// Whether each word names a section.
+fn are_all_sections(words: &[&str]) -> bool
+    ensures { result ≡ list_all (λ word. spec.is_section word.now) words.now }
+{
+    for word in words {
+        if section_named(word).is_none() {
+            return false;
+        }
+    }
+    true
+}
+
+/// The sections that the words name.
+fn sections_in(alloc: Global, words: &[&str]) -> Result<Vec<Section>, AllocError>
+    ensures { IfOk result (λ sections. sections.items ≡ spec.sections_in words.now) }
+{
+    let mut sections = Vec::new(alloc);
+    for word in words {
+        if let Some(section) = section_named(word) {
+            sections.push(section)?;
+        }
+    }
+    Ok(sections)
+}
+
+/// What the words of a command say before its files are read, or which of them are mistaken: those of the sections are
+/// read first. `AllocError` if memory runs out.
+pub fn wanted_by(alloc: Global, asked: &Asked<'_>) -> Result<Result<Wanted, Mistake>, AllocError>
+    ensures { IfOk result (λ wanted. IsWanted asked.now wanted) }
+{
+    if !are_all_sections(asked.alone) || asked.alone.len() > SECTIONS_MAX {
+        return Ok(Err(Mistake::Alone));
+    }
+    if !are_nevers(asked.nevers) {
+        return Ok(Err(Mistake::Never));
+    }
+    Ok(Ok(Wanted {
+        nevers: nevers_in(alloc, asked.nevers)?,
+        nevers_at: codes_in(alloc, asked.nevers)?,
+        sections: sections_in(alloc, asked.alone)?,
+    }))
+}
+
+/// Whether a word is the name of a task.
+fn is_task(tasks: &[TaskConfig], word: &str) -> bool
+    ensures { result ≡ spec.is_task tasks.now word.now }
+{
+    for task in tasks {
+        if task.name.as_bytes() == word.as_bytes() {
+            return true;
+        }
+    }
+    false
+}
+
+/// Whether each word is the name of a task.
+fn are_tasks(tasks: &[TaskConfig], words: &[&str]) -> bool
+    ensures { result ≡ spec.are_tasks tasks.now words.now }
+{
+    for word in words {
+        if !is_task(tasks, word) {
+            return false;
+        }
+    }
+    true
+}
+
+/// Whether a word is the name of a task.
+fn is_named(words: &[&str], task: &TaskConfig) -> bool
+    ensures { result ≡ spec.is_named words.now task.now }
+{
+    for word in words {
+        if task.name.as_bytes() == word.as_bytes() {
+            return true;
+        }
+    }
+    false
+}
+
+/// For each task, whether the words name it.
+fn marks(alloc: Global, tasks: &[TaskConfig], words: &[&str]) -> Result<Vec<bool>, AllocError>
+    ensures { IfOk result (λ rest. rest.items ≡ spec.marks tasks.now words.now) }
+{
+    let mut rest = Vec::new(alloc);
+    for task in tasks {
+        rest.push(is_named(words, task))?;
+    }
+    Ok(rest)
+}
+
+/// Whether a call stands in the line of each code.
+fn are_called(
+    alloc: Global,
+    code: &Code,
+    lines: &CallLines,
+    codes: &[CodeAt],
+) -> Result<bool, AllocError>
+    requires { HasSites (code_tables code.now) }
+    ensures { IfOk result (λ called. called ≡ spec.are_called (code_tables code.now) lines.now codes.now) }
+{
+    for at in codes {
+        if lines.calls(alloc, code, at.line)?.is_empty() {
+            return Ok(false);
+        }
+    }
+    Ok(true)
+}
+
+/// Adds that a code must never be answered at these calls.
+fn add_nevers_at(code: Er, sites: &[Site], nevers: &mut Vec<NeverAt>) -> Result<(), AllocError>
+    ensures { OnOk result (nevers.new.items ≡ nevers.old.items ++ map (λ s. spec.never_at code s) sites.now) }
+{
+    for site in sites {
+        nevers.push(NeverAt { code, site: *site })?;
+    }
+    Ok(())
+}
+
+/// Adds that a code must never be answered at the calls of its line.
+fn add_code(
+    alloc: Global,
+    code: &Code,
+    lines: &CallLines,
+    at: CodeAt,
+    nevers: &mut Vec<NeverAt>,
+) -> Result<(), AllocError>
+    requires { HasSites (code_tables code.now) }
+    ensures { OnOk result (nevers.new.items
+        ≡ nevers.old.items ++ spec.nevers_at_of (code_tables code.now) lines.now at) }
+{
+    let sites = lines.calls(alloc, code, at.line)?;
+    add_nevers_at(at.code, &sites, nevers)
+}
+
+/// Each of these codes, at each call of its line.
+fn nevers_at_in(
+    alloc: Global,
+    code: &Code,
+    lines: &CallLines,
+    codes: &[CodeAt],
+) -> Result<Vec<NeverAt>, AllocError>
+    requires { HasSites (code_tables code.now) }
+    ensures { IfOk result (λ nevers. nevers.items
+        ≡ spec.nevers_at_in (code_tables code.now) lines.now codes.now) }
+{
+    let mut nevers = Vec::new(alloc);
+    for at in codes {
+        add_code(alloc, code, lines, *at, &mut nevers)?;
+    }
+    Ok(nevers)
+}
+
+/// What must never happen: faults, and these.
+fn with_faults(alloc: Global, nevers: &[Never]) -> Result<Vec<Never>, AllocError>
+    ensures { IfOk result (λ all. all.items ≡ spec.faults ++ nevers.now) }
+{
+    let mut all = Vec::from_slice(alloc, &FAULTS)?;
+    all.extend_from_slice(nevers)?;
+    Ok(all)
+}
+
+/// The question of words that are not mistaken.
+fn question_of(
+    alloc: Global,
+    asked: &Asked<'_>,
+    wanted: &Wanted,
+    sys: &System,
+    code: &Code,
+    lines: &CallLines,
+) -> Result<Question, AllocError>
+    requires wanted { IsWanted asked.now (Ok wanted.now) }
+    requires sites { HasSites (code_tables code.now) }
+    ensures { IfOk result (λ q. IsQuestionOf asked.now (tables_of sys.now) (code_tables code.now) lines.now q) }
+{
+    Ok(Question {
+        nevers: with_faults(alloc, &wanted.nevers)?,
+        nevers_at: nevers_at_in(alloc, code, lines, &wanted.nevers_at)?,
+        sections: Vec::from_slice(alloc, &wanted.sections)?,
+        rest: marks(alloc, &sys.tasks, asked.rest)?,
+        ticks: asked.ticks,
+        interrupts: asked.interrupts,
+        all: asked.all,
+        states: asked.states,
+        after: Vec::new(alloc),
+    })
+}
+
+/// The question of the words of a command, or which of them are mistaken.
+fn asked_of(
+    alloc: Global,
+    asked: &Asked<'_>,
+    wanted: &Wanted,
+    sys: &System,
+    code: &Code,
+    lines: &CallLines,
+) -> Result<Result<Question, Mistake>, AllocError>
+    requires wanted { IsWanted asked.now (Ok wanted.now) }
+    requires sites { HasSites (code_tables code.now) }
+    ensures { IfOk result (λ q. IsAsked asked.now (tables_of sys.now) (code_tables code.now) lines.now q) }
+{
+    if !are_tasks(&sys.tasks, asked.rest) {
+        return Ok(Err(Mistake::Rest));
+    }
+    if !are_called(alloc, code, lines, &wanted.nevers_at)? {
+        return Ok(Err(Mistake::Call));
+    }
+    Ok(Ok(question_of(alloc, asked, wanted, sys, code, lines)?))
+}
+
+/// The question of the words of a command, which say this, on an image whose bodies' calls stand in these lines; or
+/// which words are mistaken: those that name tasks are read first. `AllocError` if memory runs out.
+pub fn question_by(
+    alloc: Global,
+    asked: &Asked<'_>,
+    wanted: &Wanted,
+    image: &Image,
+    lines: &CallLines,
+) -> Result<Result<Question, Mistake>, AllocError>
+    requires { IsWanted asked.now (Ok wanted.now) }
+    ensures { IfOk result (λ q. IsAsked asked.now image.now.system image.now.code lines.now q) }
+{
+    image.keeps_rules();
+    asked_of(alloc, asked, wanted, image.system(), image.code(), lines)
+}
