@@ -1,2 +1,4 @@
 pub mod Fresh
+pub mod GivenWords
+pub mod Printing
 pub mod StuckLemmas

@@ -1,7 +1,10 @@
+pub mod Claimed
 pub mod Drives
 pub mod Exits
 pub mod Expects
+pub mod Explored
 pub mod Faults
 pub mod Fresh
+pub mod Given
 pub mod Stepped
 pub mod Traces

@@ -5,11 +5,11 @@ ghost use Rattle.fmp_instructions.specs.Machine.{code_meaning};
 ghost use Rattle.fmp_replay.specs.Replays.{kernel_after};
 ghost use Rattle.fmp_view.specs.Traces.{IsTrace};
 
-use crate::asking::{kept_bound, kept_events};
 use crate::commands::Ending;
 use crate::driving::driven;
 use crate::faults::Form;
 use crate::opening::events_of;
+use crate::ranges::{kept_bound, kept_events};
 use crate::tracing::trace_on;
 use crate::why::why_of;
 use fmp_base::Event;

@@ -4,9 +4,9 @@ ghost use Rattle.fmp_frames.specs.Counting.{counts_of, first_counts};
 ghost use Rattle.fmp_frames.specs.Shown.{WasShown};
 ghost use Rattle.fmp_frames.specs.Values.{values_of};
 
-use crate::asking::{kept_bound, kept_events};
 use crate::driving::driven;
 use crate::opening::{events_of, fresh_kernel, image_of};
+use crate::ranges::{kept_bound, kept_events};
 use crate::why::why_of;
 use fmp_base::{Event, System};
 use fmp_diagnosis::{explain, topic_asked};

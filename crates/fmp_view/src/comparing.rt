@@ -1,9 +1,9 @@
 //! Two runs of an image side by side: the first event in which they differ.
 ghost use Rattle.std.specs.Prelude.{◌≤◌, ◌^◌, IfOk, length};
 
-use crate::asking::kept_bound;
 use crate::commands::made;
 use crate::opening::{events_of, fresh_kernel, image_of};
+use crate::ranges::kept_bound;
 use fmp_base::Event;
 use fmp_engine::SimFault;
 use fmp_image_bytes::Image;

@@ -1,9 +1,21 @@
-//! What falls out of a search: what was never made or run, the greatest counts and lengths, and the answers.
+//! What a search saw: how far it went, what was never made or run, the greatest counts and lengths, and the answers.
 use crate::sources::{Sources, say, say_made, say_place};
 use fmp_base::{Name, System};
 use fmp_explore::{Coverage, Report};
 use fmp_explore_names::{answered_calls, append_answers, append_name};
 use std::alloc::{AllocError, Global};
+
+/// Appends how much a search saw.
+pub fn say_extent(alloc: Global, out: &mut Vec<u8>, report: &Report) -> Result<(), AllocError> {
+    if report.waits {
+        say(out, "a task waits for an interrupt\n")?;
+    }
+    let (states, events, deep) = (report.states, report.events, report.deep);
+    say_made(
+        out,
+        format!(in alloc; "{states} states, {events} events, {deep} deep\n"),
+    )
+}
 
 /// Appends the calls that were never made.
 fn say_unmade(

@@ -4,10 +4,10 @@ ghost use Rattle.fmp_base.specs.Runs.{task_state};
 ghost use Rattle.fmp_frames.specs.Frames.{each};
 ghost use Rattle.fmp_view.specs.Expects as spec;
 
-use crate::asking::kept_bound;
 use crate::exit::Exit;
 use crate::flaws::flaw_text;
 use crate::opening::{events_of, fresh_kernel, image_of};
+use crate::ranges::kept_bound;
 use fmp_base::{Event, Line, System, TaskState};
 use fmp_engine::SimFault;
 use fmp_expect::{Broken, Checker, ExpectFault, Expected, Flaw, read_expectations, tell_run};

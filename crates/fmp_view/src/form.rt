@@ -27,13 +27,13 @@ Status, and the line on standard error with it:
   1        a fault of what was read: 'image: L2', 'steps:4: S1',
            'expect:3: expected ..'; with 'fault', 'run' and
            'step', which print it on standard output, a fault of the texts or steps, and not for warnings
-  2        a mistake in the command line; a word that is no code; OUT is a file that is read;
+  2        a mistake in the command line; a word that is no code; OUT is a file that is read, or steps are;
            a picture that begins behind the last event, or has more than 40,000,000 bytes
   3        'file: NAME', a file could not be read or written ('-' is standard output, 'stdin' standard input);
            'memory'
   4        with 'diff', the runs differ; with 'expect', the run fails an expectation; with 'explore', something
            was found
-  5        'explore' stopped before it had seen all states";
+  5        'explore' found nothing and claims nothing, or had no memory to look for stuck tasks";
 
 /// What a steps text is.
 const STEPS: &str = "Text of the events, one a line, as 'fmp sim' reads it";
@@ -93,8 +93,8 @@ A task is there from its 'put(A)' to its 'put(B)' or its end. It may be given ag
 
 /// Which task may wait forever.
 const REST: &str =
-    "Name of a task that may wait forever, as servers do: it makes no deadlock, and may be stuck; it may
-be given again";
+    "Name of a task that may wait forever, as servers do: it makes no deadlock, may be stuck, and may go
+on for ever without a call; it may be given again";
 
 /// When the clock may advance.
 const TICKS: &str =

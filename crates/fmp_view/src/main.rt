@@ -8,19 +8,21 @@
 
 mod asking;
 mod built;
-mod claiming;
 mod commands;
 mod comparing;
 mod covering;
 mod driving;
 mod exit;
 mod expecting;
+mod exploration;
 mod exploring;
 mod faults;
 mod finding;
 mod flaws;
 mod form;
+mod given;
 mod opening;
+mod ranges;
 mod reading;
 mod recording;
 mod running;

@@ -1,4 +1,7 @@
 //! The bytes of files.
+ghost use Rattle.std.specs.Prelude.{IfOk};
+ghost use Rattle.fmp_view.specs.Claimed.{IsFile};
+
 use fmp_files::{Failure, Outside, read_file};
 use std::alloc::Global;
 
@@ -8,7 +11,10 @@ pub fn read_both<O: Outside>(
     outside: &O,
     one: &str,
     other: &str,
-) -> Result<(Vec<u8>, Vec<u8>), Failure> {
+) -> Result<(Vec<u8>, Vec<u8>), Failure>
+    ensures one { IfOk result (λ both. IsFile (O.files outside.now) one.now both.0.items) }
+    ensures other { IfOk result (λ both. IsFile (O.files outside.now) other.now both.1.items) }
+{
     let first = read_file(alloc, outside, one, None)?;
     Ok((first, read_file(alloc, outside, other, None)?))
 }

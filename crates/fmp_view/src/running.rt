@@ -1,6 +1,6 @@
 //! A run of the program, from the words of its command line to its status.
 use crate::asking::{
-    Cmd, Drawing, Look, Run, command, dump_over_input, no_code, picture_of_nothing,
+    Cmd, Drawing, Look, Run, command, dump_over_input, no_code, parsed, picture_of_nothing,
     picture_over_input,
 };
 use crate::commands::{DrivenText, Output, code, run_output, steps};
@@ -13,6 +13,7 @@ use crate::telling::{print_made, print_run};
 use crate::texts::{print_fault, run_step, run_texts};
 use crate::timeline::{Cut, Picture, TimelineFault, timeline};
 use crate::why::why;
+use clap::ArgMatches;
 use fmp_engine::SimFault;
 use fmp_files::{Failure, Outside, end, print, read_file, refuse, refuse_mistake, write_file};
 use std::alloc::{AllocError, Global};
@@ -299,19 +300,25 @@ fn look<O: Outside, R: Input>(alloc: Global, outside: &mut O, rt: &R, look: Look
     }
 }
 
-/// Carries out a command, and gives the status.
-fn carry_out<O: Outside, R: Input>(alloc: Global, outside: &mut O, rt: &R, cmd: Cmd<'_>) -> u8 {
-    match cmd {
-        Cmd::Explore(asked) => run_explore(alloc, outside, asked),
-        Cmd::Look(asked) => look(alloc, outside, rt, asked),
+/// Does what the words of a command line ask for, and gives the status.
+fn carry_out<O: Outside, R: Input>(
+    alloc: Global,
+    outside: &mut O,
+    rt: &R,
+    words: &ArgMatches<'_>,
+) -> u8 {
+    match command(words) {
+        Some(Cmd::Explore(exploring)) => run_explore(alloc, outside, &exploring),
+        Some(Cmd::Look(asked)) => look(alloc, outside, rt, asked),
+        None => refuse_mistake(outside, no_code(alloc)),
     }
 }
 
 /// Does what the words of a command line ask for, of which the first is the program's name, and gives the status.
 /// Its standard input is that of this runtime.
 pub fn run<O: Outside, R: Input>(alloc: Global, outside: &mut O, rt: &R, words: &[String]) -> u8 {
-    match command(alloc, words) {
-        Ok(cmd) => carry_out(alloc, outside, rt, cmd),
+    match parsed(alloc, words) {
+        Ok(words) => carry_out(alloc, outside, rt, &words),
         Err(error) => refuse(alloc, outside, &error),
     }
 }

@@ -1,15 +1,22 @@
 //! The command `explore`: it explores the schedules of two texts, and writes the steps of what it finds.
-use crate::asking::{Exploring, no_such_call, no_such_task};
-use crate::exploring::{Explored, add_nevers_at, explored_image};
+ghost use Rattle.std.specs.Prelude.{◌≡◌, [], IfOk, Ok};
+ghost use Rattle.fmp_files.specs.Prints.{Prints};
+ghost use Rattle.fmp_explore_names.specs.Questions.{IsWanted};
+ghost use Rattle.fmp_view.specs.Claimed.{HasClaimed, HasShown};
+ghost use Rattle.fmp_view.specs.Claimed.{PrintsNothing, PrintsOnly};
+
+use crate::exploration::{no_question, steps_over_input};
+use crate::exploring::{Explored, explored_image};
 use crate::faults::{FileNames, Form};
 use crate::reading::read_both;
-use crate::sources::Named;
+use crate::sources::{Exploring, Named, Sources};
 use crate::texts::print_fault;
-use fmp_base::System;
-use fmp_explore::Watcher;
+use fmp_explore::{Question, Watcher};
+use fmp_explore_names::{CallLines, LocalNames, Wanted, question_by, wanted_by};
 use fmp_files::{Failure, Outside, end, print, refuse_mistake, write_file};
 use fmp_image::build;
 use fmp_image_bytes::Image;
+use fmp_lex::BuildFault;
 use std::alloc::{AllocError, Global};
 
 /// What an exploration tells on standard error while it goes on.
@@ -26,99 +33,167 @@ impl<O: Outside> Watcher for Telling<'_, O> {
     }
 }
 
-/// Marks the tasks of these names, which may wait forever. False if a name is that of no task.
-fn mark_rest(sys: &System, names: &[&str], rest: &mut Vec<bool>) -> Result<bool, AllocError> {
-    let mut found: usize = 0;
-    for config in &sys.tasks {
-        let is_named = names
-            .iter()
-            .any(|name| name.as_bytes() == config.name.as_bytes());
-        rest.push(is_named)?;
-        if is_named {
-            found = found.saturating_add(1);
-        }
-    }
-    Ok(found == names.len())
-}
-
 /// The name of the files of steps: the one that was asked for, or that of the configuration.
-fn out_name(alloc: Global, asked: &Exploring<'_>) -> Result<String, AllocError> {
-    match asked.out {
+fn out_name(alloc: Global, exploring: &Exploring<'_>) -> Result<String, AllocError> {
+    match exploring.out {
         Some(name) => String::from_str(alloc, name),
         None => {
-            let stem = asked.cfg.strip_suffix(".cfg").unwrap_or(asked.cfg);
+            let stem = exploring.cfg.strip_suffix(".cfg").unwrap_or(exploring.cfg);
             format!(in alloc; "{stem}.found")
         }
     }
 }
 
-/// Writes the steps texts to their files, up to the first that cannot be written.
+/// The names of this many files of steps.
+fn steps_names(alloc: Global, out: &str, count: usize) -> Result<Vec<String>, AllocError> {
+    let mut names = Vec::new(alloc);
+    for i in 0..count {
+        let number = i.saturating_add(1);
+        names.push(format!(in alloc; "{out}.{number}")?)?;
+    }
+    Ok(names)
+}
+
+/// Whether one of these files is one of the two that are read.
+fn is_over_input<O: Outside>(outside: &O, names: &[String], exploring: &Exploring<'_>) -> bool {
+    for name in names {
+        let name = name.as_str();
+        if outside.is_one_file(name, exploring.cfg) || outside.is_one_file(name, exploring.src) {
+            return true;
+        }
+    }
+    false
+}
+
+/// Writes steps texts to the files of these names, up to the first that cannot be written.
 fn write_steps<O: Outside>(
     alloc: Global,
     outside: &mut O,
-    name: &str,
+    names: &[String],
     texts: &[Vec<u8>],
-) -> Result<(), Failure> {
-    for (i, text) in texts.iter().enumerate() {
-        let number = i.saturating_add(1);
-        let file = format!(in alloc; "{name}.{number}").map_err(|error| Failure::Memory(error))?;
-        write_file(alloc, outside, file.as_str(), text)?;
+) -> Result<(), Failure>
+    ensures { PrintsNothing (O.done outside.old) (O.done outside.new) }
+{
+    for (name, text) in names.iter().zip(texts) {
+        write_file(alloc, outside, name.as_str(), text)?;
     }
     Ok(())
 }
 
-/// Prints what an exploration came to, and writes its steps texts. The status is that of the exploration, or of what
-/// went wrong.
-fn give<O: Outside>(alloc: Global, outside: &mut O, name: &str, explored: &Explored) -> u8 {
-    match write_steps(alloc, outside, name, &explored.steps) {
-        Ok(()) => print(alloc, outside, &explored.text).max(explored.status),
+/// Writes the steps texts of an exploration to the files of these names, and gives its status, or that of what went
+/// wrong. None is written if one of the files is read.
+fn give_steps<O: Outside>(
+    alloc: Global,
+    outside: &mut O,
+    names: &[String],
+    exploring: &Exploring<'_>,
+    explored: &Explored,
+) -> u8
+    ensures status { result ≡ 0 → explored.now.status ≡ 0 }
+    ensures quiet { PrintsNothing (O.done outside.old) (O.done outside.new) }
+{
+    if is_over_input(outside, names, exploring) {
+        return refuse_mistake(outside, steps_over_input(alloc));
+    }
+    match write_steps(alloc, outside, names, &explored.steps) {
+        Ok(()) => explored.status,
         Err(failure) => end(outside, &failure),
     }
 }
 
-/// Explores the image of two texts.
+/// Prints what an exploration came to, and then writes its steps texts. The status is that of the exploration, or of
+/// what went wrong first.
+fn give<O: Outside>(
+    alloc: Global,
+    outside: &mut O,
+    out: &str,
+    exploring: &Exploring<'_>,
+    explored: &Explored,
+) -> u8
+    ensures status { result ≡ 0 → explored.now.status ≡ 0 }
+    ensures text { PrintsOnly explored.now.text.items (O.done outside.old) (O.done outside.new) }
+    ensures printed { result ≡ 0 → explored.now.steps.items ≡ [] →
+        Prints (O.done outside.old) explored.now.text.items (O.done outside.new) }
+{
+    match print(alloc, outside, &explored.text) {
+        0 => {}
+        status => return status,
+    }
+    if explored.steps.is_empty() {
+        return explored.status;
+    }
+    match steps_names(alloc, out, explored.steps.len()) {
+        Ok(names) => give_steps(alloc, outside, &names, exploring, explored),
+        Err(error) => end(outside, &Failure::Memory(error)),
+    }
+}
+
+/// Explores an image, of which this is asked, and whose bodies have this text.
+fn explore_question<O: Outside>(
+    alloc: Global,
+    outside: &mut O,
+    image: &Image,
+    src: &[u8],
+    lines: &CallLines,
+    question: &Question,
+    exploring: &Exploring<'_>,
+) -> Result<u8, AllocError>
+    ensures shown { IfOk result (λ _.
+        HasShown image.now lines.now question.now exploring.now.bound (O.done outside.new)) }
+    ensures claimed { IfOk result (λ status. status ≡ 0 →
+        HasClaimed image.now lines.now question.now exploring.now.bound (O.done outside.new)) }
+{
+    let names = LocalNames::new(alloc, src)?;
+    let out = out_name(alloc, exploring)?;
+    let named = Named {
+        src: exploring.src,
+        out: out.as_str(),
+        answers: exploring.answers,
+    };
+    let sources = Sources {
+        image,
+        bound: exploring.bound,
+        lines,
+        names: &names,
+        sections: &question.sections,
+        named,
+    };
+    let explored = explored_image(alloc, &sources, question, &mut Telling { outside })?;
+    Ok(give(alloc, outside, out.as_str(), exploring, &explored))
+}
+
+/// Explores an image whose bodies have this text, with what is wanted of it.
 fn explore_image<O: Outside>(
     alloc: Global,
     outside: &mut O,
     image: &Image,
     src: &[u8],
-    asked: &mut Exploring<'_>,
-) -> Result<u8, AllocError> {
-    if !mark_rest(image.system(), &asked.rest, &mut asked.question.rest)? {
-        return Ok(refuse_mistake(outside, no_such_task(alloc)));
+    exploring: &Exploring<'_>,
+    wanted: &Wanted,
+) -> Result<u8, AllocError>
+    requires { IsWanted exploring.now.asked (Ok wanted.now) }
+{
+    let lines = CallLines::new(alloc, src)?;
+    match question_by(alloc, &exploring.asked, wanted, image, &lines)? {
+        Ok(question) => {
+            explore_question(alloc, outside, image, src, &lines, &question, exploring)
+        }
+        Err(mistake) => Ok(refuse_mistake(outside, no_question(alloc, mistake))),
     }
-    let nevers = &mut asked.question.nevers_at;
-    if !add_nevers_at(alloc, image, src, &asked.nevers_at, nevers)? {
-        return Ok(refuse_mistake(outside, no_such_call(alloc)));
-    }
-    let name = out_name(alloc, asked)?;
-    let named = Named {
-        src: asked.src,
-        out: name.as_str(),
-        nevers: &asked.nevers,
-        answers: asked.answers,
-    };
-    let explored = explored_image(
-        alloc,
-        image,
-        src,
-        named,
-        &asked.question,
-        asked.bound,
-        &mut Telling { outside },
-    )?;
-    Ok(give(alloc, outside, name.as_str(), &explored))
 }
 
-/// Explores the image of two texts, and gives the status.
+/// The same, and the status where memory runs out.
 fn explore_status<O: Outside>(
     alloc: Global,
     outside: &mut O,
     image: &Image,
     src: &[u8],
-    asked: &mut Exploring<'_>,
-) -> u8 {
-    match explore_image(alloc, outside, image, src, asked) {
+    exploring: &Exploring<'_>,
+    wanted: &Wanted,
+) -> u8
+    requires { IsWanted exploring.now.asked (Ok wanted.now) }
+{
+    match explore_image(alloc, outside, image, src, exploring, wanted) {
         Ok(status) => status,
         Err(error) => end(outside, &Failure::Memory(error)),
     }
@@ -130,27 +205,47 @@ fn explore_texts<O: Outside>(
     outside: &mut O,
     cfg: &[u8],
     src: &[u8],
-    asked: &mut Exploring<'_>,
-) -> u8 {
+    exploring: &Exploring<'_>,
+    wanted: &Wanted,
+) -> u8
+    requires { IsWanted exploring.now.asked (Ok wanted.now) }
+{
     let names = FileNames {
-        cfg: asked.cfg,
-        src: asked.src,
+        cfg: exploring.cfg,
+        src: exploring.src,
         steps: "",
     };
     match build(alloc, cfg, src) {
         Ok(image) => {
-            let status = explore_status(alloc, outside, &image, src, asked);
+            let status = explore_status(alloc, outside, &image, src, exploring, wanted);
             drop(image);
             status
         }
-        Err(_) => print_fault(alloc, outside, names, Form::Text),
+        Err(BuildFault::Memory) => end(outside, &Failure::Memory(AllocError)),
+        Err(BuildFault::At(..)) => print_fault(alloc, outside, names, Form::Text).max(1),
+    }
+}
+
+/// Explores the schedules of the texts of two files, with what is wanted of them.
+fn explore_files<O: Outside>(
+    alloc: Global,
+    outside: &mut O,
+    exploring: &Exploring<'_>,
+    wanted: &Wanted,
+) -> u8
+    requires { IsWanted exploring.now.asked (Ok wanted.now) }
+{
+    match read_both(alloc, outside, exploring.cfg, exploring.src) {
+        Ok((cfg, src)) => explore_texts(alloc, outside, &cfg, &src, exploring, wanted),
+        Err(failure) => end(outside, &failure),
     }
 }
 
 /// Explores the schedules of the texts of two files, or prints their first fault, with status 1.
-pub fn run_explore<O: Outside>(alloc: Global, outside: &mut O, mut asked: Exploring<'_>) -> u8 {
-    match read_both(alloc, outside, asked.cfg, asked.src) {
-        Ok((cfg, src)) => explore_texts(alloc, outside, &cfg, &src, &mut asked),
-        Err(failure) => end(outside, &failure),
+pub fn run_explore<O: Outside>(alloc: Global, outside: &mut O, exploring: &Exploring<'_>) -> u8 {
+    match wanted_by(alloc, &exploring.asked) {
+        Ok(Ok(wanted)) => explore_files(alloc, outside, exploring, &wanted),
+        Ok(Err(mistake)) => refuse_mistake(outside, no_question(alloc, mistake)),
+        Err(error) => end(outside, &Failure::Memory(error)),
     }
 }

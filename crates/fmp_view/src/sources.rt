@@ -2,9 +2,25 @@
 ghost use Rattle.std.specs.Prelude.{◌≤◌, ◌^◌};
 
 use fmp_explore::Section;
-use fmp_explore_names::{CallLines, LocalNames};
+use fmp_explore_names::{Asked, CallLines, LocalNames};
 use fmp_image_bytes::Image;
 use std::alloc::{AllocError, Global};
+
+/// What is explored, and what is asked of it.
+#[derive(Clone, Copy)]
+pub struct Exploring<'a> {
+    pub cfg: &'a str,
+    pub src: &'a str,
+    /// What is asked of all schedules, in the words of the command line.
+    pub asked: Asked<'a>,
+    pub bound: u64,
+    /// Whether the answers of each call are printed.
+    pub answers: bool,
+    /// The name of the files of steps, without the dot and the number.
+    pub out: Option<&'a str>,
+    ghost low: { 1 ≤ bound },
+    ghost high: { bound ≤ 2 ^ 48 },
+}
 
 /// The names of the files that an exploration speaks of, and what it prints beside its findings.
 #[derive(Clone, Copy)]
@@ -13,8 +29,6 @@ pub struct Named<'a> {
     pub src: &'a str,
     /// The files of steps are this name, a dot and a number from 1 on.
     pub out: &'a str,
-    /// What must never happen, in the words that ask for it.
-    pub nevers: &'a [&'a str],
     /// Whether the answers of each call are printed.
     pub answers: bool,
 }

@@ -3,8 +3,8 @@ ghost use Rattle.std.specs.Prelude.{◌≡◌, IfOk};
 ghost use Rattle.fmp_session.specs.Sessions.{IsSession, lines_now};
 ghost use Rattle.fmp_view.specs.Stepped.{states_now};
 
-use crate::asking::kept_bound;
 use crate::faults::FileNames;
+use crate::ranges::kept_bound;
 use crate::why::why_of;
 use fmp_base::{Event, Name};
 use fmp_diagnosis::nearest;

@@ -3,9 +3,10 @@ ghost use Rattle.std.specs.Prelude.{◌≡◌, ◌+◌, ◌≤◌, ◌^◌, IfOk
 ghost use Rattle.fmp_timeline.specs.Shown.{tasks_shown};
 ghost use Rattle.fmp_frames.specs.Shown.{WasShown};
 
-use crate::asking::{Drawing, kept_bound};
+use crate::asking::Drawing;
 use crate::commands::made;
 use crate::opening::{events_of, fresh_kernel, image_of};
+use crate::ranges::kept_bound;
 use crate::recording::Recorder;
 use fmp_base::{Event, System};
 use fmp_drawing::{DrawFault, MOST_BYTES, draw};

@@ -1,8 +1,8 @@
 //! Why nothing goes on after an event of a run of an image over a steps text.
 ghost use Rattle.std.specs.Prelude.{◌≤◌, ◌^◌, IfOk, length};
 
-use crate::asking::kept_bound;
 use crate::opening::{events_of, fresh_kernel, image_of};
+use crate::ranges::kept_bound;
 use crate::timeline::TimelineFault;
 use fmp_base::Event;
 use fmp_engine::SimFault;
