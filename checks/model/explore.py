@@ -4,12 +4,13 @@
     checks/model/explore.py [COUNT [SEED]] [--view PATH] [--program PATH]
 
 Both find something or nothing. Where they find something, their shortest lists of events are as long, each event of the
-program's list does something in the model, and after the last one the model shows what was found. Up to there, or where
-they find nothing in all, they have seen as many states and as many events that did something, as deep. Of three systems
-one has sections: tasks put the values by which they enter and leave them. In one some tasks may wait forever, so that
-fewer deadlocks are found first and more tasks that can never go on; of these some ask for few interrupts or for ticks
-where nobody can do anything. Every other system runs at a small bound. COUNT is the number of systems that were
-compared: systems with more than MOST states are left out.
+program's list does something in the model, and after the last one the model shows what was found. Bodies that go on for
+ever end no search: both find as many. Up to what was found, or where they find nothing in all, they have seen as many
+states and as many events that did something, as deep. Of three systems one has sections: tasks put the values by which
+they enter and leave them. In one some tasks may wait forever, so that fewer deadlocks are found first and more tasks
+that can never go on; of these some ask for few interrupts or for ticks where nobody can do anything. Every other system
+runs at a small bound. COUNT is the number of systems that were compared: systems with more than MOST states are left
+out.
 """
 
 import random
@@ -36,6 +37,7 @@ NEVERS = ("E_QOVR", "E_ILUSE")
 FAULTS = ("F_OVF", "F_DIV", "F_IDX")
 SECTIONS = ((101, 102), (103, 104), (101, 104))  # the values by which tasks enter and leave
 KINDS = ("plain", "sections", "rest")
+ENDLESS = "a body that goes on for ever"
 NEVER_GOES_ON = r"T(\d+) .*, and can never go on though others run"
 
 
@@ -111,15 +113,14 @@ def shows_stuck(second, kernel, came, number):
     expect(key in second.never_going_on(number), f"T{number} can go on in the model")
 
 
-def shows(trial, case, bound, second, what):
-    """Each event of the steps text that was found does something in the model, and after them this is seen: its
-    kind."""
-    steps = trial.read("system.found.1").splitlines()
+def shows(trial, case, bound, second, what, file):
+    """Each event of the steps text in this file does something in the model, and after them this is seen: its kind."""
+    steps = trial.read(file).splitlines()
     kernel, came = replayed(case, bound, steps), sum(step.startswith("int") for step in steps)
     last = [line for line in kernel.world.lines if line.startswith(f"{kernel.world.event} ")]
     if endless := re.search(r"processor (\d) goes on for ever", what):
         expect(goes_on_for_ever(kernel, f"run {endless[1]}"), f"no actor goes on for ever, as in '{what}'")
-        return "a body that goes on for ever"
+        return ENDLESS
     if stuck := re.search(NEVER_GOES_ON, what):
         shows_stuck(second, kernel, came, int(stuck[1]))
         return "a task that can never go on"
@@ -143,16 +144,20 @@ def compare(trial, case, bound, question):
     result = second.run()
     if not result.found and not result.is_whole:
         return None
-    expect(status == (4 if result.found else 0), f"it ends with status {status}; the second search: {result.found}")
+    is_found = result.found or result.endless
+    expect(status == (4 if is_found else 0), f"it ends with status {status}; the second search: {result}")
     numbers = result.states, result.events, result.deep
     is_stopped = re.search("^stopped", text, re.MULTILINE)
     expect(is_stopped or numbers_of(text) == numbers, f"it printed {text!r}, and the second search has {numbers}")
-    if not result.found:
-        return "nothing"
-    what, steps = re.search(r"^(.*): after (\d+) steps?, in ", text).groups()
-    length = len(result.found[0][1])
-    expect(int(steps) == length, f"'{what}' was found after {steps} steps, and the second search: {result.found}")
-    return shows(trial, case, bound, second, what)
+    findings = re.findall(r"^(.*): after (\d+) steps?, in (\S+)$", text, re.MULTILINE)
+    kinds = [shows(trial, case, bound, second, what, file) for what, _, file in findings]
+    others = [(what, int(steps)) for (what, steps, _), kind in zip(findings, kinds) if kind != ENDLESS]
+    expect(kinds.count(ENDLESS) == len(result.endless), f"it printed {text!r}; the second search: {result.endless}")
+    expect(len(others) == bool(result.found), f"it printed {text!r}; the second search: {result.found}")
+    for what, steps in others:
+        length = len(result.found[0][1])
+        expect(steps == length, f"'{what}' was found after {steps} steps, and the second search: {result.found}")
+    return ", and ".join(sorted(set(kinds))) if kinds else "nothing"
 
 
 def check(trial):

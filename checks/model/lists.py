@@ -41,11 +41,12 @@ def has_nothing(trial, case, bound, never):
 
 
 def show_nothing(start, never, events):
-    """No line of these events shows what was looked for, and no actor goes on for ever."""
+    """No line of these events shows what was looked for, and no handler goes on for ever. Each task may."""
     bodies = start.system.bodies
     kernel = copy.deepcopy(start, {id(bodies): bodies})
     for event in events:
-        expect(not goes_on_for_ever(kernel, event), f"{event} goes on for ever")
+        is_of_handler = event.startswith("run") and kernel.world.processors[int(event.split()[1]) - 1].handler
+        expect(not is_of_handler or not goes_on_for_ever(kernel, event), f"{event} goes on for ever")
         kernel.step(event)
     for line in kernel.world.lines:
         expect(not any(tells(line, word) for word in (never, *FAULTS)), f"'{line}' is told")
@@ -69,8 +70,8 @@ def check(trial):
             clean += 1
         seed += 1
     trial.at = ""
-    print(f"checks/model/lists.py: {clean} of {seed - trial.seed} systems have nothing to be found, and {LISTS} lists of "
-          "events of each show nothing")
+    print(f"checks/model/lists.py: {clean} of {seed - trial.seed} systems have nothing to be found, and {LISTS} lists "
+          "of events of each show nothing")
 
 
 if __name__ == "__main__":

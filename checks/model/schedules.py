@@ -10,7 +10,7 @@ from math import inf
 from model.bodies import stretch
 from model.instructions import Code
 from model.kernel import Kernel
-from model.world import State
+from model.world import Handler, State
 
 OF_TASK = re.compile(r"\d+ p\d T(\d+) (.*)")  # a line of a task: its number, and what it tells
 
@@ -18,12 +18,13 @@ OF_TASK = re.compile(r"\d+ p\d T(\d+) (.*)")  # a line of a task: its number, an
 @dataclass
 class Searched:
     """What a search came to: how many states there are, how many events did something, how deep the deepest state is,
-    what was found, and whether every state was examined."""
+    what was found, which bodies go on for ever, and whether every state was examined."""
 
     states: int = 1
     events: int = 0
     deep: int = 0
     found: list = field(default_factory=list)  # of what, and the events
+    endless: dict = field(default_factory=dict)  # by the body, the events
     waits: bool = False
     is_whole: bool = True
 
@@ -214,8 +215,21 @@ class Search:
             key = before
         return events[::-1]
 
-    def note(self, kernel, key, event):
-        """An event that did something, after which the kernel is this one."""
+    def note_endless(self, kernel, key, event):
+        """An event of a state whose actor goes on for ever, if it does and is no task that may wait forever: the number
+        of its task, if it is one."""
+        if not goes_on_for_ever(kernel, event):
+            return set()
+        actor = kernel.world.processors[int(event.split()[1]) - 1].actor
+        number = None if isinstance(actor, Handler) else actor.number
+        if number in self.question.rest:
+            return set()
+        self.result.endless.setdefault(actor.body, self.path(key))
+        return {number} - {None}
+
+    def note(self, kernel, key, event, endless):
+        """An event that did something, after which the kernel is this one; its task goes on for ever, if there is one
+        of these."""
         result, lines = self.result, kernel.world.lines
         result.events += 1
         for line in lines:
@@ -228,7 +242,7 @@ class Search:
         if reached not in self.seen:
             self.seen[reached] = key, event, self.seen[key][2] + 1
             self.queue.append((kernel, reached))
-        self.edges.append((key, reached, actors_of(lines)))
+        self.edges.append((key, reached, actors_of(lines) | endless))
 
     def examine(self, kernel, key):
         done = set()
@@ -237,9 +251,7 @@ class Search:
             if reached is None:
                 continue
             done.add(event.split()[0])
-            if goes_on_for_ever(kernel, event):
-                self.result.found.append(("endless", self.path(key)))
-            self.note(reached, key, event)
+            self.note(reached, key, event, self.note_endless(kernel, key, event))
         if "run" not in done and is_stuck(kernel.world, self.question.rest):
             if "int" in done:
                 self.result.waits = True
@@ -248,7 +260,8 @@ class Search:
 
     def never_going_on(self, number):
         """The keys of the states, in order, in which a task is started and from which no events let it go on: what is
-        left where those are taken away from which an event lets it, or leads to one that was taken away."""
+        left where those are taken away from which an event lets it or in which it goes on for ever, or an event leads
+        to one that was taken away."""
         before = {}
         for key, reached, _ in self.edges:
             before.setdefault(reached, set()).add(key)

@@ -1,10 +1,10 @@
 #!/usr/bin/env python3
 """Checks each code block of the documents against the proved program.
 
-    checks/program/documents.py [PROGRAM]
+    checks/program/documents.py [PROGRAM [VIEW]]
 
-PROGRAM is crates/fmp/out/fmp where it is not given, as `rt ci` or `rt run` leaves it. The first word behind the fence
-says what a block is, and how it is checked:
+PROGRAM is crates/fmp/out/fmp and VIEW is crates/fmp_view/out/fmp_view where they are not given, as `rt ci` or `rt run`
+leaves them. The first word behind the fence says what a block is, and how it is checked:
 
     cfg FILE, src FILE, steps FILE   the text of this file of examples/
     cfg, src, steps, trace           a system: the texts are accepted, and the run of their image prints the trace
@@ -13,7 +13,8 @@ says what a block is, and how it is checked:
     values                           rows `EXPRESSION -> NUMBER`, or the fault of the body that has it
     calls [handler]                  rows `STATEMENTS -> ANSWER, ..`: what a task (a handler) of the bench is answered
     faults cfg|src|steps|image       rows `TEXT -> FAULT`
-    console                          commands behind `$ `, each with what it prints, in a copy of examples/
+    console                          commands behind `$ `, each with what it prints, in a copy of examples/ and of the
+                                     systems of checks/schedules/
     rust FILE                        code of this file of crates/, as it stands there; its blocks are the whole file
     bytes                            the image of the last system of blocks, in hexadecimal digits
     grammar, sh                      not checked: rules of a grammar, and commands of the toolchain
@@ -25,6 +26,7 @@ The kit that README.md and docs/PROVED.md name is what `rt version` prints, but 
 the checks is told in checks/README.md, and each file that is told there is one.
 """
 
+import argparse
 import os
 import re
 import shutil
@@ -36,7 +38,7 @@ from pathlib import Path
 sys.dont_write_bytecode = True  # the folders of the checks stay as they are
 sys.path[0] = str(Path(__file__).resolve().parents[1])  # the folder `checks`, whose folders are packages
 
-from common.program import ROOT, program_of_words  # noqa: E402
+from common.program import ROOT, located  # noqa: E402
 from common.repeats import expanded  # noqa: E402
 from common.tally import Tally  # noqa: E402
 
@@ -48,14 +50,16 @@ FAULTY_TEXTS = 40
 
 
 class Program:
-    """The program, in a folder of its own with a copy of the examples."""
+    """The program and the one for looking, in a folder of its own with a copy of the systems of the repository."""
 
-    def __init__(self, program, room):
+    def __init__(self, program, view, room):
         self.program, self.room = program, room
-        shutil.copytree(ROOT / "examples", room, dirs_exist_ok=True)
+        for folder in ("checks/schedules/systems", "examples"):
+            shutil.copytree(ROOT / folder, room, dirs_exist_ok=True)
         bin_folder = room / "bin"
         bin_folder.mkdir()
         (bin_folder / "fmp").symlink_to(program)
+        (bin_folder / "fmp_view").symlink_to(view)
         self.environment = {**os.environ, "PATH": f"{bin_folder}:{os.environ['PATH']}", "LC_ALL": "C"}
 
     def run(self, *words):
@@ -360,9 +364,13 @@ class Checker:
 
 
 def main():
-    program = program_of_words("Checks each code block of the documents against the program.", "fmp")
+    parser = argparse.ArgumentParser(description="Checks each code block of the documents against the programs.")
+    parser.add_argument("program", metavar="PROGRAM", nargs="?", help="crates/fmp/out/fmp")
+    parser.add_argument("view", metavar="VIEW", nargs="?", help="crates/fmp_view/out/fmp_view")
+    words = parser.parse_args()
+    programs = located("fmp", words.program), located("fmp_view", words.view)
     with tempfile.TemporaryDirectory() as room:
-        checker = Checker(Program(program, Path(room)))
+        checker = Checker(Program(*programs, Path(room)))
         for document in DOCUMENTS:
             checker.begin(document)
             for block in blocks(ROOT / document):

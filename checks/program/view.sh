@@ -549,59 +549,244 @@ shows 'diff: a step that does nothing' 0 diff queue.img queue.steps six.steps
 echo 'steps:2: S2' > said
 shows 'diff: a fault of the steps' 1 diff queue.img queue.steps beyond.steps
 # Every schedule. Of the queue there is one: six steps, and a tick that changes the clock alone in each of seven states.
+# What is claimed is the first line where nothing is found, and stands behind what is found where it holds all the same.
+lists=': over all lists of events'
+bounded=', at bound 100000'
+idle=' in which the clock ticks only where no processor can do anything'
+unstuck='no stuck task was found (searched, not proved)'
+# claimed NAME CLAIM WORD..: nothing is found in the system of the queue with these words, and this is claimed.
+claimed() {
+    name=$1 claim=$2
+    shift 2
+    (echo "$claim" && echo "$unstuck" && cat seen) > wanted
+    shows "explore: $name" 0 explore queue.cfg queue.src "$@"
+}
+
+# begins NAME STATUS LINE WORD..: `explore` on these words ends with this status, and the first line that it prints is
+# this one.
+begins() {
+    name=$1 wanted_status=$2 line=$3
+    shift 3
+    attempt explore "$@"
+    problem=
+    [ "$status" -eq "$wanted_status" ] || problem="status $status, not $wanted_status; "
+    [ "$(head -n 1 output)" = "$line" ] || problem="${problem}it begins '$(head -n 1 output)'"
+    verdict "explore: $name" "$problem"
+}
+
+# claims NAME CLAIM WORD..: nothing is found, and this is claimed. finds NAME LINE WORD..: this is found first.
+claims() {
+    name=$1 claim=$2
+    shift 2
+    begins "$name" 0 "$claim" "$@"
+}
+finds() {
+    name=$1 line=$2
+    shift 2
+    begins "$name" 4 "$line" "$@"
+}
+
 cat > seen <<'END'
 7 states, 13 events, 6 deep
 greatest lengths: QUEUE 0
 END
-claimed() { # claimed NAME CLAIM WORD..: nothing is found in the system of the queue with these words, and this is claimed
-    name=$1 claim=$2
-    shift 2
-    (echo "$claim" && cat seen) > wanted
-    shows "explore: $name" 0 explore queue.cfg queue.src "$@"
-}
-claimed queue 'no deadlock, no fault: over all lists of events'
+claimed queue "no deadlock, no fault$lists$bounded"
 claimed 'what never happens, in order' \
-    'never put(99), never E_QOVR, no deadlock, no fault: over all lists of events' --never 'put(99)' --never E_QOVR
+    "never put(99), never E_QOVR, no deadlock, no fault$lists$bounded" --never 'put(99)' --never E_QOVR
 claimed 'a negative value, and a fault, which is one of all' \
-    'never put(-3), never F_IDX, no deadlock, no fault: over all lists of events' --never 'put(-3)' --never F_IDX
+    "never put(-3), no deadlock, no fault$lists$bounded" --never 'put(-3)' --never F_IDX
 claimed 'a section of which one value is negative' \
-    'alone 1,-2, no deadlock, no fault: over all lists of events' --alone 1,-2
-claimed 'no interrupts' 'no deadlock, no fault: over all lists of events with at most 0 interrupts' --ints 0
-claimed 'one interrupt' 'no deadlock, no fault: over all lists of events with at most 1 interrupt' --ints 1
+    "alone 1,-2, no deadlock, no fault$lists$bounded" --alone 1,-2
+claimed 'four sections, in order' \
+    "alone 1,2, alone 2,1, alone 3,4, alone 3,5, no deadlock, no fault$lists$bounded" \
+    --alone 1,2 --alone 2,1 --alone 3,4 --alone 3,5
+claimed 'an answer, a call and a section, in another order' \
+    "never E_OBJ, never E_TMOUT of rcv_dtq in line 9, alone 1,2, no deadlock, no fault$lists$bounded" \
+    --alone 1,2 --never E_TMOUT:9 --never E_OBJ
+claimed 'no interrupts' "no deadlock, no fault$lists with at most 0 interrupts$bounded" --ints 0
+claimed 'one interrupt' "no deadlock, no fault$lists with at most 1 interrupt$bounded" --ints 1
+claimed 'ticks at any time' "no deadlock, no fault$lists$bounded" --ticks any
+claimed 'as many states as there are' "no deadlock, no fault$lists$bounded" --states 7
+claimed 'the greatest bound' "no deadlock, no fault$lists, at bound 281474976710656" --bound 281474976710656
+begins 'one state fewer' 5 'stopped: as many states as are allowed' queue.cfg queue.src --states 6
 # The clock ticks only in the last of the seven states, where both tasks have ended.
 cat > seen <<'END'
 7 states, 7 events, 6 deep
 greatest lengths: QUEUE 0
 END
-idle='in which the clock ticks only where no processor can do anything'
-claimed 'idle ticks' "no deadlock, no fault: over all lists of events $idle" --ticks idle
+claimed 'idle ticks' "no deadlock, no fault$lists$idle$bounded" --ticks idle
 claimed 'idle ticks and two interrupts' \
-    "no deadlock, no fault: over all lists of events with at most 2 interrupts, $idle" --ticks idle --ints 2
+    "no deadlock, no fault$lists with at most 2 interrupts,$idle$bounded" --ticks idle --ints 2
+
+# Values that are put, and others with the same digits.
+finds 'a value that is put' 'queue.src:10: 4 p1 CONSUMER put(42) E_OK: after 4 steps, in queue.found.1' \
+    queue.cfg queue.src --never 'put(42)'
+for value in -42 4 2 24 2147483647 -2147483648; do
+    claims "a value that is not put: $value" "never put($value), no deadlock, no fault$lists$bounded" \
+        queue.cfg queue.src --never "put($value)"
+done
+
+# Numbers with a plus or with zeros in front: the claim has what they say.
+for word in +7 007 +07; do
+    claims "a value written otherwise: $word" "never put(7), no deadlock, no fault$lists$bounded" \
+        queue.cfg queue.src --never "put($word)"
+done
+claims 'a section written otherwise' "alone 1,-2, no deadlock, no fault$lists$bounded" \
+    queue.cfg queue.src --alone +1,-02
+claims 'a line written otherwise' "never E_TMOUT of rcv_dtq in line 9, no deadlock, no fault$lists$bounded" \
+    queue.cfg queue.src --never E_TMOUT:09
+
+# Each line of this body, and the wait of the ninth, is answered another code.
+cat > codes.cfg <<'END'
+NUM_PRC(1);
+CLASS(TCL_1) {
+    CRE_TSK(A, { TA_ACT, 0, a, 5, 256, NULL });
+    CRE_TSK(B, { TA_NULL, 0, b, 10, 256, NULL });
+    CRE_SEM(FULL, { TA_TFIFO, 1, 1 });
+    CRE_SEM(VOID, { TA_TFIFO, 0, 1 });
+}
+END
+cat > codes.src <<'END'
+task a {
+    act_tsk(B);
+    chg_pri(B, 17);
+    act_tsk(9);
+    isig_sem(FULL);
+    ter_tsk(A);
+    rsm_tsk(B);
+    sig_sem(FULL);
+    slp_tsk();
+    pol_sem(VOID);
+}
+task b { rel_wai(A); }
+END
+while IFS='|' read -r code place told steps; do
+    for word in "$code" "$code:$place"; do
+        finds "the answer $word" "codes.src:$place: $told: after $steps, in codes.found.1" \
+            codes.cfg codes.src --never "$word"
+    done
+done <<'END'
+E_OK|2|1 p1 A act_tsk(2) E_OK|1 step
+E_PAR|3|2 p1 A chg_pri(2,17) E_PAR|2 steps
+E_ID|4|3 p1 A act_tsk(9) E_ID|3 steps
+E_CTX|5|4 p1 A isig_sem(1) E_CTX|4 steps
+E_ILUSE|6|5 p1 A ter_tsk(1) E_ILUSE|5 steps
+E_OBJ|7|6 p1 A rsm_tsk(2) E_OBJ|6 steps
+E_QOVR|8|7 p1 A sig_sem(1) E_QOVR|7 steps
+E_RLWAI|9|9 p1 A gets E_RLWAI|9 steps
+E_TMOUT|10|10 p1 A pol_sem(2) E_TMOUT|10 steps
+END
+for code in E_PAR E_ID E_CTX E_ILUSE E_OBJ E_QOVR E_RLWAI E_TMOUT; do
+    claims "never the answer $code" "never $code, no deadlock, no fault$lists$bounded" queue.cfg queue.src --never $code
+done
+claims 'an answer of the line before' "never E_PAR of act_tsk in line 2, no deadlock, no fault$lists$bounded" \
+    codes.cfg codes.src --never E_PAR:2
+claims 'an answer of the line behind' "never E_PAR of act_tsk in line 4, no deadlock, no fault$lists$bounded" \
+    codes.cfg codes.src --never E_PAR:4
+claims 'an answer of the task that ends a wait' \
+    "never E_RLWAI of rel_wai in line 12, no deadlock, no fault$lists$bounded" codes.cfg codes.src --never E_RLWAI:12
 
 # A task waits for what nobody gives, unless it may.
 echo 'NUM_PRC(1); CLASS(TCL_1) { CRE_TSK(A, { TA_ACT, 0, a, 10, 256, NULL }); CRE_SEM(S, { 0, 0, 1 }); }' > wait.cfg
 echo 'task a { wai_sem(S); }' > wait.src
-cat > wanted <<'END'
-deadlock of A (wait.src:1): after 1 step, in wait.found.1
+cat > deadlock <<'END'
 2 states, 3 events, 1 deep
 greatest counts: S 0
 END
+(echo 'deadlock of A (wait.src:1): after 1 step, in wait.found.1' && cat deadlock) > wanted
 shows 'explore: deadlock' 4 explore wait.cfg wait.src
 echo 'run 1' > wanted
 gives 'explore: steps of the deadlock' cat wait.found.1
-cat > wanted <<'END'
-no deadlock, no fault: over all lists of events
-2 states, 3 events, 1 deep
-greatest counts: S 0
-END
+(echo "no deadlock (A may rest), no fault$lists$bounded" && echo "$unstuck" && cat deadlock) > wanted
+cp wanted resting
 shows 'explore: at rest' 0 explore wait.cfg wait.src --rest A
-cat > wanted <<'END'
-no deadlock, no fault: over all lists of events
+cp resting wanted
+shows 'explore: at rest, named again' 0 explore wait.cfg wait.src --rest A --rest A
+cat > wanted <<END
+no deadlock (A may rest), no fault$lists$bounded
+$unstuck
 2 states, 3 events, 1 deep
 answers at wait.src:1: none
 greatest counts: S 0
 END
 shows 'explore: a call without an answer' 0 explore wait.cfg wait.src --rest A --answers
+
+# Two tasks wait for what nobody gives, and a third ends: each that waits has to be named.
+cat > rests.cfg <<'END'
+NUM_PRC(1);
+CLASS(TCL_1) {
+    CRE_TSK(A, { TA_ACT, 0, a, 5, 256, NULL });
+    CRE_TSK(B, { TA_ACT, 0, b, 6, 256, NULL });
+    CRE_TSK(C, { TA_ACT, 0, c, 7, 256, NULL });
+    CRE_SEM(S, { TA_TFIFO, 0, 1 });
+}
+END
+printf 'task a { wai_sem(S); }\ntask b { wai_sem(S); }\ntask c { }\n' > rests.src
+for named in '--rest A' '--rest B' '--rest C' '--rest A --rest C' '--rest C --rest B' '--rest B --rest B'; do
+    # shellcheck disable=SC2086 # words of the command line
+    finds "a task that may not rest: $named" \
+        'deadlock of A (rests.src:1), B (rests.src:2): after 3 steps, in rests.found.1' rests.cfg rests.src $named
+done
+for named in '--rest A --rest B' '--rest B --rest A' '--rest A --rest B --rest A'; do
+    # shellcheck disable=SC2086 # words of the command line
+    claims "tasks that may rest: $named" "no deadlock (A may rest, B may rest), no fault$lists$bounded" \
+        rests.cfg rests.src $named
+done
+claims 'each task may rest' "no deadlock (A may rest, B may rest, C may rest), no fault$lists$bounded" \
+    rests.cfg rests.src --rest C --rest B --rest A
+
+# A waits for one tick and B signals: the time can run out only where the clock may tick while B is ready.
+echo 'NUM_PRC(1); CLASS(TCL_1) { CRE_TSK(A, { TA_ACT, 0, a, 5, 256, NULL });
+CRE_TSK(B, { TA_ACT, 0, b, 6, 256, NULL }); CRE_SEM(S, { 0, 0, 2 }); }' > late.cfg
+printf 'task a { twai_sem(S, 1); }\ntask b { sig_sem(S); }\n' > late.src
+for when in '' '--ticks any'; do
+    # shellcheck disable=SC2086 # words of the command line
+    finds "a time that runs out: $when" 'late.src:1: 3 p1 A gets E_TMOUT: after 3 steps, in late.found.1' \
+        late.cfg late.src --never E_TMOUT $when
+done
+claims 'a time that does not run out' "never E_TMOUT, no deadlock, no fault$lists$idle$bounded" \
+    late.cfg late.src --never E_TMOUT --ticks idle
+
+# Interrupts are counted up to two.
+echo 'NUM_PRC(1); CLASS(TCL_1) { CRE_SHR(N, { 0 }); DEF_INH(7, { 0, count }); }' > ints.cfg
+printf 'handler count {\n    var n;\n    ld_shr(N, &n);\n    st_shr(N, n %% 2 + 1);\n    put(n + 1);\n}\n' > ints.src
+for most in '' '--ints 2' '--ints 255'; do
+    # shellcheck disable=SC2086 # words of the command line
+    finds "two interrupts: $most" 'ints.src:5: 9 p1 #7 put(2) E_OK: after 9 steps, in ints.found.1' \
+        ints.cfg ints.src --never 'put(2)' $most
+done
+claims 'one interrupt, of two' \
+    "never put(2), no deadlock (an interrupt may come), no fault$lists with at most 1 interrupt$bounded" \
+    ints.cfg ints.src --never 'put(2)' --ints 1
+finds 'one interrupt is found' 'ints.src:5: 4 p1 #7 put(1) E_OK: after 4 steps, in ints.found.1' \
+    ints.cfg ints.src --never 'put(1)' --ints 1
+claims 'no interrupt comes' "never put(1), no deadlock, no fault$lists with at most 0 interrupts$bounded" \
+    ints.cfg ints.src --never 'put(1)' --ints 0
+claims 'any number of interrupts' "never put(4), no deadlock (an interrupt may come), no fault$lists$bounded" \
+    ints.cfg ints.src --never 'put(4)'
+
+# A cyclic handler and an interrupt: what goes on is named in order, whatever the order of the words.
+echo 'NUM_PRC(1); CLASS(TCL_1) { CRE_TSK(T, { TA_ACT, 0, t, 5, 256, NULL }); CRE_CYC(BEAT, { TA_STA, 0, h, 2, 0 });
+DEF_INH(7, { 0, h }); }' > goes.cfg
+printf 'task t { slp_tsk(); }\nhandler h { }\n' > goes.src
+claims 'what goes on' \
+    "no deadlock (a cyclic handler goes on, an interrupt may come, T may rest), no fault$lists$bounded" \
+    goes.cfg goes.src --rest T
+claims 'what goes on without interrupts' \
+    "no deadlock (a cyclic handler goes on, T may rest), no fault$lists with at most 0 interrupts$bounded" \
+    goes.cfg goes.src --rest T --ints 0
+
+# A task waits for an interrupt, by which it goes on later; and one that no handler ever wakes, which is stuck.
+echo 'NUM_PRC(1); CLASS(TCL_1) { CRE_TSK(T, { TA_ACT, 0, t, 5, 256, NULL }); CRE_FLG(F, { TA_CLR, 0 });
+DEF_INH(7, { 0, h }); }' > waits.cfg
+printf 'task t { var p; while (1) { wai_flg(F, 1, TWF_ORW, &p); } }\nhandler h { iset_flg(F, 1); }\n' > waits.src
+claims 'a task waits for an interrupt' "no deadlock (an interrupt may come), no fault$lists$bounded" waits.cfg waits.src
+verdict 'explore: that a task waits for an interrupt' \
+    "$([ "$(sed -n 3p output)" = 'a task waits for an interrupt' ] || echo "it says '$(sed -n 3p output)'")"
+finds 'a task that no interrupt wakes' \
+    'goes.src:1: T waits for a wakeup, and can never go on though others run: after 1 step, in goes.found.1' \
+    goes.cfg goes.src
+verdict 'explore: that no task waits for an interrupt' "$(grep 'a task waits' output || :)"
 
 # A semaphore of one is signalled twice: what the second call answers is told in its line.
 cat > full.src <<'END'
@@ -625,13 +810,34 @@ greatest counts: S 1
 END
 shows 'explore: all' 4 explore wait.cfg full.src --never E_QOVR --out twice --all
 cat > wanted <<'END'
-never E_TMOUT, no deadlock, no fault: over all lists of events
+full.src:2: 1 p1 A sig_sem(1) E_OK: after 1 step, in two.1
+2 states, 2 events, 1 deep
+calls never made: full.src:3
+greatest counts: S 1
+END
+shows 'explore: the first of two' 4 explore wait.cfg full.src --never E_OK --never E_QOVR --out two
+absent 'explore: steps of the first alone' two.2
+cat > wanted <<'END'
+full.src:2: 1 p1 A sig_sem(1) E_OK: after 1 step, in two.1
+full.src:3: 2 p1 A sig_sem(1) E_QOVR: after 2 steps, in two.2
+4 states, 7 events, 3 deep
+greatest counts: S 1
+END
+shows 'explore: all of two' 4 explore wait.cfg full.src --never E_OK --never E_QOVR --out two --all
+printf 'run 1\n' > wanted
+gives 'explore: steps of the first' cat two.1
+printf 'run 1\nrun 1\n' > wanted
+gives 'explore: steps of the second' cat two.2
+cat > wanted <<END
+never E_TMOUT, no deadlock, no fault$lists$bounded
+$unstuck
 4 states, 7 events, 3 deep
 greatest counts: S 1
 END
 shows 'explore: no such answer' 0 explore wait.cfg full.src --never E_TMOUT
-cat > wanted <<'END'
-never E_QOVR:2, no deadlock, no fault: over all lists of events
+cat > wanted <<END
+never E_QOVR of sig_sem in line 2, no deadlock, no fault$lists$bounded
+$unstuck
 4 states, 7 events, 3 deep
 answers at full.src:2: E_OK
 answers at full.src:3: E_QOVR
@@ -645,6 +851,19 @@ greatest counts: S 1
 END
 shows 'explore: an answer at a line' 4 explore wait.cfg full.src --never E_QOVR:3 --out twice
 
+# Of two calls in a line each is named.
+echo 'task a { sig_sem(S); pol_sem(S); }' > oneline.src
+claims 'two calls in a line' \
+    "never E_ID of sig_sem in line 1, never E_ID of pol_sem in line 1, no deadlock, no fault$lists$bounded" \
+    wait.cfg oneline.src --never E_ID:1
+cat > wanted <<'END'
+oneline.src:1: 1 p1 A sig_sem(1) E_OK: after 1 step, in wait.found.1
+oneline.src:1: 2 p1 A pol_sem(1) E_OK: after 2 steps, in wait.found.2
+4 states, 7 events, 3 deep
+greatest counts: S 1
+END
+shows 'explore: each call in a line' 4 explore wait.cfg oneline.src --never E_OK:1 --all
+
 # A body that stops with a fault is found without a word that asks for it.
 echo 'task a { var a[3]; put(0); a[3] = 1; }' > edge.src
 cat > wanted <<'END'
@@ -654,11 +873,12 @@ greatest counts: S 0
 END
 shows 'explore: an index out of range' 4 explore wait.cfg edge.src --out edge
 
-# A takes the lock and goes on for ever; B spins for it, which is nothing, or takes it first.
-cat > wanted <<'END'
+# A takes the lock and goes on for ever, by three places of its loop. B spins for it, or takes it first.
+cat > wanted <<END
 stuck.src:1: processor 1 goes on for ever without a call: after 1 step, in stuck.found.1
-4 states, 5 events, 2 deep
-calls never made: stuck.src:1
+stuck.src:1: B spins for spin lock L, and can never go on though others run: after 1 step, in stuck.found.2
+no deadlock, no fault$lists$bounded
+13 states, 31 events, 6 deep
 END
 shows 'explore: no call' 4 explore stuck.cfg stuck.src
 echo 'run 1' > wanted
@@ -669,16 +889,18 @@ echo 'NUM_PRC(2); CLASS(TCL_1) { CRE_TSK(A, { TA_ACT, 0, a, 10, 256, NULL }); CR
 CLASS(TCL_2) { CRE_TSK(B, { TA_ACT, 0, b, 10, 256, NULL }); }' > taken.cfg
 printf 'task a {\n    put(1);\n    wai_sem(S);\n    sig_sem(S);\n}\n' > taken.src
 echo 'task b { wai_sem(S); while (1) { put(2); } }' >> taken.src
-cat > wanted <<'END'
+cat > wanted <<END
 taken.src:3: A waits for semaphore S, and can never go on though others run: after 3 steps, in taken.found.1
+no deadlock, no fault$lists$bounded
 16 states, 42 events, 6 deep
 greatest counts: S 1
 END
 shows 'explore: a task that can never go on' 4 explore taken.cfg taken.src
 printf 'run 1\nrun 2\nrun 1\n' > wanted
 gives 'explore: steps to where it waits for good' cat taken.found.1
-cat > wanted <<'END'
-no deadlock, no fault: over all lists of events
+cat > wanted <<END
+no deadlock (A may rest), no fault$lists$bounded
+$unstuck
 16 states, 42 events, 6 deep
 greatest counts: S 1
 END
@@ -703,8 +925,9 @@ task some {
 }
 task other { put(2); }
 END
-cat > wanted <<'END'
-no deadlock, no fault: over all lists of events
+cat > wanted <<END
+no deadlock, no fault$lists$bounded
+$unstuck
 4 states, 7 events, 3 deep
 calls never made: unused.src:3 unused.src:8
 never run: OTHER
@@ -723,25 +946,74 @@ greatest counts: S 0
 END
 shows 'explore: a counter' 5 explore wait.cfg count.src --states 3
 
-# With two pushes, a sum, its store, a load and the call a stretch takes six instructions, and its end one more.
+# With two pushes, a sum, its store, a load and the call a stretch takes six instructions, and its end one more: as many
+# places are kept before the call as the bound goes into the first five.
 echo 'task a { var i; i = 1 + 2; put(i); }' > sum2.src
-cat > wanted <<'END'
-no deadlock, no fault: over all lists of events
-5 states, 9 events, 4 deep
+while read -r bound states events deep; do
+    cat > wanted <<END
+no deadlock, no fault$lists, at bound $bound
+$unstuck
+$states states, $events events, $deep deep
 greatest counts: S 0
 END
-shows 'explore: bound 2' 0 explore wait.cfg sum2.src --bound 2
+    shows "explore: bound $bound" 0 explore wait.cfg sum2.src --bound "$bound"
+done <<'END'
+1 8 15 7
+2 5 9 4
+3 4 7 3
+5 4 7 3
+6 3 5 2
+100000 3 5 2
+END
 
-for word in E_FOO E_SYS 'put()' E_FOO:1 E_QOVR:; do
+# What was found is printed first, also where its steps cannot be written, or would replace what is read.
+mkdir blocked.1
+(echo 'deadlock of A (wait.src:1): after 1 step, in blocked.1' && cat deadlock) > wanted
+echo 'file: blocked.1' > said
+shows 'explore: steps that cannot be written' 3 explore wait.cfg wait.src --out blocked
+rmdir blocked.1
+(echo 'deadlock of A (wait.src:1): after 1 step, in nowhere/z.1' && cat deadlock) > wanted
+echo 'file: nowhere/z.1' > said
+shows 'explore: steps in no folder' 3 explore wait.cfg wait.src --out nowhere/z
+
+# keeps NAME FIRST WORD..: what is found, which begins so, is printed, and the words are refused with status 2; no file
+# is written.
+keeps() {
+    name=$1 first=$2
+    shift 2
+    before=$(files)
+    attempt explore "$@"
+    problem=
+    [ "$status" -eq 2 ] || problem="status $status; "
+    [ "$(head -n 1 output)" = "$first" ] || problem="${problem}it begins '$(head -n 1 output)'; "
+    grep -q 'that are read' errors || problem="${problem}it says '$(head -c 200 errors)'; "
+    [ "$before" = "$(files)" ] || problem="${problem}a file is written"
+    verdict "explore: $name" "$problem"
+}
+cp wait.cfg z.1
+cp full.src y.2
+keeps 'steps over the configuration' 'deadlock of A (wait.src:1): after 1 step, in z.1' z.1 wait.src --out z
+keeps 'steps over the configuration by another name' 'deadlock of A (wait.src:1): after 1 step, in ./z.1' \
+    z.1 wait.src --out ./z
+keeps 'the second steps over the bodies' 'y.2:2: 1 p1 A sig_sem(1) E_OK: after 1 step, in y.1' \
+    wait.cfg y.2 --never E_OK --never E_QOVR --all --out y
+claims 'no steps over the configuration' "no deadlock (A may rest), no fault$lists$bounded" \
+    z.1 wait.src --rest A --out z
+same 'explore: the configuration has its bytes' wait.cfg z.1
+
+for word in E_FOO E_SYS e_qovr 'put()' 'put(1' 'put(2147483648)' 'put(1):2' E_FOO:1 E_QOVR: E_OK:4294967296 F_DIV:1; do
     refused "explore: no such word: $word" 'an answer as E_QOVR' explore queue.cfg queue.src --never "$word"
 done
-for line in 1 1000; do
+for line in 0 1 1000; do
     refused "explore: no call at line $line" 'no call' explore queue.cfg queue.src --never E_OK:$line
 done
 refused 'explore: no such task' 'no task' explore queue.cfg queue.src --rest NOBODY
-for word in 1 1, 1,2,3 1,1; do
+refused 'explore: no such task beside one' 'no task' explore queue.cfg queue.src --rest CONSUMER --rest consumer
+for word in 1 '1,' 1,2,3 1,1 01,+1 1,2147483648; do
     refused "explore: no two values: $word" 'two different values' explore queue.cfg queue.src --alone "$word"
 done
+refused 'explore: a fifth section' 'at most 4 times' explore queue.cfg queue.src \
+    --alone 1,2 --alone 2,1 --alone 3,4 --alone 3,5 --alone 6,7
 
 # Expectations of the run of the queue: CONSUMER puts 42 in event 4, and PRODUCER ends in event 6, the last one.
 cat > queue.expect <<'END'

@@ -6,12 +6,16 @@
 The systems are those of the folder `systems`, of which each has a comment that tells what a builder did wrong, and the
 examples. What is found, at which line and after how many steps, is in the rows below. Each steps text that was written
 is replayed by `fmp sim`: its last event tells what was found; or, after a deadlock, no processor does anything more;
-or, where a task can never go on, random further events tell nothing of it.
+or, where a task can never go on, random further events tell nothing of it. What is claimed of all lists of events, and
+which findings stand beside a claim, is worked out of the texts and the options. A search whose memory runs out claims
+nothing that it did not look for.
 """
 
 import argparse
+import itertools
 import random
 import re
+import resource
 import shutil
 import subprocess
 import sys
@@ -23,11 +27,16 @@ sys.dont_write_bytecode = True  # the folders of the checks stay as they are
 sys.path[0] = str(Path(__file__).resolve().parents[1])  # the folder `checks`, whose folders are packages
 
 from common.program import ROOT, located  # noqa: E402
+from common.services import SERVICES  # noqa: E402
 from common.tally import Tally  # noqa: E402
 
+BOUND = "100000"  # where the options give none
+MEMORY = (30_000, 24_000, 18_000, 15_000, 12_000, 9_000, 7_000)  # kilobytes that a search may take, less and less
 FURTHER = 300  # events after those of a task that can never go on
 FOLDERS = (ROOT / "checks/schedules/systems", ROOT / "examples")
 SECONDS = 120
+UNSTUCK = "no stuck task was found (searched, not proved)"
+CALLS = "|".join(service.name for service in SERVICES)
 
 
 @dataclass(frozen=True)
@@ -76,6 +85,14 @@ class Stuck:
 
 
 @dataclass(frozen=True)
+class Several:
+    """These are found and no others, in this order. The states, events and depth are these, where they are given."""
+
+    rows: tuple
+    numbers: tuple = ()
+
+
+@dataclass(frozen=True)
 class Nothing:
     """Nothing is found, and the first line says so of all lists of events that may come. The states, events and depth
     are these, where they are given, calls of these lines are never made, and calls get these answers, by line."""
@@ -87,9 +104,9 @@ class Nothing:
 
 @dataclass(frozen=True)
 class Stopped:
-    """The search stops; this field has the most values."""
+    """The search stops; this field has the most values, if one is given."""
 
-    field: str
+    field: str = ""
 
 
 def never(word, *more):
@@ -99,6 +116,9 @@ def never(word, *more):
 def alone(*words):
     return tuple(it for word in words for it in ("--alone", word))
 
+
+UNSERVED = Stuck(1, 30, "Z waits for semaphore NEVER")
+CROSSED = Stuck(3, 4, "A waits for semaphore Y"), Stuck(3, 10, "B waits for semaphore X")
 
 ROWS = [
     # Two tasks at once where one may be.
@@ -186,6 +206,33 @@ ROWS = [
     ("long", never("put(99)", "--bound", "1000"), Line(1, (7,), "put(99) E_OK")),
     ("long", never("put(99)", "--bound", "20"), Line(5, (7,), "put(99) E_OK")),
     ("fault", ("--bound", "1"), Line(9, (), "F_DIV")),
+    # What goes on beside tasks that wait for each other: a cyclic handler, an interrupt, an idle loop.
+    ("crossbeat", (), Stuck(3, 4, "A waits for semaphore Y")),
+    ("crossbeat", ("--all",), Several(CROSSED)),
+    ("crossbeat", ("--rest", "A", "--rest", "B"), Nothing()),
+    ("crossint", (), Stuck(3, 4, "A waits for semaphore Y")),
+    ("crossint", ("--all",), Several(CROSSED)),
+    ("crossint", ("--ints", "0"), Deadlock(4, "A (crossint.src:4), B (crossint.src:10)")),
+    ("crossint", ("--rest", "B", "--rest", "A"), Nothing()),
+    ("crossidle", (), Several((Endless(0, 3, 14), CROSSED[0]), (111, 384, 12))),
+    ("crossidle", ("--all",), Several((Endless(0, 3, 14), *CROSSED), (111, 384, 12))),
+    ("crossidle", ("--rest", "IDLE"), CROSSED[0]),
+    ("crossidle", ("--rest", "IDLE", "--all"), Several(CROSSED, (111, 384, 12))),
+    ("idle", (), Several((Endless(0, 2, 8),), (33, 96, 12))),
+    ("idle", ("--rest", "IDLE"), Nothing((33, 96, 12))),
+    ("idle", (*alone("1,2"), "--rest", "IDLE"), Nothing()),
+    # A handler that can never begin any more is not looked for.
+    ("lockedcpu", (), Nothing((9, 18, 3))),
+    # Loops that come to the same only after long: what else there is to be found is found, and limits hold.
+    ("latecycle", never("put(99)", "--bound", "1"), Several((Endless(0, 1, 2), Line(2, (11,), "put(99) E_OK")))),
+    ("longcycle", ("--states", "20"), Stopped()),
+    # Two answers at one call.
+    ("twocodes", never("E_RLWAI", "--never", "E_TMOUT"), Line(2, (3,), "A gets E_RLWAI")),
+    ("twocodes", never("E_RLWAI", "--never", "E_TMOUT", "--all"),
+     Several((Line(2, (3,), "A gets E_RLWAI"), Line(3, (3,), "A gets E_TMOUT")))),
+    ("twocodes", never("E_TMOUT"), Line(3, (3,), "A gets E_TMOUT")),
+    ("twocodes", never("E_TMOUT", "--ticks", "idle"), Nothing()),
+    ("rwnever", (), UNSERVED),
     # The examples.
     ("queue", (), Nothing((7, 13, 6))),
     ("semaphore", (), Nothing()),
@@ -218,9 +265,12 @@ class Search:
         done = subprocess.run(words, cwd=self.folder, capture_output=True, text=True, check=False, timeout=SECONDS)
         return done.returncode, done.stdout
 
+    def words(self):
+        """The words of the search."""
+        return self.view, "explore", f"{self.name}.cfg", f"{self.name}.src", *self.options, "--out", "found"
+
     def explored(self):
-        texts = f"{self.name}.cfg", f"{self.name}.src"
-        return self.run(self.view, "explore", *texts, *self.options, "--out", "found")
+        return self.run(*self.words())
 
     def replayed(self, steps):
         """The lines that `fmp sim` prints of the system and these steps, before the states."""
@@ -229,96 +279,156 @@ class Search:
         _, text = self.run(self.program, "sim", "image", "steps", *self.bound)
         return [line for line in text.splitlines() if line[0].isdigit()]
 
-    def steps(self):
-        return (self.folder / "found.1").read_text().splitlines()
+    def steps(self, number):
+        return (self.folder / f"found.{number}").read_text().splitlines()
+
+    def text(self, kind):
+        return (self.folder / f"{self.name}.{kind}").read_text()
 
     def processors(self):
-        return int(re.search(r"NUM_PRC\((\d)\)", (self.folder / f"{self.name}.cfg").read_text())[1])
+        return int(re.search(r"NUM_PRC\((\d)\)", self.text("cfg"))[1])
 
     def events(self):
         """Events that may come at any time: runs, and ticks and interrupts where the options leave none out."""
-        configuration = (self.folder / f"{self.name}.cfg").read_text()
         ticks = () if "--ticks" in self.options else ("tick",)
-        ints = () if "--ints" in self.options else (f"int {n}" for n in re.findall(r"DEF_INH\((\d+)", configuration))
+        ints = () if "--ints" in self.options else (f"int {n}" for n in re.findall(r"DEF_INH\((\d+)", self.text("cfg")))
         return [*(f"run {p + 1}" for p in range(self.processors())), *ticks, *ints]
 
-    def matched(self, pattern, text, row):
-        """What the first line says, if that is found after as many steps."""
-        found = re.match(rf"{pattern}: after {row.steps} steps?, in found\.1$", text.splitlines()[0])
-        return found if found and len(self.steps()) == row.steps else None
+    def given(self, option):
+        """The words that stand behind an option, in order."""
+        return [word for it, word in zip(self.options, self.options[1:]) if it == option]
+
+    def never(self, word):
+        """What a word of what must never happen claims: of a code at a line, each call that stands there."""
+        if re.fullmatch("F_[A-Z]+", word):
+            return []
+        code, _, line = word.partition(":")
+        if not line:
+            return [f"never {word}"]
+        calls = re.findall(rf"\b({CALLS})\(", self.text("src").splitlines()[int(line) - 1])
+        return [f"never {code} of {call} in line {line}" for call in calls]
+
+    def going_on(self):
+        """What keeps a state from being a deadlock, in words."""
+        interrupts = "DEF_INH" in self.text("cfg") and self.given("--ints") != ["0"]
+        tasks = re.findall(r"CRE_TSK\((\w+)", self.text("cfg"))
+        why = ["a cyclic handler goes on"] if "CRE_CYC" in self.text("cfg") else []
+        why += ["an interrupt may come"] if interrupts else []
+        why += [f"{task} may rest" for task in tasks if task in self.given("--rest")]
+        return f" ({', '.join(why)})" if why else ""
+
+    def lists(self):
+        """Over which lists of events something is claimed."""
+        ints = self.given("--ints")
+        few = f" with at most {ints[0]} interrupt{'' if ints[0] == '1' else 's'}" if ints else ""
+        idle = " in which the clock ticks only where no processor can do anything"
+        return f"all lists of events{few}" + (f"{',' if few else ''}{idle}" if "idle" in self.given("--ticks") else "")
+
+    def claim(self):
+        """The line where something holds, by what was asked."""
+        nevers = self.given("--never")
+        places = [word for word in nevers if ":" in word]
+        parts = [it for word in nevers if ":" not in word for it in self.never(word)]
+        parts += [it for word in places for it in self.never(word)]
+        parts += [f"alone {word}" for word in self.given("--alone")]
+        parts += [f"no deadlock{self.going_on()}", "no fault"]
+        return f"{', '.join(parts)}: over {self.lists()}, at bound {(self.given('--bound') or [BOUND])[0]}"
+
+    def matched(self, pattern, line, number, row):
+        """What a line says of the finding of this number, if that is found after as many steps."""
+        found = re.match(rf"{pattern}: after {row.steps} steps?, in found\.{number}$", line)
+        return found if found and len(self.steps(number)) == row.steps else None
 
 
-def shows_line(search, text, row):
+def shows_line(search, line, number, row):
     """Whether this line is found, and the last event of the steps tells it."""
-    found = search.matched(rf"(?:{search.name}\.src:(\d+): )?(\d+ p\d .*)", text, row)
+    found = search.matched(rf"(?:{search.name}\.src:(\d+): )?(\d+ p\d .*)", line, number, row)
     if not found or not found[2].endswith(row.told) or (row.places and int(found[1]) not in row.places):
         return False
-    steps = search.steps()
+    steps = search.steps(number)
     return found[2] in search.replayed(steps) and found[2] not in search.replayed(steps[:-1])
 
 
-def shows_together(search, text, row):
+def shows_together(search, line, number, row):
     """Whether this line is found while that task is inside, and the last event of the steps tells it."""
-    found = search.matched(rf"{search.name}\.src:{row.place}: (\d+ .*): while (.*)", text, row)
+    found = search.matched(rf"{search.name}\.src:{row.place}: (\d+ .*): while (.*)", line, number, row)
     if not found or not found[1].endswith(row.told) or found[2] != row.inside:
         return False
-    steps = search.steps()
+    steps = search.steps(number)
     return found[1] in search.replayed(steps) and found[1] not in search.replayed(steps[:-1])
 
 
-def shows_deadlock(search, text, row):
+def shows_deadlock(search, line, number, row):
     """Whether this deadlock is found, and no processor does anything after its steps."""
-    found = search.matched(r"deadlock of (.*)", text, row)
+    found = search.matched(r"deadlock of (.*)", line, number, row)
     if not found or (row.of and found[1] != row.of):
         return False
-    steps = search.steps()
+    steps = search.steps(number)
     runs = [f"run {p + 1}" for p in range(search.processors())]
     return search.replayed(steps + runs) == search.replayed(steps)
 
 
-def shows_endless(search, text, row):
+def shows_endless(search, line, number, row):
     """Whether this body is found, and its processor tells nothing more in many further steps."""
     place, processor = row.place, row.processor
     pattern = rf"{search.name}\.src:{place}: processor {processor} goes on for ever without a call"
-    if not search.matched(pattern, text, row):
+    if not search.matched(pattern, line, number, row):
         return False
-    steps = search.steps()
+    steps = search.steps(number)
     return search.replayed(steps + 100 * [f"run {processor}"]) == search.replayed(steps)
 
 
-def shows_stuck(search, text, row):
+def shows_stuck(search, line, number, row):
     """Whether this task is found, and does nothing in many further events of those that may come."""
     pattern = rf"{search.name}\.src:{row.place}: (.*), and can never go on though others run"
-    found = search.matched(pattern, text, row)
+    found = search.matched(pattern, line, number, row)
     if not found or found[1] != row.told:
         return False
     events = search.events()
     further = random.Random(row.told).choices(events, k=FURTHER)
-    steps, task = search.steps(), row.told.split()[0]
+    steps, task = search.steps(number), row.told.split()[0]
     told = search.replayed(steps + further)[len(search.replayed(steps)) :]
     return len(told) > 0 and not any(re.match(rf"\d+ p\d {task} ", line) for line in told)
 
 
-def claim_of(options):
-    """The first line where something holds, by what was asked."""
-    words = list(zip(options, (*options[1:], "")))
-    nevers = [f"never {word}, " for option, word in words if option == "--never"]
-    nevers += [f"alone {word}, " for option, word in words if option == "--alone"]
-    ints = [word for option, word in words if option == "--ints"]
-    few = f" with at most {ints[0]} interrupt{'' if ints[0] == '1' else 's'}" if ints else ""
-    idle = " in which the clock ticks only where no processor can do anything" if ("--ticks", "idle") in words else ""
-    return f"{''.join(nevers)}no deadlock, no fault: over all lists of events{few}{',' if few and idle else ''}{idle}"
+SHOWS = {
+    Line: shows_line,
+    Together: shows_together,
+    Deadlock: shows_deadlock,
+    Endless: shows_endless,
+    Stuck: shows_stuck,
+}
+
+
+def numbers_of(text):
+    """The states, events and depth that are printed."""
+    found = re.search(r"^(\d+) states, (\d+) events, (\d+) deep$", text, re.MULTILINE)
+    return tuple(map(int, found.groups())) if found else ()
+
+
+def shows_all(search, text, rows, numbers):
+    """Whether these are found and no others; whether the claim follows them just where none speaks against it; and
+    whether it is said just then, and where no task is found that can never go on, that there was none."""
+    lines = text.splitlines()
+    findings = [line for line in lines if re.search(r": after \d+ steps?, in found\.\d+$", line)]
+    holds = all(isinstance(row, (Endless, Stuck)) for row in rows)
+    ending = [search.claim()] if holds else []
+    ending += [UNSTUCK] if holds and not any(isinstance(row, Stuck) for row in rows) else []
+    told = [line for line in lines if line == UNSTUCK or ": over all lists of events" in line]
+    return (
+        lines[: len(rows) + len(ending)] == findings + ending and told == ending and len(findings) == len(rows)
+        and not (search.folder / f"found.{len(rows) + 1}").exists()
+        and (not numbers or numbers_of(text) == numbers)
+        and all(SHOWS[type(row)](search, line, number, row)
+                for number, (line, row) in enumerate(zip(findings, rows), 1)))
 
 
 def shows_nothing(search, text, row):
     """Whether it is said that nothing is found, in as many states and events, and these calls are never made."""
-    if text.splitlines()[0] != claim_of(search.options):
-        return False
-    numbers = re.search(r"^(\d+) states, (\d+) events, (\d+) deep$", text, re.MULTILINE)
     unmade = re.search(r"^calls never made: (.*)$", text, re.MULTILINE)
     places = " ".join(f"{search.name}.src:{line}" for line in row.unmade)
     answers = re.findall(rf"^answers at {search.name}\.src:(\d+): (.*)$", text, re.MULTILINE)
-    return (bool(numbers) and (not row.numbers or tuple(map(int, numbers.groups())) == row.numbers)
+    return (shows_all(search, text, (), row.numbers) and numbers_of(text) != ()
             and (not row.unmade or (bool(unmade) and unmade[1] == places))
             and tuple((int(line), codes) for line, codes in answers) == row.answers)
 
@@ -326,27 +436,22 @@ def shows_nothing(search, text, row):
 def shows_most(text, row):
     """Whether the search stopped, and no field has more values than this one."""
     rows = re.findall(r"^(\d+) values: (.*)$", text, re.MULTILINE)
-    return text.startswith("stopped") and bool(rows) and max(rows, key=lambda it: int(it[0]))[1] == row.field
+    most = bool(rows) and max(rows, key=lambda it: int(it[0]))[1] == row.field
+    return text.startswith("stopped") and (most or not row.field)
 
 
 def is_shown(search, answer, row):
     """Whether a search answers this row."""
     status, text = answer
     match row:
-        case Line():
-            return status == 4 and shows_line(search, text, row)
-        case Together():
-            return status == 4 and shows_together(search, text, row)
-        case Deadlock():
-            return status == 4 and shows_deadlock(search, text, row)
-        case Endless():
-            return status == 4 and shows_endless(search, text, row)
-        case Stuck():
-            return status == 4 and shows_stuck(search, text, row)
         case Nothing():
             return status == 0 and shows_nothing(search, text, row)
         case Stopped():
             return status == 5 and shows_most(text, row)
+        case Several():
+            return status == 4 and shows_all(search, text, row.rows, row.numbers)
+        case _:
+            return status == 4 and shows_all(search, text, (row,), ())
 
 
 def try_row(tally, programs, name, options, row):
@@ -358,6 +463,41 @@ def try_row(tally, programs, name, options, row):
         tally.verdict(f"{' '.join((name, *options))}: {row}", "shown", shown)
 
 
+def within(kilobytes):
+    """What is set in a process that may have this much memory."""
+    return lambda: resource.setrlimit(resource.RLIMIT_AS, (kilobytes << 10, kilobytes << 10))
+
+
+def kind_of(search, status, text, said):
+    """What a search came to whose memory may have run out, by all that it ends with."""
+    lines = text.splitlines()
+    if status == 3 and not text and said == "memory\n":
+        return "memory"
+    if status == 5 and lines[0] == "stopped: out of memory":
+        return "stopped"
+    if status == 5 and lines[:2] == [search.claim(), "stuck tasks were not looked for: out of memory"]:
+        return "not looked for"
+    if status == 4 and shows_all(search, text, (UNSERVED,), ()):
+        return "found"
+    return f"status {status}, {text[:300]!r}, {said[:100]!r}"
+
+
+def try_memory(tally, programs):
+    """Searches a system in which a task is stuck with less and less memory, and counts whether each search tells that
+    task, or that it looked for none, or that it stopped, in this order."""
+    kinds = []
+    with tempfile.TemporaryDirectory() as folder:
+        search = Search(*programs, folder, "rwnever", ())
+        for kilobytes in MEMORY:
+            done = subprocess.run(search.words(), cwd=folder, capture_output=True, text=True, check=False,
+                                  timeout=SECONDS, preexec_fn=within(kilobytes))
+            said = done.stderr.splitlines(keepends=True)
+            kinds.append(kind_of(search, done.returncode, done.stdout, said[-1] if said else ""))
+    order = [kind for kind, _ in itertools.groupby(kinds)]
+    tally.verdict("rwnever, with less and less memory", ["found", "not looked for", "stopped"], order[:3])
+    tally.verdict("rwnever, with least memory", [], [kind for kind in order[3:] if kind not in ("stopped", "memory")])
+
+
 def main():
     parser = argparse.ArgumentParser(description="Searches all schedules of systems, and replays what is found.")
     parser.add_argument("view", metavar="VIEW", nargs="?", help="crates/fmp_view/out/fmp_view")
@@ -367,6 +507,7 @@ def main():
     tally = Tally()
     for name, options, row in ROWS:
         try_row(tally, programs, name, options, row)
+    try_memory(tally, programs)
     print(f"checks/schedules/schedules.py: {tally}")
     return tally.status
 
