@@ -32,7 +32,7 @@ complete -c fmp_view -n '__fish_seen_subcommand_from why' -l at -x -d 'Event aft
 complete -c fmp_view -n '__fish_seen_subcommand_from why' -s h -l help -d 'Print help'
 complete -c fmp_view -n '__fish_seen_subcommand_from explore' -l never -x -d 'What must never happen: an answer, as E_QOVR, or E_TMOUT:12 for the calls in line 12 of SRC; or a printed value, as '\''put(99)'\''; it may be given again. That a body stops with a fault must never happen anyway'
 complete -c fmp_view -n '__fish_seen_subcommand_from explore' -l alone -x -d 'One task at a time may be between '\''put(A)'\'' and '\''put(B)'\'': A,B are two different values, as 1,2. A task is there from its '\''put(A)'\'' to its '\''put(B)'\'' or its end. It may be given again, at most 4 times'
-complete -c fmp_view -n '__fish_seen_subcommand_from explore' -l rest -x -d 'Name of a task that may wait forever, as servers do: it makes no deadlock, and may be stuck; it may be given again'
+complete -c fmp_view -n '__fish_seen_subcommand_from explore' -l rest -x -d 'Name of a task that may wait forever, as servers do: it makes no deadlock, may be stuck, and may go on for ever without a call; it may be given again'
 complete -c fmp_view -n '__fish_seen_subcommand_from explore' -l ticks -x -d 'When the clock may advance: at any time, or only where all processors are idle [default: any] [possible values: any, idle]'
 complete -c fmp_view -n '__fish_seen_subcommand_from explore' -l ints -x -d 'How many interrupts there may be, 0 to 255; without it any number'
 complete -c fmp_view -n '__fish_seen_subcommand_from explore' -l bound -x -d 'How many instructions a body may take in a step, 1 to 2^48; where its next service call is farther, its next step goes on from there [default: 100000]'
