@@ -1,0 +1,5 @@
+pub mod Following
+pub mod Judging
+pub mod AnyStretch
+pub mod Journals
+pub mod SameCalls

@@ -1,0 +1,5 @@
+pub mod Foreign
+pub mod Hosting
+pub mod Looking
+pub mod Following
+pub mod FollowingLaws

@@ -1,0 +1,146 @@
+//! A system whose bodies run elsewhere, with its kernel: one call for each event.
+ghost use Rattle.std.specs.Prelude.{◌≡◌, Err, IfErr, IfOk, Ok, pos};
+ghost use Rattle.fmp_base.specs.Stretches.{ending};
+ghost use Rattle.fmp_cfgparse.specs.Configurations.{IsRead};
+ghost use Rattle.fmp_outside.specs.declared.given.Act.TheVariants as act;
+ghost use Rattle.fmp_outside.specs.declared.given.Given.TheVariants as given;
+ghost use Rattle.fmp_outside.specs.Outside.{ending_by};
+ghost use Rattle.fmp_foreign.specs.declared.foreign.Told.TheVariants as told;
+ghost use Rattle.fmp_foreign.specs.Hosting.{IsNew, after, answer, called_by, made_by, refused_number};
+
+use crate::foreign::{Foreign, Told};
+use crate::requests::{Refusal, call_of};
+use fmp_base::{Effect, Event, Fault, Stretch, System};
+use fmp_cfgparse::read_cfg;
+use fmp_kernel::Kernel;
+use fmp_lex::BuildFault;
+use fmp_outside::{Act, Given};
+use std::alloc::Global;
+
+/// How many events a kernel takes.
+const MOST_EVENTS: u32 = 1 << 31;
+
+/// How many interrupts there are.
+const INTERRUPTS: u8 = 32;
+
+/// A system with its kernel.
+#[derive(Drop)]
+pub struct Hosted {
+    /// The system that its configuration describes.
+    pub system: System,
+    /// The kernel of this system.
+    pub kernel: Kernel<Foreign>,
+}
+
+/// The stretch that ends with this act.
+fn stretch_of(act: Act) -> Stretch<Told>
+    ensures { ending result ≡ ending_by (told.Starts (pos 0)) act }
+{
+    let told = Told::Starts(0);
+    match act {
+        Act::Call(call) => Stretch::Call(told, call),
+        Act::End => Stretch::End(told),
+        Act::Fault(fault) => Stretch::Fault(told, fault),
+    }
+}
+
+impl Hosted {
+    /// The system that a configuration describes, after setup, or the first fault of the text, as `read_cfg` gives it.
+    /// `BuildFault::Memory` if memory runs out: no call after this one takes any.
+    pub fn new(alloc: Global, text: &[u8]) -> Result<Hosted, BuildFault>
+        ensures new { IfOk result (IsNew text.now) }
+        ensures refused { IfErr result (λ fault. IsRead text.now (Err fault)) }
+    {
+        let system = read_cfg(alloc, text)?;
+        match Kernel::new(alloc, Foreign, &system, 1) {
+            Ok(kernel) => Ok(Hosted { system, kernel }),
+            Err(_) => Err(BuildFault::Memory),
+        }
+    }
+
+    /// Whether the numbers of what comes are out of range.
+    fn refused_number(&self, given: Given) -> Option<Refusal>
+        ensures { result ≡ refused_number self.now.kernel given }
+    {
+        match given {
+            Given::Act(p, _) => {
+                if p >= 1 && p as usize <= self.kernel.tables().processor_count() {
+                    None
+                } else {
+                    Some(Refusal::Processor)
+                }
+            }
+            Given::Tick => None,
+            Given::Int(number) => {
+                if number >= 1 && number <= INTERRUPTS {
+                    None
+                } else {
+                    Some(Refusal::Interrupt)
+                }
+            }
+        }
+    }
+
+    /// What comes, while fewer than 2^31 events were taken. If it is done, its lines and the state after it stand in
+    /// the kernel. It does nothing where the processor has no actor, where the call spins for a lock that is held, and
+    /// where the interrupt has no handler or is pending. What is refused changes nothing.
+    #[tactic(auto, using(crate::proofs::AnyStretch::any_stretch))]
+    pub fn take(&mut self, given: Given) -> Result<Effect, Refusal>
+        ensures answer { result ≡ answer self.old.kernel (Ok given) }
+        ensures state { self.new ≡ after self.old (Ok given) }
+    {
+        if self.kernel.taken() >= MOST_EVENTS {
+            return Err(Refusal::Full);
+        }
+        if let Some(why) = self.refused_number(given) {
+            return Err(why);
+        }
+        Ok(match given {
+            Given::Act(p, act) => self.kernel.apply_long(p, stretch_of(act)),
+            Given::Tick => self.kernel.step_long(Event::Tick),
+            Given::Int(number) => self.kernel.step_long(Event::Int(number)),
+        })
+    }
+
+    /// The actor of the processor of this number, from 1, makes the call of the service of this function code, 1 to 59,
+    /// with these arguments: at least as many as the service takes, and at most four.
+    pub fn call(&mut self, p: u8, service: u8, arguments: &[i32]) -> Result<Effect, Refusal>
+        ensures answer { result ≡ answer self.old.kernel (made_by p (called_by service arguments.now)) }
+        ensures state { self.new ≡ after self.old (made_by p (called_by service arguments.now)) }
+    {
+        let call = call_of(service, arguments)?;
+        self.take(Given::Act(p, Act::Call(call)))
+    }
+
+    /// The body of the actor of the processor of this number, from 1, ends.
+    pub fn end(&mut self, p: u8) -> Result<Effect, Refusal>
+        ensures answer { result ≡ answer self.old.kernel (Ok (given.Act p act.End)) }
+        ensures state { self.new ≡ after self.old (Ok (given.Act p act.End)) }
+    {
+        self.take(Given::Act(p, Act::End))
+    }
+
+    /// The body of the actor of the processor of this number, from 1, stops with a fault.
+    pub fn fault(&mut self, p: u8, fault: Fault) -> Result<Effect, Refusal>
+        ensures answer { result ≡ answer self.old.kernel (Ok (given.Act p (act.Fault fault))) }
+        ensures state { self.new ≡ after self.old (Ok (given.Act p (act.Fault fault))) }
+    {
+        self.take(Given::Act(p, Act::Fault(fault)))
+    }
+
+    /// The clock advances by one.
+    pub fn tick(&mut self) -> Result<Effect, Refusal>
+        ensures answer { result ≡ answer self.old.kernel (Ok given.Tick) }
+        ensures state { self.new ≡ after self.old (Ok given.Tick) }
+    {
+        self.take(Given::Tick)
+    }
+
+    /// The interrupt of this number, 1 to 32, is requested.
+    pub fn interrupt(&mut self, number: u8) -> Result<Effect, Refusal>
+        ensures answer { result ≡ answer self.old.kernel (Ok (given.Int number)) }
+        ensures state { self.new ≡ after self.old (Ok (given.Int number)) }
+    {
+        self.take(Given::Int(number))
+    }
+}

@@ -1,0 +1,20 @@
+//! The laws, each the contract of a function that does nothing. `D` is the type of the contexts that are kept of bodies
+//! outside.
+ghost use Rattle.std.specs.Prelude.{ℕ, List};
+ghost use Rattle.fmp_base.specs.Meanings.{Meaning};
+ghost use Rattle.fmp_base.specs.Setups.{setup};
+ghost use Rattle.fmp_base.specs.Systems.{SystemTables};
+ghost use Rattle.fmp_kernel.specs.KernelViews.{KernelView, view_of_setup};
+ghost use Rattle.fmp_outside.specs.declared.given.Given.{Given};
+ghost use Rattle.fmp_foreign.specs.Following.{HasFollowed};
+ghost use Rattle.fmp_foreign.specs.FollowingLaws.{AgreesWith};
+
+use fmp_base::Body;
+
+/// A kernel whose bodies run outside, and whose journal the text has followed from setup on, has had the lines of a run
+/// of the text all along, and stands in its state. Nothing is asked of what the bodies computed.
+pub fn followed_journals_agree<B: Body, D>()
+    ensures { (body : B) (sys : SystemTables) (F : Meaning D) (m : ℕ) (d : D) (n : ℕ) (gs : List Given)
+        (k : KernelView B B.Ctx) → HasFollowed B.meaning (view_of_setup body n sys (setup sys (B.meaning body))) gs k →
+        AgreesWith sys F m d (B.meaning body) n gs k }
+{}

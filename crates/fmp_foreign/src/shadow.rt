@@ -1,0 +1,204 @@
+//! A kernel over the text of bodies that run elsewhere: it says of each thing that they do whether their text does it.
+ghost use Rattle.std.specs.Prelude.{◌≡◌, ◌≢◌, ◌+◌, ◌<◌, ◌≤◌, ◌^◌, ◌∷◌, [], IfErr, IfOk, MatchOption, None, Some, length, slice_get};
+ghost use Rattle.fmp_outside.specs.Outside.{IsOfText};
+ghost use Rattle.fmp_base.specs.Stretches.{ending};
+ghost use Rattle.fmp_foreign.specs.Following.{Departs, DoesOtherwise, GoesOn, HasFollowed, stretch_on};
+
+use crate::same::is_same;
+use fmp_base::{Body, Stretch};
+use fmp_kernel::Kernel;
+use fmp_outside::{Act, Given};
+use std::marker::Model;
+
+/// How many events a kernel takes.
+const MOST_EVENTS: u32 = 1 << 31;
+
+/// Whether the text of a body does what the body does.
+#[derive(Clone, Copy, Debug, PartialEq, Eq)]
+pub enum Verdict {
+    /// It does it, and its kernel has made the event.
+    Follows,
+    /// It does another thing.
+    Differs,
+    /// It has used up its turns within one stretch.
+    Long,
+    /// Its kernel has taken 2^31 events, and takes no more.
+    Full,
+}
+
+/// Where a journal departs from the text.
+#[derive(Clone, Copy, Debug, PartialEq, Eq)]
+pub struct Departure {
+    /// The place, from 0, of the first thing in the journal that the text does not follow.
+    pub at: usize,
+    /// Why it does not; never `Verdict::Follows`.
+    pub why: Verdict,
+}
+
+/// A kernel that runs the text of bodies, beside those bodies or in place of their own kernel.
+#[derive(Drop)]
+pub struct Shadow<B: Body> {
+    kernel: Kernel<B>,
+    bound: u64,
+}
+
+impl<B: Body> Model for Shadow<B> {
+    ghost use Rattle.std.specs.Prelude.{◌≡◌};
+    ghost use Rattle.fmp_kernel.specs.KernelViews.{KernelView};
+
+    ghost Value = { KernelView B B.Ctx };
+
+    ghost view = { λ s. s.kernel };
+
+    ghost invariant = { λ s. s.bound ≡ s.kernel.bound };
+}
+
+/// The stretch that the text of this processor's actor makes next, if there is an actor.
+#[tactic(auto, using(crate::proofs::Judging::no_stretch, crate::proofs::Judging::its_stretch))]
+fn next_stretch<B: Body>(kernel: &Kernel<B>, bound: u64, p: u8) -> Option<Stretch<B::Ctx>>
+    requires { kernel.now.bound ≡ bound }
+    ensures { MatchOption result (stretch_on B.meaning kernel.now p ≡ None)
+        (λ s. stretch_on B.meaning kernel.now p ≡ Some (ending s)) }
+{
+    let actor = kernel.actor(p)?;
+    Some(kernel.body().stretch(actor.entry, bound, actor.context))
+}
+
+/// How the next stretch of the text stands to what comes: it ends so, or otherwise, or is over its bound.
+#[tactic(auto, using(crate::proofs::Judging::nobody_follows, crate::proofs::Judging::over_goes_on))]
+fn judge<B: Body>(kernel: &Kernel<B>, bound: u64, given: Given) -> Verdict
+    requires { kernel.now.bound ≡ bound }
+    ensures follows { result ≡ Verdict.Follows
+        → IsOfText kernel.now.system (B.meaning kernel.now.body) kernel.now.bound kernel.now.world given }
+    ensures differs { result ≡ Verdict.Differs → DoesOtherwise B.meaning kernel.now given }
+    ensures long { result ≡ Verdict.Long → GoesOn B.meaning kernel.now given }
+    ensures full { result ≢ Verdict.Full }
+{
+    let Given::Act(p, act) = given else {
+        return Verdict::Follows;
+    };
+    let Some(stretch) = next_stretch(kernel, bound, p) else {
+        return Verdict::Follows;
+    };
+    match Act::of(stretch) {
+        Some(made) => {
+            if is_same(made, act) {
+                Verdict::Follows
+            } else {
+                Verdict::Differs
+            }
+        }
+        None => Verdict::Long,
+    }
+}
+
+/// What comes, in one turn of the text.
+#[tactic(auto, using(crate::proofs::Following::once, crate::proofs::Following::within, crate::proofs::Following::within_counts, crate::proofs::Following::nothing_yet))]
+fn take_turn<B: Body>(kernel: &mut Kernel<B>, bound: u64, given: Given) -> Verdict
+    requires { kernel.old.bound ≡ bound }
+    ensures follows { result ≡ Verdict.Follows → HasFollowed B.meaning kernel.old (given ∷ []) kernel.new }
+    ensures stays { result ≢ Verdict.Follows → HasFollowed B.meaning kernel.old [] kernel.new }
+    ensures differs { result ≡ Verdict.Differs → DoesOtherwise B.meaning kernel.new given }
+    ensures long { result ≡ Verdict.Long → kernel.new.taken ≡ kernel.old.taken + 1 }
+    ensures full { result ≡ Verdict.Full → 2 ^ 31 ≤ kernel.new.taken }
+    ensures bound { kernel.new.bound ≡ bound }
+{
+    if kernel.taken() >= MOST_EVENTS {
+        return Verdict::Full;
+    }
+    let verdict = judge(kernel, bound, given);
+    if verdict != Verdict::Differs {
+        kernel.step_long(given.event());
+    }
+    verdict
+}
+
+/// What comes, in at most so many turns of the text.
+#[tactic(auto, using(crate::proofs::Following::nothing_yet))]
+fn take_turns<B: Body>(kernel: &mut Kernel<B>, bound: u64, given: Given, turns: u32) -> Verdict
+    requires { kernel.old.bound ≡ bound }
+    ensures follows { result ≡ Verdict.Follows → HasFollowed B.meaning kernel.old (given ∷ []) kernel.new }
+    ensures stays { result ≢ Verdict.Follows → HasFollowed B.meaning kernel.old [] kernel.new }
+    ensures differs { result ≡ Verdict.Differs → DoesOtherwise B.meaning kernel.new given }
+    ensures long { result ≡ Verdict.Long → kernel.new.taken ≡ kernel.old.taken + turns }
+    ensures full { result ≡ Verdict.Full → 2 ^ 31 ≤ kernel.new.taken }
+    ensures bound { kernel.new.bound ≡ bound }
+{
+    for _ in 0..turns {
+        let verdict = take_turn(kernel, bound, given);
+        if verdict != Verdict::Long {
+            return verdict;
+        }
+    }
+    Verdict::Long
+}
+
+/// What stands at this place of a journal.
+fn given_at(journal: &[Given], at: usize) -> Given
+    requires { at < length journal.now }
+    ensures { slice_get journal.now at ≡ Some result }
+{
+    journal[at]
+}
+
+/// The whole of a journal, or the first thing in it that the text does not follow.
+#[tactic(auto, using(crate::proofs::Journals::all_followed, crate::proofs::Following::nothing_yet))]
+fn replay_all<B: Body>(
+    kernel: &mut Kernel<B>,
+    bound: u64,
+    journal: &[Given],
+    turns: u32,
+) -> Result<(), Departure>
+    requires { kernel.old.bound ≡ bound }
+    ensures follows { IfOk result (λ _. HasFollowed B.meaning kernel.old journal.now kernel.new) }
+    ensures departs { IfErr result (Departs B.meaning kernel.old journal.now kernel.new) }
+    ensures bound { kernel.new.bound ≡ bound }
+{
+    for at in 0..journal.len() {
+        let given = given_at(journal, at);
+        let why = take_turns(kernel, bound, given, turns);
+        if why != Verdict::Follows {
+            return Err(Departure { at, why });
+        }
+    }
+    Ok(())
+}
+
+impl<B: Body> Shadow<B> {
+    /// A shadow from this kernel on, in which a stretch takes at most this many units.
+    pub fn new(kernel: Kernel<B>, bound: u64) -> Shadow<B>
+        requires { kernel.bound ≡ bound }
+        ensures { result ≡ kernel }
+    {
+        Shadow { kernel, bound }
+    }
+
+    /// Its kernel.
+    pub fn kernel(&self) -> &Kernel<B>
+        ensures { result.now ≡ self.now }
+    {
+        &self.kernel
+    }
+
+    /// What comes, in at most so many turns of the text. It follows where the text does just this next, and its kernel
+    /// has then made the event. Else its kernel has only gone on within the stretch of the actor: up to where the text
+    /// does another thing, or for all of the turns, after which another call goes on.
+    pub fn take(&mut self, given: Given, turns: u32) -> Verdict
+        ensures follows { result ≡ Verdict.Follows → HasFollowed B.meaning self.old (given ∷ []) self.new }
+        ensures stays { result ≢ Verdict.Follows → HasFollowed B.meaning self.old [] self.new }
+        ensures differs { result ≡ Verdict.Differs → DoesOtherwise B.meaning self.new given }
+        ensures long { result ≡ Verdict.Long → self.new.taken ≡ self.old.taken + turns }
+        ensures full { result ≡ Verdict.Full → 2 ^ 31 ≤ self.new.taken }
+    {
+        take_turns(&mut self.kernel, self.bound, given, turns)
+    }
+
+    /// The whole of a journal, each thing in it in at most so many turns of the text; or the first that the text does
+    /// not follow.
+    pub fn replay(&mut self, journal: &[Given], turns: u32) -> Result<(), Departure>
+        ensures follows { IfOk result (λ _. HasFollowed B.meaning self.old journal.now self.new) }
+        ensures departs { IfErr result (Departs B.meaning self.old journal.now self.new) }
+    {
+        replay_all(&mut self.kernel, self.bound, journal, turns)
+    }
+}
