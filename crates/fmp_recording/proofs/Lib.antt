@@ -1,0 +1,5 @@
+pub mod Decimals
+pub mod Padding
+pub mod LineByLine
+pub mod CallTables
+pub mod RoundTrip

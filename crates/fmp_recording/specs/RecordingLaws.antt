@@ -1,0 +1,31 @@
+-- Laws of recordings.
+use Rattle.std.specs.Prelude.{ℕ, ℤ, pos, negsuc, ◌≡◌, ◌≤◌, ◌<◌, ◌^◌, List, Ok, length}
+use Rattle.std.specs.List.{AllByRecursion}
+use Rattle.fmp_base.specs.Services.{arguments_of}
+use Rattle.fmp_outside.specs.declared.given.Act.{Act}
+use Rattle.fmp_outside.specs.declared.given.Act.TheVariants as act
+use Rattle.fmp_outside.specs.declared.given.Given.{Given}
+use Rattle.fmp_outside.specs.declared.given.Given.TheVariants as given
+use Rattle.fmp_recording.specs.Recordings.{recording_of, recording_text}
+
+-- a number of 32 bits
+abbrev pub IsWord : ℤ → Type 0
+IsWord (pos n) = n < 2 ^ 31
+IsWord (negsuc n) = n < 2 ^ 31
+
+abbrev pub IsWritable : Act → Type 0
+IsWritable (act.Call c) = AllByRecursion IsWord (arguments_of c)
+IsWritable act.End = Unit {0}
+IsWritable (act.Fault f) = Unit {0}
+
+-- what a recording of a system with so many processors can hold
+abbrev pub IsRecorded : (processors : ℕ) → Given → Type 0
+IsRecorded processors (given.Act p a) = (1 ≤ p) × (p ≤ processors) × IsWritable a
+IsRecorded processors given.Tick = Unit {0}
+IsRecorded processors (given.Int i) = (1 ≤ i) × (i ≤ 32)
+
+-- what is written of a run, of at most 2^31 events, is read as this run
+abbrev pub PrintedRecordingsReadBack : Type 0
+PrintedRecordingsReadBack =
+    (processors : ℕ) (gs : List Given) → processors < 256 → AllByRecursion (IsRecorded processors) gs
+    → length gs ≤ 2 ^ 31 → recording_of processors (recording_text gs) ≡ Ok gs

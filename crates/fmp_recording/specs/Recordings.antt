@@ -1,0 +1,203 @@
+-- Recordings: how they are written, and what they mean.
+use Rattle.std.specs.Prelude.{◌≡◌, ℕ, suc, ◌+◌, ◌-◌, ◌^◌, true, false, min, ℤ, pos, negsuc, List, [], ◌∷◌, ◌++◌, Option, Some, None, Result, Ok, Err, Bool, ◌&&◌, if◌then◌else◌, nat_eq, nat_le, nat_lt, bytes_eq, codes, decimal, drop, position, take, zero}
+use Rattle.std.specs.Fmt.{signed_decimal}
+use Rattle.fmp_base.specs.declared.bodies.Fault.{Fault}
+use Rattle.fmp_base.specs.declared.bodies.Fault.TheVariants.{Overflow, Division, Index}
+use Rattle.fmp_base.specs.declared.services.Service.{Service}
+use Rattle.fmp_base.specs.Services.{arguments_of, arity, request, service_name, service_of}
+use Rattle.fmp_base.specs.Texts.{fault_text}
+use Rattle.fmp_base.specs.Words.{service_named}
+use Rattle.fmp_outside.specs.declared.given.Act.{Act}
+use Rattle.fmp_outside.specs.declared.given.Act.TheVariants as act
+use Rattle.fmp_outside.specs.declared.given.Given.{Given}
+use Rattle.fmp_outside.specs.declared.given.Given.TheVariants as given
+use Rattle.fmp_recording.specs.declared.faults.Flaw.{Flaw}
+use Rattle.fmp_recording.specs.declared.faults.Flaw.TheVariants as flaw
+use Rattle.fmp_recording.specs.declared.faults.RecordingFault.{RecordingFault}
+use Rattle.fmp_recording.specs.declared.faults.RecordingFault.TheVariants as fault
+use Rattle.fmp_steps.specs.Steps.{lines_of, numeral_value}
+
+-- arguments, each behind a blank
+abbrev pub arguments_text : List ℤ → List ℕ
+arguments_text [] = []
+arguments_text (x ∷ xs) = codes " " ++ (signed_decimal x ++ arguments_text xs)
+
+-- how what a body does is written
+abbrev pub act_text : Act → List ℕ
+act_text (act.Call c) = service_name (service_of c) ++ arguments_text (arguments_of c)
+act_text act.End = codes "end"
+act_text (act.Fault f) = codes "fault " ++ fault_text f
+
+-- how what comes is written
+abbrev pub given_text : Given → List ℕ
+given_text (given.Act p a) = codes "run " ++ (decimal p ++ (codes " " ++ act_text a))
+given_text given.Tick = codes "tick"
+given_text (given.Int i) = codes "int " ++ decimal i
+
+-- each of them, ended by a line feed
+abbrev pub recording_text : List Given → List ℕ
+recording_text [] = []
+recording_text (g ∷ gs) = given_text g ++ 10 ∷ recording_text gs
+
+-- a word, and what stands behind it, from the blank on that ends it
+pub record Cut : Type 0 where
+  pub word : List ℕ
+  pub rest : List ℕ
+
+abbrev pub cut_at : Option ℕ → List ℕ → Cut
+cut_at None text = record { word = text; rest = [] }
+cut_at (Some k) text = record { word = take k text; rest = drop k text }
+
+-- the first word of a text
+abbrev pub cut : List ℕ → Cut
+cut text = cut_at (position (λ b. nat_eq b 32) text) text
+
+-- a number, or 2^31 + 1 for a greater one
+abbrev pub capped : Option ℕ → Option ℕ
+capped None = None
+capped (Some n) = Some (min n 2147483649)
+
+-- a number of 32 bits
+abbrev pub positive : Option ℕ → Option ℤ
+positive None = None
+positive (Some n) = if nat_lt n (2 ^ 31) then Some (pos n) else None
+
+-- the same below 0
+abbrev pub negative : Option ℕ → Option ℤ
+negative None = None
+negative (Some n) = if nat_le 1 n && nat_le n (2 ^ 31) then Some (negsuc (n - 1)) else None
+
+abbrev pub signed_number : (is_minus : Bool) → (behind text : List ℕ) → Option ℤ
+signed_number true behind text = negative (numeral_value behind)
+signed_number false behind text = positive (numeral_value text)
+
+-- the number of 32 bits that a text spells, with `-` in front if it is below 0, without zeros in front
+abbrev pub number_of : List ℕ → Option ℤ
+number_of [] = None
+number_of (b ∷ bs) = signed_number (nat_eq b 45) bs (b ∷ bs)
+
+abbrev pub in_front_of : Option ℤ → Option (List ℤ) → Option (List ℤ)
+in_front_of None xs = None
+in_front_of (Some x) None = None
+in_front_of (Some x) (Some xs) = Some (x ∷ xs)
+
+-- so many arguments, each behind a blank, and nothing behind them
+abbrev pub arguments_in : ℕ → List ℕ → Option (List ℤ)
+arguments_in zero [] = Some []
+arguments_in zero (b ∷ bs) = None
+arguments_in (suc n) [] = None
+arguments_in (suc n) (b ∷ bs) = in_front_of (number_of (cut bs).word) (arguments_in n (cut bs).rest)
+
+-- a number from 1 to the greatest
+abbrev pub number_up_to : (most : ℕ) → Option ℤ → Result ℕ Flaw
+number_up_to most None = Err flaw.Form
+number_up_to most (Some (pos n)) = if nat_le 1 n && nat_le n most then Ok n else Err flaw.Range
+number_up_to most (Some (negsuc n)) = Err flaw.Range
+
+abbrev pub fault_named : List ℕ → Option Fault
+fault_named word =
+    if bytes_eq word (codes "F_OVF") then Some Overflow
+    else if bytes_eq word (codes "F_DIV") then Some Division
+    else if bytes_eq word (codes "F_IDX") then Some Index
+    else None
+
+-- the call of a service with these arguments
+abbrev pub call_with : Service → Option (List ℤ) → Option Act
+call_with s None = None
+call_with s (Some xs) = Some (act.Call (request s xs))
+
+abbrev pub call_in : Option Service → List ℕ → Option Act
+call_in None rest = None
+call_in (Some s) rest = call_with s (arguments_in (arity s) rest)
+
+abbrev pub fault_act : Option Fault → Option Act
+fault_act None = None
+fault_act (Some f) = Some (act.Fault f)
+
+abbrev pub fault_in : List ℕ → Option Act
+fault_in [] = None
+fault_in (b ∷ bs) = fault_act (fault_named bs)
+
+abbrev pub end_in : List ℕ → Option Act
+end_in [] = Some act.End
+end_in (b ∷ bs) = None
+
+-- what a body does, from its word and what stands behind
+abbrev pub act_by : Cut → Option Act
+act_by c =
+    if bytes_eq c.word (codes "end") then end_in c.rest
+    else if bytes_eq c.word (codes "fault") then fault_in c.rest
+    else call_in (service_named c.word) c.rest
+
+abbrev pub act_in : List ℕ → Option Act
+act_in [] = None
+act_in (b ∷ bs) = act_by (cut bs)
+
+abbrev pub given_act : Result ℕ Flaw → Option Act → Result Given Flaw
+given_act (Err f) a = Err f
+given_act (Ok p) None = Err flaw.Form
+given_act (Ok p) (Some a) = Ok (given.Act p a)
+
+abbrev pub run_in : (processors : ℕ) → List ℕ → Result Given Flaw
+run_in processors [] = Err flaw.Form
+run_in processors (b ∷ bs) =
+    given_act (number_up_to processors (number_of (cut bs).word)) (act_in (cut bs).rest)
+
+abbrev pub given_int : Result ℕ Flaw → Result Given Flaw
+given_int (Err f) = Err f
+given_int (Ok i) = Ok (given.Int i)
+
+abbrev pub int_in : List ℕ → Result Given Flaw
+int_in [] = Err flaw.Form
+int_in (b ∷ bs) = given_int (number_up_to 32 (number_of bs))
+
+abbrev pub tick_in : List ℕ → Result Given Flaw
+tick_in [] = Ok given.Tick
+tick_in (b ∷ bs) = Err flaw.Form
+
+-- what comes, from its word and what stands behind
+abbrev pub given_by : (processors : ℕ) → Cut → Result Given Flaw
+given_by processors c =
+    if bytes_eq c.word (codes "run") then run_in processors c.rest
+    else if bytes_eq c.word (codes "int") then int_in c.rest
+    else if bytes_eq c.word (codes "tick") then tick_in c.rest
+    else Err flaw.Form
+
+-- what a line without its line feed says: `run P CALL A ..` with all arguments of the call, `run P end`,
+-- `run P fault F_OVF`, `F_DIV` or `F_IDX`, with P from 1 to the number of processors; `tick`; `int I` with I from 1 to 32
+abbrev pub line_meaning : (processors : ℕ) → List ℕ → Result Given Flaw
+line_meaning processors line = given_by processors (cut line)
+
+-- a flaw of line n
+abbrev pub fault_at : ℕ → Result Given Flaw → Result Given RecordingFault
+fault_at n (Ok g) = Ok g
+fault_at n (Err flaw.Form) = Err (fault.Line n)
+fault_at n (Err flaw.Range) = Err (fault.Range n)
+
+-- what line n says: there are at most 2^31 lines
+abbrev pub given_of_line : (processors n : ℕ) → List ℕ → Result Given RecordingFault
+given_of_line processors n line =
+    if nat_le n (2 ^ 31) then fault_at n (line_meaning processors line) else Err (fault.TooMany n)
+
+abbrev pub in_front : Result Given RecordingFault → Result (List Given) RecordingFault
+    → Result (List Given) RecordingFault
+in_front (Err f) rest = Err f
+in_front (Ok g) (Err f) = Err f
+in_front (Ok g) (Ok gs) = Ok (g ∷ gs)
+
+-- what lines say that are numbered from n on, or the first fault
+abbrev pub givens_of : (processors n : ℕ) → List (List ℕ) → Result (List Given) RecordingFault
+givens_of processors n [] = Ok []
+givens_of processors n (line ∷ lines) =
+    in_front (given_of_line processors n line) (givens_of processors (n + 1) lines)
+
+-- what a recording says, or its first fault
+abbrev pub recording_of : (processors : ℕ) → List ℕ → Result (List Given) RecordingFault
+recording_of processors text = givens_of processors 1 (lines_of text)
+
+-- a reader's fault is that of the text, unless memory ran out
+abbrev pub IsFaultOf : RecordingFault → Result (List Given) RecordingFault → Type 0
+IsFaultOf fault.Memory r = Unit {0}
+IsFaultOf (fault.Line n) r = r ≡ Err (fault.Line n)
+IsFaultOf (fault.Range n) r = r ≡ Err (fault.Range n)
+IsFaultOf (fault.TooMany n) r = r ≡ Err (fault.TooMany n)

@@ -1,0 +1,13 @@
+//! Recordings: what came to a kernel whose bodies run outside, with the calls that they made, as a text of one line an
+//! event.
+#![tactic(auto)]
+
+mod cutting;
+mod faults;
+mod numbers;
+mod printing;
+mod reading;
+
+pub use faults::RecordingFault;
+pub use printing::{print_recording, printed_recordings_read_back};
+pub use reading::{MOST_LINES, read_recording};

@@ -1,0 +1,88 @@
+//! Recordings, as they are written.
+ghost use Rattle.std.specs.Prelude.{◌≡◌, ◌++◌, ◌∷◌, [], OnOk, decimal};
+ghost use Rattle.std.specs.Fmt.{signed_decimal};
+ghost use Rattle.fmp_recording.specs.RecordingLaws.{PrintedRecordingsReadBack};
+ghost use Rattle.fmp_recording.specs.Recordings.{act_text, arguments_text, given_text, recording_text};
+
+use fmp_base::Fault;
+use fmp_outside::{Act, Given};
+use itoa::Buffer;
+use std::alloc::AllocError;
+
+fn append_number(number: u8, out: &mut Vec<u8>) -> Result<(), AllocError>
+    ensures { OnOk result (out.new.items ≡ out.old.items ++ decimal number) }
+{
+    out.extend_from_slice(Buffer::new().format(u32::from(number)).as_bytes())
+}
+
+fn append_signed(number: i32, out: &mut Vec<u8>) -> Result<(), AllocError>
+    ensures { OnOk result (out.new.items ≡ out.old.items ++ signed_decimal number) }
+{
+    out.extend_from_slice(Buffer::new().format(number).as_bytes())
+}
+
+fn append_arguments(arguments: &[i32], out: &mut Vec<u8>) -> Result<(), AllocError>
+    ensures { OnOk result (out.new.items ≡ out.old.items ++ arguments_text arguments.now) }
+{
+    for argument in arguments {
+        out.extend_from_slice(b" ")?;
+        append_signed(*argument, out)?;
+    }
+    Ok(())
+}
+
+fn append_act(act: Act, out: &mut Vec<u8>) -> Result<(), AllocError>
+    ensures { OnOk result (out.new.items ≡ out.old.items ++ act_text act) }
+{
+    match act {
+        Act::Call(call) => {
+            out.extend_from_slice(call.service().name().as_bytes())?;
+            append_arguments(call.arguments().as_slice(), out)
+        }
+        Act::End => out.extend_from_slice(b"end"),
+        Act::Fault(Fault::Overflow) => out.extend_from_slice(b"fault F_OVF"),
+        Act::Fault(Fault::Division) => out.extend_from_slice(b"fault F_DIV"),
+        Act::Fault(Fault::Index) => out.extend_from_slice(b"fault F_IDX"),
+    }
+}
+
+fn append_given(given: Given, out: &mut Vec<u8>) -> Result<(), AllocError>
+    ensures { OnOk result (out.new.items ≡ out.old.items ++ given_text given) }
+{
+    match given {
+        Given::Act(p, act) => {
+            out.extend_from_slice(b"run ")?;
+            append_number(p, out)?;
+            out.extend_from_slice(b" ")?;
+            append_act(act, out)
+        }
+        Given::Tick => out.extend_from_slice(b"tick"),
+        Given::Int(number) => {
+            out.extend_from_slice(b"int ")?;
+            append_number(number, out)
+        }
+    }
+}
+
+/// Appends the line of what came, with its line feed. If memory runs out, the text has an unfinished end.
+fn append_line(given: Given, out: &mut Vec<u8>) -> Result<(), AllocError>
+    ensures { OnOk result (out.new.items ≡ out.old.items ++ (given_text given ++ 10 ∷ [])) }
+{
+    append_given(given, out)?;
+    out.extend_from_slice(b"\n")
+}
+
+/// Appends a recording, each line ended by a line feed. If memory runs out, the text has an unfinished end.
+pub fn print_recording(recording: &[Given], out: &mut Vec<u8>) -> Result<(), AllocError>
+    ensures { OnOk result (out.new.items ≡ out.old.items ++ recording_text recording.now) }
+{
+    for given in recording {
+        append_line(*given, out)?;
+    }
+    Ok(())
+}
+
+/// The text that `print_recording` writes of a run is read as this run.
+pub fn printed_recordings_read_back()
+    ensures { PrintedRecordingsReadBack }
+{}

@@ -1,0 +1,203 @@
+//! The reader of recordings.
+ghost use Rattle.std.specs.Prelude.{◌≡◌, ◌≤◌, IfErr, IfOk, MatchOption, None, Ok, Some, suc, take, ℕ};
+ghost use Rattle.std.specs.Str.{bytes_eq};
+ghost use Rattle.fmp_base.specs.Words.{service_named};
+ghost use Rattle.fmp_recording.specs.Recordings.{IsFaultOf, act_in as spec_act, arguments_in, call_in as spec_call, end_in as spec_end, fault_in as spec_fault, fault_named, given_of_line, in_front_of, int_in as spec_int, line_meaning, recording_of, run_in as spec_run, tick_in as spec_tick};
+
+use crate::cutting::{first_line, first_word};
+use crate::faults::{Flaw, RecordingFault};
+use crate::numbers::{number_in, ranged_in};
+use fmp_base::words::find_service;
+use fmp_base::{Call, Fault};
+use fmp_outside::{Act, Given};
+use std::alloc::Global;
+
+/// The greatest number of lines: a kernel takes as many events.
+pub const MOST_LINES: u32 = 1 << 31;
+
+/// The greatest number of an interrupt.
+const INTERRUPTS: u8 = 32;
+
+/// The fault of this name.
+fn find_fault(word: &[u8]) -> Option<Fault>
+    ensures { result ≡ fault_named word.now }
+{
+    match word {
+        b"F_OVF" => Some(Fault::Overflow),
+        b"F_DIV" => Some(Fault::Division),
+        b"F_IDX" => Some(Fault::Index),
+        _ => None,
+    }
+}
+
+/// The first argument of those that are left, behind its blank, and what is left behind it.
+#[tactic(auto, using(crate::proofs::LineByLine::no_argument, crate::proofs::LineByLine::bad_argument))]
+fn next_argument(rest: &[u8]) -> Option<(i32, &[u8])>
+    ensures { MatchOption result ((n : ℕ) → arguments_in (suc n) rest.now ≡ None)
+        (λ next. (n : ℕ) → arguments_in (suc n) rest.now ≡ in_front_of (Some next.0) (arguments_in n next.1.now)) }
+{
+    let [_, behind @ ..] = rest else {
+        return None;
+    };
+    let (word, after) = first_word(behind);
+    Some((number_in(word)?, after))
+}
+
+/// So many arguments, each behind a blank, with nothing behind them. Zeros stand behind them in the array.
+#[tactic(auto, using(crate::proofs::LineByLine::no_number, crate::proofs::LineByLine::next_number, crate::proofs::LineByLine::all_numbers, crate::proofs::LineByLine::more_numbers))]
+fn read_arguments(count: u8, text: &[u8]) -> Option<[i32; 4]>
+    requires { count ≤ 4 }
+    ensures { MatchOption result (arguments_in count text.now ≡ None)
+        (λ numbers. arguments_in count text.now ≡ Some (take count numbers)) }
+{
+    let mut numbers = [0; 4];
+    let mut rest = text;
+    for place in 0..count {
+        let (number, after) = next_argument(rest)?;
+        numbers[place as usize] = number;
+        rest = after;
+    }
+    if rest.is_empty() { Some(numbers) } else { None }
+}
+
+/// The call of this name with the arguments that stand behind it.
+#[tactic(auto, using(crate::proofs::Padding::padded_array))]
+fn call_in(word: &[u8], rest: &[u8]) -> Option<Act>
+    ensures { result ≡ spec_call (service_named word.now) rest.now }
+{
+    let service = find_service(word)?;
+    let arguments = read_arguments(service.arity(), rest)?;
+    Some(Act::Call(Call::request(service, arguments)))
+}
+
+/// The fault whose name stands behind a blank.
+fn fault_in(rest: &[u8]) -> Option<Act>
+    ensures { result ≡ spec_fault rest.now }
+{
+    let [_, word @ ..] = rest else {
+        return None;
+    };
+    Some(Act::Fault(find_fault(word)?))
+}
+
+/// An end, if nothing stands behind it.
+fn end_in(rest: &[u8]) -> Option<Act>
+    ensures { result ≡ spec_end rest.now }
+{
+    if rest.is_empty() {
+        Some(Act::End)
+    } else {
+        None
+    }
+}
+
+/// Whether two words are the same.
+fn is_same_word(word: &[u8], name: &[u8]) -> bool
+    ensures { result ≡ bytes_eq word.now name.now }
+{
+    word == name
+}
+
+/// What a body does, as it stands behind a blank.
+#[tactic(auto, using(crate::proofs::LineByLine::a_call))]
+fn act_in(rest: &[u8]) -> Option<Act>
+    ensures { result ≡ spec_act rest.now }
+{
+    let [_, text @ ..] = rest else {
+        return None;
+    };
+    let (word, rest) = first_word(text);
+    if is_same_word(word, b"end") {
+        end_in(rest)
+    } else if is_same_word(word, b"fault") {
+        fault_in(rest)
+    } else {
+        call_in(word, rest)
+    }
+}
+
+/// What stands behind `run`.
+fn run_in(processors: u8, rest: &[u8]) -> Result<Given, Flaw>
+    ensures { result ≡ spec_run processors rest.now }
+{
+    let [_, text @ ..] = rest else {
+        return Err(Flaw::Form);
+    };
+    let (word, rest) = first_word(text);
+    let p = ranged_in(word, processors)?;
+    match act_in(rest) {
+        Some(act) => Ok(Given::Act(p, act)),
+        None => Err(Flaw::Form),
+    }
+}
+
+/// What stands behind `int`.
+fn int_in(rest: &[u8]) -> Result<Given, Flaw>
+    ensures { result ≡ spec_int rest.now }
+{
+    let [_, word @ ..] = rest else {
+        return Err(Flaw::Form);
+    };
+    Ok(Given::Int(ranged_in(word, INTERRUPTS)?))
+}
+
+/// A tick, if nothing stands behind it.
+fn tick_in(rest: &[u8]) -> Result<Given, Flaw>
+    ensures { result ≡ spec_tick rest.now }
+{
+    if rest.is_empty() {
+        Ok(Given::Tick)
+    } else {
+        Err(Flaw::Form)
+    }
+}
+
+/// What a line says.
+fn given_in(line: &[u8], processors: u8) -> Result<Given, Flaw>
+    ensures { result ≡ line_meaning processors line.now }
+{
+    let (word, rest) = first_word(line);
+    match word {
+        b"run" => run_in(processors, rest),
+        b"int" => int_in(rest),
+        b"tick" => tick_in(rest),
+        _ => Err(Flaw::Form),
+    }
+}
+
+/// What the line of this number says.
+fn given_at(line: &[u8], number: u32, processors: u8) -> Result<Given, RecordingFault>
+    ensures { result ≡ given_of_line processors number line.now }
+{
+    if number > MOST_LINES {
+        return Err(RecordingFault::TooMany { line: number });
+    }
+    match given_in(line, processors) {
+        Ok(given) => Ok(given),
+        Err(Flaw::Form) => Err(RecordingFault::Line { line: number }),
+        Err(Flaw::Range) => Err(RecordingFault::Range { line: number }),
+    }
+}
+
+/// Reads a recording: each line says what comes, and is ended by a line feed, which the last may lack. The fault is
+/// that of the first faulty line, unless memory runs out first.
+pub fn read_recording(
+    alloc: Global,
+    text: &[u8],
+    processors: u8,
+) -> Result<Vec<Given>, RecordingFault>
+    ensures ok { IfOk result (λ recording. recording_of processors text.now ≡ Ok recording.items) }
+    ensures fault { IfErr result (λ fault. IsFaultOf fault (recording_of processors text.now)) }
+{
+    let mut recording = Vec::new(alloc);
+    let mut rest = text;
+    let mut number = 1;
+    while !rest.is_empty() {
+        let (line, after) = first_line(rest);
+        let given = given_at(line, number, processors)?;
+        recording.push(given).map_err(|_| RecordingFault::Memory)?;
+        rest = after;
+        number += 1;
+    }
+    Ok(recording)
+}
