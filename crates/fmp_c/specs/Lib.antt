@@ -1,0 +1,6 @@
+pub mod Exports
+pub mod Held
+pub mod Lines
+pub mod Names
+pub mod Records
+pub mod Services

@@ -1,0 +1,148 @@
+//! The events that C hands in. Each takes no memory. Its answer is 0 where nothing has happened, 1 where it is done, 3
+//! after 2^31 events, 4 where the handle is blank, 5 to 9 where a number is out of range; unless it is 1, nothing has
+//! changed.
+ghost use Rattle.std.specs.Prelude.{◌≡◌, ◌∷◌, [], IfSome, None, Ok};
+ghost use Rattle.fmp_outside.specs.declared.given.Act.TheVariants as act;
+ghost use Rattle.fmp_outside.specs.declared.given.Given.TheVariants as given;
+ghost use Rattle.fmp_foreign.specs.Hosting.{called_by, made_by};
+ghost use Rattle.fmp_c.specs.Exports.{IsTaken, fault_of};
+
+use crate::handle::FmpSystem;
+use crate::names::item;
+use crate::records::FmpOutcome;
+use fmp_base::Fault;
+use std::alloc::Global;
+use std::mem;
+
+/// What is answered where the handle holds no system.
+const BLANK: u32 = 4;
+
+/// What is answered where there is no such fault.
+const NO_FAULT: u32 = 9;
+
+/// The actor of the processor of this number, from 1, makes the call of the service of this function code, 1 to 59.
+/// Arguments that it does not take are ignored.
+#[unsafe(no_mangle)]
+pub extern "C" fn fmp_call(
+    alloc: Global,
+    h: &mut FmpSystem,
+    p: u8,
+    service: u8,
+    a: i32,
+    b: i32,
+    c: i32,
+    d: i32,
+    out: &mut FmpOutcome,
+) -> u32
+    ensures taken { IfSome h.old.machine (λ m.
+        IsTaken m (made_by p (called_by service (a ∷ b ∷ c ∷ d ∷ []))) p h.new.machine out.new result) }
+    ensures blank { h.old.machine ≡ None → (h.new.machine ≡ None) × (result ≡ 4) × (out.new ≡ out.old) }
+{
+    match mem::replace(h, FmpSystem::blank()).into_box(alloc) {
+        Some(held) => {
+            let mut machine = held;
+            let answer = machine.hosted.call(p, service, &[a, b, c, d]);
+            let number = machine.tell(p, answer, out);
+            *h = FmpSystem::of(machine);
+            number
+        }
+        None => BLANK,
+    }
+}
+
+/// The body of the actor of the processor of this number, from 1, ends.
+#[unsafe(no_mangle)]
+pub extern "C" fn fmp_end(alloc: Global, h: &mut FmpSystem, p: u8, out: &mut FmpOutcome) -> u32
+    ensures taken { IfSome h.old.machine (λ m.
+        IsTaken m (Ok (given.Act p act.End)) p h.new.machine out.new result) }
+    ensures blank { h.old.machine ≡ None → (h.new.machine ≡ None) × (result ≡ 4) × (out.new ≡ out.old) }
+{
+    match mem::replace(h, FmpSystem::blank()).into_box(alloc) {
+        Some(held) => {
+            let mut machine = held;
+            let answer = machine.hosted.end(p);
+            let number = machine.tell(p, answer, out);
+            *h = FmpSystem::of(machine);
+            number
+        }
+        None => BLANK,
+    }
+}
+
+/// The faults in order of their numbers, from 1.
+const FAULTS: [Fault; 3] = [Fault::Overflow, Fault::Division, Fault::Index];
+
+fn fail(alloc: Global, h: &mut FmpSystem, p: u8, fault: Fault, out: &mut FmpOutcome) -> u32
+    ensures taken { IfSome h.old.machine (λ m.
+        IsTaken m (Ok (given.Act p (act.Fault fault))) p h.new.machine out.new result) }
+    ensures blank { h.old.machine ≡ None → (h.new.machine ≡ None) × (result ≡ 4) × (out.new ≡ out.old) }
+{
+    match mem::replace(h, FmpSystem::blank()).into_box(alloc) {
+        Some(held) => {
+            let mut machine = held;
+            let answer = machine.hosted.fault(p, fault);
+            let number = machine.tell(p, answer, out);
+            *h = FmpSystem::of(machine);
+            number
+        }
+        None => BLANK,
+    }
+}
+
+/// The body of the actor of the processor of this number, from 1, stops with a fault: 1 an overflow, 2 a division by 0,
+/// 3 an index out of range. 9 where there is no such fault.
+#[unsafe(no_mangle)]
+pub extern "C" fn fmp_fault(
+    alloc: Global,
+    h: &mut FmpSystem,
+    p: u8,
+    fault: u8,
+    out: &mut FmpOutcome,
+) -> u32
+    ensures taken { IfSome h.old.machine (λ m. IfSome (fault_of fault) (λ f.
+        IsTaken m (Ok (given.Act p (act.Fault f))) p h.new.machine out.new result)) }
+    ensures blank { h.old.machine ≡ None → IfSome (fault_of fault) (λ f.
+        (h.new.machine ≡ None) × (result ≡ 4) × (out.new ≡ out.old)) }
+    ensures none { fault_of fault ≡ None → (h.new.machine ≡ h.old.machine) × (result ≡ 9) × (out.new ≡ out.old) }
+{
+    match item(&FAULTS, usize::from(fault)) {
+        Some(fault) => fail(alloc, h, p, fault, out),
+        None => NO_FAULT,
+    }
+}
+
+/// The clock advances by one.
+#[unsafe(no_mangle)]
+pub extern "C" fn fmp_tick(alloc: Global, h: &mut FmpSystem, out: &mut FmpOutcome) -> u32
+    ensures taken { IfSome h.old.machine (λ m. IsTaken m (Ok given.Tick) 0 h.new.machine out.new result) }
+    ensures blank { h.old.machine ≡ None → (h.new.machine ≡ None) × (result ≡ 4) × (out.new ≡ out.old) }
+{
+    match mem::replace(h, FmpSystem::blank()).into_box(alloc) {
+        Some(held) => {
+            let mut machine = held;
+            let answer = machine.hosted.tick();
+            let number = machine.tell(0, answer, out);
+            *h = FmpSystem::of(machine);
+            number
+        }
+        None => BLANK,
+    }
+}
+
+/// The interrupt of this number, 1 to 32, is requested.
+#[unsafe(no_mangle)]
+pub extern "C" fn fmp_int(alloc: Global, h: &mut FmpSystem, number: u8, out: &mut FmpOutcome) -> u32
+    ensures taken { IfSome h.old.machine (λ m. IsTaken m (Ok (given.Int number)) 0 h.new.machine out.new result) }
+    ensures blank { h.old.machine ≡ None → (h.new.machine ≡ None) × (result ≡ 4) × (out.new ≡ out.old) }
+{
+    match mem::replace(h, FmpSystem::blank()).into_box(alloc) {
+        Some(held) => {
+            let mut machine = held;
+            let answer = machine.hosted.interrupt(number);
+            let answered = machine.tell(0, answer, out);
+            *h = FmpSystem::of(machine);
+            answered
+        }
+        None => BLANK,
+    }
+}
