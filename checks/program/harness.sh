@@ -30,7 +30,7 @@ finished=
 room=$(mktemp -d)
 trap leave EXIT
 cd "$room"
-cp "$root"/examples/* .
+cp "$root"/examples/*.* .
 : > none
 printf 'ok\n' > ok
 
