@@ -1,9 +1,12 @@
 # make install [PREFIX=/usr/local] [DESTDIR=]
 # make uninstall [PREFIX=/usr/local] [DESTDIR=]
+# make library
+# make install-c [PREFIX=/usr/local] [DESTDIR=]
 #
-# Copies the proved programs, their manual pages, their completions and the reference below PREFIX, and says where; or
-# removes these files. It builds nothing: each program stands in its crate's folder out once `rt run` there, or the
-# gate, has proved it. PREFIX and DESTDIR may have blanks in them.
+# `install` copies the proved programs, their manual pages, their completions and the reference below PREFIX, and says
+# where; and the library for C, its headers, its manual page and its pkg-config file, once `library` has made it.
+# `uninstall` removes these files. `install` builds nothing: each program stands in its crate's folder out once `rt run`
+# there, or the gate, has proved it. `install-c` is for the library alone. PREFIX and DESTDIR may have blanks in them.
 
 PREFIX ?= /usr/local
 PROGRAM ?= crates/fmp/out/fmp
@@ -41,9 +44,11 @@ endef
 .PHONY: install uninstall
 install: $(PROGRAM) $(VIEW)
 	$(call all,copied)
+	@if [ -f $(ARCHIVE) ]; then $(MAKE) -s install-c; else echo "not the library for C: \`make library\` makes it"; fi
 
 uninstall:
 	$(call all,removed)
+	$(call all_for_c,removed)
 	@rmdir "$(ROOM)/share/doc/fmp" 2> /dev/null || true
 
 # $(call missing,PROGRAM,FOLDER)
@@ -58,3 +63,41 @@ $(PROGRAM):
 
 $(VIEW):
 	$(call missing,$@,crates/fmp_view)
+
+# The library for C: the proved part, which checks/port/library.py makes behind the gate, and else `rt lib` in its
+# folder; the allocator's glue of the toolchain; and the port for virtual time, in one archive.
+LIBRARY ?= crates/fmp_c/out/libfmp_c.a
+GLUE ?= $(shell dirname "$$(dirname "$$(readlink -f "$$(command -v rt)")")")/c/liblibc_c.a
+C_ROOM ?= crates/fmp_c/out/c
+ARCHIVE = $(C_ROOM)/libfmp.a
+PORT = $(C_ROOM)/virtual.o $(C_ROOM)/coroutine.o
+
+.PHONY: library
+library: $(ARCHIVE)
+
+$(C_ROOM)/%.o: port/%.c port/coroutine.h $(wildcard port/include/*.h)
+	@mkdir -p $(C_ROOM)
+	@$(CC) -std=c11 -O2 -Iport/include -c $< -o $@
+
+$(ARCHIVE): $(LIBRARY) $(PORT)
+	@rm -f $@
+	@printf '%s\n' 'create $@' 'addlib $(LIBRARY)' 'addlib $(GLUE)' $(PORT:%='addmod %') save end | $(AR) -M
+
+$(LIBRARY):
+	@echo "There is no $@ yet: (cd crates/fmp_c && rt lib) proves and builds it." >&2
+	@false
+
+# $(call all_for_c,copied or removed)
+define all_for_c
+$(call $(1),644,$(ARCHIVE),lib/libfmp.a)
+$(call $(1),644,port/fmp.pc.in,lib/pkgconfig/fmp.pc)
+$(call $(1),644,port/include/fmp.h,include/fmp/fmp.h)
+$(call $(1),644,port/include/kernel.h,include/fmp/kernel.h)
+$(call $(1),644,port/include/virtual.h,include/fmp/virtual.h)
+$(call $(1),644,docs/man/fmp.h.3,share/man/man3/fmp.h.3)
+endef
+
+.PHONY: install-c
+install-c: $(ARCHIVE)
+	$(call all_for_c,copied)
+	@sed 's|@PREFIX@|$(PREFIX)|' port/fmp.pc.in > "$(ROOM)/lib/pkgconfig/fmp.pc"
