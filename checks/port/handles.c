@@ -1,0 +1,144 @@
+/* handles.c: blank handles, handles that hold a system already, rooms without room, texts with faults. */
+#include "fmp.h"
+
+#include <stdio.h>
+#include <string.h>
+
+static int failed;
+
+#define CHECK(holds) \
+    do { \
+        if (!(holds)) { \
+            failed++; \
+            printf("FAILED: line %d: %s\n", __LINE__, #holds); \
+        } \
+    } while (0)
+
+static const char good[] =
+    "NUM_PRC(2);\n"
+    "CLASS(TCL_1) { CRE_TSK(A, { TA_ACT, 7, a, 10, 512, NULL }); DEF_INH(5, { 0, h }); }\n"
+    "CLASS(TCL_2) { CRE_CYC(C, { 0, 9, cyc, 3, 0 }); CRE_SEM(S, { TA_TPRI, 1, 1 }); }\n";
+
+static uint32_t make(fmp_system *system, const char *text, fmp_refusal *why)
+{
+    return fmp_new((const uint8_t *)text, strlen(text), system, why);
+}
+
+static void blank(void)
+{
+    fmp_system none = FMP_BLANK;
+    fmp_outcome out = { .changes = 77 };
+    fmp_actor actor = { 1, 2, 3, true, 4, 5 };
+    fmp_trace_line line = { .kind = 77 };
+    fmp_task_state state = { 7, 7, 7 };
+    fmp_event_counts counts = { 7, 7, 7, 7 };
+    uint8_t room[8] = { 9 };
+    CHECK(fmp_call(&none, 1, 1, 0, 0, 0, 0, &out) == FMP_NO_SYSTEM);
+    CHECK(fmp_end(&none, 1, &out) == FMP_NO_SYSTEM);
+    CHECK(fmp_fault(&none, 1, FMP_INDEX, &out) == FMP_NO_SYSTEM);
+    CHECK(fmp_fault(&none, 1, 0, &out) == FMP_NO_FAULT);
+    CHECK(fmp_tick(&none, &out) == FMP_NO_SYSTEM);
+    CHECK(fmp_int(&none, 1, &out) == FMP_NO_SYSTEM);
+    CHECK(out.changes == 77);
+    CHECK(fmp_acting(&none, 1, &actor) == FMP_NO_SYSTEM && actor.value == 5);
+    CHECK(fmp_line(&none, 0, &line) == FMP_NO_SYSTEM && line.kind == 77);
+    CHECK(fmp_state(&none, 1, &state) == FMP_NO_SYSTEM && state.word == 7);
+    CHECK(fmp_counts(&none, &counts) == FMP_NO_SYSTEM && counts.done == 7);
+    CHECK(fmp_print(&none, room, sizeof room) == 0 && room[0] == 9);
+    CHECK(fmp_name(&none, FMP_TASKS, 1, room, sizeof room) == 0);
+    CHECK(fmp_body(&none, FMP_TASKS, 1, room, sizeof room) == 0);
+    CHECK(fmp_count(&none, FMP_TASKS) == 0);
+    CHECK(fmp_detail(&none, FMP_TASKS, 1) == 0);
+    fmp_free(&none);
+    fmp_free(&none);
+    CHECK(none.at == NULL);
+}
+
+static void refused(const char *text, uint32_t line, uint32_t kind, int32_t code)
+{
+    fmp_system system = FMP_BLANK;
+    fmp_refusal why = { 0, 0, 0 };
+    CHECK(make(&system, text, &why) == FMP_REFUSED);
+    CHECK(why.line == line && why.kind == kind && why.code == code);
+    CHECK(system.at == NULL);
+}
+
+static void texts(void)
+{
+    refused("", 1, 1, 0);
+    refused("NUM_PRC(1);\nCLASS(TCL_1) { CRE_TSK }", 2, 1, 0);
+    refused("NUM_PRC(1);\nCLASS(TCL_1) { CRE_SEM(S, { 0, 0, 1 });\nCRE_SEM(S, { 0, 0, 1 }); }", 3, 2, 0);
+    refused("NUM_PRC(1);\nCLASS(TCL_1) { CRE_SEM(S, { NO, 0, 1 }); }", 2, 3, 0);
+    refused("NUM_PRC(1);\n\nCLASS(TCL_1) { CRE_SEM(S, { 0, 2, 1 }); }", 3, 4, -17);
+    refused("NUM_PRC(9);", 1, 5, 0);
+}
+
+/* A number that is out of range changes nothing. */
+static void numbers(fmp_system *system)
+{
+    fmp_outcome out = { .changes = 0 };
+    fmp_actor actor;
+    CHECK(fmp_call(system, 0, 1, 0, 0, 0, 0, &out) == FMP_NO_PROCESSOR && out.acting.who == FMP_NOBODY);
+    CHECK(fmp_call(system, 3, 1, 0, 0, 0, 0, &out) == FMP_NO_PROCESSOR);
+    CHECK(fmp_call(system, 255, 1, 0, 0, 0, 0, &out) == FMP_NO_PROCESSOR);
+    CHECK(fmp_call(system, 1, 0, 0, 0, 0, 0, &out) == FMP_NO_SERVICE && out.acting.who == FMP_TASK);
+    CHECK(fmp_call(system, 1, 60, 0, 0, 0, 0, &out) == FMP_NO_SERVICE);
+    CHECK(fmp_call(system, 1, 255, 0, 0, 0, 0, &out) == FMP_NO_SERVICE);
+    CHECK(fmp_call(system, 2, 1, 0, 0, 0, 0, &out) == FMP_NOTHING && out.changes == 0);
+    CHECK(fmp_end(system, 3, &out) == FMP_NO_PROCESSOR);
+    CHECK(fmp_fault(system, 1, 4, &out) == FMP_NO_FAULT);
+    CHECK(fmp_int(system, 0, &out) == FMP_NO_INTERRUPT);
+    CHECK(fmp_int(system, 33, &out) == FMP_NO_INTERRUPT);
+    CHECK(fmp_int(system, 32, &out) == FMP_NOTHING);
+    CHECK(fmp_acting(system, 1, &actor) == FMP_DONE && actor.who == FMP_TASK && actor.number == 1);
+    CHECK(actor.told == FMP_STARTS && actor.has_value && actor.value == 7);
+    CHECK(fmp_acting(system, 9, &actor) == FMP_DONE && actor.who == FMP_NOBODY);
+}
+
+static bool is(const uint8_t *room, const char *text, size_t length)
+{
+    return length == strlen(text) && memcmp(room, text, length) == 0;
+}
+
+static void looks(fmp_system *system)
+{
+    uint8_t room[64] = { 0 };
+    fmp_trace_line line;
+    fmp_task_state state;
+    fmp_event_counts counts;
+    CHECK(is(room, "A", fmp_name(system, FMP_TASKS, 1, room, sizeof room)));
+    CHECK(is(room, "S", fmp_name(system, FMP_SEMAPHORES, 1, room, sizeof room)));
+    CHECK(is(room, "cyc", fmp_body(system, FMP_CYCLICS, 1, room, sizeof room)));
+    CHECK(is(room, "h", fmp_body(system, FMP_INTERRUPTS, 1, room, sizeof room)));
+    CHECK(fmp_name(system, FMP_TASKS, 0, room, sizeof room) == 0);
+    CHECK(fmp_name(system, FMP_TASKS, 2, room, sizeof room) == 0);
+    CHECK(fmp_name(system, 0, 1, room, sizeof room) == 0 && fmp_name(system, 11, 1, room, sizeof room) == 0);
+    room[0] = 'x';
+    CHECK(fmp_name(system, FMP_TASKS, 1, room, 0) == 1 && room[0] == 'x');
+    CHECK(fmp_print(system, room, 22) == 23 && room[0] == 'x');
+    CHECK(is(room, "0 p1 A starts\n0 p1 > A\n", fmp_print(system, room, 23)));
+    CHECK(fmp_count(system, FMP_TASKS) == 1 && fmp_count(system, FMP_INTERRUPTS) == 1 && fmp_count(system, 99) == 0);
+    CHECK(fmp_detail(system, FMP_TASKS, 1) == 512 && fmp_detail(system, FMP_INTERRUPTS, 1) == 5);
+    CHECK(fmp_line(system, 0, &line) == FMP_DONE && line.kind == FMP_LINE_STARTS && line.number == 1);
+    CHECK(fmp_line(system, 2, &line) == FMP_DONE && line.kind == FMP_LINE_NONE);
+    CHECK(fmp_state(system, 1, &state) == FMP_DONE && state.word == FMP_RUNNING && state.priority == 10);
+    CHECK(fmp_state(system, 0, &state) == FMP_DONE && state.word == FMP_NO_TASK);
+    CHECK(fmp_state(system, 2, &state) == FMP_DONE && state.word == FMP_NO_TASK);
+    CHECK(fmp_counts(system, &counts) == FMP_DONE && counts.processors == 2 && counts.lines == 2 && counts.done == 0);
+}
+
+int main(void)
+{
+    fmp_system system = FMP_BLANK;
+    fmp_refusal why = { 1, 2, 3 };
+    blank();
+    texts();
+    CHECK(make(&system, good, &why) == FMP_MADE && why.line == 1);
+    CHECK(make(&system, good, &why) == FMP_HOLDS_ONE && system.at != NULL);
+    numbers(&system);
+    looks(&system);
+    fmp_free(&system);
+    blank();
+    printf("handles: %d failed\n", failed);
+    return failed != 0;
+}

@@ -1,0 +1,208 @@
+#!/bin/sh
+# Compiles C programs with the library for C and the port for virtual time, and runs them: the examples, to the byte of
+# their traces, and their recordings, replayed; what is answered to a mistake; random calls and random C tasks beside
+# the model of the kernel. It does so with each of two compilers, with the sanitizers of one, with valgrind, and with the
+# library as `make install` copies it; without what is not on the machine, which it says.
+#
+#   checks/port/port.sh [LIBRARY [COUNT]]
+#
+# LIBRARY is crates/fmp_c/out/libfmp_c.a where it is not given, as checks/port/library.py or `rt lib` makes it. COUNT is
+# how many random systems are run (100). Where there is no C compiler the script says that it did not run, with status 0.
+set -eu
+
+LC_ALL=C
+export LC_ALL
+root=$(cd "$(dirname "$0")/../.." && pwd)
+script=checks/port/port.sh
+library=${1:-$root/crates/fmp_c/out/libfmp_c.a}
+count=${2:-100}
+cc=${CC:-cc}
+
+if ! command -v "$cc" > /dev/null; then
+    echo "$script: it did not run: there is no C compiler"
+    exit 0
+fi
+missing() {
+    echo "$script: $1" >&2
+    exit 2
+}
+command -v rt > /dev/null || missing "there is no rt, whose kit has the allocator's glue"
+glue=$(dirname "$(dirname "$(readlink -f "$(command -v rt)")")")/c/liblibc_c.a
+[ -f "$library" ] || missing "there is no library $library: checks/port/library.py makes it"
+library=$(cd "$(dirname "$library")" && pwd)/$(basename "$library")
+
+room=$(mktemp -d)
+trap 'rm -rf "$room"' EXIT
+cd "$room"
+passed=0
+failed=0
+
+# verdict NAME PROBLEM: counts a case, which passed if there is no problem.
+verdict() {
+    if [ -z "$2" ]; then
+        passed=$((passed + 1))
+    else
+        failed=$((failed + 1))
+        echo "FAILED: $1: $2"
+    fi
+}
+
+# compiled KIND COMPILER FLAG..: builds all programs into the folder KIND. Each warning is a fault.
+compiled() {
+    kind=$1
+    shift
+    mkdir "$kind"
+    strict="-std=c11 -g -Wall -Wextra -Wpedantic -Wconversion -Wshadow -Werror -I$root/port/include"
+    for source in "$root"/port/*.c "$root"/examples/c/*.c "$root"/checks/port/*.c "$root"/bench/calls.c; do
+        # shellcheck disable=SC2086
+        "$@" $strict -c "$source" -o "$kind/$(basename "$source" .c).o" 2> errors ||
+            verdict "$kind: $(basename "$source")" "it does not compile: $(head -c 300 errors)"
+    done
+    ar rc "$kind/libport.a" "$kind/virtual.o" "$kind/coroutine.o"
+    for object in "$kind"/*.o; do
+        case $object in */virtual.o | */coroutine.o) continue ;; esac
+        "$@" "$object" "$kind/libport.a" "$library" "$glue" -o "${object%.o}" 2> errors ||
+            verdict "$kind: $(basename "$object")" "it does not link: $(head -c 300 errors)"
+    done
+}
+
+# examples KIND COMMAND..: each example prints its trace.
+examples() {
+    kind=$1
+    shift
+    for source in "$root"/examples/c/*.c; do
+        name=$(basename "$source" .c)
+        problem=
+        example=$root/examples/$name
+        "$@" "$kind/$name" "$example.cfg" "$example.steps" > output 2> errors || problem="status $?"
+        cmp -s "$example.trace" output || problem="$problem, it prints another trace"
+        [ ! -s errors ] || problem="$problem, it says: $(head -c 300 errors)"
+        verdict "$kind: $name" "$problem"
+    done
+}
+
+# replays KIND: the recording of each example, handed to a new kernel, gives its trace and states again.
+replays() {
+    kind=$1
+    for source in "$root"/examples/c/*.c; do
+        name=$(basename "$source" .c)
+        problem=
+        example=$root/examples/$name
+        "$kind/$name" "$example.cfg" "$example.steps" "$name.calls" > output 2>&1 || problem="status $?"
+        "$kind/replay" "$example.cfg" "$name.calls" > output 2> errors || problem="status $?: $(cat errors)"
+        cmp -s "$example.trace" output || problem="$problem, its recording gives another trace"
+        verdict "$kind: $name, replayed" "$problem"
+    done
+}
+
+# mistakes KIND COMMAND..: what no model knows.
+mistakes() {
+    kind=$1
+    shift
+    for name in handles bodies; do
+        problem=
+        "$@" "$kind/$name" > output 2> errors || problem="status $?: $(head -c 300 output)"
+        [ ! -s errors ] || problem="$problem, it says: $(head -c 300 errors)"
+        verdict "$kind: $name" "$problem"
+    done
+}
+
+# random KIND COUNT SEED: random calls and random tasks beside the model.
+random() {
+    for name in sequences tasks; do
+        problem=
+        python3 "$root/checks/port/$name.py" "$PWD/$1/$name" "$2" "$3" > output 2>&1 || problem=$(head -c 1000 output)
+        verdict "$1: $name" "$problem"
+        [ -n "$problem" ] || cat output
+    done
+}
+
+# The bodies that a configuration names and no function is there for are named, and nothing is run.
+missing_bodies() {
+    problem=
+    plain/sum "$root/examples/queue.cfg" "$root/examples/queue.steps" > output 2> errors && problem="status 0"
+    said="fmp: there is no function for the body produce
+fmp: there is no function for the body consume"
+    [ "$(cat errors)" = "$said" ] || problem="it says: $(head -c 300 errors)"
+    [ ! -s output ] || problem="$problem, it prints a trace"
+    verdict "bodies without a function" "$problem"
+}
+
+# A program is built of what `make install` copies, by the words of its pkg-config file.
+installed() {
+    problem=
+    make -s -C "$root" LIBRARY="$library" PREFIX="$room/prefix" C_ROOM="$room/made" CC="$cc" install-c > output 2>&1 ||
+        problem="make install-c: $(head -c 300 output)"
+    if command -v pkg-config > /dev/null; then
+        words=$(PKG_CONFIG_PATH=$room/prefix/lib/pkgconfig pkg-config --cflags --libs fmp) || problem="no pkg-config file"
+    else
+        words="-I$room/prefix/include/fmp -L$room/prefix/lib -lfmp"
+    fi
+    # shellcheck disable=SC2086
+    "$cc" "$root/examples/c/queue.c" $words -o installed 2> errors || problem="$problem, $(head -c 300 errors)"
+    ./installed "$root/examples/queue.cfg" "$root/examples/queue.steps" > output 2>&1 || problem="$problem, status $?"
+    cmp -s "$root/examples/queue.trace" output || problem="$problem, it prints another trace"
+    verdict "the installed library" "$problem"
+}
+
+# The headers are those of C++ too.
+headers() {
+    printf '#include "%s"\n' fmp.h kernel.h virtual.h > headers.cc
+    problem=
+    "$1" -std=c++11 -Wall -Wextra -Wpedantic -Werror -I"$root/port/include" -c headers.cc -o headers.o 2> errors ||
+        problem=$(head -c 300 errors)
+    verdict "the headers in C++" "$problem"
+}
+
+compiled plain "$cc" -O2
+examples plain
+replays plain
+mistakes plain
+random plain "$count" 1
+missing_bodies
+installed
+
+compiled contexts "$cc" -O2 -DFMP_UCONTEXT
+examples contexts
+mistakes contexts
+
+case $("$cc" --version) in
+    *clang*) other=gcc ;;
+    *) other=clang ;;
+esac
+if command -v $other > /dev/null; then
+    compiled other $other -O2
+    examples other
+    mistakes other
+    random other $((count / 10 + 1)) 2000001
+else
+    echo "$script: there is no $other"
+fi
+
+if command -v c++ > /dev/null; then
+    headers c++
+fi
+
+echo 'int main(void) { return 0; }' > empty.c
+if "$cc" -fsanitize=address,undefined empty.c -o empty 2> errors && ./empty; then
+    compiled sanitized "$cc" -O1 -fsanitize=address,undefined -fno-sanitize-recover=all
+    examples sanitized
+    replays sanitized
+    mistakes sanitized
+    random sanitized $((count / 10 + 1)) 1000001
+else
+    echo "$script: there are no sanitizers"
+fi
+
+if command -v valgrind > /dev/null; then
+    quiet='valgrind --quiet --error-exitcode=9 --leak-check=full --show-leak-kinds=all'
+    # shellcheck disable=SC2086
+    mistakes plain $quiet
+    # shellcheck disable=SC2086
+    examples plain $quiet
+else
+    echo "$script: there is no valgrind"
+fi
+
+echo "$script: $passed passed, $failed failed"
+[ "$failed" -eq 0 ]
