@@ -1,9 +1,10 @@
 /*
- * calls.c: service calls through the library for C, without a port, to be counted.
+ * calls.c: service calls through the library for C, to be counted. No trace is printed.
  *
- *   calls pair N     two tasks that hand a semaphore back and forth: every second call switches tasks
- *   calls same N     one task that takes and gives a semaphore: no call switches
- *   calls tasks N    the pair, with tasks in C in virtual time
+ *   calls pair N          two tasks that hand a semaphore back and forth: every second call switches tasks
+ *   calls same N          one task that gives and takes a semaphore: no call switches
+ *   calls tasks-pair N    the same by C tasks in virtual time
+ *   calls tasks-same N
  */
 #include "fmp.h"
 #include "kernel.h"
@@ -73,19 +74,26 @@ static void b(intptr_t exinf)
     }
 }
 
-static int in_virtual_time(long count)
+static void alone(intptr_t exinf)
 {
-    static const struct fmp_body bodies[] = { { "a", a }, { "b", b } };
-    static const struct fmp_program program = { .bodies = bodies, .count = 2 };
-    FILE *nowhere = fopen("/dev/null", "w");
-    if (nowhere == NULL || fmp_open(system_text, strlen(system_text), &program, nowhere, stderr) != FMP_OPENED) {
+    (void)exinf;
+    for (;;) {
+        sig_sem(P);
+        pol_sem(P);
+    }
+}
+
+static int in_virtual_time(void (*first)(intptr_t), long count)
+{
+    const struct fmp_body bodies[] = { { "a", first }, { "b", b } };
+    const struct fmp_program program = { .bodies = bodies, .count = 2 };
+    if (fmp_open(system_text, strlen(system_text), &program, NULL, stderr) != FMP_OPENED) {
         return 1;
     }
     for (long made = 0; made < count; made++) {
         fmp_step_run(1);
     }
     fmp_close();
-    fclose(nowhere);
     return 0;
 }
 
@@ -96,8 +104,8 @@ int main(int argc, char **argv)
         return 2;
     }
     long count = atol(argv[2]);
-    if (strcmp(argv[1], "tasks") == 0) {
-        return in_virtual_time(count);
+    if (strncmp(argv[1], "tasks-", 6) == 0) {
+        return in_virtual_time(strcmp(argv[1], "tasks-pair") == 0 ? a : alone, count);
     }
     if (fmp_new((const uint8_t *)system_text, strlen(system_text), &kernel, &why) != FMP_MADE) {
         return 1;

@@ -2,23 +2,35 @@
 # Counts the instructions of a service call through the library for C, under valgrind, between 20,000 and 60,000 calls.
 #
 #   bench/calls.sh [LIBRARY]     crates/fmp_c/out/libfmp_c.a where it is not given, as `rt lib` leaves it
+#
+# `pair` are calls of two tasks that hand a semaphore back and forth, of which every second switches tasks; `same` are
+# calls of one task that gives and takes a semaphore. The first column counts them without a port, the second one those
+# of C tasks in virtual time, and the third one those of the least kernel in C that has them, bench/baseline.c.
 set -eu
 root=$(cd "$(dirname "$0")/.." && pwd)
 library=${1:-$root/crates/fmp_c/out/libfmp_c.a}
 glue=$(dirname "$(dirname "$(readlink -f "$(command -v rt)")")")/c/liblibc_c.a
 room=$(mktemp -d)
 trap 'rm -rf "$room"' EXIT
-"${CC:-cc}" -std=c11 -O2 -I"$root/port/include" "$root/bench/calls.c" "$root/port/virtual.c" "$root/port/coroutine.c" \
-    "$library" "$glue" -o "$room/calls"
 
-# The instructions of a run.
-instructions() {
-    valgrind --tool=callgrind --callgrind-out-file=/dev/null "$room/calls" "$1" "$2" 2>&1 |
+compiled() {
+    "${CC:-cc}" -std=c11 -O2 -I"$root/port/include" -I"$root/port" "$root/bench/$1.c" "$root/port/virtual.c" \
+        "$root/port/coroutine.c" "$library" "$glue" -o "$room/$1"
+}
+
+# counted PROGRAM KIND CALLS: the instructions of a run.
+counted() {
+    valgrind --tool=callgrind --callgrind-out-file=/dev/null "$room/$1" "$2" "$3" 2>&1 |
         sed -n 's/.*Collected : \([0-9]*\).*/\1/p'
 }
 
-for kind in pair same tasks; do
-    few=$(instructions $kind 20000)
-    many=$(instructions $kind 60000)
-    echo "$kind: $(((many - few) / 40000)) instructions a call"
+a_call() {
+    echo $((($(counted "$1" "$2" 60000) - $(counted "$1" "$2" 20000)) / 40000))
+}
+
+compiled calls
+compiled baseline
+echo "instructions a call: without a port, C tasks, baseline"
+for kind in pair same; do
+    echo "$kind: $(a_call calls $kind) $(a_call calls tasks-$kind) $(a_call baseline $kind)"
 done

@@ -36,8 +36,12 @@ static void (*interrupts[INTERRUPTS])(intptr_t);
 static FILE *trace_file;                                /* NULL where nothing is printed */
 static FILE *recording_file;                            /* NULL where nothing is recorded */
 static unsigned long most_polls, polls;
-static struct flow *running;                            /* NULL outside of bodies */
-static fmp_actor told;                                  /* what it was told last */
+static struct flow *running;                            /* NULL outside bodies */
+static const fmp_actor *told;                           /* what it was told last */
+
+/* What the last event of each processor did. Those of `known`, by bits, still say who acts there. */
+static fmp_outcome last[PROCESSORS];
+static uint32_t processors, known;
 
 /* Bodies. */
 
@@ -50,7 +54,7 @@ static void leave(enum wish wish)
 
 static void begin(void)
 {
-    running->run(told.value);
+    running->run(told->value);
     leave(ENDS);
 }
 
@@ -80,10 +84,10 @@ ER fmp_service(uint8_t service, int32_t a, int32_t b, int32_t c, int32_t d, int3
     running->arguments[2] = c;
     running->arguments[3] = d;
     leave(CALLS);
-    if (told.has_value) {
-        *value = told.value;
+    if (told->has_value) {
+        *value = told->value;
     }
-    return told.code;
+    return told->code;
 }
 
 void fmp_stop(uint8_t fault)
@@ -149,15 +153,29 @@ static void follow_lines(void)
     }
 }
 
-static uint32_t finish(uint32_t answer, const fmp_outcome *outcome)
+static uint32_t bit_of(uint8_t p)
 {
-    if (answer == FMP_DONE) {
-        if (outcome->changes & (FMP_TASK_STARTS | FMP_HANDLER_BEGINS)) {
-            follow_lines();
-        }
-        print_lines();
+    return 1u << (p - 1);
+}
+
+/* Who acts on a processor, and what it was told last. */
+static const fmp_actor *acting_on(uint8_t p)
+{
+    if ((known & bit_of(p)) == 0) {
+        fmp_acting(&kernel, p, &last[p - 1].acting);
+        known |= bit_of(p);
     }
-    return answer;
+    return &last[p - 1].acting;
+}
+
+/* What follows an event that was done: its lines tell where others act now, but for its own processor. */
+static void finish(uint32_t changes)
+{
+    known &= ~changes;
+    if (changes & (FMP_TASK_STARTS | FMP_HANDLER_BEGINS)) {
+        follow_lines();
+    }
+    print_lines();
 }
 
 /* The recording: a line for each event that was done, with the call that was handed in. */
@@ -192,52 +210,51 @@ void fmp_record(FILE *recording)
 }
 
 /* What the actor of a processor asks for, handed to the kernel. */
-static uint32_t hand_in(uint8_t p, struct flow *flow)
+static uint32_t hand_in(uint8_t p, const struct flow *flow)
 {
-    fmp_outcome outcome = { .changes = 0 };
     const int32_t *with = flow->arguments;
-    uint32_t answer = FMP_NOTHING;
     switch (flow->wish) {
     case CALLS:
-        answer = fmp_call(&kernel, p, flow->service, with[0], with[1], with[2], with[3], &outcome);
-        break;
+        return fmp_call(&kernel, p, flow->service, with[0], with[1], with[2], with[3], &last[p - 1]);
     case ENDS:
-        answer = fmp_end(&kernel, p, &outcome);
-        break;
+        return fmp_end(&kernel, p, &last[p - 1]);
     case FAULTS:
-        answer = fmp_fault(&kernel, p, flow->fault, &outcome);
-        break;
+        return fmp_fault(&kernel, p, flow->fault, &last[p - 1]);
     case GOES_ON:
     case KEEPS_ITS_PLACE:
         break;
     }
+    return FMP_KEPT;
+}
+
+uint32_t fmp_step_run(uint8_t p)
+{
+    if (kernel.at == NULL) {
+        return FMP_NO_SYSTEM;
+    }
+    if (running != NULL || p == 0 || p > processors) {
+        return FMP_NOTHING;
+    }
+    told = acting_on(p);
+    if (told->who == FMP_NOBODY) {
+        return FMP_NOTHING;
+    }
+    struct flow *flow = told->who == FMP_TASK ? &tasks[told->number - 1] : &handlers[p - 1];
+    if (flow->wish == GOES_ON) {
+        enter(flow);
+    }
+    uint32_t answer = hand_in(p, flow);
     if (answer == FMP_DONE) {
         if (recording_file != NULL) {
             record_act(p, flow);
         }
         flow->wish = GOES_ON;
-    }
-    return finish(answer, &outcome);
-}
-
-uint32_t fmp_step_run(uint8_t p)
-{
-    if (running != NULL) {
-        return FMP_NOTHING;
-    }
-    uint32_t answer = fmp_acting(&kernel, p, &told);
-    if (answer != FMP_DONE || told.who == FMP_NOBODY) {
-        return answer == FMP_DONE ? (uint32_t)FMP_NOTHING : answer;
-    }
-    struct flow *flow = told.who == FMP_TASK ? &tasks[told.number - 1] : &handlers[p - 1];
-    if (flow->wish == GOES_ON) {
-        enter(flow);
-    }
-    if (flow->wish == KEEPS_ITS_PLACE) {
+        finish(last[p - 1].changes);
+        known |= bit_of(p);
+    } else if (answer == FMP_KEPT) {
         flow->wish = GOES_ON;
-        return FMP_KEPT;
     }
-    return hand_in(p, flow);
+    return answer;
 }
 
 uint32_t fmp_step_tick(void)
@@ -247,10 +264,13 @@ uint32_t fmp_step_tick(void)
         return FMP_NOTHING;
     }
     uint32_t answer = fmp_tick(&kernel, &outcome);
-    if (answer == FMP_DONE && recording_file != NULL) {
-        fputs("tick\n", recording_file);
+    if (answer == FMP_DONE) {
+        if (recording_file != NULL) {
+            fputs("tick\n", recording_file);
+        }
+        finish(outcome.changes);
     }
-    return finish(answer, &outcome);
+    return answer;
 }
 
 uint32_t fmp_step_int(uint8_t number)
@@ -260,10 +280,13 @@ uint32_t fmp_step_int(uint8_t number)
         return FMP_NOTHING;
     }
     uint32_t answer = fmp_int(&kernel, number, &outcome);
-    if (answer == FMP_DONE && recording_file != NULL) {
-        fprintf(recording_file, "int %u\n", (unsigned)number);
+    if (answer == FMP_DONE) {
+        if (recording_file != NULL) {
+            fprintf(recording_file, "int %u\n", (unsigned)number);
+        }
+        finish(outcome.changes);
     }
-    return finish(answer, &outcome);
+    return answer;
 }
 
 /* Steps texts. */
@@ -359,15 +382,13 @@ static bool find_all(const struct fmp_program *program, FILE *messages)
 /* A stack for each task and for the handlers of each processor. What C functions call has room in the spare part. */
 static bool take_stacks(void)
 {
-    fmp_event_counts counts = { 0, 0, 0, 0 };
-    fmp_counts(&kernel, &counts);
     for (size_t task = 1; task <= fmp_count(&kernel, FMP_TASKS); task++) {
         size_t size = fmp_detail(&kernel, FMP_TASKS, task);
         if (!coroutine_take(&tasks[task - 1].coroutine, size + SPARE_STACK)) {
             return false;
         }
     }
-    for (size_t p = 0; p < counts.processors; p++) {
+    for (size_t p = 0; p < processors; p++) {
         if (!coroutine_take(&handlers[p].coroutine, SPARE_STACK)) {
             return false;
         }
@@ -397,6 +418,10 @@ static enum fmp_opened make(const char *text, size_t length, FILE *messages)
 /* The functions and the stacks of the bodies of the system at hand. */
 static enum fmp_opened equip(const struct fmp_program *program, FILE *messages)
 {
+    fmp_event_counts counts = { 0, 0, 0, 0 };
+    fmp_counts(&kernel, &counts);
+    processors = counts.processors;
+    known = 0;
     if (!find_all(program, messages)) {
         return FMP_BODY_MISSING;
     }
