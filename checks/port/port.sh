@@ -7,7 +7,7 @@
 #   checks/port/port.sh [LIBRARY [COUNT]]
 #
 # LIBRARY is crates/fmp_c/out/libfmp_c.a where it is not given, as checks/port/library.py or `rt lib` makes it. COUNT is
-# how many random systems are run (100). Where there is no C compiler the script says that it did not run, with status 0.
+# how many random systems are run (1,000). Where there is no C compiler the script says that it did not run, with status 0.
 set -eu
 
 LC_ALL=C
@@ -15,7 +15,7 @@ export LC_ALL
 root=$(cd "$(dirname "$0")/../.." && pwd)
 script=checks/port/port.sh
 library=${1:-$root/crates/fmp_c/out/libfmp_c.a}
-count=${2:-100}
+count=${2:-1000}
 cc=${CC:-cc}
 
 if ! command -v "$cc" > /dev/null; then
@@ -174,7 +174,7 @@ if command -v $other > /dev/null; then
     compiled other $other -O2
     examples other
     mistakes other
-    random other $((count / 10 + 1)) 2000001
+    random other $((count / 20 + 1)) 2000001
 else
     echo "$script: there is no $other"
 fi
@@ -189,7 +189,7 @@ if "$cc" -fsanitize=address,undefined empty.c -o empty 2> errors && ./empty; the
     examples sanitized
     replays sanitized
     mistakes sanitized
-    random sanitized $((count / 10 + 1)) 1000001
+    random sanitized $((count / 20 + 1)) 1000001
 else
     echo "$script: there are no sanitizers"
 fi

@@ -15,7 +15,8 @@ leaves them. The first word behind the fence says what a block is, and how it is
     faults cfg|src|steps|image       rows `TEXT -> FAULT`
     console                          commands behind `$ `, each with what it prints, in a copy of examples/ and of the
                                      systems of checks/schedules/
-    rust FILE                        code of this file of crates/, as it stands there; its blocks are the whole file
+    rust FILE, c FILE                code of this file of crates/, of examples/c/, as it stands there; its blocks are the
+                                     whole file
     bytes                            the image of the last system of blocks, in hexadecimal digits
     grammar, sh                      not checked: rules of a grammar, and commands of the toolchain
 
@@ -345,16 +346,21 @@ class Checker:
             command, wanted = row[2:], []
 
     def check_rust(self, line, info, text):
-        path = ROOT / "crates" / info
+        self.code(line, ROOT / "crates" / info, text)
+
+    def check_c(self, line, info, text):
+        self.code(line, ROOT / "examples/c" / info, text)
+
+    def code(self, line, path, text):
         stands = path.is_file() and f"\n{text}" in f"\n{path.read_text()}"
-        self.verdict(line, f"code of {info}", True, stands)
-        self.files.setdefault(info, []).append(text)
+        self.verdict(line, f"code of {path.name}", True, stands)
+        self.files.setdefault(path, []).append(text)
 
     def whole(self):
         """The blocks of a file are together the whole file, in its order."""
         self.document = "docs/LIBRARY.md"
-        for info, texts in self.files.items():
-            self.verdict(0, f"the whole of {info}", (ROOT / "crates" / info).read_text(), "\n".join(texts))
+        for path, texts in self.files.items():
+            self.verdict(0, f"the whole of {path.name}", path.read_text(), "\n".join(texts))
 
     def check_grammar(self, line, info, text):
         pass
