@@ -3,3 +3,5 @@ pub mod Padding
 pub mod LineByLine
 pub mod CallTables
 pub mod RoundTrip
+pub mod Unrefused
+pub mod Replays

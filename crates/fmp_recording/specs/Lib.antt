@@ -1,2 +1,3 @@
 pub mod Recordings
 pub mod RecordingLaws
+pub mod Replaying

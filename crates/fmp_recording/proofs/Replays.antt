@@ -1,0 +1,247 @@
+-- A replay goes as the recorded run.
+use Rattle.std.proofs.Common.{◌≡◌, ◌∙◌, ◌+◌, ℕ, pos, List, [], ◌∷◌, ◌++◌, Option, Some, None, Result, Ok, Err, OnOk, IfErr, ap, append_assoc, append-nil, length, map, refl, sym}
+use Rattle.fmp_base.specs.declared.events.Effect.TheVariants as effect
+use Rattle.fmp_base.specs.declared.events.TaskState.{TaskState}
+use Rattle.fmp_base.specs.declared.systems.System.{System}
+use Rattle.fmp_base.specs.Runs.{run_on, task_state}
+use Rattle.fmp_base.specs.States.{KernelState, places_from}
+use Rattle.fmp_base.specs.Steps.{Reaction, Nothing, Did, Kept}
+use Rattle.fmp_base.specs.Systems.{SystemTables, tables_of}
+use Rattle.fmp_base.specs.Texts.{events_text, lines_text, states_text, trace_text}
+use Rattle.fmp_cfgparse.specs.Configurations.{Describes}
+use Rattle.fmp_foreign.specs.declared.foreign.Told.{Told}
+use Rattle.fmp_foreign.specs.declared.foreign.Told.TheVariants as told
+use Rattle.fmp_foreign.specs.declared.hosted.Hosted.{Hosted}
+use Rattle.fmp_foreign.specs.declared.requests.Refusal.{Refusal}
+use Rattle.fmp_foreign.specs.Foreign.{foreign_meaning}
+use Rattle.fmp_foreign.specs.Hosting.{ForeignKernel, after_unless, answer_unless, reaction, refused}
+use Rattle.fmp_foreign.specs.Hosting as hosting
+use Rattle.fmp_kernel.specs.KernelViews.{view_after}
+use Rattle.fmp_outside.specs.declared.given.Given.{Given}
+use Rattle.fmp_outside.specs.Outside.{outside_run}
+use Rattle.fmp_recording.specs.declared.replaying.ReplayFault.{ReplayFault}
+use Rattle.fmp_recording.specs.declared.replaying.ReplayFault.TheVariants as fault
+use Rattle.fmp_recording.specs.Recordings.{recording_of, recording_text}
+use Rattle.fmp_recording.specs.Replaying.{HasReplayed, HasTaken, IsReplayFault, IsWhyNotRun, IsWhyNotTaken, IsWhyStopped, RecordedRunsAreReplayed, added_by, new_kernel, or_else, refusal_in, run_of, text_of}
+use Rattle.fmp_recording.proofs.RoundTrip.{printed_recordings_read_back}
+use Rattle.fmp_recording.proofs.Unrefused.{never_refused}
+use Rattle.fmp_trace.specs.ListedStates.{listed_states_text}
+use Rattle.fmp_trace.proofs.ListedStates.{listed_states_are_states}
+
+-- an event was done, and its lines are written
+module _ (old new : Hosted) (g : Given) (before after : List ℕ) (tied : old.kernel.system ≡ tables_of old.system) where
+  record IsTaken (o : Option Refusal) (r : Reaction Told) : Type 0 where
+    taken : o ≡ None
+    kernel : new.kernel ≡ view_after old.kernel r
+    system : new.system ≡ old.system
+    text : after ≡ before ++ added_by old.kernel r
+
+  done_by : (o : Option Refusal) (r : Reaction Told) → answer_unless o r ≡ Ok effect.Done
+      → new ≡ record old { kernel = after_unless o old.kernel r }
+      → after ≡ before ++ lines_text (tables_of new.system) new.kernel.done new.kernel.lines → IsTaken o r
+  done_by (Some why) r e n t = absurd cc
+  done_by None Nothing e n t = absurd cc
+  done_by None (Kept p w) e n t = absurd cc
+  done_by None (Did d) e n t =
+      record {
+        taken = refl;
+        kernel = ap (λ (h : Hosted). h.kernel) n;
+        system = ap (λ (h : Hosted). h.system) n;
+        text = t
+            ∙ ap (λ (h : Hosted). before ++ lines_text (tables_of h.system) h.kernel.done h.kernel.lines) n
+            ∙ ap (λ (s : SystemTables). before ++ lines_text s (old.kernel.done + 1) d.lines) (sym tied);
+      }
+
+  kept_by : (o : Option Refusal) (r : Reaction Told) → answer_unless o r ≡ Ok effect.Kept
+      → new ≡ record old { kernel = after_unless o old.kernel r } → after ≡ before → IsTaken o r
+  kept_by (Some why) r e n t = absurd cc
+  kept_by None Nothing e n t = absurd cc
+  kept_by None (Did d) e n t = absurd cc
+  kept_by None (Kept p w) e n t =
+      record {
+        taken = refl;
+        kernel = ap (λ (h : Hosted). h.kernel) n;
+        system = ap (λ (h : Hosted). h.system) n;
+        text = t ∙ sym (append-nil before);
+      }
+
+  nothing_by : (o : Option Refusal) (r : Reaction Told) → answer_unless o r ≡ Ok effect.Nothing
+      → new ≡ record old { kernel = after_unless o old.kernel r } → after ≡ before → IsTaken o r
+  nothing_by (Some why) r e n t = absurd cc
+  nothing_by None (Did d) e n t = absurd cc
+  nothing_by None (Kept p w) e n t = absurd cc
+  nothing_by None Nothing e n t =
+      record {
+        taken = refl;
+        kernel = ap (λ (h : Hosted). h.kernel) n;
+        system = ap (λ (h : Hosted). h.system) n;
+        text = t ∙ sym (append-nil before);
+      }
+
+  as_taken : IsTaken (refused old.kernel g) (reaction old.kernel g) → HasTaken old new g before after
+  as_taken h = record { taken = h.taken; kernel = h.kernel; system = h.system; text = h.text }
+
+  pub taken_done : hosting.answer old.kernel (Ok g) ≡ Ok effect.Done → new ≡ hosting.after old (Ok g)
+      → after ≡ before ++ lines_text (tables_of new.system) new.kernel.done new.kernel.lines
+      → HasTaken old new g before after
+  taken_done e n t = as_taken (done_by (refused old.kernel g) (reaction old.kernel g) e n t)
+
+  pub taken_kept : hosting.answer old.kernel (Ok g) ≡ Ok effect.Kept → new ≡ hosting.after old (Ok g) → after ≡ before
+      → HasTaken old new g before after
+  taken_kept e n t = as_taken (kept_by (refused old.kernel g) (reaction old.kernel g) e n t)
+
+  pub taken_nothing : hosting.answer old.kernel (Ok g) ≡ Ok effect.Nothing → new ≡ hosting.after old (Ok g)
+      → after ≡ before → HasTaken old new g before after
+  taken_nothing e n t = as_taken (nothing_by (refused old.kernel g) (reaction old.kernel g) e n t)
+
+refused_by : (o : Option Refusal) (r : Reaction Told) (why : Refusal) → answer_unless o r ≡ Err why → o ≡ Some why
+refused_by None r why e = cc
+refused_by (Some w) r why e = cc
+
+pub not_taken : (k : ForeignKernel) (g : Given) (why : Refusal) → hosting.answer k (Ok g) ≡ Err why → refused k g ≡ Some why
+not_taken k g why e = refused_by (refused k g) (reaction k g) why e
+
+-- a run, event by event
+world_by : (k : ForeignKernel) (gs : List Given) (r : Reaction Told)
+    → (run_on k.world r (λ v. outside_run k.system (foreign_meaning k.body) k.bound (told.Starts (pos 0)) v gs)).world
+    ≡ (run_of (view_after k r) gs).world
+world_by k gs Nothing = refl
+world_by k gs (Did d) = refl
+world_by k gs (Kept p w) = refl
+
+text_by : (k : ForeignKernel) (gs : List Given) (r : Reaction Told)
+    → events_text k.system (k.done + 1)
+    (run_on k.world r (λ v. outside_run k.system (foreign_meaning k.body) k.bound (told.Starts (pos 0)) v gs)).events
+    ≡ added_by k r ++ text_of (view_after k r) gs
+text_by k gs Nothing = refl
+text_by k gs (Did d) = refl
+text_by k gs (Kept p w) = refl
+
+tables_by : (k : ForeignKernel) (r : Reaction Told) → (view_after k r).system ≡ k.system
+tables_by k Nothing = refl
+tables_by k (Did d) = refl
+tables_by k (Kept p w) = refl
+
+-- a replay on its way: what is left leads to where all leads
+pub record Continues (old h : Hosted) (gs left : List Given) (before now : List ℕ) : Type 0 where
+  pub refusal : refusal_in h.kernel left ≡ refusal_in old.kernel gs
+  pub text : now ++ text_of h.kernel left ≡ before ++ text_of old.kernel gs
+  pub world : (run_of h.kernel left).world ≡ (run_of old.kernel gs).world
+  pub tables : h.kernel.system ≡ old.kernel.system
+  pub system : h.system ≡ old.system
+
+pub begins : (old : Hosted) (gs : List Given) (before : List ℕ) → Continues old old gs gs before before
+begins old gs before = record { refusal = refl; text = refl; world = refl; tables = refl; system = refl }
+
+module _ (old h : Hosted) (gs left : List Given) (before text : List ℕ) (c : Continues old h gs left before text) where
+  pub tied : old.kernel.system ≡ tables_of old.system → h.kernel.system ≡ tables_of h.system
+  tied e = c.tables ∙ e ∙ ap (λ (s : System). tables_of s) (sym c.system)
+
+  pub goes_on : (g : Given) (rest : List Given) (new : Hosted) (after : List ℕ) → HasTaken h new g text after
+      → left ≡ g ∷ rest → Continues old new gs rest before after
+  goes_on g rest new after t split =
+      let k = h.kernel in
+      let r = reaction k g in
+      record {
+        refusal = ap (λ (j : ForeignKernel). refusal_in j rest) t.kernel
+            ∙ sym (ap (λ (o : Option Refusal). or_else o (refusal_in (view_after k r) rest)) t.taken)
+            ∙ ap (λ (xs : List Given). refusal_in k xs) (sym split)
+            ∙ c.refusal;
+        text = ap (λ (xs : List ℕ). xs ++ text_of new.kernel rest) t.text
+            ∙ ap (λ (j : ForeignKernel). (text ++ added_by k r) ++ text_of j rest) t.kernel
+            ∙ append_assoc text (added_by k r) (text_of (view_after k r) rest)
+            ∙ ap (λ (xs : List ℕ). text ++ xs) (sym (text_by k rest r))
+            ∙ ap (λ (xs : List Given). text ++ text_of k xs) (sym split)
+            ∙ c.text;
+        world = ap (λ (j : ForeignKernel). (run_of j rest).world) t.kernel
+            ∙ sym (world_by k rest r)
+            ∙ ap (λ (xs : List Given). (run_of k xs).world) (sym split)
+            ∙ c.world;
+        tables = ap (λ (j : ForeignKernel). j.system) t.kernel ∙ tables_by k r ∙ c.tables;
+        system = t.system ∙ c.system;
+      }
+
+  pub stops : (g : Given) (rest : List Given) (why : ReplayFault) → IsWhyNotTaken h.kernel g why → left ≡ g ∷ rest
+      → IsWhyStopped old.kernel gs why
+  stops g rest (fault.Configuration w) e split = e
+  stops g rest (fault.Recording w) e split = e
+  stops g rest (fault.Refused w) e split =
+      let k = h.kernel in
+      sym c.refusal
+      ∙ ap (λ (xs : List Given). refusal_in k xs) split
+      ∙ ap (λ (o : Option Refusal). or_else o (refusal_in (view_after k (reaction k g)) rest)) e
+  stops g rest fault.Memory e split = tt
+
+  pub ends : left ≡ [] → HasReplayed old h gs before text
+  ends none =
+      record {
+        taken = sym c.refusal ∙ ap (λ (xs : List Given). refusal_in h.kernel xs) none;
+        text = sym (append-nil text)
+            ∙ ap (λ (xs : List Given). text ++ text_of h.kernel xs) (sym none)
+            ∙ c.text;
+        world = ap (λ (xs : List Given). (run_of h.kernel xs).world) (sym none) ∙ c.world;
+        tables = c.tables;
+        system = c.system;
+      }
+
+-- the lines of setup, those of the run and the states at the end are the trace
+pub whole : (system : System) (k : ForeignKernel) (gs : List Given) (now : KernelState) (before first lines after : List ℕ)
+    → k ≡ new_kernel (tables_of system) → first ≡ before ++ lines_text (tables_of system) 0 k.lines
+    → lines ≡ first ++ text_of k gs → now ≡ (run_of k gs).world.state
+    → after ≡ lines ++ states_text (tables_of system) now
+    → after
+    ≡ before
+    ++ trace_text (tables_of system) (new_kernel (tables_of system)).lines (run_of (new_kernel (tables_of system)) gs)
+whole system k gs now before first lines after is_new a b is_now c =
+    let sys = tables_of system in
+    c
+    ∙ ap (λ (xs : List ℕ). xs ++ states_text sys now) b
+    ∙ ap (λ (xs : List ℕ). (xs ++ text_of k gs) ++ states_text sys now) a
+    ∙ append_assoc (before ++ lines_text sys 0 k.lines) (text_of k gs) (states_text sys now)
+    ∙ append_assoc before (lines_text sys 0 k.lines) (text_of k gs ++ states_text sys now)
+    ∙ ap (λ (s : KernelState). before ++ (lines_text sys 0 k.lines ++ (text_of k gs ++ states_text sys s))) is_now
+    ∙ ap (λ (j : ForeignKernel). before ++ (lines_text sys 0 j.lines ++ (text_of j gs ++ states_text sys (run_of j gs).world.state))) is_new
+
+-- the listed states are those that a kernel has at the end
+pub listed : (sys : SystemTables) (now : KernelState) (xs : List TaskState)
+    → xs ≡ map (task_state now) (places_from 0 (length sys.tasks)) → listed_states_text sys 0 xs ≡ states_text sys now
+listed sys now xs q = ap (λ (ys : List TaskState). listed_states_text sys 0 ys) q ∙ listed_states_are_states sys now
+
+-- what is written of a run is replayed to its trace
+pub replayed_as_recorded : RecordedRunsAreReplayed
+replayed_as_recorded system gs before after small all few h =
+    let sys = tables_of system in
+    let read : recording_of system.processors (recording_text gs) ≡ Ok gs =
+    printed_recordings_read_back system.processors gs small all few in
+    let same : h.run ≡ gs = let e = h.recorded in cc in
+    h.trace ∙ ap (λ (xs : List Given). before ++ trace_text sys (new_kernel sys).lines (run_of (new_kernel sys) xs)) same
+
+-- a fact holds on success where one that implies it does
+pub on_ok_then : {T E P Q : Type 0} (r : Result T E) → (P → Q) → OnOk r P → OnOk r Q
+on_ok_then (Ok x) f p = f p
+on_ok_then (Err e) f p = tt
+
+-- the same of an error
+pub if_err_then : {T E : Type 0} {P Q : E → Type 0} (r : Result T E) → ((e : E) → P e → Q e) → IfErr r P → IfErr r Q
+if_err_then (Ok x) f p = tt
+if_err_then (Err e) f p = f e p
+
+-- why a recorded run of a system is not replayed, where a configuration describes the system
+pub of_described : (cfg recording : List ℕ) (system : System) → Describes cfg system → (why : ReplayFault)
+    → IsWhyNotRun system recording why → IsReplayFault cfg recording why
+of_described cfg recording system d (fault.Configuration w) h = absurd h
+of_described cfg recording system d (fault.Recording w) h = record { system = system; described = d; fault = h }
+of_described cfg recording system d (fault.Refused w) h = h
+of_described cfg recording system d fault.Memory h = tt
+
+-- why the replay of a recording stops
+pub not_run : (system : System) (recording : List ℕ) (k : ForeignKernel) (gs : List Given) (why : ReplayFault)
+    → k ≡ new_kernel (tables_of system) → recording_of system.processors recording ≡ Ok gs → IsWhyStopped k gs why
+    → IsWhyNotRun system recording why
+not_run system recording k gs (fault.Configuration w) is_new e h = absurd h
+not_run system recording k gs (fault.Recording w) is_new e h = absurd h
+not_run system recording k gs (fault.Refused w) is_new e h =
+    let none : refusal_in k gs ≡ None =
+    ap (λ (j : ForeignKernel). refusal_in j gs) is_new ∙ never_refused system recording gs e in
+    cc
+not_run system recording k gs fault.Memory is_new e h = tt

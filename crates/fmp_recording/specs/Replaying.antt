@@ -1,0 +1,127 @@
+-- The replay of a recording on a kernel whose bodies run outside.
+use Rattle.std.specs.Prelude.{◌≡◌, ◌+◌, ◌<◌, ◌≤◌, ◌^◌, ℕ, pos, List, [], ◌∷◌, ◌++◌, Option, Some, None, Ok, Err, length}
+use Rattle.std.specs.List.{AllByRecursion}
+use Rattle.fmp_base.specs.declared.systems.System.{System}
+use Rattle.fmp_base.specs.Runs.{Trace}
+use Rattle.fmp_base.specs.Setups.{setup}
+use Rattle.fmp_base.specs.Systems.{SystemTables, tables_of}
+use Rattle.fmp_base.specs.Steps.{Reaction, Nothing, Did, Kept}
+use Rattle.fmp_base.specs.Texts.{events_text, lines_text, trace_text}
+use Rattle.fmp_cfgparse.specs.Configurations.{Describes, IsRead}
+use Rattle.fmp_foreign.specs.declared.foreign.Told.{Told}
+use Rattle.fmp_foreign.specs.declared.foreign.Told.TheVariants as told
+use Rattle.fmp_foreign.specs.declared.hosted.Hosted.{Hosted}
+use Rattle.fmp_foreign.specs.declared.requests.Refusal.{Refusal}
+use Rattle.fmp_foreign.specs.Foreign.{foreign_meaning}
+use Rattle.fmp_foreign.specs.Hosting.{ForeignKernel, reaction, refused}
+use Rattle.fmp_kernel.specs.KernelViews.{view_after, view_of_setup}
+use Rattle.fmp_outside.specs.declared.given.Given.{Given}
+use Rattle.fmp_outside.specs.Outside.{outside_run}
+use Rattle.fmp_recording.specs.declared.faults.RecordingFault.{RecordingFault}
+use Rattle.fmp_recording.specs.declared.replaying.ReplayFault.{ReplayFault}
+use Rattle.fmp_recording.specs.declared.faults.RecordingFault.{RecordingFault}
+use Rattle.fmp_recording.specs.declared.replaying.ReplayFault.TheVariants as fault
+use Rattle.fmp_recording.specs.RecordingLaws.{IsRecorded}
+use Rattle.fmp_recording.specs.Recordings.{IsFaultOf, recording_of, recording_text}
+
+-- the run of a kernel over what comes to it
+abbrev pub run_of : ForeignKernel → List Given → Trace Told
+run_of k gs = outside_run k.system (foreign_meaning k.body) k.bound (told.Starts (pos 0)) k.world gs
+
+-- the text of the lines of its events, numbered on
+abbrev pub text_of : ForeignKernel → List Given → List ℕ
+text_of k gs = events_text k.system (k.done + 1) (run_of k gs).events
+
+abbrev pub or_else : Option Refusal → Option Refusal → Option Refusal
+or_else None later = later
+or_else (Some why) later = Some why
+
+-- why the first of these is refused that is, if one is
+abbrev pub refusal_in : ForeignKernel → List Given → Option Refusal
+refusal_in k [] = None
+refusal_in k (g ∷ gs) = or_else (refused k g) (refusal_in (view_after k (reaction k g)) gs)
+
+-- what an event adds to a text
+abbrev pub added_by : ForeignKernel → Reaction Told → List ℕ
+added_by k Nothing = []
+added_by k (Did d) = lines_text k.system (k.done + 1) d.lines
+added_by k (Kept p w) = []
+
+-- a kernel has taken what came, and the lines of its event are written
+pub record HasTaken (old new : Hosted) (g : Given) (before after : List ℕ) : Type 0 where
+  pub taken : refused old.kernel g ≡ None
+  pub kernel : new.kernel ≡ view_after old.kernel (reaction old.kernel g)
+  pub system : new.system ≡ old.system
+  pub text : after ≡ before ++ added_by old.kernel (reaction old.kernel g)
+
+-- why what came is not taken, or not written
+abbrev pub IsWhyNotTaken : ForeignKernel → Given → ReplayFault → Type 0
+IsWhyNotTaken k g (fault.Configuration why) = ⊥
+IsWhyNotTaken k g (fault.Recording why) = ⊥
+IsWhyNotTaken k g (fault.Refused why) = refused k g ≡ Some why
+IsWhyNotTaken k g fault.Memory = Unit {0}
+
+-- a kernel has taken all that was recorded: the lines of the recorded run are written, and it stands where that run ends
+pub record HasReplayed (old new : Hosted) (gs : List Given) (before after : List ℕ) : Type 0 where
+  pub taken : refusal_in old.kernel gs ≡ None
+  pub text : after ≡ before ++ text_of old.kernel gs
+  pub world : new.kernel.world ≡ (run_of old.kernel gs).world
+  pub tables : new.kernel.system ≡ old.kernel.system
+  pub system : new.system ≡ old.system
+
+-- why a replay stops
+abbrev pub IsWhyStopped : ForeignKernel → List Given → ReplayFault → Type 0
+IsWhyStopped k gs (fault.Configuration why) = ⊥
+IsWhyStopped k gs (fault.Recording why) = ⊥
+IsWhyStopped k gs (fault.Refused why) = refusal_in k gs ≡ Some why
+IsWhyStopped k gs fault.Memory = Unit {0}
+
+-- a new kernel of these tables
+abbrev pub new_kernel : SystemTables → ForeignKernel
+new_kernel sys = view_of_setup tt 1 sys (setup sys (foreign_meaning tt))
+
+-- The whole trace of a recorded run of this system was appended: the lines of setup, those of each event that is done,
+-- numbered from 1, and the states of the tasks at the end.
+pub record HasRun (system : System) (recording before after : List ℕ) : Type 0 where
+  pub run : List Given
+  pub recorded : recording_of system.processors recording ≡ Ok run
+  pub trace :
+      after
+      ≡ before
+      ++ trace_text (tables_of system) (new_kernel (tables_of system)).lines
+      (run_of (new_kernel (tables_of system)) run)
+
+-- why a recorded run of this system is not replayed: nothing that stands in a recording of it is refused
+abbrev pub IsWhyNotRun : System → (recording : List ℕ) → ReplayFault → Type 0
+IsWhyNotRun system recording (fault.Configuration why) = ⊥
+IsWhyNotRun system recording (fault.Recording why) = IsFaultOf why (recording_of system.processors recording)
+IsWhyNotRun system recording (fault.Refused why) = ⊥
+IsWhyNotRun system recording fault.Memory = Unit {0}
+
+-- the trace of the recorded run of a system that this configuration describes was appended
+pub record IsReplay (cfg recording before after : List ℕ) : Type 0 where
+  pub system : System
+  pub described : Describes cfg system
+  pub replayed : HasRun system recording before after
+
+pub record IsRecordingFault (cfg recording : List ℕ) (why : RecordingFault) : Type 0 where
+  pub system : System
+  pub described : Describes cfg system
+  pub fault : IsFaultOf why (recording_of system.processors recording)
+
+-- the fault of a configuration, or of a recording of the system that it describes
+abbrev pub IsReplayFault : (cfg recording : List ℕ) → ReplayFault → Type 0
+IsReplayFault cfg recording (fault.Configuration why) = IsRead cfg (Err why)
+IsReplayFault cfg recording (fault.Recording why) = IsRecordingFault cfg recording why
+IsReplayFault cfg recording (fault.Refused why) = ⊥
+IsReplayFault cfg recording fault.Memory = Unit {0}
+
+-- what is written of a run of a system, of at most 2^31 events, is replayed to the trace of this run
+abbrev pub RecordedRunsAreReplayed : Type 0
+RecordedRunsAreReplayed =
+    (system : System) (gs : List Given) (before after : List ℕ) → system.processors < 256
+    → AllByRecursion (IsRecorded system.processors) gs → length gs ≤ 2 ^ 31
+    → HasRun system (recording_text gs) before after
+    → after
+    ≡ before
+    ++ trace_text (tables_of system) (new_kernel (tables_of system)).lines (run_of (new_kernel (tables_of system)) gs)
