@@ -5,16 +5,21 @@ use Rattle.fmp_files.specs.Outside.{Files}
 use Rattle.fmp.specs.Runs.{AreOne, CanBeOne}
 
 module _ (files : Files) (name other : List ℕ) where
-  said_as : (r one : Bool) → files.says_one name other ≡ Some one → IfSome (files.says_one name other) (λ one. r ≡ one) → r ≡ one
+  said_as :
+      (r one : Bool) → files.says_one name other ≡ Some one → IfSome (files.says_one name other) (λ one. r ≡ one)
+      → r ≡ one
   said_as r one is said = subst (λ (o : Option Bool). IfSome o (λ one. r ≡ one)) is said
 
   -- where the answer is no, they lead to two
-  pub two_files : (r : Bool) → (name ≡ other → IsTrue r) → IfSome (files.says_one name other) (λ one. r ≡ one) → IsFalse r → ¬ AreOne files name other
-  two_files true equal said no is = absurd (true≢false no)
-  two_files false equal said no (inl same) = absurd (true≢false (sym (equal same)))
-  two_files false equal said no (inr is) = absurd (true≢false (sym (said_as false true is said)))
+  pub two_files :
+      (r : Bool) → (name ≡ other → IsTrue r) → IfSome (files.says_one name other) (λ one. r ≡ one) → IsFalse r
+      → ¬ AreOne files name other
+  two_files true equal said isnt are = absurd (true≢false isnt)
+  two_files false equal said isnt (inl same) = absurd (true≢false (sym (equal same)))
+  two_files false equal said isnt (inr is) = absurd (true≢false (sym (said_as false true is said)))
 
   -- where it is yes, they can lead to one
-  pub one_file : (r : Bool) → IfSome (files.says_one name other) (λ one. r ≡ one) → IsTrue r → CanBeOne files name other
-  one_file false said yes = absurd (true≢false (sym yes))
-  one_file true said yes = inr (λ is. absurd (true≢false (said_as true false is said)))
+  pub one_file :
+      (r : Bool) → IfSome (files.says_one name other) (λ one. r ≡ one) → IsTrue r → CanBeOne files name other
+  one_file false said holds = absurd (true≢false (sym holds))
+  one_file true said holds = inr (λ is. absurd (true≢false (said_as true false is said)))
