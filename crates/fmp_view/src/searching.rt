@@ -2,7 +2,7 @@
 ghost use Rattle.std.specs.Prelude.{◌≡◌, [], IfOk, Ok};
 ghost use Rattle.fmp_files.specs.Prints.{Prints};
 ghost use Rattle.fmp_explore_names.specs.Questions.{IsWanted};
-ghost use Rattle.fmp_view.specs.Claimed.{HasClaimed, HasShown};
+ghost use Rattle.fmp_view.specs.Claimed.{HasClaimed, HasShown, HoldsOfFiles, HoldsOfImage, HoldsOfTexts};
 ghost use Rattle.fmp_view.specs.Claimed.{PrintsNothing, PrintsOnly};
 
 use crate::exploration::{no_question, steps_over_input};
@@ -172,6 +172,8 @@ fn explore_image<O: Outside>(
     wanted: &Wanted,
 ) -> Result<u8, AllocError>
     requires { IsWanted exploring.now.asked (Ok wanted.now) }
+    ensures { IfOk result (λ status. status ≡ 0 →
+        HoldsOfImage image.now src.now exploring.now (O.done outside.new)) }
 {
     let lines = CallLines::new(alloc, src)?;
     match question_by(alloc, &exploring.asked, wanted, image, &lines)? {
@@ -192,6 +194,7 @@ fn explore_status<O: Outside>(
     wanted: &Wanted,
 ) -> u8
     requires { IsWanted exploring.now.asked (Ok wanted.now) }
+    ensures { result ≡ 0 → HoldsOfImage image.now src.now exploring.now (O.done outside.new) }
 {
     match explore_image(alloc, outside, image, src, exploring, wanted) {
         Ok(status) => status,
@@ -209,6 +212,7 @@ fn explore_texts<O: Outside>(
     wanted: &Wanted,
 ) -> u8
     requires { IsWanted exploring.now.asked (Ok wanted.now) }
+    ensures { result ≡ 0 → HoldsOfTexts cfg.now src.now exploring.now (O.done outside.new) }
 {
     let names = FileNames {
         cfg: exploring.cfg,
@@ -234,6 +238,7 @@ fn explore_files<O: Outside>(
     wanted: &Wanted,
 ) -> u8
     requires { IsWanted exploring.now.asked (Ok wanted.now) }
+    ensures { result ≡ 0 → HoldsOfFiles (O.files outside.old) exploring.now (O.done outside.new) }
 {
     match read_both(alloc, outside, exploring.cfg, exploring.src) {
         Ok((cfg, src)) => explore_texts(alloc, outside, &cfg, &src, exploring, wanted),
@@ -242,7 +247,9 @@ fn explore_files<O: Outside>(
 }
 
 /// Explores the schedules of the texts of two files, or prints their first fault, with status 1.
-pub fn run_explore<O: Outside>(alloc: Global, outside: &mut O, exploring: &Exploring<'_>) -> u8 {
+pub fn run_explore<O: Outside>(alloc: Global, outside: &mut O, exploring: &Exploring<'_>) -> u8
+    ensures { result ≡ 0 → HoldsOfFiles (O.files outside.old) exploring.now (O.done outside.new) }
+{
     match wanted_by(alloc, &exploring.asked) {
         Ok(Ok(wanted)) => explore_files(alloc, outside, exploring, &wanted),
         Ok(Err(mistake)) => refuse_mistake(outside, no_question(alloc, mistake)),
