@@ -128,7 +128,7 @@ impl Hosted {
     /// no such task.
     pub fn state(&self, t: u8) -> Option<TaskState>
         ensures { MatchOption result (length self.now.kernel.system.tasks ≤ t)
-            (λ state. state ≡ task_state self.now.kernel.world.state t) }
+            (λ state. (t < length self.now.kernel.system.tasks) × (state ≡ task_state self.now.kernel.world.state t)) }
     {
         if t as usize >= self.kernel.tables().task_count() {
             return None;
