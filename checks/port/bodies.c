@@ -114,6 +114,66 @@ static void run_bodies(FILE *trace)
     fmp_close();
 }
 
+static const char spinning_text[] =
+    "NUM_PRC(2);\n"
+    "CLASS(TCL_1) {\n"
+    "CRE_TSK(SPINNER, { TA_ACT, 0, spin, 10, 256, NULL });\n"
+    "CRE_TSK(URGENT, { 0, 0, restart, 5, 256, NULL });\n"
+    "DEF_INH(3, { 0, wake });\n"
+    "}\n"
+    "CLASS(TCL_2) {\n"
+    "CRE_TSK(HOLDER, { TA_ACT, 0, hold, 10, 256, NULL });\n"
+    "CRE_SPN(LOCK, { 0 });\n"
+    "}\n";
+
+static void spin(intptr_t exinf)
+{
+    (void)exinf;
+    starts++;
+    CHECK(starts == 1 || put(starts) == E_OK);
+    loc_spn(1);
+}
+
+static void restart(intptr_t exinf)
+{
+    (void)exinf;
+    CHECK(act_tsk(1) == E_OK && ter_tsk(1) == E_OK);
+}
+
+static void wake(intptr_t exinf)
+{
+    (void)exinf;
+    CHECK(iact_tsk(2) == E_OK);
+}
+
+static void hold(intptr_t exinf)
+{
+    (void)exinf;
+    CHECK(loc_spn(1) == E_OK && put(1) == E_OK && unl_spn(1) == E_OK);
+}
+
+/* A task that spins for a lock makes its call again; once it is restarted it does not. */
+static void restarted_spinner(void)
+{
+    static const struct fmp_body bodies[] = {
+        { "spin", spin }, { "restart", restart }, { "wake", wake }, { "hold", hold }
+    };
+    const struct fmp_program program = { .bodies = bodies, .count = 4 };
+    starts = 0;
+    CHECK(fmp_open(spinning_text, strlen(spinning_text), &program, NULL, stdout) == FMP_OPENED);
+    CHECK(fmp_step_run(2) == FMP_DONE);
+    steps(FMP_NOTHING, 2);
+    CHECK(fmp_step_int(3) == FMP_DONE);
+    steps(FMP_DONE, 5);
+    CHECK(starts == 1);
+    steps(FMP_DONE, 1);
+    CHECK(starts == 2);
+    steps(FMP_NOTHING, 2);
+    CHECK(fmp_step_run(2) == FMP_DONE && fmp_step_run(2) == FMP_DONE);
+    steps(FMP_DONE, 1);
+    fmp_close();
+}
+
 static void refusals(void)
 {
     static const struct fmp_body bodies[] = { { "long_way", long_way } };
@@ -147,6 +207,7 @@ int main(void)
     refusals();
     run_bodies(NULL);
     run_bodies(trace);
+    restarted_spinner();
     fclose(trace);
     printf("bodies: %d failed\n", failed);
     return failed != 0;

@@ -1,4 +1,4 @@
-"""The model of the kernel, handed what actors do, and the records that C is given of it; and random events to hand in."""
+"""The model of the kernel, which is handed what actors do, the records that C is given of it, and random events."""
 
 import random
 

@@ -1,13 +1,14 @@
 #!/bin/sh
 # Compiles C programs with the library for C and the port for virtual time, and runs them: the examples, to the byte of
 # their traces, and their recordings, replayed; what is answered to a mistake; random calls and random C tasks beside
-# the model of the kernel. It does so with each of two compilers, with the sanitizers of one, with valgrind, and with the
-# library as `make install` copies it; without what is not on the machine, which it says.
+# the model of the kernel. It does so with two compilers, with the sanitizers of one, with valgrind, and with the library
+# as `make install` copies it. It names what is not on the machine.
 #
 #   checks/port/port.sh [LIBRARY [COUNT]]
 #
 # LIBRARY is crates/fmp_c/out/libfmp_c.a where it is not given, as checks/port/library.py or `rt lib` makes it. COUNT is
-# how many random systems are run (1,000). Where there is no C compiler the script says that it did not run, with status 0.
+# how many random systems are run (1,000). Where there is no C compiler the script says that it did not run, with status
+# 0.
 set -eu
 
 LC_ALL=C
@@ -117,6 +118,16 @@ random() {
     done
 }
 
+# forms COMPILER: each call of kernel.h hands in its function code and its arguments.
+forms() {
+    problem=
+    python3 "$root/checks/port/forms.py" > forms.c
+    "$1" -std=c11 -Wall -Wextra -Wpedantic -Wconversion -Werror -I"$root/port/include" forms.c -o forms 2> errors ||
+        problem="it does not compile: $(head -c 300 errors)"
+    ./forms > output 2>&1 || problem="$problem, status $?: $(head -c 300 output)"
+    verdict "the calls of kernel.h" "$problem"
+}
+
 # The bodies that a configuration names and no function is there for are named, and nothing is run.
 missing_bodies() {
     problem=
@@ -134,7 +145,8 @@ installed() {
     make -s -C "$root" LIBRARY="$library" PREFIX="$room/prefix" C_ROOM="$room/made" CC="$cc" install-c > output 2>&1 ||
         problem="make install-c: $(head -c 300 output)"
     if command -v pkg-config > /dev/null; then
-        words=$(PKG_CONFIG_PATH=$room/prefix/lib/pkgconfig pkg-config --cflags --libs fmp) || problem="no pkg-config file"
+        words=$(PKG_CONFIG_PATH=$room/prefix/lib/pkgconfig pkg-config --cflags --libs fmp) ||
+            problem="no pkg-config file"
     else
         words="-I$room/prefix/include/fmp -L$room/prefix/lib -lfmp"
     fi
@@ -159,6 +171,7 @@ examples plain
 replays plain
 mistakes plain
 random plain "$count" 1
+forms "$cc"
 missing_bodies
 installed
 

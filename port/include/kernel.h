@@ -45,7 +45,7 @@ enum { TSK_SELF = 0, TPRI_INI = 0, TPRI_SELF = 0, TMO_POL = 0, TMO_FEVR = -1, TW
  * What a port offers.
  */
 
-/* A service call by its function code, 1 to 59. Its value, if it gives one, stands in *value then. E_CTX outside bodies. */
+/* A service call by its function code, 1 to 59. If it gives a value, *value has it then. E_CTX outside bodies. */
 ER fmp_service(uint8_t service, int32_t a, int32_t b, int32_t c, int32_t d, int32_t *value);
 
 /*
