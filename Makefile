@@ -64,8 +64,8 @@ $(PROGRAM):
 $(VIEW):
 	$(call missing,$@,crates/fmp_view)
 
-# The library for C: the proved part, which checks/port/library.py makes behind the gate, and else `rt lib` in its
-# folder; the allocator's glue of the toolchain; and the port for virtual time, in one archive.
+# The library for C: the proved part, which the gate makes, and `rt lib` in its folder; the allocator's glue of the
+# toolchain; and the port for virtual time, in one archive.
 LIBRARY ?= crates/fmp_c/out/libfmp_c.a
 GLUE ?= $(shell dirname "$$(dirname "$$(readlink -f "$$(command -v rt)")")")/c/liblibc_c.a
 C_ROOM ?= crates/fmp_c/out/c

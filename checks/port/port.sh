@@ -6,9 +6,8 @@
 #
 #   checks/port/port.sh [LIBRARY [COUNT]]
 #
-# LIBRARY is crates/fmp_c/out/libfmp_c.a where it is not given, as checks/port/library.py or `rt lib` makes it. COUNT is
-# how many random systems are run (1,000). Where there is no C compiler the script says that it did not run, with status
-# 0.
+# LIBRARY is crates/fmp_c/out/libfmp_c.a where it is not given, as the gate or `rt lib` makes it. COUNT is how many
+# random systems are run (1,000). Where there is no C compiler the script says that it did not run, with status 0.
 set -eu
 
 LC_ALL=C
@@ -29,7 +28,7 @@ missing() {
 }
 command -v rt > /dev/null || missing "there is no rt, whose kit has the allocator's glue"
 glue=$(dirname "$(dirname "$(readlink -f "$(command -v rt)")")")/c/liblibc_c.a
-[ -f "$library" ] || missing "there is no library $library: checks/port/library.py makes it"
+[ -f "$library" ] || missing "there is no library $library: \`rt lib\` in crates/fmp_c makes it"
 library=$(cd "$(dirname "$library")" && pwd)/$(basename "$library")
 
 room=$(mktemp -d)
