@@ -1,8 +1,8 @@
 #!/bin/sh
 # Compiles C programs with the library for C and the port for virtual time, and runs them: the examples, to the byte of
 # their traces, and their recordings, replayed; what is answered to a mistake; random calls and random C tasks beside
-# the model of the kernel. It does so with two compilers, with the sanitizers of one, with valgrind, and with the library
-# as `make install` copies it. It names what is not on the machine.
+# the model of the kernel. It does so with two compilers, with the sanitizers of one, with valgrind, and with the
+# library as `make install` copies it. It names what is not on the machine.
 #
 #   checks/port/port.sh [LIBRARY [COUNT]]
 #
@@ -52,15 +52,15 @@ compiled() {
     kind=$1
     shift
     mkdir "$kind"
-    strict="-std=c11 -g -Wall -Wextra -Wpedantic -Wconversion -Wshadow -Werror -I$root/port/include"
-    for source in "$root"/port/*.c "$root"/examples/c/*.c "$root"/checks/port/*.c "$root"/bench/calls.c; do
+    strict="-std=c11 -g -Wall -Wextra -Wpedantic -Wconversion -Wshadow -Werror -I$root/port/include -I$root/port"
+    for source in "$root"/port/*.c "$root"/examples/c/*.c "$root"/checks/port/*.c "$root"/bench/*.c; do
         # shellcheck disable=SC2086
         "$@" $strict -c "$source" -o "$kind/$(basename "$source" .c).o" 2> errors ||
             verdict "$kind: $(basename "$source")" "it does not compile: $(head -c 300 errors)"
     done
-    ar rc "$kind/libport.a" "$kind/virtual.o" "$kind/coroutine.o"
+    ar rc "$kind/libport.a" "$kind/virtual.o" "$kind/coroutine.o" "$kind/replaying.o"
     for object in "$kind"/*.o; do
-        case $object in */virtual.o | */coroutine.o) continue ;; esac
+        case $object in */virtual.o | */coroutine.o | */replaying.o) continue ;; esac
         "$@" "$object" "$kind/libport.a" "$library" "$glue" -o "${object%.o}" 2> errors ||
             verdict "$kind: $(basename "$object")" "it does not link: $(head -c 300 errors)"
     done

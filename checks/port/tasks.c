@@ -6,10 +6,13 @@
  *   close                prints the states of the tasks, and the recording
  *
  * Each line is a step. The body that goes on then prints what it was told, and makes this call, ends, stops with the
- * fault, or polls. The lines of the trace follow, and then the answer to the step.
+ * fault, or polls. The lines of the trace follow, and then the answer to the step. At the end the recording is
+ * replayed.
  */
+#define _POSIX_C_SOURCE 200809L
 #include "fmp.h"
 #include "kernel.h"
+#include "replaying.h"
 #include "virtual.h"
 
 #include <inttypes.h>
@@ -27,7 +30,18 @@ static int32_t with[4];
 
 static char names[2 * BODIES][4];
 static struct fmp_body bodies[2 * BODIES];
-static FILE *recording;
+
+/* What is written in memory. */
+struct written {
+    FILE *file;
+    char *text;
+    size_t length;
+};
+
+static struct written trace, recording;
+static size_t shown;
+static char *configuration;
+static size_t configuration_length;
 
 static void print_reply(ER code, int32_t value)
 {
@@ -68,31 +82,74 @@ static void name_bodies(void)
     }
 }
 
+static FILE *begin_writing(struct written *it)
+{
+    it->file = open_memstream(&it->text, &it->length);
+    if (it->file == NULL) {
+        exit(2);
+    }
+    return it->file;
+}
+
+static void forget(struct written *it)
+{
+    fclose(it->file);
+    free(it->text);
+}
+
+/* The trace since it was shown last. */
+static void show(void)
+{
+    fflush(trace.file);
+    fwrite(trace.text + shown, 1, trace.length - shown, stdout);
+    shown = trace.length;
+}
+
 static void open_system(size_t length)
 {
     const struct fmp_program program = { .bodies = bodies, .count = 2 * BODIES, .polls = POLLS };
-    char *text = malloc(length + 1);
-    recording = tmpfile();
-    if (text == NULL || recording == NULL || fread(text, 1, length, stdin) != length) {
+    configuration = malloc(length + 1);
+    configuration_length = length;
+    shown = 0;
+    if (configuration == NULL || fread(configuration, 1, length, stdin) != length) {
         exit(2);
     }
-    if (fmp_open(text, length, &program, stdout, stderr) != FMP_OPENED) {
+    if (fmp_open(configuration, length, &program, begin_writing(&trace), stderr) != FMP_OPENED) {
         exit(1);
     }
-    free(text);
-    fmp_record(recording);
+    fmp_record(begin_writing(&recording));
+    show();
+}
+
+/* Whether the recording gives the trace and the states again. */
+static bool is_replayed(void)
+{
+    struct written again;
+    FILE *events = recording.length != 0 ? fmemopen(recording.text, recording.length, "r") : tmpfile();
+    if (events == NULL) {
+        return false;
+    }
+    bool same = replay(configuration, configuration_length, events, begin_writing(&again));
+    fflush(again.file);
+    same = same && again.length == trace.length && memcmp(again.text, trace.text, trace.length) == 0;
+    fclose(events);
+    forget(&again);
+    return same;
 }
 
 static void close_system(void)
 {
-    char line[128];
-    fmp_print_states(stdout);
+    fmp_print_states(trace.file);
+    show();
     fmp_close();
-    rewind(recording);
-    while (fgets(line, sizeof line, recording) != NULL) {
-        fputs(line, stdout);
+    fflush(recording.file);
+    fwrite(recording.text, 1, recording.length, stdout);
+    if (!is_replayed()) {
+        puts("the recording gives another trace");
     }
-    fclose(recording);
+    forget(&trace);
+    forget(&recording);
+    free(configuration);
 }
 
 static uint32_t run(enum deed next, unsigned p)
@@ -132,7 +189,9 @@ int main(void)
         } else if (strcmp(line, "close\n") == 0) {
             close_system();
         } else {
-            printf("answer %" PRIu32 "\n", step(line));
+            uint32_t answer = step(line);
+            show();
+            printf("answer %" PRIu32 "\n", answer);
         }
     }
     return 0;
