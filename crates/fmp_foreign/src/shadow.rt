@@ -113,7 +113,7 @@ fn take_turn<B: Body>(kernel: &mut Kernel<B>, bound: u64, given: Given) -> Verdi
     verdict
 }
 
-/// What comes, in at most so many turns of the text.
+/// What comes, in at most `turns` turns of the text.
 #[tactic(auto, using(crate::proofs::Following::nothing_yet))]
 fn take_turns<B: Body>(kernel: &mut Kernel<B>, bound: u64, given: Given, turns: u32) -> Verdict
     requires { kernel.old.bound ≡ bound }
@@ -180,7 +180,7 @@ impl<B: Body> Shadow<B> {
         &self.kernel
     }
 
-    /// What comes, in at most so many turns of the text. It follows where the text does just this next, and its kernel
+    /// What comes, in at most `turns` turns of the text. It follows where the text does just this next, and its kernel
     /// has then made the event. Else its kernel has only gone on within the stretch of the actor: up to where the text
     /// does another thing, or for all of the turns, after which another call goes on.
     pub fn take(&mut self, given: Given, turns: u32) -> Verdict
@@ -193,7 +193,7 @@ impl<B: Body> Shadow<B> {
         take_turns(&mut self.kernel, self.bound, given, turns)
     }
 
-    /// The whole of a journal, each thing in it in at most so many turns of the text; or the first that the text does
+    /// The whole of a journal, each thing in it in at most `turns` turns of the text; or the first that the text does
     /// not follow.
     pub fn replay(&mut self, journal: &[Given], turns: u32) -> Result<(), Departure>
         ensures follows { IfOk result (λ _. HasFollowed B.meaning self.old journal.now self.new) }

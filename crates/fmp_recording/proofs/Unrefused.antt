@@ -23,7 +23,7 @@ use Rattle.fmp_recording.specs.Recordings.{act_in, cut, fault_at, given_act, giv
 use Rattle.fmp_recording.specs.Replaying.{new_kernel, or_else, refusal_in}
 use Rattle.fmp_steps.specs.Steps.{lines_of}
 
--- its numbers are those of a system with so many processors
+-- its numbers are those of a system with this number of processors
 abbrev Fits : (processors : ℕ) → Given → Type 0
 Fits processors (given.Act p a) = is_number processors p ≡ true
 Fits processors given.Tick = Unit {0}

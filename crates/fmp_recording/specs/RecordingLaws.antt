@@ -18,7 +18,7 @@ IsWritable (act.Call c) = AllByRecursion IsWord (arguments_of c)
 IsWritable act.End = Unit {0}
 IsWritable (act.Fault f) = Unit {0}
 
--- what a recording of a system with so many processors can hold
+-- what a recording of a system with this number of processors can hold
 abbrev pub IsRecorded : (processors : ℕ) → Given → Type 0
 IsRecorded processors (given.Act p a) = (1 ≤ p) × (p ≤ processors) × IsWritable a
 IsRecorded processors given.Tick = Unit {0}

@@ -81,7 +81,7 @@ in_front_of None xs = None
 in_front_of (Some x) None = None
 in_front_of (Some x) (Some xs) = Some (x ∷ xs)
 
--- so many arguments, each behind a blank, and nothing behind them
+-- n arguments, each behind a blank, and nothing behind them
 abbrev pub arguments_in : ℕ → List ℕ → Option (List ℤ)
 arguments_in zero [] = Some []
 arguments_in zero (b ∷ bs) = None

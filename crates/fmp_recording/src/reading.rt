@@ -43,7 +43,7 @@ fn next_argument(rest: &[u8]) -> Option<(i32, &[u8])>
     Some((number_in(word)?, after))
 }
 
-/// So many arguments, each behind a blank, with nothing behind them. Zeros stand behind them in the array.
+/// This number of arguments, each behind a blank, with nothing behind them. Zeros stand behind them in the array.
 #[tactic(auto, using(crate::proofs::LineByLine::no_number, crate::proofs::LineByLine::next_number, crate::proofs::LineByLine::all_numbers, crate::proofs::LineByLine::more_numbers))]
 fn read_arguments(count: u8, text: &[u8]) -> Option<[i32; 4]>
     requires { count ≤ 4 }
