@@ -10,7 +10,7 @@
 #include <string.h>
 
 enum { PROCESSORS = 8, TASKS = 255, CYCLICS = 255, INTERRUPTS = 32, SERVICES = 59 };
-enum { NAME_ROOM = 32, EVENT_ROOM = 66432, SPARE_STACK = 64 << 10 };
+enum { NAME_ROOM = 32, RECORDED_ROOM = 64, EVENT_ROOM = 66432, SPARE_STACK = 64 << 10 };
 
 static const unsigned long USUAL_POLLS = 1000000;
 
@@ -178,30 +178,13 @@ static void finish(uint32_t changes)
     print_lines();
 }
 
-/* The recording: a line for each event that was done, with the call that was handed in. */
-
-static void record_call(const struct flow *flow)
+/* The recording: a line for each event that was done, as the library gives it. */
+static void record_event(void)
 {
-    char name[NAME_ROOM] = { 0 };
-    fmp_service_name(flow->service, (uint8_t *)name, NAME_ROOM - 1);
-    fputs(name, recording_file);
-    for (uint32_t at = 0; at < fmp_service_arity(flow->service); at++) {
-        fprintf(recording_file, " %ld", (long)flow->arguments[at]);
+    uint8_t line[RECORDED_ROOM];
+    if (recording_file != NULL) {
+        fwrite(line, 1, fmp_recorded(&kernel, line, sizeof line), recording_file);
     }
-}
-
-static void record_act(uint8_t p, const struct flow *flow)
-{
-    static const char *const faults[] = { "", "F_OVF", "F_DIV", "F_IDX" };
-    fprintf(recording_file, "run %u ", (unsigned)p);
-    if (flow->wish == CALLS) {
-        record_call(flow);
-    } else if (flow->wish == ENDS) {
-        fputs("end", recording_file);
-    } else {
-        fprintf(recording_file, "fault %s", faults[flow->fault]);
-    }
-    fputc('\n', recording_file);
 }
 
 void fmp_record(FILE *recording)
@@ -245,9 +228,7 @@ uint32_t fmp_step_run(uint8_t p)
     }
     uint32_t answer = hand_in(p, flow);
     if (answer == FMP_DONE) {
-        if (recording_file != NULL) {
-            record_act(p, flow);
-        }
+        record_event();
         flow->wish = GOES_ON;
         finish(last[p - 1].changes);
         known |= bit_of(p);
@@ -265,9 +246,7 @@ uint32_t fmp_step_tick(void)
     }
     uint32_t answer = fmp_tick(&kernel, &outcome);
     if (answer == FMP_DONE) {
-        if (recording_file != NULL) {
-            fputs("tick\n", recording_file);
-        }
+        record_event();
         finish(outcome.changes);
     }
     return answer;
@@ -281,9 +260,7 @@ uint32_t fmp_step_int(uint8_t number)
     }
     uint32_t answer = fmp_int(&kernel, number, &outcome);
     if (answer == FMP_DONE) {
-        if (recording_file != NULL) {
-            fprintf(recording_file, "int %u\n", (unsigned)number);
-        }
+        record_event();
         finish(outcome.changes);
     }
     return answer;

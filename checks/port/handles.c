@@ -45,6 +45,7 @@ static void blank(void)
     CHECK(fmp_state(&none, 1, &state) == FMP_NO_SYSTEM && state.word == 7);
     CHECK(fmp_counts(&none, &counts) == FMP_NO_SYSTEM && counts.done == 7);
     CHECK(fmp_print(&none, room, sizeof room) == 0 && room[0] == 9);
+    CHECK(fmp_recorded(&none, room, sizeof room) == 0 && room[0] == 9);
     CHECK(fmp_name(&none, FMP_TASKS, 1, room, sizeof room) == 0);
     CHECK(fmp_body(&none, FMP_TASKS, 1, room, sizeof room) == 0);
     CHECK(fmp_count(&none, FMP_TASKS) == 0);
@@ -100,6 +101,19 @@ static bool is(const uint8_t *room, const char *text, size_t length)
     return length == strlen(text) && memcmp(room, text, length) == 0;
 }
 
+/* The line of a recording is that of the last event that was done. */
+static void recorded(fmp_system *system)
+{
+    uint8_t room[64] = { 0 };
+    fmp_outcome out;
+    CHECK(fmp_recorded(system, room, sizeof room) == 0 && room[0] == 0);
+    CHECK(fmp_tick(system, &out) == FMP_DONE && fmp_recorded(system, room, 4) == 5 && room[0] == 0);
+    CHECK(fmp_int(system, 33, &out) == FMP_NO_INTERRUPT);
+    CHECK(is(room, "tick\n", fmp_recorded(system, room, sizeof room)));
+    CHECK(fmp_fault(system, 1, FMP_DIVISION, &out) == FMP_DONE);
+    CHECK(is(room, "run 1 fault F_DIV\n", fmp_recorded(system, room, sizeof room)));
+}
+
 static void looks(fmp_system *system)
 {
     uint8_t room[64] = { 0 };
@@ -137,6 +151,7 @@ int main(void)
     CHECK(make(&system, good, &why) == FMP_HOLDS_ONE && system.at != NULL);
     numbers(&system);
     looks(&system);
+    recorded(&system);
     fmp_free(&system);
     blank();
     printf("handles: %d failed\n", failed);

@@ -54,9 +54,13 @@ abbrev pub IsNoSystem : BuildFault → (old new : FmpRefusal) → (number : ℕ)
 IsNoSystem build.Memory old new number = (new ≡ old) × (number ≡ 3)
 IsNoSystem (build.At f place why) old new number = (new ≡ refusal_of place why) × (number ≡ 1)
 
+-- the system of a text, after setup, before the first event
+abbrev pub IsFirst : List ℕ → Machine → Type 0
+IsFirst text m = IsNew text m.hosted × (m.last ≡ None)
+
 -- a blank handle holds the new system of the text, or stays blank, for a fault of the text or because memory ran out
 abbrev pub IsMade : List ℕ → Option Machine → (old new : FmpRefusal) → (number : ℕ) → Type 0
-IsMade text (Some m) old new number = IsNew text m.hosted × (new ≡ old) × (number ≡ 0)
+IsMade text (Some m) old new number = IsFirst text m × (new ≡ old) × (number ≡ 0)
 IsMade text None old new number = (fault : BuildFault) × IsRead text (Err fault) × IsNoSystem fault old new number
 
 -- what the lines of an event say has changed, if it was done
@@ -70,12 +74,25 @@ changes_after (Err why) lines = 0
 abbrev pub outcome_of : ForeignKernel → ℕ → Result Effect Refusal → FmpOutcome
 outcome_of k p a = record { acting = acting_row (acting_on k p); changes = changes_after a k.lines }
 
+-- what came with the last event that was done, after one more came
+abbrev pub last_by : Result Effect Refusal → (given : Given) → (before : Option Given) → Option Given
+last_by (Ok effect.Done) g before = Some g
+last_by (Ok effect.Nothing) g before = before
+last_by (Ok effect.Kept) g before = before
+last_by (Err why) g before = before
+
+-- the machine after what came
+abbrev pub machine_after : Machine → Result Given Refusal → Machine
+machine_after m (Err why) = m
+machine_after m (Ok g) =
+    record m { hosted = after m.hosted (Ok g); last = last_by (answer m.hosted.kernel (Ok g)) g m.last }
+
 -- what came was taken or refused, as the case tables say, and C was told
 abbrev pub IsTaken : (old : Machine) → (g : Result Given Refusal) → (p : ℕ) → (new : Option Machine) → (out : FmpOutcome)
     → (number : ℕ) → Type 0
 IsTaken old g p new out number =
-    (new ≡ Some (record old { hosted = after old.hosted g }))
-    × (out ≡ outcome_of (after old.hosted g).kernel p (answer old.hosted.kernel g))
+    (new ≡ Some (machine_after old g))
+    × (out ≡ outcome_of (machine_after old g).hosted.kernel p (answer old.hosted.kernel g))
     × (number ≡ answer_number (answer old.hosted.kernel g))
 
 -- the fault of this number
@@ -85,7 +102,7 @@ fault_of n = item FAULTS n
 -- the same system, where only the page differs
 abbrev pub IsSameSystem : Option Machine → Option Machine → Type 0
 IsSameSystem None new = new ≡ None
-IsSameSystem (Some old) new = IfSome new (λ m. m.hosted ≡ old.hosted) × IsSome new
+IsSameSystem (Some old) new = IfSome new (λ m. (m.hosted ≡ old.hosted) × (m.last ≡ old.last)) × IsSome new
 
 -- counts of a system and of its events
 abbrev pub counts_of : Hosted → FmpCounts

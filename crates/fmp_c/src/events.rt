@@ -11,6 +11,8 @@ use crate::handle::FmpSystem;
 use crate::names::item;
 use crate::records::FmpOutcome;
 use fmp_base::Fault;
+use fmp_foreign::call_of;
+use fmp_outside::{Act, Given};
 use std::alloc::Global;
 use std::mem;
 
@@ -41,8 +43,10 @@ pub extern "C" fn fmp_call(
     match mem::replace(h, FmpSystem::blank()).into_box(alloc) {
         Some(held) => {
             let mut machine = held;
-            let answer = machine.hosted.call(p, service, &[a, b, c, d]);
-            let number = machine.tell(p, answer, out);
+            let number = match call_of(service, &[a, b, c, d]) {
+                Ok(call) => machine.take(&Given::Act(p, Act::Call(call)), p, out),
+                Err(why) => machine.tell(p, Err(why), out),
+            };
             *h = FmpSystem::of(machine);
             number
         }
@@ -60,8 +64,7 @@ pub extern "C" fn fmp_end(alloc: Global, h: &mut FmpSystem, p: u8, out: &mut Fmp
     match mem::replace(h, FmpSystem::blank()).into_box(alloc) {
         Some(held) => {
             let mut machine = held;
-            let answer = machine.hosted.end(p);
-            let number = machine.tell(p, answer, out);
+            let number = machine.take(&Given::Act(p, Act::End), p, out);
             *h = FmpSystem::of(machine);
             number
         }
@@ -80,8 +83,7 @@ fn fail(alloc: Global, h: &mut FmpSystem, p: u8, fault: Fault, out: &mut FmpOutc
     match mem::replace(h, FmpSystem::blank()).into_box(alloc) {
         Some(held) => {
             let mut machine = held;
-            let answer = machine.hosted.fault(p, fault);
-            let number = machine.tell(p, answer, out);
+            let number = machine.take(&Given::Act(p, Act::Fault(fault)), p, out);
             *h = FmpSystem::of(machine);
             number
         }
@@ -120,8 +122,7 @@ pub extern "C" fn fmp_tick(alloc: Global, h: &mut FmpSystem, out: &mut FmpOutcom
     match mem::replace(h, FmpSystem::blank()).into_box(alloc) {
         Some(held) => {
             let mut machine = held;
-            let answer = machine.hosted.tick();
-            let number = machine.tell(0, answer, out);
+            let number = machine.take(&Given::Tick, 0, out);
             *h = FmpSystem::of(machine);
             number
         }
@@ -138,8 +139,7 @@ pub extern "C" fn fmp_int(alloc: Global, h: &mut FmpSystem, number: u8, out: &mu
     match mem::replace(h, FmpSystem::blank()).into_box(alloc) {
         Some(held) => {
             let mut machine = held;
-            let answer = machine.hosted.interrupt(number);
-            let answered = machine.tell(0, answer, out);
+            let answered = machine.take(&Given::Int(number), 0, out);
             *h = FmpSystem::of(machine);
             answered
         }

@@ -9,6 +9,7 @@ mod looks;
 mod machine;
 mod making;
 mod names;
+mod recorded;
 mod records;
 mod services;
 mod states;
@@ -22,6 +23,7 @@ pub use looks::{
 };
 pub use machine::Machine;
 pub use making::{fmp_free, fmp_new};
+pub use recorded::fmp_recorded;
 pub use records::{FmpActing, FmpOutcome, FmpRefusal};
 pub use services::{fmp_service_arity, fmp_service_name};
 pub use states::FmpState;

@@ -1,23 +1,41 @@
-//! What a handle holds: a hosted system, and the page on which its lines are printed.
-ghost use Rattle.std.specs.Prelude.{◌≡◌};
+//! What a handle holds: a hosted system, what came to it last, and the page on which its lines are printed.
+ghost use Rattle.std.specs.Prelude.{◌≡◌, Ok};
 ghost use Rattle.fmp_base.specs.Systems.{tables_of};
 ghost use Rattle.fmp_base.specs.Texts.{lines_text};
-ghost use Rattle.fmp_c.specs.Exports.{outcome_of};
+ghost use Rattle.fmp_foreign.specs.Hosting.{answer};
+ghost use Rattle.fmp_c.specs.Exports.{machine_after, outcome_of};
 ghost use Rattle.fmp_c.specs.Records as spec;
 
 use crate::records::{FmpActing, FmpOutcome, answer_number, changes};
 use fmp_base::Effect;
 use fmp_foreign::{Hosted, Refusal};
+use fmp_outside::Given;
 use fmp_trace::Page;
 
-/// A hosted system, and the page on which its lines are printed.
+/// A hosted system, what came to it last, and the page on which its lines are printed.
 #[derive(Drop)]
 pub struct Machine {
     pub hosted: Hosted,
+    /// What came with the last event that was done; none before the first.
+    pub last: Option<Given>,
     pub page: Page,
 }
 
 impl Machine {
+    /// Hands in what came for the processor of this number, and says what C is told of it.
+    pub fn take(&mut self, given: &Given, p: u8, out: &mut FmpOutcome) -> u32
+        ensures machine { self.new ≡ machine_after self.old (Ok given.now) }
+        ensures outcome { out.new ≡ outcome_of (machine_after self.old (Ok given.now)).hosted.kernel p
+            (answer self.old.hosted.kernel (Ok given.now)) }
+        ensures number { result ≡ spec.answer_number (answer self.old.hosted.kernel (Ok given.now)) }
+    {
+        let answer = self.hosted.take(*given);
+        if let Ok(Effect::Done) = answer {
+            self.last = Some(*given);
+        }
+        self.tell(p, answer, out)
+    }
+
     /// What C is told of an event that was given for the processor of this number: the answer, who acts there now,
     /// and what has changed.
     pub fn tell(&self, p: u8, answer: Result<Effect, Refusal>, out: &mut FmpOutcome) -> u32
@@ -40,6 +58,7 @@ impl Machine {
         ensures text { self.new.page
             ≡ lines_text (tables_of self.old.hosted.system) self.old.hosted.kernel.done self.old.hosted.kernel.lines }
         ensures kept { self.new.hosted ≡ self.old.hosted }
+        ensures last { self.new.last ≡ self.old.last }
     {
         self.hosted.kernel.lines_are_few();
         self.page.clear();

@@ -2,8 +2,7 @@
 ghost use Rattle.std.specs.Prelude.{◌≡◌, Err, None, IsSome, IfErr, IfOk};
 ghost use Rattle.fmp_base.specs.Codes.{code_of};
 ghost use Rattle.fmp_cfgparse.specs.Configurations.{IsRead};
-ghost use Rattle.fmp_foreign.specs.Hosting.{IsNew};
-ghost use Rattle.fmp_c.specs.Exports.{IsMade, IsNoSystem, kind_code, kind_number};
+ghost use Rattle.fmp_c.specs.Exports.{IsFirst, IsMade, IsNoSystem, kind_code, kind_number};
 
 use crate::handle::FmpSystem;
 use crate::machine::Machine;
@@ -57,12 +56,16 @@ fn refuse(fault: BuildFault, out: &mut FmpRefusal) -> u32
 
 /// The system that a configuration describes, after setup.
 fn made(alloc: Global, text: &[u8]) -> Result<Box<Machine, Global>, BuildFault>
-    ensures new { IfOk result (λ b. IsNew text.now b.value.hosted) }
+    ensures new { IfOk result (λ b. IsFirst text.now b.value) }
     ensures refused { IfErr result (λ fault. IsRead text.now (Err fault)) }
 {
     let hosted = Hosted::new(alloc, text)?;
-    let page = Page::new();
-    match Box::new(alloc, Machine { hosted, page }) {
+    let machine = Machine {
+        hosted,
+        last: None,
+        page: Page::new(),
+    };
+    match Box::new(alloc, machine) {
         Ok(machine) => Ok(machine),
         Err(_) => Err(BuildFault::Memory),
     }
