@@ -10,7 +10,7 @@
 #include <string.h>
 
 enum { PROCESSORS = 8, TASKS = 255, CYCLICS = 255, INTERRUPTS = 32, SERVICES = 59 };
-enum { NAME_ROOM = 32, RECORDED_ROOM = 64, EVENT_ROOM = 66432, SPARE_STACK = 64 << 10 };
+enum { NAME_ROOM = 32, LINE_ROOM = 128, EVENT_ROOM = 66432, SPARE_STACK = 64 << 10 };
 
 static const unsigned long USUAL_POLLS = 1000000;
 
@@ -168,23 +168,24 @@ static const fmp_actor *acting_on(uint8_t p)
     return &last[p - 1].acting;
 }
 
+/* The recording: a line for each event that was done, with the call that was handed in. */
+static void record_event(void)
+{
+    uint8_t line[LINE_ROOM];
+    if (recording_file != NULL) {
+        fwrite(line, 1, fmp_recorded(&kernel, line, sizeof line), recording_file);
+    }
+}
+
 /* What follows an event that was done: its lines tell where others act now, but for its own processor. */
 static void finish(uint32_t changes)
 {
+    record_event();
     known &= ~changes;
     if (changes & (FMP_TASK_STARTS | FMP_HANDLER_BEGINS)) {
         follow_lines();
     }
     print_lines();
-}
-
-/* The recording: a line for each event that was done, as the library gives it. */
-static void record_event(void)
-{
-    uint8_t line[RECORDED_ROOM];
-    if (recording_file != NULL) {
-        fwrite(line, 1, fmp_recorded(&kernel, line, sizeof line), recording_file);
-    }
 }
 
 void fmp_record(FILE *recording)
@@ -228,7 +229,6 @@ uint32_t fmp_step_run(uint8_t p)
     }
     uint32_t answer = hand_in(p, flow);
     if (answer == FMP_DONE) {
-        record_event();
         flow->wish = GOES_ON;
         finish(last[p - 1].changes);
         known |= bit_of(p);
@@ -246,7 +246,6 @@ uint32_t fmp_step_tick(void)
     }
     uint32_t answer = fmp_tick(&kernel, &outcome);
     if (answer == FMP_DONE) {
-        record_event();
         finish(outcome.changes);
     }
     return answer;
@@ -260,7 +259,6 @@ uint32_t fmp_step_int(uint8_t number)
     }
     uint32_t answer = fmp_int(&kernel, number, &outcome);
     if (answer == FMP_DONE) {
-        record_event();
         finish(outcome.changes);
     }
     return answer;
