@@ -22,7 +22,7 @@ struct fmp_body {
 struct fmp_program {
     const struct fmp_body *bodies;
     size_t count;
-    unsigned long polls;    /* how many polls a body may make from one call to the next, in one step; 0: 1,000,000 */
+    unsigned long polls;    /* after how many polls in one step a body keeps its place; 0: 1,000,000 */
 };
 
 enum fmp_opened {
