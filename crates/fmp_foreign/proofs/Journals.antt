@@ -34,8 +34,9 @@ module _ {B C : Type 0} (meaning : B → Meaning C) (old mid new : KernelView B 
 
   pub departs : (at : ℕ) (why : Verdict) (g : Given) → slice_get gs at ≡ Some g → HasFollowed meaning old (take at gs) mid
       → HasFollowed meaning mid [] new → why ≢ verdict.Follows → (why ≡ verdict.Differs → DoesOtherwise meaning new g)
-      → (why ≡ verdict.Full → 2 ^ 31 ≤ new.taken) → Departs meaning old gs new (record { at = at; why = why })
-  departs at why g e a b n d f =
+      → (turns : ℕ) → (why ≡ verdict.Long → new.taken ≡ mid.taken + turns) → (why ≡ verdict.Full → 2 ^ 31 ≤ new.taken)
+      → Departs meaning old gs new turns (record { at = at; why = why })
+  departs at why g e a b n d turns l f =
       record {
         next = g;
         there = e;
@@ -43,5 +44,6 @@ module _ {B C : Type 0} (meaning : B → Meaning C) (old mid new : KernelView B 
             (and_then meaning old mid new (take at gs) [] a b);
         not_followed = n;
         differs = d;
+        long = λ h. record { first = mid; followed = a; within = b; turns = l h };
         full = f;
       }

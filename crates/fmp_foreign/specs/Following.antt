@@ -1,5 +1,5 @@
 -- What the text of bodies has followed of what came.
-use Rattle.std.specs.Prelude.{◌≡◌, ◌≢◌, ℕ, List, Option, Some, None, ◌≤◌, ◌^◌, take, slice_get}
+use Rattle.std.specs.Prelude.{◌≡◌, ◌≢◌, ◌+◌, ℕ, List, [], Option, Some, None, ◌≤◌, ◌^◌, take, slice_get}
 use Rattle.fmp_base.specs.declared.events.Event.{Event}
 use Rattle.fmp_base.specs.Meanings.{Meaning}
 use Rattle.fmp_kernel.specs.KernelViews.{KernelView, view_after_all}
@@ -55,12 +55,21 @@ GoesOn meaning k (given.Act p a) = IsOver (meaning k.body) k.bound (actor_at_num
 GoesOn meaning k given.Tick = ⊥
 GoesOn meaning k (given.Int i) = ⊥
 
+-- the text has followed these, and has then used up this number of turns within one stretch
+pub record IsLong {B C : Type 0} (meaning : B → Meaning C) (old : KernelView B C) (gs : List Given)
+    (new : KernelView B C) (count : ℕ) : Type 0 where
+  pub first : KernelView B C
+  pub followed : HasFollowed meaning old gs first
+  pub within : HasFollowed meaning first [] new
+  pub turns : new.taken ≡ first.taken + count
+
 -- the text has followed the journal up to this place, and then did another thing, or did not come so far
 pub record Departs {B C : Type 0} (meaning : B → Meaning C) (old : KernelView B C) (gs : List Given)
-    (new : KernelView B C) (d : Departure) : Type 0 where
+    (new : KernelView B C) (turns : ℕ) (d : Departure) : Type 0 where
   pub next : Given
   pub there : slice_get gs d.at ≡ Some next
   pub before : HasFollowed meaning old (take d.at gs) new
   pub not_followed : d.why ≢ verdict.Follows
   pub differs : d.why ≡ verdict.Differs → DoesOtherwise meaning new next
+  pub long : d.why ≡ verdict.Long → IsLong meaning old (take d.at gs) new turns
   pub full : d.why ≡ verdict.Full → 2 ^ 31 ≤ new.taken

@@ -151,7 +151,7 @@ fn replay_all<B: Body>(
 ) -> Result<(), Departure>
     requires { kernel.old.bound ≡ bound }
     ensures follows { IfOk result (λ _. HasFollowed B.meaning kernel.old journal.now kernel.new) }
-    ensures departs { IfErr result (Departs B.meaning kernel.old journal.now kernel.new) }
+    ensures departs { IfErr result (Departs B.meaning kernel.old journal.now kernel.new turns) }
     ensures bound { kernel.new.bound ≡ bound }
 {
     for at in 0..journal.len() {
@@ -197,7 +197,7 @@ impl<B: Body> Shadow<B> {
     /// not follow.
     pub fn replay(&mut self, journal: &[Given], turns: u32) -> Result<(), Departure>
         ensures follows { IfOk result (λ _. HasFollowed B.meaning self.old journal.now self.new) }
-        ensures departs { IfErr result (Departs B.meaning self.old journal.now self.new) }
+        ensures departs { IfErr result (Departs B.meaning self.old journal.now self.new turns) }
     {
         replay_all(&mut self.kernel, self.bound, journal, turns)
     }
