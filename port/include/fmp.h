@@ -181,7 +181,7 @@ uint32_t fmp_state(fmp_system *, uint8_t task, fmp_task_state *);
 /* The lines of the last event that was done, or of setup: at most 66,432 bytes. */
 size_t fmp_print(fmp_system *, uint8_t *room, size_t length);
 
-/* The line of the last event that was done in a recording, with its line feed: at most 66 bytes; 0 before the first. */
+/* The line that a recording has for the last event that was done, with its line feed: at most 66 bytes. */
 size_t fmp_recorded(fmp_system *, uint8_t *room, size_t length);
 
 /* The name of an object: at most 31 bytes. */
