@@ -1,8 +1,4 @@
 //! A run of the program, from the words of its command line to its status.
-ghost use Rattle.std.specs.Prelude.{◌≡◌, List, Some, codes};
-ghost use Rattle.clap.specs.Words.{Row, subcommand_rows_of};
-ghost use Rattle.fmp_view.specs.Claimed.{HoldsOfWords};
-
 use crate::asking::{
     Cmd, Drawing, Look, Run, command, dump_over_input, no_code, parsed, picture_of_nothing,
     picture_over_input,
@@ -310,10 +306,7 @@ fn carry_out<O: Outside, R: Input>(
     outside: &mut O,
     rt: &R,
     words: &ArgMatches<'_>,
-) -> u8
-    ensures { (rows : List Row) → subcommand_rows_of words.now ≡ Some (codes "explore", rows) → result ≡ 0 →
-        HoldsOfWords (O.files outside.old) rows (O.done outside.new) }
-{
+) -> u8 {
     match command(words) {
         Some(Cmd::Explore(exploring)) => run_explore(alloc, outside, &exploring),
         Some(Cmd::Look(asked)) => look(alloc, outside, rt, asked),

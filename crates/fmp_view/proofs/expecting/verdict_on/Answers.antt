@@ -1,10 +1,9 @@
-use Rattle.std.proofs.Common.{◌≡◌, ◌∙◌, ℕ, List, ap, length}
+use Rattle.std.proofs.Common.{◌∙◌, ℕ, List, ap, length}
 use Rattle.fmp_base.specs.declared.events.TaskState.{TaskState}
 use Rattle.fmp_base.specs.Runs.{task_state}
 use Rattle.fmp_expect.specs.Meaning.{first_broken}
 use Rattle.fmp_expect.specs.Runs.{run_told}
 use Rattle.fmp_frames.specs.Frames.{each}
-use Rattle.fmp_kernel.specs.KernelViews.{view_after_all}
 use Rattle.fmp_view.proofs.expecting.verdict_on.Goals as goal
 
 pub tell_run-requires : goal.tell_run-requires

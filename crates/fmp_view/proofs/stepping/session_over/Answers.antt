@@ -7,4 +7,4 @@ pub new-requires-clause-high : goal.new-requires-clause-high
 new-requires-clause-high g c = c.kept_bound.ensures.high
 
 pub begin-status-requires : goal.begin-status-requires
-begin-status-requires g c = c.in_ok-session.ensures
+begin-status-requires g c = c.in_ok-session.ensures.session
