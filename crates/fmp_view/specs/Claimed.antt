@@ -1,6 +1,7 @@
 -- What the status 0 of `explore` claims, and what it prints.
 use Rattle.std.specs.Prelude.{◌≡◌, ℕ, List, [], ◌++◌, All, Bool, IfSome, Option, false, map, true}
 use Rattle.std.specs.List.{list_any}
+use Rattle.clap.specs.Words.{Row}
 use Rattle.fmp_files.specs.Deeds.{Deed, Does, printed}
 use Rattle.fmp_files.specs.Endings.{EndsPrinting}
 use Rattle.fmp_files.specs.Outside.{Files}
@@ -18,6 +19,7 @@ use Rattle.fmp_explore_names.specs.Questions.{IsQuestionOf}
 use Rattle.fmp_explore_names.specs.Sites.{AreBodiesOf, TextBody}
 use Rattle.fmp_view.specs.declared.sources.Exploring.{Exploring}
 use Rattle.fmp_view.specs.declared.exploring.Explored.{Explored}
+use Rattle.fmp_view.specs.Explored.{IsExploring}
 
 -- what is printed of a report: first its findings, then what is claimed of this question or why the search ended
 pub record IsReportText (i : ImageTables) (bodies : List TextBody) (q : Question) (n : ℕ) (r : Report) (text : List ℕ) :
@@ -117,3 +119,9 @@ pub record HoldsOfFiles (files : Files) (e : Exploring) (done : Option (List Dee
   pub src : List ℕ
   pub is_src : IsFile files e.src.now src
   pub holds : HoldsOfTexts cfg src e done
+
+-- the same of what these words ask for
+pub record HoldsOfWords (files : Files) (rows : List Row) (done : Option (List Deed)) : Type 0 where
+  pub exploring : Exploring
+  pub is : IsExploring rows exploring
+  pub holds : HoldsOfFiles files exploring done

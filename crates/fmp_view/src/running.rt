@@ -1,4 +1,9 @@
 //! A run of the program, from the words of its command line to its status.
+ghost use Rattle.std.specs.Prelude.{◌≡◌, List, Some, codes};
+ghost use Rattle.clap.specs.Words.{Row, subcommand_rows_of};
+ghost use Rattle.fmp_view.specs.Claimed.{HoldsOfWords};
+ghost use Rattle.fmp_view.specs.Explored.{AsksToExplore};
+
 use crate::asking::{
     Cmd, Drawing, Look, Run, command, dump_over_input, no_code, parsed, picture_of_nothing,
     picture_over_input,
@@ -300,16 +305,29 @@ fn look<O: Outside, R: Input>(alloc: Global, outside: &mut O, rt: &R, look: Look
     }
 }
 
+/// Does what a command asks for, and gives the status.
+fn obey<O: Outside, R: Input>(alloc: Global, outside: &mut O, rt: &R, cmd: Cmd<'_>) -> u8
+    ensures { (rows : List Row) → AsksToExplore rows cmd.entry → result ≡ 0 →
+        HoldsOfWords (O.files outside.old) rows (O.done outside.new) }
+{
+    match cmd {
+        Cmd::Explore(exploring) => run_explore(alloc, outside, &exploring),
+        Cmd::Look(asked) => look(alloc, outside, rt, asked),
+    }
+}
+
 /// Does what the words of a command line ask for, and gives the status.
 fn carry_out<O: Outside, R: Input>(
     alloc: Global,
     outside: &mut O,
     rt: &R,
     words: &ArgMatches<'_>,
-) -> u8 {
+) -> u8
+    ensures { (rows : List Row) → subcommand_rows_of words.now ≡ Some (codes "explore", rows) → result ≡ 0 →
+        HoldsOfWords (O.files outside.old) rows (O.done outside.new) }
+{
     match command(words) {
-        Some(Cmd::Explore(exploring)) => run_explore(alloc, outside, &exploring),
-        Some(Cmd::Look(asked)) => look(alloc, outside, rt, asked),
+        Some(cmd) => obey(alloc, outside, rt, cmd),
         None => refuse_mistake(outside, no_code(alloc)),
     }
 }
