@@ -1,7 +1,7 @@
 /*
  * sequences.c: hands lines of standard input to the kernel as C does, and prints what it answers.
  *
- *   new LENGTH           and then so many bytes: a configuration
+ *   new LENGTH           and then that number of bytes: a configuration
  *   call P SERVICE A B C D | end P | fault P NUMBER | tick | int NUMBER
  *   states               the state of each task
  *   free

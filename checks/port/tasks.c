@@ -1,7 +1,7 @@
 /*
  * tasks.c: C tasks in virtual time that do what lines of standard input say.
  *
- *   new LENGTH           and then so many bytes: a configuration, whose bodies are b0 to b63 and h0 to h63
+ *   new LENGTH           and then that number of bytes: a configuration, whose bodies are b0 to b63 and h0 to h63
  *   call P SERVICE A B C D | end P | fault P NUMBER | poll P | tick | int NUMBER
  *   close                prints the states of the tasks, and the recording
  *

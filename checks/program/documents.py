@@ -15,8 +15,8 @@ leaves them. The first word behind the fence says what a block is, and how it is
     faults cfg|src|steps|image       rows `TEXT -> FAULT`
     console                          commands behind `$ `, each with what it prints, in a copy of examples/ and of the
                                      systems of checks/schedules/
-    rust FILE, c FILE                code of this file of crates/, of examples/c/, as it stands there; its blocks are the
-                                     whole file
+    rust FILE, c FILE                code of this file of crates/, of examples/c/, as it stands there; its blocks are
+                                     the whole file
     bytes                            the image of the last system of blocks, in hexadecimal digits
     grammar, sh                      not checked: rules of a grammar, and commands of the toolchain
 

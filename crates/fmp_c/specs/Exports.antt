@@ -88,8 +88,8 @@ machine_after m (Ok g) =
     record m { hosted = after m.hosted (Ok g); last = last_by (answer m.hosted.kernel (Ok g)) g m.last }
 
 -- what came was taken or refused, as the case tables say, and C was told
-abbrev pub IsTaken : (old : Machine) → (g : Result Given Refusal) → (p : ℕ) → (new : Option Machine) → (out : FmpOutcome)
-    → (number : ℕ) → Type 0
+abbrev pub IsTaken : (old : Machine) → (g : Result Given Refusal) → (p : ℕ) → (new : Option Machine)
+    → (out : FmpOutcome) → (number : ℕ) → Type 0
 IsTaken old g p new out number =
     (new ≡ Some (machine_after old g))
     × (out ≡ outcome_of (machine_after old g).hosted.kernel p (answer old.hosted.kernel g))

@@ -164,7 +164,8 @@ given_by processors c =
     else Err flaw.Form
 
 -- what a line without its line feed says: `run P CALL A ..` with all arguments of the call, `run P end`,
--- `run P fault F_OVF`, `F_DIV` or `F_IDX`, with P from 1 to the number of processors; `tick`; `int I` with I from 1 to 32
+-- `run P fault F_OVF`, `F_DIV` or `F_IDX`, with P from 1 to the number of processors; `tick`; `int I` with I from 1
+-- to 32
 abbrev pub line_meaning : (processors : ℕ) → List ℕ → Result Given Flaw
 line_meaning processors line = given_by processors (cut line)
 

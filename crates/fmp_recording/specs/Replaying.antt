@@ -61,7 +61,8 @@ IsWhyNotTaken k g (fault.Recording why) = ⊥
 IsWhyNotTaken k g (fault.Refused why) = refused k g ≡ Some why
 IsWhyNotTaken k g fault.Memory = Unit {0}
 
--- a kernel has taken all that was recorded: the lines of the recorded run are written, and it stands where that run ends
+-- a kernel has taken all that was recorded: the lines of the recorded run are written, and it stands where that run
+-- ends
 pub record HasReplayed (old new : Hosted) (gs : List Given) (before after : List ℕ) : Type 0 where
   pub taken : refusal_in old.kernel gs ≡ None
   pub text : after ≡ before ++ text_of old.kernel gs
