@@ -4,11 +4,11 @@ ghost use Rattle.fmp_base.specs.declared.bodies.Held.TheVariants.{Goes};
 ghost use Rattle.fmp_base.specs.Calls.{called};
 ghost use Rattle.fmp_base.specs.Meanings.{caller_body, context_of, with_context};
 ghost use Rattle.fmp_base.specs.States.{processor_at};
-ghost use Rattle.fmp_base.specs.Steps.{Did, actor_of, call_made, effect_of, ended_with, handler_ended as ended_handler, run_by, run_in, step};
+ghost use Rattle.fmp_base.specs.Steps.{Did, actor_of, call_made, effect_of, ended_with, finished, handler_ended as ended_handler, run_by, run_in, step};
 ghost use Rattle.fmp_base.specs.Stretches.{ending};
 ghost use Rattle.fmp_base.specs.Contexts.{OfCall};
 ghost use Rattle.fmp_contexts.specs.Contexts.{HandsOver, HasContext, IsFor, is_call, is_going, stop_of};
-ghost use Rattle.fmp_kernel.specs.KernelViews.{SameBodies, done_of, done_or, kept_in, stopped_on, stretch_in, with_contexts, with_stretch};
+ghost use Rattle.fmp_kernel.specs.KernelViews.{SameBodies, done_of, done_or, kept_in, progress_of, stopped_on, stretch_in, with_contexts, with_stretch};
 ghost use Rattle.fmp_tasks.specs.Callers.{IsTaskOf};
 ghost use Rattle.fmp_tasks.specs.Tables.{SameShape};
 ghost use Rattle.fmp_worlds.specs.Spins.{MaySpin};
@@ -19,7 +19,8 @@ use crate::runner::Runner;
 use crate::spins::may_spin;
 use crate::ticks::advance;
 use fmp_base::{
-    Answer, Body, Call, Caller, Effect, Event, Fault, Handler, Line, Processor, Stop, Stretch,
+    Answer, Body, Call, Caller, Effect, Event, Fault, Handler, Line, Processor, Reply, Stop,
+    Stretch,
 };
 use fmp_calls::call;
 use fmp_contexts::{end_context, entry_of, stretch};
@@ -95,6 +96,36 @@ impl<B: Body> Runner<B> {
         self.end_actor(p, who, own);
     }
 
+    /// Ends the event of this call, with its reply if it has one.
+    fn finish_call(&mut self, p: u8, who: Caller, made: &Call, reply: Option<Reply>)
+        ensures after { done_of self.new
+            ≡ finished self.old.system (B.meaning self.old.body) self.old.world.contexts
+            (Line.Call p who made.now reply ∷ []) (progress_of self.old) }
+        ensures bodies { SameBodies self.old self.new }
+        ensures clock { self.new.world.state.clock ≡ self.old.world.state.clock }
+    {
+        self.finish(Line::Call {
+            processor: p,
+            caller: who,
+            call: *made,
+            reply,
+        });
+    }
+
+    /// Ends the event of a call with which the caller has ended.
+    fn finish_end(&mut self, p: u8, who: Caller)
+        ensures after { done_of self.new
+            ≡ finished self.old.system (B.meaning self.old.body) self.old.world.contexts
+            (Line.End p who ∷ []) (progress_of self.old) }
+        ensures bodies { SameBodies self.old self.new }
+        ensures clock { self.new.world.state.clock ≡ self.old.world.state.clock }
+    {
+        self.finish(Line::End {
+            processor: p,
+            caller: who,
+        });
+    }
+
     /// The actor of processor p makes a call; its context awaits the reply. Where it spins for a held spin lock,
     /// nothing has changed.
     fn make_call(&mut self, p: u8, who: Caller, made: &Call) -> Effect
@@ -111,22 +142,9 @@ impl<B: Body> Runner<B> {
     {
         self.caused.clear();
         match call(&mut self.tables, &mut self.caused, p, who, made) {
-            Answer::Replies(reply) => self.finish(Line::Call {
-                processor: p,
-                caller: who,
-                call: *made,
-                reply: Some(reply),
-            }),
-            Answer::Waits => self.finish(Line::Call {
-                processor: p,
-                caller: who,
-                call: *made,
-                reply: None,
-            }),
-            Answer::Ends => self.finish(Line::End {
-                processor: p,
-                caller: who,
-            }),
+            Answer::Replies(reply) => self.finish_call(p, who, made, Some(reply)),
+            Answer::Waits => self.finish_call(p, who, made, None),
+            Answer::Ends => self.finish_end(p, who),
             Answer::Spins => return Effect::Nothing,
         }
         Effect::Done
@@ -150,6 +168,7 @@ impl<B: Body> Runner<B> {
     /// The stretch of the actor of processor p, which goes on from a context, is handed in. What is kept of it then
     /// stands in place.
     #[tactic(auto, using(fmp_contexts::proofs::ContextLemmas::task_going, fmp_contexts::proofs::ContextLemmas::going_has))]
+    #[inline(always)]
     fn take(&mut self, p: u8, who: Caller, stretch: Stretch<B::Ctx>) -> Stop
         requires goes { is_going (context_of self.old.world.contexts p who) ≡ true }
         requires context { OfCall
@@ -308,6 +327,7 @@ impl<B: Body> Runner<B> {
     /// The actor of processor p, which goes on from a context, has made this stretch: the call, end or fault is carried
     /// out, or its place is kept. It finds no spin lock held.
     #[tactic(auto, using(crate::proofs::StopLemmas::ending_hands))]
+    #[inline(always)]
     fn apply_stretch(&mut self, p: u8, who: Caller, stretch: Stretch<B::Ctx>) -> Effect
         requires there { p < self.old.system.processors }
         requires goes { is_going (context_of self.old.world.contexts p who) ≡ true }
@@ -410,8 +430,53 @@ impl<B: Body> Runner<B> {
         }
     }
 
-    /// Processor p runs its actor, whose stretch is this one.
+    /// The actor of processor p has made this stretch. Nothing happens if it awaits a reply, or nothing is kept of it.
     #[tactic(auto, using(crate::proofs::StopLemmas::still_applied, fmp_contexts::proofs::ContextLemmas::going_fits))]
+    #[inline(always)]
+    fn apply_actor(&mut self, p: u8, who: Caller, stretch: Stretch<B::Ctx>) -> Effect
+        requires there { p < self.old.system.processors }
+        requires actor { actor_of (processor_at self.old.world.state p) ≡ Some who }
+        requires context { IsFor B.is_context self.old.body (ending stretch)
+            (actor_at self.old.system self.old.world p) }
+        ensures effect { result
+            ≡ effect_of (applied_by self.old.system (B.meaning self.old.body) self.old.world p
+            (Some who) (ending stretch)) }
+        ensures after { done_of self.new
+            ≡ done_or (done_of self.old) (applied_by self.old.system (B.meaning self.old.body) self.old.world p
+            (Some who) (ending stretch)) }
+        ensures bodies { SameBodies self.old self.new }
+        ensures clock { self.new.world.state.clock ≡ self.old.world.state.clock }
+    {
+        if !self.contexts.goes(p, who) {
+            return Effect::Nothing;
+        }
+        if may_spin(&self.tables, p, who) {
+            self.apply_stretch_or_spin(p, who, stretch)
+        } else {
+            self.apply_stretch(p, who, stretch)
+        }
+    }
+
+    /// The handler of processor p has made this stretch.
+    #[inline(never)]
+    fn apply_handler(&mut self, p: u8, handler: Handler, stretch: Stretch<B::Ctx>) -> Effect
+        requires there { p < self.old.system.processors }
+        requires actor { actor_of (processor_at self.old.world.state p) ≡ Some (Caller.Handler handler) }
+        requires context { IsFor B.is_context self.old.body (ending stretch)
+            (actor_at self.old.system self.old.world p) }
+        ensures effect { result
+            ≡ effect_of (applied_by self.old.system (B.meaning self.old.body) self.old.world p
+            (Some (Caller.Handler handler)) (ending stretch)) }
+        ensures after { done_of self.new
+            ≡ done_or (done_of self.old) (applied_by self.old.system (B.meaning self.old.body) self.old.world p
+            (Some (Caller.Handler handler)) (ending stretch)) }
+        ensures bodies { SameBodies self.old self.new }
+        ensures clock { self.new.world.state.clock ≡ self.old.world.state.clock }
+    {
+        self.apply_actor(p, Caller::Handler(handler), stretch)
+    }
+
+    /// Processor p runs its actor, whose stretch is this one.
     pub fn apply(&mut self, p: u8, stretch: Stretch<B::Ctx>) -> Effect
         requires { IsFor B.is_context self.old.body (ending stretch) (actor_at self.old.system self.old.world p) }
         ensures effect { result
@@ -423,16 +488,10 @@ impl<B: Body> Runner<B> {
         ensures bodies { SameBodies self.old self.new }
         ensures clock { self.new.world.state.clock ≡ self.old.world.state.clock }
     {
-        let Some(who) = actor_on(&self.tables, p) else {
-            return Effect::Nothing;
-        };
-        if !self.contexts.goes(p, who) {
-            return Effect::Nothing;
-        }
-        if may_spin(&self.tables, p, who) {
-            self.apply_stretch_or_spin(p, who, stretch)
-        } else {
-            self.apply_stretch(p, who, stretch)
+        match actor_on(&self.tables, p) {
+            None => Effect::Nothing,
+            Some(Caller::Task(t)) => self.apply_actor(p, Caller::Task(t), stretch),
+            Some(Caller::Handler(handler)) => self.apply_handler(p, handler, stretch),
         }
     }
 

@@ -209,6 +209,7 @@ impl<B: Body> Runner<B> {
     }
 
     /// Ends an event: its own line, the lines of what it caused, and settling.
+    #[inline(always)]
     pub fn finish(&mut self, own: Line)
         ensures after { done_of self.new
             ≡ finished self.old.system (B.meaning self.old.body) self.old.world.contexts (own ∷ [])

@@ -145,7 +145,7 @@ fn settle_several(tables: &mut Tables, lines: &mut Vec<Line>, count: u8)
     }
 }
 
-/// All processors settle, in order of number. A single one needs no look at its mark.
+/// All processors settle, in order of number. A single one needs no loop.
 #[tactic(auto, using(crate::proofs::SettleLemmas::settled_one))]
 pub fn settle(tables: &mut Tables, lines: &mut Vec<Line>)
     requires room { vec_len lines.old + 8 ≤ vec_capacity lines.old }
@@ -156,7 +156,7 @@ pub fn settle(tables: &mut Tables, lines: &mut Vec<Line>)
 {
     let count = tables.processor_count() as u8;
     if count == 1 {
-        settle_on(tables, lines, 0);
+        settle_marked(tables, lines, 0);
     } else {
         settle_several(tables, lines, count);
     }
