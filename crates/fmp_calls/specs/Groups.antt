@@ -74,3 +74,8 @@ IsForHandlers group.Synchronization = ⊥
 IsForHandlers group.Objects = ⊥
 IsForHandlers group.Queues = ⊥
 IsForHandlers group.Processors = ⊥
+
+-- the groups from which a task may call
+abbrev pub IsForTasks : ServiceGroup → Type 0
+IsForTasks group.Handlers = ⊥
+IsForTasks _ = Unit {0}

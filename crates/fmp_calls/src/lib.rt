@@ -9,7 +9,7 @@ ghost use Rattle.fmp_base.specs.Permissions.{permission, is_barred as barred};
 ghost use Rattle.fmp_base.specs.Ranges.{IsInRange};
 ghost use Rattle.fmp_base.specs.Services.{service_of};
 ghost use Rattle.fmp_base.specs.States.{processor_at, task_at};
-ghost use Rattle.fmp_calls.specs.Groups.{IsForHandlers, group_of};
+ghost use Rattle.fmp_calls.specs.Groups.{IsForHandlers, IsForTasks, group_of};
 ghost use Rattle.fmp_tasks.specs.Callers.{IsTaskOf};
 ghost use Rattle.fmp_tasks.specs.Lines.{AreEmptyWithRoom};
 ghost use Rattle.fmp_tasks.specs.Tables.{outcome, SameShape};
@@ -39,8 +39,9 @@ mod synchronization;
 
 pub use context::is_cpu_locked;
 
-/// The case of a call by task me, which processor p runs.
+/// The case of a call that task me, which processor p runs, may make.
 fn case_of_task(tables: &mut Tables, lines: &mut Vec<Line>, p: u8, me: u8, made: &Call) -> Answer
+    requires group { IsForTasks (group_of (service_of made.now)) }
     requires caller { me < length tables.old.system.tasks }
     requires processor { p < tables.old.system.processors }
     requires range { IsInRange tables.old.system }
@@ -57,7 +58,7 @@ fn case_of_task(tables: &mut Tables, lines: &mut Vec<Line>, p: u8, me: u8, made:
         ServiceGroup::Objects => object_call(tables, lines, me, made),
         ServiceGroup::Queues => queue_call(tables, lines, me, made),
         ServiceGroup::Processors => processor_call(tables, p, made),
-        ServiceGroup::Handlers => handler_call(tables, lines, p, made),
+        ServiceGroup::Handlers => unreachable!(),
     }
 }
 
@@ -80,7 +81,7 @@ fn case_of_handler(tables: &mut Tables, lines: &mut Vec<Line>, p: u8, made: &Cal
 }
 
 /// The case of a call that its caller on processor p may make.
-#[tactic(auto, using(crate::proofs::GroupLemmas::handlers_call))]
+#[tactic(auto, using(crate::proofs::GroupLemmas::handlers_call, crate::proofs::GroupLemmas::tasks_call))]
 fn permitted_call(
     tables: &mut Tables,
     lines: &mut Vec<Line>,
