@@ -2,7 +2,7 @@
 ghost use Rattle.std.specs.Prelude.{◌≡◌, pos, get_or};
 ghost use Rattle.fmp_foreign.specs.Hosting.{called_by};
 
-use fmp_base::{Call, SERVICES};
+use fmp_base::{Call, SERVICES, Service};
 
 /// Why nothing has happened: a number is out of range, or no more events are taken.
 #[derive(Clone, Copy, Debug, PartialEq, Eq)]
@@ -18,6 +18,9 @@ pub enum Refusal {
     /// 2^31 events were taken, and no more are.
     Full,
 }
+
+/// The services, at the place before their function codes: a table in memory, which a look at one of them does not copy.
+static BY_NUMBER: &[Service] = &SERVICES;
 
 /// The argument at this place, or 0.
 fn argument(arguments: &[i32], place: usize) -> i32
@@ -37,7 +40,7 @@ pub fn call_of(service: u8, arguments: &[i32]) -> Result<Call, Refusal>
     if service < 1 || service > 59 {
         return Err(Refusal::Service);
     }
-    let service = SERVICES[service as usize - 1];
+    let service = BY_NUMBER[service as usize - 1];
     if arguments.len() < usize::from(service.arity()) || arguments.len() > 4 {
         return Err(Refusal::Arguments);
     }
