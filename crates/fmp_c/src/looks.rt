@@ -68,7 +68,7 @@ pub extern "C" fn fmp_acting(alloc: Global, h: &mut FmpSystem, p: u8, out: &mut 
 {
     match mem::replace(h, FmpSystem::blank()).into_box(alloc) {
         Some(held) => {
-            *out = FmpActing::of(held.hosted.acting(p));
+            out.tell(held.hosted.acting(p));
             *h = FmpSystem::of(held);
             READ
         }

@@ -1,12 +1,12 @@
 //! What a handle holds: a hosted system, what came to it last, and the page on which its lines are printed.
-ghost use Rattle.std.specs.Prelude.{◌≡◌, Ok};
+ghost use Rattle.std.specs.Prelude.{◌≡◌, Ok, Some};
 ghost use Rattle.fmp_base.specs.Systems.{tables_of};
 ghost use Rattle.fmp_base.specs.Texts.{lines_text};
 ghost use Rattle.fmp_foreign.specs.Hosting.{answer};
 ghost use Rattle.fmp_c.specs.Exports.{machine_after, outcome_of};
 ghost use Rattle.fmp_c.specs.Records as spec;
 
-use crate::records::{FmpActing, FmpOutcome, answer_number, changes};
+use crate::records::{FmpOutcome, answer_number, changes};
 use fmp_base::Effect;
 use fmp_foreign::{Hosted, Refusal};
 use fmp_outside::Given;
@@ -31,25 +31,29 @@ impl Machine {
     {
         let answer = self.hosted.take(*given);
         if let Ok(Effect::Done) = answer {
-            self.last = Some(*given);
+            self.remember(given);
         }
         self.tell(p, answer, out)
     }
 
+    fn remember(&mut self, given: &Given)
+        ensures { self.new ≡ record self.old { last = Some given.now } }
+    {
+        self.last = Some(*given);
+    }
+
     /// What C is told of an event that was given for the processor of this number: the answer, who acts there now,
     /// and what has changed.
+    #[inline(always)]
     pub fn tell(&self, p: u8, answer: Result<Effect, Refusal>, out: &mut FmpOutcome) -> u32
         ensures outcome { out.new ≡ outcome_of self.now.hosted.kernel p answer }
         ensures number { result ≡ spec.answer_number answer }
     {
-        let changes = match answer {
+        out.changes = match answer {
             Ok(Effect::Done) => changes(self.hosted.kernel.lines()),
             _ => 0,
         };
-        *out = FmpOutcome {
-            acting: FmpActing::of(self.hosted.acting(p)),
-            changes,
-        };
+        out.acting.tell(self.hosted.acting(p));
         answer_number(answer)
     }
 

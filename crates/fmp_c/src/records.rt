@@ -94,31 +94,6 @@ pub fn value_or_0(value: Option<i32>) -> i32
     }
 }
 
-fn told_row(caller: Caller, told: Told) -> FmpActing
-    ensures { result ≡ spec.told_row caller told }
-{
-    let who = kind_of(caller);
-    let number = number_of(caller);
-    match told {
-        Told::Starts(exinf) => FmpActing {
-            who,
-            number,
-            told: 1,
-            has_value: true,
-            code: 0,
-            value: exinf,
-        },
-        Told::Replies(reply) => FmpActing {
-            who,
-            number,
-            told: 2,
-            has_value: reply.value.is_some(),
-            code: reply.code.code(),
-            value: value_or_0(reply.value),
-        },
-    }
-}
-
 impl FmpActing {
     /// Nobody.
     pub fn nobody() -> FmpActing
@@ -134,13 +109,50 @@ impl FmpActing {
         }
     }
 
-    /// The record of an actor, if there is one.
-    pub fn of(acting: Option<Acting>) -> FmpActing
-        ensures { result ≡ spec.acting_row acting }
+    /// Names this actor.
+    fn name(&mut self, caller: Caller)
+        ensures { self.new ≡ record self.old { who = spec.kind_of caller; number = spec.number_of caller } }
+    {
+        match caller {
+            Caller::Task(place) => {
+                self.who = 1;
+                self.number = u32::from(place) + 1;
+            }
+            Caller::Handler(handler) => {
+                self.who = kind_of_handler(handler);
+                self.number = number_of_handler(handler);
+            }
+        }
+    }
+
+    /// Becomes the record of this actor.
+    fn set(&mut self, acting: Acting)
+        ensures { self.new ≡ spec.told_row acting.caller acting.told }
+    {
+        self.name(acting.caller);
+        match acting.told {
+            Told::Starts(exinf) => {
+                self.told = 1;
+                self.has_value = true;
+                self.code = 0;
+                self.value = exinf;
+            }
+            Told::Replies(reply) => {
+                self.told = 2;
+                self.has_value = reply.value.is_some();
+                self.code = reply.code.code();
+                self.value = value_or_0(reply.value);
+            }
+        }
+    }
+
+    /// Becomes the record of an actor, or of nobody.
+    pub fn tell(&mut self, acting: Option<Acting>)
+        ensures { self.new ≡ spec.acting_row acting }
     {
         match acting {
-            Some(acting) => told_row(acting.caller, acting.told),
-            None => FmpActing::nobody(),
+            Some(acting) => self.set(acting),
+            None => *self = FmpActing::nobody(),
         }
     }
 }
