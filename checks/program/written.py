@@ -1,0 +1,239 @@
+#!/usr/bin/env python3
+"""Writes the lists of crates and of definitions into the documents, and tells whether those that stand there are these.
+
+    checks/program/written.py [--write]
+
+The list of crates in docs/MAP.md has the floors of crates.txt, and of each crate the first sentence of its `//!` head.
+The list in docs/DEFINITIONS.md has the first sentence of each file of `specs/`, and the names of its definitions that
+docs/PROVED.md names; above it stand the definitions that the table of README's sentences there names, with their
+comments. With `--write` the lists are written: after each change of such a head, and after one of docs/PROVED.md.
+Without it they are compared. The paths in docs/MAP.md are looked up then too: a path is one below crates/ or the root;
+a bare name is that of a file of the crate or the folder that was named last; and what stands as `NAME` in `PATH` is a
+name that this file has.
+"""
+
+import argparse
+import re
+import sys
+import textwrap
+from dataclasses import dataclass
+from functools import cache
+from pathlib import Path
+
+sys.dont_write_bytecode = True  # the folders of the checks stay as they are
+sys.path[0] = str(Path(__file__).resolve().parents[1])  # the folder `checks`, whose folders are packages
+
+from common.program import ROOT  # noqa: E402
+from common.tally import Tally  # noqa: E402
+
+CRATES = ROOT / "crates"
+PROVED = ROOT / "docs/PROVED.md"
+COLUMNS = 120
+SHORT = 50  # characters of a sentence that needs the next one
+BEGIN, END = "<!-- begin: {} -->", "<!-- end: {} -->"
+IMPORT = re.compile(r"use Rattle\.(fmp\w*)\.specs\.(\w+)\.\{([^}]*)\}")
+DEFINITION = re.compile(r"^(?:abbrev pub|pub record|pub data) (\S+)", re.M)
+HEADLINE = "## The sentences of README"
+FILE = re.compile(r"[\w./*]*\w\.(?:rt|antt|py|sh|md|h|c|txt)|[\w.]+(?:/[\w.]+)+/?")
+LEFT_OUT = re.compile(r"Laws|Lemmas|Lib")  # files of laws define what they prove
+WORKED = "fmp_worked_traces"  # its definitions are examples
+
+
+@dataclass
+class Floor:
+    """A floor of crates.txt: its name, and its crates, the lowest first."""
+
+    name: str
+    crates: list
+
+
+def floors():
+    found = []
+    for line in (ROOT / "crates.txt").read_text().splitlines()[1:]:
+        if line.startswith("# "):
+            found.append(Floor(line[2:].partition(":")[0], []))
+        elif line:
+            found[-1].crates.append(re.match(r"\w+", line)[0])
+    return found
+
+
+def first_sentences(text, least=0):
+    """The first sentence of a text, and those behind it while all together have fewer characters than the least."""
+    told, *others = re.split(r"(?<=\.) +(?=[A-Z`])", text)
+    while others and len(told) < least:
+        told = f"{told} {others.pop(0)}"
+    return told
+
+
+def head(path, mark):
+    """The first paragraph of the comment with which a file begins."""
+    lines = []
+    for line in path.read_text().splitlines():
+        if not line.startswith(mark) or line == mark:
+            break
+        lines.append(line[len(mark):].strip())
+    return " ".join(lines)
+
+
+def comment(path, name):
+    """The comment above a definition."""
+    lines = path.read_text().splitlines()
+    place = next(i for i, line in enumerate(lines) if (it := DEFINITION.match(line)) and it[1] == name)
+    above = []
+    while lines[place - 1].startswith("--"):
+        place -= 1
+        above.insert(0, lines[place][2:].strip())
+    return " ".join(above)
+
+
+@cache
+def imported(crate):
+    """The definitions that the files of a crate cite: the name, and the file that each of this name stands in."""
+    found = {}
+    for path in [*(CRATES / crate).glob("src/**/*.rt"), *(CRATES / crate).glob("specs/*.antt")]:
+        for owner, file, names in IMPORT.findall(path.read_text()):
+            for name in re.findall(r"\b[A-Z]\w+", names):
+                found.setdefault(name, set()).add(CRATES / owner / "specs" / f"{file}.antt")
+    return found
+
+
+def named_in(lines):
+    """The definitions that lines of docs/PROVED.md name, each with its file. A name is that of a definition which the
+    crate cites that the line is about: the one in bold type last, or the second cell of the line's row."""
+    crates, found = [], set()
+    for line in lines:
+        cells = [cell.strip(" `") for cell in line.split("|")]
+        crates = re.findall(r"\*\*`(\w+)`", line) or crates
+        about = [cells[2]] if len(cells) > 2 and (CRATES / cells[2]).is_dir() and cells[2] else crates
+        words = {word for quoted in re.findall(r"`([^`]+)`", line) for word in re.findall(r"\b[A-Z]\w+", quoted)}
+        for crate in about:
+            cited = imported(crate)
+            found |= {(path, word) for word in words for path in cited.get(word, ())}
+    return found
+
+
+def words_in(path):
+    return set(re.findall(r"\w+", path.read_text()))
+
+
+def specs(crate):
+    paths = sorted((CRATES / crate / "specs").glob("*.antt"))
+    return [path for path in paths if not LEFT_OUT.search(path.stem)]
+
+
+def item(text):
+    """An item of a list, in lines that fit."""
+    return textwrap.fill(text, COLUMNS, initial_indent="- ", subsequent_indent="  ", break_on_hyphens=False,
+                         break_long_words=False)
+
+
+def crates_list():
+    parts = []
+    for floor in floors():
+        parts += ["", f"### {floor.name}", "", "| Crate | What it has |", "|---|---|"]
+        for crate in floor.crates:
+            roots = [CRATES / crate / "src" / name for name in ("lib.rt", "main.rt")]
+            told = first_sentences(head(next(path for path in roots if path.exists()), "//!"), SHORT)
+            parts.append(f"| `{crate}` | {told} |")
+    return parts
+
+
+def headline_list():
+    """The definitions of the headline: the name, the file and the comment of each."""
+    section = PROVED.read_text().partition(HEADLINE)[2].partition("\n## ")[0]
+    named, parts = named_in(section.splitlines()), [""]
+    for path in (path for floor in floors() for crate in floor.crates for path in specs(crate)):
+        for name in DEFINITION.findall(path.read_text()):
+            told = comment(path, name) if (path, name) in named else ""
+            if told:
+                parts.append(item(f"`{name}` (`{path.parts[-3]}`, `{path.stem}`): {told}"))
+    return parts
+
+
+def definitions_list():
+    named, parts = named_in(PROVED.read_text().splitlines()), []
+    for floor in floors():
+        parts += ["", f"### {floor.name}"]
+        for crate in (it for it in floor.crates if it != WORKED and specs(it)):
+            parts += ["", f"**`{crate}`**", ""]
+            for path in specs(crate):
+                names = [name for name in DEFINITION.findall(path.read_text()) if (path, name) in named]
+                told = ", ".join(f"`{name}`" for name in names)
+                parts.append(item(f"`{path.stem}`: {first_sentences(head(path, '--'))} {told}".rstrip()))
+    return parts
+
+
+LISTS = {
+    ("docs/MAP.md", "crates"): crates_list,
+    ("docs/DEFINITIONS.md", "headline"): headline_list,
+    ("docs/DEFINITIONS.md", "definitions"): definitions_list,
+}
+
+
+def check_list(tally, document, name, lines, write):
+    """The list between its two marks, which is written first where that is asked for."""
+    path, begin, end = ROOT / document, BEGIN.format(name), END.format(name)
+    before, _, rest = path.read_text().partition(begin)
+    stands, _, after = rest.partition(end)
+    wanted = "\n".join(["", *lines, "", ""])
+    if write:
+        path.write_text(f"{before}{begin}{wanted}{end}{after}")
+        stands = wanted
+    new = "\n".join(sorted(set(wanted.splitlines()) - set(stands.splitlines())))
+    tally.holds(f"{document}: its list of {name} is stale: checks/program/written.py --write writes it\n{new}",
+                stands == wanted)
+
+
+def found_near(name, last):
+    """The file of a bare name, in the crate or the folder of the path that was named last."""
+    folder = last if last.is_dir() else last.parent
+    if CRATES in folder.parents:
+        crate = CRATES / folder.relative_to(CRATES).parts[0]
+        return next((path for it in ("src", "specs", "proofs") for path in (crate / it).rglob(Path(name).name)
+                     if str(path).endswith(f"/{name}")), None)
+    return folder / name
+
+
+def items(text):
+    """The rows, items of lists and paragraphs of a text, each with the number of its first line."""
+    found, inside = [], False
+    for number, line in enumerate(text.splitlines(), 1):
+        if inside and line and not re.match(r"\| |- |\d+\. ", line):
+            found[-1] = (found[-1][0], f"{found[-1][1]} {line.strip()}")
+        elif line:
+            found.append((number, line))
+        inside = bool(line)
+    return found
+
+
+def check_paths(tally):
+    """Each file that the map names is there, and has in it what the map says is in it."""
+    for number, text in items((ROOT / "docs/MAP.md").read_text()):
+        last, before = ROOT, ""
+        for quoted in re.finditer(r"`([^`]+)`", text):
+            name = quoted[1]
+            if not FILE.fullmatch(name):
+                before = name
+                continue
+            path = next((it / name for it in (CRATES, ROOT) if (it / name).exists()), None) or found_near(name, last)
+            there = path is not None and path.exists()
+            tally.holds(f"docs/MAP.md:{number}: there is no {name}", there)
+            if there and before and text[:quoted.start()].endswith(f"`{before}` in "):
+                stands = path.is_file() and before in words_in(path)
+                tally.holds(f"docs/MAP.md:{number}: {name} has no {before}", stands)
+            last, before = path if there else last, ""
+
+
+def main():
+    parser = argparse.ArgumentParser(description="Writes the lists of crates and of definitions, or compares them.")
+    parser.add_argument("--write", action="store_true", help="write the lists")
+    write, tally = parser.parse_args().write, Tally()
+    for (document, name), make in LISTS.items():
+        check_list(tally, document, name, make(), write)
+    check_paths(tally)
+    print(f"checks/program/written.py: {tally}")
+    return tally.status
+
+
+if __name__ == "__main__":
+    sys.exit(main())
