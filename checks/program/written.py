@@ -9,7 +9,7 @@ docs/PROVED.md names; above it stand the definitions that the table of README's 
 comments. With `--write` the lists are written: after each change of such a head, and after one of docs/PROVED.md.
 Without it they are compared. The paths in docs/MAP.md are looked up then too: a path is one below crates/ or the root;
 a bare name is that of a file of the crate or the folder that was named last; and what stands as `NAME` in `PATH` is a
-name that this file has.
+name that this file has. In docs/PROVED.md the names in brackets behind a function are clauses of its contract.
 """
 
 import argparse
@@ -100,11 +100,12 @@ def imported(crate):
 def named_in(lines):
     """The definitions that lines of docs/PROVED.md name, each with its file. A name is that of a definition which the
     crate cites that the line is about: the one in bold type last, or the second cell of the line's row."""
+    all_crates = {crate for floor in floors() for crate in floor.crates}
     crates, found = [], set()
     for line in lines:
         cells = [cell.strip(" `") for cell in line.split("|")]
         crates = re.findall(r"\*\*`(\w+)`", line) or crates
-        about = [cells[2]] if len(cells) > 2 and (CRATES / cells[2]).is_dir() and cells[2] else crates
+        about = cells[2:3] if cells[2:3] and cells[2] in all_crates else crates
         words = {word for quoted in re.findall(r"`([^`]+)`", line) for word in re.findall(r"\b[A-Z]\w+", quoted)}
         for crate in about:
             cited = imported(crate)
@@ -224,6 +225,32 @@ def check_paths(tally):
             last, before = path if there else last, ""
 
 
+@cache
+def clauses(crate):
+    """The names of the clauses of the functions of a crate, those of one name together."""
+    found = {}
+    for path in (CRATES / crate).glob("src/**/*.rt"):
+        inside = set()
+        for line in path.read_text().splitlines():
+            if begun := re.match(r"\s*(?:pub(?:\(crate\))? )?(?:unsafe )?(?:extern \"C\" )?fn (\w+)", line):
+                inside = found.setdefault(begun[1], set())
+            elif clause := re.match(r"\s+ensures\*? (\w+) \{", line):
+                inside.add(clause[1])
+    return found
+
+
+def check_clauses(tally):
+    """The clauses that are named behind a function are its own, or those of the last function of several."""
+    crates, part = [], PROVED.read_text().partition(HEADLINE)[2].partition("\n## ")[2]
+    for line in part.splitlines():
+        crates = re.findall(r"\*\*`(\w+)`", line) or crates
+        cells = line.split("|")
+        for name, told in re.findall(r"`([\w:]+)` \(((?:`[a-z]\w*`(?:, )?)+)\)", cells[1] if cells[2:] else ""):
+            own = set().union(*(clauses(crate).get(name.split("::")[-1], set()) for crate in crates))
+            named = set(re.findall(r"\w+", told))
+            tally.holds(f"docs/PROVED.md: {name} of {crates} has no clause {named - own}", named <= own)
+
+
 def main():
     parser = argparse.ArgumentParser(description="Writes the lists of crates and of definitions, or compares them.")
     parser.add_argument("--write", action="store_true", help="write the lists")
@@ -231,6 +258,7 @@ def main():
     for (document, name), make in LISTS.items():
         check_list(tally, document, name, make(), write)
     check_paths(tally)
+    check_clauses(tally)
     print(f"checks/program/written.py: {tally}")
     return tally.status
 
