@@ -7,9 +7,10 @@ The list of crates in docs/MAP.md has the floors of crates.txt, and of each crat
 The list in docs/DEFINITIONS.md has the first sentence of each file of `specs/`, and the names of its definitions that
 docs/PROVED.md names; above it stand the definitions that the table of README's sentences there names, with their
 comments. With `--write` the lists are written: after each change of such a head, and after one of docs/PROVED.md.
-Without it they are compared. The paths in docs/MAP.md are looked up then too: a path is one below crates/ or the root;
-a bare name is that of a file of the crate or the folder that was named last; and what stands as `NAME` in `PATH` is a
-name that this file has. In docs/PROVED.md the names in brackets behind a function are clauses of its contract.
+Without it they are compared. The paths in docs/MAP.md and CONTRIBUTING.md are looked up then too: one is below crates/
+or the root; a bare name is that of a file of the crate or the folder that was named last; and what stands as `NAME` in
+`PATH` is a name that this file has. In docs/PROVED.md the names in brackets behind a function are clauses of its
+contract.
 """
 
 import argparse
@@ -29,6 +30,7 @@ from common.tally import Tally  # noqa: E402
 CRATES = ROOT / "crates"
 PROVED = ROOT / "docs/PROVED.md"
 COLUMNS = 120
+PATHS = ("docs/MAP.md", "CONTRIBUTING.md")  # the documents whose paths are looked up
 SHORT = 50  # characters of a sentence that needs the next one
 BEGIN, END = "<!-- begin: {} -->", "<!-- end: {} -->"
 IMPORT = re.compile(r"use Rattle\.(fmp\w*)\.specs\.(\w+)\.\{([^}]*)\}")
@@ -208,8 +210,8 @@ def items(text):
 
 
 def check_paths(tally):
-    """Each file that the map names is there, and has in it what the map says is in it."""
-    for number, text in items((ROOT / "docs/MAP.md").read_text()):
+    """Each file that a document names is there, and has in it what the document says is in it."""
+    for document, number, text in ((it, *part) for it in PATHS for part in items((ROOT / it).read_text())):
         last, before = ROOT, ""
         for quoted in re.finditer(r"`([^`]+)`", text):
             name = quoted[1]
@@ -218,10 +220,10 @@ def check_paths(tally):
                 continue
             path = next((it / name for it in (CRATES, ROOT) if (it / name).exists()), None) or found_near(name, last)
             there = path is not None and path.exists()
-            tally.holds(f"docs/MAP.md:{number}: there is no {name}", there)
+            tally.holds(f"{document}:{number}: there is no {name}", there)
             if there and before and text[:quoted.start()].endswith(f"`{before}` in "):
                 stands = path.is_file() and before in words_in(path)
-                tally.holds(f"docs/MAP.md:{number}: {name} has no {before}", stands)
+                tally.holds(f"{document}:{number}: {name} has no {before}", stands)
             last, before = path if there else last, ""
 
 
