@@ -6,11 +6,11 @@
 The list of crates in docs/MAP.md has the floors of crates.txt, and of each crate the first sentence of its `//!` head.
 The list in docs/DEFINITIONS.md has the first sentence of each file of `specs/`, and the names of its definitions that
 docs/PROVED.md names; above it stand the definitions that the table of README's sentences there names, with their
-comments. With `--write` the lists are written: after each change of such a head, and after one of docs/PROVED.md.
-Without it they are compared. The paths in docs/MAP.md and CONTRIBUTING.md are looked up then too: one is below crates/
-or the root; a bare name is that of a file of the crate or the folder that was named last; and what stands as `NAME` in
-`PATH` is a name that this file has. In docs/PROVED.md the names in brackets behind a function are clauses of its
-contract.
+comments, but for those that are told above the list by hand. With `--write` the lists are written: after each change of
+such a head, and after one of docs/PROVED.md. Without it they are compared. The paths in docs/MAP.md and CONTRIBUTING.md
+are looked up then too: one is below crates/ or the root; a bare name is that of a file of the crate or the folder that
+was named last; and what stands as `NAME` in `PATH` is a name that this file has. In docs/PROVED.md the names in
+brackets behind a function are clauses of its contract.
 """
 
 import argparse
@@ -28,7 +28,7 @@ from common.program import ROOT  # noqa: E402
 from common.tally import Tally  # noqa: E402
 
 CRATES = ROOT / "crates"
-PROVED = ROOT / "docs/PROVED.md"
+PROVED, DEFINITIONS = ROOT / "docs/PROVED.md", ROOT / "docs/DEFINITIONS.md"
 COLUMNS = 120
 PATHS = ("docs/MAP.md", "CONTRIBUTING.md")  # the documents whose paths are looked up
 SHORT = 50  # characters of a sentence that needs the next one
@@ -145,9 +145,10 @@ def headline_list():
     """The definitions of the headline: the name, the file and the comment of each."""
     section = PROVED.read_text().partition(HEADLINE)[2].partition("\n## ")[0]
     named, parts = named_in(section.splitlines()), [""]
+    by_hand = re.findall(r"^- `(\w+)` \(", DEFINITIONS.read_text().partition(BEGIN.format("headline"))[0], re.M)
     for path in (path for floor in floors() for crate in floor.crates for path in specs(crate)):
         for name in DEFINITION.findall(path.read_text()):
-            told = comment(path, name) if (path, name) in named else ""
+            told = comment(path, name) if (path, name) in named and name not in by_hand else ""
             if told:
                 parts.append(item(f"`{name}` (`{path.parts[-3]}`, `{path.stem}`): {told}"))
     return parts
