@@ -10,7 +10,7 @@ comments, but for those that are told above the list by hand. With `--write` the
 such a head, and after one of docs/PROVED.md. Without it they are compared. The paths in docs/MAP.md and CONTRIBUTING.md
 are looked up then too: one is below crates/ or the root; a bare name is that of a file of the crate or the folder that
 was named last; and what stands as `NAME` in `PATH` is a name that this file has. In docs/PROVED.md the names in
-brackets behind a function are clauses of its contract.
+brackets behind a function are clauses of its contract. Links between documents are followed.
 """
 
 import argparse
@@ -30,6 +30,7 @@ from common.tally import Tally  # noqa: E402
 CRATES = ROOT / "crates"
 PROVED, DEFINITIONS = ROOT / "docs/PROVED.md", ROOT / "docs/DEFINITIONS.md"
 COLUMNS = 120
+LINKED = ("*.md", "docs/*.md", "checks/*.md", "examples/*.md")  # the documents whose links are followed
 PATHS = ("docs/MAP.md", "CONTRIBUTING.md")  # the documents whose paths are looked up
 SHORT = 50  # characters of a sentence that needs the next one
 BEGIN, END = "<!-- begin: {} -->", "<!-- end: {} -->"
@@ -228,6 +229,21 @@ def check_paths(tally):
             last, before = path if there else last, ""
 
 
+def anchors(path):
+    """The names by which links reach the headings of a document."""
+    headings = re.findall(r"^#+ (.*)$", path.read_text(), re.M)
+    return {re.sub(r"[^\w -]", "", heading.lower()).replace(" ", "-") for heading in headings}
+
+
+def check_links(tally):
+    """Each link of a document leads to a file, and to a heading of it if it names one."""
+    for path in (it for pattern in LINKED for it in sorted(ROOT.glob(pattern))):
+        for target, _, anchor in re.findall(r"\]\(([\w./-]*)(#([\w-]*))?\)", path.read_text()):
+            file = path.parent / target if target else path
+            holds = file.exists() and (not anchor or anchor in anchors(file))
+            tally.holds(f"{path.relative_to(ROOT)}: a link leads to {target}#{anchor}", holds)
+
+
 @cache
 def clauses(crate):
     """The names of the clauses of the functions of a crate, those of one name together."""
@@ -261,6 +277,7 @@ def main():
     for (document, name), make in LISTS.items():
         check_list(tally, document, name, make(), write)
     check_paths(tally)
+    check_links(tally)
     check_clauses(tally)
     print(f"checks/program/written.py: {tally}")
     return tally.status
